@@ -1,0 +1,6 @@
+pub mod Swaps
+pub mod Pages
+pub mod Steps
+pub mod Flags
+pub mod Held
+pub mod HandedOut

@@ -1,0 +1,39 @@
+//! What a store has to offer for its writes to be recorded.
+
+ghost use Rattle.std.specs.Prelude.{◌≡◌, ℕ, ◌<◌, ◌≤◌, List, length, slice_set, slice_index};
+
+/// A store of numbered cells. Each holds a number from 0 to a bound of its own, at most 65,535.
+/// How many cells there are, and their bounds, stay the same under every write.
+pub trait Cells {
+    /// The values of the cells, in order.
+    ghost cells: { Self → List ℕ };
+
+    /// The greatest value that each cell may hold.
+    ghost bounds: { Self → ℕ → ℕ };
+
+    /// What the store holds beside its cells, which no write to a cell changes.
+    ghost fixed: { Self → List ℕ };
+
+    /// How many cells there are. They are numbered from 0.
+    fn len(&self) -> usize
+        ensures { result ≡ length (cells self.now) };
+
+    /// The greatest value that cell `i` may hold.
+    fn bound(&self, i: usize) -> u16
+        requires { i < length (cells self.now) }
+        ensures { result ≡ bounds self.now i };
+
+    /// The value of cell `i`.
+    fn get(&self, i: usize) -> u16
+        requires { i < length (cells self.now) }
+        ensures value { result ≡ slice_index (cells self.now) i }
+        ensures within { result ≤ bounds self.now i };
+
+    /// Writes `v`, which is within the cell's bound, into cell `i`, and changes nothing else.
+    fn put(&mut self, i: usize, v: u16)
+        requires cell { i < length (cells self.old) }
+        requires within { v ≤ bounds self.old i }
+        ensures cells { cells self.new ≡ slice_set (cells self.old) i v }
+        ensures bounds { bounds self.new ≡ bounds self.old }
+        ensures fixed { fixed self.new ≡ fixed self.old };
+}

@@ -1,0 +1,13 @@
+//! A store of numbered cells whose writes are recorded, so that a turn of writes can be given up
+//! while it lasts, and taken back and done again after it has ended.
+#![tactic(auto)]
+
+mod cells;
+mod record;
+mod recorded;
+#[cfg(test)]
+mod tests;
+
+pub use cells::Cells;
+pub use record::{Record, swap_back, swap_forward};
+pub use recorded::{NoMemory, Recorded};

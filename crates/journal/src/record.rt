@@ -1,0 +1,162 @@
+//! What a turn overwrote, and the swaps that take a turn back and do it again.
+
+ghost use Rattle.std.specs.Prelude.{◌≡◌, ◌+◌, ◌*◌, ◌<◌, ◌≤◌, ℕ, length, slice_set, slice_index};
+ghost use Rattle.std.specs.List.{All};
+ghost use Rattle.journal.specs.Swap.{back, forward, Fits, FitsCell};
+ghost use Rattle.journal.specs.Pages.{IsPaged, cells_of, entries_of, page_len};
+
+use crate::cells::Cells;
+use std::marker::Model;
+
+/// How many cells a whole page has. Page n of a store is its cells 64n to 64n + 63, as far as they exist.
+pub(crate) const PAGE: usize = 64;
+
+/// What a turn overwrote: whole pages of a store, as they were when the turn began.
+/// `swap_back` takes the turn back, and `swap_forward` then does it again.
+#[derive(Drop)]
+pub struct Record {
+    /// How many cells the store has that it was made of.
+    len: usize,
+
+    /// The pages, in the order in which they were first written. No page stands twice.
+    pages: Vec<usize>,
+
+    /// The pages' values, one page behind the other.
+    values: Vec<u16>,
+}
+
+impl Model for Record {
+    ghost use Rattle.std.specs.Prelude.{List, ℕ};
+    ghost use Rattle.journal.specs.Pages.{IsPaged, entries_of};
+
+    ghost Value = { List (ℕ × ℕ) };
+
+    ghost view = { λ r. entries_of r.len r.pages.items r.values.items };
+
+    ghost invariant = { λ r. IsPaged r.len r.pages.items r.values.items };
+}
+
+impl Record {
+    /// A record of these pages of a store of `len` cells, with their values.
+    pub(crate) fn of(len: usize, pages: Vec<usize>, values: Vec<u16>) -> Record
+        requires { IsPaged len pages.items values.items }
+        ensures { result ≡ entries_of len pages.items values.items }
+    {
+        Record { len, pages, values }
+    }
+
+    /// How many cells it holds the values of: 64 for each page that the turn wrote to, and fewer
+    /// for a short last page. It is 0 for a turn with no write.
+    pub fn cells(&self) -> usize
+        ensures { result ≡ length self.now }
+    {
+        self.values.len()
+    }
+}
+
+/// Takes a turn back: exchanges the turn's values with the store's, from the last to the first.
+/// The turn's record then holds what the store held, so that `swap_forward` undoes this. It takes no
+/// memory and always succeeds.
+pub fn swap_back<C: Cells>(store: &mut C, turn: &mut Record)
+    requires { Fits (length (C.cells store.old)) (C.bounds store.old) turn.old }
+    ensures cells { C.cells store.new ≡ (back (C.cells store.old) turn.old).cells }
+    ensures record { turn.new ≡ (back (C.cells store.old) turn.old).entries }
+    ensures fits { Fits (length (C.cells store.new)) (C.bounds store.new) turn.new }
+    ensures inverse { forward (C.cells store.new) turn.new ≡ record { cells = C.cells store.old; entries = turn.old } }
+    ensures length { length (C.cells store.new) ≡ length (C.cells store.old) }
+    ensures bounds { C.bounds store.new ≡ C.bounds store.old }
+    ensures fixed { C.fixed store.new ≡ C.fixed store.old }
+{
+    go_back(store, turn.len, &turn.pages, &mut turn.values);
+}
+
+/// Does a turn again that was taken back: exchanges the turn's values with the store's, from the
+/// first to the last. The turn's record then holds what the store held, so that `swap_back` undoes this.
+/// It takes no memory and always succeeds.
+pub fn swap_forward<C: Cells>(store: &mut C, turn: &mut Record)
+    requires { Fits (length (C.cells store.old)) (C.bounds store.old) turn.old }
+    ensures cells { C.cells store.new ≡ (forward (C.cells store.old) turn.old).cells }
+    ensures record { turn.new ≡ (forward (C.cells store.old) turn.old).entries }
+    ensures fits { Fits (length (C.cells store.new)) (C.bounds store.new) turn.new }
+    ensures inverse { back (C.cells store.new) turn.new ≡ record { cells = C.cells store.old; entries = turn.old } }
+    ensures length { length (C.cells store.new) ≡ length (C.cells store.old) }
+    ensures bounds { C.bounds store.new ≡ C.bounds store.old }
+    ensures fixed { C.fixed store.new ≡ C.fixed store.old }
+{
+    go_forward(store, turn.len, &turn.pages, &mut turn.values);
+}
+
+/// How many cells a page has, in a store of `len` cells.
+pub(crate) fn page_size(len: usize, page: usize) -> usize
+    requires { page * 64 < len }
+    ensures result { result ≡ page_len len page }
+    ensures within { page * 64 + result ≤ len }
+{
+    let left = len - page * PAGE;
+    if left < PAGE { left } else { PAGE }
+}
+
+/// Exchanges a value with that of its cell.
+fn exchange<C: Cells>(store: &mut C, cell: usize, value: &mut u16)
+    requires { FitsCell (length (C.cells store.old)) (C.bounds store.old) (cell, value.old) }
+    ensures cells { C.cells store.new ≡ slice_set (C.cells store.old) cell value.old }
+    ensures value { value.new ≡ slice_index (C.cells store.old) cell }
+    ensures fits { FitsCell (length (C.cells store.new)) (C.bounds store.new) (cell, value.new) }
+    ensures length { length (C.cells store.new) ≡ length (C.cells store.old) }
+    ensures bounds { C.bounds store.new ≡ C.bounds store.old }
+    ensures fixed { C.fixed store.new ≡ C.fixed store.old }
+{
+    let was = store.get(cell);
+    store.put(cell, *value);
+    *value = was;
+}
+
+/// `swap_back` on the parts of a record.
+pub(crate) fn go_back<C: Cells>(store: &mut C, len: usize, pages: &[usize], values: &mut Vec<u16>)
+    requires paged { IsPaged len pages.now values.old.items }
+    requires fits { Fits (length (C.cells store.old)) (C.bounds store.old) (entries_of len pages.now values.old.items) }
+    ensures cells { C.cells store.new ≡ (back (C.cells store.old) (entries_of len pages.now values.old.items)).cells }
+    ensures entries { entries_of len pages.now values.new.items ≡ (back (C.cells store.old) (entries_of len pages.now values.old.items)).entries }
+    ensures paged { IsPaged len pages.now values.new.items }
+    ensures fits { Fits (length (C.cells store.new)) (C.bounds store.new) (entries_of len pages.now values.new.items) }
+    ensures length { length (C.cells store.new) ≡ length (C.cells store.old) }
+    ensures bounds { C.bounds store.new ≡ C.bounds store.old }
+    ensures fixed { C.fixed store.new ≡ C.fixed store.old }
+{
+    let mut at = values.len();
+    let mut slot = pages.len();
+    'pages: while slot > 0 {
+        slot -= 1;
+        let page = pages[slot];
+        let size = page_size(len, page);
+        at -= size;
+        let mut offset = size;
+        'cells: while offset > 0 {
+            offset -= 1;
+            exchange(store, page * PAGE + offset, &mut values[at + offset]);
+        }
+    }
+}
+
+/// `swap_forward` on the parts of a record.
+fn go_forward<C: Cells>(store: &mut C, len: usize, pages: &[usize], values: &mut Vec<u16>)
+    requires paged { IsPaged len pages.now values.old.items }
+    requires fits { Fits (length (C.cells store.old)) (C.bounds store.old) (entries_of len pages.now values.old.items) }
+    ensures cells { C.cells store.new ≡ (forward (C.cells store.old) (entries_of len pages.now values.old.items)).cells }
+    ensures entries { entries_of len pages.now values.new.items ≡ (forward (C.cells store.old) (entries_of len pages.now values.old.items)).entries }
+    ensures paged { IsPaged len pages.now values.new.items }
+    ensures fits { Fits (length (C.cells store.new)) (C.bounds store.new) (entries_of len pages.now values.new.items) }
+    ensures length { length (C.cells store.new) ≡ length (C.cells store.old) }
+    ensures bounds { C.bounds store.new ≡ C.bounds store.old }
+    ensures fixed { C.fixed store.new ≡ C.fixed store.old }
+{
+    let mut at = 0;
+    'pages: for slot in 0..pages.len() {
+        let page = pages[slot];
+        let size = page_size(len, page);
+        'cells: for offset in 0..size {
+            exchange(store, page * PAGE + offset, &mut values[at + offset]);
+        }
+        at += size;
+    }
+}

@@ -1,0 +1,250 @@
+//! A store whose writes are recorded by pages, turn by turn.
+
+ghost use Rattle.std.specs.Prelude.{◌≡◌, ◌≢◌, ℕ, ◌+◌, ◌*◌, ◌/◌, ◌<◌, ◌≤◌, true, false, [], ◌∷◌, ◌++◌, map, length, AllPairs, slice_set, slice_index, slice_index_or, OnOk, OnErr, IsOk};
+ghost use Rattle.std.specs.Borrow.{sem, Lends};
+ghost use Rattle.std.specs.List.{range_with_len};
+ghost use Rattle.journal.specs.contracts.recorded.Recorded.{the_row};
+ghost use Rattle.journal.specs.Recording.{IsNothingKept};
+ghost use Rattle.journal.specs.Swap.{back, entry_cells, entry_values, Fits};
+ghost use Rattle.journal.specs.Pages.{IsMarked, cells_of, keeps, page_cells, page_len, with_page};
+
+use crate::cells::Cells;
+use crate::record::{PAGE, Record, go_back, page_size};
+use std::alloc::{AllocError, Global};
+use std::marker::Model;
+use std::mem;
+use thiserror::Error;
+
+/// There was no memory to keep one more page. `Recorded::put` has then given the turn up.
+#[derive(Clone, Copy, Debug, PartialEq, Eq, Error)]
+#[error("J1")]
+pub struct NoMemory;
+
+/// A store whose writes are recorded, turn by turn. Before the first write of a turn to a page, the
+/// whole page is kept as it was when the turn began. A turn is ended by `close`, which hands out
+/// what was kept, or given up by `abandon`, which puts it back. The next turn begins at once.
+#[derive(Drop)]
+pub struct Recorded<C: Cells> {
+    store: C,
+
+    /// Of each page, whether it is kept. It never shrinks, and pages behind its end are not kept.
+    flags: Vec<bool>,
+
+    /// The kept pages, in the order in which they were first written.
+    pages: Vec<usize>,
+
+    /// The kept pages' values, one page behind the other.
+    values: Vec<u16>,
+
+    /// Where the vectors of the next turn come from.
+    alloc: Global,
+}
+
+impl<C: Cells> Model for Recorded<C> {
+    ghost use Rattle.std.specs.Prelude.{length};
+    ghost use Rattle.journal.specs.Recording.{Recording, recording_code};
+    ghost use Rattle.journal.specs.Swap.{back};
+    ghost use Rattle.journal.specs.Pages.{IsHeld, entries_of};
+
+    ghost Value = { Recording C };
+
+    ghost coded = { recording_code C.code };
+
+    ghost view = { λ r. record {
+      store = r.store;
+      beginning = (back (C.cells r.store)
+          (entries_of (length (C.cells r.store)) r.pages.items r.values.items)).cells;
+      kept = r.pages.items;
+    } };
+
+    ghost invariant = { λ r. IsHeld (length (C.cells r.store)) (C.bounds r.store)
+        r.flags.items r.pages.items r.values.items };
+}
+
+impl<C: Cells> Recorded<C> {
+    /// Records writes to a store from now on: the first turn begins, with nothing kept.
+    /// It takes no memory.
+    pub fn new(alloc: Global, store: C) -> Recorded<C>
+        ensures { result ≡ record { store = store; beginning = C.cells store; kept = [] } }
+    {
+        Recorded {
+            store,
+            flags: Vec::new(alloc),
+            pages: Vec::new(alloc),
+            values: Vec::new(alloc),
+            alloc,
+        }
+    }
+
+    /// The store as it is now.
+    pub fn store(&self) -> &C
+        ensures { result.now ≡ self.now.store }
+    {
+        &self.store
+    }
+
+    /// Writes `v`, which is within the cell's bound, into cell `i`, and keeps the cell's page first
+    /// if the turn has not kept it yet. A page that is kept takes no more memory.
+    ///
+    /// # Errors
+    /// `NoMemory` if there is no memory to keep the page, and never where the page is kept already.
+    /// The turn is then given up, as by `abandon`: its earlier writes are undone too.
+    #[inline]
+    pub fn put(&mut self, i: usize, v: u16) -> Result<(), NoMemory>
+        requires cell { i < length (C.cells self.old.store) }
+        requires within { v ≤ C.bounds self.old.store i }
+        ensures cells { OnOk result (C.cells self.new.store ≡ slice_set (C.cells self.old.store) i v) }
+        ensures kept { OnOk result (self.new.kept ≡ with_page self.old.kept (i / 64)) }
+        ensures sure { keeps self.old.kept (i / 64) ≡ true → IsOk result }
+        ensures beginning { OnOk result (self.new.beginning ≡ self.old.beginning) }
+        ensures abandoned { OnErr result ((C.cells self.new.store ≡ self.old.beginning)
+            × (self.new.beginning ≡ self.old.beginning) × IsNothingKept self.new) }
+        ensures length { length (C.cells self.new.store) ≡ length (C.cells self.old.store) }
+        ensures bounds { C.bounds self.new.store ≡ C.bounds self.old.store }
+        ensures fixed { C.fixed self.new.store ≡ C.fixed self.old.store }
+    {
+        let page = i / PAGE;
+        if !self.is_kept(page) && self.keep(page).is_err() {
+            self.abandon();
+            return Err(NoMemory);
+        }
+        self.store.put(i, v);
+        Ok(())
+    }
+
+    /// Whether the turn keeps a page.
+    #[inline]
+    fn is_kept(&self, page: usize) -> bool
+        ensures { result ≡ keeps self.now.kept page }
+    {
+        page < self.flags.len() && self.flags[page]
+    }
+
+    /// Keeps a page that is not kept yet. At `Err` nothing has changed.
+    #[cold]
+    #[inline(never)]
+    fn keep(&mut self, page: usize) -> Result<(), AllocError>
+        requires page { page * 64 < length (C.cells self.old.store) }
+        requires new { keeps self.old.kept page ≡ false }
+        ensures ok { OnOk result (self.new ≡ record {
+          store = self.old.store;
+          beginning = self.old.beginning;
+          kept = self.old.kept ++ page ∷ [];
+        }) }
+        ensures err { OnErr result (self.new ≡ self.old) }
+    {
+        let len = self.store.len();
+        cover(&mut self.flags, page, len / PAGE + 1)?;
+        let at = self.values.len();
+        copy_page(
+            &self.store,
+            page * PAGE,
+            page_size(len, page),
+            &mut self.values,
+        )?;
+        if self.pages.push(page).is_err() {
+            self.values.truncate(at);
+            return Err(AllocError);
+        }
+        self.flags[page] = true;
+        Ok(())
+    }
+
+    /// Ends the turn, and hands out what it overwrote. The next turn begins, with nothing kept.
+    /// It takes no memory, and time by the pages that are kept.
+    pub fn close(&mut self) -> Record
+        ensures back { (back (C.cells self.old.store) result).cells ≡ self.old.beginning }
+        ensures fits { Fits (length (C.cells self.old.store)) (C.bounds self.old.store) result }
+        ensures cells { entry_cells result ≡ cells_of (length (C.cells self.old.store)) self.old.kept }
+        ensures values { entry_values result
+            ≡ map (slice_index self.old.beginning) (cells_of (length (C.cells self.old.store)) self.old.kept) }
+        ensures distinct { AllPairs (λ a b. a ≢ b) (entry_cells result) }
+        ensures kept { length result ≡ length (cells_of (length (C.cells self.old.store)) self.old.kept) }
+        ensures bound { length result ≤ length (C.cells self.old.store) }
+        ensures new { self.new ≡ record { store = self.old.store; beginning = C.cells self.old.store; kept = [] } }
+    {
+        let alloc = self.alloc;
+        let len = self.store.len();
+        unmark(&mut self.flags, &self.pages);
+        let pages = mem::replace(&mut self.pages, Vec::new(alloc));
+        let values = mem::replace(&mut self.values, Vec::new(alloc));
+        Record::of(len, pages, values)
+    }
+
+    /// Gives the turn up: the store is again as it was when the turn began, and nothing is kept.
+    /// It takes no memory, and time by the pages that were kept.
+    #[cold]
+    #[inline(never)]
+    pub fn abandon(&mut self)
+        ensures cells { C.cells self.new.store ≡ self.old.beginning }
+        ensures beginning { self.new.beginning ≡ self.old.beginning }
+        ensures kept { IsNothingKept self.new }
+        ensures length { length (C.cells self.new.store) ≡ length (C.cells self.old.store) }
+        ensures bounds { C.bounds self.new.store ≡ C.bounds self.old.store }
+        ensures fixed { C.fixed self.new.store ≡ C.fixed self.old.store }
+    {
+        let len = self.store.len();
+        go_back(&mut self.store, len, &self.pages, &mut self.values);
+        unmark(&mut self.flags, &self.pages);
+        self.pages.clear();
+        self.values.clear();
+    }
+
+    /// The store itself, for writes that are not recorded, as those of a swap. It asks that nothing
+    /// is kept. Once the borrow is over, a turn begins at what the store is then.
+    pub fn store_mut(&mut self) -> &mut C
+        requires { IsNothingKept self.old }
+        ensures* writes_back { sem 𝓛 (Lends (the_row C.row C.Cells) C.row self.entry result
+            (λ w. record { store = w; beginning = C.cells w; kept = [] })) }
+        ensures value { result.now ≡ self.old.store }
+    {
+        &mut self.store
+    }
+}
+
+/// Makes room for the flag of a page, all flags being as they were.
+fn cover(flags: &mut Vec<bool>, page: usize, count: usize) -> Result<(), AllocError>
+    requires { page < count }
+    ensures same { (p : ℕ) → slice_index_or flags.new.items p false ≡ slice_index_or flags.old.items p false }
+    ensures room { OnOk result (page < length flags.new.items) }
+{
+    if flags.len() <= page {
+        flags.resize(count, false)?;
+    }
+    Ok(())
+}
+
+/// Appends the values of a run of cells. At `Err` nothing is appended.
+fn copy_page<C: Cells>(
+    store: &C,
+    first: usize,
+    count: usize,
+    values: &mut Vec<u16>,
+) -> Result<(), AllocError>
+    requires { first + count ≤ length (C.cells store.now) }
+    ensures ok { OnOk result (values.new.items
+        ≡ values.old.items ++ map (slice_index (C.cells store.now)) (range_with_len first count)) }
+    ensures within { OnOk result ((k : ℕ) → first ≤ k → k < first + count
+        → slice_index (C.cells store.now) k ≤ C.bounds store.now k) }
+    ensures err { OnErr result (values.new.items ≡ values.old.items) }
+{
+    let _len = store.len();
+    let at = values.len();
+    for offset in 0..count {
+        if values.push(store.get(first + offset)).is_err() {
+            values.truncate(at);
+            return Err(AllocError);
+        }
+    }
+    Ok(())
+}
+
+/// Clears the flags of the pages, which are all that are set.
+fn unmark(flags: &mut Vec<bool>, pages: &[usize])
+    requires { IsMarked flags.old.items pages.now }
+    ensures { IsMarked flags.new.items [] }
+{
+    for i in 0..pages.len() {
+        flags[pages[i]] = false;
+    }
+}

@@ -1,0 +1,15 @@
+pub mod Packing
+pub mod Spelling
+pub mod Causes
+pub mod Loops
+pub mod Keys
+pub mod RoundTrip
+mod Samples
+pub mod Keeping
+pub mod Ahead
+pub mod TextAhead
+pub mod Falls
+pub mod Turning
+pub mod Holding
+pub mod Encoding
+mod Runs

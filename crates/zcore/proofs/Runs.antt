@@ -1,0 +1,99 @@
+-- The definitions of the machine, computed at a small story of 684 bytes and at single instructions.
+use Rattle.std.proofs.Common.{◌≡◌, ℕ, List, [], ◌∷◌, ◌++◌, Some, None, Ok, Err, refl}
+use Rattle.std.specs.Prelude.{codes, replicate, option_map}
+use Rattle.zcore.specs.declared.place.Fault.TheVariants as faults
+use Rattle.zcore.specs.declared.place.Limit.TheVariants as limits
+use Rattle.zcore.specs.declared.place.Place.{Place}
+use Rattle.zcore.specs.declared.place.Place.TheVariants as places
+use Rattle.zcore.specs.declared.instruction.Operation.TheVariants.{Div, Mod, Jump, PrintNumber}
+use Rattle.zcore.specs.declared.instruction.Operand.TheVariants.{Large, Small, Variable}
+use Rattle.zcore.specs.Instruction.{decode, bytes_of, opcode, operands, operand, byte, large, result_variable, branch}
+use Rattle.zcore.specs.Turn.{Whole, opening, turn_from, weight}
+use Rattle.zcore.specs.Step.{step, perform, divide, modulo, jump, print_inline, print_number, text_at}
+use Rattle.zcore.specs.Parts.{push, pop, read_global, read_variable, write_variable, operand_value, operand_values, test_result, store_result, test_target, spend, go, test_return, give_back, print}
+use Rattle.zcore.specs.Text.{decoded, abbreviation}
+use Rattle.zcore.specs.Reading.{reads}
+use Rattle.zcore.specs.Words.{unpacked}
+use Rattle.zcore.specs.Arithmetic.{remainder, decimal, signed_text}
+
+-- Version 5; globals at 64, defaults at 544, the dictionary at 670, code from 677 on.
+abbrev story_of : List ℕ → List ℕ
+story_of code =
+    (5 ∷ 0 ∷ 0 ∷ 1 ∷ 2 ∷ 0xA5 ∷ 2 ∷ 0xA5 ∷ 2 ∷ 0x9E ∷ 2 ∷ 0x20 ∷ 0 ∷ 0x40 ∷ 2 ∷ 0x9E ∷ 0 ∷ 0 ∷ [])
+    ++ replicate 6 48 ++ (0 ∷ 0 ∷ 0 ∷ 0xAB ∷ 3 ∷ 0xC5 ∷ []) ++ replicate 640 0
+    ++ (3 ∷ 0x2E ∷ 0x2C ∷ 0x22 ∷ 9 ∷ 0 ∷ 0 ∷ [])
+    ++ code ++ 0 ∷ []
+
+abbrev shown : Whole → Place × List ℕ
+shown whole = (whole.place, whole.text)
+
+hello : option_map shown (opening (story_of (0xB2 ∷ 0x35 ∷ 0x51 ∷ 0xC6 ∷ 0x85 ∷ 0xBA ∷ [])) 1000000) ≡ Some (places.Quit, codes "hello")
+unfolding opening turn_from weight step perform print_inline text_at decoded abbreviation reads unpacked decode opcode operands operand byte large result_variable branch print operand_values
+hello = refl
+
+remainder_printed : option_map shown (opening (story_of (0xD8 ∷ 0x1F ∷ 0xFF ∷ 0xF3 ∷ 0x05 ∷ 0x00 ∷ 0xE6 ∷ 0xBF ∷ 0x00 ∷ 0xBA ∷ [])) 1000000) ≡ Some (places.Quit, codes "-3")
+unfolding opening turn_from weight step perform modulo print_number decode opcode operands operand byte large result_variable branch print operand_values operand_value test_result store_result write_variable read_variable push pop remainder signed_text decimal
+remainder_printed = refl
+
+endless_jump : option_map shown (opening (story_of (0x8C ∷ 0xFF ∷ 0xFF ∷ [])) 3) ≡ Some (places.Limit limits.Fuel, 10 ∷ codes "[Limit: turn too long]" ++ 10 ∷ [])
+unfolding opening turn_from weight step perform jump decode opcode operands operand byte large result_variable branch operand_values operand_value test_target go spend
+endless_jump = refl
+
+divided_by_zero : option_map shown (opening (story_of (0x57 ∷ 0x10 ∷ 0x00 ∷ 0x11 ∷ [])) 1000000) ≡ Some (places.Fault faults.Division, 10 ∷ codes "[Machine fault: M7]" ++ 10 ∷ [])
+unfolding opening turn_from weight step perform divide decode opcode operands operand byte large result_variable branch operand_values operand_value read_variable read_global decimal
+divided_by_zero = refl
+
+returned_from_first : option_map shown (opening (story_of (0xB0 ∷ [])) 1000000) ≡ Some (places.Fault faults.Return, 10 ∷ codes "[Machine fault: M11]" ++ 10 ∷ [])
+unfolding opening turn_from weight step perform give_back test_return decode opcode operands operand byte large result_variable branch operand_values decimal
+returned_from_first = refl
+
+extended : option_map shown (opening (story_of (0xBE ∷ 0x00 ∷ [])) 1000000) ≡ Some (places.Fault faults.Opcode, 10 ∷ codes "[Machine fault: M1]" ++ 10 ∷ [])
+unfolding opening turn_from weight step decode opcode byte decimal
+extended = refl
+
+jumped_past : option_map shown (opening (story_of (0x8C ∷ 0x7F ∷ 0xFF ∷ [])) 1000000) ≡ Some (places.Fault faults.Code, 10 ∷ codes "[Machine fault: M2]" ++ 10 ∷ [])
+unfolding opening turn_from weight step perform jump decode opcode operands operand byte large result_variable branch operand_values operand_value test_target decimal
+jumped_past = refl
+
+abbreviated_without_table : option_map shown (opening (story_of (0xB2 ∷ 0x84 ∷ 0x00 ∷ [])) 1000000) ≡ Some (places.Fault faults.Character, 10 ∷ codes "[Machine fault: M10]" ++ 10 ∷ [])
+unfolding opening turn_from weight step perform print_inline text_at decoded abbreviation reads unpacked decode opcode operands operand byte large result_variable branch operand_values decimal
+abbreviated_without_table = refl
+
+-- the instructions that the machine knows so far, decoded and encoded
+
+number_decoded : decode (0xE6 ∷ 0xBF ∷ 0x10 ∷ []) 0 ≡ Ok (record { operation = PrintNumber; operands = Variable 16 ∷ []; result = None; branch = None }, 3)
+unfolding decode opcode operands operand byte result_variable branch
+number_decoded = refl
+
+number_encoded : bytes_of (record { operation = PrintNumber; operands = Variable 16 ∷ []; result = None; branch = None }) ≡ 0xE6 ∷ 0xBF ∷ 0x10 ∷ []
+unfolding bytes_of
+number_encoded = refl
+
+jump_decoded : decode (0x8C ∷ 0xFF ∷ 0xFF ∷ []) 0 ≡ Ok (record { operation = Jump; operands = Large 65535 ∷ []; result = None; branch = None }, 3)
+unfolding decode opcode operands operand large byte result_variable branch
+jump_decoded = refl
+
+jump_encoded : bytes_of (record { operation = Jump; operands = Large 65535 ∷ []; result = None; branch = None }) ≡ 0x8C ∷ 0xFF ∷ 0xFF ∷ []
+unfolding bytes_of
+jump_encoded = refl
+
+long_decoded : decode (0x57 ∷ 0x10 ∷ 0x05 ∷ 0x11 ∷ []) 0 ≡ Ok (record { operation = Div; operands = Variable 16 ∷ Small 5 ∷ []; result = Some 17; branch = None }, 4)
+unfolding decode opcode operands operand byte result_variable branch
+long_decoded = refl
+
+long_encoded : bytes_of (record { operation = Div; operands = Variable 16 ∷ Small 5 ∷ []; result = Some 17; branch = None }) ≡ 0x57 ∷ 0x10 ∷ 0x05 ∷ 0x11 ∷ []
+unfolding bytes_of
+long_encoded = refl
+
+variable_encoded : bytes_of (record { operation = Mod; operands = Large 0xFFF3 ∷ Small 5 ∷ []; result = Some 0; branch = None }) ≡ 0xD8 ∷ 0x1F ∷ 0xFF ∷ 0xF3 ∷ 0x05 ∷ 0x00 ∷ []
+unfolding bytes_of
+variable_encoded = refl
+
+-- an operand type after an omitted one, and too few operands
+operand_after_omitted : decode (0xD8 ∷ 0xCF ∷ 0 ∷ 0 ∷ 0 ∷ 0 ∷ []) 0 ≡ Err faults.Opcode
+unfolding decode opcode byte
+operand_after_omitted = refl
+
+too_few_operands : decode (0xD8 ∷ 0x3F ∷ 0 ∷ 0 ∷ 0 ∷ []) 0 ≡ Err faults.Opcode
+unfolding decode opcode byte
+too_few_operands = refl

@@ -1,0 +1,15 @@
+use Rattle.std.proofs.Common.{◌≡◌, cond}
+use Rattle.zcore.specs.Reading.{Lower}
+use Rattle.zcore.specs.TextParts.{state_of, HasRow, expansion}
+use Rattle.zcore.proofs.Loops.{read_from}
+use Rattle.zcore.proofs.reading.+put_text.Given as goal
+
+abbrev pub decreases-put_text : goal.decreases-put_text
+decreases-put_text l = cond l.is_abbreviation 0 1
+
+abbrev pub invariant-loop-place : goal.invariant-loop-place
+invariant-loop-place l = record {
+  row : HasRow l.state;
+  so_far : read_from (expansion l.is_abbreviation l.story) l.bytes l.words l.text.items (state_of l.state) l.place
+      ≡ read_from (expansion l.is_abbreviation l.story) l.bytes l.words l.fn.text.items Lower 0;
+}

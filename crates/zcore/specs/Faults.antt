@@ -1,0 +1,35 @@
+-- How a text's faults name the causes of the definitions. Want of memory may come in place of any answer.
+use Rattle.std.specs.Prelude.{◌≡◌, ℕ, true, false, List, Vec, Result, Ok, Err}
+use Rattle.std.specs.List.{list_all}
+use Rattle.zcore.specs.declared.fault.TextFault.{TextFault}
+use Rattle.zcore.specs.declared.fault.TextFault.TheVariants as faults
+use Rattle.zcore.specs.Alphabets.{is_printable}
+use Rattle.zcore.specs.Reading.{Cause, Character, End, Abbreviation}
+use Rattle.zcore.specs.Text.{encoded, Stands}
+
+-- what is refused by a fault, where the definition answers `read`
+abbrev pub Fails : {Y : Type 0} → TextFault → Result Y Cause → Type 0
+Fails faults.Character read = read ≡ Err Character
+Fails faults.End read = read ≡ Err End
+Fails faults.Abbreviation read = read ≡ Err Abbreviation
+Fails faults.Memory read = Unit {0}
+
+-- what a function returned, seen by `view`, is what the definition answers
+abbrev pub Gives : {X Y : Type 0} → (X → Y) → Result X TextFault → Result Y Cause → Type 0
+Gives view (Ok x) read = read ≡ Ok (view x)
+Gives view (Err fault) read = Fails fault read
+
+-- the cause of a fault stands at an address of a story
+abbrev pub HasCause : List ℕ → ℕ → TextFault → Type 0
+HasCause story at faults.Character = Stands story at Character
+HasCause story at faults.End = Stands story at End
+HasCause story at faults.Abbreviation = Stands story at Abbreviation
+HasCause story at faults.Memory = Unit {0}
+
+-- what is answered for the Z-text of a text: the bytes, or Z1 exactly where a character is not printable
+abbrev pub Encodes : {Z : Type 0} → List ℕ → Result (Vec ℕ Z) TextFault → Type 0
+Encodes text (Ok bytes) = (list_all is_printable text ≡ true) × (bytes.items ≡ encoded text)
+Encodes text (Err faults.Character) = list_all is_printable text ≡ false
+Encodes text (Err faults.Memory) = list_all is_printable text ≡ true
+Encodes text (Err faults.End) = ⊥
+Encodes text (Err faults.Abbreviation) = ⊥

@@ -1,0 +1,15 @@
+pub mod Bytes
+pub mod Alphabets
+pub mod Reading
+pub mod Words
+pub mod Text
+pub mod Faults
+pub mod Header
+pub mod Instruction
+pub mod Arithmetic
+pub mod State
+pub mod Parts
+pub mod Step
+pub mod Turn
+pub mod Laws
+pub mod TextParts

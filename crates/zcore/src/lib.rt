@@ -1,0 +1,24 @@
+//! Text and header of a story file, and the definitions of the machine that runs it.
+#![tactic(auto)]
+
+mod alphabets;
+mod bytes;
+mod fault;
+mod header;
+mod instruction;
+mod laws;
+mod next;
+mod place;
+mod reading;
+#[cfg(test)]
+mod tests;
+mod text;
+mod words;
+
+pub use fault::TextFault;
+pub use header::{Dictionary, Header, HeaderFault, Version};
+pub use instruction::{Branch, Operand, Operation};
+pub use laws::{every_turn_ends, instructions_decode};
+pub use next::Next;
+pub use place::{Fault, Limit, Place};
+pub use text::{decode_text, encode_text, word_key};
