@@ -1,0 +1,11 @@
+pub mod Lists
+pub mod Steps
+pub mod Frames
+pub mod Kept
+pub mod Pushing
+pub mod Locals
+pub mod Bytes
+pub mod Storing
+pub mod Entering
+pub mod Beginning
+pub mod Lines

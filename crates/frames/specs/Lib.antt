@@ -1,0 +1,5 @@
+pub mod Contents
+pub mod Standing
+pub mod Went
+pub mod Playing
+pub mod Lines

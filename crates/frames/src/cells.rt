@@ -1,0 +1,86 @@
+//! Cells of a recorded store, by what they hold.
+
+ghost use Rattle.std.specs.Prelude.{◌≡◌, ℕ, ◌<◌, ◌≤◌, ◌+◌, ◌-◌, ◌*◌, ◌/◌, ◌%◌, [], ◌∷◌, List, length, slice_index, OnOk, OnErr};
+ghost use Rattle.frames.specs.Contents.{Wrote};
+ghost use Rattle.frames.specs.Standing.{long_at, state_of, program_counter_of, IsSound};
+ghost use Rattle.frames.specs.Went.{GoesOn, GivenUp};
+
+use crate::layout::PROGRAM_COUNTER;
+use crate::store::Store;
+use journal::{Cells, NoMemory, Recorded};
+
+/// The value of a cell.
+#[inline]
+pub(crate) fn cell(store: &Recorded<Store>, i: usize) -> u16
+    requires { i < length store.now.store.cells }
+    ensures { result ≡ slice_index store.now.store.cells i }
+{
+    store.store().get(i)
+}
+
+/// The number in two cells.
+#[inline]
+pub(crate) fn long(store: &Recorded<Store>, i: usize) -> u32
+    requires cells { i + 1 < length store.now.store.cells }
+    requires words { i + 1 < 72559 }
+    ensures { result ≡ long_at (slice_index store.now.store.cells) i }
+{
+    cell(store, i) as u32 * 65_536 + cell(store, i + 1) as u32
+}
+
+/// Writes values to cells that follow each other, all before memory.
+pub(crate) fn put_all(
+    store: &mut Recorded<Store>,
+    at: usize,
+    values: &[u16],
+) -> Result<(), NoMemory>
+    requires size { at + length values.now ≤ length store.old.store.cells }
+    requires words { at + length values.now ≤ 72559 }
+    ensures cells { OnOk result (Wrote store.old.store.cells store.new.store.cells at values.now) }
+    ensures beginning { OnOk result (store.new.beginning ≡ store.old.beginning) }
+    ensures abandoned { OnErr result ((store.new.store.cells ≡ store.old.beginning) × (store.new.beginning ≡ store.old.beginning) × (store.new.kept ≡ [])) }
+    ensures fixed { store.new.store.fixed ≡ store.old.store.fixed }
+{
+    for (i, value) in values.iter().enumerate() {
+        store.put(at + i, *value)?;
+    }
+    Ok(())
+}
+
+/// Writes a number to two cells before memory, the high half only where it changes.
+#[inline]
+pub(crate) fn put_long(store: &mut Recorded<Store>, at: usize, number: u32) -> Result<(), NoMemory>
+    requires size { at + 2 ≤ length store.old.store.cells }
+    requires words { at + 2 ≤ 72559 }
+    ensures cells { OnOk result (Wrote store.old.store.cells store.new.store.cells at (number / 65536 ∷ number % 65536 ∷ [])) }
+    ensures beginning { OnOk result (store.new.beginning ≡ store.old.beginning) }
+    ensures abandoned { OnErr result ((store.new.store.cells ≡ store.old.beginning) × (store.new.beginning ≡ store.old.beginning) × (store.new.kept ≡ [])) }
+    ensures fixed { store.new.store.fixed ≡ store.old.store.fixed }
+{
+    let high = (number / 65_536) as u16;
+    if high != cell(store, at) {
+        store.put(at, high)?;
+    }
+    store.put(at + 1, (number % 65_536) as u16)
+}
+
+/// The program counter that is kept in its registers.
+pub fn program_counter(store: &Recorded<Store>) -> u32
+    requires { IsSound store.now.store }
+    ensures { result ≡ program_counter_of (slice_index store.now.store.cells) }
+{
+    long(store, PROGRAM_COUNTER)
+}
+
+/// Keeps the program counter in its registers, at the end of a turn.
+pub fn set_program_counter(
+    store: &mut Recorded<Store>,
+    program_counter: u32,
+) -> Result<(), NoMemory>
+    requires { IsSound store.old.store }
+    ensures kept { OnOk result (GoesOn store.old store.new × ((text : List ℕ) → state_of store.new.store text ≡ state_of store.old.store text) × (program_counter_of (slice_index store.new.store.cells) ≡ program_counter)) }
+    ensures given_up { OnErr result (GivenUp store.old store.new) }
+{
+    put_long(store, PROGRAM_COUNTER, program_counter)?;
+    Ok(())
+}

@@ -1,0 +1,44 @@
+//! Where the parts of a state stand among the cells of a store.
+
+/// How many frame records are in use.
+pub(crate) const FRAME_COUNT: usize = 0;
+
+/// How many words of the stack are in use (two cells, as all numbers that need more than 16 bits).
+pub(crate) const HEIGHT: usize = 1;
+
+/// Where the program counter is kept between turns (two cells).
+pub(crate) const PROGRAM_COUNTER: usize = 3;
+
+/// Whether a line is waited for.
+pub(crate) const WAITING: usize = 5;
+
+/// The text buffer for the line.
+pub(crate) const TEXT_BUFFER: usize = 6;
+
+/// The variable for the line's result.
+pub(crate) const RESULT_VARIABLE: usize = 8;
+
+/// Where the machine goes on with the line (two cells).
+pub(crate) const RETURN_PLACE: usize = 9;
+
+/// The first frame record.
+pub(crate) const RECORDS: usize = 16;
+
+/// The cells of a frame record: its base on the stack (two cells), the place to go on at after it (two cells), the
+/// number of locals, the number of arguments, the variable for its result.
+pub(crate) const RECORD: usize = 7;
+
+/// How many frame records there are: 1,000 calls and the first environment.
+pub(crate) const RECORD_COUNT: usize = 1_001;
+
+/// The first cell of the stack.
+pub(crate) const STACK: usize = 7_023;
+
+/// How many words all stacks may hold.
+pub(crate) const STACK_SIZE: usize = 65_536;
+
+/// The first cell of dynamic memory.
+pub(crate) const MEMORY: usize = 72_559;
+
+/// In the cell for a result's variable: none.
+pub(crate) const NO_VARIABLE: u16 = 256;

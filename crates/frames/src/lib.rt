@@ -1,0 +1,27 @@
+//! The store of a story that runs, and the parts of instructions that read and write it.
+#![tactic(auto)]
+
+mod calls;
+mod cells;
+mod end;
+mod layout;
+mod line;
+mod memory;
+mod operands;
+mod results;
+mod stack;
+mod store;
+#[cfg(test)]
+mod tests;
+mod variables;
+
+pub use calls::{enter, is_code, leave, test_calls, test_return, test_routine};
+pub use cells::{program_counter, set_program_counter};
+pub use end::End;
+pub use line::give_line;
+pub use memory::{read_byte, read_word, write_byte, write_word};
+pub use operands::operand_value;
+pub use results::{store_result, test_result};
+pub use stack::{pop, push};
+pub use store::Store;
+pub use variables::{read_variable, write_variable};

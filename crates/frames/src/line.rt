@@ -1,0 +1,89 @@
+//! A line that is given to a store that waits for one.
+
+ghost use Rattle.std.specs.Prelude.{◌≡◌, ◌<◌, ◌≤◌, ◌+◌, ℕ, [], Some, length, map, slice_index, OnOk, OnErr};
+ghost use Rattle.zcore.specs.Header.{static_base_of};
+ghost use Rattle.zcore.specs.State.{Pending};
+ghost use Rattle.zcore.specs.Text as texts;
+ghost use Rattle.zcore.specs.Turn.{given, with_letters};
+ghost use Rattle.frames.specs.Contents.{memory_of};
+ghost use Rattle.frames.specs.Lines.{Filled, WaitsNoMore};
+ghost use Rattle.frames.specs.Playing.{IsWaiting};
+ghost use Rattle.frames.specs.Standing.{pending_of, IsSound, IsStoreOf};
+ghost use Rattle.frames.specs.Went.{GivenUp, Told};
+
+use crate::calls::variable_in;
+use crate::cells::{cell, long};
+use crate::end::End;
+use crate::layout::{MEMORY, RESULT_VARIABLE, RETURN_PLACE, TEXT_BUFFER, WAITING};
+use crate::results::store_result;
+use crate::store::Store;
+use journal::{NoMemory, Recorded};
+use zcore::{Header, Next};
+
+/// The code of the key that ends a line.
+const NEW_LINE: u16 = 13;
+
+/// Gives a line to a store that waits for one, and answers where the turn goes on: the text buffer takes as many
+/// letters as it has room for, and the result is the code of the key that ended the line (Z-Machine Standards Document
+/// 1.1, section 15, `aread`). M6, M4 of the result.
+pub fn give_line(
+    header: &Header,
+    store: &mut Recorded<Store>,
+    line: &[u8],
+    fuel: u32,
+) -> Result<Next, End>
+    requires store { IsStoreOf header.now store.old.store }
+    requires waiting { IsWaiting store.old.store }
+    ensures { (pending : Pending) → pending_of (slice_index store.old.store.cells) ≡ Some pending → Told result store.old [] store.new [] (given pending line.now fuel) }
+{
+    let buffer = cell(store, TEXT_BUFFER) as usize;
+    let result_variable = variable_in(cell(store, RESULT_VARIABLE));
+    let program_counter = long(store, RETURN_PLACE);
+    let most = store.store().memory()[buffer] as usize;
+    let count = most.min(line.len());
+    fill_buffer(store, buffer, &line[..count])?;
+    stop_waiting(store)?;
+    store_result(header, store, result_variable, NEW_LINE)?;
+    Ok(Next {
+        program_counter,
+        fuel,
+    })
+}
+
+/// Fills a text buffer: the number of letters goes to its byte 1, the letters from byte 2 on, in lower case.
+fn fill_buffer(store: &mut Recorded<Store>, buffer: usize, letters: &[u8]) -> Result<(), NoMemory>
+    requires sound { IsSound store.old.store }
+    requires behind_header { 64 ≤ buffer }
+    requires room { buffer + 2 + length letters.now ≤ static_base_of (memory_of store.old.store) }
+    requires few { length letters.now ≤ 255 }
+    ensures filled { OnOk result (Filled store.old store.new (with_letters (memory_of store.old.store) buffer (map texts.lower_case letters.now))) }
+    ensures given_up { OnErr result (GivenUp store.old store.new) }
+{
+    store.put(MEMORY + (buffer + 1), letters.len() as u16)?;
+    for (i, letter) in letters.iter().enumerate() {
+        store.put(MEMORY + (buffer + 2 + i), lower_case(*letter) as u16)?;
+    }
+    Ok(())
+}
+
+/// A capital as a small letter.
+#[inline]
+fn lower_case(letter: u8) -> u8
+    ensures { result ≡ texts.lower_case letter }
+{
+    if b'A' <= letter && letter <= b'Z' {
+        letter + 32
+    } else {
+        letter
+    }
+}
+
+/// Waits for no line any more.
+fn stop_waiting(store: &mut Recorded<Store>) -> Result<(), NoMemory>
+    requires { IsSound store.old.store }
+    ensures waits { OnOk result (WaitsNoMore store.old store.new) }
+    ensures given_up { OnErr result (GivenUp store.old store.new) }
+{
+    store.put(WAITING, 0)?;
+    Ok(())
+}

@@ -1,0 +1,125 @@
+//! Variables: the stack, locals and globals.
+
+ghost use Rattle.std.specs.Prelude.{◌≡◌, ◌<◌, ◌≤◌, ◌+◌, ◌-◌, ◌*◌, ◌^◌, slice_index, IfSome, IfNone};
+ghost use Rattle.frames.specs.Standing.{base_of, local_count, frame_count, IsSound, IsStoreOf};
+ghost use Rattle.frames.specs.Went.{Went};
+ghost use Rattle.zcore.specs.Parts.{read_local, write_local, read_global, write_global, read_variable, write_variable};
+
+use crate::cells::{cell, long};
+use crate::end::End;
+use crate::layout::{MEMORY, STACK};
+use crate::stack::{pop, push, running};
+use crate::store::Store;
+use journal::Recorded;
+use zcore::{Fault, Header, Place};
+
+/// The cell of a local of the running frame, from 0, if it has so many.
+#[inline]
+fn local_cell(store: &Recorded<Store>, number: usize) -> Option<usize>
+    requires { IsSound store.now.store }
+    ensures some { IfSome result (λ i. (number < local_count (slice_index store.now.store.cells) (frame_count (slice_index store.now.store.cells) - 1))
+        × (i ≡ 7023 + base_of (slice_index store.now.store.cells) (frame_count (slice_index store.now.store.cells) - 1) + number)) }
+    ensures none { IfNone result (local_count (slice_index store.now.store.cells) (frame_count (slice_index store.now.store.cells) - 1) ≤ number) }
+{
+    let record = running(store);
+    if number < cell(store, record + 4) as usize {
+        Some(STACK + long(store, record) as usize + number)
+    } else {
+        None
+    }
+}
+
+/// Reads a local of the running frame, from 0. M3 where it has not so many.
+#[inline]
+fn read_local(store: &mut Recorded<Store>, number: usize) -> Result<u16, End>
+    requires { IsSound store.old.store }
+    ensures { Went result store.old store.new (read_local number) }
+{
+    match local_cell(store, number) {
+        Some(i) => Ok(cell(store, i)),
+        None => Err(End::Stop(Place::Fault(Fault::Read))),
+    }
+}
+
+/// Writes a local of the running frame, from 0. M4 where it has not so many.
+#[inline]
+fn write_local(store: &mut Recorded<Store>, number: usize, word: u16) -> Result<(), End>
+    requires { IsSound store.old.store }
+    ensures { Went result store.old store.new (write_local number word) }
+{
+    match local_cell(store, number) {
+        Some(i) => Ok(store.put(i, word)?),
+        None => Err(End::Stop(Place::Fault(Fault::Write))),
+    }
+}
+
+/// Where a global stands, from variable 16 on.
+#[inline]
+fn global_place(header: &Header, variable: u8) -> usize
+    requires { 16 ≤ variable }
+    ensures same { result ≡ header.now.globals + 2 * (variable - 16) }
+    ensures within { result < 2 ^ 17 }
+{
+    header.globals as usize + 2 * (variable as usize - 16)
+}
+
+/// Reads a global, from variable 16 on.
+#[inline]
+fn read_global(header: &Header, store: &mut Recorded<Store>, variable: u8) -> Result<u16, End>
+    requires store { IsStoreOf header.now store.old.store }
+    requires variable { 16 ≤ variable }
+    ensures { Went result store.old store.new (read_global variable) }
+{
+    let at = global_place(header, variable);
+    let memory = store.store().memory();
+    Ok(memory[at] as u16 * 256 + memory[at + 1] as u16)
+}
+
+/// Writes a global, from variable 16 on.
+#[inline]
+fn write_global(
+    header: &Header,
+    store: &mut Recorded<Store>,
+    variable: u8,
+    word: u16,
+) -> Result<(), End>
+    requires store { IsStoreOf header.now store.old.store }
+    requires variable { 16 ≤ variable }
+    ensures { Went result store.old store.new (write_global variable word) }
+{
+    let at = global_place(header, variable);
+    store.put(MEMORY + at, word / 256)?;
+    store.put(MEMORY + at + 1, word % 256)?;
+    Ok(())
+}
+
+/// Reads a variable: 0 pops the stack, 1 to 15 are locals, 16 and above are globals. M5, M3.
+#[inline]
+pub fn read_variable(header: &Header, store: &mut Recorded<Store>, variable: u8) -> Result<u16, End>
+    requires { IsStoreOf header.now store.old.store }
+    ensures { Went result store.old store.new (read_variable variable) }
+{
+    match variable {
+        0 => pop(store),
+        1..16 => read_local(store, variable as usize - 1),
+        _ => read_global(header, store, variable),
+    }
+}
+
+/// Writes a variable: 0 pushes on the stack, 1 to 15 are locals, 16 and above are globals. M6, M4.
+#[inline]
+pub fn write_variable(
+    header: &Header,
+    store: &mut Recorded<Store>,
+    variable: u8,
+    word: u16,
+) -> Result<(), End>
+    requires { IsStoreOf header.now store.old.store }
+    ensures { Went result store.old store.new (write_variable variable word) }
+{
+    match variable {
+        0 => push(store, word),
+        1..16 => write_local(store, variable as usize - 1, word),
+        _ => write_global(header, store, variable, word),
+    }
+}

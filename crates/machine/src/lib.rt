@@ -1,0 +1,14 @@
+//! The machine: loads a story, and plays it turn by turn.
+#![tactic(auto)]
+
+mod decode;
+mod load;
+mod step;
+#[cfg(test)]
+mod tests;
+mod turn;
+
+pub use frames::Store;
+pub use load::LoadFault;
+pub use turn::Machine;
+pub use zcore::{Fault, Limit, Place};

@@ -1,0 +1,4 @@
+pub mod Saying
+pub mod Numbers
+pub mod Printing
+pub mod Operating

@@ -1,0 +1,44 @@
+-- Operations, from their parts.
+use Rattle.std.proofs.Common.{◌≡◌, ℕ, List, ap, sym, ◌∙◌, subst, Bool, true, false, Option, Result, Ok, Err}
+use Rattle.journal.specs.Recording.{Recording}
+use Rattle.zcore.specs.declared.next.Next.{Next}
+use Rattle.zcore.specs.declared.place.Place.TheVariants as places
+use Rattle.zcore.specs.Reading.{Cause}
+use Rattle.zcore.specs.State.{State, Out, bound, ◌>>=◌}
+use Rattle.zcore.specs.declared.place.Fault.{Fault}
+use Rattle.zcore.specs.Parts.{test, store_result, test_target, go, jump_target}
+use Rattle.zcore.specs.Step.{jump, text_at, read_text, text_fault}
+use Rattle.zcore.specs.Text.{decoded}
+use Rattle.frames.specs.Contents.{Contents, memory_of}
+use Rattle.frames.specs.Standing.{state_of, IsSound}
+use Rattle.frames.specs.Went.{Went}
+use Rattle.frames.specs.declared.end.End.{End}
+use Rattle.frames.specs.declared.end.End.TheVariants as ends
+use Rattle.frames.proofs.Steps.{went_then, went_no_further, went_still, went_halt, went_as}
+
+pub jump_went : (here : Next) (after offset target : ℕ) (r : Result Next End) (s : Recording Contents) → target ≡ jump_target after offset → Went (Ok tt) s s (test_target target) → Went r s s (go here target) → Went r s s (jump here after offset)
+unfolding jump
+jump_went here after offset target r s e v w = went_then _ (subst (λ t. Went (Ok tt) s s (test_target t)) e v) (subst (λ t. Went r s s (go here t)) e w)
+
+pub jump_stops : (here : Next) (after offset target : ℕ) (x : End) (s : Recording Contents) → target ≡ jump_target after offset → Went {A = Unit {0}} (Err x) s s (test_target target) → Went {A = Next} (Err x) s s (jump here after offset)
+unfolding jump
+jump_stops here after offset target x s e v = went_no_further _ (subst (λ t. Went {A = Unit {0}} (Err x) s s (test_target t)) e v)
+
+pub text_read : (s : Recording Contents) (story : List ℕ) (place : ℕ) (x : List ℕ × ℕ) → IsSound s.store → story ≡ memory_of s.store → decoded story place ≡ Ok x → Went (Ok x) s s (text_at place)
+unfolding text_at
+text_read s story place x sound m e = went_still s (text_at place) sound (λ t. ap (λ r. read_text r (state_of s.store t)) (ap (λ l. decoded l place) (sym m) ∙ e))
+
+pub text_unread : (s : Recording Contents) (story : List ℕ) (place : ℕ) (cause : Cause) → IsSound s.store → story ≡ memory_of s.store → decoded story place ≡ Err cause → Went {A = List ℕ × ℕ} (Err (ends.Stop (places.Fault (text_fault cause)))) s s (text_at place)
+unfolding text_at
+text_unread s story place cause sound m e = went_halt s (text_at place) sound (λ t. ap (λ r. read_text r (state_of s.store t)) (ap (λ l. decoded l place) (sym m) ∙ e))
+
+-- a test that passes
+pub test_passed : {B : Type 0} {r : Result B End} {s t : Recording Contents} (b : Bool) (cause : Fault) (k : Unit {0} → State → Out B) → b ≡ true → Went r s t (k tt) → Went r s t (test b cause >>= k)
+test_passed {r = r} {s = s} b cause k e w = went_as r (test b cause >>= k) (λ x. ap (λ (a : Bool). bound (test a cause (state_of s.store x)) k) e) w
+
+-- a test that fails
+pub test_failed : {B : Type 0} (s : Recording Contents) (b : Bool) (cause : Fault) (k : Unit {0} → State → Out B) → IsSound s.store → b ≡ false → Went {A = B} (Err (ends.Stop (places.Fault cause))) s s (test b cause >>= k)
+test_failed s b cause k sound e = went_halt s (test b cause >>= k) sound (λ x. ap (λ (a : Bool). bound (test a cause (state_of s.store x)) k) e)
+
+pub store_as : {r : Result (Unit {0}) End} {s t : Recording Contents} (v : Option ℕ) (q p : ℕ) → q ≡ p → Went r s t (store_result v q) → Went r s t (store_result v p)
+store_as {r} {s} {t} v q p e w = subst (λ n. Went r s t (store_result v n)) e w
