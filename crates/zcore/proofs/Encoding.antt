@@ -1,9 +1,11 @@
 -- The bytes of an instruction are read back as the instruction.
-use Rattle.std.proofs.Common.{◌≡◌, ◌≢◌, ℕ, zero, suc, ◌+◌, ◌-◌, ◌*◌, ◌/◌, ◌%◌, ◌<◌, ◌≤◌, List, [], ◌∷◌, ◌++◌, map, replicate, length, refl, ap, ◌∙◌, arith, subst, Bool, true, false, Option, Some, None, Result, Ok, Err, ◌⊎◌, inl, inr}
-use Rattle.std.specs.Prelude.{◌==◌, nat_le, nat_lt, if◌then◌else◌}
-use Rattle.std.specs.List.{flat_map, list_all}
+use Rattle.std.proofs.Common.{◌≡◌, ◌≢◌, ℕ, zero, suc, ◌+◌, ◌-◌, ◌*◌, ◌/◌, ◌%◌, ◌<◌, ◌≤◌, List, [], ◌∷◌, ◌++◌, map, take, drop, replicate, length, refl, ap, sym, ◌∙◌, arith, subst, Bool, true, false, Option, Some, None, Result, Ok, Err, ◌⊎◌, inl, inr}
+use Rattle.std.specs.Prelude.{◌==◌, nat_le, nat_lt, if◌then◌else◌, slice_index_or}
+use Rattle.std.specs.List.{All, flat_map, list_all}
 use Rattle.std.proofs.lemmas.Bool.{ltb-true, lt-ltb, le-ltb, le-leb, lt-leb, eq-eqb, ne_eqb, and_from}
-use Rattle.std.proofs.lemmas.List.{length-map, length-append}
+use Rattle.std.proofs.lemmas.List.{length-map, length-append, length-drop}
+use Rattle.std.proofs.lemmas.List.Elements.{All-append, All-map, All-replicate, All-drop}
+use Rattle.std.proofs.Math.Seq.{take-add}
 use Rattle.zcore.specs.declared.place.Fault.{Fault}
 use Rattle.zcore.specs.declared.place.Fault.TheVariants as faults
 use Rattle.zcore.specs.declared.instruction.Operation.{Operation}
@@ -12,7 +14,7 @@ use Rattle.zcore.specs.declared.instruction.Operand.{Operand}
 use Rattle.zcore.specs.declared.instruction.Operand.TheVariants.{Large, Small, Variable}
 use Rattle.zcore.specs.declared.instruction.Branch.{Branch}
 use Rattle.zcore.specs.Text.{Holds}
-use Rattle.zcore.specs.Instruction.{Instruction, Opcode, Count, two, one, none, several, two_operand, one_operand, no_operand, several_operand, count_of, number_of, least_operands, most_operands, has_result, has_branch, ◌>>=◌, byte, large, operand, operands, types_of, given, opcode_of, long_form, short_form, variable_form, opcode, result_variable, branch_at, branch, decode, type_of, operand_bytes, types_byte, variable_bytes, two_bytes, opcode_bytes, result_bytes, when_bit, branch_bytes, bytes_of, FitsResult, FitsBranch, IsEncodable}
+use Rattle.zcore.specs.Instruction.{Instruction, Opcode, Count, two, one, none, several, two_operand, one_operand, no_operand, several_operand, count_of, number_of, least_operands, most_operands, has_result, has_branch, has_more_types, ◌>>=◌, byte, large, operand, operands, types_of, given, opcode_of, long_form, short_form, variable_types, variable_form, opcode, result_variable, branch_at, branch, decode, type_of, operand_bytes, types_byte, types_to_write, types_bytes, variable_bytes, two_bytes, opcode_bytes, result_bytes, when_bit, branch_bytes, bytes_of, FitsResult, FitsBranch, IsEncodable}
 use Rattle.zcore.proofs.Holding.{holds_byte, holds_append}
 
 -- a part that was read, and what is read after it
@@ -65,18 +67,21 @@ type_small (Large n) = omega arith
 type_small (Small n) = omega arith
 type_small (Variable n) = omega arith
 
--- omitted types are all omitted
-all_omitted : (n : ℕ) → list_all (λ other. other == 3) (replicate n 3) ≡ true
-all_omitted zero = refl
-all_omitted (suc n) = all_omitted n
+-- omitted types are all omitted, however many of them are taken
+taken_omitted : (n m : ℕ) → list_all (λ other. other == 3) (take n (replicate m 3)) ≡ true
+taken_omitted zero m = refl
+taken_omitted (suc n) zero = refl
+taken_omitted (suc n) (suc m) = taken_omitted n m
 
 -- the types before the omitted ones are the operands'
-given_are : (os : List Operand) (n : ℕ) → given (map type_of os ++ replicate n 3) ≡ Ok (map type_of os)
-given_are [] zero = refl
-given_are [] (suc n) = rw (all_omitted n) refl
-given_are (o ∷ os) n =
+given_are : (os : List Operand) (n m : ℕ) → length os ≤ n → given (take n (map type_of os ++ replicate m 3)) ≡ Ok (map type_of os)
+given_are [] zero m le = refl
+given_are [] (suc n) zero le = refl
+given_are [] (suc n) (suc m) le = rw (taken_omitted n m) refl
+given_are (o ∷ os) zero m le = absurd (omega arith)
+given_are (o ∷ os) (suc n) m le =
     let small = type_small o in
-    rw (ne_eqb (type_of o) 3 (omega arith)) (then_ok (given (map type_of os ++ replicate n 3)) (map type_of os) (λ more. Ok (type_of o ∷ more)) _ (given_are os n) refl)
+    rw (ne_eqb (type_of o) 3 (omega arith)) (then_ok (given (take n (map type_of os ++ replicate m 3))) (map type_of os) (λ more. Ok (type_of o ∷ more)) _ (given_are os n m (omega arith)) refl)
 
 -- four types in a byte
 types_are : (a b c d : ℕ) → a < 4 → b < 4 → c < 4 → d < 4 → types_of (64 * a + 16 * b + 4 * c + d) ≡ a ∷ b ∷ c ∷ d ∷ []
@@ -88,28 +93,47 @@ types_are a b c d p q r s =
     let four : n % 4 ≡ d = omega arith in
     rw (one, two, three, four) refl
 
--- the byte of types of at most four operands, read back
-types_byte_is : (os : List Operand) → length os ≤ 4 → given (types_of (types_byte (map type_of os ++ replicate 4 3))) ≡ Ok (map type_of os)
-types_byte_is [] le = refl
-types_byte_is (a ∷ []) le =
-    let p = type_small a in
-    ap given (types_are (type_of a) 3 3 3 (omega arith) (omega arith) (omega arith) (omega arith)) ∙ given_are (a ∷ []) 3
-types_byte_is (a ∷ b ∷ []) le =
-    let p = type_small a in
-    let q = type_small b in
-    ap given (types_are (type_of a) (type_of b) 3 3 (omega arith) (omega arith) (omega arith) (omega arith)) ∙ given_are (a ∷ b ∷ []) 2
-types_byte_is (a ∷ b ∷ c ∷ []) le =
-    let p = type_small a in
-    let q = type_small b in
-    let r = type_small c in
-    ap given (types_are (type_of a) (type_of b) (type_of c) 3 (omega arith) (omega arith) (omega arith) (omega arith)) ∙ given_are (a ∷ b ∷ c ∷ []) 1
-types_byte_is (a ∷ b ∷ c ∷ d ∷ []) le =
-    let p = type_small a in
-    let q = type_small b in
-    let r = type_small c in
-    let s = type_small d in
-    ap given (types_are (type_of a) (type_of b) (type_of c) (type_of d) (omega arith) (omega arith) (omega arith) (omega arith)) ∙ given_are (a ∷ b ∷ c ∷ d ∷ []) 0
-types_byte_is (a ∷ b ∷ c ∷ d ∷ e ∷ os) le = absurd (omega arith)
+-- the byte of the first four of some types
+types_byte_is : (types : List ℕ) → All (λ t. t < 4) types → 4 ≤ length types → types_of (types_byte types) ≡ take 4 types
+types_byte_is [] small le = absurd (omega arith)
+types_byte_is (a ∷ []) small le = absurd (omega arith)
+types_byte_is (a ∷ b ∷ []) small le = absurd (omega arith)
+types_byte_is (a ∷ b ∷ c ∷ []) small le = absurd (omega arith)
+types_byte_is (a ∷ b ∷ c ∷ d ∷ types) small le = types_are a b c d (small 0 0 (omega arith)) (small 1 0 (omega arith)) (small 2 0 (omega arith)) (small 3 0 (omega arith))
+
+-- the types that are written fit two bits each
+written_small : (os : List Operand) → All (λ t. t < 4) (types_to_write os)
+written_small os =
+    All-append (λ t. t < 4) (map type_of os) (replicate 8 3)
+    (All-map (λ t. t < 4) type_of os (λ k d lt. let small = type_small (slice_index_or os k d) in omega arith))
+    (All-replicate (λ t. t < 4) 8 3 (omega arith))
+
+-- how many operands the types in one byte or two have room for
+abbrev room : Bool → ℕ
+room false = 4
+room true = 8
+
+-- the byte of types, or the two bytes, read back
+variable_types_are : (more : Bool) (memory : List ℕ) (at : ℕ) (os : List Operand) → Holds memory at (types_bytes more os)
+    → variable_types memory more at ≡ Ok (take (room more) (types_to_write os), at + length (types_bytes more os))
+variable_types_are false memory at os h =
+    let types = types_to_write os in
+    let size = length-append (map type_of os) (replicate 8 3) in
+    let first = types_byte_is types (written_small os) (omega arith) in
+    then_ok (byte memory at) (types_byte types, at + 1) _ _ (byte_is memory at (types_byte types) [] h) (ap (λ l. Ok (l, at + 1)) first)
+variable_types_are true memory at os h =
+    let types = types_to_write os in
+    let size = length-append (map type_of os) (replicate 8 3) in
+    let left = length-drop 4 types in
+    let first = types_byte_is types (written_small os) (omega arith) in
+    let second = types_byte_is (drop 4 types) (All-drop (λ t. t < 4) 4 types (written_small os)) (omega arith) in
+    let rest = (holds_byte memory at (types_byte types) (types_byte (drop 4 types) ∷ []) h).rest in
+    let next : at + 1 + 1 ≡ at + 2 = omega arith in
+    let whole : types_of (types_byte types) ++ types_of (types_byte (drop 4 types)) ≡ take 8 types =
+    ap (λ l. l ++ types_of (types_byte (drop 4 types))) first ∙ ap (λ l. take 4 types ++ l) second ∙ sym (take-add 4 4 types) in
+    then_ok (byte memory at) (types_byte types, at + 1) _ _ (byte_is memory at (types_byte types) (types_byte (drop 4 types) ∷ []) h)
+    (then_ok (byte memory (at + 1)) (types_byte (drop 4 types), at + 1 + 1) (λ read. Ok (types_of (types_byte types) ++ types_of read.0, read.1)) _ (byte_is memory (at + 1) (types_byte (drop 4 types)) [] rest)
+    (ap (λ l. Ok (l, at + 1 + 1)) whole ∙ ap (λ a. Ok (take 8 types, a)) next))
 
 -- Opcodes
 
@@ -172,33 +196,38 @@ long_is memory at number a b operation lt p q r s found least most h =
     let two : first / 32 % 2 + 1 ≡ b = omega arith in
     opcode_long memory at first [] _ h (omega arith) (rw (low, one, two, found) (opcode_of_is operation (a ∷ b ∷ []) (at + 1) least most))
 
+-- what is to be shown of an opcode in variable form
+abbrev VariableIs : List ℕ → ℕ → ℕ → Operation → List Operand → Bool → Type 0
+VariableIs memory at first operation os more =
+    Holds memory at (variable_bytes first more os) → opcode memory at ≡ Ok (record { operation = operation; types = map type_of os }, at + length (variable_bytes first more os))
+
 -- an opcode in variable form is read back
 variable_is : (memory : List ℕ) (at first : ℕ) (operation : Operation) (os : List Operand) → 192 ≤ first → (if nat_lt first 224 then two_operand (first % 32) else several_operand (first % 32)) ≡ Some operation
-    → length os ≤ 4 → least_operands operation ≤ length os → length os ≤ most_operands operation → Holds memory at (variable_bytes first os)
-    → opcode memory at ≡ Ok (record { operation = operation; types = map type_of os }, at + 2)
+    → most_operands operation ≤ room (has_more_types operation) → least_operands operation ≤ length os → length os ≤ most_operands operation → VariableIs memory at first operation os (has_more_types operation)
 variable_is memory at first operation os le found few least most h =
-    let types = types_byte (map type_of os ++ replicate 4 3) in
-    let rest = (holds_byte memory at first (types ∷ []) h).rest in
+    let more = has_more_types operation in
+    let bytes = types_bytes more os in
+    let rest = (holds_byte memory at first bytes h).rest in
     let size = length-map os type_of in
-    let next : at + 1 + 1 ≡ at + 2 = omega arith in
-    let last : opcode_of (Some operation) (map type_of os) (at + 1 + 1) ≡ Ok (record { operation = operation; types = map type_of os }, at + 2) =
-    opcode_of_is operation (map type_of os) (at + 1 + 1) (omega arith) (omega arith) ∙ ap (λ a. Ok (record { operation = operation; types = map type_of os }, a)) next in
-    opcode_variable memory at first (types ∷ []) _ h le
+    let next : at + 1 + length bytes ≡ at + length (first ∷ bytes) = omega arith in
+    let last : opcode_of (Some operation) (map type_of os) (at + 1 + length bytes) ≡ Ok (record { operation = operation; types = map type_of os }, at + length (first ∷ bytes)) =
+    opcode_of_is operation (map type_of os) (at + 1 + length bytes) (omega arith) (omega arith) ∙ ap (λ a. Ok (record { operation = operation; types = map type_of os }, a)) next in
+    opcode_variable memory at first bytes _ h le
     (rw found
-    (then_ok (byte memory (at + 1)) (types, at + 1 + 1) (λ read. given (types_of read.0) >>= λ kept. opcode_of (Some operation) kept read.1) _ (byte_is memory (at + 1) types [] rest)
-    (then_ok (given (types_of types)) (map type_of os) (λ kept. opcode_of (Some operation) kept (at + 1 + 1)) _ (types_byte_is os few) last)))
+    (then_ok (variable_types memory more (at + 1)) (take (room more) (types_to_write os), at + 1 + length bytes) (λ read. given read.0 >>= λ kept. opcode_of (Some operation) kept read.1) _ (variable_types_are more memory (at + 1) os rest)
+    (then_ok (given (take (room more) (types_to_write os))) (map type_of os) (λ kept. opcode_of (Some operation) kept (at + 1 + length bytes)) _ (given_are os (room more) 8 (omega arith)) last)))
 
 -- an operation has its number in the table of its count, and takes as many operands as that count allows
 abbrev IsNumbered : Count → ℕ → Operation → Type 0
-IsNumbered two number operation = (number < 32) × (two_operand number ≡ Some operation) × (most_operands operation ≤ 4)
+IsNumbered two number operation = (number < 32) × (two_operand number ≡ Some operation) × (most_operands operation ≤ 4) × (has_more_types operation ≡ false)
 IsNumbered one number operation = (number < 16) × (one_operand number ≡ Some operation) × (1 ≤ least_operands operation) × (most_operands operation ≤ 1)
 IsNumbered none number operation = (number < 16) × (number ≢ 14) × (no_operand number ≡ Some operation) × (most_operands operation ≤ 0)
-IsNumbered several number operation = (number < 32) × (several_operand number ≡ Some operation) × (most_operands operation ≤ 4)
+IsNumbered several number operation = (number < 32) × (several_operand number ≡ Some operation) × (most_operands operation ≤ room (has_more_types operation))
 
 -- one line for each operation
 numbered : (operation : Operation) → IsNumbered (count_of operation) (number_of operation) operation
-numbered operations.Div = (omega arith, refl, omega arith)
-numbered operations.Mod = (omega arith, refl, omega arith)
+numbered operations.Div = (omega arith, refl, omega arith, refl)
+numbered operations.Mod = (omega arith, refl, omega arith, refl)
 numbered operations.Jump = (omega arith, refl, omega arith, omega arith)
 numbered operations.ReturnTrue = (omega arith, omega arith, refl, omega arith)
 numbered operations.Print = (omega arith, omega arith, refl, omega arith)
@@ -206,14 +235,14 @@ numbered operations.Quit = (omega arith, omega arith, refl, omega arith)
 numbered operations.PrintNumber = (omega arith, refl, omega arith)
 
 -- an opcode of count 2OP in variable form is read back
-two_variable : (memory : List ℕ) (at number : ℕ) (operation : Operation) (os : List Operand) → IsNumbered two number operation → least_operands operation ≤ length os → length os ≤ most_operands operation → Holds memory at (variable_bytes (192 + number) os)
-    → opcode memory at ≡ Ok (record { operation = operation; types = map type_of os }, at + 2)
-two_variable memory at number operation os n least most h =
+two_variable : (memory : List ℕ) (at number : ℕ) (operation : Operation) (os : List Operand) → IsNumbered two number operation → least_operands operation ≤ length os → length os ≤ most_operands operation → VariableIs memory at (192 + number) operation os false
+two_variable memory at number operation os n least most =
     let first = 192 + number in
     let below = n.0 in
     let few = n.2 in
     let low : first % 32 ≡ number = omega arith in
-    variable_is memory at first operation os (omega arith) (rw (lt-ltb first 224 (omega arith), low) n.1) (omega arith) least most h
+    let within : most_operands operation ≤ room (has_more_types operation) = subst (λ more. most_operands operation ≤ room more) (sym n.3) few in
+    subst (VariableIs memory at first operation os) n.3 (variable_is memory at first operation os (omega arith) (rw (lt-ltb first 224 (omega arith), low) n.1) within least most)
 
 -- what is to be shown of an opcode of count 2OP
 abbrev TwoIs : List ℕ → ℕ → ℕ → Operation → List Operand → Type 0
@@ -234,7 +263,7 @@ two_are memory at number operation (a ∷ b ∷ c ∷ os) n least most h = two_v
 
 -- the opcode of an operation, by its count
 opcode_by : (count : Count) (memory : List ℕ) (at number : ℕ) (operation : Operation) (os : List Operand) → IsNumbered count number operation → least_operands operation ≤ length os → length os ≤ most_operands operation
-    → Holds memory at (opcode_bytes count number os) → opcode memory at ≡ Ok (record { operation = operation; types = map type_of os }, at + length (opcode_bytes count number os))
+    → Holds memory at (opcode_bytes count number (has_more_types operation) os) → opcode memory at ≡ Ok (record { operation = operation; types = map type_of os }, at + length (opcode_bytes count number (has_more_types operation) os))
 opcode_by two memory at number operation os n least most h = two_are memory at number operation os n least most h
 opcode_by one memory at number operation [] n least most h = let some = n.2 in absurd (omega arith)
 opcode_by one memory at number operation (o ∷ []) n least most h = one_is memory at number operation o n.0 n.1 least most h
@@ -246,11 +275,11 @@ opcode_by several memory at number operation os n least most h =
     let below = n.0 in
     let few = n.2 in
     let low : first % 32 ≡ number = omega arith in
-    variable_is memory at first operation os (omega arith) (rw (le-ltb first 224 (omega arith), low) n.1) (omega arith) least most h
+    variable_is memory at first operation os (omega arith) (rw (le-ltb first 224 (omega arith), low) n.1) few least most h
 
 -- the opcode of an operation is read back
-opcode_is : (memory : List ℕ) (at : ℕ) (operation : Operation) (os : List Operand) → least_operands operation ≤ length os → length os ≤ most_operands operation → Holds memory at (opcode_bytes (count_of operation) (number_of operation) os)
-    → opcode memory at ≡ Ok (record { operation = operation; types = map type_of os }, at + length (opcode_bytes (count_of operation) (number_of operation) os))
+opcode_is : (memory : List ℕ) (at : ℕ) (operation : Operation) (os : List Operand) → least_operands operation ≤ length os → length os ≤ most_operands operation → Holds memory at (opcode_bytes (count_of operation) (number_of operation) (has_more_types operation) os)
+    → opcode memory at ≡ Ok (record { operation = operation; types = map type_of os }, at + length (opcode_bytes (count_of operation) (number_of operation) (has_more_types operation) os))
 opcode_is memory at operation os least most h = opcode_by (count_of operation) memory at (number_of operation) operation os (numbered operation) least most h
 
 -- Results and branches
@@ -381,7 +410,7 @@ holds_four memory at a b c d h =
 pub decode_bytes : (memory : List ℕ) (at : ℕ) (instruction : Instruction) → IsEncodable instruction → Holds memory at (bytes_of instruction) → decode memory at ≡ Ok (instruction, at + length (bytes_of instruction))
 unfolding decode bytes_of
 decode_bytes memory at i fits h =
-    let code = opcode_bytes (count_of i.operation) (number_of i.operation) i.operands in
+    let code = opcode_bytes (count_of i.operation) (number_of i.operation) (has_more_types i.operation) i.operands in
     let given = flat_map operand_bytes i.operands in
     let into = result_bytes i.result in
     let to = branch_bytes i.branch in

@@ -1,5 +1,5 @@
 -- The definitions of the machine, computed at a small story of 684 bytes and at single instructions.
-use Rattle.std.proofs.Common.{◌≡◌, ℕ, List, [], ◌∷◌, ◌++◌, Some, None, Ok, Err, refl}
+use Rattle.std.proofs.Common.{◌≡◌, ℕ, List, [], ◌∷◌, ◌++◌, Some, None, Ok, Err, true, refl}
 use Rattle.std.specs.Prelude.{codes, replicate, option_map}
 use Rattle.zcore.specs.declared.place.Fault.TheVariants as faults
 use Rattle.zcore.specs.declared.place.Limit.TheVariants as limits
@@ -7,10 +7,11 @@ use Rattle.zcore.specs.declared.place.Place.{Place}
 use Rattle.zcore.specs.declared.place.Place.TheVariants as places
 use Rattle.zcore.specs.declared.instruction.Operation.TheVariants.{Div, Mod, Jump, PrintNumber}
 use Rattle.zcore.specs.declared.instruction.Operand.TheVariants.{Large, Small, Variable}
-use Rattle.zcore.specs.Instruction.{decode, bytes_of, opcode, operands, operand, byte, large, result_variable, branch}
-use Rattle.zcore.specs.Turn.{Whole, opening, turn_from, weight}
+use Rattle.zcore.specs.Instruction.{decode, bytes_of, opcode, operands, operand, byte, large, result_variable, branch, variable_types, types_bytes}
+use Rattle.zcore.specs.State.{State, done, halt}
+use Rattle.zcore.specs.Turn.{Whole, first_state, opening, turn_from, weight}
 use Rattle.zcore.specs.Step.{step, perform, divide, modulo, jump, print_inline, print_number, text_at}
-use Rattle.zcore.specs.Parts.{push, pop, read_global, read_variable, write_variable, operand_value, operand_values, test_result, store_result, test_target, spend, go, test_return, give_back, print}
+use Rattle.zcore.specs.Parts.{read_in_place, write_in_place, push, pop, read_global, read_variable, write_variable, operand_value, operand_values, test_result, store_result, test_target, spend, go, test_return, give_back, print}
 use Rattle.zcore.specs.Text.{decoded, abbreviation}
 use Rattle.zcore.specs.Reading.{reads}
 use Rattle.zcore.specs.Words.{unpacked}
@@ -97,3 +98,33 @@ operand_after_omitted = refl
 too_few_operands : decode (0xD8 ∷ 0x3F ∷ 0 ∷ 0 ∷ 0 ∷ []) 0 ≡ Err faults.Opcode
 unfolding decode opcode byte
 too_few_operands = refl
+
+-- two bytes of operand types, read and written
+types_read : variable_types (0x15 ∷ 0xBF ∷ []) true 0 ≡ Ok (0 ∷ 1 ∷ 1 ∷ 1 ∷ 2 ∷ 3 ∷ 3 ∷ 3 ∷ [], 2)
+unfolding byte
+types_read = refl
+
+types_written : types_bytes true (Large 0 ∷ Small 1 ∷ Small 2 ∷ Small 3 ∷ Variable 4 ∷ []) ≡ 0x15 ∷ 0xBF ∷ []
+types_written = refl
+
+-- in place, variable 0 is the top of the stack, which stays
+
+abbrev one_word : ℕ → State
+one_word word = record {
+  memory = [];
+  frames = record { locals = []; stack = word ∷ []; arguments = 0; return_place = 0; result = None } ∷ [];
+  pending = None;
+  text = [];
+}
+
+top_read : read_in_place 0 (one_word 5) ≡ done 5 (one_word 5)
+unfolding read_in_place
+top_read = refl
+
+top_written : write_in_place 0 7 (one_word 5) ≡ done tt (one_word 7)
+unfolding write_in_place
+top_written = refl
+
+nothing_on_top : read_in_place 0 (first_state []) ≡ halt (places.Fault faults.StackEmpty) (first_state [])
+unfolding read_in_place
+nothing_on_top = refl
