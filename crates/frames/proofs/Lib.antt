@@ -4,6 +4,7 @@ pub mod Frames
 pub mod Kept
 pub mod Pushing
 pub mod Locals
+pub mod InPlace
 pub mod Bytes
 pub mod Storing
 pub mod Entering

@@ -26,6 +26,7 @@ pub fn is_code(memory: &[u8], place: usize) -> bool
 
 /// Tests whether a routine can be entered, and changes nothing. M2 where it does not lie in the story or has more than
 /// 15 locals, M6 where its locals find no room.
+#[inline]
 pub fn test_routine(store: &Recorded<Store>, routine: usize) -> Result<(), End>
     requires { IsSound store.now.store }
     ensures went { Went result store.now store.now (test_routine routine) }
@@ -60,6 +61,7 @@ pub fn test_calls(store: &Recorded<Store>) -> Result<(), End>
 
 /// Makes the frame of a routine that was tested. The first locals are the arguments, the others are 0; surplus
 /// arguments are dropped.
+#[inline]
 pub fn enter(
     store: &mut Recorded<Store>,
     routine: usize,
@@ -96,7 +98,7 @@ pub fn enter(
 
 /// The cell for the variable of a result.
 #[inline]
-fn variable_cell(result_variable: Option<u8>) -> u16
+pub(crate) fn variable_cell(result_variable: Option<u8>) -> u16
     ensures { variable_of result ≡ result_variable }
 {
     match result_variable {
@@ -120,6 +122,7 @@ pub(crate) fn variable_in(cell: u16) -> Option<u8>
 /// Tests whether the running frame can return, and changes nothing: where it returns to, and the variable for its
 /// result. M11 in the first environment, M6 and M4 where the caller cannot store the result, M2 where the place is no
 /// code.
+#[inline]
 pub fn test_return(store: &Recorded<Store>) -> Result<(u32, Option<u8>), End>
     requires { IsSound store.now.store }
     ensures went { Went result store.now store.now test_return }
@@ -140,6 +143,7 @@ pub fn test_return(store: &Recorded<Store>) -> Result<(u32, Option<u8>), End>
 }
 
 /// Ends the running frame, which has a caller: its record and its words are no longer in use.
+#[inline]
 pub fn leave(store: &mut Recorded<Store>) -> Result<(), End>
     requires sound { IsSound store.old.store }
     requires called { 1 < frame_count (slice_index store.old.store.cells) }

@@ -9,13 +9,13 @@ use crate::layout::PROGRAM_COUNTER;
 use crate::store::Store;
 use journal::{Cells, NoMemory, Recorded};
 
-/// The value of a cell.
-#[inline]
+/// The value of a cell before dynamic memory.
+#[inline(always)]
 pub(crate) fn cell(store: &Recorded<Store>, i: usize) -> u16
-    requires { i < length store.now.store.cells }
+    requires { i < 72559 }
     ensures { result ≡ slice_index store.now.store.cells i }
 {
-    store.store().get(i)
+    store.store().word(i)
 }
 
 /// The number in two cells.
@@ -29,6 +29,7 @@ pub(crate) fn long(store: &Recorded<Store>, i: usize) -> u32
 }
 
 /// Writes values to cells that follow each other, all before memory.
+#[inline]
 pub(crate) fn put_all(
     store: &mut Recorded<Store>,
     at: usize,

@@ -9,7 +9,8 @@ pub(crate) const HEIGHT: usize = 1;
 /// Where the program counter is kept between turns (two cells).
 pub(crate) const PROGRAM_COUNTER: usize = 3;
 
-/// Whether a line is waited for.
+/// Whether a line is waited for. The five registers behind it say with what: text buffer, parse buffer, the variable for
+/// the result, and where the machine goes on (two cells).
 pub(crate) const WAITING: usize = 5;
 
 /// The text buffer for the line.

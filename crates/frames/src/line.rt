@@ -1,7 +1,8 @@
-//! A line that is given to a store that waits for one.
+//! Waiting for a line, and the line that is then given.
 
 ghost use Rattle.std.specs.Prelude.{◌≡◌, ◌<◌, ◌≤◌, ◌+◌, ℕ, [], Some, length, map, slice_index, OnOk, OnErr};
 ghost use Rattle.zcore.specs.Header.{static_base_of};
+ghost use Rattle.zcore.specs.Parts.{is_text_buffer, test_text_buffer, wait};
 ghost use Rattle.zcore.specs.State.{Pending};
 ghost use Rattle.zcore.specs.Text as texts;
 ghost use Rattle.zcore.specs.Turn.{given, with_letters};
@@ -9,19 +10,74 @@ ghost use Rattle.frames.specs.Contents.{memory_of};
 ghost use Rattle.frames.specs.Lines.{Filled, WaitsNoMore};
 ghost use Rattle.frames.specs.Playing.{IsWaiting};
 ghost use Rattle.frames.specs.Standing.{pending_of, IsSound, IsStoreOf};
-ghost use Rattle.frames.specs.Went.{GivenUp, Told};
+ghost use Rattle.frames.specs.Went.{GivenUp, Went, Told};
 
-use crate::calls::variable_in;
-use crate::cells::{cell, long};
+use crate::calls::{variable_cell, variable_in};
+use crate::cells::{cell, long, put_all};
 use crate::end::End;
 use crate::layout::{MEMORY, RESULT_VARIABLE, RETURN_PLACE, TEXT_BUFFER, WAITING};
 use crate::results::store_result;
 use crate::store::Store;
 use journal::{NoMemory, Recorded};
-use zcore::{Header, Next};
+use zcore::{Fault, Header, Next, Place};
+
+/// Where the header ends.
+const HEADER_LENGTH: usize = 64;
 
 /// The code of the key that ends a line.
 const NEW_LINE: u16 = 13;
+
+/// Tests whether a line can be read into a text buffer, and changes nothing: it lies in dynamic memory behind the
+/// header, with room for a letter or more, and holds none (Z-Machine Standards Document 1.1, section 15, `aread`). M12.
+pub fn test_text_buffer(header: &Header, store: &Recorded<Store>, buffer: u16) -> Result<(), End>
+    requires { IsStoreOf header.now store.now.store }
+    ensures { Went result store.now store.now (test_text_buffer buffer) }
+{
+    if is_text_buffer(store.store().memory(), header.static_base, buffer) {
+        Ok(())
+    } else {
+        Err(End::Stop(Place::Fault(Fault::Buffer)))
+    }
+}
+
+/// Whether an address is that of a text buffer, in a story with this static base.
+fn is_text_buffer(memory: &[u8], static_base: u16, buffer: u16) -> bool
+    requires base { static_base ≡ static_base_of memory.now }
+    requires within { static_base ≤ length memory.now }
+    ensures { result ≡ is_text_buffer memory.now buffer }
+{
+    let at = buffer as usize;
+    let end = static_base as usize;
+    if at < HEADER_LENGTH || at + 2 > end {
+        return false;
+    }
+    let room = memory[at] as usize;
+    at + 2 + room <= end && 1 <= room && memory[at + 1] == 0
+}
+
+/// Ends the turn: the machine waits for a line, with these buffers (the second 0 for none), the variable for the result
+/// and the place to go on at. It never answers `Ok`.
+pub fn wait(
+    store: &mut Recorded<Store>,
+    text_buffer: u16,
+    parse_buffer: u16,
+    result_variable: Option<u8>,
+    return_place: u32,
+) -> Result<Next, End>
+    requires { IsSound store.old.store }
+    ensures { Went result store.old store.new (wait (record { text_buffer = text_buffer; parse_buffer = parse_buffer; result = result_variable; return_place = return_place })) }
+{
+    let registers = [
+        1,
+        text_buffer,
+        parse_buffer,
+        variable_cell(result_variable),
+        (return_place / 65_536) as u16,
+        (return_place % 65_536) as u16,
+    ];
+    put_all(store, WAITING, &registers)?;
+    Err(End::Stop(Place::Waiting))
+}
 
 /// Gives a line to a store that waits for one, and answers where the turn goes on: the text buffer takes as many
 /// letters as it has room for, and the result is the code of the key that ended the line (Z-Machine Standards Document

@@ -46,9 +46,9 @@ fn is_writable_word(header: &Header, at: usize) -> bool
 
 /// Reads a byte. M3 at or past the lesser of the story's length and 65,536.
 #[inline]
-pub fn read_byte(store: &mut Recorded<Store>, at: usize) -> Result<u8, End>
-    requires { IsSound store.old.store }
-    ensures { Went result store.old store.new (read_byte at) }
+pub fn read_byte(store: &Recorded<Store>, at: usize) -> Result<u8, End>
+    requires { IsSound store.now.store }
+    ensures { Went result store.now store.now (read_byte at) }
 {
     let memory = store.store().memory();
     if !is_readable(memory, at) {
@@ -59,10 +59,10 @@ pub fn read_byte(store: &mut Recorded<Store>, at: usize) -> Result<u8, End>
 
 /// Reads a word. M3 where one of its bytes stands at or past the lesser of the story's length and 65,536.
 #[inline]
-pub fn read_word(store: &mut Recorded<Store>, at: usize) -> Result<u16, End>
-    requires sound { IsSound store.old.store }
+pub fn read_word(store: &Recorded<Store>, at: usize) -> Result<u16, End>
+    requires sound { IsSound store.now.store }
     requires address { at ≤ 65535 }
-    ensures { Went result store.old store.new (read_word at) }
+    ensures { Went result store.now store.now (read_word at) }
 {
     let memory = store.store().memory();
     if !is_readable_word(memory, at) {

@@ -11,7 +11,7 @@ use journal::Recorded;
 use zcore::{Header, Operand};
 
 /// The value of an operand. M5, M3.
-#[inline]
+#[inline(always)]
 pub fn operand_value(
     header: &Header,
     store: &mut Recorded<Store>,

@@ -16,7 +16,7 @@ use zcore::{Fault, Header, Place};
 
 /// Tests whether a result can be stored, and changes nothing. M6 where the stack is full, M4 where the frame has not
 /// such a local.
-#[inline]
+#[inline(always)]
 pub fn test_result(store: &Recorded<Store>, result_variable: Option<u8>) -> Result<(), End>
     requires { IsSound store.now.store }
     ensures { Went result store.now store.now (test_result result_variable) }
@@ -42,7 +42,7 @@ pub fn test_result(store: &Recorded<Store>, result_variable: Option<u8>) -> Resu
 }
 
 /// Stores a result, which was tested before.
-#[inline]
+#[inline(always)]
 pub fn store_result(
     header: &Header,
     store: &mut Recorded<Store>,
@@ -59,6 +59,7 @@ pub fn store_result(
 }
 
 /// Tests whether a result can be stored in the frame below the running one, whose record begins at a cell.
+#[inline]
 pub(crate) fn test_caller(
     store: &Recorded<Store>,
     at: usize,

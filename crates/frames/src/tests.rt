@@ -5,7 +5,9 @@ ghost use Rattle.std.specs.Bool.{OnTrue};
 ghost use Rattle.frames.specs.Standing.{IsSound};
 ghost use Rattle.zcore.specs.Header.{static_base_of, globals_of, IsWithin};
 
-use crate::{End, Store, enter, leave, pop, push, test_calls, test_return, test_routine};
+use crate::{
+    End, Store, enter, leave, pop, push, test_calls, test_pull, test_return, test_routine, top,
+};
 use journal::Recorded;
 use std::alloc::{AllocError, Global};
 
@@ -29,9 +31,9 @@ fn is_placed(story: &[u8], static_base: u16) -> bool
         && globals + 480 <= base
 }
 
-/// What is popped in a routine, where it returns to, and what is popped after it.
+/// What is popped and read in a routine, where it returns to, and what is popped after it.
 #[tactic(auto, using(crate::proofs::Steps::went_sound))]
-fn call_and_return(store: &mut Recorded<Store>) -> Result<(u16, u32, u16), End>
+fn call_and_return(store: &mut Recorded<Store>) -> Result<(u16, u16, u32, u16), End>
     requires { IsSound store.old.store }
 {
     push(store, 7)?;
@@ -39,11 +41,14 @@ fn call_and_return(store: &mut Recorded<Store>) -> Result<(u16, u32, u16), End>
     test_calls(store)?;
     enter(store, 64, &[11, 12, 13], Some(0), 70)?;
     push(store, 9)?;
-    let inner = pop(store)?;
+    push(store, 10)?;
+    test_pull(store, 0)?;
+    let above = pop(store)?;
+    let inner = top(store)?;
     let (place, _result_variable) = test_return(store)?;
     leave(store)?;
     let outer = pop(store)?;
-    Ok((inner, place, outer))
+    Ok((above, inner, place, outer))
 }
 
 #[test]
@@ -58,5 +63,5 @@ fn a_frame_comes_and_goes(rt: HostRuntime) {
     let store = Store::new(rt.alloc(), story, 640).expect(&rt, "memory");
     let mut turn = Recorded::new(rt.alloc(), store);
     let answer = call_and_return(&mut turn).expect(&rt, "a call and a return");
-    assert_eq!(rt; answer, (9, 70, 7));
+    assert_eq!(rt; answer, (10, 9, 70, 7));
 }

@@ -3,18 +3,19 @@
 ghost use Rattle.std.specs.Prelude.{◌≡◌, ◌<◌, ◌≤◌, ◌+◌, ◌-◌, ◌*◌, ◌^◌, slice_index, IfSome, IfNone};
 ghost use Rattle.frames.specs.Standing.{base_of, local_count, frame_count, IsSound, IsStoreOf};
 ghost use Rattle.frames.specs.Went.{Went};
-ghost use Rattle.zcore.specs.Parts.{read_local, write_local, read_global, write_global, read_variable, write_variable};
+ghost use Rattle.zcore.specs.Parts.{read_local, write_local, read_global, write_global, read_variable, write_variable, read_in_place, write_in_place, test_pull};
 
 use crate::cells::{cell, long};
 use crate::end::End;
 use crate::layout::{MEMORY, STACK};
-use crate::stack::{pop, push, running};
+use crate::results::test_result;
+use crate::stack::{bottom, height, pop, push, running, set_top, top};
 use crate::store::Store;
 use journal::Recorded;
 use zcore::{Fault, Header, Place};
 
 /// The cell of a local of the running frame, from 0, if it has so many.
-#[inline]
+#[inline(always)]
 fn local_cell(store: &Recorded<Store>, number: usize) -> Option<usize>
     requires { IsSound store.now.store }
     ensures some { IfSome result (λ i. (number < local_count (slice_index store.now.store.cells) (frame_count (slice_index store.now.store.cells) - 1))
@@ -30,10 +31,10 @@ fn local_cell(store: &Recorded<Store>, number: usize) -> Option<usize>
 }
 
 /// Reads a local of the running frame, from 0. M3 where it has not so many.
-#[inline]
-fn read_local(store: &mut Recorded<Store>, number: usize) -> Result<u16, End>
-    requires { IsSound store.old.store }
-    ensures { Went result store.old store.new (read_local number) }
+#[inline(always)]
+fn read_local(store: &Recorded<Store>, number: usize) -> Result<u16, End>
+    requires { IsSound store.now.store }
+    ensures { Went result store.now store.now (read_local number) }
 {
     match local_cell(store, number) {
         Some(i) => Ok(cell(store, i)),
@@ -42,7 +43,7 @@ fn read_local(store: &mut Recorded<Store>, number: usize) -> Result<u16, End>
 }
 
 /// Writes a local of the running frame, from 0. M4 where it has not so many.
-#[inline]
+#[inline(always)]
 fn write_local(store: &mut Recorded<Store>, number: usize, word: u16) -> Result<(), End>
     requires { IsSound store.old.store }
     ensures { Went result store.old store.new (write_local number word) }
@@ -64,11 +65,11 @@ fn global_place(header: &Header, variable: u8) -> usize
 }
 
 /// Reads a global, from variable 16 on.
-#[inline]
-fn read_global(header: &Header, store: &mut Recorded<Store>, variable: u8) -> Result<u16, End>
-    requires store { IsStoreOf header.now store.old.store }
+#[inline(always)]
+fn read_global(header: &Header, store: &Recorded<Store>, variable: u8) -> Result<u16, End>
+    requires store { IsStoreOf header.now store.now.store }
     requires variable { 16 ≤ variable }
-    ensures { Went result store.old store.new (read_global variable) }
+    ensures { Went result store.now store.now (read_global variable) }
 {
     let at = global_place(header, variable);
     let memory = store.store().memory();
@@ -76,7 +77,7 @@ fn read_global(header: &Header, store: &mut Recorded<Store>, variable: u8) -> Re
 }
 
 /// Writes a global, from variable 16 on.
-#[inline]
+#[inline(always)]
 fn write_global(
     header: &Header,
     store: &mut Recorded<Store>,
@@ -93,21 +94,33 @@ fn write_global(
     Ok(())
 }
 
+/// Reads a variable in place: 0 is the top of the stack, which stays (section 6.3.4). M5, M3.
+#[inline(always)]
+pub fn read_in_place(header: &Header, store: &Recorded<Store>, variable: u8) -> Result<u16, End>
+    requires { IsStoreOf header.now store.now.store }
+    ensures { Went result store.now store.now (read_in_place variable) }
+{
+    match variable {
+        0 => top(store),
+        1..16 => read_local(store, variable as usize - 1),
+        _ => read_global(header, store, variable),
+    }
+}
+
 /// Reads a variable: 0 pops the stack, 1 to 15 are locals, 16 and above are globals. M5, M3.
-#[inline]
+#[inline(always)]
 pub fn read_variable(header: &Header, store: &mut Recorded<Store>, variable: u8) -> Result<u16, End>
     requires { IsStoreOf header.now store.old.store }
     ensures { Went result store.old store.new (read_variable variable) }
 {
     match variable {
         0 => pop(store),
-        1..16 => read_local(store, variable as usize - 1),
-        _ => read_global(header, store, variable),
+        _ => read_in_place(header, store, variable),
     }
 }
 
 /// Writes a variable: 0 pushes on the stack, 1 to 15 are locals, 16 and above are globals. M6, M4.
-#[inline]
+#[inline(always)]
 pub fn write_variable(
     header: &Header,
     store: &mut Recorded<Store>,
@@ -122,4 +135,37 @@ pub fn write_variable(
         1..16 => write_local(store, variable as usize - 1, word),
         _ => write_global(header, store, variable, word),
     }
+}
+
+/// Writes a variable in place: 0 is the top of the stack, whose word is replaced (section 6.3.4). M5, M4.
+#[inline]
+pub fn write_in_place(
+    header: &Header,
+    store: &mut Recorded<Store>,
+    variable: u8,
+    word: u16,
+) -> Result<(), End>
+    requires { IsStoreOf header.now store.old.store }
+    ensures { Went result store.old store.new (write_in_place variable word) }
+{
+    match variable {
+        0 => set_top(store, word),
+        _ => write_variable(header, store, variable, word),
+    }
+}
+
+/// Tests whether a word that is taken from the stack can then be stored in a variable in place, and changes nothing.
+/// M5 where variable 0 leaves no word below it, M4 where the frame has not such a local.
+#[inline]
+pub fn test_pull(store: &Recorded<Store>, variable: u8) -> Result<(), End>
+    requires { IsSound store.now.store }
+    ensures { Went result store.now store.now (test_pull variable) }
+{
+    if variable != 0 {
+        return test_result(store, Some(variable));
+    }
+    if height(store) <= bottom(store) + 1 {
+        return Err(End::Stop(Place::Fault(Fault::StackEmpty)));
+    }
+    Ok(())
 }

@@ -3,7 +3,10 @@
 
 mod decode;
 mod load;
+mod perform;
 mod step;
+#[cfg(test)]
+mod story_tests;
 #[cfg(test)]
 mod tests;
 mod turn;

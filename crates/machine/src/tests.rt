@@ -17,7 +17,7 @@ const DICTIONARY: [u8; 7] = [0x03, 0x2E, 0x2C, 0x22, 0x09, 0x00, 0x00];
 /// print "hello", quit
 const HELLO: [u8; 6] = [0xB2, 0x35, 0x51, 0xC6, 0x85, 0xBA];
 
-fn set_word(story: &mut Vec<u8>, at: usize, word: u16) {
+pub(crate) fn set_word(story: &mut Vec<u8>, at: usize, word: u16) {
     if at < 64 && story.len() > 64 {
         story[at] = (word / 256) as u8;
         story[at + 1] = (word % 256) as u8;
@@ -25,7 +25,7 @@ fn set_word(story: &mut Vec<u8>, at: usize, word: u16) {
 }
 
 /// A story with this code, filled up to a multiple of four bytes, with its length and sum.
-fn story_of(alloc: Global, code: &[u8]) -> Result<Vec<u8>, AllocError> {
+pub(crate) fn story_of(alloc: Global, code: &[u8]) -> Result<Vec<u8>, AllocError> {
     let mut story = Vec::new(alloc);
     story.extend_from_slice(&HEADER)?;
     story.extend_from_slice(b"000000")?;
@@ -44,7 +44,7 @@ fn story_of(alloc: Global, code: &[u8]) -> Result<Vec<u8>, AllocError> {
 }
 
 /// Where the opening of a story leaves the machine, and its text.
-fn opening(alloc: Global, story: Vec<u8>, fuel: u32) -> Result<(Place, Vec<u8>), Fail> {
+pub(crate) fn opening(alloc: Global, story: Vec<u8>, fuel: u32) -> Result<(Place, Vec<u8>), Fail> {
     let (machine, store) = Machine::load(alloc, story)?;
     let mut store = Recorded::new(alloc, store);
     let mut text = Vec::new(alloc);

@@ -1,4 +1,5 @@
 pub mod Saying
-pub mod Numbers
-pub mod Printing
+pub mod SignedWords
+pub mod Transcripts
 pub mod Operating
+pub mod Targets

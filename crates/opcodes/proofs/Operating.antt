@@ -6,8 +6,8 @@ use Rattle.zcore.specs.declared.place.Place.TheVariants as places
 use Rattle.zcore.specs.Reading.{Cause}
 use Rattle.zcore.specs.State.{State, Out, bound, ◌>>=◌}
 use Rattle.zcore.specs.declared.place.Fault.{Fault}
-use Rattle.zcore.specs.Parts.{test, store_result, test_target, go, jump_target}
-use Rattle.zcore.specs.Step.{jump, text_at, read_text, text_fault}
+use Rattle.zcore.specs.Parts.{test, test_target, go, jump_target}
+use Rattle.zcore.specs.Step.{give_result, jump, text_at, read_text, text_fault}
 use Rattle.zcore.specs.Text.{decoded}
 use Rattle.frames.specs.Contents.{Contents, memory_of}
 use Rattle.frames.specs.Standing.{state_of, IsSound}
@@ -40,5 +40,5 @@ test_passed {r = r} {s = s} b cause k e w = went_as r (test b cause >>= k) (λ x
 pub test_failed : {B : Type 0} (s : Recording Contents) (b : Bool) (cause : Fault) (k : Unit {0} → State → Out B) → IsSound s.store → b ≡ false → Went {A = B} (Err (ends.Stop (places.Fault cause))) s s (test b cause >>= k)
 test_failed s b cause k sound e = went_halt s (test b cause >>= k) sound (λ x. ap (λ (a : Bool). bound (test a cause (state_of s.store x)) k) e)
 
-pub store_as : {r : Result (Unit {0}) End} {s t : Recording Contents} (v : Option ℕ) (q p : ℕ) → q ≡ p → Went r s t (store_result v q) → Went r s t (store_result v p)
-store_as {r} {s} {t} v q p e w = subst (λ n. Went r s t (store_result v n)) e w
+pub result_as : {r : Result Next End} {s t : Recording Contents} (here : Next) (after : ℕ) (v : Option ℕ) (q p : ℕ) → q ≡ p → Went r s t (give_result here after v q) → Went r s t (give_result here after v p)
+result_as {r} {s} {t} here after v q p e w = subst (λ n. Went r s t (give_result here after v n)) e w

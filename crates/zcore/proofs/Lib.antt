@@ -10,6 +10,7 @@ pub mod Ahead
 pub mod TextAhead
 pub mod Falls
 pub mod Turning
+pub mod Waiting
 pub mod Holding
 pub mod Encoding
 mod Runs

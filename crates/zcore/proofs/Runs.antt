@@ -1,17 +1,18 @@
 -- The definitions of the machine, computed at a small story of 684 bytes and at single instructions.
-use Rattle.std.proofs.Common.{◌≡◌, ℕ, List, [], ◌∷◌, ◌++◌, Some, None, Ok, Err, true, refl}
+use Rattle.std.proofs.Common.{◌≡◌, ℕ, List, [], ◌∷◌, ◌++◌, Some, None, Ok, Err, true, false, refl}
 use Rattle.std.specs.Prelude.{codes, replicate, option_map}
 use Rattle.zcore.specs.declared.place.Fault.TheVariants as faults
 use Rattle.zcore.specs.declared.place.Limit.TheVariants as limits
 use Rattle.zcore.specs.declared.place.Place.{Place}
 use Rattle.zcore.specs.declared.place.Place.TheVariants as places
-use Rattle.zcore.specs.declared.instruction.Operation.TheVariants.{Div, Mod, Jump, PrintNumber}
+use Rattle.zcore.specs.declared.instruction.Operation.TheVariants.{JumpIfEqual, Add, Div, Mod, Jump, Call1n, PrintNumber}
 use Rattle.zcore.specs.declared.instruction.Operand.TheVariants.{Large, Small, Variable}
-use Rattle.zcore.specs.Instruction.{decode, bytes_of, opcode, operands, operand, byte, large, result_variable, branch, variable_types, types_bytes}
-use Rattle.zcore.specs.State.{State, done, halt}
+use Rattle.zcore.specs.declared.next.Next.{Next}
+use Rattle.zcore.specs.Instruction.{decode, bytes_of, opcode, operands, operand, byte, large, result_variable, branch_at, branch, variable_types, types_bytes}
+use Rattle.zcore.specs.State.{Frame, State, done, halt}
 use Rattle.zcore.specs.Turn.{Whole, first_state, opening, turn_from, weight}
-use Rattle.zcore.specs.Step.{step, perform, divide, modulo, jump, print_inline, print_number, text_at}
-use Rattle.zcore.specs.Parts.{read_in_place, write_in_place, push, pop, read_global, read_variable, write_variable, operand_value, operand_values, test_result, store_result, test_target, spend, go, test_return, give_back, print}
+use Rattle.zcore.specs.Step.{step, perform, give_result, divide, modulo, load, store, increment, decrement, pull, jump, call_packed, print_characters, print_inline, text_at}
+use Rattle.zcore.specs.Parts.{read_in_place, write_in_place, push, pop, read_global, write_global, read_variable, write_variable, test_variable, test_pull, operand_value, operand_values, test_result, store_result, test_target, spend, go, test_return, leave, give_back, take_branch, branch_on, print}
 use Rattle.zcore.specs.Text.{decoded, abbreviation}
 use Rattle.zcore.specs.Reading.{reads}
 use Rattle.zcore.specs.Words.{unpacked}
@@ -33,8 +34,12 @@ unfolding opening turn_from weight step perform print_inline text_at decoded abb
 hello = refl
 
 remainder_printed : option_map shown (opening (story_of (0xD8 ∷ 0x1F ∷ 0xFF ∷ 0xF3 ∷ 0x05 ∷ 0x00 ∷ 0xE6 ∷ 0xBF ∷ 0x00 ∷ 0xBA ∷ [])) 1000000) ≡ Some (places.Quit, codes "-3")
-unfolding opening turn_from weight step perform modulo print_number decode opcode operands operand byte large result_variable branch print operand_values operand_value test_result store_result write_variable read_variable push pop remainder signed_text decimal
+unfolding opening turn_from weight step perform modulo print_characters decode opcode operands operand byte large result_variable branch print operand_values operand_value test_result store_result write_variable read_variable push pop remainder signed_text decimal
 remainder_printed = refl
+
+sum_printed : option_map shown (opening (story_of (0x54 ∷ 0x10 ∷ 0x05 ∷ 0x11 ∷ 0xE6 ∷ 0xBF ∷ 0x11 ∷ 0xBA ∷ [])) 1000000) ≡ Some (places.Quit, codes "5")
+unfolding opening turn_from weight step perform give_result print_characters decode opcode operands operand byte large result_variable branch print operand_values operand_value test_result store_result write_variable write_global read_variable read_global signed_text decimal
+sum_printed = refl
 
 endless_jump : option_map shown (opening (story_of (0x8C ∷ 0xFF ∷ 0xFF ∷ [])) 3) ≡ Some (places.Limit limits.Fuel, 10 ∷ codes "[Limit: turn too long]" ++ 10 ∷ [])
 unfolding opening turn_from weight step perform jump decode opcode operands operand byte large result_variable branch operand_values operand_value test_target go spend
@@ -60,7 +65,7 @@ abbreviated_without_table : option_map shown (opening (story_of (0xB2 ∷ 0x84 �
 unfolding opening turn_from weight step perform print_inline text_at decoded abbreviation reads unpacked decode opcode operands operand byte large result_variable branch operand_values decimal
 abbreviated_without_table = refl
 
--- the instructions that the machine knows so far, decoded and encoded
+-- instructions, decoded and encoded
 
 number_decoded : decode (0xE6 ∷ 0xBF ∷ 0x10 ∷ []) 0 ≡ Ok (record { operation = PrintNumber; operands = Variable 16 ∷ []; result = None; branch = None }, 3)
 unfolding decode opcode operands operand byte result_variable branch
@@ -86,6 +91,27 @@ long_encoded : bytes_of (record { operation = Div; operands = Variable 16 ∷ Sm
 unfolding bytes_of
 long_encoded = refl
 
+sum_decoded : decode (0x54 ∷ 0x10 ∷ 0x05 ∷ 0x11 ∷ []) 0 ≡ Ok (record { operation = Add; operands = Variable 16 ∷ Small 5 ∷ []; result = Some 17; branch = None }, 4)
+unfolding decode opcode operands operand byte result_variable branch
+sum_decoded = refl
+
+sum_encoded : bytes_of (record { operation = Add; operands = Variable 16 ∷ Small 5 ∷ []; result = Some 17; branch = None }) ≡ 0x54 ∷ 0x10 ∷ 0x05 ∷ 0x11 ∷ []
+unfolding bytes_of
+sum_encoded = refl
+
+call_decoded : decode (0x8F ∷ 0x00 ∷ 0x00 ∷ []) 0 ≡ Ok (record { operation = Call1n; operands = Large 0 ∷ []; result = None; branch = None }, 3)
+unfolding decode opcode operands operand large byte result_variable branch
+call_decoded = refl
+
+call_encoded : bytes_of (record { operation = Call1n; operands = Large 0 ∷ []; result = None; branch = None }) ≡ 0x8F ∷ 0x00 ∷ 0x00 ∷ []
+unfolding bytes_of
+call_encoded = refl
+
+equal_decoded : decode (0xC1 ∷ 0x95 ∷ 0x10 ∷ 0x01 ∷ 0x02 ∷ 0x03 ∷ 0x80 ∷ 0x02 ∷ []) 0
+    ≡ Ok (record { operation = JumpIfEqual; operands = Variable 16 ∷ Small 1 ∷ Small 2 ∷ Small 3 ∷ []; result = None; branch = Some (record { when = true; offset = 2 }) }, 8)
+unfolding decode opcode operands operand byte result_variable branch
+equal_decoded = refl
+
 variable_encoded : bytes_of (record { operation = Mod; operands = Large 0xFFF3 ∷ Small 5 ∷ []; result = Some 0; branch = None }) ≡ 0xD8 ∷ 0x1F ∷ 0xFF ∷ 0xF3 ∷ 0x05 ∷ 0x00 ∷ []
 unfolding bytes_of
 variable_encoded = refl
@@ -109,13 +135,26 @@ types_written = refl
 
 -- in place, variable 0 is the top of the stack, which stays
 
+abbrev frame_with : List ℕ → Frame
+frame_with stack = record { locals = []; stack = stack; arguments = 0; return_place = 0; result = None }
+
+abbrev with_words : List ℕ → State
+with_words stack = record { memory = []; frames = frame_with stack ∷ []; pending = None; text = [] }
+
 abbrev one_word : ℕ → State
-one_word word = record {
-  memory = [];
-  frames = record { locals = []; stack = word ∷ []; arguments = 0; return_place = 0; result = None } ∷ [];
+one_word word = with_words (word ∷ [])
+
+-- a routine runs, whose result goes to the stack of its caller, at address 99
+abbrev in_routine : State
+in_routine = record {
+  memory = replicate 100 0;
+  frames = record { locals = []; stack = []; arguments = 0; return_place = 99; result = Some 0 } ∷ frame_with [] ∷ [];
   pending = None;
   text = [];
 }
+
+abbrev at : ℕ → Next
+at place = record { program_counter = place; fuel = 9 }
 
 top_read : read_in_place 0 (one_word 5) ≡ done 5 (one_word 5)
 unfolding read_in_place
@@ -128,3 +167,78 @@ top_written = refl
 nothing_on_top : read_in_place 0 (first_state []) ≡ halt (places.Fault faults.StackEmpty) (first_state [])
 unfolding read_in_place
 nothing_on_top = refl
+
+top_counted : increment (at 70) 72 0 (one_word 65535) ≡ done (at 72) (one_word 0)
+unfolding increment test_variable read_in_place write_in_place
+top_counted = refl
+
+top_counted_down : decrement (at 70) 72 0 (one_word 0) ≡ done (at 72) (one_word 65535)
+unfolding decrement test_variable read_in_place write_in_place
+top_counted_down = refl
+
+top_loaded : load (at 70) 73 (Some 0) 0 (one_word 5) ≡ done (at 73) (with_words (5 ∷ 5 ∷ []))
+unfolding load test_variable read_in_place give_result test_result store_result write_variable push
+top_loaded = refl
+
+top_stored : store (at 70) 73 0 7 (one_word 5) ≡ done (at 73) (one_word 7)
+unfolding store test_variable write_in_place
+top_stored = refl
+
+-- a pull takes its word first, and stores it over the one below
+pulled_to_top : pull (at 70) 72 0 (with_words (5 ∷ 7 ∷ [])) ≡ done (at 72) (one_word 7)
+unfolding pull test_variable read_in_place test_pull pop write_in_place
+pulled_to_top = refl
+
+nothing_below : pull (at 70) 72 0 (one_word 5) ≡ halt (places.Fault faults.StackEmpty) (one_word 5)
+unfolding pull test_variable read_in_place test_pull
+nothing_below = refl
+
+no_variable : load (at 70) 73 (Some 0) 256 (one_word 5) ≡ halt (places.Fault faults.Read) (one_word 5)
+unfolding load test_variable
+no_variable = refl
+
+-- a call of address 0 gives 0 without a unit
+called_nothing : call_packed (record { program_counter = 70; fuel = 0 }) 74 (Some 0) 0 [] (one_word 5) ≡ done (record { program_counter = 74; fuel = 0 }) (with_words (5 ∷ 0 ∷ []))
+unfolding call_packed give_result test_result store_result write_variable push
+called_nothing = refl
+
+-- Branches, from the address 80 after them. 0xCA: on true, 8 bytes further on.
+
+branch_read : branch_at (0xCA ∷ []) 0 ≡ Ok (record { when = true; offset = 10 }, 1)
+unfolding byte
+branch_read = refl
+
+branch_taken : branch_on (at 70) 80 (Some (record { when = true; offset = 10 })) true in_routine ≡ done (at 88) in_routine
+unfolding branch_on take_branch test_target go
+branch_taken = refl
+
+branch_passed : branch_on (at 70) 80 (Some (record { when = true; offset = 10 })) false in_routine ≡ done (at 80) in_routine
+unfolding branch_on
+branch_passed = refl
+
+-- 0x80 0x02: on true, to the next instruction
+next_read : branch_at (0x80 ∷ 0x02 ∷ []) 0 ≡ Ok (record { when = true; offset = 2 }, 2)
+unfolding byte
+next_read = refl
+
+next_taken : branch_on (at 70) 80 (Some (record { when = true; offset = 2 })) true in_routine ≡ done (at 80) in_routine
+unfolding branch_on take_branch test_target go
+next_taken = refl
+
+-- 0x40: on false, the routine returns false
+return_read : branch_at (0x40 ∷ []) 0 ≡ Ok (record { when = false; offset = 0 }, 1)
+unfolding byte
+return_read = refl
+
+return_taken : branch_on (at 70) 80 (Some (record { when = false; offset = 0 })) false in_routine ≡ done (at 99) (record in_routine { frames = frame_with (0 ∷ []) ∷ [] })
+unfolding branch_on take_branch give_back test_return leave store_result write_variable push
+return_taken = refl
+
+-- 0xBF 0xFA: on true, 8 bytes back, for a unit
+back_read : branch_at (0xBF ∷ 0xFA ∷ []) 0 ≡ Ok (record { when = true; offset = 16378 }, 2)
+unfolding byte
+back_read = refl
+
+back_taken : branch_on (record { program_counter = 76; fuel = 9 }) 80 (Some (record { when = true; offset = 16378 })) true in_routine ≡ done (record { program_counter = 72; fuel = 8 }) in_routine
+unfolding branch_on take_branch test_target go spend
+back_taken = refl

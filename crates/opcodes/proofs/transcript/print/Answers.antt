@@ -1,6 +1,6 @@
 use Rattle.std.proofs.Common.{refl, arith}
 use Rattle.std.proofs.lemmas.List.{length-drop}
-use Rattle.opcodes.proofs.Printing.{prints_none, prints_all, print_more, print_stop, grew_still, grew_after, begun_after}
+use Rattle.opcodes.proofs.Transcripts.{prints_none, prints_all, print_more, print_stop, grew_still, grew_after, begun_after}
 use Rattle.frames.proofs.Steps.{told_sound, told_err}
 use Rattle.opcodes.proofs.transcript.print.Goals as goal
 

@@ -1,7 +1,7 @@
 use Rattle.std.proofs.Common.{◌≡◌, arith, ◌++◌, ◌∷◌, []}
 use Rattle.std.proofs.lemmas.List.{length-drop}
 use Rattle.std.proofs.lemmas.Grind.{common_steps}
-use Rattle.opcodes.proofs.Printing.{prints_nothing, full_told, byte_told}
+use Rattle.opcodes.proofs.Transcripts.{prints_nothing, full_told, byte_told}
 use Rattle.opcodes.proofs.transcript.print_character.Goals as goal
 
 pub returns-then-character-eq0-clause-told : goal.returns-then-character-eq0-clause-told

@@ -1,0 +1,68 @@
+-- Directives, one at a time.
+use Rattle.std.proofs.Common.{◌≡◌, ℕ, zero, suc, ◌+◌, ◌<◌, ◌≤◌, List, [], ◌∷◌, ◌++◌, length, drop, slice_index_or, Option, append_assoc, refl, sym, ap, ◌∙◌, arith}
+use Rattle.std.specs.Prelude.{map}
+use Rattle.syntax.specs.declared.tree.Directive.{Directive}
+use Rattle.syntax.specs.Tree.{DirectiveTree, global, constant, routine, directive_tree}
+use Rattle.checker.specs.declared.breach.Breach.{Breach}
+use Rattle.checker.specs.Names.{Table, with_directive, globals_after, routines_after}
+use Rattle.checker.specs.Noted.{noted}
+use Rattle.checker.proofs.Noted.{noted_append}
+use Rattle.checker.specs.Programs.{globals_of, routines_of, routine_trees, title, directive_breaches, directives_breaches}
+
+pub globals_fit : (d : DirectiveTree) (g i : ℕ) → g ≤ i → globals_after g d ≤ i + 1
+globals_fit (global n v) g i h = omega arith
+globals_fit (constant n v) g i h = omega arith
+globals_fit (routine r) g i h = omega arith
+
+pub routines_fit : (d : DirectiveTree) (r i : ℕ) → r ≤ i → routines_after r d ≤ i + 1
+routines_fit (global n v) r i h = omega arith
+routines_fit (constant n v) r i h = omega arith
+routines_fit (routine x) r i h = omega arith
+
+-- what is left of a list, before one of it and at the end
+drop_cons : {A : Type 0} (xs : List A) (i : ℕ) (x : A) → i < length xs → drop i xs ≡ slice_index_or xs i x ∷ drop (suc i) xs
+drop_cons [] i x h = absurd (omega arith)
+drop_cons (y ∷ ys) zero x h = refl
+drop_cons (y ∷ ys) (suc i) x h = drop_cons ys i x (omega arith)
+
+pub drop_here : {A : Type 0} (xs : List A) (i : ℕ) (x : A) → i < length xs → x ≡ slice_index_or xs i x → drop i xs ≡ x ∷ drop (i + 1) xs
+drop_here {A = A} xs i x h is = let j : i + 1 ≡ suc i = omega arith in rw j (drop_cons xs i x h ∙ ap (λ (y : A). y ∷ drop (suc i) xs) (sym is))
+
+pub drop_end : {A : Type 0} (xs : List A) (i : ℕ) → length xs ≤ i → drop i xs ≡ []
+drop_end [] zero h = refl
+drop_end [] (suc i) h = refl
+drop_end (x ∷ xs) zero h = absurd (omega arith)
+drop_end (x ∷ xs) (suc i) h = drop_end xs i (omega arith)
+
+pub globals_more : (whole : Table) (d : DirectiveTree) (ds : List DirectiveTree) → globals_of whole (d ∷ ds) ≡ globals_of whole (d ∷ []) ++ globals_of whole ds
+globals_more whole (global n v) ds = refl
+globals_more whole (constant n v) ds = refl
+globals_more whole (routine r) ds = refl
+
+pub routines_more : (whole : Table) (d : DirectiveTree) (ds : List DirectiveTree) → routines_of whole (d ∷ ds) ≡ routines_of whole (d ∷ []) ++ routines_of whole ds
+routines_more whole (global n v) ds = refl
+routines_more whole (constant n v) ds = refl
+routines_more whole (routine r) ds = refl
+
+pub titles_more : (d : DirectiveTree) (ds : List DirectiveTree) → map title (routine_trees (d ∷ ds)) ≡ map title (routine_trees (d ∷ [])) ++ map title (routine_trees ds)
+titles_more (global n v) ds = refl
+titles_more (constant n v) ds = refl
+titles_more (routine r) ds = refl
+
+-- one more directive
+
+pub list_step : {A : Type 0} (f : List DirectiveTree → List A) → ((d : DirectiveTree) (ds : List DirectiveTree) → f (d ∷ ds) ≡ f (d ∷ []) ++ f ds)
+    → (old new : List A) (ds : List Directive) (i : ℕ) (x : Directive) → i < length ds → x ≡ slice_index_or ds i x → new ≡ old ++ f (directive_tree x ∷ [])
+    → new ++ f (map directive_tree (drop (i + 1) ds)) ≡ old ++ f (map directive_tree (drop i ds))
+list_step {A = A} f more old new ds i x lt is h =
+    ap (λ (q : List A). q ++ f (map directive_tree (drop (i + 1) ds))) h
+    ∙ append_assoc old (f (directive_tree x ∷ [])) (f (map directive_tree (drop (i + 1) ds)))
+    ∙ ap (λ (q : List A). old ++ q) (sym (more (directive_tree x) (map directive_tree (drop (i + 1) ds))))
+    ∙ ap (λ (q : List Directive). old ++ f (map directive_tree q)) (sym (drop_here ds i x lt is))
+
+pub breaches_step : (whole t u : Table) (g h r s : ℕ) (m n : Option Breach) (ds : List Directive) (i : ℕ) (x : Directive) → i < length ds → x ≡ slice_index_or ds i x
+    → n ≡ noted m (directive_breaches whole t g (directive_tree x)) → u ≡ with_directive t g r (directive_tree x) → h ≡ globals_after g (directive_tree x) → s ≡ routines_after r (directive_tree x)
+    → noted n (directives_breaches whole u h s (map directive_tree (drop (i + 1) ds))) ≡ noted m (directives_breaches whole t g r (map directive_tree (drop i ds)))
+breaches_step whole t u g h r s m n ds i x lt is a b c d =
+    rw (a, b, c, d) (sym (noted_append m (directive_breaches whole t g (directive_tree x)) (directives_breaches whole (with_directive t g r (directive_tree x)) (globals_after g (directive_tree x)) (routines_after r (directive_tree x)) (map directive_tree (drop (i + 1) ds))))
+    ∙ ap (λ (q : List Directive). noted m (directives_breaches whole t g r (map directive_tree q))) (sym (drop_here ds i x lt is)))

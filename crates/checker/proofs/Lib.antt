@@ -1,0 +1,10 @@
+mod Samples
+pub mod Noted
+pub mod Keys
+pub mod Each
+pub mod Tables
+pub mod Needs
+pub mod Forms
+pub mod Directives
+pub mod Locals
+pub mod Whole

@@ -1,0 +1,184 @@
+-- Programs and what they mean, computed.
+use Rattle.std.proofs.Common.{◌≡◌, ℕ, List, [], ◌∷◌, ◌++◌, None, refl}
+use Rattle.std.specs.Prelude.{codes}
+use Rattle.lexer.specs.declared.token.Position.{Position}
+use Rattle.expressions.specs.Tree.{NameTree, ExpressionTree, constant, named, call, prefixed, step_after, binary, compare, assign, none, more}
+use Rattle.expressions.specs.declared.tree.Binary.TheVariants as op
+use Rattle.expressions.specs.declared.tree.Comparison.TheVariants as comparison
+use Rattle.expressions.specs.declared.tree.Prefix.TheVariants as prefix
+use Rattle.expressions.specs.declared.tree.Step.TheVariants as steps
+use Rattle.statements.specs.Tree as s
+use Rattle.statements.specs.Tree.{StatementTree, StatementTrees}
+use Rattle.syntax.specs.Tree as d
+use Rattle.syntax.specs.Tree.{DirectiveTree, ProgramTree}
+use Rattle.zcore.specs.declared.place.Place.TheVariants as places
+use Rattle.zcore.specs.declared.place.Limit.TheVariants as limits
+use Rattle.checker.specs.Breaches.{at}
+use Rattle.checker.specs.Programs.{program_breaches, resolve_program}
+use Rattle.checker.specs.Names.{table_of, key_of, look_up}
+use Rattle.zcore.specs.Arithmetic.{signed_text, decimal, quotient, remainder}
+use Rattle.checker.specs.World.{Outcome}
+use Rattle.checker.specs.Meaning.{meaning}
+
+-- the position of a token, by its number
+abbrev p : ℕ → Position
+p n = record { offset = n; line = 1 }
+
+abbrev the : ℕ → List ℕ → NameTree
+the n text = record { text = text; position = p n }
+
+abbrev item : ExpressionTree → s.ItemTree
+item e = s.number_item (p 0) e
+
+abbrev words : List ℕ → s.ItemTree
+words text = s.text_item text
+
+abbrev body : List StatementTree → StatementTrees
+body xs = s.trees_of xs
+
+abbrev routine : List ℕ → List NameTree → List StatementTree → DirectiveTree
+routine name locals xs = d.routine (record { name = the 0 name; locals = locals; body = body xs; weight = 0 })
+
+abbrev program : List DirectiveTree → ProgramTree
+program ds = record { directives = ds; end = p 999; weight = 0 }
+
+-- the transcript of one turn
+abbrev says : List ℕ → Outcome
+says text = record { texts = text ∷ []; place = places.Quit }
+
+-- [ Main; print 32767 + 1, " ", -13 % 5, "^"; ];
+abbrev sums : ProgramTree
+sums = program (routine (codes "Main") [] (s.print (item (binary op.Add (constant 32767) (constant 1)) ∷ words (codes " ") ∷ item (binary op.Remainder (prefixed prefix.Minus (constant 13)) (constant 5)) ∷ words (codes "^") ∷ []) ∷ []) ∷ [])
+
+sums_fine : program_breaches sums ≡ []
+unfolding program_breaches table_of key_of look_up
+sums_fine = refl
+
+sums_mean : meaning (resolve_program sums) 1000 [] ≡ says (codes "-32768 -3" ++ 10 ∷ [])
+unfolding meaning resolve_program table_of key_of look_up signed_text decimal quotient remainder
+sums_mean = refl
+
+-- [ F x; print 1 / x; ]; [ Main; print "a"; F(); ];
+abbrev divides : ProgramTree
+divides = program
+    (routine (codes "F") (the 1 (codes "x") ∷ []) (s.print (item (binary op.Divide (constant 1) (named (the 2 (codes "x")))) ∷ []) ∷ [])
+    ∷ routine (codes "Main") [] (s.print (words (codes "a") ∷ []) ∷ s.effect (p 3) (call (the 3 (codes "F")) none) ∷ [])
+    ∷ [])
+
+divides_fine : program_breaches divides ≡ []
+unfolding program_breaches table_of key_of look_up
+divides_fine = refl
+
+divides_mean : meaning (resolve_program divides) 1000 [] ≡ says (codes "a" ++ 10 ∷ codes "[Fault: division by zero]" ++ 10 ∷ [])
+unfolding meaning resolve_program table_of key_of look_up signed_text decimal quotient remainder
+divides_mean = refl
+
+-- [ Main; while (true) { } ]; with one unit
+abbrev endless : ProgramTree
+endless = program (routine (codes "Main") [] (s.while_do (p 0) (constant 1) (s.block s.stop) ∷ []) ∷ [])
+
+endless_means : meaning (resolve_program endless) 1 [] ≡ record { texts = (10 ∷ codes "[Limit: turn too long]" ++ 10 ∷ []) ∷ []; place = places.Limit limits.Fuel }
+unfolding meaning resolve_program table_of key_of look_up signed_text decimal quotient remainder
+endless_means = refl
+
+-- [ F; F(); ]; [ Main; F(); ];
+abbrev deep : ProgramTree
+deep = program
+    (routine (codes "F") [] (s.effect (p 1) (call (the 1 (codes "F")) none) ∷ [])
+    ∷ routine (codes "Main") [] (s.effect (p 2) (call (the 2 (codes "F")) none) ∷ [])
+    ∷ [])
+
+deep_means : meaning (resolve_program deep) 1000000 [] ≡ record { texts = (10 ∷ codes "[Limit: calls too deep]" ++ 10 ∷ []) ∷ []; place = places.Limit limits.Calls }
+unfolding meaning resolve_program table_of key_of look_up signed_text decimal quotient remainder
+deep_means = refl
+
+deep_in_short : meaning (resolve_program deep) 10 [] ≡ record { texts = (10 ∷ codes "[Limit: turn too long]" ++ 10 ∷ []) ∷ []; place = places.Limit limits.Fuel }
+unfolding meaning resolve_program table_of key_of look_up signed_text decimal quotient remainder
+deep_in_short = refl
+
+-- Global i; [ Main; while (i < 2) { print i; i++; } ]; going back is charged before the test
+abbrev counts : ProgramTree
+counts = program
+    (d.global (the 0 (codes "i")) None
+    ∷ routine (codes "Main") [] (s.while_do (p 1) (compare comparison.Less (named (the 1 (codes "i"))) (constant 2)) (s.block (body (s.print (item (named (the 2 (codes "i"))) ∷ []) ∷ s.effect (p 3) (step_after (named (the 3 (codes "I"))) steps.Increment (p 4)) ∷ []))) ∷ [])
+    ∷ [])
+
+counts_fine : program_breaches counts ≡ []
+unfolding program_breaches table_of key_of look_up
+counts_fine = refl
+
+counts_mean : meaning (resolve_program counts) 3 [] ≡ says (codes "01")
+unfolding meaning resolve_program table_of key_of look_up signed_text decimal quotient remainder
+counts_mean = refl
+
+counts_in_short : meaning (resolve_program counts) 2 [] ≡ record { texts = (codes "01" ++ 10 ∷ codes "[Limit: turn too long]" ++ 10 ∷ []) ∷ []; place = places.Limit limits.Fuel }
+unfolding meaning resolve_program table_of key_of look_up signed_text decimal quotient remainder
+counts_in_short = refl
+
+-- Constant c = 5; [ F a b; return a - b; ]; [ Main; print F(c, 2), " ", F(1), " ", ~~3, " ", ~0, "^"; ];
+abbrev missing : ProgramTree
+missing = program
+    (d.constant (the 0 (codes "c")) (d.number_value 5)
+    ∷ routine (codes "F") (the 1 (codes "a") ∷ the 2 (codes "b") ∷ []) (s.return_value (p 3) (binary op.Subtract (named (the 3 (codes "a"))) (named (the 4 (codes "b")))) ∷ [])
+    ∷ routine (codes "Main") [] (s.print
+    (item (call (the 5 (codes "F")) (more (named (the 6 (codes "c"))) (more (constant 2) none)))
+    ∷ words (codes " ")
+    ∷ item (call (the 7 (codes "F")) (more (constant 1) none))
+    ∷ words (codes " ")
+    ∷ item (prefixed prefix.Not (constant 3))
+    ∷ words (codes " ")
+    ∷ item (prefixed prefix.Complement (constant 0))
+    ∷ words (codes "^")
+    ∷ []) ∷ [])
+    ∷ [])
+
+missing_fine : program_breaches missing ≡ []
+unfolding program_breaches table_of key_of look_up
+missing_fine = refl
+
+missing_means : meaning (resolve_program missing) 1000 [] ≡ says (codes "3 1 0 -1" ++ 10 ∷ [])
+unfolding meaning resolve_program table_of key_of look_up signed_text decimal quotient remainder
+missing_means = refl
+
+-- Global g; [ F; g = g + 1; return g; ]; [ Main; print F() - F() * 10, "^"; ];
+abbrev in_order : ProgramTree
+in_order = program
+    (d.global (the 0 (codes "g")) None
+    ∷ routine (codes "F") [] (s.effect (p 1) (assign (named (the 1 (codes "g"))) (p 2) (binary op.Add (named (the 3 (codes "g"))) (constant 1))) ∷ s.return_value (p 4) (named (the 4 (codes "g"))) ∷ [])
+    ∷ routine (codes "Main") [] (s.print (item (binary op.Subtract (call (the 5 (codes "F")) none) (binary op.Multiply (call (the 6 (codes "F")) none) (constant 10))) ∷ words (codes "^") ∷ []) ∷ [])
+    ∷ [])
+
+in_order_means : meaning (resolve_program in_order) 1000 [] ≡ says (codes "-19" ++ 10 ∷ [])
+unfolding meaning resolve_program table_of key_of look_up signed_text decimal quotient remainder
+in_order_means = refl
+
+-- rules
+
+-- an empty source has no Main
+nothing_there : program_breaches (program []) ≡ at (p 999) 21
+unfolding program_breaches table_of key_of look_up
+nothing_there = refl
+
+-- [ Main; x = 1; ];
+unknown : program_breaches (program (routine (codes "Main") [] (s.effect (p 3) (assign (named (the 3 (codes "x"))) (p 4) (constant 1)) ∷ []) ∷ [])) ≡ at (p 3) 20
+unfolding program_breaches table_of key_of look_up
+unknown = refl
+
+-- Constant a = b; Constant b = 1; a later constant is unknown to an earlier one
+later_constant : program_breaches (program (d.constant (the 0 (codes "a")) (d.named_value (the 1 (codes "b"))) ∷ d.constant (the 2 (codes "b")) (d.number_value 1) ∷ routine (codes "Main") [] [] ∷ [])) ≡ at (p 1) 20
+unfolding program_breaches table_of key_of look_up
+later_constant = refl
+
+-- Constant a = g; Global g; a global is no constant
+no_constant : program_breaches (program (d.constant (the 0 (codes "a")) (d.named_value (the 1 (codes "g"))) ∷ d.global (the 2 (codes "g")) None ∷ routine (codes "Main") [] [] ∷ [])) ≡ at (p 1) 23
+unfolding program_breaches table_of key_of look_up
+no_constant = refl
+
+-- [ F; ]; [ Main; F = 1; F(1); 1 = 2; ];
+kinds : program_breaches (program (routine (codes "F") [] [] ∷ routine (codes "Main") []
+    (s.effect (p 1) (assign (named (the 1 (codes "F"))) (p 2) (constant 1))
+    ∷ s.effect (p 3) (call (the 3 (codes "f")) (more (constant 1) none))
+    ∷ s.effect (p 4) (assign (constant 1) (p 5) (constant 2))
+    ∷ []) ∷ [])) ≡ at (p 1) 23 ++ at (p 2) 26 ++ at (p 3) 25 ++ at (p 5) 26
+unfolding program_breaches table_of key_of look_up
+kinds = refl

@@ -1,0 +1,108 @@
+-- The rules that an expression can break, and what it resolves to.
+use Rattle.std.specs.Prelude.{◌+◌, ℕ, nat_lt, if◌then◌else◌, List, [], ◌++◌, Option, Some, None}
+use Rattle.lexer.specs.declared.token.Position.{Position}
+use Rattle.expressions.specs.Tree as trees
+use Rattle.expressions.specs.Tree.{NameTree, ExpressionTree, ExpressionTrees}
+use Rattle.checker.specs.declared.binding.Binding.{Binding}
+use Rattle.checker.specs.declared.binding.Binding.TheVariants as bindings
+use Rattle.checker.specs.declared.breach.Breach.{Breach}
+use Rattle.checker.specs.declared.resolved.Variable.{Variable}
+use Rattle.checker.specs.declared.resolved.Variable.TheVariants as variables
+use Rattle.checker.specs.Breaches.{at}
+use Rattle.checker.specs.Resolved.{Value, Values, number, read, call, prefixed, step_before, step_after, binary, compare, equal, assign, none, more}
+
+-- a name as a value: E20 where it is unknown, E23 where it is a routine or a property
+abbrev pub value_breaches : Position → Option Binding → List Breach
+value_breaches p None = at p 20
+value_breaches p (Some (bindings.Routine r locals)) = at p 23
+value_breaches p (Some bindings.Property) = at p 23
+value_breaches p (Some _) = []
+
+-- more than seven arguments are E24; more than the routine has locals are E25
+abbrev pub argument_breaches : Position → ℕ → ℕ → List Breach
+argument_breaches p given locals = (if nat_lt 7 given then at p 24 else []) ++ (if nat_lt locals given then at p 25 else [])
+
+-- a name that is called: E20 where it is unknown, E23 where it is no routine
+abbrev pub call_breaches : Position → ℕ → Option Binding → List Breach
+call_breaches p given None = at p 20
+call_breaches p given (Some (bindings.Routine r locals)) = argument_breaches p given locals
+call_breaches p given (Some _) = at p 23
+
+-- A name that is assigned to or stepped, with the operator's position: E20 where it is unknown; E26 at the operator where it
+-- is no variable, and E23 at a routine or a property too.
+abbrev pub target_breaches : Position → Position → Option Binding → List Breach
+target_breaches p operator None = at p 20
+target_breaches p operator (Some (bindings.Global g)) = []
+target_breaches p operator (Some (bindings.Local l)) = []
+target_breaches p operator (Some (bindings.Constant n)) = at operator 26
+target_breaches p operator (Some _) = at p 23 ++ at operator 26
+
+abbrev pub count : ExpressionTrees → ℕ
+count trees.none = 0
+count (trees.more e es) = count es + 1
+
+abbrev pub value_of_binding : Option Binding → Value
+value_of_binding (Some (bindings.Constant n)) = number n
+value_of_binding (Some (bindings.Global g)) = read (variables.Global g)
+value_of_binding (Some (bindings.Local l)) = read (variables.Local l)
+value_of_binding _ = number 0
+
+abbrev pub variable_of_binding : Option Binding → Variable
+variable_of_binding (Some (bindings.Global g)) = variables.Global g
+variable_of_binding (Some (bindings.Local l)) = variables.Local l
+variable_of_binding _ = variables.Local 0
+
+abbrev pub routine_of_binding : Option Binding → ℕ
+routine_of_binding (Some (bindings.Routine r locals)) = r
+routine_of_binding _ = 0
+
+-- `look` tells what a name stands for
+module _ (look : List ℕ → Option Binding) where
+  -- What is assigned to or stepped, parentheses apart; `inside` are the rules that it breaks as an expression.
+  abbrev pub left_breaches : Position → ExpressionTree → List Breach → List Breach
+  left_breaches operator (trees.named n) inside = target_breaches n.position operator (look n.text)
+  left_breaches operator (trees.parenthesised e) inside = left_breaches operator e inside
+  left_breaches operator _ inside = inside ++ at operator 26
+
+  abbrev mutual
+    pub breaches : ExpressionTree → List Breach
+    breaches (trees.constant n) = []
+    breaches (trees.named n) = value_breaches n.position (look n.text)
+    breaches (trees.call n es) = call_breaches n.position (count es) (look n.text) ++ all_breaches es
+    breaches (trees.parenthesised e) = breaches e
+    breaches (trees.prefixed op e) = breaches e
+    breaches (trees.step_before op p e) = left_breaches p e (breaches e)
+    breaches (trees.step_after e op p) = left_breaches p e (breaches e)
+    breaches (trees.binary op a b) = breaches a ++ breaches b
+    breaches (trees.compare op a b) = breaches a ++ breaches b
+    breaches (trees.equal op a bs) = breaches a ++ all_breaches bs
+    breaches (trees.assign a p b) = left_breaches p a (breaches a) ++ breaches b
+
+    pub all_breaches : ExpressionTrees → List Breach
+    all_breaches trees.none = []
+    all_breaches (trees.more e es) = breaches e ++ all_breaches es
+
+  -- Resolving. Where a rule is broken any value will do.
+
+  abbrev pub target : ExpressionTree → Variable
+  target (trees.named n) = variable_of_binding (look n.text)
+  target (trees.parenthesised e) = target e
+  target _ = variables.Local 0
+
+  abbrev mutual
+    pub resolve : ExpressionTree → Value
+    resolve (trees.constant n) = number n
+    resolve (trees.named n) = value_of_binding (look n.text)
+    resolve (trees.call n es) = call (routine_of_binding (look n.text)) (resolve_all es)
+    resolve (trees.parenthesised e) = resolve e
+    resolve (trees.prefixed op e) = prefixed op (resolve e)
+    resolve (trees.step_before op p e) = step_before op (target e)
+    resolve (trees.step_after e op p) = step_after (target e) op
+    resolve (trees.binary op a b) = binary op (resolve a) (resolve b)
+    resolve (trees.compare op a b) = compare op (resolve a) (resolve b)
+    resolve (trees.equal op a bs) = equal op (resolve a) (resolve_all bs)
+    resolve (trees.assign a p b) = assign (target a) (resolve b)
+
+    pub resolve_all : ExpressionTrees → Values
+    resolve_all trees.none = none
+    resolve_all (trees.more e es) = more (resolve e) (resolve_all es)

@@ -1,0 +1,14 @@
+pub mod Breaches
+pub mod Names
+pub mod Resolved
+pub mod Temporaries
+pub mod Expressions
+pub mod Statements
+pub mod Programs
+pub mod Sizes
+pub mod World
+pub mod Meaning
+pub mod Accepted
+pub mod Noted
+pub mod Scope
+pub mod Walk

@@ -1,0 +1,90 @@
+-- What names stand for. Case is ignored; all names of a file share one space, and a local hides a name of the file in
+-- its whole routine.
+use Rattle.std.specs.Prelude.{◌&&◌, ◌+◌, ℕ, zero, suc, nat_eq, nat_le, Bool, if◌then◌else◌, List, [], ◌∷◌, ◌++◌, codes, length, Option, Some, None, is_some}
+use Rattle.std.specs.Cmp.Lexicographic.{pointwise}
+use Rattle.expressions.specs.Tree.{NameTree}
+use Rattle.syntax.specs.Tree.{ValueTree, number_value, named_value, DirectiveTree, global, constant, routine}
+use Rattle.checker.specs.declared.binding.Binding.{Binding}
+use Rattle.checker.specs.declared.binding.Binding.TheVariants as bindings
+
+abbrev pub lower_case : ℕ → ℕ
+lower_case c = if nat_le 65 c && nat_le c 90 then c + 32 else c
+
+-- so many bytes of a name, with zeros after it
+abbrev pub padded : ℕ → List ℕ → List ℕ
+padded zero s = []
+padded (suc n) [] = 0 ∷ padded n []
+padded (suc n) (c ∷ s) = lower_case c ∷ padded n s
+
+-- A name has at most 32 bytes. Two names are the same where their keys are.
+unfoldable pub key_of : List ℕ → List ℕ
+key_of name = padded 32 name
+
+abbrev pub same_key : List ℕ → List ℕ → Bool
+same_key = pointwise nat_eq
+
+-- The names of a file, in order of definition
+
+abbrev pub Table : Type 0
+Table = List (List ℕ × Binding)
+
+-- what the first entry with a key stands for
+abbrev pub in_table : Table → List ℕ → Option Binding
+in_table [] key = None
+in_table (entry ∷ entries) key = if same_key entry.0 key then Some entry.1 else in_table entries key
+
+-- a name that is defined twice keeps its first meaning
+abbrev pub with_name : Table → NameTree → Binding → Table
+with_name table name binding =
+    if is_some (in_table table (key_of name.text)) then table
+    else table ++ (key_of name.text, binding) ∷ []
+
+-- the property `name` is there from the start
+abbrev pub first_table : Table
+first_table = (key_of (codes "name"), bindings.Property) ∷ []
+
+abbrev pub constant_or_zero : Option Binding → ℕ
+constant_or_zero (Some (bindings.Constant n)) = n
+constant_or_zero _ = 0
+
+-- the value of a constant: the name in it stands earlier
+abbrev pub value_so_far : Table → ValueTree → ℕ
+value_so_far table (number_value n) = n
+value_so_far table (named_value n) = constant_or_zero (in_table table (key_of n.text))
+
+-- the names of a file after a directive, where so many globals and routines were defined before
+abbrev pub with_directive : Table → ℕ → ℕ → DirectiveTree → Table
+with_directive table globals routines (global n v) = with_name table n (bindings.Global globals)
+with_directive table globals routines (constant n v) = with_name table n (bindings.Constant (value_so_far table v))
+with_directive table globals routines (routine r) = with_name table r.name (bindings.Routine routines (length r.locals))
+
+abbrev pub globals_after : ℕ → DirectiveTree → ℕ
+globals_after globals (global n v) = globals + 1
+globals_after globals _ = globals
+
+abbrev pub routines_after : ℕ → DirectiveTree → ℕ
+routines_after routines (routine r) = routines + 1
+routines_after routines _ = routines
+
+abbrev pub table_from : Table → ℕ → ℕ → List DirectiveTree → Table
+table_from table globals routines [] = table
+table_from table globals routines (d ∷ ds) =
+    table_from (with_directive table globals routines d) (globals_after globals d) (routines_after routines d) ds
+
+unfoldable pub table_of : List DirectiveTree → Table
+table_of directives = table_from first_table 0 0 directives
+
+-- Names in a routine
+
+-- the number of the first local with a key, from a number on
+abbrev pub local_from : ℕ → List NameTree → List ℕ → Option ℕ
+local_from number [] key = None
+local_from number (l ∷ ls) key = if same_key (key_of l.text) key then Some number else local_from (number + 1) ls key
+
+abbrev pub local_first : Option ℕ → Option Binding → Option Binding
+local_first (Some number) found = Some (bindings.Local number)
+local_first None found = found
+
+-- what a name stands for in a routine with these locals
+unfoldable pub look_up : Table → List NameTree → List ℕ → Option Binding
+look_up table locals name = local_first (local_from 0 locals (key_of name)) (in_table table (key_of name))

@@ -1,0 +1,150 @@
+-- The rules that a program can break, and what it resolves to.
+use Rattle.std.specs.Prelude.{◌≡◌, ℕ, nat_le, map, Bool, true, false, if◌then◌else◌, List, [], ◌∷◌, ◌++◌, codes, length, Option, Some, None, is_some}
+use Rattle.lexer.specs.declared.token.Position.{Position}
+use Rattle.expressions.specs.Tree.{NameTree, name_tree}
+use Rattle.syntax.specs.Tree.{ValueTree, number_value, named_value, RoutineTree, DirectiveTree, global, constant, routine, ProgramTree}
+use Rattle.checker.specs.declared.binding.Binding.{Binding}
+use Rattle.checker.specs.declared.binding.Binding.TheVariants as bindings
+use Rattle.checker.specs.declared.breach.Breach.{Breach}
+use Rattle.checker.specs.Breaches.{at}
+use Rattle.checker.specs.Names.{Table, key_of, same_key, in_table, first_table, with_directive, globals_after, routines_after, table_of, look_up, constant_or_zero}
+use Rattle.checker.specs.Statements.{statements_breaches, resolve_statements}
+use Rattle.checker.specs.Resolved.{RoutineOf, ProgramOf, program_of}
+use Rattle.checker.specs.declared.checked.CheckedRoutine.{CheckedRoutine}
+use Rattle.checker.specs.declared.checked.Checked.{Checked}
+
+-- Values of globals and constants
+
+-- what a global begins with: a name in it is a constant of the file
+abbrev pub global_breaches : Position → Option Binding → List Breach
+global_breaches p None = at p 20
+global_breaches p (Some (bindings.Constant n)) = []
+global_breaches p (Some _) = at p 23
+
+-- a name in a constant's value: `before` is what it stands for there, `anywhere` what it stands for in the file
+abbrev pub constant_breaches : Position → Option Binding → Option Binding → List Breach
+constant_breaches p (Some (bindings.Constant n)) anywhere = []
+constant_breaches p before None = at p 20
+constant_breaches p before (Some (bindings.Constant n)) = at p 20
+constant_breaches p before (Some _) = at p 23
+
+-- Definitions: E22 at a name that is defined already, E24 at the 233rd global
+
+abbrev pub twice : Table → NameTree → List Breach
+twice table name = if is_some (in_table table (key_of name.text)) then at name.position 22 else []
+
+abbrev pub initial_breaches : Table → Option ValueTree → List Breach
+initial_breaches whole None = []
+initial_breaches whole (Some (number_value n)) = []
+initial_breaches whole (Some (named_value n)) = global_breaches n.position (in_table whole (key_of n.text))
+
+abbrev pub named_breaches : Table → Table → ValueTree → List Breach
+named_breaches whole table (number_value n) = []
+named_breaches whole table (named_value n) = constant_breaches n.position (in_table table (key_of n.text)) (in_table whole (key_of n.text))
+
+-- Locals: E22 at the second of two, E24 at the 16th
+
+abbrev pub has_local : List NameTree → NameTree → Bool
+has_local [] name = false
+has_local (l ∷ ls) name = if same_key (key_of l.text) (key_of name.text) then true else has_local ls name
+
+-- of the locals that follow some
+abbrev pub locals_breaches : List NameTree → List NameTree → List Breach
+locals_breaches before [] = []
+locals_breaches before (l ∷ ls) =
+    (if has_local before l then at l.position 22 else [])
+    ++ ((if nat_le 15 (length before) then at l.position 24 else [])
+    ++ locals_breaches (before ++ l ∷ []) ls)
+
+abbrev pub routine_breaches : Table → RoutineTree → List Breach
+routine_breaches whole r = locals_breaches [] r.locals ++ statements_breaches (look_up whole r.locals) r.body
+
+-- of a directive, with the names of the file so far and of the whole file
+abbrev pub directive_breaches : Table → Table → ℕ → DirectiveTree → List Breach
+directive_breaches whole table globals (global n v) =
+    twice table n ++ ((if nat_le 232 globals then at n.position 24 else []) ++ initial_breaches whole v)
+directive_breaches whole table globals (constant n v) = twice table n ++ named_breaches whole table v
+directive_breaches whole table globals (routine r) = twice table r.name ++ routine_breaches whole r
+
+abbrev pub directives_breaches : Table → Table → ℕ → ℕ → List DirectiveTree → List Breach
+directives_breaches whole table globals routines [] = []
+directives_breaches whole table globals routines (d ∷ ds) =
+    directive_breaches whole table globals d
+    ++ directives_breaches whole (with_directive table globals routines d) (globals_after globals d) (routines_after routines d) ds
+
+-- Main: E21 at the end of the source where no routine has this name, and at its name where it has locals
+
+abbrev pub main_key : List ℕ
+main_key = key_of (codes "main")
+
+-- the name of the first routine with a key
+abbrev pub first_routine : List DirectiveTree → List ℕ → Option NameTree
+first_routine [] key = None
+first_routine (routine r ∷ ds) key = if same_key (key_of r.name.text) key then Some r.name else first_routine ds key
+first_routine (_ ∷ ds) key = first_routine ds key
+
+abbrev pub position_or : Position → Option NameTree → Position
+position_or end None = end
+position_or end (Some name) = name.position
+
+abbrev pub main_breaches : Position → Option NameTree → Option Binding → List Breach
+main_breaches end name (Some (bindings.Routine r locals)) = if nat_le 1 locals then at (position_or end name) 21 else []
+main_breaches end name _ = at end 21
+
+-- every broken rule of a program, with its place
+unfoldable pub program_breaches : ProgramTree → List Breach
+program_breaches p =
+    directives_breaches (table_of p.directives) first_table 0 0 p.directives
+    ++ main_breaches p.end (first_routine p.directives main_key) (in_table (table_of p.directives) main_key)
+
+-- Resolving
+
+abbrev pub initial_value : Table → Option ValueTree → ℕ
+initial_value whole None = 0
+initial_value whole (Some (number_value n)) = n
+initial_value whole (Some (named_value n)) = constant_or_zero (in_table whole (key_of n.text))
+
+abbrev pub globals_of : Table → List DirectiveTree → List ℕ
+globals_of whole [] = []
+globals_of whole (global n v ∷ ds) = initial_value whole v ∷ globals_of whole ds
+globals_of whole (_ ∷ ds) = globals_of whole ds
+
+abbrev pub resolve_routine : Table → RoutineTree → RoutineOf
+resolve_routine whole r = record { locals = length r.locals; body = resolve_statements (look_up whole r.locals) r.body }
+
+abbrev pub routines_of : Table → List DirectiveTree → List RoutineOf
+routines_of whole [] = []
+routines_of whole (routine r ∷ ds) = resolve_routine whole r ∷ routines_of whole ds
+routines_of whole (_ ∷ ds) = routines_of whole ds
+
+abbrev pub routine_number : Option Binding → ℕ
+routine_number (Some (bindings.Routine r locals)) = r
+routine_number _ = 0
+
+unfoldable pub resolve_program : ProgramTree → ProgramOf
+resolve_program p = record {
+  globals = globals_of (table_of p.directives) p.directives;
+  routines = routines_of (table_of p.directives) p.directives;
+  main = routine_number (in_table (table_of p.directives) main_key);
+}
+
+-- What a checked program is of its source
+
+-- the routines of a file in order
+abbrev pub routine_trees : List DirectiveTree → List RoutineTree
+routine_trees [] = []
+routine_trees (routine r ∷ ds) = r ∷ routine_trees ds
+routine_trees (_ ∷ ds) = routine_trees ds
+
+-- a routine's name and weight
+abbrev pub title : RoutineTree → NameTree × ℕ
+title r = (r.name, r.weight)
+
+abbrev pub title_of : CheckedRoutine → NameTree × ℕ
+title_of r = (name_tree r.name, r.weight)
+
+-- it is what the source resolves to, with the source's names and weights
+pub record IsCheckedOf (p : ProgramTree) (c : Checked) : Type 0 where
+  pub program : program_of c ≡ resolve_program p
+  pub titles : map title_of c.routines.items ≡ map title (routine_trees p.directives)
+  pub weight : c.weight ≡ p.weight

@@ -1,0 +1,20 @@
+//! What names stand for.
+
+/// What a name stands for in a routine.
+#[derive(Clone, Copy, Debug, PartialEq, Eq)]
+pub enum Binding {
+    /// A value.
+    Constant(u16),
+
+    /// A global variable, numbered from 0 in order of definition.
+    Global(usize),
+
+    /// A routine, numbered from 0 in order of definition, and how many locals it has.
+    Routine(usize, usize),
+
+    /// A property. The property `name` is there from the start.
+    Property,
+
+    /// A local of the routine, numbered from 0.
+    Local(usize),
+}

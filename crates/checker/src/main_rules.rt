@@ -1,0 +1,67 @@
+//! The routine `Main`.
+
+ghost use Rattle.std.specs.Prelude.{◌≡◌, map};
+ghost use Rattle.std.specs.Option.{option_map};
+ghost use Rattle.expressions.specs.Tree.{name_tree};
+ghost use Rattle.syntax.specs.Tree.{directive_tree};
+ghost use Rattle.checker.specs.Names.{in_table};
+ghost use Rattle.checker.specs.Noted.{noted};
+ghost use Rattle.checker.specs.Programs.{main_key, position_or, main_breaches, routine_number};
+ghost use Rattle.checker.specs.Programs as spec;
+
+use crate::binding::Binding;
+use crate::breach::Breach;
+use crate::key::{Key, key_of};
+use crate::note::note;
+use crate::table::{Table, find};
+use expressions::Name;
+use lexer::Position;
+use syntax::Directive;
+
+// The name of the first routine with a key.
+fn first_routine<'a>(directives: &[Directive<'a>], key: &Key) -> Option<Name<'a>>
+    ensures { option_map name_tree result ≡ spec.first_routine (map directive_tree directives.now) key.now }
+{
+    for directive in directives {
+        if let Directive::Routine(routine) = directive {
+            if key_of(routine.name.text) == *key {
+                return Some(routine.name);
+            }
+        }
+    }
+    None
+}
+
+fn main_position(directives: &[Directive<'_>], end: Position) -> Position
+    ensures { result ≡ position_or end (spec.first_routine (map directive_tree directives.now) main_key) }
+{
+    match first_routine(directives, &key_of(b"main")) {
+        Some(name) => name.position,
+        None => end,
+    }
+}
+
+/// The number of the routine `Main`, in a file that ends there.
+#[tactic(auto, using(crate::proofs::Noted::noted_none))]
+pub fn main_number(
+    directives: &[Directive<'_>],
+    end: Position,
+    whole: &Table,
+    least: &mut Option<Breach>,
+) -> usize
+    ensures value { result ≡ routine_number (in_table whole.now.entries main_key) }
+    ensures breaches { least.new ≡ noted least.old (main_breaches end (spec.first_routine (map directive_tree directives.now) main_key) (in_table whole.now.entries main_key)) }
+{
+    match find(whole, b"main") {
+        Some(Binding::Routine(number, locals)) => {
+            if locals >= 1 {
+                note(least, 21, main_position(directives, end));
+            }
+            number
+        }
+        _ => {
+            note(least, 21, end);
+            0
+        }
+    }
+}

@@ -1,0 +1,73 @@
+//! Which programs are too large.
+
+ghost use Rattle.std.specs.Prelude.{◌≡◌};
+ghost use Rattle.checker.specs.Sizes.{fault_of, size_fault};
+ghost use Rattle.checker.specs.Sizes as spec;
+
+use crate::checked::{Checked, CheckedRoutine};
+use lexer::{Position, SourceFault};
+use zcore::Version;
+
+// The parts of a story that stand before its routines.
+fn sum_of_parts(_checked: &Checked<'_>) -> u32
+    ensures { result ≡ spec.sum_of_parts _checked.now }
+{
+    let header = 64;
+    let abbreviations = 192;
+    let empty_text = 2;
+    let globals = 480;
+    let property_defaults = 126;
+    let dictionary = 7;
+    let first_code = 4;
+    header + abbreviations + empty_text + globals + property_defaults + dictionary + first_code
+}
+
+fn greatest_weight(version: Version) -> u128
+    ensures { result ≡ spec.greatest_weight version }
+{
+    match version {
+        Version::V5 => 190_000,
+        Version::V8 => 450_000,
+    }
+}
+
+// The position of the name of the first routine that weighs too much.
+fn first_heavy(routines: &[CheckedRoutine<'_>]) -> Option<Position>
+    ensures { result ≡ spec.first_heavy routines.now }
+{
+    for routine in routines {
+        if routine.weight > 32_000 {
+            return Some(routine.name.position);
+        }
+    }
+    None
+}
+
+/// Whether a program is small enough to be compiled for a version.
+///
+/// E30, with line 0, where the parts before the routines pass 65,535 bytes; else E31, with line 0, where the source
+/// weighs more than 190,000 in version 5 or 450,000 in version 8; else E32, with the line of its name, at the first routine
+/// that weighs more than 32,000.
+pub fn test_sizes(checked: &Checked<'_>, version: Version) -> Result<(), SourceFault>
+    ensures { fault_of result ≡ size_fault checked.now version }
+{
+    if sum_of_parts(checked) > 65_535 {
+        return Err(SourceFault {
+            number: 30,
+            line: 0,
+        });
+    }
+    if checked.weight > greatest_weight(version) {
+        return Err(SourceFault {
+            number: 31,
+            line: 0,
+        });
+    }
+    match first_heavy(&checked.routines) {
+        None => Ok(()),
+        Some(position) => Err(SourceFault {
+            number: 32,
+            line: position.line,
+        }),
+    }
+}

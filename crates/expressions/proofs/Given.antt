@@ -1,0 +1,61 @@
+-- The laws that the crate gives.
+use Rattle.std.proofs.Common.{◌≡◌, ◌<◌, max, false, List, Result, Ok, sym, ap, ◌∙◌, arith}
+use Rattle.lexer.specs.declared.token.Sign.TheVariants as s
+use Rattle.lexer.specs.declared.token.Word.TheVariants as w
+use Rattle.lexer.specs.Token.{Lexeme, reserved, sign}
+use Rattle.expressions.specs.declared.error.Fault.{Fault}
+use Rattle.expressions.specs.Tree.{ExpressionTree}
+use Rattle.expressions.specs.Grammar.{nesting}
+use Rattle.expressions.specs.Parse.{head}
+use Rattle.expressions.specs.Laws.{goes_on, ReadsWhatDerives, DerivesWhatIsRead, DeepWhereDeep, OneTree}
+use Rattle.expressions.proofs.Follow.{binds}
+use Rattle.expressions.proofs.Sound.{judged_E}
+use Rattle.expressions.proofs.Complete.{at_E}
+
+pub stops_there : (t : Lexeme) → goes_on t ≡ false → binds t < 1
+stops_there (sign s.Assign p) e = absurd cc
+stops_there (sign s.AndAlso p) e = absurd cc
+stops_there (sign s.OrElse p) e = absurd cc
+stops_there (sign s.Less p) e = absurd cc
+stops_there (sign s.Greater p) e = absurd cc
+stops_there (sign s.LessOrEqual p) e = absurd cc
+stops_there (sign s.GreaterOrEqual p) e = absurd cc
+stops_there (sign s.Equal p) e = absurd cc
+stops_there (sign s.NotEqual p) e = absurd cc
+stops_there (reserved w.Or p) e = absurd cc
+stops_there (sign s.Plus p) e = absurd cc
+stops_there (sign s.Minus p) e = absurd cc
+stops_there (sign s.Star p) e = absurd cc
+stops_there (sign s.Slash p) e = absurd cc
+stops_there (sign s.Percent p) e = absurd cc
+stops_there (sign s.Ampersand p) e = absurd cc
+stops_there (sign s.Bar p) e = absurd cc
+stops_there (sign s.Increment p) e = absurd cc
+stops_there (sign s.Decrement p) e = absurd cc
+stops_there (sign s.OpenParenthesis p) e = absurd cc
+stops_there _ e = omega arith
+
+pub sound : ReadsWhatDerives
+sound d ts r e h = (judged_E d ts).read (e, r) h
+
+pub complete : DerivesWhatIsRead
+complete d ts r e a o =
+    let l = at_E a d (stops_there (head r) o) in
+    (l.within, l.beyond)
+
+pub deep : DeepWhereDeep
+deep d ts h = (judged_E d ts).deep h
+
+abbrev found : ExpressionTree × List Lexeme → Result (ExpressionTree × List Lexeme) Fault
+found x = Ok x
+
+found_is : (x y : ExpressionTree × List Lexeme) → found x ≡ found y → x ≡ y
+found_is x y e = cc
+
+pub one_tree : OneTree
+one_tree ts r u a b p q o g =
+    let d = max (nesting a) (nesting b) in
+    let first = (at_E p d (stops_there (head r) o)).within (omega arith) in
+    let second = (at_E q d (stops_there (head u) g)).within (omega arith) in
+    let same = found_is (a, r) (b, u) (sym first ∙ second) in
+    (ap (λ (x : ExpressionTree × List Lexeme). x.0) same, ap (λ (x : ExpressionTree × List Lexeme). x.1) same)

@@ -1,0 +1,11 @@
+pub mod Judged
+pub mod Tokens
+pub mod Chain
+pub mod Exits
+pub mod Nested
+pub mod Limited
+pub mod Repeated
+pub mod Sound
+pub mod Follow
+pub mod Complete
+pub mod Given

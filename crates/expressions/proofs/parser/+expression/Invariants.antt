@@ -1,0 +1,65 @@
+use Rattle.std.proofs.Common.{◌≡◌, ℕ, ◌+◌, ◌-◌, ◌*◌, ◌∷◌}
+use Rattle.std.specs.Prelude.{map}
+use Rattle.lexer.specs.Token.{lexemes}
+use Rattle.lexer.specs.declared.token.Sign.TheVariants as s
+use Rattle.lexer.specs.declared.token.Word.TheVariants as w
+use Rattle.expressions.specs.declared.operators.Operators.{Operators}
+use Rattle.expressions.specs.declared.operators.Operators.TheVariants as operators
+use Rattle.expressions.specs.Tree.{expression_tree, chained, binary, link}
+use Rattle.expressions.specs.Parse as spec
+use Rattle.expressions.specs.Levels.{operator_of, operand_of, chain_of}
+use Rattle.expressions.proofs.Chain.{joined}
+use Rattle.expressions.proofs.parser.+expression.Given as goal
+
+-- each level's place in the order in which levels call one another within a nesting
+abbrev chain_rank : Operators → ℕ
+chain_rank operators.Logical = 13
+chain_rank operators.Adding = 8
+chain_rank operators.Scaling = 6
+
+abbrev operand_rank : Operators → ℕ
+operand_rank operators.Logical = 12
+operand_rank operators.Adding = 7
+operand_rank operators.Scaling = 5
+
+abbrev pub decreases-called : goal.decreases-called
+decreases-called l = 16 * l.depth + 15
+
+abbrev pub decreases-expression : goal.decreases-expression
+decreases-expression l = 16 * l.depth + 14
+
+abbrev pub decreases-chain : goal.decreases-chain
+decreases-chain l = 16 * l.depth + chain_rank l.operators
+
+abbrev pub decreases-operand : goal.decreases-operand
+decreases-operand l = 16 * l.depth + operand_rank l.operators
+
+abbrev pub decreases-negated : goal.decreases-negated
+decreases-negated l = 16 * l.depth + 11
+
+abbrev pub decreases-comparison : goal.decreases-comparison
+decreases-comparison l = 16 * l.depth + 10
+
+abbrev pub decreases-values : goal.decreases-values
+decreases-values l = 16 * l.depth + 9
+
+abbrev pub decreases-complemented : goal.decreases-complemented
+decreases-complemented l = 16 * l.depth + 4
+
+abbrev pub decreases-unary : goal.decreases-unary
+decreases-unary l = 16 * l.depth + 3
+
+abbrev pub decreases-primary : goal.decreases-primary
+decreases-primary l = 16 * l.depth + 2
+
+abbrev pub invariant-chain-loop-turn : goal.invariant-chain-loop-turn
+invariant-chain-loop-turn l =
+    spec.chain (operator_of l.operators) (operand_of (spec.nested l.depth) l.operators) (l.turns - l._turn) (chained (binary l.joining (expression_tree l.first) (expression_tree l.second)) (map link l.links.items)) (lexemes l.rest) ≡ chain_of (spec.nested l.depth) l.operators (lexemes l.fn.tokens)
+
+abbrev pub invariant-values-loop-turn : goal.invariant-values-loop-turn
+invariant-values-loop-turn l =
+    joined (expression_tree l.first ∷ map expression_tree l.others.items) (spec.further (spec.is_word w.Or) (spec.sum (spec.nested l.depth)) (l._turn-end - l._turn) (lexemes l.rest)) ≡ spec.list (spec.is_word w.Or) (spec.sum (spec.nested l.depth)) (lexemes l.fn.tokens)
+
+abbrev pub invariant-called-loop-turn : goal.invariant-called-loop-turn
+invariant-called-loop-turn l =
+    joined (map expression_tree l.arguments.items) (spec.further (spec.is_sign s.Comma) (spec.expression (spec.nested l.depth)) (l._turn-end - l._turn) (lexemes l.rest)) ≡ spec.list (spec.is_sign s.Comma) (spec.expression (spec.nested l.depth)) (lexemes l.fn.tokens)

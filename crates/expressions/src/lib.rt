@@ -1,0 +1,19 @@
+//! Expressions: their trees, and the parser that reads them.
+#![tactic(auto)]
+
+mod build;
+mod error;
+mod laws;
+mod operators;
+mod parser;
+mod reading;
+mod tree;
+
+pub use error::{Fault, ParseError};
+pub use laws::reads_the_grammar;
+pub use operators::begins_expression;
+pub use parser::expression;
+pub use reading::{expect, expect_word, fault_at, is_sign, is_word, open, peek, position, skip};
+pub use tree::{Binary, Comparison, Equality, Expression, Name, Prefix, Step};
+
+mod tests;

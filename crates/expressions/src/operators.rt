@@ -1,0 +1,120 @@
+//! Which tokens are operators, and with which an expression can begin.
+
+ghost use Rattle.std.specs.Prelude.{◌≡◌};
+ghost use Rattle.lexer.specs.Token.{lexeme};
+ghost use Rattle.expressions.specs.Operators as spec;
+ghost use Rattle.expressions.specs.Nesting as nesting;
+ghost use Rattle.expressions.specs.Levels.{operator_of};
+
+use crate::tree::{Binary, Comparison, Equality, Step};
+use lexer::{Kind, Sign, Token, Word};
+
+/// The operators of one level, in chains that group to the left.
+#[derive(Clone, Copy, Debug, PartialEq, Eq)]
+pub enum Operators {
+    /// `&&` and `||`
+    Logical,
+    /// `+` and `-`
+    Adding,
+    /// `*`, `/`, `%`, `&` and `|`
+    Scaling,
+}
+
+/// The operator of that level that the token is.
+pub fn operator(operators: Operators, token: Token<'_>) -> Option<Binary>
+    ensures { result ≡ operator_of operators (lexeme token.entry) }
+{
+    match operators {
+        Operators::Logical => logical(token),
+        Operators::Adding => adding(token),
+        Operators::Scaling => scaling(token),
+    }
+}
+
+fn logical(token: Token<'_>) -> Option<Binary>
+    ensures { result ≡ spec.logical (lexeme token.entry) }
+{
+    match token.kind {
+        Kind::Sign(Sign::AndAlso) => Some(Binary::AndAlso),
+        Kind::Sign(Sign::OrElse) => Some(Binary::OrElse),
+        _ => None,
+    }
+}
+
+fn adding(token: Token<'_>) -> Option<Binary>
+    ensures { result ≡ spec.adding (lexeme token.entry) }
+{
+    match token.kind {
+        Kind::Sign(Sign::Plus) => Some(Binary::Add),
+        Kind::Sign(Sign::Minus) => Some(Binary::Subtract),
+        _ => None,
+    }
+}
+
+fn scaling(token: Token<'_>) -> Option<Binary>
+    ensures { result ≡ spec.scaling (lexeme token.entry) }
+{
+    match token.kind {
+        Kind::Sign(Sign::Star) => Some(Binary::Multiply),
+        Kind::Sign(Sign::Slash) => Some(Binary::Divide),
+        Kind::Sign(Sign::Percent) => Some(Binary::Remainder),
+        Kind::Sign(Sign::Ampersand) => Some(Binary::And),
+        Kind::Sign(Sign::Bar) => Some(Binary::Or),
+        _ => None,
+    }
+}
+
+/// The comparison of signed numbers that the token is.
+pub fn comparing(token: Token<'_>) -> Option<Comparison>
+    ensures { result ≡ spec.comparing (lexeme token.entry) }
+{
+    match token.kind {
+        Kind::Sign(Sign::Less) => Some(Comparison::Less),
+        Kind::Sign(Sign::Greater) => Some(Comparison::Greater),
+        Kind::Sign(Sign::LessOrEqual) => Some(Comparison::LessOrEqual),
+        Kind::Sign(Sign::GreaterOrEqual) => Some(Comparison::GreaterOrEqual),
+        _ => None,
+    }
+}
+
+/// The comparison with one value or several that the token is.
+pub fn equating(token: Token<'_>) -> Option<Equality>
+    ensures { result ≡ spec.equating (lexeme token.entry) }
+{
+    match token.kind {
+        Kind::Sign(Sign::Equal) => Some(Equality::Equal),
+        Kind::Sign(Sign::NotEqual) => Some(Equality::NotEqual),
+        _ => None,
+    }
+}
+
+/// `++` or `--`, where the token is one.
+pub fn stepping(token: Token<'_>) -> Option<Step>
+    ensures { result ≡ spec.stepping (lexeme token.entry) }
+{
+    match token.kind {
+        Kind::Sign(Sign::Increment) => Some(Step::Increment),
+        Kind::Sign(Sign::Decrement) => Some(Step::Decrement),
+        _ => None,
+    }
+}
+
+/// Whether an expression can begin with the token.
+pub fn begins_expression(token: Token<'_>) -> bool
+    ensures { result ≡ nesting.begins_expression (lexeme token.entry) }
+{
+    match token.kind {
+        Kind::Name(_) | Kind::Number(_) | Kind::Character(_) => true,
+        Kind::Reserved(word) => matches!(word, Word::True | Word::False | Word::Nothing),
+        Kind::Sign(sign) => matches!(
+            sign,
+            Sign::OpenParenthesis
+                | Sign::Minus
+                | Sign::Tilde
+                | Sign::Not
+                | Sign::Increment
+                | Sign::Decrement
+        ),
+        _ => false,
+    }
+}

@@ -1,0 +1,273 @@
+//! The parser of expressions, one function for each level of the grammar.
+//!
+//! Each takes how many nestings more may be opened and the tokens from a place on, and gives the tree and the tokens after
+//! it. A token that opens a nesting is tested where it stands.
+
+ghost use Rattle.std.specs.Prelude.{◌≡◌, ◌∷◌, map};
+ghost use Rattle.lexer.specs.Token.{lexemes};
+ghost use Rattle.expressions.specs.Tree.{name_tree, expression_tree};
+ghost use Rattle.expressions.specs.Parse as spec;
+ghost use Rattle.expressions.specs.Parse.{Gives};
+ghost use Rattle.expressions.specs.Levels.{operand_of, chain_of};
+
+use crate::build;
+use crate::error::{Fault, ParseError};
+use crate::operators::{Operators, begins_expression, comparing, equating, operator, stepping};
+use crate::reading::{expect, fault_at, is_sign, is_word, open, peek, position, skip};
+use crate::tree::{Expression, Name, Prefix};
+use lexer::{Kind, Sign, Token, Word};
+use std::alloc::Global;
+
+/// The expression at the front of the tokens, and the tokens after it. `depth` is how many nestings more may be opened: a
+/// parenthesis, also that of a call, and an operator before its operand open one at their own token, the right side of an
+/// assignment at its first token.
+///
+/// Errors: `Fault::Grammar` at the first token with which no derivation can go on, `Fault::Deep` at the token that opens a
+/// nesting where none is left, and `Memory` where a growth was refused.
+#[cycle(expression)]
+#[tactic(auto, unfolding(crate::specs::Parse::expression, crate::specs::Parse::assigned), using(crate::proofs::Nested::nested_zero, crate::proofs::Nested::nested_whole))]
+pub fn expression<'t, 'a>(
+    alloc: Global,
+    depth: usize,
+    tokens: &'t [Token<'a>],
+) -> Result<(Expression<'a>, &'t [Token<'a>]), ParseError>
+    ensures { Gives (λ x. (expression_tree x.0, lexemes x.1.now)) result (spec.expression (spec.nested depth) (lexemes tokens.now)) }
+{
+    let (left, rest) = chain(alloc, depth, Operators::Logical, tokens)?;
+    if !is_sign(peek(rest), Sign::Assign) {
+        return Ok((left, rest));
+    }
+    let right_side = skip(rest);
+    if !begins_expression(peek(right_side)) {
+        return Err(fault_at(Fault::Grammar, right_side));
+    }
+    let inside = open(depth, right_side)?;
+    let (right, after) = expression(alloc, inside, right_side)?;
+    Ok((build::assign(alloc, left, position(rest), right)?, after))
+}
+
+/// Operands of a level with its operators between them.
+#[cycle(expression)]
+#[tactic(auto, using(crate::proofs::Chain::level_single, crate::proofs::Chain::level_begins, crate::proofs::Chain::level_fails, crate::proofs::Chain::level_second_fails, crate::proofs::Chain::chain_stop, crate::proofs::Chain::chain_done, crate::proofs::Chain::chain_err, crate::proofs::Chain::chain_more))]
+fn chain<'t, 'a>(
+    alloc: Global,
+    depth: usize,
+    operators: Operators,
+    tokens: &'t [Token<'a>],
+) -> Result<(Expression<'a>, &'t [Token<'a>]), ParseError>
+    ensures { Gives (λ x. (expression_tree x.0, lexemes x.1.now)) result (chain_of (spec.nested depth) operators (lexemes tokens.now)) }
+{
+    let (first, at_operator) = operand(alloc, depth, operators, tokens)?;
+    let Some(joining) = operator(operators, peek(at_operator)) else {
+        return Ok((first, at_operator));
+    };
+    let turns = at_operator.len();
+    let (second, mut rest) = operand(alloc, depth, operators, skip(at_operator))?;
+    let mut links = Vec::new(alloc);
+    for _turn in 1..turns {
+        let Some(next) = operator(operators, peek(rest)) else {
+            break;
+        };
+        let (right, after) = operand(alloc, depth, operators, skip(rest))?;
+        links.push((next, right))?;
+        rest = after;
+    }
+    Ok((build::chain(alloc, first, joining, second, links)?, rest))
+}
+
+/// An operand of a level.
+#[cycle(expression)]
+fn operand<'t, 'a>(
+    alloc: Global,
+    depth: usize,
+    operators: Operators,
+    tokens: &'t [Token<'a>],
+) -> Result<(Expression<'a>, &'t [Token<'a>]), ParseError>
+    ensures { Gives (λ x. (expression_tree x.0, lexemes x.1.now)) result (operand_of (spec.nested depth) operators (lexemes tokens.now)) }
+{
+    match operators {
+        Operators::Logical => negated(alloc, depth, tokens),
+        Operators::Adding => chain(alloc, depth, Operators::Scaling, tokens),
+        Operators::Scaling => complemented(alloc, depth, tokens),
+    }
+}
+
+/// `~~` before what it negates, or a comparison.
+#[cycle(expression)]
+#[tactic(auto, unfolding(crate::specs::Parse::negated), using(crate::proofs::Nested::nested_zero, crate::proofs::Nested::nested_negation))]
+fn negated<'t, 'a>(
+    alloc: Global,
+    depth: usize,
+    tokens: &'t [Token<'a>],
+) -> Result<(Expression<'a>, &'t [Token<'a>]), ParseError>
+    ensures { Gives (λ x. (expression_tree x.0, lexemes x.1.now)) result (spec.negated (spec.nested depth) (lexemes tokens.now)) }
+{
+    if !is_sign(peek(tokens), Sign::Not) {
+        return comparison(alloc, depth, tokens);
+    }
+    let inside = open(depth, tokens)?;
+    let (operand, rest) = negated(alloc, inside, skip(tokens))?;
+    Ok((build::prefixed(alloc, Prefix::Not, operand)?, rest))
+}
+
+/// A sum, or two that are compared. A comparison is no operand of another.
+#[cycle(expression)]
+#[tactic(auto, unfolding(crate::specs::Parse::comparison, crate::specs::Parse::equated))]
+fn comparison<'t, 'a>(
+    alloc: Global,
+    depth: usize,
+    tokens: &'t [Token<'a>],
+) -> Result<(Expression<'a>, &'t [Token<'a>]), ParseError>
+    ensures { Gives (λ x. (expression_tree x.0, lexemes x.1.now)) result (spec.comparison (spec.nested depth) (lexemes tokens.now)) }
+{
+    let (left, rest) = chain(alloc, depth, Operators::Adding, tokens)?;
+    if let Some(comparison) = comparing(peek(rest)) {
+        let (right, after) = chain(alloc, depth, Operators::Adding, skip(rest))?;
+        return Ok((build::compare(alloc, left, comparison, right)?, after));
+    }
+    if let Some(equality) = equating(peek(rest)) {
+        let (first, others, after) = values(alloc, depth, skip(rest))?;
+        return Ok((build::equal(alloc, left, equality, first, others)?, after));
+    }
+    Ok((left, rest))
+}
+
+/// What stands behind `==` or `~=`: a value, and further values behind `or`.
+#[cycle(expression)]
+#[tactic(auto, using(crate::proofs::Chain::values_begin, crate::proofs::Chain::values_more))]
+fn values<'t, 'a>(
+    alloc: Global,
+    depth: usize,
+    tokens: &'t [Token<'a>],
+) -> Result<(Expression<'a>, Vec<Expression<'a>>, &'t [Token<'a>]), ParseError>
+    ensures { Gives (λ x. (expression_tree x.0 ∷ map expression_tree x.1.items, lexemes x.2.now)) result (spec.list (spec.is_word Word.Or) (spec.sum (spec.nested depth)) (lexemes tokens.now)) }
+{
+    let (first, mut rest) = chain(alloc, depth, Operators::Adding, tokens)?;
+    let mut others = Vec::new(alloc);
+    for _turn in 0..rest.len() {
+        if !is_word(peek(rest), Word::Or) {
+            break;
+        }
+        let (value, after) = chain(alloc, depth, Operators::Adding, skip(rest))?;
+        others.push(value)?;
+        rest = after;
+    }
+    Ok((first, others, rest))
+}
+
+/// `~` before what it complements, or an operand with at most `-`, `++` and `--`.
+#[cycle(expression)]
+#[tactic(auto, unfolding(crate::specs::Parse::complemented), using(crate::proofs::Nested::nested_zero, crate::proofs::Nested::nested_complement))]
+fn complemented<'t, 'a>(
+    alloc: Global,
+    depth: usize,
+    tokens: &'t [Token<'a>],
+) -> Result<(Expression<'a>, &'t [Token<'a>]), ParseError>
+    ensures { Gives (λ x. (expression_tree x.0, lexemes x.1.now)) result (spec.complemented (spec.nested depth) (lexemes tokens.now)) }
+{
+    if !is_sign(peek(tokens), Sign::Tilde) {
+        return unary(alloc, depth, tokens);
+    }
+    let inside = open(depth, tokens)?;
+    let (operand, rest) = complemented(alloc, inside, skip(tokens))?;
+    Ok((build::prefixed(alloc, Prefix::Complement, operand)?, rest))
+}
+
+/// `-` before its operand, or a primary with `++` or `--` before or after it.
+#[cycle(expression)]
+#[tactic(auto, unfolding(crate::specs::Parse::unary, crate::specs::Parse::stepped), using(crate::proofs::Nested::nested_zero, crate::proofs::Nested::nested_prefix, crate::proofs::Nested::nested_operand))]
+fn unary<'t, 'a>(
+    alloc: Global,
+    depth: usize,
+    tokens: &'t [Token<'a>],
+) -> Result<(Expression<'a>, &'t [Token<'a>]), ParseError>
+    ensures { Gives (λ x. (expression_tree x.0, lexemes x.1.now)) result (spec.unary (spec.nested depth) (lexemes tokens.now)) }
+{
+    if is_sign(peek(tokens), Sign::Minus) {
+        let inside = open(depth, tokens)?;
+        let (operand, rest) = unary(alloc, inside, skip(tokens))?;
+        return Ok((build::prefixed(alloc, Prefix::Minus, operand)?, rest));
+    }
+    if let Some(step) = stepping(peek(tokens)) {
+        let inside = open(depth, tokens)?;
+        let (operand, rest) = primary(alloc, inside, skip(tokens))?;
+        let before = build::step_before(alloc, step, position(tokens), operand)?;
+        return Ok((before, rest));
+    }
+    let (operand, rest) = primary(alloc, depth, tokens)?;
+    match stepping(peek(rest)) {
+        Some(step) => {
+            let after = build::step_after(alloc, operand, step, position(rest))?;
+            Ok((after, skip(rest)))
+        }
+        None => Ok((operand, rest)),
+    }
+}
+
+/// A constant, a name, a call, or an expression in parentheses.
+#[cycle(expression)]
+#[tactic(auto, unfolding(crate::specs::Parse::primary, crate::specs::Parse::after_name, crate::specs::Parse::enclosed), using(crate::proofs::Nested::nested_zero, crate::proofs::Nested::nested_whole, crate::proofs::Nested::nested_arguments))]
+fn primary<'t, 'a>(
+    alloc: Global,
+    depth: usize,
+    tokens: &'t [Token<'a>],
+) -> Result<(Expression<'a>, &'t [Token<'a>]), ParseError>
+    ensures { Gives (λ x. (expression_tree x.0, lexemes x.1.now)) result (spec.primary (spec.nested depth) (lexemes tokens.now)) }
+{
+    let token = peek(tokens);
+    let rest = skip(tokens);
+    match token.kind {
+        Kind::Number(number) => Ok((Expression::Constant(number), rest)),
+        Kind::Character(code) => Ok((Expression::Constant(code as u16), rest)),
+        Kind::Reserved(Word::True) => Ok((Expression::Constant(1), rest)),
+        Kind::Reserved(Word::False) => Ok((Expression::Constant(0), rest)),
+        Kind::Reserved(Word::Nothing) => Ok((Expression::Constant(0), rest)),
+        Kind::Name(text) => {
+            let name = Name {
+                text,
+                position: token.position,
+            };
+            if !is_sign(peek(rest), Sign::OpenParenthesis) {
+                return Ok((Expression::Named(name), rest));
+            }
+            let inside = open(depth, rest)?;
+            called(alloc, inside, name, skip(rest))
+        }
+        Kind::Sign(Sign::OpenParenthesis) => {
+            let inside = open(depth, tokens)?;
+            let (enclosed, rest) = expression(alloc, inside, rest)?;
+            let rest = expect(Sign::CloseParenthesis, rest)?;
+            Ok((build::parenthesised(alloc, enclosed)?, rest))
+        }
+        _ => Err(fault_at(Fault::Grammar, tokens)),
+    }
+}
+
+/// The call of a name, from behind its parenthesis.
+#[cycle(expression)]
+#[tactic(auto, unfolding(crate::specs::Parse::called), using(crate::proofs::Chain::arguments_begin, crate::proofs::Chain::arguments_more))]
+fn called<'t, 'a>(
+    alloc: Global,
+    depth: usize,
+    name: Name<'a>,
+    tokens: &'t [Token<'a>],
+) -> Result<(Expression<'a>, &'t [Token<'a>]), ParseError>
+    ensures { Gives (λ x. (expression_tree x.0, lexemes x.1.now)) result (spec.called (spec.nested depth) (name_tree name.entry) (lexemes tokens.now)) }
+{
+    let mut arguments = Vec::new(alloc);
+    if is_sign(peek(tokens), Sign::CloseParenthesis) {
+        return Ok((build::call(name, arguments), skip(tokens)));
+    }
+    let (first, mut rest) = expression(alloc, depth, tokens)?;
+    arguments.push(first)?;
+    for _turn in 0..rest.len() {
+        if !is_sign(peek(rest), Sign::Comma) {
+            break;
+        }
+        let (argument, after) = expression(alloc, depth, skip(rest))?;
+        arguments.push(argument)?;
+        rest = after;
+    }
+    let rest = expect(Sign::CloseParenthesis, rest)?;
+    Ok((build::call(name, arguments), rest))
+}

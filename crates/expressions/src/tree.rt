@@ -1,0 +1,112 @@
+//! Trees of expressions.
+
+use lexer::Position;
+
+/// A name where it is used or defined.
+#[derive(Clone, Copy, Debug)]
+pub struct Name<'a> {
+    pub text: &'a [u8],
+    pub position: Position,
+}
+
+/// An operator of a chain that groups to the left.
+#[derive(Clone, Copy, Debug, PartialEq, Eq)]
+pub enum Binary {
+    /// `&&`
+    AndAlso,
+    /// `||`
+    OrElse,
+    /// `+`
+    Add,
+    /// `-`
+    Subtract,
+    /// `*`
+    Multiply,
+    /// `/`
+    Divide,
+    /// `%`
+    Remainder,
+    /// `&`
+    And,
+    /// `|`
+    Or,
+}
+
+/// A comparison of signed numbers.
+#[derive(Clone, Copy, Debug, PartialEq, Eq)]
+pub enum Comparison {
+    /// `<`
+    Less,
+    /// `>`
+    Greater,
+    /// `<=`
+    LessOrEqual,
+    /// `>=`
+    GreaterOrEqual,
+}
+
+/// A comparison with one value or several.
+#[derive(Clone, Copy, Debug, PartialEq, Eq)]
+pub enum Equality {
+    /// `==`: equal to any of them
+    Equal,
+    /// `~=`: equal to none of them
+    NotEqual,
+}
+
+/// An operator before its operand.
+#[derive(Clone, Copy, Debug, PartialEq, Eq)]
+pub enum Prefix {
+    /// `-`
+    Minus,
+    /// `~`
+    Complement,
+    /// `~~`
+    Not,
+}
+
+/// One more or one less.
+#[derive(Clone, Copy, Debug, PartialEq, Eq)]
+pub enum Step {
+    /// `++`
+    Increment,
+    /// `--`
+    Decrement,
+}
+
+/// An expression. Chains that group to the left are flat, so a tree is at most as deep as its nesting, a few levels for
+/// each.
+#[derive(Drop)]
+pub enum Expression<'a> {
+    /// A number or a character; `true` is 1, `false` and `nothing` are 0.
+    Constant(u16),
+
+    /// The value of a name.
+    Named(Name<'a>),
+
+    /// A call of a routine, with its arguments.
+    Call(Name<'a>, Vec<Expression<'a>>),
+
+    /// An expression in parentheses.
+    Parenthesised(Box<Expression<'a>>),
+
+    Prefixed(Prefix, Box<Expression<'a>>),
+
+    /// `++` or `--` before its operand, with the operator's position.
+    StepBefore(Step, Position, Box<Expression<'a>>),
+
+    /// `++` or `--` after its operand, with the operator's position.
+    StepAfter(Box<Expression<'a>>, Step, Position),
+
+    /// A first operand, an operator and a second operand, and the operators and operands that follow. All operators are
+    /// of one level.
+    Chain(Box<Expression<'a>>, Binary, Box<Expression<'a>>, Vec<(Binary, Expression<'a>)>),
+
+    Compare(Box<Expression<'a>>, Comparison, Box<Expression<'a>>),
+
+    /// The left side, the first value that it is compared with, and those after `or`.
+    Equal(Box<Expression<'a>>, Equality, Box<Expression<'a>>, Vec<Expression<'a>>),
+
+    /// An assignment, with the position of `=`.
+    Assign(Box<Expression<'a>>, Position, Box<Expression<'a>>),
+}

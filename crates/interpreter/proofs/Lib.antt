@@ -1,0 +1,9 @@
+mod Words
+mod Steps
+mod Acts
+mod Sizes
+mod Trees
+mod Chains
+mod Calling
+mod Running
+mod Beginning

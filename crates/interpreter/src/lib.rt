@@ -1,0 +1,15 @@
+//! A plain, slow interpreter of accepted programs, whose contract is their meaning. Tests alone use it.
+#![tactic(auto)]
+
+mod end;
+mod interpreter;
+mod numbers;
+mod operations;
+mod run;
+mod situation;
+#[cfg(test)]
+mod source_tests;
+#[cfg(test)]
+mod tests;
+
+pub use run::{Run, interpret};

@@ -1,0 +1,13 @@
+pub mod Runs
+pub mod Tables
+pub mod Beginnings
+pub mod Words
+pub mod Longest
+pub mod NameTokens
+pub mod SignTokens
+pub mod NumberTokens
+pub mod QuotedTokens
+pub mod Contents
+pub mod Loop
+pub mod Unique
+pub mod Samples

@@ -1,0 +1,34 @@
+-- What the parts of a scan find at the front of bytes.
+use Rattle.std.specs.Prelude.{◌≡◌, ◌==◌, ◌≤◌, ℕ, if◌then◌else◌, List, length, take, drop, Result, Ok, Err}
+use Rattle.lexer.specs.declared.bytes.Base.{Base}
+use Rattle.lexer.specs.declared.bytes.Base.TheVariants as bases
+use Rattle.lexer.specs.declared.fault.LexicalFault.{LexicalFault}
+use Rattle.lexer.specs.declared.token.Kind.{Kind}
+use Rattle.lexer.specs.declared.token.Position.{Position}
+use Rattle.lexer.specs.declared.token.Sign.{Sign}
+use Rattle.lexer.specs.Token.{Lexeme, character, dictionary_word, lexeme_of}
+use Rattle.lexer.specs.Spelling.{sign_spelling, IsCharacter, IsDictionaryWord}
+use Rattle.lexer.specs.Tokens.{IsLongest, IsAllowed, Breaks}
+
+-- a token's kind and length, wherever the bytes lie, or the broken rule
+abbrev pub Scanned : List ℕ → Result (Kind × ℕ) LexicalFault → Type 0
+Scanned bs (Ok x) = (p : Position) → IsLongest bs (lexeme_of x.0 p) x.1 × IsAllowed (lexeme_of x.0 p) (drop x.1 bs)
+Scanned bs (Err g) = Breaks g bs
+
+-- the base of the number that begins with two bytes, if one does
+abbrev pub base_at : ℕ → ℕ → Base
+base_at a c = if a == 36 then (if c == 36 then bases.Binary else bases.Hexadecimal) else bases.Decimal
+
+-- what stands between single quotes, as a token
+abbrev pub IsContent : Lexeme → List ℕ → Type 0
+IsContent (character c p) content = IsCharacter c content
+IsContent (dictionary_word s p) content = IsDictionaryWord s content
+IsContent lexeme content = ⊥
+
+abbrev pub HasNoSign : List ℕ → Type 0
+HasNoSign bs = (s : Sign) (n : ℕ) → take n bs ≡ sign_spelling s → ⊥
+
+pub record IsLongestSign (s : Sign) (bs : List ℕ) : Type 0 where
+  pub within : length (sign_spelling s) ≤ length bs
+  pub spelled : take (length (sign_spelling s)) bs ≡ sign_spelling s
+  pub no_longer : (other : Sign) (n : ℕ) → take n bs ≡ sign_spelling other → n ≤ length bs → n ≤ length (sign_spelling s)

@@ -1,0 +1,6 @@
+pub mod Bytes
+pub mod Token
+pub mod Spelling
+pub mod Tokens
+pub mod Results
+pub mod Fronts

@@ -1,0 +1,46 @@
+-- Tokens, without where they lie in memory.
+use Rattle.std.specs.Prelude.{ℕ, List, map}
+use Rattle.lexer.specs.declared.token.Sign.{Sign}
+use Rattle.lexer.specs.declared.token.Word.{Word}
+use Rattle.lexer.specs.declared.token.Position.{Position}
+use Rattle.lexer.specs.declared.token.Kind.{Kind}
+use Rattle.lexer.specs.declared.token.Kind.TheVariants as kinds
+use Rattle.lexer.specs.declared.token.Token.{Token}
+
+-- a token as the grammar sees it, and its position in the source
+pub data Lexeme : Type 0 where
+  name : List ℕ → Position → Lexeme
+  number : ℕ → Position → Lexeme
+  text : List ℕ → Position → Lexeme
+  character : ℕ → Position → Lexeme
+  dictionary_word : List ℕ → Position → Lexeme
+  reserved : Word → Position → Lexeme
+  sign : Sign → Position → Lexeme
+  end : Position → Lexeme
+
+abbrev pub lexeme_of : Kind → Position → Lexeme
+lexeme_of (kinds.Name s) position = name s.now position
+lexeme_of (kinds.Number n) position = number n position
+lexeme_of (kinds.Text s) position = text s.now position
+lexeme_of (kinds.Character c) position = character c position
+lexeme_of (kinds.DictionaryWord s) position = dictionary_word s.now position
+lexeme_of (kinds.Reserved w) position = reserved w position
+lexeme_of (kinds.Sign s) position = sign s position
+lexeme_of kinds.End position = end position
+
+abbrev pub lexeme : Token → Lexeme
+lexeme t = lexeme_of t.kind t.position
+
+abbrev pub lexemes : List Token → List Lexeme
+lexemes ts = map lexeme ts
+
+-- where a token stands
+abbrev pub position_of : Lexeme → Position
+position_of (name s p) = p
+position_of (number n p) = p
+position_of (text s p) = p
+position_of (character c p) = p
+position_of (dictionary_word s p) = p
+position_of (reserved w p) = p
+position_of (sign s p) = p
+position_of (end p) = p

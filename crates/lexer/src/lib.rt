@@ -1,0 +1,23 @@
+//! Tokens of a source, and the faults by which a source is refused.
+#![tactic(auto)]
+
+mod bytes;
+mod fault;
+mod names;
+mod numbers;
+mod quoted;
+mod scan;
+mod signs;
+mod source;
+#[cfg(test)]
+mod tests;
+mod token;
+
+pub use fault::{
+    BAD_ARRAY, BAD_NUMBER, BAD_TEXT, BREAK_OUTSIDE, DEFINED_TWICE, EXPRESSION_TOO_LARGE,
+    NAME_TOO_LONG, NESTED_TOO_DEEP, NO_MEMORY, NO_PROPER_MAIN, NOT_ASSIGNABLE, NOT_IN_GRAMMAR,
+    ROUTINE_TOO_LARGE, STORY_TOO_LARGE, STRAY_BYTE, SourceFault, TABLES_TOO_LARGE, TOO_MANY,
+    TOO_MANY_ARGUMENTS, UNKNOWN_NAME, WRONG_KIND,
+};
+pub use source::{lex, one_outcome};
+pub use token::{Kind, Position, Sign, Token, Word};

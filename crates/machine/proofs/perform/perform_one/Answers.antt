@@ -1,0 +1,35 @@
+use Rattle.zcore.specs.Step.{perform}
+use Rattle.frames.proofs.Steps.{told_went}
+use Rattle.machine.proofs.perform.perform_one.Goals as goal
+
+pub returns-in-JumpIfZero-clause-told : goal.returns-in-JumpIfZero-clause-told
+unfolding perform
+returns-in-JumpIfZero-clause-told c = rw c.in-JumpIfZero.is (told_went _ _ c.branch_on.ensures)
+
+pub returns-in-Increment-clause-told : goal.returns-in-Increment-clause-told
+unfolding perform
+returns-in-Increment-clause-told c = rw c.in-Increment.is (told_went _ _ c.increment.ensures)
+
+pub returns-in-Decrement-clause-told : goal.returns-in-Decrement-clause-told
+unfolding perform
+returns-in-Decrement-clause-told c = rw c.in-Decrement.is (told_went _ _ c.decrement.ensures)
+
+pub returns-in-Return-clause-told : goal.returns-in-Return-clause-told
+unfolding perform
+returns-in-Return-clause-told c = rw c.in-Return.is (told_went _ _ c.give_back.ensures)
+
+pub returns-in-Jump-clause-told : goal.returns-in-Jump-clause-told
+unfolding perform
+returns-in-Jump-clause-told c = rw c.in-Jump.is (told_went _ _ c.jump.ensures)
+
+pub returns-in-PrintPacked-clause-told : goal.returns-in-PrintPacked-clause-told
+unfolding perform
+returns-in-PrintPacked-clause-told c = rw c.in-PrintPacked.is (c.print_packed.ensures.told)
+
+pub returns-in-Load-clause-told : goal.returns-in-Load-clause-told
+unfolding perform
+returns-in-Load-clause-told c = rw c.in-Load.is (told_went _ _ c.load.ensures)
+
+pub returns-in-Call1n-clause-told : goal.returns-in-Call1n-clause-told
+unfolding perform
+returns-in-Call1n-clause-told c = rw c.in-Call1n.is (told_went _ _ c.call_packed.ensures)

@@ -1,0 +1,31 @@
+//! Waiting for a line (Z-Machine Standards Document 1.1, section 15, `aread`).
+
+ghost use Rattle.zcore.specs.Step as steps;
+ghost use Rattle.frames.specs.Standing.{IsStoreOf};
+ghost use Rattle.frames.specs.Went.{Went};
+
+use frames::{End, Store, test_result, test_text_buffer, wait};
+use journal::Recorded;
+use zcore::{Fault, Header, Next, Place};
+
+/// Waits for a line: `aread`. M1 with a parse buffer, M12 where the text buffer cannot take a line, then M6 and M4 of
+/// the result.
+pub fn read(
+    header: &Header,
+    store: &mut Recorded<Store>,
+    here: Next,
+    after: u32,
+    result_variable: Option<u8>,
+    text_buffer: u16,
+    parse_buffer: u16,
+) -> Result<Next, End>
+    requires { IsStoreOf header.now store.old.store }
+    ensures { Went result store.old store.new (steps.read here after result_variable text_buffer parse_buffer) }
+{
+    if parse_buffer != 0 {
+        return Err(End::Stop(Place::Fault(Fault::Opcode)));
+    }
+    test_text_buffer(header, store, text_buffer)?;
+    test_result(store, result_variable)?;
+    wait(store, text_buffer, parse_buffer, result_variable, after)
+}

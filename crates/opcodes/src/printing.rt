@@ -1,0 +1,171 @@
+//! Opcodes that print (Z-Machine Standards Document 1.1, section 15).
+
+ghost use Rattle.std.specs.Prelude.{◌≡◌, ◌≤◌, ℕ, length, drop};
+ghost use Rattle.zcore.specs.Arithmetic.{signed_text};
+ghost use Rattle.zcore.specs.Step.{text_at, print_characters, print_inline, print_return, print_packed, is_printable, print_character};
+ghost use Rattle.opcodes.specs.Seen.{seen};
+ghost use Rattle.opcodes.specs.Printed.{HasBegun, Grew};
+ghost use Rattle.frames.specs.Standing.{IsSound, IsStoreOf};
+ghost use Rattle.frames.specs.Went.{Went, Told};
+
+use crate::calls::{give_back, unpacked};
+use crate::numbers::signed_digits;
+use crate::transcript::print;
+use frames::{End, Store, test_return};
+use journal::Recorded;
+use std::alloc::Global;
+use zcore::{Fault, Header, Next, Place, TextFault, decode_text};
+
+/// The character of a new line (section 3.8.2.2).
+const NEW_LINE: u8 = 13;
+
+/// Prints characters, and goes on: `new_line` prints 13. The limit of text.
+#[inline]
+pub fn print_characters(
+    store: &mut Recorded<Store>,
+    text: &mut Vec<u8>,
+    start: usize,
+    here: Next,
+    after: u32,
+    characters: &[u8],
+) -> Result<Next, End>
+    requires sound { IsSound store.old.store }
+    requires text { HasBegun start text.old.items }
+    ensures told { Told result store.old (drop start text.old.items) store.new (drop start text.new.items) (print_characters here after characters.now) }
+    ensures text { Grew start text.old.items text.new.items }
+{
+    print(store, text, start, characters)?;
+    Ok(Next {
+        program_counter: after,
+        fuel: here.fuel,
+    })
+}
+
+/// Prints the text that follows the opcode, and goes on after it: `print`. M3, M10, the limit of text.
+pub fn print_inline(
+    alloc: Global,
+    store: &mut Recorded<Store>,
+    text: &mut Vec<u8>,
+    start: usize,
+    here: Next,
+    after: u32,
+) -> Result<Next, End>
+    requires sound { IsSound store.old.store }
+    requires text { HasBegun start text.old.items }
+    ensures told { Told result store.old (drop start text.old.items) store.new (drop start text.new.items) (print_inline here after) }
+    ensures text { Grew start text.old.items text.new.items }
+{
+    let (characters, program_counter) = text_at(alloc, store, after)?;
+    print(store, text, start, &characters)?;
+    Ok(Next {
+        program_counter,
+        fuel: here.fuel,
+    })
+}
+
+/// Prints the text that follows the opcode and a new line, and returns 1: `print_ret`. M3, M10; M11, M6, M4, M2 of the
+/// return; the limit of text.
+pub fn print_return(
+    alloc: Global,
+    header: &Header,
+    store: &mut Recorded<Store>,
+    text: &mut Vec<u8>,
+    start: usize,
+    here: Next,
+    after: u32,
+) -> Result<Next, End>
+    requires store { IsStoreOf header.now store.old.store }
+    requires text { HasBegun start text.old.items }
+    ensures told { Told result store.old (drop start text.old.items) store.new (drop start text.new.items) (print_return here after) }
+    ensures text { Grew start text.old.items text.new.items }
+{
+    let (characters, _end) = text_at(alloc, store, after)?;
+    test_return(store)?;
+    print(store, text, start, &characters)?;
+    print(store, text, start, &[NEW_LINE])?;
+    give_back(header, store, here.fuel, 1)
+}
+
+/// Prints the text at a packed address: `print_paddr`. M3, M10, the limit of text.
+pub fn print_packed(
+    alloc: Global,
+    header: &Header,
+    store: &mut Recorded<Store>,
+    text: &mut Vec<u8>,
+    start: usize,
+    here: Next,
+    after: u32,
+    packed: u16,
+) -> Result<Next, End>
+    requires store { IsStoreOf header.now store.old.store }
+    requires text { HasBegun start text.old.items }
+    ensures told { Told result store.old (drop start text.old.items) store.new (drop start text.new.items) (print_packed here after packed) }
+    ensures text { Grew start text.old.items text.new.items }
+{
+    let (characters, _end) = text_at(alloc, store, unpacked(header, packed))?;
+    print_characters(store, text, start, here, after, &characters)
+}
+
+/// Prints a character: `print_char`. M10 where it cannot be printed, the limit of text.
+#[inline]
+pub fn print_character(
+    store: &mut Recorded<Store>,
+    text: &mut Vec<u8>,
+    start: usize,
+    here: Next,
+    after: u32,
+    character: u16,
+) -> Result<Next, End>
+    requires sound { IsSound store.old.store }
+    requires text { HasBegun start text.old.items }
+    ensures told { Told result store.old (drop start text.old.items) store.new (drop start text.new.items) (print_character here after character) }
+    ensures text { Grew start text.old.items text.new.items }
+{
+    if !is_printable(character) {
+        return Err(End::Stop(Place::Fault(Fault::Character)));
+    }
+    print_characters(store, text, start, here, after, &[character as u8])
+}
+
+/// Prints a signed number: `print_num`. The limit of text.
+pub fn print_number(
+    store: &mut Recorded<Store>,
+    text: &mut Vec<u8>,
+    start: usize,
+    here: Next,
+    after: u32,
+    number: u16,
+) -> Result<Next, End>
+    requires sound { IsSound store.old.store }
+    requires text { HasBegun start text.old.items }
+    ensures told { Told result store.old (drop start text.old.items) store.new (drop start text.new.items) (print_characters here after (signed_text number)) }
+    ensures text { Grew start text.old.items text.new.items }
+{
+    let (digits, first) = signed_digits(number);
+    print_characters(store, text, start, here, after, &digits[first..])
+}
+
+/// Whether a character can be printed (section 3.8): 13 is a new line, and 0 prints nothing.
+#[inline]
+fn is_printable(character: u16) -> bool
+    ensures { result ≡ is_printable character }
+{
+    character == 0 || character == 13 || (32 <= character && character <= 126)
+}
+
+/// The text at an address, and the address after it. M3, M10.
+fn text_at(alloc: Global, store: &mut Recorded<Store>, place: u32) -> Result<(Vec<u8>, u32), End>
+    requires { IsSound store.old.store }
+    ensures { Went (seen (λ x. (x.0.items, x.1)) result) store.old store.new (text_at place) }
+{
+    match decode_text(alloc, store.store().memory(), place) {
+        Ok(text) => Ok(text),
+        Err(TextFault::End) => Err(End::Stop(Place::Fault(Fault::Read))),
+        Err(TextFault::Memory) => {
+            store.abandon();
+            Err(End::Memory)
+        }
+        Err(TextFault::Character) => Err(End::Stop(Place::Fault(Fault::Character))),
+        Err(TextFault::Abbreviation) => Err(End::Stop(Place::Fault(Fault::Character))),
+    }
+}

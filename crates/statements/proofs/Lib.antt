@@ -1,0 +1,5 @@
+pub mod Inside
+pub mod Loops
+pub mod Effect
+pub mod Sound
+pub mod Complete

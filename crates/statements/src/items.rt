@@ -1,0 +1,69 @@
+//! What `print` prints, read from tokens.
+
+ghost use Rattle.std.specs.Prelude.{◌≡◌, map};
+ghost use Rattle.lexer.specs.Token.{lexeme, lexemes};
+ghost use Rattle.expressions.specs.Parse.{Gives};
+ghost use Rattle.statements.specs.Tree.{item_tree};
+ghost use Rattle.statements.specs.Parse as spec;
+
+use crate::tree::Item;
+use expressions::{ParseError, expect, expression, is_sign, is_word, open, peek, position, skip};
+use lexer::{Kind, Sign, Token, Word};
+use std::alloc::Global;
+
+// `(char)` and a value, where its first two tokens have been seen.
+#[tactic(auto, unfolding(crate::specs::Parse::character), using(crate::proofs::Inside::opened_zero, crate::proofs::Inside::opened_more))]
+fn character<'t, 'a>(
+    alloc: Global,
+    depth: usize,
+    tokens: &'t [Token<'a>],
+) -> Result<(Item<'a>, &'t [Token<'a>]), ParseError>
+    ensures { Gives (λ x. (item_tree x.0, lexemes x.1.now)) result (spec.character depth (lexemes tokens.now)) }
+{
+    open(depth, tokens)?;
+    let begin = expect(Sign::CloseParenthesis, skip(skip(tokens)))?;
+    let (value, rest) = expression(alloc, depth, begin)?;
+    Ok((Item::Character(position(begin), value), rest))
+}
+
+#[tactic(auto, unfolding(crate::specs::Parse::item, crate::specs::Parse::value))]
+fn item<'t, 'a>(
+    alloc: Global,
+    depth: usize,
+    tokens: &'t [Token<'a>],
+) -> Result<(Item<'a>, &'t [Token<'a>]), ParseError>
+    ensures { Gives (λ x. (item_tree x.0, lexemes x.1.now)) result (spec.item depth (lexemes tokens.now)) }
+{
+    let first = peek(tokens);
+    if let Kind::Text(bytes) = first.kind {
+        return Ok((Item::Text(bytes), skip(tokens)));
+    }
+    if is_sign(first, Sign::OpenParenthesis) && is_word(peek(skip(tokens)), Word::Char) {
+        return character(alloc, depth, tokens);
+    }
+    let (value, rest) = expression(alloc, depth, tokens)?;
+    Ok((Item::Number(first.position, value), rest))
+}
+
+/// Items with commas between them.
+#[tactic(auto, unfolding(crate::specs::Parse::items, expressions::specs::Parse::list), using(crate::proofs::Loops::further_out, crate::proofs::Loops::further_done, crate::proofs::Loops::further_more, crate::proofs::Loops::further_fails))]
+pub fn items<'t, 'a>(
+    alloc: Global,
+    depth: usize,
+    tokens: &'t [Token<'a>],
+) -> Result<(Vec<Item<'a>>, &'t [Token<'a>]), ParseError>
+    ensures { Gives (λ x. (map item_tree x.0.items, lexemes x.1.now)) result (spec.items depth (lexemes tokens.now)) }
+{
+    let mut found = Vec::new(alloc);
+    let (first, mut rest) = item(alloc, depth, tokens)?;
+    found.push(first)?;
+    for _turn in 0..rest.len() {
+        if !is_sign(peek(rest), Sign::Comma) {
+            break;
+        }
+        let (next, after) = item(alloc, depth, skip(rest))?;
+        found.push(next)?;
+        rest = after;
+    }
+    Ok((found, rest))
+}

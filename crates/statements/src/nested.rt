@@ -1,0 +1,189 @@
+//! Statements, and those inside them, read from tokens.
+
+ghost use Rattle.std.specs.Prelude.{◌≡◌, map};
+ghost use Rattle.lexer.specs.Token.{lexeme, lexemes};
+ghost use Rattle.expressions.specs.Parse.{Gives, tail};
+ghost use Rattle.statements.specs.Grammar as grammar;
+ghost use Rattle.statements.specs.Nesting as nesting;
+ghost use Rattle.statements.specs.Tree.{statement_tree};
+ghost use Rattle.statements.specs.Parse as spec;
+
+use crate::build::{if_else, if_then, while_do};
+use crate::items::items;
+use crate::simple::{alone, ended, returned, test};
+use crate::tree::Statement;
+use expressions::{ParseError, begins_expression, expect, is_word, open, peek, skip};
+use lexer::{Kind, Position, Sign, Token, Word};
+use std::alloc::Global;
+
+// Whether a statement can begin with the token.
+#[tactic(auto, unfolding(crate::specs::Nesting::begins_statement))]
+fn begins_statement(token: Token<'_>) -> bool
+    ensures { result ≡ nesting.begins_statement (lexeme token.entry) }
+{
+    match token.kind {
+        Kind::Text(_) => true,
+        Kind::Sign(Sign::Semicolon | Sign::OpenBrace) => true,
+        Kind::Reserved(Word::Print | Word::PrintRet | Word::NewLine) => true,
+        Kind::Reserved(Word::If | Word::While) => true,
+        Kind::Reserved(Word::Return | Word::Rtrue | Word::Rfalse | Word::Quit) => true,
+        _ => begins_expression(token),
+    }
+}
+
+fn else_follows(tokens: &[Token<'_>]) -> bool
+    ensures { result ≡ grammar.else_follows (lexemes tokens.now) }
+{
+    is_word(peek(tokens), Word::Else)
+}
+
+// The same tokens, as a slice of its own.
+fn same<'t, 'a>(tokens: &'t [Token<'a>]) -> &'t [Token<'a>]
+    ensures { result.now ≡ tokens.now }
+{
+    tokens
+}
+
+/// Statements in a row, up to a token with which none can begin, and the tokens from there on. In each of them `depth`
+/// nestings more may be opened.
+///
+/// A statement is
+///
+/// ```text
+/// S = ";" | "{" {S} "}" | text ";" | ("print" | "print_ret") Item {"," Item} ";" | "new_line" ";"
+///   | "if" "(" E ")" S ["else" S] | "while" "(" E ")" S | "return" [E] ";" | "rtrue" ";" | "rfalse" ";" | "quit" ";" | X ";"
+/// Item = text | "(" "char" ")" E | E
+/// ```
+///
+/// where E is an expression and X one with an effect: an assignment, a step or a call, in parentheses or not. An `else`
+/// belongs to the nearest `if`. Braces, the parentheses of a condition and of `(char)`, and a statement inside a statement
+/// are nestings, as are those of expressions.
+///
+/// A fault of the grammar stands at the first token with which no derivation goes on; a fault of depth at the token for
+/// which no nesting is left. `Memory`, where a growth is refused.
+#[cycle(statement)]
+#[tactic(auto, unfolding(crate::specs::Parse::statements), using(crate::proofs::Loops::repeated_out, crate::proofs::Loops::repeated_done, crate::proofs::Loops::repeated_more, crate::proofs::Loops::repeated_fails, crate::proofs::Loops::joined_none))]
+pub fn statements<'t, 'a>(
+    alloc: Global,
+    depth: usize,
+    tokens: &'t [Token<'a>],
+) -> Result<(Vec<Statement<'a>>, &'t [Token<'a>]), ParseError>
+    ensures { Gives (λ x. (map statement_tree x.0.items, lexemes x.1.now)) result (spec.statements depth (lexemes tokens.now)) }
+{
+    let mut found = Vec::new(alloc);
+    let mut rest = tokens;
+    for _turn in 0..tokens.len() {
+        if !begins_statement(peek(rest)) {
+            break;
+        }
+        let (next, after) = statement(alloc, depth, rest)?;
+        found.push(next)?;
+        rest = same(after);
+    }
+    Ok((found, rest))
+}
+
+// The statements of a block, from its brace on. The brace is a nesting, and so is each statement inside.
+#[cycle(statement)]
+#[tactic(auto, using(crate::proofs::Inside::braces_zero, crate::proofs::Inside::braces_last, crate::proofs::Inside::braces_empty, crate::proofs::Inside::braces_below))]
+fn braces<'t, 'a>(
+    alloc: Global,
+    depth: usize,
+    tokens: &'t [Token<'a>],
+) -> Result<(Vec<Statement<'a>>, &'t [Token<'a>]), ParseError>
+    ensures { Gives (λ x. (map statement_tree x.0.items, lexemes x.1.now)) result (spec.braces depth (tail (lexemes tokens.now))) }
+{
+    let inside = open(depth, tokens)?;
+    let rest = skip(tokens);
+    if !begins_statement(peek(rest)) {
+        return Ok((Vec::new(alloc), rest));
+    }
+    let inside = open(inside, rest)?;
+    statements(alloc, inside, rest)
+}
+
+// A block, from its brace on.
+#[cycle(statement)]
+#[tactic(auto, unfolding(crate::specs::Parse::braced))]
+fn block<'t, 'a>(
+    alloc: Global,
+    depth: usize,
+    tokens: &'t [Token<'a>],
+) -> Result<(Statement<'a>, &'t [Token<'a>]), ParseError>
+    ensures { Gives (λ x. (statement_tree x.0, lexemes x.1.now)) result (spec.braced depth (spec.inside depth) (spec.braces depth) (tail (lexemes tokens.now))) }
+{
+    let (found, rest) = braces(alloc, depth, tokens)?;
+    let rest = expect(Sign::CloseBrace, rest)?;
+    Ok((Statement::Block(found), rest))
+}
+
+// What follows `if`, which stands at `position`.
+#[cycle(statement)]
+#[tactic(auto, unfolding(crate::specs::Parse::choice), using(crate::proofs::Inside::inside_below))]
+fn choice<'t, 'a>(
+    alloc: Global,
+    depth: usize,
+    position: Position,
+    tokens: &'t [Token<'a>],
+) -> Result<(Statement<'a>, &'t [Token<'a>]), ParseError>
+    ensures { Gives (λ x. (statement_tree x.0, lexemes x.1.now)) result (spec.choice depth (spec.inside depth) position (lexemes tokens.now)) }
+{
+    let (condition, rest) = test(alloc, depth, tokens)?;
+    let (first, rest) = statement(alloc, depth - 1, rest)?;
+    if !else_follows(rest) {
+        return Ok((if_then(alloc, position, condition, first)?, rest));
+    }
+    let (second, rest) = statement(alloc, depth - 1, skip(rest))?;
+    Ok((if_else(alloc, position, condition, first, second)?, rest))
+}
+
+// What follows `while`, which stands at `position`.
+#[cycle(statement)]
+#[tactic(auto, unfolding(crate::specs::Parse::repetition), using(crate::proofs::Inside::inside_below))]
+fn repetition<'t, 'a>(
+    alloc: Global,
+    depth: usize,
+    position: Position,
+    tokens: &'t [Token<'a>],
+) -> Result<(Statement<'a>, &'t [Token<'a>]), ParseError>
+    ensures { Gives (λ x. (statement_tree x.0, lexemes x.1.now)) result (spec.repetition depth (spec.inside depth) position (lexemes tokens.now)) }
+{
+    let (condition, rest) = test(alloc, depth, tokens)?;
+    let (body, rest) = statement(alloc, depth - 1, rest)?;
+    Ok((while_do(alloc, position, condition, body)?, rest))
+}
+
+// A statement in which `depth` nestings more may be opened, and the tokens after it.
+#[cycle(statement)]
+#[tactic(auto, unfolding(crate::specs::Parse::statement, crate::specs::Parse::statement_over, crate::specs::Parse::printed))]
+fn statement<'t, 'a>(
+    alloc: Global,
+    depth: usize,
+    tokens: &'t [Token<'a>],
+) -> Result<(Statement<'a>, &'t [Token<'a>]), ParseError>
+    ensures { Gives (λ x. (statement_tree x.0, lexemes x.1.now)) result (spec.statement depth (lexemes tokens.now)) }
+{
+    let first = peek(tokens);
+    let rest = skip(tokens);
+    match first.kind {
+        Kind::Sign(Sign::Semicolon) => Ok((Statement::Empty, rest)),
+        Kind::Sign(Sign::OpenBrace) => block(alloc, depth, tokens),
+        Kind::Text(bytes) => ended(Statement::Text(bytes), rest),
+        Kind::Reserved(Word::Print) => {
+            let (found, rest) = items(alloc, depth, rest)?;
+            ended(Statement::Print(found), rest)
+        }
+        Kind::Reserved(Word::PrintRet) => {
+            let (found, rest) = items(alloc, depth, rest)?;
+            ended(Statement::PrintReturn(found), rest)
+        }
+        Kind::Reserved(Word::NewLine) => ended(Statement::NewLine, rest),
+        Kind::Reserved(Word::If) => choice(alloc, depth, first.position, rest),
+        Kind::Reserved(Word::While) => repetition(alloc, depth, first.position, rest),
+        Kind::Reserved(Word::Return) => returned(alloc, depth, first.position, rest),
+        Kind::Reserved(Word::Rtrue) => ended(Statement::ReturnTrue, rest),
+        Kind::Reserved(Word::Rfalse) => ended(Statement::ReturnFalse, rest),
+        Kind::Reserved(Word::Quit) => ended(Statement::Quit, rest),
+        _ => alone(alloc, depth, tokens),
+    }
+}

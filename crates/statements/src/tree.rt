@@ -1,0 +1,46 @@
+//! Trees of statements.
+
+use expressions::Expression;
+use lexer::Position;
+
+/// What `print` prints.
+#[derive(Drop)]
+pub enum Item<'a> {
+    /// The bytes between the quotes of a text.
+    Text(&'a [u8]),
+
+    /// `(char)` and a value, with the position of the value's first token.
+    Character(Position, Expression<'a>),
+
+    /// A value, printed as a signed number, with the position of its first token.
+    Number(Position, Expression<'a>),
+}
+
+/// A statement. Where it has expressions, the position of its first token stands with it.
+#[derive(Drop)]
+pub enum Statement<'a> {
+    /// `;` alone.
+    Empty,
+
+    Block(Vec<Statement<'a>>),
+
+    /// A text alone: it is printed with a new line, and the routine returns true.
+    Text(&'a [u8]),
+
+    Print(Vec<Item<'a>>),
+    PrintReturn(Vec<Item<'a>>),
+    NewLine,
+    If(Position, Expression<'a>, Box<Statement<'a>>),
+    IfElse(Position, Expression<'a>, Box<Statement<'a>>, Box<Statement<'a>>),
+    While(Position, Expression<'a>, Box<Statement<'a>>),
+
+    /// `return` alone: true.
+    Return,
+    ReturnValue(Position, Expression<'a>),
+    ReturnTrue,
+    ReturnFalse,
+    Quit,
+
+    /// An assignment, a step or a call.
+    Effect(Position, Expression<'a>),
+}

@@ -1,0 +1,7 @@
+pub mod Names
+pub mod Weights
+pub mod Spelled
+pub mod Sound
+pub mod Ends
+pub mod Complete
+pub mod Main

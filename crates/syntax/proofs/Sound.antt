@@ -1,0 +1,120 @@
+-- What is read derives in the grammar and is nested no deeper than was allowed; and where the fault is that a token stands
+-- too deep, one does.
+use Rattle.std.proofs.Common.{◌≡◌, ℕ, suc, ◌-◌, ◌%◌, ◌≤◌, List, ◌∷◌, length, Some, None, refl, sym, ap, subst, ◌∙◌, arith}
+use Rattle.lexer.specs.declared.token.Position.{Position}
+use Rattle.lexer.specs.declared.token.Sign.TheVariants as s
+use Rattle.lexer.specs.declared.token.Word.TheVariants as w
+use Rattle.lexer.specs.Token.{Lexeme, name, number, character, reserved, sign, position_of}
+use Rattle.expressions.specs.Parse.{head, tail, is_sign, expect}
+use Rattle.expressions.proofs.Judged.{Judged, judged_read, judged_grammar, judged_then, judged_after, judged_by}
+use Rattle.expressions.proofs.Tokens.{at_sign, expect_ok, expect_not_deep}
+use Rattle.statements.specs.Tree.{trees_of}
+use Rattle.statements.specs.Grammar.{IsSs, body_nesting}
+use Rattle.statements.proofs.Sound.{repeated_judged, judged_Ss}
+use Rattle.syntax.specs.Tree.{number_value, named_value, DirectiveTree, global, constant, routine}
+use Rattle.syntax.specs.Grammar.{weight_of, IsK, k_number, k_negative, k_character, k_true, k_false, k_nothing, k_name, IsNames, names_stop, names_next, IsDirective, d_global, d_global_value, d_constant, d_routine, IsDirectives, directives_stop, directives_next, directive_nesting, directives_nesting}
+use Rattle.syntax.specs.Nesting.{DeepDirective, deep_d_routine, DeepProgram, deep_program_first, deep_program_next}
+use Rattle.syntax.specs.Parse.{named, is_name, names, value, ended, global_behind, constant_behind, goes_on, routine_at, directive, directives}
+
+-- ---- names and values: in them no token stands too deep
+
+pub named_judged : (ts : List Lexeme) → Judged (λ n r. ts ≡ name n.text n.position ∷ r) ⊥ (named ts)
+unfolding named
+named_judged (name n p ∷ ts) = judged_read (record { text = n; position = p }) ts refl
+named_judged _ = judged_grammar
+
+pub names_judged : (ts : List Lexeme) → Judged (λ ns r. IsNames ts ns r) ⊥ (names ts)
+unfolding names
+names_judged ts =
+    repeated_judged is_name named (λ us n r. us ≡ name n.text n.position ∷ r) (λ us ns r. IsNames us ns r) (λ us. ⊥) (λ us. ⊥)
+    (λ r. names_stop)
+    (λ us n m ns r q l. subst (λ v. IsNames v (n ∷ ns) r) (sym q) (names_next l))
+    (λ us e x. x)
+    (λ us n m q x. x)
+    named_judged (length ts) ts
+
+value_judged : (ts : List Lexeme) → Judged (λ k r. IsK ts k r) ⊥ (value ts)
+unfolding value
+value_judged (number n p ∷ ts) = judged_read (number_value n) ts k_number
+value_judged (character c p ∷ ts) = judged_read (number_value c) ts k_character
+value_judged (reserved w.True p ∷ ts) = judged_read (number_value 1) ts k_true
+value_judged (reserved w.False p ∷ ts) = judged_read (number_value 0) ts k_false
+value_judged (reserved w.Nothing p ∷ ts) = judged_read (number_value 0) ts k_nothing
+value_judged (name n p ∷ ts) = judged_read (named_value (record { text = n; position = p })) ts k_name
+value_judged (sign s.Minus p ∷ number n q ∷ ts) = judged_read (number_value ((65536 - n) % 65536)) ts k_negative
+value_judged _ = judged_grammar
+
+-- ---- directives
+
+ended_judged : {P : DirectiveTree → List Lexeme → Type 0} {C : Type 0} (x : DirectiveTree) (ts : List Lexeme) → ((p : Position) (r : List Lexeme) → ts ≡ sign s.Semicolon p ∷ r → P x r) → Judged P C (ended x ts)
+unfolding ended
+ended_judged x ts make =
+    judged_after (expect s.Semicolon ts) _
+    (λ r e. judged_read x r (make (position_of (head ts)) r (expect_ok s.Semicolon ts r e)))
+    (λ e. absurd (expect_not_deep s.Semicolon ts e))
+
+module _ (d : ℕ) where
+  global_judged : (p : Position) (ts : List Lexeme) → Judged (λ x r. IsDirective (reserved w.Global p ∷ ts) x r × (directive_nesting x ≤ d)) (DeepDirective (suc d) (reserved w.Global p ∷ ts)) (global_behind ts)
+  unfolding global_behind
+  global_judged p ts =
+      judged_then _ (named_judged ts)
+      (λ n r q. judged_by (is_sign s.Assign (head r)) _ _
+      (λ e.
+      let at = q ∙ ap (λ u. name n.text n.position ∷ u) (at_sign s.Assign r e) in
+      judged_then _ (value_judged (tail r))
+      (λ k u h. ended_judged (global n (Some k)) u (λ l v x. (subst (λ us. IsDirective (reserved w.Global p ∷ us) (global n (Some k)) v) (sym at) (d_global_value (subst (λ y. IsK (tail r) k y) x h)), omega arith)))
+      (λ x. absurd x))
+      (λ e. ended_judged (global n None) r (λ l v x. (subst (λ us. IsDirective (reserved w.Global p ∷ us) (global n None) v) (sym (q ∙ ap (λ u. name n.text n.position ∷ u) x)) d_global, omega arith))))
+      (λ x. absurd x)
+
+  constant_judged : (p : Position) (ts : List Lexeme) → Judged (λ x r. IsDirective (reserved w.Constant p ∷ ts) x r × (directive_nesting x ≤ d)) (DeepDirective (suc d) (reserved w.Constant p ∷ ts)) (constant_behind ts)
+  unfolding constant_behind
+  constant_judged p ts =
+      judged_then _ (named_judged ts)
+      (λ n r q. judged_after (expect s.Assign r) _
+      (λ m e.
+      let at = q ∙ ap (λ u. name n.text n.position ∷ u) (expect_ok s.Assign r m e) in
+      judged_then _ (value_judged m)
+      (λ k u h. ended_judged (constant n k) u (λ l v x. (subst (λ us. IsDirective (reserved w.Constant p ∷ us) (constant n k) v) (sym at) (d_constant (subst (λ y. IsK m k y) x h)), omega arith)))
+      (λ x. absurd x))
+      (λ e. absurd (expect_not_deep s.Assign r e)))
+      (λ x. absurd x)
+
+  routine_judged : (p : Position) (ts : List Lexeme) → Judged (λ x r. IsDirective (sign s.OpenBracket p ∷ ts) (routine x) r × (body_nesting x.body ≤ d)) (DeepDirective (suc d) (sign s.OpenBracket p ∷ ts)) (routine_at d (sign s.OpenBracket p ∷ ts))
+  unfolding routine_at
+  routine_judged p ts =
+      judged_then _ (named_judged ts)
+      (λ n a q. judged_then _ (names_judged a)
+      (λ ns b l. judged_after (expect s.Semicolon b) _
+      (λ m e.
+      let locals = subst (λ v. IsNames a ns v) (expect_ok s.Semicolon b m e) l in
+      judged_then _ (judged_Ss d m)
+      (λ xs c h. judged_after (expect s.CloseBracket c) _
+      (λ u f. judged_after (expect s.Semicolon u) _
+      (λ r g.
+      let closed = expect_ok s.CloseBracket c u f ∙ ap (λ v. sign s.CloseBracket (position_of (head c)) ∷ v) (expect_ok s.Semicolon u r g) in
+      judged_read _ r
+      (subst (λ us. IsDirective (sign s.OpenBracket p ∷ us) (routine (record { name = n; locals = ns; body = trees_of xs; weight = weight_of (sign s.OpenBracket p ∷ us) - weight_of r })) r) (sym q) (d_routine locals (subst (λ v. IsSs m (trees_of xs) v) closed h.0)), h.1))
+      (λ g. absurd (expect_not_deep s.Semicolon u g)))
+      (λ f. absurd (expect_not_deep s.CloseBracket c f)))
+      (λ x. subst (λ us. DeepDirective (suc d) (sign s.OpenBracket p ∷ us)) (sym q) (deep_d_routine locals x)))
+      (λ e. absurd (expect_not_deep s.Semicolon b e)))
+      (λ x. absurd x))
+      (λ x. absurd x)
+
+  directive_judged : (ts : List Lexeme) → Judged (λ x r. IsDirective ts x r × (directive_nesting x ≤ d)) (DeepDirective (suc d) ts) (directive d ts)
+  unfolding directive
+  directive_judged (reserved w.Global p ∷ ts) = global_judged p ts
+  directive_judged (reserved w.Constant p ∷ ts) = constant_judged p ts
+  directive_judged (sign s.OpenBracket p ∷ ts) = judged_then _ (routine_judged p ts) (λ x r h. judged_read (routine x) r h) (λ x. x)
+  directive_judged _ = judged_grammar
+
+  pub directives_judged : (ts : List Lexeme) → Judged (λ xs r. IsDirectives ts xs r × (directives_nesting xs ≤ d)) (DeepProgram (suc d) ts) (directives d ts)
+  unfolding directives
+  directives_judged ts =
+      repeated_judged goes_on (directive d) (λ us x r. IsDirective us x r × (directive_nesting x ≤ d)) (λ us xs r. IsDirectives us xs r × (directives_nesting xs ≤ d)) (DeepDirective (suc d)) (DeepProgram (suc d))
+      (λ r. (directives_stop, omega arith))
+      (λ us x m xs r q l. (directives_next q.0 l.0, omega (arith, q.1, l.1)))
+      (λ us e x. deep_program_first x)
+      (λ us x m q z. deep_program_next q.0 z)
+      directive_judged (length ts) ts

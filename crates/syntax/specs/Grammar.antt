@@ -1,0 +1,68 @@
+-- The grammar of programs: a relation between the tokens from a place on, the tree, and the tokens after it, with one
+-- case for each alternative.
+use Rattle.std.specs.Prelude.{◌+◌, ◌-◌, ◌*◌, ◌%◌, ℕ, max, List, [], ◌∷◌, length, Some, None}
+use Rattle.lexer.specs.declared.token.Position.{Position}
+use Rattle.lexer.specs.declared.token.Sign.TheVariants as s
+use Rattle.lexer.specs.declared.token.Word.TheVariants as w
+use Rattle.lexer.specs.Token.{Lexeme, name, number, text, character, reserved, sign, end}
+use Rattle.expressions.specs.Tree.{NameTree}
+use Rattle.statements.specs.Tree.{StatementTrees}
+use Rattle.statements.specs.Grammar.{IsSs, body_nesting}
+use Rattle.syntax.specs.Tree.{ValueTree, number_value, named_value, DirectiveTree, global, constant, routine, ProgramTree}
+
+-- The weight of tokens: 32 for each but the end, and 3 for each byte between the quotes of a text
+
+abbrev pub token_weight : Lexeme → ℕ
+token_weight (text s p) = 32 + 3 * length s
+token_weight (end p) = 0
+token_weight _ = 32
+
+abbrev pub weight_of : List Lexeme → ℕ
+weight_of [] = 0
+weight_of (t ∷ ts) = token_weight t + weight_of ts
+
+-- K = ["-"] number | char | name | "true" | "false" | "nothing"
+pub data IsK : List Lexeme → ValueTree → List Lexeme → Type 0 where
+  k_number : {r : List Lexeme} {p : Position} {n : ℕ} → IsK (number n p ∷ r) (number_value n) r
+  k_negative : {r : List Lexeme} {p q : Position} {n : ℕ} → IsK (sign s.Minus p ∷ number n q ∷ r) (number_value ((65536 - n) % 65536)) r
+  k_character : {r : List Lexeme} {p : Position} {c : ℕ} → IsK (character c p ∷ r) (number_value c) r
+  k_true : {r : List Lexeme} {p : Position} → IsK (reserved w.True p ∷ r) (number_value 1) r
+  k_false : {r : List Lexeme} {p : Position} → IsK (reserved w.False p ∷ r) (number_value 0) r
+  k_nothing : {r : List Lexeme} {p : Position} → IsK (reserved w.Nothing p ∷ r) (number_value 0) r
+  k_name : {r : List Lexeme} {p : Position} {n : List ℕ} → IsK (name n p ∷ r) (named_value (record { text = n; position = p })) r
+
+-- {name}
+pub data IsNames : List Lexeme → List NameTree → List Lexeme → Type 0 where
+  names_stop : {r : List Lexeme} → IsNames r [] r
+  names_next : {m r : List Lexeme} {p : Position} {n : List ℕ} {ns : List NameTree} → IsNames m ns r → IsNames (name n p ∷ m) (record { text = n; position = p } ∷ ns) r
+
+-- Directive = "global" name ["=" K] ";" | "constant" name "=" K ";" | "[" name {name} ";" {S} "]" ";"
+pub data IsDirective : List Lexeme → DirectiveTree → List Lexeme → Type 0 where
+  d_global : {r : List Lexeme} {p q o : Position} {n : List ℕ} → IsDirective (reserved w.Global p ∷ name n q ∷ sign s.Semicolon o ∷ r) (global (record { text = n; position = q }) None) r
+  d_global_value : {m r : List Lexeme} {p q o l : Position} {n : List ℕ} {k : ValueTree} → IsK m k (sign s.Semicolon l ∷ r) → IsDirective (reserved w.Global p ∷ name n q ∷ sign s.Assign o ∷ m) (global (record { text = n; position = q }) (Some k)) r
+  d_constant : {m r : List Lexeme} {p q o l : Position} {n : List ℕ} {k : ValueTree} → IsK m k (sign s.Semicolon l ∷ r) → IsDirective (reserved w.Constant p ∷ name n q ∷ sign s.Assign o ∷ m) (constant (record { text = n; position = q }) k) r
+  d_routine : {m k r : List Lexeme} {p q o l j : Position} {n : List ℕ} {ns : List NameTree} {xs : StatementTrees} → IsNames m ns (sign s.Semicolon o ∷ k) → IsSs k xs (sign s.CloseBracket l ∷ sign s.Semicolon j ∷ r)
+      → IsDirective (sign s.OpenBracket p ∷ name n q ∷ m) (routine (record { name = record { text = n; position = q }; locals = ns; body = xs; weight = weight_of (sign s.OpenBracket p ∷ name n q ∷ m) - weight_of r })) r
+
+-- {Directive}
+pub data IsDirectives : List Lexeme → List DirectiveTree → List Lexeme → Type 0 where
+  directives_stop : {r : List Lexeme} → IsDirectives r [] r
+  directives_next : {ts m r : List Lexeme} {d : DirectiveTree} {ds : List DirectiveTree} → IsDirective ts d m → IsDirectives m ds r → IsDirectives ts (d ∷ ds) r
+
+-- Program = {Directive}, up to the end
+pub data IsProgram : List Lexeme → ProgramTree → Type 0 where
+  program : {ts : List Lexeme} {p : Position} {ds : List DirectiveTree} → IsDirectives ts ds (end p ∷ []) → IsProgram ts (record { directives = ds; end = p; weight = weight_of ts })
+
+-- How deep a program is nested
+
+abbrev pub directive_nesting : DirectiveTree → ℕ
+directive_nesting (global n k) = 0
+directive_nesting (constant n k) = 0
+directive_nesting (routine r) = body_nesting r.body
+
+abbrev pub directives_nesting : List DirectiveTree → ℕ
+directives_nesting [] = 0
+directives_nesting (d ∷ ds) = max (directive_nesting d) (directives_nesting ds)
+
+abbrev pub program_nesting : ProgramTree → ℕ
+program_nesting p = directives_nesting p.directives

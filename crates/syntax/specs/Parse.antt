@@ -1,0 +1,110 @@
+-- Programs, read from left to right: functions from a list of tokens to a tree and the tokens after it.
+use Rattle.std.specs.Prelude.{◌-◌, ◌%◌, if◌then◌else◌, Bool, true, false, ℕ, List, [], ◌∷◌, length, Option, Some, None, Result, Ok, Err}
+use Rattle.lexer.specs.declared.token.Position.{Position}
+use Rattle.lexer.specs.declared.token.Sign.TheVariants as s
+use Rattle.lexer.specs.declared.token.Word.TheVariants as w
+use Rattle.lexer.specs.Token.{Lexeme, name, number, character, reserved, sign, end}
+use Rattle.expressions.specs.declared.error.Fault.{Fault}
+use Rattle.expressions.specs.declared.error.Fault.TheVariants.{Grammar}
+use Rattle.expressions.specs.Tree.{NameTree}
+use Rattle.expressions.specs.Parse.{Parse, ◌>>=◌, head, tail, is_sign, expect}
+use Rattle.statements.specs.Tree.{trees_of}
+use Rattle.statements.specs.Parse.{repeated, statements}
+use Rattle.syntax.specs.Tree.{ValueTree, number_value, named_value, RoutineTree, DirectiveTree, global, constant, routine, ProgramTree}
+use Rattle.syntax.specs.Grammar.{weight_of}
+
+-- ---- names and values
+
+abbrev pub named_on : Lexeme → Parse NameTree
+named_on (name n p) ts = Ok (record { text = n; position = p }, ts)
+named_on _ ts = Err Grammar
+
+unfoldable pub named : Parse NameTree
+named ts = named_on (head ts) (tail ts)
+
+abbrev pub is_name : Lexeme → Bool
+is_name (name _ _) = true
+is_name _ = false
+
+unfoldable pub names : Parse (List NameTree)
+names ts = repeated is_name named (length ts) ts
+
+abbrev pub negative_on : Lexeme → Parse ValueTree
+negative_on (number n p) ts = Ok (number_value ((65536 - n) % 65536), ts)
+negative_on _ ts = Err Grammar
+
+abbrev pub value_on : Lexeme → Parse ValueTree
+value_on (number n p) ts = Ok (number_value n, ts)
+value_on (character c p) ts = Ok (number_value c, ts)
+value_on (reserved w.True p) ts = Ok (number_value 1, ts)
+value_on (reserved w.False p) ts = Ok (number_value 0, ts)
+value_on (reserved w.Nothing p) ts = Ok (number_value 0, ts)
+value_on (name n p) ts = Ok (named_value (record { text = n; position = p }), ts)
+value_on (sign s.Minus p) ts = negative_on (head ts) (tail ts)
+value_on _ ts = Err Grammar
+
+unfoldable pub value : Parse ValueTree
+value ts = value_on (head ts) (tail ts)
+
+-- ---- directives, behind their first token
+
+unfoldable pub ended : DirectiveTree → Parse DirectiveTree
+ended d ts = expect s.Semicolon ts >>= λ r. Ok (d, r)
+
+unfoldable pub global_behind : Parse DirectiveTree
+global_behind ts = do
+  n ← named ts
+  if is_sign s.Assign (head n.1) then (value (tail n.1) >>= λ k. ended (global n.0 (Some k.0)) k.1)
+      else ended (global n.0 None) n.1
+
+unfoldable pub constant_behind : Parse DirectiveTree
+constant_behind ts = do
+  n ← named ts
+  m ← expect s.Assign n.1
+  k ← value m
+  ended (constant n.0 k.0) k.1
+
+-- ---- programs
+
+-- the source goes on
+abbrev pub goes_on : Lexeme → Bool
+goes_on (end _) = false
+goes_on _ = true
+
+-- where the end stands, if it alone is left
+abbrev pub end_alone : List Lexeme → Option Position
+end_alone (end p ∷ []) = Some p
+end_alone _ = None
+
+-- a program of these directives and all of these tokens
+abbrev pub whole : List Lexeme → List DirectiveTree → Option Position → Result ProgramTree Fault
+whole ts ds (Some p) = Ok (record { directives = ds; end = p; weight = weight_of ts })
+whole ts ds None = Err Grammar
+
+-- where d nestings may be opened in a statement
+module _ (d : ℕ) where
+  -- a routine, from its bracket on
+  unfoldable pub routine_at : Parse RoutineTree
+  routine_at ts = do
+    n ← named (tail ts)
+    ns ← names n.1
+    m ← expect s.Semicolon ns.1
+    xs ← statements d m
+    u ← expect s.CloseBracket xs.1
+    r ← expect s.Semicolon u
+    Ok (record { name = n.0; locals = ns.0; body = trees_of xs.0; weight = weight_of ts - weight_of r }, r)
+
+  abbrev pub directive_on : Lexeme → Parse DirectiveTree
+  directive_on (reserved w.Global p) ts = global_behind (tail ts)
+  directive_on (reserved w.Constant p) ts = constant_behind (tail ts)
+  directive_on (sign s.OpenBracket p) ts = routine_at ts >>= λ x. Ok (routine x.0, x.1)
+  directive_on _ ts = Err Grammar
+
+  unfoldable pub directive : Parse DirectiveTree
+  directive ts = directive_on (head ts) ts
+
+  unfoldable pub directives : Parse (List DirectiveTree)
+  directives ts = repeated goes_on directive (length ts) ts
+
+  unfoldable pub program : List Lexeme → Result ProgramTree Fault
+  program ts = directives ts >>= λ ds. whole ts ds.0 (end_alone ds.1)

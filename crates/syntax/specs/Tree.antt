@@ -1,0 +1,52 @@
+-- Trees of programs, without where they lie in memory.
+use Rattle.std.specs.Prelude.{ℕ, List, map, Option, Some, None}
+use Rattle.lexer.specs.declared.token.Position.{Position}
+use Rattle.expressions.specs.Tree.{NameTree, name_tree}
+use Rattle.statements.specs.Tree.{StatementTrees, statement_tree, trees_of}
+use Rattle.syntax.specs.declared.tree.Value.{Value}
+use Rattle.syntax.specs.declared.tree.Value.TheVariants as values
+use Rattle.syntax.specs.declared.tree.Routine.{Routine}
+use Rattle.syntax.specs.declared.tree.Directive.{Directive}
+use Rattle.syntax.specs.declared.tree.Directive.TheVariants as directives
+use Rattle.syntax.specs.declared.tree.Program.{Program}
+
+pub data ValueTree : Type 0 where
+  number_value : ℕ → ValueTree
+  named_value : NameTree → ValueTree
+
+pub record RoutineTree : Type 0 where
+  pub name : NameTree
+  pub locals : List NameTree
+  pub body : StatementTrees
+  pub weight : ℕ
+
+pub data DirectiveTree : Type 0 where
+  global : NameTree → Option ValueTree → DirectiveTree
+  constant : NameTree → ValueTree → DirectiveTree
+  routine : RoutineTree → DirectiveTree
+
+pub record ProgramTree : Type 0 where
+  pub directives : List DirectiveTree
+  pub end : Position
+  pub weight : ℕ
+
+-- The tree of a program of the code
+
+abbrev pub value_tree : Value → ValueTree
+value_tree (values.Number n) = number_value n
+value_tree (values.Named n) = named_value (name_tree n)
+
+abbrev pub optional_tree : Option Value → Option ValueTree
+optional_tree None = None
+optional_tree (Some v) = Some (value_tree v)
+
+abbrev pub routine_tree : Routine → RoutineTree
+routine_tree r = record { name = name_tree r.name; locals = map name_tree r.locals.items; body = trees_of (map statement_tree r.body.items); weight = r.weight }
+
+abbrev pub directive_tree : Directive → DirectiveTree
+directive_tree (directives.Global n v) = global (name_tree n) (optional_tree v)
+directive_tree (directives.Constant n v) = constant (name_tree n) (value_tree v)
+directive_tree (directives.Routine r) = routine (routine_tree r)
+
+abbrev pub program_tree : Program → ProgramTree
+program_tree p = record { directives = map directive_tree p.directives.items; end = p.end; weight = p.weight }

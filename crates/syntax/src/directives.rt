@@ -1,0 +1,131 @@
+//! Directives, read from tokens.
+
+ghost use Rattle.std.specs.Prelude.{◌≡◌, map, length};
+ghost use Rattle.lexer.specs.Token.{lexeme, lexemes};
+ghost use Rattle.expressions.specs.Parse.{Gives, tail};
+ghost use Rattle.syntax.specs.Tree.{routine_tree, directive_tree};
+ghost use Rattle.syntax.specs.Parse as spec;
+
+use crate::tree::{Directive, Routine};
+use crate::values::{named, names, value};
+use crate::weight::weight_before;
+use expressions::{Fault, ParseError, expect, fault_at, is_sign, peek, skip};
+use lexer::{Kind, Sign, Token, Word};
+use statements::statements;
+use std::alloc::Global;
+
+// How many nestings may be opened in a statement of a routine.
+const MOST_NESTED: usize = 100;
+
+// The directive, behind its `;`.
+#[tactic(auto, unfolding(crate::specs::Parse::ended))]
+fn ended<'t, 'a>(
+    directive: Directive<'a>,
+    tokens: &'t [Token<'a>],
+) -> Result<(Directive<'a>, &'t [Token<'a>]), ParseError>
+    ensures { Gives (λ x. (directive_tree x.0, lexemes x.1.now)) result (spec.ended (directive_tree directive.entry) (lexemes tokens.now)) }
+{
+    let rest = expect(Sign::Semicolon, tokens)?;
+    Ok((directive, rest))
+}
+
+// What follows `global`.
+#[tactic(auto, unfolding(crate::specs::Parse::global_behind))]
+fn global<'t, 'a>(tokens: &'t [Token<'a>]) -> Result<(Directive<'a>, &'t [Token<'a>]), ParseError>
+    ensures { Gives (λ x. (directive_tree x.0, lexemes x.1.now)) result (spec.global_behind (lexemes tokens.now)) }
+{
+    let (name, rest) = named(tokens)?;
+    if !is_sign(peek(rest), Sign::Assign) {
+        return ended(Directive::Global(name, None), rest);
+    }
+    let (first, rest) = value(skip(rest))?;
+    ended(Directive::Global(name, Some(first)), rest)
+}
+
+// What follows `constant`.
+#[tactic(auto, unfolding(crate::specs::Parse::constant_behind))]
+fn constant<'t, 'a>(tokens: &'t [Token<'a>]) -> Result<(Directive<'a>, &'t [Token<'a>]), ParseError>
+    ensures { Gives (λ x. (directive_tree x.0, lexemes x.1.now)) result (spec.constant_behind (lexemes tokens.now)) }
+{
+    let (name, rest) = named(tokens)?;
+    let rest = expect(Sign::Assign, rest)?;
+    let (value, rest) = value(rest)?;
+    ended(Directive::Constant(name, value), rest)
+}
+
+// A routine, from its bracket on.
+#[tactic(auto, unfolding(crate::specs::Parse::routine_at), using(crate::proofs::Ends::routine_ends))]
+fn routine<'t, 'a>(
+    alloc: Global,
+    tokens: &'t [Token<'a>],
+) -> Result<(Routine<'a>, &'t [Token<'a>]), ParseError>
+    ensures { Gives (λ x. (routine_tree x.0, lexemes x.1.now)) result (spec.routine_at 100 (lexemes tokens.now)) }
+{
+    let (name, rest) = named(skip(tokens))?;
+    let (locals, rest) = names(alloc, rest)?;
+    let first = expect(Sign::Semicolon, rest)?;
+    let (body, rest) = statements(alloc, MOST_NESTED, first)?;
+    let closed = expect(Sign::CloseBracket, rest)?;
+    let rest = expect(Sign::Semicolon, closed)?;
+    let weight = weight_before(tokens, rest);
+    let found = Routine {
+        name,
+        locals,
+        body,
+        weight,
+    };
+    Ok((found, rest))
+}
+
+// The directive that comes next.
+#[tactic(auto, unfolding(crate::specs::Parse::directive))]
+fn directive<'t, 'a>(
+    alloc: Global,
+    tokens: &'t [Token<'a>],
+) -> Result<(Directive<'a>, &'t [Token<'a>]), ParseError>
+    ensures { Gives (λ x. (directive_tree x.0, lexemes x.1.now)) result (spec.directive 100 (lexemes tokens.now)) }
+{
+    match peek(tokens).kind {
+        Kind::Reserved(Word::Global) => global(skip(tokens)),
+        Kind::Reserved(Word::Constant) => constant(skip(tokens)),
+        Kind::Sign(Sign::OpenBracket) => {
+            let (found, rest) = routine(alloc, tokens)?;
+            Ok((Directive::Routine(found), rest))
+        }
+        _ => Err(fault_at(Fault::Grammar, tokens)),
+    }
+}
+
+fn goes_on(token: Token<'_>) -> bool
+    ensures { result ≡ spec.goes_on (lexeme token.entry) }
+{
+    !matches!(token.kind, Kind::End)
+}
+
+// The same tokens, as a slice of its own.
+fn same<'t, 'a>(tokens: &'t [Token<'a>]) -> &'t [Token<'a>]
+    ensures { result.now ≡ tokens.now }
+{
+    tokens
+}
+
+/// Directives, up to the end.
+#[tactic(auto, unfolding(crate::specs::Parse::directives), using(statements::proofs::Loops::repeated_out, statements::proofs::Loops::repeated_done, statements::proofs::Loops::repeated_more, statements::proofs::Loops::repeated_fails, statements::proofs::Loops::joined_none))]
+pub fn directives<'t, 'a>(
+    alloc: Global,
+    tokens: &'t [Token<'a>],
+) -> Result<(Vec<Directive<'a>>, &'t [Token<'a>]), ParseError>
+    ensures { Gives (λ x. (map directive_tree x.0.items, lexemes x.1.now)) result (spec.directives 100 (lexemes tokens.now)) }
+{
+    let mut found = Vec::new(alloc);
+    let mut rest = tokens;
+    for _turn in 0..tokens.len() {
+        if !goes_on(peek(rest)) {
+            break;
+        }
+        let (next, after) = directive(alloc, rest)?;
+        found.push(next)?;
+        rest = same(after);
+    }
+    Ok((found, rest))
+}

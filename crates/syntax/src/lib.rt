@@ -1,0 +1,16 @@
+//! Whole programs: their trees, and the parser that reads them.
+#![tactic(auto)]
+
+mod directives;
+mod program;
+#[cfg(test)]
+mod tests;
+mod tree;
+mod values;
+mod weight;
+
+pub use expressions::{Binary, Comparison, Equality, Expression, Name, Prefix, Step};
+pub use lexer::{Kind, Position, Sign, SourceFault, Token, Word, lex};
+pub use program::{one_tree, parse};
+pub use statements::{Item, Statement};
+pub use tree::{Directive, Program, Routine, Value};

@@ -1,0 +1,85 @@
+//! Whole programs, read from tokens.
+
+ghost use Rattle.std.specs.Prelude.{◌≡◌, ◌≤◌, ◌<◌, ◌⊎◌, ◌∷◌, [], IfOk, IfErr, List};
+ghost use Rattle.lexer.specs.Token.{Lexeme, lexeme, lexemes};
+ghost use Rattle.expressions.specs.Parse.{Gives};
+ghost use Rattle.syntax.specs.Answers.{IfNumber, Answers};
+ghost use Rattle.syntax.specs.Grammar.{IsProgram, program_nesting};
+ghost use Rattle.syntax.specs.Nesting.{DeepProgram};
+ghost use Rattle.syntax.specs.Tree.{ProgramTree, program_tree};
+ghost use Rattle.syntax.specs.Parse as spec;
+
+use crate::directives::directives;
+use crate::tree::Program;
+use crate::weight::weight_of;
+use expressions::{Fault, ParseError, fault_at};
+use lexer::{Kind, Position, SourceFault, Token};
+use std::alloc::Global;
+
+// Where the token stands, if it is the end.
+fn end_of(token: Token<'_>) -> Option<Position>
+    ensures { result ≡ spec.end_alone (lexeme token.entry ∷ []) }
+{
+    match token.kind {
+        Kind::End => Some(token.position),
+        _ => None,
+    }
+}
+
+// Where the end stands, if it alone is left.
+#[tactic(auto, using(crate::proofs::Main::more_than_end))]
+fn end_alone(tokens: &[Token<'_>]) -> Option<Position>
+    ensures { result ≡ spec.end_alone (lexemes tokens.now) }
+{
+    match tokens {
+        [] => None,
+        [last] => end_of(*last),
+        [_, _, ..] => None,
+    }
+}
+
+#[tactic(auto, unfolding(crate::specs::Parse::program))]
+fn program<'a>(alloc: Global, tokens: &[Token<'a>]) -> Result<Program<'a>, ParseError>
+    ensures { Gives program_tree result (spec.program 100 (lexemes tokens.now)) }
+{
+    let (directives, rest) = directives(alloc, tokens)?;
+    let Some(end) = end_alone(rest) else {
+        return Err(fault_at(Fault::Grammar, rest));
+    };
+    Ok(Program {
+        directives,
+        end,
+        weight: weight_of(tokens),
+    })
+}
+
+/// The program that the tokens of a source are, up to its end, which is the last of them and no other.
+///
+/// ```text
+/// Program = {Directive}
+/// Directive = "global" name ["=" K] ";" | "constant" name "=" K ";" | "[" name {name} ";" {S} "]" ";"
+/// K = ["-"] number | char | name | "true" | "false" | "nothing"
+/// ```
+///
+/// where S is a statement. A program is nested at most 100 deep.
+///
+/// E10: the tokens are not in the grammar, at the first with which no derivation goes on. E05: a token stands more than 100
+/// nestings deep. Both have that token's line. E99, with line 0: a growth of memory is refused.
+pub fn parse<'a>(alloc: Global, tokens: &[Token<'a>]) -> Result<Program<'a>, SourceFault>
+    // What is read derives.
+    ensures found { IfOk result (λ p. IsProgram (lexemes tokens.now) (program_tree p) × (program_nesting (program_tree p) ≤ 100)) }
+    // What derives is read.
+    ensures only { (p : ProgramTree) → IsProgram (lexemes tokens.now) p → program_nesting p ≤ 100 → Answers result p }
+    // When each fault comes.
+    ensures grammar { IfNumber result 10 ((p : ProgramTree) → IsProgram (lexemes tokens.now) p → ⊥) }
+    ensures deep { IfNumber result 5 (DeepProgram 101 (lexemes tokens.now) × ((p : ProgramTree) → IsProgram (lexemes tokens.now) p → 100 < program_nesting p)) }
+    ensures numbers { IfErr result (λ f. (f.number ≡ 5) ⊎ (f.number ≡ 10) ⊎ (f.number ≡ 99)) }
+{
+    let found = program(alloc, tokens)?;
+    Ok(found)
+}
+
+/// A list of tokens has at most one program.
+pub fn one_tree()
+    ensures { (ts : List Lexeme) (a b : ProgramTree) → IsProgram ts a → IsProgram ts b → a ≡ b }
+{}

@@ -1,0 +1,50 @@
+//! Trees of programs.
+
+use expressions::Name;
+use lexer::Position;
+use statements::Statement;
+
+/// A value that is known before a story runs.
+#[derive(Clone, Copy, Debug)]
+pub enum Value<'a> {
+    /// A number, with its sign as a word; a character; `true` is 1, `false` and `nothing` are 0.
+    Number(u16),
+
+    /// The value of a name.
+    Named(Name<'a>),
+}
+
+/// A routine: its name, its locals, and its statements.
+#[derive(Drop)]
+pub struct Routine<'a> {
+    pub name: Name<'a>,
+    pub locals: Vec<Name<'a>>,
+    pub body: Vec<Statement<'a>>,
+
+    /// 32 for each token from its `[` to the `;` after its `]`, and 3 for each byte between the quotes of a text.
+    pub weight: u128,
+}
+
+/// A definition of the file.
+#[derive(Drop)]
+pub enum Directive<'a> {
+    /// A global variable, and the value that it begins with; 0 where none is given.
+    Global(Name<'a>, Option<Value<'a>>),
+
+    /// A name for a value.
+    Constant(Name<'a>, Value<'a>),
+
+    Routine(Routine<'a>),
+}
+
+/// A program.
+#[derive(Drop)]
+pub struct Program<'a> {
+    pub directives: Vec<Directive<'a>>,
+
+    /// The end of the source.
+    pub end: Position,
+
+    /// 32 for each token but the end, and 3 for each byte between the quotes of a text.
+    pub weight: u128,
+}

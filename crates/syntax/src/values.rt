@@ -1,0 +1,91 @@
+//! Names and values, read from tokens.
+
+ghost use Rattle.std.specs.Prelude.{◌≡◌, map, MatchOption, false};
+ghost use Rattle.lexer.specs.Token.{lexeme, lexemes, name};
+ghost use Rattle.expressions.specs.Tree.{name_tree};
+ghost use Rattle.expressions.specs.Parse.{Gives, head, tail};
+ghost use Rattle.syntax.specs.Tree.{value_tree};
+ghost use Rattle.syntax.specs.Parse as spec;
+
+use crate::tree::Value;
+use expressions::{Fault, Name, ParseError, fault_at, peek, skip};
+use lexer::{Kind, Sign, Token, Word};
+use std::alloc::Global;
+
+fn name_of<'a>(token: Token<'a>) -> Option<Name<'a>>
+    ensures { MatchOption result (spec.is_name (lexeme token.entry) ≡ false) (λ n. lexeme token.entry ≡ name n.text.now n.position) }
+{
+    match token.kind {
+        Kind::Name(text) => Some(Name {
+            text,
+            position: token.position,
+        }),
+        _ => None,
+    }
+}
+
+/// The name that comes next.
+#[tactic(auto, using(crate::proofs::Names::named_at, crate::proofs::Names::named_none))]
+pub fn named<'t, 'a>(tokens: &'t [Token<'a>]) -> Result<(Name<'a>, &'t [Token<'a>]), ParseError>
+    ensures { Gives (λ x. (name_tree x.0, lexemes x.1.now)) result (spec.named (lexemes tokens.now)) }
+{
+    let Some(name) = name_of(peek(tokens)) else {
+        return Err(fault_at(Fault::Grammar, tokens));
+    };
+    Ok((name, skip(tokens)))
+}
+
+/// Names, up to a token that is none.
+#[tactic(auto, unfolding(crate::specs::Parse::names), using(crate::proofs::Names::names_more, statements::proofs::Loops::repeated_out, statements::proofs::Loops::repeated_done, statements::proofs::Loops::joined_none))]
+pub fn names<'t, 'a>(
+    alloc: Global,
+    tokens: &'t [Token<'a>],
+) -> Result<(Vec<Name<'a>>, &'t [Token<'a>]), ParseError>
+    ensures { Gives (λ x. (map name_tree x.0.items, lexemes x.1.now)) result (spec.names (lexemes tokens.now)) }
+{
+    let mut found = Vec::new(alloc);
+    let mut rest = tokens;
+    for _turn in 0..tokens.len() {
+        let Some(name) = name_of(peek(rest)) else {
+            break;
+        };
+        found.push(name)?;
+        rest = skip(rest);
+    }
+    Ok((found, rest))
+}
+
+// The number behind a `-`.
+fn negative<'t, 'a>(tokens: &'t [Token<'a>]) -> Result<(Value<'a>, &'t [Token<'a>]), ParseError>
+    ensures { Gives (λ x. (value_tree x.0, lexemes x.1.now)) result (spec.negative_on (head (lexemes tokens.now)) (tail (lexemes tokens.now))) }
+{
+    match peek(tokens).kind {
+        Kind::Number(number) => Ok((Value::Number(number.wrapping_neg()), skip(tokens))),
+        _ => Err(fault_at(Fault::Grammar, tokens)),
+    }
+}
+
+/// A value that is known before a story runs.
+#[tactic(auto, unfolding(crate::specs::Parse::value))]
+pub fn value<'t, 'a>(tokens: &'t [Token<'a>]) -> Result<(Value<'a>, &'t [Token<'a>]), ParseError>
+    ensures { Gives (λ x. (value_tree x.0, lexemes x.1.now)) result (spec.value (lexemes tokens.now)) }
+{
+    let first = peek(tokens);
+    let rest = skip(tokens);
+    match first.kind {
+        Kind::Number(number) => Ok((Value::Number(number), rest)),
+        Kind::Character(character) => Ok((Value::Number(character as u16), rest)),
+        Kind::Reserved(Word::True) => Ok((Value::Number(1), rest)),
+        Kind::Reserved(Word::False) => Ok((Value::Number(0), rest)),
+        Kind::Reserved(Word::Nothing) => Ok((Value::Number(0), rest)),
+        Kind::Name(text) => {
+            let name = Name {
+                text,
+                position: first.position,
+            };
+            Ok((Value::Named(name), rest))
+        }
+        Kind::Sign(Sign::Minus) => negative(rest),
+        _ => Err(fault_at(Fault::Grammar, tokens)),
+    }
+}
