@@ -8,3 +8,7 @@ pub mod Forms
 pub mod Directives
 pub mod Locals
 pub mod Whole
+pub mod Unbroken
+pub mod Bindings
+pub mod Acceptance
+pub mod Printable

@@ -12,3 +12,5 @@ pub mod Accepted
 pub mod Noted
 pub mod Scope
 pub mod Walk
+pub mod Printable
+pub mod Laws

@@ -8,6 +8,7 @@ mod checked;
 mod directive_rules;
 mod expression_rules;
 mod key;
+mod laws;
 mod main_rules;
 mod names;
 mod note;
@@ -21,5 +22,6 @@ mod tests;
 
 pub use check_program::check;
 pub use checked::{Checked, CheckedRoutine};
+pub use laws::{accepted_programs, printable_programs};
 pub use resolved::{CheckedItem, CheckedStatement, Evaluation, Variable};
 pub use sizes::test_sizes;

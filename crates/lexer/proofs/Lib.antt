@@ -11,3 +11,4 @@ pub mod Contents
 pub mod Loop
 pub mod Unique
 pub mod Samples
+pub mod Printable

@@ -1,13 +1,16 @@
 -- The definitions at worked examples.
-use Rattle.std.proofs.Common.{◌≡◌, ℕ, zero, suc, Bool, cond, [], ◌∷◌, ◌++◌, Ok, refl}
+use Rattle.std.proofs.Common.{◌≡◌, ℕ, zero, suc, Bool, cond, [], ◌∷◌, ◌++◌, Ok, refl, arith}
 use Rattle.std.specs.Prelude.{codes}
+use Rattle.std.proofs.lemmas.List.Elements.{All-nil, All-cons, All-head}
 use Rattle.lexer.specs.declared.bytes.Base.TheVariants as bases
+use Rattle.lexer.specs.declared.token.Position.{Position}
 use Rattle.lexer.specs.declared.token.Sign.TheVariants as s
 use Rattle.lexer.specs.declared.token.Word.TheVariants as w
 use Rattle.lexer.specs.Bytes.{is_source_byte, is_letter, is_name_byte, is_text_byte, is_word_byte, is_character, is_comment_byte, is_digit_of, value_from, run}
-use Rattle.lexer.specs.Token.{end}
+use Rattle.lexer.specs.Token.{text, end}
 use Rattle.lexer.specs.Spelling.{sign_spelling, IsReserved}
 use Rattle.lexer.specs.Tokens.{Lexes, at_end, divider, comment}
+use Rattle.lexer.specs.Printable.{IsPrintable, HasPrintableText}
 
 -- how many numbers below n pass
 abbrev count_below : (ℕ → Bool) → ℕ → ℕ
@@ -59,3 +62,9 @@ last_line = divider refl (divider refl at_end)
 long_comment : Lexes 0 1 (codes "!a" ++ 13 ∷ codes "b") (Ok (record { lexeme = end (record { offset = 4; line = 1 }); text = []; end = 4 } ∷ []))
 unfolding run
 long_comment = comment refl at_end
+
+text_prints : (p : Position) → HasPrintableText (text (codes "~") p)
+text_prints p = All-cons IsPrintable 126 [] (omega arith, omega arith) (All-nil IsPrintable)
+
+line_feed_does_not : (p : Position) → HasPrintableText (text (10 ∷ []) p) → ⊥
+line_feed_does_not p h = let printable = All-head IsPrintable 10 [] h in omega (arith, printable.0)

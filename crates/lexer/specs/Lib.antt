@@ -4,3 +4,4 @@ pub mod Spelling
 pub mod Tokens
 pub mod Results
 pub mod Fronts
+pub mod Printable

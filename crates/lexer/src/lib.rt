@@ -3,6 +3,7 @@
 
 mod bytes;
 mod fault;
+mod laws;
 mod names;
 mod numbers;
 mod quoted;
@@ -19,5 +20,6 @@ pub use fault::{
     ROUTINE_TOO_LARGE, STORY_TOO_LARGE, STRAY_BYTE, SourceFault, TABLES_TOO_LARGE, TOO_MANY,
     TOO_MANY_ARGUMENTS, UNKNOWN_NAME, WRONG_KIND,
 };
+pub use laws::printable_tokens;
 pub use source::{lex, one_outcome};
 pub use token::{Kind, Position, Sign, Token, Word};

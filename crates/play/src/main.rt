@@ -3,11 +3,9 @@
 
 mod words;
 
-use crate::words::{command, words_of};
-use journal::Recorded;
-use machine::Machine;
+use crate::words::{Words, command, words_of};
+use session::{Session, run};
 use std::fmt::Display;
-use std::io::Write;
 use std::process::ExitCode;
 use std::{env, fs};
 use tools::status;
@@ -15,7 +13,7 @@ use tools::status;
 /// The exit status where the story cannot be played.
 const REFUSED: u8 = 1;
 
-/// The exit status where writing failed.
+/// The exit status where reading or writing failed.
 const BROKEN: u8 = 5;
 
 fn main(rt: HostRuntime) -> ExitCode {
@@ -31,10 +29,7 @@ fn main(rt: HostRuntime) -> ExitCode {
         return refuse(&rt, "cannot read the command line");
     };
     match command.try_get_matches_from(given.as_slice()) {
-        Ok(matches) => {
-            let words = words_of(&matches);
-            play(&rt, words.story, words.fuel)
-        }
+        Ok(matches) => play(&rt, words_of(&matches)),
         Err(error) => {
             let status = if error.use_stderr() { REFUSED } else { 0 };
             match error.print(&rt) {
@@ -51,33 +46,21 @@ fn refuse<W: Display + Drop>(rt: &HostRuntime, why: W) -> ExitCode {
     ExitCode::from(REFUSED)
 }
 
-/// Plays the opening of a story file, whose text goes to standard output.
-fn play(rt: &HostRuntime, name: &str, fuel: u32) -> ExitCode {
-    let alloc = rt.alloc();
-    let Ok(story) = fs::read(rt, name) else {
-        return refuse(rt, format_args!("cannot read {name}"));
+/// Plays a story file on the lines of standard input. The transcript goes to standard output, each reply as soon as its
+/// line was read.
+fn play(rt: &HostRuntime, words: Words<'_>) -> ExitCode {
+    let Ok(story) = fs::read(rt, words.story) else {
+        return refuse(rt, format_args!("cannot read {}", words.story));
     };
-    let (machine, store) = match Machine::load(alloc, story) {
-        Ok(loaded) => loaded,
+    let mut session = match Session::open_with(rt.alloc(), story, words.fuel, words.keep) {
+        Ok(session) => session,
         Err(fault) => return refuse(rt, fault),
     };
-    let mut store = Recorded::new(alloc, store);
-    let mut text = Vec::new(alloc);
-    let Ok(place) = machine.turn(None, fuel, &mut store, &mut text) else {
-        return refuse(rt, "S3");
-    };
-    match tell(rt, &text) {
-        Ok(()) => ExitCode::from(status(&place)),
-        Err(_) => {
-            let _ = eprintln!(rt; "play: S2");
+    match run(&mut rt.stdin(), &mut rt.stdout(), &mut session) {
+        Ok(place) => ExitCode::from(status(&place)),
+        Err(fault) => {
+            let _ = eprintln!(rt; "play: {fault}");
             ExitCode::from(BROKEN)
         }
     }
-}
-
-/// Writes a text to standard output.
-fn tell(rt: &HostRuntime, text: &[u8]) -> std::io::Result<()> {
-    let mut output = rt.stdout();
-    output.write_all(text)?;
-    output.flush()
 }

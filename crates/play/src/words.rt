@@ -1,6 +1,6 @@
 //! The words of the command line.
 
-use clap::{Arg, ArgAction, ArgMatches, Command, Error, value_parser};
+use clap::{Arg, ArgAction, ArgMatches, Command, value_parser};
 use std::alloc::Global;
 
 /// The fuel of a turn where `--fuel` does not say.
@@ -14,6 +14,9 @@ pub struct Words<'a> {
 
     /// The units that a turn may spend, from 1 to 10,000,000.
     pub fuel: u32,
+
+    /// How many turns can be taken back at most, up to 100,000; all of them where it does not say.
+    pub keep: Option<u32>,
 }
 
 /// The program's command line.
@@ -24,6 +27,12 @@ pub fn command<'a>(alloc: Global) -> Result<Command<'a>, std::alloc::AllocError>
         .help("The units of fuel that a turn may spend, from 1 to 10000000 [default: 1000000]")
         .action(ArgAction::Set)
         .value_parser(value_parser!(u32).range(1..=10_000_000));
+    let undo = Arg::new(alloc, "undo")
+        .long("undo")
+        .value_name("N")
+        .help("How many turns can be taken back at most, from 0 to 100000 [default: all]")
+        .action(ArgAction::Set)
+        .value_parser(value_parser!(u32).range(0..=100_000));
     let story = Arg::new(alloc, "story")
         .value_name("STORY")
         .help("A story file of version 5 or 8")
@@ -33,6 +42,7 @@ pub fn command<'a>(alloc: Global) -> Result<Command<'a>, std::alloc::AllocError>
         .version("0.1.0")
         .about("Plays a Z-machine story file")
         .arg(fuel)?
+        .arg(undo)?
         .arg(story)
 }
 
@@ -41,6 +51,7 @@ pub fn words_of<'a>(matches: &ArgMatches<'a>) -> Words<'a> {
     Words {
         story: matches.get_str("story").unwrap_or(""),
         fuel: matches.get_one::<u32>("fuel").unwrap_or(FUEL),
+        keep: matches.get_one::<u32>("undo"),
     }
 }
 
@@ -52,12 +63,16 @@ mod tests {
     #[test]
     fn reads_the_words(rt: HostRuntime) -> Result<(), Fail> {
         let matches = command(rt.alloc())?.try_get_matches_from(&[
-            "play", "--fuel", "3", "story.z5",
+            "play", "--fuel", "3", "--undo", "0", "story.z5",
         ])?;
         let words = words_of(&matches);
-        assert_eq!(rt; (words.story, words.fuel), ("story.z5", 3));
+        assert_eq!(rt;
+            (words.story, words.fuel, words.keep),
+            ("story.z5", 3, Some(0))
+        );
         let matches = command(rt.alloc())?.try_get_matches_from(&["play", "story.z5"])?;
         assert_eq!(rt; words_of(&matches).fuel, 1_000_000);
+        assert!(rt; words_of(&matches).keep.is_none());
         Ok(())
     }
 
@@ -67,6 +82,7 @@ mod tests {
             ["play", "--fuel", "0", "story.z5"].as_slice(),
             ["play", "--fuel", "10000001", "story.z5"].as_slice(),
             ["play", "--fuel", "three", "story.z5"].as_slice(),
+            ["play", "--undo", "100001", "story.z5"].as_slice(),
             ["play", "--speed", "3", "story.z5"].as_slice(),
             ["play", "story.z5", "other.z5"].as_slice(),
             ["play"].as_slice(),

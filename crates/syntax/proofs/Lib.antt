@@ -5,3 +5,6 @@ pub mod Sound
 pub mod Ends
 pub mod Complete
 pub mod Main
+pub mod Printable
+pub mod Weighed
+mod Samples

@@ -136,7 +136,7 @@ mutual
 
 -- ---- statements
 
-spelled_Item : {ts r : List Lexeme} {i : ItemTree} → IsItem ts i r → Spelled (item_weight i) ts r
+pub spelled_Item : {ts r : List Lexeme} {i : ItemTree} → IsItem ts i r → Spelled (item_weight i) ts r
 spelled_Item (item_text {r = r} {p = p} {bytes = bytes}) = weighing (behind (text bytes p) (spelled_none r)) (omega arith)
 spelled_Item (item_character {p = p} {q = q} {o = o} a) = weighing (behind (sign s.OpenParenthesis p) (behind (reserved w.Char q) (behind (sign s.CloseParenthesis o) (spelled_E a)))) (omega arith)
 spelled_Item (item_number a) = spelled_E a

@@ -4,3 +4,5 @@ pub mod Nesting
 pub mod Parse
 pub mod Weight
 pub mod Answers
+pub mod Printable
+pub mod Laws

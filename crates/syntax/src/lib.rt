@@ -2,6 +2,7 @@
 #![tactic(auto)]
 
 mod directives;
+mod laws;
 mod program;
 #[cfg(test)]
 mod tests;
@@ -10,6 +11,7 @@ mod values;
 mod weight;
 
 pub use expressions::{Binary, Comparison, Equality, Expression, Name, Prefix, Step};
+pub use laws::{printable_trees, weighed_routines};
 pub use lexer::{Kind, Position, Sign, SourceFault, Token, Word, lex};
 pub use program::{one_tree, parse};
 pub use statements::{Item, Statement};

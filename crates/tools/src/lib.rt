@@ -4,6 +4,9 @@
 ghost use Rattle.std.specs.Prelude.{◌≡◌};
 ghost use Rattle.tools.specs.Status.{status_of};
 
+#[cfg(test)]
+mod tests;
+
 use zcore::Place;
 
 /// The exit status of the player at the end of its input: 0 where the story waits or has quit, 3 where a limit stopped
@@ -15,19 +18,5 @@ pub fn status(place: &Place) -> u8
         Place::Waiting | Place::Quit => 0,
         Place::Limit(_) => 3,
         Place::Fault(_) => 4,
-    }
-}
-
-#[cfg(test)]
-mod tests {
-    use super::*;
-    use zcore::{Fault, Limit};
-
-    #[test]
-    fn tells_stops_apart(rt: HostRuntime) {
-        assert_eq!(rt; status(&Place::Waiting), 0);
-        assert_eq!(rt; status(&Place::Quit), 0);
-        assert_eq!(rt; status(&Place::Limit(Limit::Fuel)), 3);
-        assert_eq!(rt; status(&Place::Fault(Fault::Division)), 4);
     }
 }

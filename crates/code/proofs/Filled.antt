@@ -1,0 +1,151 @@
+-- A story that holds a program: the law of code speaks of some.
+use Rattle.std.proofs.Common.{◌≡◌, ℕ, zero, suc, ◌+◌, ◌*◌, ◌<◌, List, [], ◌∷◌, true, refl, arith, slice_index}
+use Rattle.std.specs.Prelude.{nat_lt, codes}
+use Rattle.std.specs.List.{All, list_all}
+use Rattle.std.proofs.lemmas.Bool.{ltb-true, leb-true}
+use Rattle.std.proofs.lemmas.List.Elements.{All-nil, All-cons}
+use Rattle.std.proofs.lemmas.List.Sums.{AllPass-from_list_all}
+use Rattle.zcore.specs.Bytes.{word_at}
+use Rattle.zcore.specs.Header.{globals_of}
+use Rattle.zcore.specs.Alphabets.{spelling_of}
+use Rattle.zcore.specs.Instruction.{bytes_of}
+use Rattle.zcore.specs.Text.{encoded}
+use Rattle.zcore.specs.Words.{packed}
+use Rattle.checker.specs.Accepted.{IsPrinted, IsRoutine, IsAccepted}
+use Rattle.checker.specs.Meaning.{routine_at}
+use Rattle.items.specs.Laws.{ItemsFollow, ItemsAreWithin}
+use Rattle.code.specs.Laws.{Plays}
+use Rattle.lexer.specs.Printable.{IsPrintable}
+use Rattle.checker.specs.Printable.{IsPrintableItem, HasPrintableTexts}
+use Rattle.code.specs.Standing.{HoldsRoutine, HoldsText, HoldsProgram, fault_line}
+use Rattle.code.proofs.Leading.{code_plays_by}
+use Rattle.code.proofs.Stories.{a, main, sum_of_two, program, story, greeting, count_down, quotient_of_seven}
+
+-- bytes that pass a test one by one
+small_by : (bytes : List ℕ) → list_all (λ b. nat_lt b 256) bytes ≡ true → All (λ b. b < 256) bytes
+small_by bytes e k d h = ltb-true _ _ (AllPass-from_list_all (λ b. nat_lt b 256) bytes e k d h)
+
+main_held : HoldsRoutine story a 170 main
+unfolding bytes_of encoded packed spelling_of
+main_held = record {
+  bytes = refl;
+  followed = ltb-true _ _ refl;
+  above = leb-true _ _ refl;
+  named = ltb-true _ _ refl;
+  word = ltb-true _ _ refl;
+  short = leb-true _ _ refl;
+}
+
+sum_held : HoldsRoutine story a 210 sum_of_two
+unfolding bytes_of encoded packed spelling_of
+sum_held = record {
+  bytes = refl;
+  followed = ltb-true _ _ refl;
+  above = leb-true _ _ refl;
+  named = ltb-true _ _ refl;
+  word = ltb-true _ _ refl;
+  short = leb-true _ _ refl;
+}
+
+division_held : HoldsText story 136 (fault_line (codes "division by zero"))
+unfolding bytes_of encoded packed spelling_of
+division_held = record { bytes = refl; word = ltb-true _ _ refl; above = leb-true _ _ refl }
+
+character_held : HoldsText story 152 (fault_line (codes "not a character"))
+unfolding bytes_of encoded packed spelling_of
+character_held = record { bytes = refl; word = ltb-true _ _ refl; above = leb-true _ _ refl }
+
+routines_held : (r : ℕ) → r < 2 → HoldsRoutine story a (slice_index a.routines r) (routine_at program.routines r)
+routines_held zero h = main_held
+routines_held (suc zero) h = sum_held
+routines_held (suc (suc r)) h = absurd (omega (arith, h))
+
+first_global : (g : ℕ) → g < 1 → word_at story (globals_of story + 2 * g) ≡ slice_index program.globals g
+unfolding bytes_of encoded packed spelling_of
+first_global zero h = refl
+first_global (suc g) h = absurd (omega (arith, h))
+
+pub held : HoldsProgram story a program
+unfolding bytes_of encoded packed spelling_of
+held = record {
+  byte_each = small_by story refl;
+  routines = routines_held;
+  division_by_zero = division_held;
+  not_a_character = character_held;
+  start = refl;
+  start_above = leb-true _ _ refl;
+  globals_above = leb-true _ _ refl;
+  globals_below = leb-true _ _ refl;
+  static_below = leb-true _ _ refl;
+  globals = first_global;
+}
+
+greeting_accepted : All (IsPrinted program 0) greeting
+greeting_accepted zero d h = tt
+greeting_accepted (suc zero) d h = ((omega arith, omega arith, omega arith, (tt, (tt, tt))), omega arith)
+greeting_accepted (suc (suc zero)) d h = (tt, omega arith)
+greeting_accepted (suc (suc (suc k))) d h = absurd (omega (arith, h))
+
+count_accepted : All (IsPrinted program 0) count_down
+count_accepted zero d h = (omega arith, omega arith)
+count_accepted (suc k) d h = absurd (omega (arith, h))
+
+quotient_accepted : All (IsPrinted program 0) quotient_of_seven
+quotient_accepted zero d h = ((tt, omega arith), omega arith)
+quotient_accepted (suc k) d h = absurd (omega (arith, h))
+
+main_accepted : IsRoutine program main
+main_accepted = (
+  omega arith,
+  (
+    greeting_accepted,
+    (
+      ((omega arith, tt), omega arith),
+      (
+        (((omega arith, tt), omega arith), (count_accepted, ((omega arith, omega arith), tt))),
+        (quotient_accepted, tt),
+      ),
+    ),
+  ),
+)
+
+sum_accepted : IsRoutine program sum_of_two
+sum_accepted = (omega arith, (((omega arith, omega arith), omega arith), tt))
+
+-- its texts are printable
+hi_printable : All IsPrintable (codes "Hi^")
+hi_printable zero d h = (omega arith, omega arith)
+hi_printable (suc zero) d h = (omega arith, omega arith)
+hi_printable (suc (suc zero)) d h = (omega arith, omega arith)
+hi_printable (suc (suc (suc k))) d h = absurd (omega (arith, h))
+
+greeting_well : All IsPrintableItem greeting
+greeting_well zero d h = hi_printable
+greeting_well (suc zero) d h = tt
+greeting_well (suc (suc zero)) d h = tt
+greeting_well (suc (suc (suc k))) d h = absurd (omega (arith, h))
+
+count_well : All IsPrintableItem count_down
+count_well zero d h = tt
+count_well (suc k) d h = absurd (omega (arith, h))
+
+quotient_well : All IsPrintableItem quotient_of_seven
+quotient_well zero d h = tt
+quotient_well (suc k) d h = absurd (omega (arith, h))
+
+printable : HasPrintableTexts program
+printable zero d h = (greeting_well, (tt, ((count_well, (tt, tt)), (quotient_well, tt))))
+printable (suc zero) d h = (tt, tt)
+printable (suc (suc k)) d h = absurd (omega (arith, h))
+
+-- the program is an accepted one
+accepted : IsAccepted program
+accepted = record {
+  globals = leb-true _ _ refl;
+  routines = All-cons (IsRoutine program) main (sum_of_two ∷ []) main_accepted (All-cons (IsRoutine program) sum_of_two [] sum_accepted (All-nil (IsRoutine program)));
+  main = ltb-true _ _ refl;
+  alone = refl;
+}
+
+pub filled_plays : ItemsFollow → ItemsAreWithin → (full : ℕ) (lines : List (List ℕ)) → Plays story program full lines
+filled_plays follows within full lines = code_plays_by follows within story a program accepted printable held full lines

@@ -1,0 +1,85 @@
+-- Sizes of items and routines, computed, and a program whose weight bounds them.
+use Rattle.std.proofs.Common.{◌≡◌, ◌+◌, ℕ, List, [], ◌∷◌, refl}
+use Rattle.std.specs.Prelude.{codes}
+use Rattle.lexer.specs.declared.token.Position.{Position}
+use Rattle.lexer.specs.declared.token.Sign.TheVariants as s
+use Rattle.lexer.specs.declared.token.Word.TheVariants as w
+use Rattle.lexer.specs.Token.{Lexeme, name, number, text, reserved, sign, end}
+use Rattle.expressions.specs.declared.tree.Binary.TheVariants as binaries
+use Rattle.expressions.specs.Tree as trees
+use Rattle.expressions.specs.Grammar.{IsE, e_plain, e1_plain, n1_plain, e2_plain, e3_plain, e4_plain, e4_scale, n4_plain, u_plain, p_number}
+use Rattle.statements.specs.Grammar.{items_last, items_comma, item_text, item_number, s_print, ss_stop, ss_next}
+use Rattle.syntax.specs.Tree.{ProgramTree}
+use Rattle.syntax.specs.Grammar.{names_stop, d_routine, directives_stop, directives_next, IsProgram, program}
+use Rattle.checker.specs.Names.{look_up, first_table}
+use Rattle.checker.specs.Programs.{routines_of}
+use Rattle.checker.specs.Resolved as source
+use Rattle.zcore.specs.Instruction.{bytes_of}
+use Rattle.zcore.specs.Alphabets.{spelling_of}
+use Rattle.zcore.specs.Words.{packed}
+use Rattle.zcore.specs.Text.{encoded}
+use Rattle.items.specs.Items as items
+use Rattle.code.specs.Bytes.{item_size}
+use Rattle.code.specs.Sizes.{routine_size, routines_size}
+
+-- the longest items of a fixed size
+
+character_has : item_size items.print_character ≡ 24
+unfolding bytes_of
+character_has = refl
+
+first_equal_has : item_size items.first_equal ≡ 19
+unfolding bytes_of
+first_equal_has = refl
+
+also_equal_has : item_size items.also_equal ≡ 25
+unfolding bytes_of
+also_equal_has = refl
+
+remainder_has : item_size (items.operate binaries.Remainder) ≡ 14
+unfolding bytes_of
+remainder_has = refl
+
+-- `print` and one word of fives
+no_text_has : item_size (items.print_text []) ≡ 3
+unfolding bytes_of encoded packed
+no_text_has = refl
+
+-- call_vs, and call_vs2 with its second byte of types
+calls_have : item_size (items.call 300 3) ∷ item_size (items.call 300 4) ∷ item_size (items.call 300 7) ∷ [] ≡ 17 ∷ 22 ∷ 34 ∷ []
+unfolding bytes_of
+calls_have = refl
+
+-- [ Main; ];
+empty_has : routine_size (record { locals = 0; body = source.stop }) ≡ 5
+unfolding bytes_of
+empty_has = refl
+
+-- [ Main; print "a", 6 / 2; ];
+
+abbrev p : ℕ → Position
+p n = record { offset = n; line = 1 }
+
+abbrev after : List Lexeme
+after = sign s.Semicolon (p 8) ∷ sign s.CloseBracket (p 9) ∷ sign s.Semicolon (p 10) ∷ end (p 11) ∷ []
+
+abbrev body : List Lexeme
+body = reserved w.Print (p 3) ∷ text (codes "a") (p 4) ∷ sign s.Comma (p 4) ∷ number 6 (p 5) ∷ sign s.Slash (p 6) ∷ number 2 (p 7) ∷ after
+
+abbrev tokens : List Lexeme
+tokens = sign s.OpenBracket (p 0) ∷ name (codes "Main") (p 1) ∷ sign s.Semicolon (p 2) ∷ body
+
+-- 6 / 2, and the tokens after it
+abbrev divided : IsE (number 6 (p 5) ∷ sign s.Slash (p 6) ∷ number 2 (p 7) ∷ after) (trees.binary binaries.Divide (trees.constant 6) (trees.constant 2)) after
+divided = e_plain (e1_plain (n1_plain (e2_plain (e3_plain (e4_scale (e4_plain (n4_plain (u_plain p_number))) refl (n4_plain (u_plain p_number)))))))
+
+abbrev sample : (t : ProgramTree) × IsProgram tokens t
+sample = (_, program (directives_next (d_routine names_stop (ss_next (s_print (items_comma item_text (items_last (item_number divided)))) ss_stop)) directives_stop))
+
+sample_weighs : sample.0.weight ≡ 387
+sample_weighs = refl
+
+-- a text of 5 bytes, two numbers of 3, a division of 14, the printing of a number of 3, and 4 at the end
+sample_has : routines_size (routines_of first_table sample.0.directives) ≡ 1 + (3 + 3 + 3 + 14 + 3 + 4) + 7
+unfolding bytes_of encoded packed spelling_of look_up
+sample_has = refl

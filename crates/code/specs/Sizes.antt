@@ -1,0 +1,14 @@
+-- How many bytes the routines of a program have in a story.
+use Rattle.std.specs.Prelude.{◌+◌, ℕ, List, [], ◌∷◌}
+use Rattle.checker.specs.Resolved.{RoutineOf}
+use Rattle.items.specs.Items.{routine_items}
+use Rattle.code.specs.Bytes.{code_size}
+
+-- a byte that tells how many locals it has, and its code (Z-Machine Standards Document 1.1, section 5.2)
+abbrev pub routine_size : RoutineOf → ℕ
+routine_size r = 1 + code_size (routine_items r)
+
+-- of routines, each with as many as 7 bytes beside it, so that the next stands at a packed address (1.2.3)
+abbrev pub routines_size : List RoutineOf → ℕ
+routines_size [] = 0
+routines_size (r ∷ rs) = routine_size r + 7 + routines_size rs

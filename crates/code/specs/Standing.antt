@@ -1,0 +1,53 @@
+-- A program that stands in a story.
+use Rattle.std.specs.Prelude.{◌≡◌, ◌+◌, ◌*◌, ◌<◌, ◌≤◌, ℕ, List, [], ◌∷◌, ◌++◌, codes, length, slice_index}
+use Rattle.std.specs.List.{All}
+use Rattle.zcore.specs.declared.instruction.Operand.TheVariants.{Large}
+use Rattle.zcore.specs.declared.instruction.Operation.TheVariants.{Call1n, Quit}
+use Rattle.zcore.specs.Bytes.{word_at}
+use Rattle.zcore.specs.Header.{globals_of, static_base_of}
+use Rattle.zcore.specs.Parts.{unpacked}
+use Rattle.zcore.specs.Text.{Holds, encoded}
+use Rattle.checker.specs.Resolved.{RoutineOf, ProgramOf}
+use Rattle.checker.specs.Meaning.{routine_at}
+use Rattle.items.specs.Items.{routine_items}
+use Rattle.code.specs.Addresses.{Addresses}
+use Rattle.code.specs.Instructions.{plain}
+use Rattle.code.specs.Bytes.{bytes_of_all, code_size, code_bytes}
+
+-- the code that calls Main, and then ends the story
+abbrev pub start_code : ℕ → List ℕ
+start_code main = bytes_of_all (plain Call1n (Large main ∷ []) ∷ plain Quit [] ∷ [])
+
+-- a routine at a packed address: how many locals it has, and its code (5.2). Bytes follow it, and it stands in static memory or behind.
+pub record HoldsRoutine (story : List ℕ) (a : Addresses) (packed : ℕ) (r : RoutineOf) : Type 0 where
+  pub bytes : Holds story (unpacked story packed) (r.locals ∷ code_bytes a (routine_items r))
+  pub followed : unpacked story packed + 1 + code_size (routine_items r) < length story
+  pub above : static_base_of story ≤ unpacked story packed
+  pub named : 0 < packed
+  pub word : packed < 65536
+  pub short : code_size (routine_items r) ≤ 32000
+
+-- a fault's text at a packed address
+pub record HoldsText (story : List ℕ) (packed : ℕ) (text : List ℕ) : Type 0 where
+  pub bytes : Holds story (unpacked story packed) (encoded text)
+  pub word : packed < 65536
+  pub above : static_base_of story ≤ unpacked story packed
+
+-- the line of a source fault, in characters of the machine
+abbrev pub fault_line : List ℕ → List ℕ
+fault_line words = 13 ∷ codes "[Fault: " ++ words ++ codes "]" ++ 13 ∷ []
+
+-- A story that holds a program
+pub record HoldsProgram (story : List ℕ) (a : Addresses) (p : ProgramOf) : Type 0 where
+  pub byte_each : All (λ b. b < 256) story
+  pub routines : (r : ℕ) → r < length p.routines → HoldsRoutine story a (slice_index a.routines r) (routine_at p.routines r)
+  pub division_by_zero : HoldsText story a.division_by_zero (fault_line (codes "division by zero"))
+  pub not_a_character : HoldsText story a.not_a_character (fault_line (codes "not a character"))
+  -- the code that begins the story
+  pub start : Holds story (word_at story 6) (start_code (slice_index a.routines p.main))
+  pub start_above : static_base_of story ≤ word_at story 6
+  -- 240 words of globals behind the header and below static memory, the source's first
+  pub globals_above : 64 ≤ globals_of story
+  pub globals_below : globals_of story + 480 ≤ static_base_of story
+  pub static_below : static_base_of story ≤ length story
+  pub globals : (g : ℕ) → g < length p.globals → word_at story (globals_of story + 2 * g) ≡ slice_index p.globals g

@@ -1,0 +1,195 @@
+//! The opcodes of operations, and how operands are counted in them (Z-Machine Standards Document 1.1, sections 4 and 14).
+
+ghost use Rattle.std.specs.Prelude.{◌≡◌, ◌<◌, ◌≤◌, ◌+◌, ◌++◌, drop, slice_index, OnOk};
+ghost use Rattle.zcore.specs.Instruction as definitions;
+ghost use Rattle.zcore.specs.Instruction.{count_of, number_of, types_to_write, two_bytes, one_bytes, opcode_bytes, variable_bytes};
+ghost use Rattle.code.specs.Written.{opcode_count};
+
+use std::alloc::AllocError;
+use zcore::{Operand, Operation};
+
+/// The counts of operands by which opcodes are numbered.
+#[derive(Clone, Copy)]
+pub enum Count {
+    Two,
+    One,
+    Zero,
+    Several,
+}
+
+/// The count by which an operation's opcode is numbered.
+fn operand_count(operation: Operation) -> Count
+    ensures { opcode_count result ≡ count_of operation }
+{
+    match operation {
+        Operation::JumpIfEqual
+        | Operation::JumpIfLess
+        | Operation::JumpIfGreater
+        | Operation::Or
+        | Operation::And
+        | Operation::Store
+        | Operation::Add
+        | Operation::Sub
+        | Operation::Mul
+        | Operation::Div
+        | Operation::Mod => Count::Two,
+        Operation::JumpIfZero
+        | Operation::Increment
+        | Operation::Decrement
+        | Operation::Return
+        | Operation::Jump
+        | Operation::PrintPacked
+        | Operation::Load
+        | Operation::Call1n => Count::One,
+        Operation::ReturnTrue
+        | Operation::ReturnFalse
+        | Operation::Print
+        | Operation::PrintReturn
+        | Operation::ReturnPopped
+        | Operation::Quit
+        | Operation::NewLine => Count::Zero,
+        _ => Count::Several,
+    }
+}
+
+/// The number of an operation's opcode, among those of its count.
+fn opcode_number(operation: Operation) -> u8
+    ensures number { result ≡ number_of operation }
+    ensures small { result < 32 }
+{
+    match operation {
+        Operation::JumpIfZero | Operation::ReturnTrue | Operation::CallVs => 0,
+        Operation::JumpIfEqual | Operation::ReturnFalse => 1,
+        Operation::JumpIfLess | Operation::Print | Operation::StoreByte => 2,
+        Operation::JumpIfGreater | Operation::PrintReturn => 3,
+        Operation::Read => 4,
+        Operation::Increment | Operation::PrintCharacter => 5,
+        Operation::Decrement | Operation::PrintNumber => 6,
+        Operation::Or | Operation::ReturnPopped | Operation::Push => 8,
+        Operation::And | Operation::Pull => 9,
+        Operation::Quit => 10,
+        Operation::Return | Operation::NewLine => 11,
+        Operation::Jump | Operation::CallVs2 => 12,
+        Operation::Store | Operation::PrintPacked => 13,
+        Operation::Load => 14,
+        Operation::Call1n => 15,
+        Operation::Add => 20,
+        Operation::Sub => 21,
+        Operation::Mul => 22,
+        Operation::Div => 23,
+        Operation::Mod | Operation::Not => 24,
+        Operation::CallVn => 25,
+        Operation::CallVn2 => 26,
+    }
+}
+
+/// Whether an operation has a second byte of operand types.
+fn has_more_types(operation: Operation) -> bool
+    ensures { result ≡ definitions.has_more_types operation }
+{
+    match operation {
+        Operation::CallVs2 | Operation::CallVn2 => true,
+        _ => false,
+    }
+}
+
+/// The type of an operand.
+fn type_of(operand: Operand) -> u8
+    ensures value { result ≡ definitions.type_of operand }
+    ensures small { result < 3 }
+{
+    match operand {
+        Operand::Large(_) => 0,
+        Operand::Small(_) => 1,
+        Operand::Variable(_) => 2,
+    }
+}
+
+/// The type of the operand of an index, 3 where there is none.
+#[tactic(auto, using(crate::proofs::Types::type_within, crate::proofs::Types::type_past))]
+fn type_at(operands: &[Operand], index: usize) -> u8
+    requires { index < 8 }
+    ensures value { result ≡ slice_index (types_to_write operands.now) index }
+    ensures small { result < 4 }
+{
+    match operands.get(index) {
+        Some(operand) => type_of(*operand),
+        None => 3,
+    }
+}
+
+/// The byte of the types of four operands.
+fn types_byte(operands: &[Operand], from: usize) -> u8
+    requires { from ≤ 4 }
+    ensures { result ≡ definitions.types_byte (drop from (types_to_write operands.now)) }
+{
+    64 * type_at(operands, from)
+        + 16 * type_at(operands, from + 1)
+        + 4 * type_at(operands, from + 2)
+        + type_at(operands, from + 3)
+}
+
+/// An opcode in variable form, and its operands' types.
+fn put_variable_form(
+    bytes: &mut Vec<u8>,
+    first: u8,
+    more: bool,
+    operands: &[Operand],
+) -> Result<(), AllocError>
+    ensures { OnOk result (bytes.new.items ≡ bytes.old.items ++ variable_bytes first more operands.now) }
+{
+    bytes.push(first)?;
+    bytes.push(types_byte(operands, 0))?;
+    if more {
+        bytes.push(types_byte(operands, 4))?;
+    }
+    Ok(())
+}
+
+/// An opcode of two operands, in long form where neither is a large constant.
+fn put_two(bytes: &mut Vec<u8>, number: u8, operands: &[Operand]) -> Result<(), AllocError>
+    requires { number < 32 }
+    ensures { OnOk result (bytes.new.items ≡ bytes.old.items ++ two_bytes number operands.now) }
+{
+    if let [first, second] = operands {
+        let first = type_of(*first);
+        let second = type_of(*second);
+        if first != 0 && second != 0 {
+            bytes.push(64 * (first - 1) + 32 * (second - 1) + number)?;
+            return Ok(());
+        }
+    }
+    put_variable_form(bytes, 192 + number, false, operands)
+}
+
+/// An opcode of one operand, in short form.
+fn put_one(bytes: &mut Vec<u8>, number: u8, operands: &[Operand]) -> Result<(), AllocError>
+    requires { number < 32 }
+    ensures { OnOk result (bytes.new.items ≡ bytes.old.items ++ one_bytes number operands.now) }
+{
+    if let [operand] = operands {
+        bytes.push(128 + 16 * type_of(*operand) + number)?;
+    }
+    Ok(())
+}
+
+/// The opcode of an operation, with what says the types of these operands.
+pub fn put_opcode(
+    bytes: &mut Vec<u8>,
+    operation: Operation,
+    operands: &[Operand],
+) -> Result<(), AllocError>
+    ensures { OnOk result (bytes.new.items ≡ bytes.old.items ++ opcode_bytes (count_of operation) (number_of operation) (definitions.has_more_types operation) operands.now) }
+{
+    let number = opcode_number(operation);
+    match operand_count(operation) {
+        Count::Two => put_two(bytes, number, operands)?,
+        Count::One => put_one(bytes, number, operands)?,
+        Count::Zero => bytes.push(176 + number)?,
+        Count::Several => {
+            let more = has_more_types(operation);
+            put_variable_form(bytes, 224 + number, more, operands)?;
+        }
+    }
+    Ok(())
+}

@@ -1,0 +1,57 @@
+use Rattle.std.proofs.Common.{◌≡◌, ◌+◌, ◌-◌, ◌<◌, ap, sym, ◌∙◌, arith, subst, length}
+use Rattle.journal.specs.Swap.{Fits}
+use Rattle.frames.specs.Contents.{bound_of}
+use Rattle.history.specs.History.{History}
+use Rattle.history.specs.Inside.{history_of}
+use Rattle.history.specs.Sessions.{IsSession}
+use Rattle.history.specs.Standing.{undo_of}
+use Rattle.history.proofs.Insides.{turn_fits, undo_history, undo_between}
+use Rattle.history.proofs.Stands.{session_undo, found_none, found_some}
+use Rattle.history.proofs.player.Session.undo.Goals as goal
+
+pub returns-then-self-eq0-clause-found : goal.returns-then-self-eq0-clause-found
+unfolding history_of
+returns-then-self-eq0-clause-found c = λ story fuel keep s h.
+    let present : c.self.inside.done ≡ c.args.self.now.present = ap (λ (v : History). v.present) c.self.view_is in
+    found_none s.kept (omega (arith, h.present, c.if-self-eq0.true))
+
+pub returns-then-self-eq0-clause-undone : goal.returns-then-self-eq0-clause-undone
+unfolding history_of
+returns-then-self-eq0-clause-undone c = λ story fuel keep s h.
+    let present : c.self.inside.done ≡ c.args.self.now.present = ap (λ (v : History). v.present) c.self.view_is in
+    session_undo story fuel keep s c.args.self.now c.args.self.now.present (omega (arith, c.if-self-eq0.true)) h
+
+pub take_back-requires-clause-fits : goal.take_back-requires-clause-fits
+take_back-requires-clause-fits c =
+    let i = c.self.inside in
+    let here : i.done - 1 < length i.turns.items = omega (arith, c.self.invariant.within) in
+    turn_fits (Fits (length i.store.store.cells) bound_of) i.turns.items (i.done - 1) c.index_mut.result.now here c.index_mut.ensures.value c.self.invariant.fits
+
+pub invariant_of-self : goal.invariant_of-self
+invariant_of-self c =
+    let i = c.self.inside in
+    let here : i.done - 1 < length i.turns.items = omega (arith, c.self.invariant.within) in
+    let e : i.done - 1 + 1 ≡ i.done = omega arith in
+    let b = c.take_back.ensures in
+    undo_between i.machine.header i.store c.take_back.new.store i.first i.turns.items c.index_mut.result.now c.take_back.new.turn (i.done - 1) i.done e
+    (record { here = here; is = c.index_mut.ensures.value; store = b.store; turn = b.turn; inverse = b.inverse })
+    (record { idle = b.idle; begun = b.begun; size = b.length; fits = b.fits }) c.self.invariant
+
+pub returns-clause-found : goal.returns-clause-found
+unfolding history_of
+returns-clause-found c = λ story fuel keep s h.
+    let present : c.self.inside.done ≡ c.args.self.now.present = ap (λ (v : History). v.present) c.self.view_is in
+    found_some s.kept (omega (arith, h.present))
+
+pub returns-clause-undone : goal.returns-clause-undone
+unfolding history_of
+returns-clause-undone c = λ story fuel keep s h.
+    let i = c.self.inside in
+    let here : i.done - 1 < length i.turns.items = omega (arith, c.self.invariant.within) in
+    let e : i.done - 1 + 1 ≡ i.done = omega arith in
+    let present : i.done ≡ c.args.self.now.present = ap (λ (v : History). v.present) c.self.view_is in
+    let b = c.take_back.ensures in
+    let is = undo_history i.keep i.fuel i.machine.header i.opening.items i.store c.take_back.new.store i.first i.turns.items c.index_mut.result.now c.take_back.new.turn (i.done - 1) i.done i.given_up.items e
+    (record { here = here; is = c.index_mut.ensures.value; store = b.store; turn = b.turn; inverse = b.inverse })
+    ∙ ap {A = History} (λ v. record v { present = i.done - 1 }) c.self.view_is in
+    subst (IsSession story fuel keep (undo_of s)) (sym is) (session_undo story fuel keep s c.args.self.now (i.done - 1) (omega arith) h)

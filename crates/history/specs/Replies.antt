@@ -1,0 +1,34 @@
+-- What opening a session, and replying to a line, come to.
+use Rattle.std.specs.Prelude.{◌≡◌, ◌++◌, ◌∷◌, [], ℕ, List, true, false, Option, Result, Ok, Err}
+use Rattle.zcore.specs.declared.header.Header.{Header}
+use Rattle.zcore.specs.Header.{Reads}
+use Rattle.zcore.specs.Turn.{plays, last_text, last_place, is_waiting}
+use Rattle.machine.specs.Loaded.{Loads}
+use Rattle.history.specs.declared.fault.OpenFault.{OpenFault}
+use Rattle.history.specs.declared.fault.OpenFault.TheVariants as faults
+use Rattle.history.specs.declared.reply.Reply.{Reply}
+use Rattle.history.specs.declared.reply.Reply.TheVariants as replies
+use Rattle.history.specs.Standing.{Standing, nothing, is_typable, taken}
+use Rattle.history.specs.History.{History}
+use Rattle.history.specs.Sessions.{IsSession, InEach}
+
+-- a session at its beginning, or a story that is not loaded, or memory that was refused later
+abbrev pub Opens : List ℕ → ℕ → Option ℕ → Result History OpenFault → Type 0
+Opens story fuel keep (Ok session) = IsSession story fuel keep nothing session
+Opens story fuel keep (Err (faults.Load fault)) = Loads story (Err fault)
+Opens story fuel keep (Err faults.Memory) = (header : Header) × Reads story (Ok header)
+
+-- what a reply says of a line, and the text that it lends
+abbrev pub Says : List ℕ → ℕ → Standing → List ℕ → Reply → Type 0
+Says story fuel s line (replies.Taken text) =
+    (is_typable line ≡ true) × (is_waiting (last_place (plays story fuel s.done)) ≡ true) × (text.now ≡ last_text (plays story fuel (s.done ++ line ∷ [])))
+Says story fuel s line replies.Refused = is_typable line ≡ false
+Says story fuel s line replies.Over = (is_typable line ≡ true) × (is_waiting (last_place (plays story fuel s.done)) ≡ false)
+Says story fuel s line replies.NoMemory = (is_typable line ≡ true) × (is_waiting (last_place (plays story fuel s.done)) ≡ true)
+
+-- what the session is after a reply: as it was, but for a line that was taken
+abbrev pub After : List ℕ → Reply → History → History → Type 0
+After line (replies.Taken text) old new = InEach old (λ story fuel keep s. IsSession story fuel keep (taken keep line s) new)
+After line replies.Refused old new = new ≡ old
+After line replies.Over old new = new ≡ old
+After line replies.NoMemory old new = new ≡ old

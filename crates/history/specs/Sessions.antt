@@ -1,0 +1,36 @@
+-- What a session is: the play of a story on the lines that stand.
+use Rattle.std.specs.Prelude.{◌≡◌, ◌≤◌, ◌+◌, ℕ, List, [], ◌++◌, length, map, drop, Option, IfSome}
+use Rattle.zcore.specs.Header.{static_base_of}
+use Rattle.zcore.specs.Turn.{Whole, plays, last_text}
+use Rattle.history.specs.Standing.{Standing, reached}
+use Rattle.history.specs.History.{History}
+
+-- all lines that stand, in the order in which they are played
+abbrev pub all_lines : Standing → List (List ℕ)
+all_lines s = s.done ++ s.undone
+
+-- The session holds the whole states of the story on the lines that stand, from the oldest that it keeps on, and is at
+-- that after the lines done.
+pub record IsSession (story : List ℕ) (units : ℕ) (most : Option ℕ) (s : Standing) (v : History) : Type 0 where
+  -- each line that stands was given to a waiting machine
+  pub whole : length (plays story units (all_lines s)) ≡ length s.done + length s.undone + 1
+  pub reach : s.kept ≤ length s.done
+  pub bound : IfSome most (λ n. s.kept + length s.undone ≤ n)
+  pub keep : v.keep ≡ most
+  pub fuel : v.fuel ≡ units
+  pub static_base : v.static_base ≡ static_base_of story
+  pub opening : v.opening ≡ last_text (plays story units [])
+  pub states : v.states ≡ map (λ (w : Whole). w.state) (reached s (plays story units (all_lines s)))
+  pub places : v.places ≡ map (λ (w : Whole). w.place) (reached s (plays story units (all_lines s)))
+  -- the oldest state has no turn before it
+  pub texts : v.texts ≡ map (λ (w : Whole). w.text) (drop 1 (reached s (plays story units (all_lines s))))
+  pub lines : v.lines ≡ reached s (all_lines s)
+  pub present : v.present ≡ s.kept
+
+-- P holds of each story, fuel, bound and lines that stand, of which this is the session
+abbrev pub InEach : History → (List ℕ → ℕ → Option ℕ → Standing → Type 0) → Type 0
+InEach v P = (story : List ℕ) (fuel : ℕ) (keep : Option ℕ) (s : Standing) → IsSession story fuel keep s v → P story fuel keep s
+
+-- what stands goes over into what `f` makes of it
+abbrev pub Moves : (Standing → Standing) → History → History → Type 0
+Moves f old new = InEach old (λ story fuel keep s. IsSession story fuel keep (f s) new)

@@ -1,0 +1,7 @@
+mod Samples
+mod Counts
+mod Acts
+mod Follows
+mod Targets
+mod Chains
+mod Within

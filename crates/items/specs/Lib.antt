@@ -1,0 +1,4 @@
+pub mod Items
+pub mod Stack
+pub mod Code
+pub mod Laws

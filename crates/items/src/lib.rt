@@ -1,0 +1,15 @@
+//! A routine as items: the acts of its statements, one after another, on a stack of words.
+#![tactic(auto)]
+
+mod item;
+mod laws;
+mod routine;
+mod statement;
+#[cfg(test)]
+mod tests;
+mod value;
+mod writing;
+
+pub use item::Item;
+pub use laws::{items_are_within, items_follow};
+pub use routine::routine_items;

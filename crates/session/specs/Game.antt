@@ -1,0 +1,27 @@
+-- A game: a story as it is played by a session.
+use Rattle.std.specs.Prelude.{ℕ, Option, List}
+use Rattle.zcore.specs.declared.place.Place.{Place}
+use Rattle.zcore.specs.Turn.{plays, last_text, last_place}
+use Rattle.history.specs.Standing.{Standing}
+use Rattle.history.specs.History.{History}
+use Rattle.history.specs.Sessions.{IsSession}
+
+pub record Game : Type 0 where
+  -- the bytes of the story file
+  pub story : List ℕ
+  -- what each turn can spend
+  pub fuel : ℕ
+  -- how many turns can be undone; without a bound all
+  pub keep : Option ℕ
+
+-- what the story prints last on these lines: its opening where there are none, else the turn of the last
+abbrev pub text_on : Game → List (List ℕ) → List ℕ
+text_on game lines = last_text (plays game.story game.fuel lines)
+
+-- where it then stands
+abbrev pub place_on : Game → List (List ℕ) → Place
+place_on game lines = last_place (plays game.story game.fuel lines)
+
+-- the session plays this game, and these lines stand
+abbrev pub IsSessionOf : Game → Standing → History → Type 0
+IsSessionOf game s v = IsSession game.story game.fuel game.keep s v

@@ -1,0 +1,45 @@
+//! The reply to a line.
+
+ghost use Rattle.std.specs.Prelude.{◌∷◌, []};
+ghost use Rattle.session.specs.Game.{IsSessionOf, Game};
+ghost use Rattle.session.specs.Heard.{Hears};
+ghost use Rattle.history.specs.Standing.{Standing};
+
+use crate::fault::WriteFailed;
+use crate::writing::{put, tell};
+use history::{Reply, Session};
+use std::io::Write;
+
+/// Answers a line: the two commands of the player, or a line for the story.
+pub(crate) fn answer<W: Write>(
+    line: &[u8],
+    writer: &mut W,
+    session: &mut Session,
+) -> Result<(), WriteFailed>
+    ensures { (game : Game) (s : Standing) → IsSessionOf game s session.old
+        → Hears game (W.contents writer.old) (W.contents writer.new) s
+        (λ t. IsSessionOf game t session.new) (line.now ∷ []) result }
+{
+    if line == b"/undo".as_slice() {
+        if session.undo() {
+            tell(writer, b"[Undone.]\n")
+        } else {
+            tell(writer, b"[Nothing to undo.]\n")
+        }
+    } else if line == b"/redo".as_slice() {
+        match session.redo() {
+            Some(text) => {
+                put(writer, b"[Redone.]\n")?;
+                tell(writer, text)
+            }
+            None => tell(writer, b"[Nothing to redo.]\n"),
+        }
+    } else {
+        match session.reply(line) {
+            Reply::Taken(text) => tell(writer, text),
+            Reply::Refused => tell(writer, b"[Line refused.]\n"),
+            Reply::Over => tell(writer, b"[The story is over.]\n"),
+            Reply::NoMemory => tell(writer, b"[No memory: line not taken.]\n"),
+        }
+    }
+}

@@ -1,0 +1,63 @@
+//! Lines that are cut out of the input and answered.
+
+ghost use Rattle.std.specs.Prelude.{◌≡◌, ℕ, ◌≤◌, ◌∷◌, List, [], OnOk};
+ghost use Rattle.session.specs.Input.{whole_from, rest_from};
+ghost use Rattle.session.specs.Game.{IsSessionOf, Game};
+ghost use Rattle.session.specs.Heard.{Hears};
+ghost use Rattle.session.specs.Kept.{IsKept};
+ghost use Rattle.history.specs.Standing.{Standing};
+
+use crate::answering::answer;
+use crate::fault::WriteFailed;
+use crate::line::Line;
+use crate::writing::tell;
+use history::Session;
+use std::io::Write;
+
+/// Answers the line that ended, and begins an empty one.
+pub(crate) fn finish<W: Write>(
+    line: &mut Line,
+    writer: &mut W,
+    session: &mut Session,
+) -> Result<(), WriteFailed>
+    requires { line.old.len ≤ 1000 }
+    ensures hears { (game : Game) (s : Standing) (full : List ℕ) → IsSessionOf game s session.old
+        → IsKept line.old full
+        → Hears game (W.contents writer.old) (W.contents writer.new) s
+        (λ t. IsSessionOf game t session.new) (full ∷ []) result }
+    ensures line { OnOk result (IsKept line.new []) }
+    ensures within { line.new.len ≤ 1000 }
+{
+    if line.more {
+        tell(writer, b"[Line refused.]\n")?;
+    } else {
+        answer(&line.bytes[..line.len], writer, session)?;
+    }
+    line.clear();
+    Ok(())
+}
+
+/// Answers the lines that end within a chunk of the input, and keeps what stands after the last of them.
+pub(crate) fn hear<W: Write>(
+    chunk: &[u8],
+    line: &mut Line,
+    writer: &mut W,
+    session: &mut Session,
+) -> Result<(), WriteFailed>
+    requires { line.old.len ≤ 1000 }
+    ensures hears { (game : Game) (s : Standing) (full : List ℕ) → IsSessionOf game s session.old
+        → IsKept line.old full
+        → Hears game (W.contents writer.old) (W.contents writer.new) s
+        (λ t. IsSessionOf game t session.new) (whole_from full chunk.now) result }
+    ensures line { (full : List ℕ) → IsKept line.old full → OnOk result (IsKept line.new (rest_from full chunk.now)) }
+    ensures within { line.new.len ≤ 1000 }
+{
+    for byte in chunk {
+        if *byte == b'\n' {
+            finish(line, writer, session)?;
+        } else {
+            line.push(*byte);
+        }
+    }
+    Ok(())
+}

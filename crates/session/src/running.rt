@@ -1,0 +1,52 @@
+//! A run over all of the input.
+
+ghost use Rattle.session.specs.Game.{IsSessionOf, Game};
+ghost use Rattle.session.specs.Ran.{Ran};
+ghost use Rattle.history.specs.Standing.{nothing};
+
+use crate::fault::RunFault;
+use crate::hearing::{finish, hear};
+use crate::line::Line;
+use crate::writing::tell;
+use history::Session;
+use std::io::{Read, Write};
+use zcore::Place;
+
+/// Writes the opening, and then the reply to each line of the input, up to its end. It flushes after each of them. The
+/// session is one of which no line stands, as it is opened. It takes no memory but for the session's turns.
+///
+/// A line ends at byte 10; a last line without it counts if it is not empty. `/undo` and `/redo`, to the byte, take the
+/// last turn back and do it again; any other line goes to the story. It answers where the story then stands.
+///
+/// # Errors
+///
+/// [`RunFault::Reading`] where a read fails, an interrupted one too, and where the input has no end after 2^64 - 1
+/// reads: each line that was read whole is answered. [`RunFault::Writing`] where a write or a flush fails, or a write
+/// takes no byte: the reply that was being written is the last, and its line stands as if it were written.
+pub fn run<R: Read, W: Write>(
+    reader: &mut R,
+    writer: &mut W,
+    session: &mut Session,
+) -> Result<Place, RunFault>
+    ensures { (game : Game) → IsSessionOf game nothing session.old
+        → Ran game (R.remaining reader.old) (R.remaining reader.new)
+        (W.contents writer.old) (W.contents writer.new)
+        (λ s. IsSessionOf game s session.new) result }
+{
+    tell(writer, session.opening())?;
+    let mut line = Line::new();
+    let mut buffer = [0u8; 4096];
+    for _ in 0..u64::MAX {
+        match reader.read(&mut buffer) {
+            Ok(0) => {
+                if line.len > 0 {
+                    finish(&mut line, writer, session)?;
+                }
+                return Ok(session.place());
+            }
+            Ok(n) => hear(&buffer[..n], &mut line, writer, session)?,
+            Err(_) => return Err(RunFault::Reading),
+        }
+    }
+    Err(RunFault::Reading)
+}

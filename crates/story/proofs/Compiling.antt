@@ -1,0 +1,150 @@
+-- What a source is compiled to, from what each part answers.
+use Rattle.std.proofs.Common.{◌≡◌, ◌⊎◌, inl, inr, ℕ, ◌≤◌, ◌<◌, List, [], ◌∷◌, map, Option, Some, None, Result, Ok, Err, refl, sym, ap, ◌∙◌, subst}
+use Rattle.std.specs.Prelude.{nat_lt, if◌then◌else◌, ◌++◌}
+use Rattle.std.specs.List.{All}
+use Rattle.std.specs.Result.{IsErr, IsErrAnd}
+use Rattle.lexer.specs.declared.fault.SourceFault.{SourceFault}
+use Rattle.lexer.specs.declared.token.Token.{Token}
+use Rattle.lexer.specs.declared.token.Position.{Position}
+use Rattle.lexer.specs.Token.{lexemes}
+use Rattle.lexer.specs.Tokens.{Lexes}
+use Rattle.lexer.specs.Results.{source_tokens}
+use Rattle.lexer.specs.Printable.{PrintableTokens}
+use Rattle.expressions.specs.Tree.{NameTree}
+use Rattle.syntax.specs.Tree.{RoutineTree, ProgramTree}
+use Rattle.syntax.specs.Grammar.{IsProgram, program_nesting}
+use Rattle.syntax.specs.Nesting.{DeepProgram}
+use Rattle.syntax.specs.Laws.{PrintableTrees}
+use Rattle.zcore.specs.declared.header.Version.{Version}
+use Rattle.zcore.specs.Header.{scale_of, Reads}
+use Rattle.zcore.specs.declared.header.Header.{Header}
+use Rattle.checker.specs.declared.breach.Breach.{Breach}
+use Rattle.checker.specs.declared.checked.Checked.{Checked}
+use Rattle.checker.specs.declared.checked.CheckedRoutine.{CheckedRoutine}
+use Rattle.checker.specs.Accepted.{IsAccepted}
+use Rattle.checker.specs.Breaches.{IsAmong, IsFirst}
+use Rattle.checker.specs.Laws.{AcceptedPrograms, PrintablePrograms}
+use Rattle.checker.specs.Printable.{HasPrintableTexts}
+use Rattle.checker.specs.Programs.{program_breaches, routine_trees, title, title_of, IsCheckedOf}
+use Rattle.checker.specs.Resolved.{program_of}
+use Rattle.checker.specs.Sizes as checked
+use Rattle.code.specs.Laws.{CodePlays, Plays, IsSmall, SmallSourcesHaveSmallCode}
+use Rattle.story.specs.Compiled.{IsTreeOf, IsStoryOf, Refuses, Compiles, lexemes_of, first_heavy, heavy_fault, size_fault, fault}
+use Rattle.story.specs.Compiled as spec
+use Rattle.story.specs.Layout.{addresses_in, story_of}
+use Rattle.story.specs.Laws.{StoriesHold}
+use Rattle.story.specs.Written.{Fits}
+use Rattle.story.proofs.Sizes.{stories_are_short, is_story}
+
+-- Faults
+
+pub answered : (version : Version) (source : List ℕ) (r : Result (List ℕ) SourceFault) (f : SourceFault) → IsErr r × IsErrAnd r (λ e. e ≡ f) → Refuses version source f → Compiles version source r
+answered version source (Ok bytes) f h refused = absurd h.1
+answered version source (Err e) f h refused = subst (Refuses version source) (sym h.1) refused
+
+-- Trees
+
+same_lexemes : (ts : List Token) → lexemes_of (source_tokens ts) ≡ lexemes ts
+same_lexemes [] = refl
+same_lexemes (t ∷ ts) = ap (λ ls. (lexemes (t ∷ [])) ++ ls) (same_lexemes ts)
+
+module _ (source : List ℕ) (ts : List Token) (lexed : Lexes 0 1 source (Ok (source_tokens ts))) where
+  program_of_lexemes : (p : ProgramTree) → IsProgram (lexemes ts) p → IsProgram (lexemes_of (source_tokens ts)) p
+  program_of_lexemes p parsed = subst (λ ls. IsProgram ls p) (sym (same_lexemes ts)) parsed
+
+  program_of_tokens : (p : ProgramTree) → IsProgram (lexemes_of (source_tokens ts)) p → IsProgram (lexemes ts) p
+  program_of_tokens p parsed = subst (λ ls. IsProgram ls p) (same_lexemes ts) parsed
+
+  pub is_tree : (p : ProgramTree) → IsProgram (lexemes ts) p → program_nesting p ≤ 100 → IsTreeOf source p
+  is_tree p parsed nested = record { tokens = source_tokens ts; lexed = lexed; parsed = program_of_lexemes p parsed; nested = nested }
+
+  -- what is not parsed
+  pub unparsed : (version : Version) (f : SourceFault)
+      → (f.number ≡ 10 → ((p : ProgramTree) → IsProgram (lexemes ts) p → ⊥))
+      → (f.number ≡ 5 → (DeepProgram 101 (lexemes ts) × ((p : ProgramTree) → IsProgram (lexemes ts) p → 100 < program_nesting p)))
+      → (f.number ≡ 5) ⊎ (f.number ≡ 10) ⊎ (f.number ≡ 99)
+      → Refuses version source f
+  unparsed version f grammar deep number = elim number [
+    | inl five ↦
+        let here = deep five in
+        spec.too_deep (source_tokens ts) lexed (subst (DeepProgram 101) (sym (same_lexemes ts)) here.0) (λ p parsed. here.1 p (program_of_tokens p parsed)) five
+    | inr others ↦ elim others [
+      | inl ten ↦ spec.not_in_grammar (source_tokens ts) lexed (λ p parsed. grammar ten p (program_of_tokens p parsed)) ten
+      | inr refused ↦ spec.no_memory refused
+    ]
+  ]
+
+-- Rules and sizes
+
+pub unchecked : (version : Version) (source : List ℕ) (p : ProgramTree) (f : SourceFault) → IsTreeOf source p
+    → (f.number ≡ 99) ⊎ ((b : Breach) × IsAmong b (program_breaches p) × IsFirst b (program_breaches p) × (f.number ≡ b.number) × (f.line ≡ b.position.line))
+    → Refuses version source f
+unchecked version source p f tree answer = elim answer [
+  | inl refused ↦ spec.no_memory refused
+  | inr broken ↦ spec.rule_broken p tree broken.0 broken.1 broken.2 broken.3 broken.4
+]
+
+-- the first heavy routine, by names and weights
+heavy_title : List (NameTree × ℕ) → Option Position
+heavy_title [] = None
+heavy_title (t ∷ ts) = if nat_lt 32000 t.1 then Some t.0.position else heavy_title ts
+
+heavy_checked : (cs : List CheckedRoutine) → checked.first_heavy cs ≡ heavy_title (map title_of cs)
+unfolding heavy_title
+heavy_checked [] = refl
+heavy_checked (c ∷ cs) = ap (λ rest. if nat_lt 32000 c.weight then Some c.name.position else rest) (heavy_checked cs)
+
+heavy_tree : (rs : List RoutineTree) → first_heavy rs ≡ heavy_title (map title rs)
+unfolding heavy_title
+heavy_tree [] = refl
+heavy_tree (r ∷ rs) = ap (λ rest. if nat_lt 32000 r.weight then Some r.name.position else rest) (heavy_tree rs)
+
+same_heavy : (p : Option Position) → checked.heavy_fault p ≡ heavy_fault p
+same_heavy None = refl
+same_heavy (Some p) = refl
+
+pub same_size : (version : Version) (p : ProgramTree) (c : Checked) → IsCheckedOf p c → checked.size_fault c version ≡ size_fault version p
+same_size version p c is =
+    let heavy : checked.first_heavy c.routines.items ≡ first_heavy (routine_trees p.directives) =
+    heavy_checked c.routines.items ∙ ap heavy_title is.titles ∙ sym (heavy_tree (routine_trees p.directives)) in
+    ap (λ w. if nat_lt (checked.greatest_weight version) w then Some (fault 31 0) else checked.heavy_fault (checked.first_heavy c.routines.items)) is.weight
+    ∙ ap (λ h. if nat_lt (checked.greatest_weight version) p.weight then Some (fault 31 0) else h) (same_heavy (checked.first_heavy c.routines.items) ∙ ap heavy_fault heavy)
+
+pub too_large : (version : Version) (source : List ℕ) (p : ProgramTree) (c : Checked) (f : SourceFault) → IsTreeOf source p → program_breaches p ≡ [] → IsCheckedOf p c
+    → Some f ≡ checked.size_fault c version → Refuses version source f
+too_large version source p c f tree lawful is e = spec.too_large p tree lawful (sym (e ∙ same_size version p c is))
+
+-- Stories
+
+module _ (accepted_programs : AcceptedPrograms) (printable_tokens : PrintableTokens) (printable_trees : PrintableTrees) (printable_programs : PrintablePrograms)
+    (small_sources : SmallSourcesHaveSmallCode)
+    (version : Version) (source : List ℕ) (ts : List Token) (p : ProgramTree) (c : Checked)
+    (lexed : Lexes 0 1 source (Ok (source_tokens ts))) (parsed : IsProgram (lexemes ts) p) (lawful : program_breaches p ≡ []) (is : IsCheckedOf p c)
+    (sized : checked.size_fault c version ≡ None) where
+  small : IsSmall c version
+  small = small_sources (lexemes ts) p c version parsed is sized
+
+  accepted : IsAccepted (program_of c)
+  accepted = subst IsAccepted (sym is.program) (accepted_programs p lawful)
+
+  printable : HasPrintableTexts (program_of c)
+  printable = subst HasPrintableTexts (sym is.program) (printable_programs p (printable_trees (lexemes ts) p parsed (printable_tokens source ts lexed)))
+
+  pub fits : Fits version (program_of c)
+  fits = record { accepted = accepted; printable = printable; within = stories_are_short version (program_of c) small.all }
+
+  pub compiled : StoriesHold → CodePlays → (bytes : List ℕ) → All (λ b. b < 256) bytes → bytes ≡ story_of version (program_of c) → program_nesting p ≤ 100 → IsStoryOf version source bytes
+  compiled stories_hold code_plays bytes are_bytes laid nested =
+      let q = program_of c in
+      let all : All (λ b. b < 256) (story_of version q) = subst (All (λ b. b < 256)) laid are_bytes in
+      let held = stories_hold version q (is_story version q accepted small.each small.all all) in
+      let plays : (full : ℕ) (lines : List (List ℕ)) → Plays (story_of version q) q full lines = code_plays (story_of version q) (addresses_in (scale_of version) q) q accepted printable held.1 in
+      record {
+        tree = p;
+        is_tree = is_tree source ts lexed p parsed nested;
+        lawful = lawful;
+        fits = sym (same_size version p c is) ∙ sized;
+        laid_out = laid ∙ ap (story_of version) is.program;
+        reads = subst (λ b. (header : Header) × Reads b (Ok header)) (sym laid) held.0;
+        plays = λ full lines. subst (λ r. Plays bytes r full lines) is.program (subst (λ b. Plays b q full lines) (sym laid) (plays full lines));
+      }

@@ -1,0 +1,247 @@
+-- Stories hold their programs.
+use Rattle.std.proofs.Common.{◌≡◌, ℕ, zero, suc, ◌+◌, ◌*◌, ◌/◌, ◌==◌, ◌<◌, ◌≤◌, List, [], ◌∷◌, ◌++◌, length, drop, refl, sym, ap, ◌∙◌, subst, arith}
+use Rattle.std.specs.Prelude.{codes, map, if◌then◌else◌, slice_index, slice_index_or}
+use Rattle.std.specs.List.{All}
+use Rattle.std.proofs.lemmas.List.{length-append, length-map, get_or-append-add}
+use Rattle.zcore.specs.declared.header.Version.{Version}
+use Rattle.zcore.specs.declared.header.Version.TheVariants.{V5, V8}
+use Rattle.zcore.specs.Alphabets.{spelling_of}
+use Rattle.zcore.specs.Bytes.{word_at}
+use Rattle.zcore.specs.Header.{scale_of, version_number}
+use Rattle.zcore.specs.Parts.{scale_in, unpacked}
+use Rattle.zcore.specs.Text.{Holds, encoded}
+use Rattle.zcore.specs.Words.{packed}
+use Rattle.checker.specs.Resolved.{RoutineOf, ProgramOf}
+use Rattle.checker.specs.Accepted.{IsAccepted}
+use Rattle.checker.specs.Meaning.{routine_at}
+use Rattle.items.specs.Items.{routine_items}
+use Rattle.code.specs.Addresses.{Addresses}
+use Rattle.code.specs.Bytes.{code_size}
+use Rattle.code.specs.Standing.{HoldsProgram, HoldsRoutine, HoldsText, fault_line, start_code}
+use Rattle.code.specs.Sizes.{routine_size}
+use Rattle.story.specs.Layout.{addresses_in, fault_texts, first_place, packed_addresses, parts_from, places_from, low_bytes, routine_bytes, story_of}
+use Rattle.story.specs.Laws.{IsShort, StoriesHold}
+use Rattle.story.proofs.Parts.{whole, Stands, holds_first, parts_rise, parts_stand, places_count}
+use Rattle.story.proofs.Lengths.{routine_length, sizes_are}
+use Rattle.story.proofs.Low.{global_stands, high_stands, start_stands}
+use Rattle.story.proofs.Reading.{Says, behind_header, says, header_read, laid_length, laid_out, laid_read}
+
+-- Packed addresses
+
+packed_is : (version : Version) (places : List ℕ) (k : ℕ) → k < length places
+    → slice_index (map (λ place. place / scale_of version) places) k ≡ slice_index places k / scale_of version
+packed_is version [] k within = absurd (omega (arith, within))
+packed_is version (place ∷ places) zero within = refl
+packed_is version (place ∷ places) (suc k) within = packed_is version places k (omega (arith, within))
+
+scale_is : (version : Version) (story : List ℕ) → slice_index story 0 ≡ version_number version → scale_in story ≡ scale_of version
+scale_is V5 story e = ap (λ n. if n == 8 then 8 else 4) e
+scale_is V8 story e = ap (λ n. if n == 8 then 8 else 4) e
+
+-- what a packed address of a place in a story is
+pub record IsPacked (version : Version) (place : ℕ) : Type 0 where
+  pub back : scale_of version * (place / scale_of version) ≡ place
+  pub named : 0 < place / scale_of version
+  pub word : place / scale_of version < 65536
+
+is_packed : (version : Version) (place end : ℕ) → whole version place → 875 ≤ place → place ≤ end → end ≤ 65535 * scale_of version → IsPacked version place
+is_packed V5 place end multiple low below within =
+    record { back = omega (arith, multiple); named = omega (arith, low); word = omega (arith, below, within) }
+is_packed V8 place end multiple low below within =
+    record { back = omega (arith, multiple); named = omega (arith, low); word = omega (arith, below, within) }
+
+-- Parts by their numbers
+
+size_at : (parts : List (List ℕ)) (k : ℕ) → k < length parts → slice_index (map length parts) k ≡ length (slice_index_or parts k [])
+size_at [] k within = absurd (omega (arith, within))
+size_at (part ∷ parts) zero within = refl
+size_at (part ∷ parts) (suc k) within = size_at parts k (omega (arith, within))
+
+routine_is : (rs : List RoutineOf) (k : ℕ) (d : RoutineOf) → k < length rs → slice_index_or rs k d ≡ routine_at rs k
+routine_is [] k d within = absurd (omega (arith, within))
+routine_is (r ∷ rs) zero d within = refl
+routine_is (r ∷ rs) (suc k) d within = routine_is rs k d (omega (arith, within))
+
+pub text_lengths : map length fault_texts ≡ 26 ∷ 24 ∷ []
+unfolding encoded packed spelling_of
+text_lengths = refl
+
+module _ (a : Addresses) where
+  abbrev pub parts_of : List RoutineOf → List (List ℕ)
+  parts_of rs = map (routine_bytes a) rs ++ fault_texts
+
+  parts_count : (rs : List RoutineOf) → length (parts_of rs) ≡ length rs + 2
+  parts_count rs =
+      let b : length (map (routine_bytes a) rs) ≡ length rs = length-map rs (routine_bytes a) in
+      omega (arith, length-append (map (routine_bytes a) rs) fault_texts, b)
+
+  routine_part : (rs : List RoutineOf) (k : ℕ) → k < length rs → slice_index_or (parts_of rs) k [] ≡ routine_bytes a (routine_at rs k)
+  routine_part [] k within = absurd (omega (arith, within))
+  routine_part (r ∷ rs) zero within = refl
+  routine_part (r ∷ rs) (suc k) within = routine_part rs k (omega (arith, within))
+
+  text_part : (rs : List RoutineOf) (n : ℕ) → slice_index_or (parts_of rs) (length rs + n) [] ≡ slice_index_or fault_texts n []
+  text_part rs n =
+      ap (λ k. slice_index_or (parts_of rs) (k + n) []) (sym (length-map rs (routine_bytes a)))
+      ∙ get_or-append-add (map (routine_bytes a) rs) fault_texts n []
+
+  -- no part is empty
+  part_long : (rs : List RoutineOf) (k : ℕ) → k < length (parts_of rs) → 0 < slice_index (map length (parts_of rs)) k
+  part_long [] zero within = subst (λ ns. 0 < slice_index ns 0) (sym text_lengths) (omega arith)
+  part_long [] (suc zero) within = subst (λ ns. 0 < slice_index ns 1) (sym text_lengths) (omega arith)
+  part_long [] (suc (suc k)) within = absurd (omega (arith, within))
+  part_long (r ∷ rs) zero within = omega arith
+  part_long (r ∷ rs) (suc k) within = part_long rs k (omega (arith, within))
+
+-- Programs
+
+abbrev places_in : Version → ProgramOf → List ℕ
+places_in version p = places_from (scale_of version) first_place (map routine_size p.routines ++ map length fault_texts)
+
+abbrev parts_in : Version → ProgramOf → List (List ℕ)
+parts_in version p = parts_of (addresses_in (scale_of version) p) p.routines
+
+abbrev packed_in : Version → ProgramOf → List ℕ
+packed_in version p = packed_addresses (scale_of version) p
+
+-- a part that stands in a story at its packed address
+record Lies (version : Version) (story : List ℕ) (packed : ℕ) (part : List ℕ) : Type 0 where
+  bytes : Holds story (unpacked story packed) part
+  within : unpacked story packed + length part ≤ length story
+  above : 875 ≤ unpacked story packed
+  named : 0 < packed
+  word : packed < 65536
+
+module _ (version : Version) (p : ProgramOf) (story : List ℕ)
+    (said : Says version story) (long : 875 ≤ length story) (short : length story ≤ 65535 * scale_of version)
+    (high : drop 875 story ≡ parts_from (scale_of version) first_place (parts_in version p)) where
+  sizes_same : map length (parts_in version p) ≡ map routine_size p.routines ++ map length fault_texts
+  sizes_same = sizes_are (addresses_in (scale_of version) p) p.routines
+
+  part_stands : (k : ℕ) → k < length (parts_in version p)
+      → Stands version story first_place (slice_index (places_in version p) k) (slice_index_or (parts_in version p) k [])
+  part_stands k within =
+      subst (λ sizes. Stands version story first_place (slice_index (places_from (scale_of version) first_place sizes) k) (slice_index_or (parts_in version p) k []))
+      sizes_same (parts_stand version story first_place (parts_in version p) long high k within)
+
+  count_is : length (places_in version p) ≡ length (parts_in version p)
+  count_is =
+      places_count version first_place (map routine_size p.routines ++ map length fault_texts)
+      ∙ ap length (sym sizes_same) ∙ length-map (parts_in version p) length
+
+  unpacked_is : (k : ℕ) → k < length (parts_in version p) → unpacked story (slice_index (packed_in version p) k) ≡ slice_index (places_in version p) k
+  unpacked_is k within =
+      let stands = part_stands k within in
+      let fits = is_packed version (slice_index (places_in version p) k) (length story) stands.multiple stands.above (omega (arith, stands.within)) short in
+      ap (λ n. n * slice_index (packed_in version p) k) (scale_is version story said.version_byte)
+      ∙ ap (λ n. scale_of version * n) (packed_is version (places_in version p) k (omega (arith, within, count_is)))
+      ∙ fits.back
+
+  part_lies : (k : ℕ) → k < length (parts_in version p) → Lies version story (slice_index (packed_in version p) k) (slice_index_or (parts_in version p) k [])
+  part_lies k within =
+      let stands = part_stands k within in
+      let e : unpacked story (slice_index (packed_in version p) k) ≡ slice_index (places_in version p) k = unpacked_is k within in
+      let f : slice_index (packed_in version p) k ≡ slice_index (places_in version p) k / scale_of version =
+      packed_is version (places_in version p) k (omega (arith, within, count_is)) in
+      let fits = is_packed version (slice_index (places_in version p) k) (length story) stands.multiple stands.above (omega (arith, stands.within)) short in
+      record {
+        bytes = subst (λ at. Holds story at (slice_index_or (parts_in version p) k [])) (sym e) stands.bytes;
+        within = omega (arith, stands.within, e);
+        above = omega (arith, stands.above, e);
+        named = subst (λ n. 0 < n) (sym f) fits.named;
+        word = subst (λ n. n < 65536) (sym f) fits.word;
+      }
+
+  -- bytes of another part follow
+  followed : (k : ℕ) → suc k < length (parts_in version p)
+      → unpacked story (slice_index (packed_in version p) k) + length (slice_index_or (parts_in version p) k []) < length story
+  followed k within =
+      let here : k < length (parts_in version p) = omega (arith, within) in
+      let next = part_stands (suc k) within in
+      let rises : slice_index (places_in version p) k + slice_index (map length (parts_in version p)) k ≤ slice_index (places_in version p) (suc k) =
+      subst (λ sizes. slice_index (places_from (scale_of version) first_place sizes) k + slice_index (map length (parts_in version p)) k ≤ slice_index (places_from (scale_of version) first_place sizes) (suc k))
+      sizes_same (parts_rise version first_place (map length (parts_in version p)) k (omega (arith, within, length-map (parts_in version p) length))) in
+      let size : slice_index (map length (parts_in version p)) k ≡ length (slice_index_or (parts_in version p) k []) = size_at (parts_in version p) k here in
+      let size_next : slice_index (map length (parts_in version p)) (suc k) ≡ length (slice_index_or (parts_in version p) (suc k) []) = size_at (parts_in version p) (suc k) within in
+      let full : 0 < slice_index (map length (parts_in version p)) (suc k) = part_long (addresses_in (scale_of version) p) p.routines (suc k) within in
+      omega (arith, next.within, rises, size, size_next, full, unpacked_is k here)
+
+  text_lies : (n : ℕ) (text : List ℕ) → n < 2 → slice_index_or fault_texts n [] ≡ encoded text
+      → HoldsText story (slice_index (packed_in version p) (length p.routines + n)) text
+  text_lies n text few e =
+      let count : length (parts_in version p) ≡ length p.routines + 2 = parts_count (addresses_in (scale_of version) p) p.routines in
+      let lies = part_lies (length p.routines + n) (omega (arith, few, count)) in
+      let part : slice_index_or (parts_in version p) (length p.routines + n) [] ≡ encoded text =
+      text_part (addresses_in (scale_of version) p) p.routines n ∙ e in
+      record {
+        bytes = subst (Holds story (unpacked story (slice_index (packed_in version p) (length p.routines + n)))) part lies.bytes;
+        word = lies.word;
+        above = omega (arith, lies.above, said.static_base);
+      }
+
+  routine_lies : (k : ℕ) → k < length p.routines → code_size (routine_items (routine_at p.routines k)) ≤ 32000
+      → HoldsRoutine story (addresses_in (scale_of version) p) (slice_index (packed_in version p) k) (routine_at p.routines k)
+  routine_lies k within small =
+      let count : length (parts_in version p) ≡ length p.routines + 2 = parts_count (addresses_in (scale_of version) p) p.routines in
+      let lies = part_lies k (omega (arith, within, count)) in
+      let part : slice_index_or (parts_in version p) k [] ≡ routine_bytes (addresses_in (scale_of version) p) (routine_at p.routines k) =
+      routine_part (addresses_in (scale_of version) p) p.routines k within in
+      let size : length (slice_index_or (parts_in version p) k []) ≡ routine_size (routine_at p.routines k) =
+      ap length part ∙ routine_length (addresses_in (scale_of version) p) (routine_at p.routines k) in
+      record {
+        bytes = subst (Holds story (unpacked story (slice_index (packed_in version p) k))) part lies.bytes;
+        followed = omega (arith, followed k (omega (arith, within, count)), size);
+        above = omega (arith, lies.above, said.static_base);
+        named = lies.named;
+        word = lies.word;
+        short = small;
+      }
+
+module _ (version : Version) (p : ProgramOf) where
+  abbrev a : Addresses
+  a = addresses_in (scale_of version) p
+
+  abbrev main : ℕ
+  main = slice_index (packed_in version p) p.main
+
+  abbrev high : List ℕ
+  high = parts_from (scale_of version) first_place (parts_in version p)
+
+  abbrev story : List ℕ
+  story = laid_out version p.globals main (parts_in version p)
+
+  body_stands : drop 64 story ≡ low_bytes p.globals main ++ high
+  body_stands = behind_header version (low_bytes p.globals main ++ high)
+
+  said : Says version story
+  said = says version (low_bytes p.globals main ++ high)
+
+  long : 875 ≤ length story
+  long = omega (arith, laid_length version p.globals main (parts_in version p))
+
+  holds : IsAccepted p → All IsShort p.routines → length story ≤ 65535 * scale_of version → All (λ b. b < 256) story → HoldsProgram story a p
+  holds accepted small short bytes =
+      let high_is : drop 875 story ≡ high = high_stands story p.globals high main body_stands in
+      let e0 : length p.routines + 0 ≡ length p.routines = omega arith in
+      record {
+        byte_each = bytes;
+        routines = λ r within. routine_lies version p story said long short high_is r within
+            (subst IsShort (routine_is p.routines r (routine_at p.routines r) within) (small r (routine_at p.routines r) within));
+        division_by_zero = subst (λ n. HoldsText story (slice_index (packed_in version p) n) (fault_line (codes "division by zero"))) e0
+            (text_lies version p story said long short high_is 0 (fault_line (codes "division by zero")) (omega arith) refl);
+        not_a_character = text_lies version p story said long short high_is 1 (fault_line (codes "not a character")) (omega arith) refl;
+        start = subst (λ at. Holds story at (start_code main)) (sym said.first_instruction)
+            (holds_first 871 story (start_code main) high (start_stands story p.globals high main body_stands));
+        start_above = omega (arith, said.first_instruction, said.static_base);
+        globals_above = omega (arith, said.globals);
+        globals_below = omega (arith, said.globals, said.static_base);
+        static_below = omega (arith, said.static_base, long);
+        globals = λ g within. ap (λ at. word_at story (at + 2 * g)) said.globals ∙ global_stands story p.globals high main body_stands g within (omega (arith, accepted.globals));
+      }
+
+pub stories_hold : StoriesHold
+unfolding story_of
+stories_hold version p is = (
+  (header_read version, laid_read version p.globals (slice_index (packed_addresses (scale_of version) p) p.main) (parts_in version p)),
+  holds version p is.accepted is.short is.within is.bytes,
+)

@@ -1,0 +1,111 @@
+-- What stands below the routines of a story.
+use Rattle.std.proofs.Common.{◌≡◌, ℕ, zero, suc, ◌+◌, ◌*◌, ◌/◌, ◌%◌, ◌<◌, ◌≤◌, List, [], ◌∷◌, ◌++◌, length, take, drop, refl, sym, ap, ◌∙◌, arith}
+use Rattle.std.specs.Prelude.{replicate, slice_index}
+use Rattle.std.specs.List.{flat_map}
+use Rattle.std.proofs.lemmas.List.{append_assoc, length-append, length-replicate, length-take-le, get_or-drop, get_or-take, get_or_append_left}
+use Rattle.zcore.specs.declared.header.Version.{Version}
+use Rattle.zcore.specs.Bytes.{word_at}
+use Rattle.zcore.specs.Instruction.{bytes_of}
+use Rattle.zcore.specs.Text.{encoded}
+use Rattle.zcore.specs.Words.{packed}
+use Rattle.code.specs.Standing.{start_code}
+use Rattle.story.specs.Layout.{word, abbreviation_bytes, global_bytes, dictionary_bytes, low_bytes, header_of}
+use Rattle.story.proofs.Parts.{behind_at}
+
+-- Words
+
+pub word_is : (n : ℕ) → n / 256 * 256 + n % 256 ≡ n
+word_is n = omega arith
+
+words_length : (ws : List ℕ) → length (flat_map word ws) ≡ 2 * length ws
+words_length [] = refl
+words_length (w ∷ ws) = let e : length (flat_map word ws) ≡ 2 * length ws = words_length ws in omega (arith, e)
+
+-- the word of a number in words that are written one behind another
+words_at : (ws rest : List ℕ) (k : ℕ) → k < length ws → word_at (flat_map word ws ++ rest) (2 * k) ≡ slice_index ws k
+words_at [] rest k within = absurd (omega (arith, within))
+words_at (w ∷ ws) rest zero within = word_is w
+words_at (w ∷ ws) rest (suc k) within =
+    let e : 2 * suc k ≡ suc (suc (2 * k)) = omega arith in
+    let f : suc (suc (2 * k)) + 1 ≡ suc (suc (2 * k + 1)) = omega arith in
+    let all : List ℕ = flat_map word (w ∷ ws) ++ rest in
+    let here : word_at all (2 * suc k) ≡ word_at all (suc (suc (2 * k))) = ap (word_at all) e in
+    let next : word_at all (suc (suc (2 * k))) ≡ word_at (flat_map word ws ++ rest) (2 * k) =
+    ap (λ x. slice_index all (suc (suc (2 * k))) * 256 + slice_index all x) f in
+    here ∙ next ∙ words_at ws rest k (omega (arith, within))
+
+-- a word behind an address
+pub byte_behind : (at k : ℕ) (story rest : List ℕ) → drop at story ≡ rest → slice_index story (at + k) ≡ slice_index rest k
+byte_behind at k story rest e = sym (get_or-drop at story k 0) ∙ ap (λ x. slice_index x k) e
+
+pub word_behind : (at k : ℕ) (story rest : List ℕ) → drop at story ≡ rest → word_at story (at + k) ≡ word_at rest k
+word_behind at k story rest e =
+    let f : at + k + 1 ≡ at + (k + 1) = omega arith in
+    ap (λ x. slice_index story (at + k) * 256 + slice_index story x) f
+    ∙ ap (λ x. x * 256 + slice_index story (at + (k + 1))) (byte_behind at k story rest e)
+    ∙ ap (λ x. slice_index rest k * 256 + x) (byte_behind at (k + 1) story rest e)
+
+-- Lengths
+
+pub header_length : (version : Version) (body : List ℕ) → length (header_of version body) ≡ 64
+header_length version body = refl
+
+abbrev first_bytes : List ℕ
+first_bytes = abbreviation_bytes ++ encoded []
+
+first_length : length first_bytes ≡ 194
+unfolding encoded packed
+first_length = refl
+
+globals_length : (globals : List ℕ) → length (global_bytes globals) ≡ 480
+globals_length globals =
+    let enough : 240 ≤ length (globals ++ replicate 240 0) = omega (arith, length-append globals (replicate 240 0), length-replicate {A = ℕ} 240 0) in
+    let count : length (take 240 (globals ++ replicate 240 0)) ≡ 240 = length-take-le 240 (globals ++ replicate 240 0) enough in
+    omega (arith, words_length (take 240 (globals ++ replicate 240 0)), count)
+
+start_length : (main : ℕ) → length (start_code main) ≡ 4
+unfolding bytes_of
+start_length main = refl
+
+pub low_length : (globals : List ℕ) (main : ℕ) → length (low_bytes globals main) ≡ 811
+low_length globals main =
+    let filling : List ℕ = replicate 126 0 in
+    let a = length-append first_bytes (global_bytes globals) in
+    let b = length-append (first_bytes ++ global_bytes globals) filling in
+    let c = length-append (first_bytes ++ global_bytes globals ++ filling) dictionary_bytes in
+    let d = length-append (first_bytes ++ global_bytes globals ++ filling ++ dictionary_bytes) (start_code main) in
+    omega (arith, a, b, c, d, first_length, globals_length globals, length-replicate {A = ℕ} 126 0, start_length main)
+
+-- Places
+
+regrouped : (a b c d e f : List ℕ) → a ++ b ++ c ++ d ++ e ++ f ≡ a ++ (b ++ (c ++ (d ++ (e ++ f))))
+regrouped a b c d e f =
+    append_assoc (a ++ b ++ c ++ d) e f ∙ append_assoc (a ++ b ++ c) d (e ++ f) ∙ append_assoc (a ++ b) c (d ++ (e ++ f)) ∙ append_assoc a b (c ++ (d ++ (e ++ f)))
+
+module _ (story globals high : List ℕ) (main : ℕ) (stands : drop 64 story ≡ low_bytes globals main ++ high) where
+  globals_stand : drop 258 story ≡ global_bytes globals ++ (replicate 126 0 ++ (dictionary_bytes ++ (start_code main ++ high)))
+  globals_stand =
+      behind_at 64 194 story first_bytes (global_bytes globals ++ (replicate 126 0 ++ (dictionary_bytes ++ (start_code main ++ high))))
+      (stands ∙ regrouped first_bytes (global_bytes globals) (replicate 126 0) dictionary_bytes (start_code main) high) first_length
+
+  defaults_stand : drop 738 story ≡ replicate 126 0 ++ (dictionary_bytes ++ (start_code main ++ high))
+  defaults_stand = behind_at 258 480 story (global_bytes globals) (replicate 126 0 ++ (dictionary_bytes ++ (start_code main ++ high))) globals_stand (globals_length globals)
+
+  pub dictionary_stands : drop 864 story ≡ dictionary_bytes ++ (start_code main ++ high)
+  dictionary_stands = behind_at 738 126 story (replicate 126 0) (dictionary_bytes ++ (start_code main ++ high)) defaults_stand (length-replicate {A = ℕ} 126 0)
+
+  pub start_stands : drop 871 story ≡ start_code main ++ high
+  start_stands = behind_at 864 7 story dictionary_bytes (start_code main ++ high) dictionary_stands refl
+
+  pub high_stands : drop 875 story ≡ high
+  high_stands = behind_at 871 4 story (start_code main) high start_stands (start_length main)
+
+  -- the word of a global
+  pub global_stands : (g : ℕ) → g < length globals → length globals ≤ 240 → word_at story (258 + 2 * g) ≡ slice_index globals g
+  global_stands g within few =
+      let all : List ℕ = globals ++ replicate 240 0 in
+      let enough : 240 ≤ length all = omega (arith, length-append globals (replicate 240 0), length-replicate {A = ℕ} 240 0) in
+      word_behind 258 (2 * g) story (global_bytes globals ++ (replicate 126 0 ++ (dictionary_bytes ++ (start_code main ++ high)))) globals_stand
+      ∙ words_at (take 240 all) (replicate 126 0 ++ (dictionary_bytes ++ (start_code main ++ high))) g (omega (arith, length-take-le 240 all enough, within, few))
+      ∙ get_or-take 240 all g 0 (omega (arith, within, few))
+      ∙ get_or_append_left globals (replicate 240 0) 0 g within

@@ -1,0 +1,142 @@
+-- Stories are read.
+use Rattle.std.proofs.Common.{◌≡◌, inr, ℕ, ◌+◌, ◌*◌, ◌/◌, ◌%◌, ◌≤◌, List, ◌++◌, length, drop, Ok, refl, sym, ap, ◌∙◌, subst, arith}
+use Rattle.std.specs.Prelude.{slice_index, sum}
+use Rattle.std.proofs.lemmas.List.{length-append, drop_at}
+use Rattle.zcore.specs.declared.header.Version.{Version}
+use Rattle.zcore.specs.declared.header.Header.{Header}
+use Rattle.zcore.specs.Bytes.{word_at}
+use Rattle.zcore.specs.Header.{IsDictionary, IsDictionaryOf, IsPlaced, Reads, StatesSum, abbreviations_of, defaults_of, dictionary_of, first_instruction_of, globals_of, high_memory_of, scale_of, entry_length_of, entry_count, static_base_of, version_number}
+use Rattle.code.specs.Standing.{start_code}
+use Rattle.story.specs.Layout.{header_of, low_bytes, dictionary_bytes, parts_from, first_place}
+use Rattle.story.proofs.Parts.{whole, parts_end}
+use Rattle.story.proofs.Low.{word_is, byte_behind, word_behind, low_length, dictionary_stands}
+
+-- what the header of a story says
+pub record Says (version : Version) (story : List ℕ) : Type 0 where
+  pub version_byte : slice_index story 0 ≡ version_number version
+  pub high_memory : high_memory_of story ≡ 871
+  pub first_instruction : first_instruction_of story ≡ 871
+  pub dictionary : dictionary_of story ≡ 864
+  pub defaults : defaults_of story ≡ 738
+  pub globals : globals_of story ≡ 258
+  pub static_base : static_base_of story ≡ 864
+  pub abbreviations : abbreviations_of story ≡ 64
+  pub stated_length : word_at story 0x1A ≡ length story / scale_of version
+  pub stated_sum : StatesSum story
+
+module _ (version : Version) (body : List ℕ) where
+  whole_length : length (header_of version body ++ body) ≡ 64 + length body
+  whole_length = length-append (header_of version body) body
+
+  pub behind_header : drop 64 (header_of version body ++ body) ≡ body
+  behind_header = drop_at (header_of version body) body 64 refl
+
+  pub says : Says version (header_of version body ++ body)
+  says = record {
+    version_byte = refl;
+    high_memory = refl;
+    first_instruction = refl;
+    dictionary = refl;
+    defaults = refl;
+    globals = refl;
+    static_base = refl;
+    abbreviations = refl;
+    stated_length = word_is ((64 + length body) / scale_of version) ∙ ap (λ n. n / scale_of version) (sym whole_length);
+    stated_sum = word_is (sum body % 65536) ∙ ap (λ bytes. sum bytes % 65536) (sym behind_header);
+  }
+
+-- The dictionary
+
+module _ (story rest : List ℕ) (long : 871 ≤ length story) (stands : drop 864 story ≡ dictionary_bytes ++ rest) where
+  separators_are : slice_index story 864 ≡ 3
+  separators_are = byte_behind 864 0 story (dictionary_bytes ++ rest) stands
+
+  entry_length_is : entry_length_of story 864 ≡ 9
+  entry_length_is = ap (λ n. slice_index story (864 + 1 + n)) separators_are ∙ byte_behind 864 4 story (dictionary_bytes ++ rest) stands
+
+  no_entries : entry_count story 864 ≡ 0
+  no_entries = ap (λ n. word_at story (864 + 2 + n)) separators_are ∙ word_behind 864 5 story (dictionary_bytes ++ rest) stands
+
+  is_dictionary : IsDictionary story 864
+  is_dictionary =
+      let nothing : entry_count story 864 * entry_length_of story 864 ≡ 0 =
+      ap (λ n. n * entry_length_of story 864) no_entries ∙ ap (λ n. 0 * n) entry_length_is in
+      record {
+        whole = omega (arith, nothing, separators_are, long);
+        entry_length = omega (arith, entry_length_is);
+        count = omega (arith, no_entries);
+        ascending = λ k h. absurd (omega (arith, h, no_entries));
+      }
+
+-- Reading
+
+abbrev pub header_read : Version → Header
+header_read version = record {
+  version = version;
+  static_base = 864;
+  globals = 258;
+  defaults = 738;
+  abbreviations = 64;
+  high_memory = 871;
+  first_instruction = 871;
+  dictionary = record { place = 864; separators = 3; entry_length = 9; entries = 0 };
+}
+
+module _ (version : Version) (story rest : List ℕ) (said : Says version story) (multiple : whole version (length story)) (long : 875 ≤ length story) (stands : drop 864 story ≡ dictionary_bytes ++ rest) where
+  is_placed : IsPlaced story
+  is_placed = record {
+    static_base = (omega (arith, said.static_base), omega (arith, said.static_base, long));
+    globals = (omega (arith, said.globals), omega (arith, said.globals, said.static_base));
+    defaults = (omega (arith, said.defaults), omega (arith, said.defaults, said.static_base));
+    abbreviations = inr (omega (arith, said.abbreviations), omega (arith, said.abbreviations, long));
+    high_memory = (omega (arith, said.high_memory, said.static_base), omega (arith, said.high_memory, long));
+    first_instruction = (omega (arith, said.first_instruction), omega (arith, said.first_instruction, long));
+    dictionary = omega (arith, said.dictionary, said.static_base);
+  }
+
+  is_dictionary_read : IsDictionaryOf story 864 (header_read version).dictionary
+  is_dictionary_read = record {
+    place = refl;
+    separators = sym (separators_are story rest (omega (arith, long)) stands);
+    entry_length = sym (entry_length_is story rest (omega (arith, long)) stands);
+    entries = sym (no_entries story rest (omega (arith, long)) stands);
+  }
+
+  pub is_read : Reads story (Ok (header_read version))
+  is_read = (
+    omega (arith, long),
+    ap (λ n. n * scale_of version) said.stated_length ∙ multiple,
+    said.stated_sum,
+    is_placed,
+    subst (IsDictionary story) (sym said.dictionary) (is_dictionary story rest (omega (arith, long)) stands),
+    record {
+      version = said.version_byte;
+      static_base = sym said.static_base;
+      globals = sym said.globals;
+      defaults = sym said.defaults;
+      abbreviations = sym said.abbreviations;
+      high_memory = sym said.high_memory;
+      first_instruction = sym said.first_instruction;
+      dictionary = subst (λ at. IsDictionaryOf story at (header_read version).dictionary) (sym said.dictionary) is_dictionary_read;
+    },
+  )
+
+-- Parts behind what stands below them
+
+module _ (version : Version) (globals : List ℕ) (main : ℕ) (parts : List (List ℕ)) where
+  abbrev high : List ℕ
+  high = parts_from (scale_of version) first_place parts
+
+  abbrev pub laid_out : List ℕ
+  laid_out = header_of version (low_bytes globals main ++ high) ++ (low_bytes globals main ++ high)
+
+  pub laid_length : length laid_out ≡ 875 + length high
+  laid_length = omega (arith, whole_length version (low_bytes globals main ++ high), length-append (low_bytes globals main) high, low_length globals main)
+
+  pub laid_multiple : whole version (length laid_out)
+  laid_multiple = subst (whole version) (sym laid_length) (parts_end version first_place parts)
+
+  pub laid_read : Reads laid_out (Ok (header_read version))
+  laid_read =
+      is_read version laid_out (start_code main ++ high) (says version (low_bytes globals main ++ high)) laid_multiple (omega (arith, laid_length))
+      (dictionary_stands laid_out globals high main (behind_header version (low_bytes globals main ++ high)))

@@ -1,0 +1,48 @@
+-- How long stories are.
+use Rattle.std.proofs.Common.{◌≡◌, ℕ, ◌+◌, ◌*◌, ◌<◌, ◌≤◌, List, [], ◌∷◌, ◌++◌, length, ap, ◌∙◌, arith}
+use Rattle.std.specs.Prelude.{map, slice_index, slice_index_or}
+use Rattle.std.specs.List.{All}
+use Rattle.zcore.specs.declared.header.Version.{Version}
+use Rattle.zcore.specs.declared.header.Version.TheVariants.{V5, V8}
+use Rattle.zcore.specs.Header.{scale_of}
+use Rattle.checker.specs.Resolved.{RoutineOf, ProgramOf}
+use Rattle.checker.specs.Accepted.{IsAccepted}
+use Rattle.checker.specs.Sizes.{greatest_weight}
+use Rattle.code.specs.Sizes.{routine_size, routines_size}
+use Rattle.story.specs.Layout.{addresses_in, fault_texts, first_place, parts_from, story_of}
+use Rattle.story.specs.Laws.{IsShort, IsStory, StoriesAreShort}
+use Rattle.story.proofs.Parts.{parts_short, room_for}
+use Rattle.story.proofs.Lengths.{sizes_are}
+use Rattle.story.proofs.Reading.{laid_length}
+use Rattle.story.proofs.Holding.{parts_of, text_lengths}
+
+-- room for routines and then for the texts of faults
+room_is : (rs : List RoutineOf) → room_for (map routine_size rs ++ map length fault_texts) ≡ routines_size rs + 71
+room_is [] = ap room_for text_lengths
+room_is (r ∷ rs) =
+    let more : room_for (map routine_size rs ++ map length fault_texts) ≡ routines_size rs + 71 = room_is rs in
+    omega (arith, more)
+
+fits : (version : Version) (weight : ℕ) → weight ≤ greatest_weight version → 875 + (weight + 71) ≤ 65535 * scale_of version
+fits V5 weight light = omega (arith, light)
+fits V8 weight light = omega (arith, light)
+
+pub stories_are_short : StoriesAreShort
+unfolding story_of
+stories_are_short version p light =
+    let a = addresses_in (scale_of version) p in
+    let long = laid_length version p.globals (slice_index a.routines p.main) (parts_of a p.routines) in
+    let parts : length (parts_from (scale_of version) first_place (parts_of a p.routines)) ≤ room_for (map length (parts_of a p.routines)) =
+    parts_short version first_place (parts_of a p.routines) in
+    let room : room_for (map length (parts_of a p.routines)) ≡ routines_size p.routines + 71 = ap room_for (sizes_are a p.routines) ∙ room_is p.routines in
+    omega (arith, long, parts, room, fits version (routines_size p.routines) light)
+
+-- routines that weigh at most 32,000 have code that jumps reach
+pub all_short : (rs : List RoutineOf) → All (λ (r : RoutineOf). routine_size r + 7 ≤ 32000) rs → All IsShort rs
+all_short rs small k d within = let h : routine_size (slice_index_or rs k d) + 7 ≤ 32000 = small k d within in omega (arith, h)
+
+-- what the law of stories asks for, from the limits of a source's weight
+pub is_story : (version : Version) (p : ProgramOf) → IsAccepted p → All (λ (r : RoutineOf). routine_size r + 7 ≤ 32000) p.routines
+    → routines_size p.routines ≤ greatest_weight version → All (λ b. b < 256) (story_of version p) → IsStory version p
+is_story version p accepted small light bytes =
+    record { accepted = accepted; short = all_short p.routines small; within = stories_are_short version p light; bytes = bytes }

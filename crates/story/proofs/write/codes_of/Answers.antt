@@ -1,0 +1,26 @@
+use Rattle.std.proofs.Common.{◌<◌, ◌++◌, [], ◌∷◌, length, take, arith, ap, sym, ◌∙◌}
+use Rattle.std.specs.Prelude.{map}
+use Rattle.std.proofs.lemmas.List.{length-map}
+use Rattle.checker.specs.Resolved.{program_of, routine_of}
+use Rattle.story.specs.Written.{code_of}
+use Rattle.story.proofs.Laid.{code_next}
+use Rattle.story.proofs.write.codes_of.Goals as goal
+
+pub code_at-requires-clause-writable : goal.code_at-requires-clause-writable
+code_at-requires-clause-writable c =
+    let count = length-map c.args.checked.now.routines.items routine_of in
+    let within : c.loop-routine.routine < length (program_of c.args.checked.now).routines =
+    omega (arith, count, c.loop-routine-test.true, c.len-routine-end.ensures, c.args.checked.now.routines.ok.0) in
+    c.items_are_writable.ensures (program_of c.args.checked.now) c.requires.accepted c.requires.printable c.loop-routine.routine within
+
+pub loop-routine-preserved : goal.loop-routine-preserved
+loop-routine-preserved c =
+    let count = length-map c.args.checked.now.routines.items routine_of in
+    let within : c.loop-routine.routine < length (program_of c.args.checked.now).routines =
+    omega (arith, count, c.loop-routine-test.true, c.len-routine-end.ensures, c.args.checked.now.routines.ok.0) in
+    let next = code_next (program_of c.args.checked.now).routines c.loop-routine.routine within in
+    let code = c.in_ok-code_at.ensures in
+    c.in_ok-push.ensures.items
+    ∙ ap (λ z. z ++ c.in_ok-code_at.field-0 ∷ []) c.loop-routine.invariant
+    ∙ ap (λ x. take c.loop-routine.routine (map code_of (program_of c.args.checked.now).routines) ++ x ∷ []) code
+    ∙ sym next

@@ -1,0 +1,36 @@
+-- The laws of stories that functions of `laws` carry as their contracts.
+use Rattle.std.specs.Prelude.{◌<◌, ◌≤◌, ◌*◌, length, Ok}
+use Rattle.std.specs.List.{All}
+use Rattle.zcore.specs.declared.header.Version.{Version}
+use Rattle.zcore.specs.declared.header.Header.{Header}
+use Rattle.zcore.specs.Header.{Reads, scale_of}
+use Rattle.checker.specs.Resolved.{RoutineOf, ProgramOf}
+use Rattle.checker.specs.Accepted.{IsAccepted}
+use Rattle.checker.specs.Sizes.{greatest_weight}
+use Rattle.items.specs.Items.{routine_items}
+use Rattle.code.specs.Bytes.{code_size}
+use Rattle.code.specs.Sizes.{routines_size}
+use Rattle.code.specs.Standing.{HoldsProgram}
+use Rattle.story.specs.Layout.{addresses_in, story_of}
+
+-- the code of a routine can be reached by jumps
+abbrev pub IsShort : RoutineOf → Type 0
+IsShort r = code_size (routine_items r) ≤ 32000
+
+-- a story whose packed addresses are words, and whose bytes are bytes
+pub record IsStory (version : Version) (p : ProgramOf) : Type 0 where
+  pub accepted : IsAccepted p
+  pub short : All IsShort p.routines
+  pub within : length (story_of version p) ≤ 65535 * scale_of version
+  pub bytes : All (λ b. b < 256) (story_of version p)
+
+-- such a story is read, and holds its program
+abbrev pub StoriesHold : Type 0
+StoriesHold =
+    (version : Version) (p : ProgramOf) → IsStory version p
+    → ((header : Header) × Reads (story_of version p) (Ok header)) × HoldsProgram (story_of version p) (addresses_in (scale_of version) p) p
+
+-- the packed addresses of a story are words where its code weighs no more than a source may
+abbrev pub StoriesAreShort : Type 0
+StoriesAreShort =
+    (version : Version) (p : ProgramOf) → routines_size p.routines ≤ greatest_weight version → length (story_of version p) ≤ 65535 * scale_of version

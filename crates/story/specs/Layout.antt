@@ -1,0 +1,105 @@
+-- How a story is laid out (Z-Machine Standards Document 1.1, sections 1.1 and 11). Parts stand one behind another:
+--
+--     0    header
+--     64   table of 96 abbreviations
+--     256  empty text, which all abbreviations name
+--     258  240 words of globals, the source's first
+--     738  63 words of property defaults
+--     864  dictionary, in which no word stands; static memory begins
+--     871  the code that calls Main and then quits; high memory begins
+--     875  the routines in order of definition, and then the texts of faults, each at the next packed address
+--
+-- Zero bytes fill what stands between them, and the end up to a multiple of the scale by which packed addresses count.
+use Rattle.std.specs.Prelude.{◌+◌, ◌-◌, ◌*◌, ◌/◌, ◌%◌, ℕ, List, [], ◌∷◌, ◌++◌, codes, length, map, replicate, take, slice_index, sum}
+use Rattle.std.specs.List.{flat_map}
+use Rattle.zcore.specs.declared.header.Version.{Version}
+use Rattle.zcore.specs.Header.{version_number, scale_of}
+use Rattle.zcore.specs.Text.{encoded}
+use Rattle.checker.specs.Resolved.{RoutineOf, ProgramOf}
+use Rattle.items.specs.Items.{routine_items}
+use Rattle.code.specs.Addresses.{Addresses}
+use Rattle.code.specs.Bytes.{code_bytes}
+use Rattle.code.specs.Sizes.{routine_size}
+use Rattle.code.specs.Standing.{start_code, fault_line}
+
+abbrev pub word : ℕ → List ℕ
+word n = (n / 256) ∷ (n % 256) ∷ []
+
+-- Memory below the routines
+
+-- the table holds addresses halved (3.3)
+abbrev pub abbreviation_bytes : List ℕ
+abbreviation_bytes = flat_map word (replicate 96 128)
+
+abbrev pub global_bytes : List ℕ → List ℕ
+global_bytes globals = flat_map word (take 240 (globals ++ replicate 240 0))
+
+-- three separators, the length of an entry, and no entries (13.2)
+abbrev pub dictionary_bytes : List ℕ
+dictionary_bytes = 3 ∷ codes ".,\"" ++ 9 ∷ word 0
+
+abbrev pub low_bytes : List ℕ → ℕ → List ℕ
+low_bytes globals main =
+    abbreviation_bytes ++ encoded [] ++ global_bytes globals ++ replicate 126 0 ++ dictionary_bytes ++ start_code main
+
+-- Parts at packed addresses
+
+-- the first multiple at an address or after it
+abbrev pub aligned : ℕ → ℕ → ℕ
+aligned scale at = (at + scale - 1) / scale * scale
+
+-- where parts of these sizes stand
+abbrev pub places_from : ℕ → ℕ → List ℕ → List ℕ
+places_from scale at [] = []
+places_from scale at (size ∷ sizes) = aligned scale at ∷ places_from scale (aligned scale at + size) sizes
+
+-- the bytes of parts from an address on, up to a multiple
+abbrev pub parts_from : ℕ → ℕ → List (List ℕ) → List ℕ
+parts_from scale at [] = replicate (aligned scale at - at) 0
+parts_from scale at (part ∷ parts) =
+    replicate (aligned scale at - at) 0 ++ part ++ parts_from scale (aligned scale at + length part) parts
+
+-- the texts that faults of the source print
+abbrev pub fault_texts : List (List ℕ)
+fault_texts = encoded (fault_line (codes "division by zero")) ∷ encoded (fault_line (codes "not a character")) ∷ []
+
+-- a byte with the number of locals, and the code (5.2)
+abbrev pub routine_bytes : Addresses → RoutineOf → List ℕ
+routine_bytes a r = r.locals ∷ code_bytes a (routine_items r)
+
+-- where the first part at a packed address can stand
+abbrev pub first_place : ℕ
+first_place = 875
+
+abbrev pub packed_addresses : ℕ → ProgramOf → List ℕ
+packed_addresses scale p =
+    map (λ place. place / scale) (places_from scale first_place (map routine_size p.routines ++ map length fault_texts))
+
+abbrev pub addresses_in : ℕ → ProgramOf → Addresses
+addresses_in scale p = record {
+  routines = packed_addresses scale p;
+  division_by_zero = slice_index (packed_addresses scale p) (length p.routines);
+  not_a_character = slice_index (packed_addresses scale p) (length p.routines + 1);
+}
+
+abbrev pub high_bytes : ℕ → Addresses → List RoutineOf → List ℕ
+high_bytes scale a routines = parts_from scale first_place (map (routine_bytes a) routines ++ fault_texts)
+
+-- The story
+
+-- all bytes behind the header, with these addresses
+abbrev pub body_with : ℕ → Addresses → ProgramOf → List ℕ
+body_with scale a p = low_bytes p.globals (slice_index a.routines p.main) ++ high_bytes scale a p.routines
+
+-- the header of the bytes behind it (11.1): release 1 and serial number 000000
+abbrev pub header_of : Version → List ℕ → List ℕ
+header_of version body =
+    version_number version ∷ 0 ∷ word 1 ++ word 871 ++ word 871 ++ word 864 ++ word 738 ++ word 258 ++ word 864 ++ word 0
+    ++ codes "000000" ++ word 64 ++ word ((64 + length body) / scale_of version) ++ word (sum body % 65536) ++ replicate 34 0
+
+abbrev pub body_of : Version → ProgramOf → List ℕ
+body_of version p = body_with (scale_of version) (addresses_in (scale_of version) p) p
+
+-- the story of a program
+unfoldable pub story_of : Version → ProgramOf → List ℕ
+story_of version p = header_of version (body_of version p) ++ body_of version p

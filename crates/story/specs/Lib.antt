@@ -1,0 +1,4 @@
+pub mod Layout
+pub mod Written
+pub mod Compiled
+pub mod Laws

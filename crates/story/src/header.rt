@@ -1,0 +1,83 @@
+//! The header of a story (Z-Machine Standards Document 1.1, section 11.1).
+
+ghost use Rattle.std.specs.Prelude.{◌≡◌, ◌≤◌, ◌+◌, ◌*◌, ◌/◌, ◌%◌, ◌++◌, OnOk, length, sum};
+ghost use Rattle.zcore.specs.Header.{scale_of, version_number};
+ghost use Rattle.story.specs.Layout.{header_of};
+
+use crate::words::{put_words, put_zeros};
+use std::alloc::AllocError;
+use zcore::Version;
+
+/// How many bytes the header has.
+const HEADER: usize = 64;
+
+/// The number of the release.
+const RELEASE: u16 = 1;
+
+/// The code that begins the story, where high memory begins too.
+const START: u16 = 871;
+
+/// The dictionary, where static memory begins too.
+const DICTIONARY: u16 = 864;
+
+/// The property defaults, with which the object table begins.
+const DEFAULTS: u16 = 738;
+
+/// The globals.
+const GLOBALS: u16 = 258;
+
+/// The table of abbreviations.
+const ABBREVIATIONS: u16 = 64;
+
+/// Zero bytes at the end of the header.
+const UNUSED: usize = 34;
+
+/// The byte that tells a version.
+fn number_of(version: Version) -> u8
+    ensures { result ≡ version_number version }
+{
+    match version {
+        Version::V5 => 5,
+        Version::V8 => 8,
+    }
+}
+
+/// The sum of bytes, modulo 65,536.
+fn sum_of(bytes: &[u8]) -> u16
+    ensures { result ≡ sum bytes.now % 65536 }
+{
+    let mut total: u16 = 0;
+    for byte in bytes {
+        total = total.wrapping_add(u16::from(*byte));
+    }
+    total
+}
+
+/// How long a story with these bytes behind its header is, in the unit of its version.
+fn stated_length(version: Version, body: &[u8]) -> u16
+    requires { 64 + length body.now ≤ 65535 * scale_of version }
+    ensures { result ≡ (64 + length body.now) / scale_of version }
+{
+    ((HEADER + body.len()) / version.scale() as usize) as u16
+}
+
+/// The header of a story with these bytes behind it.
+pub fn put_header(story: &mut Vec<u8>, version: Version, body: &[u8]) -> Result<(), AllocError>
+    requires { 64 + length body.now ≤ 65535 * scale_of version }
+    ensures { OnOk result (story.new.items ≡ story.old.items ++ header_of version body.now) }
+{
+    story.push(number_of(version))?;
+    story.push(0)?;
+    put_words(
+        story,
+        &[
+            RELEASE, START, START, DICTIONARY, DEFAULTS, GLOBALS, DICTIONARY, 0,
+        ],
+    )?;
+    story.extend_from_slice(b"000000")?;
+    put_words(
+        story,
+        &[ABBREVIATIONS, stated_length(version, body), sum_of(body)],
+    )?;
+    put_zeros(story, UNUSED)
+}

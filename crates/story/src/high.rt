@@ -1,0 +1,95 @@
+//! The parts of a story that stand at packed addresses.
+
+ghost use Rattle.std.specs.Prelude.{◌≡◌, ◌+◌, ◌-◌, ◌++◌, [], ◌∷◌, true, IfOk, OnOk, length, map, replicate, ℕ, List};
+ghost use Rattle.std.specs.List.{All, list_all};
+ghost use Rattle.zcore.specs.Alphabets.{is_printable};
+ghost use Rattle.zcore.specs.Header.{scale_of};
+ghost use Rattle.zcore.specs.Text.{encoded};
+ghost use Rattle.code.specs.Written.{addresses_of};
+ghost use Rattle.story.specs.Layout as layout;
+ghost use Rattle.story.specs.Written.{IsReady, code_part};
+
+use crate::places::aligned;
+use crate::words::put_zeros;
+use code::{Addresses, Code, CodeFault};
+use std::alloc::{AllocError, Global};
+use zcore::{TextFault, Version, encode_text};
+
+/// The header's bytes, which are written last.
+const HEADER: usize = 64;
+
+/// The Z-text of characters.
+pub fn z_text(alloc: Global, characters: &[u8]) -> Result<Vec<u8>, AllocError>
+    requires { list_all is_printable characters.now ≡ true }
+    ensures { IfOk result (λ v. v.items ≡ encoded characters.now) }
+{
+    match encode_text(alloc, characters) {
+        Ok(text) => Ok(text),
+        Err(TextFault::Memory) => Err(AllocError),
+        Err(_) => unreachable!(),
+    }
+}
+
+/// Zero bytes up to an address to which a packed address leads.
+pub fn put_filling(body: &mut Vec<u8>, version: Version) -> Result<(), AllocError>
+    ensures { OnOk result (let at = 64 + length body.old.items in body.new.items ≡ body.old.items ++ replicate (layout.aligned (scale_of version) at - at) 0) }
+{
+    let at = HEADER + body.len();
+    put_zeros(body, aligned(version, at) - at)
+}
+
+/// The code of a routine.
+fn put_code(
+    body: &mut Vec<u8>,
+    code: &Code<'_>,
+    addresses: &Addresses<'_>,
+) -> Result<(), AllocError>
+    requires { IsReady code.now }
+    ensures { OnOk result (body.new.items ≡ body.old.items ++ code_part (addresses_of addresses.now) code.now) }
+{
+    match code.put(addresses, body) {
+        Ok(()) => Ok(()),
+        Err(CodeFault::Memory) => Err(AllocError),
+        Err(CodeFault::Item) => unreachable!(),
+    }
+}
+
+/// Routines, each at a packed address. Whatever parts follow, they stand as behind these.
+pub fn put_routines(
+    body: &mut Vec<u8>,
+    version: Version,
+    codes: &[Code<'_>],
+    addresses: &Addresses<'_>,
+) -> Result<(), AllocError>
+    requires { All IsReady codes.now }
+    ensures { OnOk result ((parts : List (List ℕ)) → body.new.items ++ layout.parts_from (scale_of version) (64 + length body.new.items) parts ≡ body.old.items ++ layout.parts_from (scale_of version) (64 + length body.old.items) (map (code_part (addresses_of addresses.now)) codes.now ++ parts)) }
+{
+    for code in codes {
+        put_filling(body, version)?;
+        put_code(body, code, addresses)?;
+    }
+    Ok(())
+}
+
+/// A text at a packed address.
+fn put_text(body: &mut Vec<u8>, version: Version, text: &[u8]) -> Result<(), AllocError>
+    ensures { OnOk result ((parts : List (List ℕ)) → body.new.items ++ layout.parts_from (scale_of version) (64 + length body.new.items) parts ≡ body.old.items ++ layout.parts_from (scale_of version) (64 + length body.old.items) (text.now ∷ parts)) }
+{
+    put_filling(body, version)?;
+    body.extend_from_slice(text)
+}
+
+/// Two texts, and what fills the end of the story.
+pub fn put_texts(
+    body: &mut Vec<u8>,
+    version: Version,
+    first: &[u8],
+    second: &[u8],
+) -> Result<(), AllocError>
+    ensures { OnOk result (body.new.items ≡ body.old.items ++ layout.parts_from (scale_of version) (64 + length body.old.items) (first.now ∷ second.now ∷ [])) }
+{
+    put_text(body, version, first)?;
+    put_text(body, version, second)?;
+    put_filling(body, version)?;
+    Ok(())
+}

@@ -1,0 +1,15 @@
+//! Laws of stories. The functions do nothing: each carries a law as its contract.
+
+ghost use Rattle.story.specs.Laws.{StoriesAreShort, StoriesHold};
+
+/// The story of an accepted program is read, and holds the program at the packed addresses that its calls name, where its
+/// code is short enough for jumps, its packed addresses are words and its bytes are bytes.
+pub fn stories_hold()
+    ensures { StoriesHold }
+{}
+
+/// The packed addresses of a story are words where its code, with the filling between routines, weighs no more than the
+/// source of a story of the version may weigh.
+pub fn stories_are_short()
+    ensures { StoriesAreShort }
+{}

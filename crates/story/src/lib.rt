@@ -1,0 +1,16 @@
+//! Compiled stories: a source is checked, and laid out as a story file.
+#![tactic(auto)]
+
+mod header;
+mod high;
+mod laws;
+mod places;
+mod story;
+mod tables;
+#[cfg(test)]
+mod tests;
+mod words;
+mod write;
+
+pub use laws::{stories_are_short, stories_hold};
+pub use story::{Story, compile};

@@ -1,0 +1,81 @@
+//! From a source to its story.
+
+ghost use Rattle.std.specs.Prelude.{◌≡◌};
+ghost use Rattle.zcore.specs.declared.header.Version.TheVariants.{V5};
+ghost use Rattle.story.specs.Compiled.{Compiles};
+
+use crate::laws::{stories_are_short, stories_hold};
+use crate::write::write_story;
+use checker::{accepted_programs, check, printable_programs, test_sizes};
+use code::{code_plays, small_sources_have_small_code};
+use lexer::{SourceFault, lex, printable_tokens};
+use std::alloc::Global;
+use std::marker::Model;
+use syntax::{parse, printable_trees};
+use zcore::Version;
+
+/// A compiled story: the bytes of a story file.
+#[derive(Drop)]
+pub struct Story {
+    bytes: Vec<u8>,
+}
+
+impl Model for Story {
+    ghost use Rattle.std.specs.Prelude.{ℕ, List};
+
+    ghost Value = { List ℕ };
+
+    ghost view = { λ s. s.bytes.items };
+}
+
+impl Story {
+    ghost use Rattle.std.specs.Prelude.{◌≡◌, ◌<◌};
+    ghost use Rattle.std.specs.List.{All};
+
+    /// The story of these bytes.
+    fn of_bytes(bytes: Vec<u8>) -> Self
+        ensures value { result ≡ bytes.items }
+        ensures small { All (λ b. b < 256) result }
+    {
+        Story { bytes }
+    }
+
+    /// The bytes of the story file.
+    pub fn bytes(&self) -> &[u8]
+        ensures { result.now ≡ self.now }
+    {
+        &self.bytes
+    }
+
+    /// The bytes of the story file, handed over.
+    pub fn into_bytes(self) -> Vec<u8>
+        ensures { result.items ≡ self }
+    {
+        self.bytes
+    }
+}
+
+/// The story of a source, in version 5, or the fault by which the source is refused.
+///
+/// A story is read by each machine of the standard, and prints what the source means. A fault is that of the earliest part
+/// that finds one, with the line of its place: E01 to E04 where the bytes are no tokens, E10 where the tokens are no
+/// program, E05 where the program is nested more than 100 deep, E20 to E29 where it breaks a rule, and E30 to E32 where it
+/// is too large. E99, with line 0, where a growth of memory was refused.
+pub fn compile(alloc: Global, source: &[u8]) -> Result<Story, SourceFault>
+    ensures { Compiles V5 source.now result }
+{
+    accepted_programs();
+    printable_tokens();
+    printable_trees();
+    printable_programs();
+    small_sources_have_small_code();
+    stories_are_short();
+    stories_hold();
+    code_plays();
+    let tokens = lex(alloc, source)?;
+    let program = parse(alloc, &tokens)?;
+    let checked = check(alloc, program)?;
+    test_sizes(&checked, Version::V5)?;
+    let bytes = write_story(alloc, &checked, Version::V5)?;
+    Ok(Story::of_bytes(bytes))
+}

@@ -1,0 +1,70 @@
+//! What stands between the header of a story and its routines.
+
+ghost use Rattle.std.specs.Prelude.{◌≡◌, ◌≤◌, ◌++◌, OnOk, length};
+ghost use Rattle.code.specs.Standing.{start_code};
+ghost use Rattle.story.specs.Layout.{dictionary_bytes, global_bytes, low_bytes};
+
+use crate::words::{put_word, put_words, put_zeros};
+use std::alloc::AllocError;
+
+/// The table has as many words.
+const ABBREVIATIONS: usize = 96;
+
+/// The address of the empty text, halved (Z-Machine Standards Document 1.1, section 3.3).
+const EMPTY_TEXT: u16 = 128;
+
+/// Three Z-characters 5, the last word of a text.
+const NO_CHARACTERS: u16 = 0x94A5;
+
+/// Words of globals (section 6.2).
+const GLOBALS: usize = 240;
+
+/// Bytes of property defaults, of which there are 63 words (section 12.2).
+const DEFAULTS: usize = 126;
+
+/// `call_1n` with a large constant (section 14).
+const CALL: u8 = 0x8F;
+
+/// `quit` (section 14).
+const QUIT: u8 = 0xBA;
+
+/// The words with which the globals begin, 0 where the source has none.
+fn put_globals(bytes: &mut Vec<u8>, globals: &[u16]) -> Result<(), AllocError>
+    requires { length globals.now ≤ 240 }
+    ensures { OnOk result (bytes.new.items ≡ bytes.old.items ++ global_bytes globals.now) }
+{
+    put_words(bytes, globals)?;
+    put_zeros(bytes, 2 * (GLOBALS - globals.len()))?;
+    Ok(())
+}
+
+/// A dictionary with three separators, whose entries would have nine bytes (section 13.2).
+fn put_dictionary(bytes: &mut Vec<u8>) -> Result<(), AllocError>
+    ensures { OnOk result (bytes.new.items ≡ bytes.old.items ++ dictionary_bytes) }
+{
+    bytes.extend_from_slice(b"\x03.,\"\x09\x00\x00")
+}
+
+/// The code that calls the routine at a packed address, and then ends the story.
+fn put_start(bytes: &mut Vec<u8>, main: u16) -> Result<(), AllocError>
+    ensures { OnOk result (bytes.new.items ≡ bytes.old.items ++ start_code main) }
+{
+    bytes.push(CALL)?;
+    put_word(bytes, main)?;
+    bytes.push(QUIT)?;
+    Ok(())
+}
+
+/// All that stands between the header and the routines.
+pub fn put_low(bytes: &mut Vec<u8>, globals: &[u16], main: u16) -> Result<(), AllocError>
+    requires { length globals.now ≤ 240 }
+    ensures { OnOk result (bytes.new.items ≡ bytes.old.items ++ low_bytes globals.now main) }
+{
+    put_words(bytes, &[EMPTY_TEXT; ABBREVIATIONS])?;
+    put_word(bytes, NO_CHARACTERS)?;
+    put_globals(bytes, globals)?;
+    put_zeros(bytes, DEFAULTS)?;
+    put_dictionary(bytes)?;
+    put_start(bytes, main)?;
+    Ok(())
+}
