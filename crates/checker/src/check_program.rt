@@ -11,7 +11,7 @@ use crate::checked::Checked;
 use crate::directive_rules::all_directives;
 use crate::main_rules::main_number;
 use crate::names::tabulate;
-use lexer::SourceFault;
+use lexer::{NO_MEMORY, SourceFault};
 use std::alloc::{AllocError, Global};
 use syntax::Program;
 
@@ -54,7 +54,7 @@ pub fn check<'a>(alloc: Global, program: Program<'a>) -> Result<Checked<'a>, Sou
             }),
         },
         Err(_) => Err(SourceFault {
-            number: 99,
+            number: NO_MEMORY,
             line: 0,
         }),
     }

@@ -21,7 +21,7 @@ use crate::statement_rules::all_statements;
 use crate::table::{Scope, Table, define, find};
 use expressions::Name;
 use indexmap::IndexMap;
-use lexer::Position;
+use lexer::{DEFINED_TWICE, Position, TOO_MANY, UNKNOWN_NAME, WRONG_KIND};
 use std::alloc::{AllocError, Global};
 use syntax::{Directive, Routine, Value};
 
@@ -32,9 +32,9 @@ fn global_name(position: Position, found: Option<Binding>, least: &mut Option<Br
     ensures breaches { least.new ≡ noted least.old (spec.global_breaches position found) }
 {
     match found {
-        None => note(least, 20, position),
+        None => note(least, UNKNOWN_NAME, position),
         Some(Binding::Constant(number)) => return number,
-        Some(_) => note(least, 23, position),
+        Some(_) => note(least, WRONG_KIND, position),
     }
     0
 }
@@ -66,9 +66,9 @@ fn constant_name(
         return;
     }
     match anywhere {
-        None => note(least, 20, position),
-        Some(Binding::Constant(_)) => note(least, 20, position),
-        Some(_) => note(least, 23, position),
+        None => note(least, UNKNOWN_NAME, position),
+        Some(Binding::Constant(_)) => note(least, UNKNOWN_NAME, position),
+        Some(_) => note(least, WRONG_KIND, position),
     }
 }
 
@@ -92,7 +92,7 @@ fn twice(table: &Table, name: Name<'_>, least: &mut Option<Breach>)
     ensures { least.new ≡ noted least.old (spec.twice table.now.entries (name_tree name.entry)) }
 {
     if find(table, name.text).is_some() {
-        note(least, 22, name.position);
+        note(least, DEFINED_TWICE, name.position);
     }
 }
 
@@ -101,7 +101,7 @@ fn count_locals(number: usize, position: Position, least: &mut Option<Breach>)
     ensures { least.new ≡ noted least.old (if nat_le 15 number then at position 24 else []) }
 {
     if number >= 15 {
-        note(least, 24, position);
+        note(least, TOO_MANY, position);
     }
 }
 
@@ -163,7 +163,7 @@ fn count_globals(globals: usize, position: Position, least: &mut Option<Breach>)
     ensures { least.new ≡ noted least.old (if nat_le 232 globals then at position 24 else []) }
 {
     if globals >= 232 {
-        note(least, 24, position);
+        note(least, TOO_MANY, position);
     }
 }
 

@@ -17,7 +17,7 @@ use crate::note::note;
 use crate::resolved::{Evaluation, Variable};
 use crate::table::Scope;
 use expressions::{Binary, Expression, Name};
-use lexer::Position;
+use lexer::{NOT_ASSIGNABLE, Position, TOO_MANY, TOO_MANY_ARGUMENTS, UNKNOWN_NAME, WRONG_KIND};
 use std::alloc::{AllocError, Global};
 
 // A name as a value.
@@ -27,9 +27,9 @@ fn value(name: Name<'_>, found: Option<Binding>, least: &mut Option<Breach>) -> 
     ensures breaches { least.new ≡ noted least.old (value_breaches name.entry.position found) }
 {
     match found {
-        None => note(least, 20, name.position),
-        Some(Binding::Routine(_, _)) => note(least, 23, name.position),
-        Some(Binding::Property) => note(least, 23, name.position),
+        None => note(least, UNKNOWN_NAME, name.position),
+        Some(Binding::Routine(_, _)) => note(least, WRONG_KIND, name.position),
+        Some(Binding::Property) => note(least, WRONG_KIND, name.position),
         Some(Binding::Constant(number)) => return Evaluation::Number(number),
         Some(Binding::Global(number)) => return Evaluation::Read(Variable::Global(number)),
         Some(Binding::Local(number)) => return Evaluation::Read(Variable::Local(number)),
@@ -42,10 +42,10 @@ fn arguments(position: Position, given: usize, locals: usize, least: &mut Option
     ensures { least.new ≡ noted least.old (argument_breaches position given locals) }
 {
     if given > 7 {
-        note(least, 24, position);
+        note(least, TOO_MANY, position);
     }
     if given > locals {
-        note(least, 25, position);
+        note(least, TOO_MANY_ARGUMENTS, position);
     }
 }
 
@@ -62,7 +62,7 @@ fn routine(
 {
     match found {
         None => {
-            note(least, 20, name.position);
+            note(least, UNKNOWN_NAME, name.position);
             0
         }
         Some(Binding::Routine(number, locals)) => {
@@ -70,7 +70,7 @@ fn routine(
             number
         }
         _ => {
-            note(least, 23, name.position);
+            note(least, WRONG_KIND, name.position);
             0
         }
     }
@@ -80,8 +80,8 @@ fn routine(
 fn no_target(position: Position, operator: Position, least: &mut Option<Breach>)
     ensures { least.new ≡ noted least.old (at position 23 ++ at operator 26) }
 {
-    note(least, 23, position);
-    note(least, 26, operator);
+    note(least, WRONG_KIND, position);
+    note(least, NOT_ASSIGNABLE, operator);
 }
 
 // A name that is assigned to or stepped.
@@ -96,8 +96,8 @@ fn target_of(
     ensures breaches { least.new ≡ noted least.old (target_breaches name.entry.position operator found) }
 {
     match found {
-        None => note(least, 20, name.position),
-        Some(Binding::Constant(_)) => note(least, 26, operator),
+        None => note(least, UNKNOWN_NAME, name.position),
+        Some(Binding::Constant(_)) => note(least, NOT_ASSIGNABLE, operator),
         Some(Binding::Routine(_, _)) => no_target(name.position, operator, least),
         Some(Binding::Property) => no_target(name.position, operator, least),
         Some(Binding::Global(number)) => return Variable::Global(number),
@@ -130,8 +130,8 @@ pub fn expression(
         }
         Expression::Parenthesised(inside) => expression(alloc, scope, inside, least),
         Expression::Prefixed(operator, operand) => {
-            let operand = expression(alloc, scope, operand, least)?;
-            Ok(Evaluation::Prefixed(*operator, Box::new(alloc, operand)?))
+            let operand = boxed(alloc, scope, operand, least)?;
+            Ok(Evaluation::Prefixed(*operator, operand))
         }
         Expression::StepBefore(step, position, operand) => {
             let variable = variable(alloc, scope, operand, *position, least)?;
@@ -142,31 +142,43 @@ pub fn expression(
             Ok(Evaluation::StepAfter(variable, *step))
         }
         Expression::Chain(first, operator, second, links) => {
-            let first = expression(alloc, scope, first, least)?;
-            let second = expression(alloc, scope, second, least)?;
+            let first = boxed(alloc, scope, first, least)?;
+            let second = boxed(alloc, scope, second, least)?;
             let links = chain_links(alloc, scope, links, least)?;
-            let first = Box::new(alloc, first)?;
-            Ok(Evaluation::Chain(first, *operator, Box::new(alloc, second)?, links))
+            Ok(Evaluation::Chain(first, *operator, second, links))
         }
         Expression::Compare(left, comparison, right) => {
-            let left = expression(alloc, scope, left, least)?;
-            let right = expression(alloc, scope, right, least)?;
-            let left = Box::new(alloc, left)?;
-            Ok(Evaluation::Compare(left, *comparison, Box::new(alloc, right)?))
+            let left = boxed(alloc, scope, left, least)?;
+            let right = boxed(alloc, scope, right, least)?;
+            Ok(Evaluation::Compare(left, *comparison, right))
         }
         Expression::Equal(left, equality, right, others) => {
-            let left = expression(alloc, scope, left, least)?;
-            let right = expression(alloc, scope, right, least)?;
+            let left = boxed(alloc, scope, left, least)?;
+            let right = boxed(alloc, scope, right, least)?;
             let others = all_expressions(alloc, scope, others, least)?;
-            let left = Box::new(alloc, left)?;
-            Ok(Evaluation::Equal(left, *equality, Box::new(alloc, right)?, others))
+            Ok(Evaluation::Equal(left, *equality, right, others))
         }
         Expression::Assign(left, position, right) => {
             let variable = variable(alloc, scope, left, *position, least)?;
-            let right = expression(alloc, scope, right, least)?;
-            Ok(Evaluation::Assign(variable, Box::new(alloc, right)?))
+            let right = boxed(alloc, scope, right, least)?;
+            Ok(Evaluation::Assign(variable, right))
         }
     }
+}
+
+// The same for an expression inside another, in its box.
+#[cycle(expression)]
+fn boxed(
+    alloc: Global,
+    scope: &Scope<'_>,
+    e: &Expression<'_>,
+    least: &mut Option<Breach>,
+) -> Result<Box<Evaluation>, AllocError>
+    ensures value { IfOk result (λ v. value_of v.value ≡ resolve (look_in scope.now) (expression_tree e.now)) }
+    ensures breaches { OnOk result (least.new ≡ noted least.old (breaches (look_in scope.now) (expression_tree e.now))) }
+{
+    let found = expression(alloc, scope, e, least)?;
+    Ok(Box::new(alloc, found)?)
 }
 
 #[cycle(expression)]
@@ -249,6 +261,6 @@ fn no_variable(
     ensures breaches { OnOk result (least.new ≡ noted least.old (breaches (look_in scope.now) (expression_tree e.now) ++ at operator 26)) }
 {
     let _value = expression(alloc, scope, e, least)?;
-    note(least, 26, operator);
+    note(least, NOT_ASSIGNABLE, operator);
     Ok(Variable::Local(0))
 }

@@ -17,8 +17,6 @@ mod sizes;
 mod statement_rules;
 mod table;
 mod temporaries;
-#[cfg(test)]
-mod tests;
 
 pub use check_program::check;
 pub use checked::{Checked, CheckedRoutine};

@@ -15,7 +15,7 @@ use crate::key::{Key, key_of};
 use crate::note::note;
 use crate::table::{Table, find};
 use expressions::Name;
-use lexer::Position;
+use lexer::{NO_PROPER_MAIN, Position};
 use syntax::Directive;
 
 // The name of the first routine with a key.
@@ -55,12 +55,12 @@ pub fn main_number(
     match find(whole, b"main") {
         Some(Binding::Routine(number, locals)) => {
             if locals >= 1 {
-                note(least, 21, main_position(directives, end));
+                note(least, NO_PROPER_MAIN, main_position(directives, end));
             }
             number
         }
         _ => {
-            note(least, 21, end);
+            note(least, NO_PROPER_MAIN, end);
             0
         }
     }

@@ -5,7 +5,7 @@ ghost use Rattle.checker.specs.Sizes.{fault_of, size_fault};
 ghost use Rattle.checker.specs.Sizes as spec;
 
 use crate::checked::{Checked, CheckedRoutine};
-use lexer::{Position, SourceFault};
+use lexer::{Position, ROUTINE_TOO_LARGE, STORY_TOO_LARGE, SourceFault, TABLES_TOO_LARGE};
 use zcore::Version;
 
 // The parts of a story that stand before its routines.
@@ -53,20 +53,20 @@ pub fn test_sizes(checked: &Checked<'_>, version: Version) -> Result<(), SourceF
 {
     if sum_of_parts(checked) > 65_535 {
         return Err(SourceFault {
-            number: 30,
+            number: TABLES_TOO_LARGE,
             line: 0,
         });
     }
     if checked.weight > greatest_weight(version) {
         return Err(SourceFault {
-            number: 31,
+            number: STORY_TOO_LARGE,
             line: 0,
         });
     }
     match first_heavy(&checked.routines) {
         None => Ok(()),
         Some(position) => Err(SourceFault {
-            number: 32,
+            number: ROUTINE_TOO_LARGE,
             line: position.line,
         }),
     }

@@ -1,6 +1,6 @@
 //! Statements: the rules that they can break, and what they resolve to.
 
-ghost use Rattle.std.specs.Prelude.{◌≡◌, IfOk, OnOk, map, nat_lt, if◌then◌else◌, []};
+ghost use Rattle.std.specs.Prelude.{◌≡◌, ◌++◌, IfOk, OnOk, map, nat_lt, if◌then◌else◌, []};
 ghost use Rattle.std.specs.List.{flat_map};
 ghost use Rattle.expressions.specs.Tree.{expression_tree};
 ghost use Rattle.statements.specs.Tree.{item_tree, statement_tree};
@@ -20,7 +20,7 @@ use crate::resolved::{CheckedItem, CheckedStatement, Evaluation};
 use crate::table::Scope;
 use crate::temporaries::fits;
 use expressions::Expression;
-use lexer::Position;
+use lexer::{EXPRESSION_TOO_LARGE, Position};
 use statements::{Item, Statement};
 use std::alloc::{AllocError, Global};
 
@@ -29,7 +29,7 @@ fn temporaries(position: Position, e: &Expression<'_>, least: &mut Option<Breach
     ensures { least.new ≡ noted least.old (if nat_lt 48 (need (expression_tree e.now)) then at position 29 else []) }
 {
     if !fits(e, 48) {
-        note(least, 29, position);
+        note(least, EXPRESSION_TOO_LARGE, position);
     }
 }
 
@@ -111,21 +111,17 @@ pub fn statement<'a>(
         }
         Statement::NewLine => Ok(CheckedStatement::NewLine),
         Statement::If(position, condition, then) => {
-            let condition = whole(alloc, scope, *position, condition, least)?;
-            let then = statement(alloc, scope, then, least)?;
-            Ok(CheckedStatement::If(condition, Box::new(alloc, then)?))
+            let (condition, then) = under(alloc, scope, then, *position, condition, least)?;
+            Ok(CheckedStatement::If(condition, then))
         }
         Statement::IfElse(position, condition, then, otherwise) => {
-            let condition = whole(alloc, scope, *position, condition, least)?;
-            let then = statement(alloc, scope, then, least)?;
-            let otherwise = statement(alloc, scope, otherwise, least)?;
-            let then = Box::new(alloc, then)?;
-            Ok(CheckedStatement::IfElse(condition, then, Box::new(alloc, otherwise)?))
+            let (condition, then) = under(alloc, scope, then, *position, condition, least)?;
+            let otherwise = boxed(alloc, scope, otherwise, least)?;
+            Ok(CheckedStatement::IfElse(condition, then, otherwise))
         }
         Statement::While(position, condition, body) => {
-            let condition = whole(alloc, scope, *position, condition, least)?;
-            let body = statement(alloc, scope, body, least)?;
-            Ok(CheckedStatement::While(condition, Box::new(alloc, body)?))
+            let (condition, body) = under(alloc, scope, body, *position, condition, least)?;
+            Ok(CheckedStatement::While(condition, body))
         }
         Statement::Return => Ok(CheckedStatement::ReturnValue(Evaluation::Number(1))),
         Statement::ReturnValue(position, e) => {
@@ -138,6 +134,41 @@ pub fn statement<'a>(
             Ok(CheckedStatement::Effect(whole(alloc, scope, *position, e, least)?))
         }
     }
+}
+
+// A statement and the condition under which it runs.
+#[cycle(statement)]
+#[tactic(auto, using(crate::proofs::Noted::noted_append))]
+fn under<'a>(
+    alloc: Global,
+    scope: &Scope<'_>,
+    s: &Statement<'a>,
+    position: Position,
+    condition: &Expression<'_>,
+    least: &mut Option<Breach>,
+) -> Result<(Evaluation, Box<CheckedStatement<'a>>), AllocError>
+    ensures condition { IfOk result (λ x. value_of x.0 ≡ resolve (look_in scope.now) (expression_tree condition.now)) }
+    ensures value { IfOk result (λ x. action_of x.1.value ≡ resolve_statement (look_in scope.now) (statement_tree s.now)) }
+    ensures breaches { OnOk result (least.new ≡ noted least.old (whole_breaches (look_in scope.now) position (expression_tree condition.now) ++ statement_breaches (look_in scope.now) (statement_tree s.now))) }
+{
+    let condition = whole(alloc, scope, position, condition, least)?;
+    let found = boxed(alloc, scope, s, least)?;
+    Ok((condition, found))
+}
+
+// The same for a statement inside another, in its box.
+#[cycle(statement)]
+fn boxed<'a>(
+    alloc: Global,
+    scope: &Scope<'_>,
+    s: &Statement<'a>,
+    least: &mut Option<Breach>,
+) -> Result<Box<CheckedStatement<'a>>, AllocError>
+    ensures value { IfOk result (λ x. action_of x.value ≡ resolve_statement (look_in scope.now) (statement_tree s.now)) }
+    ensures breaches { OnOk result (least.new ≡ noted least.old (statement_breaches (look_in scope.now) (statement_tree s.now))) }
+{
+    let found = statement(alloc, scope, s, least)?;
+    Ok(Box::new(alloc, found)?)
 }
 
 /// Resolves the names of statements in order, and notes the rules that they break.

@@ -25,17 +25,26 @@ fn operand_count(operation: Operation) -> Count
         Operation::JumpIfEqual
         | Operation::JumpIfLess
         | Operation::JumpIfGreater
+        | Operation::DecrementCheck
+        | Operation::IncrementCheck
+        | Operation::TestBits
         | Operation::Or
         | Operation::And
         | Operation::Store
+        | Operation::LoadWord
+        | Operation::LoadByte
         | Operation::Add
         | Operation::Sub
         | Operation::Mul
         | Operation::Div
-        | Operation::Mod => Count::Two,
+        | Operation::Mod
+        | Operation::Call2s
+        | Operation::Call2n => Count::Two,
         Operation::JumpIfZero
         | Operation::Increment
         | Operation::Decrement
+        | Operation::PrintAddress
+        | Operation::Call1s
         | Operation::Return
         | Operation::Jump
         | Operation::PrintPacked
@@ -45,6 +54,7 @@ fn operand_count(operation: Operation) -> Count
         | Operation::ReturnFalse
         | Operation::Print
         | Operation::PrintReturn
+        | Operation::DoNothing
         | Operation::ReturnPopped
         | Operation::Quit
         | Operation::NewLine => Count::Zero,
@@ -59,27 +69,30 @@ fn opcode_number(operation: Operation) -> u8
 {
     match operation {
         Operation::JumpIfZero | Operation::ReturnTrue | Operation::CallVs => 0,
-        Operation::JumpIfEqual | Operation::ReturnFalse => 1,
+        Operation::JumpIfEqual | Operation::ReturnFalse | Operation::StoreWord => 1,
         Operation::JumpIfLess | Operation::Print | Operation::StoreByte => 2,
         Operation::JumpIfGreater | Operation::PrintReturn => 3,
-        Operation::Read => 4,
-        Operation::Increment | Operation::PrintCharacter => 5,
+        Operation::DecrementCheck | Operation::DoNothing | Operation::Read => 4,
+        Operation::IncrementCheck | Operation::Increment | Operation::PrintCharacter => 5,
         Operation::Decrement | Operation::PrintNumber => 6,
-        Operation::Or | Operation::ReturnPopped | Operation::Push => 8,
+        Operation::TestBits | Operation::PrintAddress => 7,
+        Operation::Or | Operation::Call1s | Operation::ReturnPopped | Operation::Push => 8,
         Operation::And | Operation::Pull => 9,
         Operation::Quit => 10,
         Operation::Return | Operation::NewLine => 11,
         Operation::Jump | Operation::CallVs2 => 12,
         Operation::Store | Operation::PrintPacked => 13,
         Operation::Load => 14,
-        Operation::Call1n => 15,
+        Operation::LoadWord | Operation::Call1n => 15,
+        Operation::LoadByte => 16,
         Operation::Add => 20,
         Operation::Sub => 21,
         Operation::Mul => 22,
         Operation::Div => 23,
         Operation::Mod | Operation::Not => 24,
-        Operation::CallVn => 25,
-        Operation::CallVn2 => 26,
+        Operation::Call2s | Operation::CallVn => 25,
+        Operation::Call2n | Operation::CallVn2 => 26,
+        Operation::CheckArgumentCount => 31,
     }
 }
 

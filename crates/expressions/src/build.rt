@@ -1,4 +1,5 @@
-//! Expressions made of their parts. The only error is that memory was refused.
+//! Expressions made of their parts. The only error is that memory was refused. A part that is read before the others comes
+//! in its box.
 
 ghost use Rattle.std.specs.Prelude.{◌≡◌, ◌∷◌, IfOk, map};
 ghost use Rattle.expressions.specs.Tree as tree;
@@ -14,13 +15,10 @@ pub fn call<'a>(name: Name<'a>, arguments: Vec<Expression<'a>>) -> Expression<'a
     Expression::Call(name, arguments)
 }
 
-pub fn parenthesised<'a>(
-    alloc: Global,
-    enclosed: Expression<'a>,
-) -> Result<Expression<'a>, AllocError>
-    ensures { IfOk result (λ e. expression_tree e ≡ tree.parenthesised (expression_tree enclosed.entry)) }
+pub fn parenthesised<'a>(enclosed: Box<Expression<'a>>) -> Expression<'a>
+    ensures { expression_tree result ≡ tree.parenthesised (expression_tree enclosed.entry.value) }
 {
-    Ok(Expression::Parenthesised(Box::new(alloc, enclosed)?))
+    Expression::Parenthesised(enclosed)
 }
 
 pub fn prefixed<'a>(
@@ -56,57 +54,45 @@ pub fn step_after<'a>(
 }
 
 pub fn chain<'a>(
-    alloc: Global,
-    first: Expression<'a>,
+    first: Box<Expression<'a>>,
     operator: Binary,
-    second: Expression<'a>,
+    second: Box<Expression<'a>>,
     links: Vec<(Binary, Expression<'a>)>,
-) -> Result<Expression<'a>, AllocError>
-    ensures { IfOk result (λ e. expression_tree e ≡ chained (tree.binary operator (expression_tree first.entry) (expression_tree second.entry)) (map link links.entry.items)) }
+) -> Expression<'a>
+    ensures { expression_tree result ≡ chained (tree.binary operator (expression_tree first.entry.value) (expression_tree second.entry.value)) (map link links.entry.items) }
 {
-    Ok(Expression::Chain(
-        Box::new(alloc, first)?,
-        operator,
-        Box::new(alloc, second)?,
-        links,
-    ))
+    Expression::Chain(first, operator, second, links)
 }
 
 pub fn compare<'a>(
     alloc: Global,
-    left: Expression<'a>,
+    left: Box<Expression<'a>>,
     operator: Comparison,
     right: Expression<'a>,
 ) -> Result<Expression<'a>, AllocError>
-    ensures { IfOk result (λ e. expression_tree e ≡ tree.compare operator (expression_tree left.entry) (expression_tree right.entry)) }
+    ensures { IfOk result (λ e. expression_tree e ≡ tree.compare operator (expression_tree left.entry.value) (expression_tree right.entry)) }
 {
-    Ok(Expression::Compare(Box::new(alloc, left)?, operator, Box::new(alloc, right)?))
+    Ok(Expression::Compare(left, operator, Box::new(alloc, right)?))
 }
 
 pub fn equal<'a>(
-    alloc: Global,
-    left: Expression<'a>,
+    left: Box<Expression<'a>>,
     operator: Equality,
-    first: Expression<'a>,
+    first: Box<Expression<'a>>,
     others: Vec<Expression<'a>>,
-) -> Result<Expression<'a>, AllocError>
-    ensures { IfOk result (λ e. expression_tree e ≡ tree.equal operator (expression_tree left.entry) (trees_of (expression_tree first.entry ∷ map expression_tree others.entry.items))) }
+) -> Expression<'a>
+    ensures { expression_tree result ≡ tree.equal operator (expression_tree left.entry.value) (trees_of (expression_tree first.entry.value ∷ map expression_tree others.entry.items)) }
 {
-    Ok(Expression::Equal(
-        Box::new(alloc, left)?,
-        operator,
-        Box::new(alloc, first)?,
-        others,
-    ))
+    Expression::Equal(left, operator, first, others)
 }
 
 pub fn assign<'a>(
     alloc: Global,
-    left: Expression<'a>,
+    left: Box<Expression<'a>>,
     position: Position,
     right: Expression<'a>,
 ) -> Result<Expression<'a>, AllocError>
-    ensures { IfOk result (λ e. expression_tree e ≡ tree.assign (expression_tree left.entry) position (expression_tree right.entry)) }
+    ensures { IfOk result (λ e. expression_tree e ≡ tree.assign (expression_tree left.entry.value) position (expression_tree right.entry)) }
 {
-    Ok(Expression::Assign(Box::new(alloc, left)?, position, Box::new(alloc, right)?))
+    Ok(Expression::Assign(left, position, Box::new(alloc, right)?))
 }

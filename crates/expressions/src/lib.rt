@@ -15,5 +15,3 @@ pub use operators::begins_expression;
 pub use parser::expression;
 pub use reading::{expect, expect_word, fault_at, is_sign, is_word, open, peek, position, skip};
 pub use tree::{Binary, Comparison, Equality, Expression, Name, Prefix, Step};
-
-mod tests;

@@ -7,7 +7,7 @@ ghost use Rattle.std.specs.Prelude.{◌≡◌, ◌∷◌, map};
 ghost use Rattle.lexer.specs.Token.{lexemes};
 ghost use Rattle.expressions.specs.Tree.{name_tree, expression_tree};
 ghost use Rattle.expressions.specs.Parse as spec;
-ghost use Rattle.expressions.specs.Parse.{Gives};
+ghost use Rattle.expressions.specs.Parse.{Gives, tail};
 ghost use Rattle.expressions.specs.Levels.{operand_of, chain_of};
 
 use crate::build;
@@ -25,7 +25,7 @@ use std::alloc::Global;
 /// Errors: `Fault::Grammar` at the first token with which no derivation can go on, `Fault::Deep` at the token that opens a
 /// nesting where none is left, and `Memory` where a growth was refused.
 #[cycle(expression)]
-#[tactic(auto, unfolding(crate::specs::Parse::expression, crate::specs::Parse::assigned), using(crate::proofs::Nested::nested_zero, crate::proofs::Nested::nested_whole))]
+#[tactic(auto, unfolding(crate::specs::Parse::expression))]
 pub fn expression<'t, 'a>(
     alloc: Global,
     depth: usize,
@@ -37,18 +37,31 @@ pub fn expression<'t, 'a>(
     if !is_sign(peek(rest), Sign::Assign) {
         return Ok((left, rest));
     }
-    let right_side = skip(rest);
-    if !begins_expression(peek(right_side)) {
-        return Err(fault_at(Fault::Grammar, right_side));
-    }
-    let inside = open(depth, right_side)?;
-    let (right, after) = expression(alloc, inside, right_side)?;
+    let left = Box::new(alloc, left)?;
+    let (right, after) = assigned(alloc, depth, skip(rest))?;
     Ok((build::assign(alloc, left, position(rest), right)?, after))
+}
+
+/// The right side of an assignment, a nesting at its first token.
+#[cycle(expression)]
+#[tactic(auto, unfolding(crate::specs::Parse::assigned), using(crate::proofs::Nested::nested_zero, crate::proofs::Nested::nested_whole))]
+fn assigned<'t, 'a>(
+    alloc: Global,
+    depth: usize,
+    tokens: &'t [Token<'a>],
+) -> Result<(Expression<'a>, &'t [Token<'a>]), ParseError>
+    ensures { Gives (λ x. (expression_tree x.0, lexemes x.1.now)) result (spec.assigned (spec.nested depth) (lexemes tokens.now)) }
+{
+    if !begins_expression(peek(tokens)) {
+        return Err(fault_at(Fault::Grammar, tokens));
+    }
+    let inside = open(depth, tokens)?;
+    expression(alloc, inside, tokens)
 }
 
 /// Operands of a level with its operators between them.
 #[cycle(expression)]
-#[tactic(auto, using(crate::proofs::Chain::level_single, crate::proofs::Chain::level_begins, crate::proofs::Chain::level_fails, crate::proofs::Chain::level_second_fails, crate::proofs::Chain::chain_stop, crate::proofs::Chain::chain_done, crate::proofs::Chain::chain_err, crate::proofs::Chain::chain_more))]
+#[tactic(auto, using(crate::proofs::Chain::level_single, crate::proofs::Chain::level_fails, crate::proofs::Chain::chain_stop, crate::proofs::Chain::chain_done))]
 fn chain<'t, 'a>(
     alloc: Global,
     depth: usize,
@@ -61,8 +74,10 @@ fn chain<'t, 'a>(
     let Some(joining) = operator(operators, peek(at_operator)) else {
         return Ok((first, at_operator));
     };
+    let first = Box::new(alloc, first)?;
     let turns = at_operator.len();
     let (second, mut rest) = operand(alloc, depth, operators, skip(at_operator))?;
+    let second = Box::new(alloc, second)?;
     let mut links = Vec::new(alloc);
     for _turn in 1..turns {
         let Some(next) = operator(operators, peek(rest)) else {
@@ -72,7 +87,7 @@ fn chain<'t, 'a>(
         links.push((next, right))?;
         rest = after;
     }
-    Ok((build::chain(alloc, first, joining, second, links)?, rest))
+    Ok((build::chain(first, joining, second, links), rest))
 }
 
 /// An operand of a level.
@@ -122,12 +137,14 @@ fn comparison<'t, 'a>(
 {
     let (left, rest) = chain(alloc, depth, Operators::Adding, tokens)?;
     if let Some(comparison) = comparing(peek(rest)) {
+        let left = Box::new(alloc, left)?;
         let (right, after) = chain(alloc, depth, Operators::Adding, skip(rest))?;
         return Ok((build::compare(alloc, left, comparison, right)?, after));
     }
     if let Some(equality) = equating(peek(rest)) {
+        let left = Box::new(alloc, left)?;
         let (first, others, after) = values(alloc, depth, skip(rest))?;
-        return Ok((build::equal(alloc, left, equality, first, others)?, after));
+        return Ok((build::equal(left, equality, first, others), after));
     }
     Ok((left, rest))
 }
@@ -139,10 +156,11 @@ fn values<'t, 'a>(
     alloc: Global,
     depth: usize,
     tokens: &'t [Token<'a>],
-) -> Result<(Expression<'a>, Vec<Expression<'a>>, &'t [Token<'a>]), ParseError>
-    ensures { Gives (λ x. (expression_tree x.0 ∷ map expression_tree x.1.items, lexemes x.2.now)) result (spec.list (spec.is_word Word.Or) (spec.sum (spec.nested depth)) (lexemes tokens.now)) }
+) -> Result<(Box<Expression<'a>>, Vec<Expression<'a>>, &'t [Token<'a>]), ParseError>
+    ensures { Gives (λ x. (expression_tree x.0.value ∷ map expression_tree x.1.items, lexemes x.2.now)) result (spec.list (spec.is_word Word.Or) (spec.sum (spec.nested depth)) (lexemes tokens.now)) }
 {
     let (first, mut rest) = chain(alloc, depth, Operators::Adding, tokens)?;
+    let first = Box::new(alloc, first)?;
     let mut others = Vec::new(alloc);
     for _turn in 0..rest.len() {
         if !is_word(peek(rest), Word::Or) {
@@ -175,7 +193,7 @@ fn complemented<'t, 'a>(
 
 /// `-` before its operand, or a primary with `++` or `--` before or after it.
 #[cycle(expression)]
-#[tactic(auto, unfolding(crate::specs::Parse::unary, crate::specs::Parse::stepped), using(crate::proofs::Nested::nested_zero, crate::proofs::Nested::nested_prefix, crate::proofs::Nested::nested_operand))]
+#[tactic(auto, unfolding(crate::specs::Parse::unary), using(crate::proofs::Nested::nested_zero, crate::proofs::Nested::nested_prefix, crate::proofs::Nested::nested_operand))]
 fn unary<'t, 'a>(
     alloc: Global,
     depth: usize,
@@ -194,6 +212,19 @@ fn unary<'t, 'a>(
         let before = build::step_before(alloc, step, position(tokens), operand)?;
         return Ok((before, rest));
     }
+    stepped(alloc, depth, tokens)
+}
+
+/// A primary, and `++` or `--` after it.
+#[cycle(expression)]
+#[tactic(auto, unfolding(crate::specs::Parse::stepped))]
+fn stepped<'t, 'a>(
+    alloc: Global,
+    depth: usize,
+    tokens: &'t [Token<'a>],
+) -> Result<(Expression<'a>, &'t [Token<'a>]), ParseError>
+    ensures { Gives (λ x. (expression_tree x.0, lexemes x.1.now)) result (spec.stepped (spec.nested depth) (lexemes tokens.now)) }
+{
     let (operand, rest) = primary(alloc, depth, tokens)?;
     match stepping(peek(rest)) {
         Some(step) => {
@@ -206,7 +237,7 @@ fn unary<'t, 'a>(
 
 /// A constant, a name, a call, or an expression in parentheses.
 #[cycle(expression)]
-#[tactic(auto, unfolding(crate::specs::Parse::primary, crate::specs::Parse::after_name, crate::specs::Parse::enclosed), using(crate::proofs::Nested::nested_zero, crate::proofs::Nested::nested_whole, crate::proofs::Nested::nested_arguments))]
+#[tactic(auto, unfolding(crate::specs::Parse::primary))]
 fn primary<'t, 'a>(
     alloc: Global,
     depth: usize,
@@ -227,20 +258,46 @@ fn primary<'t, 'a>(
                 text,
                 position: token.position,
             };
-            if !is_sign(peek(rest), Sign::OpenParenthesis) {
-                return Ok((Expression::Named(name), rest));
-            }
-            let inside = open(depth, rest)?;
-            called(alloc, inside, name, skip(rest))
+            after_name(alloc, depth, name, rest)
         }
-        Kind::Sign(Sign::OpenParenthesis) => {
-            let inside = open(depth, tokens)?;
-            let (enclosed, rest) = expression(alloc, inside, rest)?;
-            let rest = expect(Sign::CloseParenthesis, rest)?;
-            Ok((build::parenthesised(alloc, enclosed)?, rest))
-        }
+        Kind::Sign(Sign::OpenParenthesis) => enclosed(alloc, depth, tokens),
         _ => Err(fault_at(Fault::Grammar, tokens)),
     }
+}
+
+/// A name, or its call where a parenthesis stands behind it.
+#[cycle(expression)]
+#[tactic(auto, unfolding(crate::specs::Parse::after_name), using(crate::proofs::Nested::nested_zero, crate::proofs::Nested::nested_arguments))]
+fn after_name<'t, 'a>(
+    alloc: Global,
+    depth: usize,
+    name: Name<'a>,
+    tokens: &'t [Token<'a>],
+) -> Result<(Expression<'a>, &'t [Token<'a>]), ParseError>
+    ensures { Gives (λ x. (expression_tree x.0, lexemes x.1.now)) result (spec.after_name (spec.nested depth) (name_tree name.entry) (lexemes tokens.now)) }
+{
+    if !is_sign(peek(tokens), Sign::OpenParenthesis) {
+        return Ok((Expression::Named(name), tokens));
+    }
+    let inside = open(depth, tokens)?;
+    called(alloc, inside, name, skip(tokens))
+}
+
+/// An expression in parentheses, from the first of them on.
+#[cycle(expression)]
+#[tactic(auto, unfolding(crate::specs::Parse::enclosed), using(crate::proofs::Nested::nested_zero, crate::proofs::Nested::nested_whole))]
+fn enclosed<'t, 'a>(
+    alloc: Global,
+    depth: usize,
+    tokens: &'t [Token<'a>],
+) -> Result<(Expression<'a>, &'t [Token<'a>]), ParseError>
+    ensures { Gives (λ x. (expression_tree x.0, lexemes x.1.now)) result (spec.enclosed (spec.nested depth) (tail (lexemes tokens.now))) }
+{
+    let inside = open(depth, tokens)?;
+    let (enclosed, rest) = expression(alloc, inside, skip(tokens))?;
+    let enclosed = Box::new(alloc, enclosed)?;
+    let rest = expect(Sign::CloseParenthesis, rest)?;
+    Ok((build::parenthesised(enclosed), rest))
 }
 
 /// The call of a name, from behind its parenthesis.

@@ -1,9 +1,9 @@
 //! Calls of routines and returns from them.
 
-ghost use Rattle.std.specs.Prelude.{◌≡◌, ◌<◌, ◌≤◌, ◌+◌, ◌-◌, ◌*◌, length, slice_index, OnOk};
-ghost use Rattle.frames.specs.Standing.{frame_count, variable_of, IsSound};
+ghost use Rattle.std.specs.Prelude.{◌≡◌, ◌<◌, ◌≤◌, ◌+◌, ◌-◌, ◌*◌, [], length, slice_index, OnOk};
+ghost use Rattle.frames.specs.Standing.{frame_count, state_of, variable_of, IsSound};
 ghost use Rattle.frames.specs.Went.{Went, CanEnter};
-ghost use Rattle.zcore.specs.Parts.{is_code, test_routine, test_calls, enter, test_return, leave};
+ghost use Rattle.zcore.specs.Parts.{is_code, test_routine, test_calls, enter, has_argument, test_return, leave};
 
 use crate::cells::{cell, long, put_all, put_long};
 use crate::end::End;
@@ -94,6 +94,15 @@ pub fn enter(
     store.put(FRAME_COUNT, frames + 1)?;
     put_long(store, HEIGHT, (base + count) as u32)?;
     Ok(())
+}
+
+/// Whether the call of the running routine gave an argument of this number, counted from 1. Surplus arguments count.
+#[inline]
+pub fn has_argument(store: &Recorded<Store>, number: u16) -> bool
+    requires { IsSound store.now.store }
+    ensures { result ≡ has_argument number (state_of store.now.store []).frames }
+{
+    1 <= number && number <= cell(store, running(store) + 5)
 }
 
 /// The cell for the variable of a result.

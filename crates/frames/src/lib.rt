@@ -15,7 +15,7 @@ mod store;
 mod tests;
 mod variables;
 
-pub use calls::{enter, is_code, leave, test_calls, test_return, test_routine};
+pub use calls::{enter, has_argument, is_code, leave, test_calls, test_return, test_routine};
 pub use cells::{program_counter, set_program_counter};
 pub use end::End;
 pub use line::{give_line, test_text_buffer, wait};

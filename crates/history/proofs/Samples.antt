@@ -4,7 +4,7 @@ use Rattle.std.specs.Prelude.{codes, replicate}
 use Rattle.zcore.specs.declared.place.Place.TheVariants as places
 use Rattle.zcore.specs.Turn.{StateOfPlay, Whole}
 use Rattle.history.specs.Standing.{nothing, is_typable, undo_of, redo_of, taken, reached}
-use Rattle.history.specs.History.{History, all_cells, with_turn, bounded, latest_text, latest_size}
+use Rattle.history.specs.History.{History, all_cells, stepped_back, stepped_forward, with_turn, bounded, latest_text, latest_size}
 
 abbrev a : List ℕ
 a = codes "a"
@@ -70,7 +70,7 @@ all_times : all_cells (6 ∷ 7 ∷ []) (((0, 5) ∷ []) ∷ ((1, 8) ∷ []) ∷ 
 unfolding all_cells
 all_times = refl
 
--- a turn under a bound
+-- a session that keeps one turn
 
 abbrev state : ℕ → StateOfPlay
 state n = record { memory = []; frames = []; pending = None; program_counter = n }
@@ -89,6 +89,22 @@ at_start = record {
   present = 1;
   given_up = [];
 }
+
+-- a turn back and forward, and no further
+
+turn_back : stepped_back at_start ≡ record at_start { present = 0 }
+turn_back = refl
+
+no_turn_back : stepped_back (stepped_back at_start) ≡ stepped_back at_start
+no_turn_back = refl
+
+turn_forward : stepped_forward (stepped_back at_start) ≡ at_start
+turn_forward = refl
+
+no_turn_forward : stepped_forward at_start ≡ at_start
+no_turn_forward = refl
+
+-- a turn under a bound
 
 abbrev second : Whole
 second = record { state = state 2; place = places.Quit; text = codes "2" }

@@ -1,13 +1,14 @@
 -- What undo, redo, a line taken and a bound make of a session.
-use Rattle.std.proofs.Common.{Option, None, Some, ◌≡◌, ℕ, zero, suc, ◌+◌, ◌-◌, ◌≤◌, ◌<◌, min, true, false, List, [], ◌∷◌, ◌++◌, length, get_or, take, drop, map, refl, ap, sym, ◌∙◌, subst, arith, append_assoc, take-append-drop, length-append, add-one, if◌then◌else◌, lt-ltb, le-ltb}
+use Rattle.std.proofs.Common.{Option, None, Some, ◌≡◌, ℕ, zero, suc, ◌+◌, ◌-◌, ◌≤◌, ◌<◌, true, false, List, [], ◌∷◌, ◌++◌, length, get_or, take, drop, map, refl, ap, sym, ◌∙◌, subst, arith, append_assoc, take-append-drop, length-append, add-one, if◌then◌else◌, lt-ltb, le-ltb}
 use Rattle.std.specs.Prelude.{IfSome, IsTrue, ◌↔◌}
+use Rattle.std.specs.List.{All}
 use Rattle.std.proofs.lemmas.List.{length-take-le, length-drop, get_or-map, get_or-drop, drop-drop}
 use Rattle.zcore.specs.Header.{static_base_of}
 use Rattle.zcore.specs.declared.place.Place.{Place}
 use Rattle.zcore.specs.declared.place.Place.TheVariants as places
 use Rattle.zcore.specs.Turn.{StateOfPlay, Whole, plays, last_text, last_place}
 use Rattle.history.specs.Standing.{Standing, undo_of, undo_from, redo_of, redo_from, reached}
-use Rattle.history.specs.History.{History, without_oldest, bounded, bounded_by, latest_text, text_before, latest_size, size_before}
+use Rattle.history.specs.History.{History, stepped_back, stepped_forward, without_oldest, bounded, bounded_by, latest_text, text_before, latest_size, size_before}
 use Rattle.history.specs.Sessions.{all_lines, IsSession}
 use Rattle.history.proofs.Plays.{plays_front, last_text_at, last_place_at}
 
@@ -30,6 +31,8 @@ pub record Follows (story : List ℕ) (units : ℕ) (s : Standing) (v : History)
   pub places : v.places ≡ map (λ (w : Whole). w.place) (reached s (plays story units (all_lines s)))
   pub texts : v.texts ≡ map (λ (w : Whole). w.text) (drop 1 (reached s (plays story units (all_lines s))))
   pub lines : v.lines ≡ reached s (all_lines s)
+  pub records : length v.sizes ≡ s.kept + length s.undone
+  pub small : All (λ size. size ≤ 72559 + static_base_of story) v.sizes
   pub present : v.present ≡ s.kept
 
 pub follows : {story : List ℕ} {units : ℕ} {most : Option ℕ} {s : Standing} {v : History} → IsSession story units most s v → Follows story units s v
@@ -43,6 +46,8 @@ follows h = record {
   places = h.places;
   texts = h.texts;
   lines = h.lines;
+  records = h.records;
+  small = h.small;
   present = h.present;
 }
 
@@ -59,6 +64,8 @@ followed keep bound h = record {
   places = h.places;
   texts = h.texts;
   lines = h.lines;
+  records = h.records;
+  small = h.small;
   present = h.present;
 }
 
@@ -106,7 +113,21 @@ session_text story units s v k e h =
     ∙ reached_at (λ (w : Whole). w.text) ws (b + 1) k (length s.done) some_whole [] (omega (arith, h.reach, h.present)) (omega (arith, h.whole))
     ∙ sym (text_is story units s v h)
 
+-- how many turns are kept or undone
+pub session_turns : (story : List ℕ) (units : ℕ) (most : Option ℕ) (s : Standing) (v : History) → IsSession story units most s v → length v.lines ≡ s.kept + length s.undone
+session_turns story units most s v h =
+    ap length h.lines ∙ omega (arith, length-drop (length s.done - s.kept) (all_lines s), length-append s.done s.undone, h.reach)
+
 -- Undo and redo
+
+pub back_none : (v : History) → v.present ≡ 0 → v ≡ stepped_back v
+back_none v e = ap {A = ℕ} (λ k. record v { present = k }) (omega arith)
+
+pub forward_none : (v : History) → length v.lines ≤ v.present → v ≡ stepped_forward v
+forward_none v le = sym (ap (λ b. if b then record v { present = v.present + 1 } else v) (le-ltb v.present (length v.lines) le))
+
+pub forward_some : (v : History) → v.present < length v.lines → record v { present = v.present + 1 } ≡ stepped_forward v
+forward_some v lt = sym (ap (λ b. if b then record v { present = v.present + 1 } else v) (lt-ltb v.present (length v.lines) lt))
 
 same_reach : {A : Type 0} (f : List (List ℕ) → List A) (s t : Standing) → all_lines t ≡ all_lines s → length t.done - t.kept ≡ length s.done - s.kept → reached s (f (all_lines s)) ≡ reached t (f (all_lines t))
 same_reach f s t lines back = ap (λ n. drop n (f (all_lines s))) (sym back) ∙ ap (λ ls. drop (length t.done - t.kept) (f ls)) (sym lines)
@@ -127,42 +148,43 @@ moved story units most s t v present lines back long reach bound p h =
       places = h.places ∙ ap (map (λ (w : Whole). w.place)) (same_reach (plays story units) s t lines back);
       texts = h.texts ∙ ap (λ ws. map (λ (w : Whole). w.text) (drop 1 ws)) (same_reach (plays story units) s t lines back);
       lines = h.lines ∙ same_reach (λ ls. ls) s t lines back;
+      records = h.records ∙ sym bound;
+      small = h.small;
       present = p;
     }
 
-undo_by : (story : List ℕ) (units : ℕ) (most : Option ℕ) (done undone : List (List ℕ)) (kept : ℕ) (v : History) (present : ℕ) → present ≡ v.present - 1 → IsSession story units most (record { done = done; undone = undone; kept = kept }) v
-    → IsSession story units most (undo_from kept (record { done = done; undone = undone; kept = kept })) (record v { present = present })
-undo_by story units most done undone zero v present e h = moved story units most _ _ v present refl refl refl h.reach refl (omega (arith, h.present)) h
-undo_by story units most done undone (suc kept) v present e h =
+undo_by : (story : List ℕ) (units : ℕ) (most : Option ℕ) (done undone : List (List ℕ)) (kept : ℕ) (v : History) → IsSession story units most (record { done = done; undone = undone; kept = kept }) v
+    → IsSession story units most (undo_from kept (record { done = done; undone = undone; kept = kept })) (stepped_back v)
+undo_by story units most done undone zero v h = subst (IsSession story units most (record { done = done; undone = undone; kept = 0 })) (back_none v h.present) h
+undo_by story units most done undone (suc kept) v h =
     let n = length done - 1 in
     let front : length (take n done) ≡ n = length-take-le n done (omega arith) in
     let rest : length (drop n done) ≡ length done - n = length-drop n done in
     let both : length (drop n done ++ undone) ≡ length (drop n done) + length undone = length-append (drop n done) undone in
     let some = h.reach in
-    moved story units most (record { done = done; undone = undone; kept = suc kept }) (record { done = take n done; undone = drop n done ++ undone; kept = kept }) v present
+    moved story units most (record { done = done; undone = undone; kept = suc kept }) (record { done = take n done; undone = drop n done ++ undone; kept = kept }) v (v.present - 1)
     (sym (append_assoc (take n done) (drop n done) undone) ∙ ap (λ x. x ++ undone) (take-append-drop n done))
     (omega arith) (omega arith) (omega arith) (omega arith) (omega (arith, h.present)) h
 
-pub session_undo : (story : List ℕ) (units : ℕ) (most : Option ℕ) (s : Standing) (v : History) (present : ℕ) → present ≡ v.present - 1 → IsSession story units most s v → IsSession story units most (undo_of s) (record v { present = present })
-session_undo story units most s v present e h = undo_by story units most s.done s.undone s.kept v present e h
+pub session_undo : (story : List ℕ) (units : ℕ) (most : Option ℕ) (s : Standing) (v : History) → IsSession story units most s v → IsSession story units most (undo_of s) (stepped_back v)
+session_undo story units most s v h = undo_by story units most s.done s.undone s.kept v h
 
-redo_by : (story : List ℕ) (units : ℕ) (most : Option ℕ) (done undone : List (List ℕ)) (kept : ℕ) (v : History) (present : ℕ) → present ≡ v.present + min (length undone) 1 → IsSession story units most (record { done = done; undone = undone; kept = kept }) v
-    → IsSession story units most (redo_from undone (record { done = done; undone = undone; kept = kept })) (record v { present = present })
-redo_by story units most done [] kept v present e h = moved story units most _ _ v present refl refl refl h.reach refl (omega (arith, h.present)) h
-redo_by story units most done (line ∷ lines) kept v present e h =
+redo_by : (story : List ℕ) (units : ℕ) (most : Option ℕ) (done undone : List (List ℕ)) (kept : ℕ) (v : History) → IsSession story units most (record { done = done; undone = undone; kept = kept }) v
+    → IsSession story units most (redo_from undone (record { done = done; undone = undone; kept = kept })) (stepped_forward v)
+redo_by story units most done [] kept v h =
+    let turns = session_turns story units most (record { done = done; undone = []; kept = kept }) v h in
+    subst (IsSession story units most (record { done = done; undone = []; kept = kept })) (forward_none v (omega (arith, h.present))) h
+redo_by story units most done (line ∷ lines) kept v h =
     let more = length-append done (line ∷ []) in
     let some = h.reach in
-    moved story units most (record { done = done; undone = line ∷ lines; kept = kept }) (record { done = done ++ line ∷ []; undone = lines; kept = kept + 1 }) v present
+    let turns = session_turns story units most (record { done = done; undone = line ∷ lines; kept = kept }) v h in
+    subst (IsSession story units most (record { done = done ++ line ∷ []; undone = lines; kept = kept + 1 })) (forward_some v (omega (arith, h.present)))
+    (moved story units most (record { done = done; undone = line ∷ lines; kept = kept }) (record { done = done ++ line ∷ []; undone = lines; kept = kept + 1 }) v (v.present + 1)
     (append_assoc done (line ∷ []) lines)
-    (omega arith) (omega arith) (omega arith) (omega arith) (omega (arith, h.present)) h
+    (omega arith) (omega arith) (omega arith) (omega arith) (omega (arith, h.present)) h)
 
-pub session_redo : (story : List ℕ) (units : ℕ) (most : Option ℕ) (s : Standing) (v : History) (present : ℕ) → present ≡ v.present + min (length s.undone) 1 → IsSession story units most s v → IsSession story units most (redo_of s) (record v { present = present })
-session_redo story units most s v present e h = redo_by story units most s.done s.undone s.kept v present e h
-
--- how many turns are undone
-pub session_turns : (story : List ℕ) (units : ℕ) (most : Option ℕ) (s : Standing) (v : History) → IsSession story units most s v → length v.lines ≡ s.kept + length s.undone
-session_turns story units most s v h =
-    ap length h.lines ∙ omega (arith, length-drop (length s.done - s.kept) (all_lines s), length-append s.done s.undone, h.reach)
+pub session_redo : (story : List ℕ) (units : ℕ) (most : Option ℕ) (s : Standing) (v : History) → IsSession story units most s v → IsSession story units most (redo_of s) (stepped_forward v)
+session_redo story units most s v h = redo_by story units most s.done s.undone s.kept v h
 
 -- Answers that say whether there is a turn
 
@@ -180,8 +202,9 @@ session_undone story units most s v done count d e h = (d ∙ h.present, e ∙ s
 pub session_again : (story : List ℕ) (units : ℕ) (most : Option ℕ) (s : Standing) (v : History) (k : ℕ) (text : List ℕ) → k ≡ v.present → 0 < length s.undone → text ≡ get_or v.texts k [] → IsSession story units most s v
     → text ≡ last_text (plays story units (redo_of s).done)
 session_again story units most s v k text e some is h =
-    let one : min (length s.undone) 1 ≡ 1 = omega arith in
-    is ∙ session_text story units (redo_of s) (record v { present = k + 1 }) k refl (follows (session_redo story units most s v (k + 1) (omega (arith, one)) h))
+    let turns = session_turns story units most s v h in
+    let more = subst (IsSession story units most (redo_of s)) (sym (forward_some v (omega (arith, h.present)))) (session_redo story units most s v h) in
+    is ∙ session_text story units (redo_of s) (record v { present = v.present + 1 }) k (ap (λ n. n + 1) e) (follows more)
 
 pub size_none : (v : History) → v.present ≡ 0 → 0 ≡ latest_size v
 size_none v e = sym (ap (λ n. size_before n v) e)

@@ -1,14 +1,17 @@
 -- What a line that is taken makes of a session.
 use Rattle.std.proofs.Common.{Option, None, Some, ◌≡◌, ℕ, zero, suc, ◌+◌, ◌-◌, ◌≤◌, min, List, [], ◌∷◌, ◌++◌, length, get_or, take, drop, map, refl, ap, sym, ◌∙◌, subst, arith, append-nil, length-append, add-one, true, inl, inr}
 use Rattle.std.specs.Prelude.{IfSome}
-use Rattle.std.proofs.lemmas.List.{length-take-le, length-drop, length-map, map_push, take-map, drop-map, drop-drop, drop-take, drop-append-le, take_at, get_or_push, get_or-drop}
+use Rattle.std.proofs.lemmas.List.{length-take-le, length-drop, length-map, map_push, take-map, drop-map, drop-drop, drop-take, drop-append-le, take_at, get_or_push, get_or-drop, length_push}
+use Rattle.std.proofs.lemmas.List.Elements.{All-drop}
 use Rattle.std.proofs.Math.Nat.{eq-or-lt_of_le}
+use Rattle.zcore.specs.Header.{static_base_of}
 use Rattle.zcore.specs.declared.place.Place.TheVariants as places
 use Rattle.zcore.specs.Turn.{Whole, plays, turn_on, is_waiting, last_text, last_place}
 use Rattle.history.specs.Standing.{Standing, taken, reached}
 use Rattle.history.specs.History.{History, with_turn, without_oldest, bounded, latest_text}
 use Rattle.history.specs.Sessions.{all_lines, IsSession}
 use Rattle.history.specs.Turned.{Turned}
+use Rattle.history.proofs.Turning.{all_taken}
 use Rattle.history.proofs.Plays.{plays_more, last_of, last_at}
 use Rattle.history.proofs.Stands.{Follows, follows, followed, present_of, present_state, present_place, place_is, done_plays, some_whole, text_none, text_some, bound_none, bound_over, bound_under}
 
@@ -41,8 +44,8 @@ reached_map f xs ws p kept x e is =
     ap (λ ys. take p ys ++ f x ∷ []) e ∙ ap (λ k. take k (map f ws) ++ f x ∷ []) is ∙ ap (λ ys. ys ++ f x ∷ []) (take-map f kept ws) ∙ sym (map_push f (take kept ws) x)
 
 pub session_longer : (story : List ℕ) (units : ℕ) (s : Standing) (v : History) (line : List ℕ) (size : ℕ) (whole : Whole) → Follows story units s v → is_waiting (present_of story units s).place ≡ true
-    → turn_on line units (present_of story units s).state ≡ Some whole → Follows story units (longer line s) (with_turn line size whole v)
-session_longer story units s v line size whole h waits turn =
+    → turn_on line units (present_of story units s).state ≡ Some whole → size ≤ 72559 + static_base_of story → Follows story units (longer line s) (with_turn line size whole v)
+session_longer story units s v line size whole h waits turn small =
     let ws = plays story units (all_lines s) in
     let n = length s.done in
     let b = n - s.kept in
@@ -66,6 +69,8 @@ session_longer story units s v line size whole h waits turn =
     let lines : reached (longer line s) (all_lines (longer line s)) ≡ drop b s.done ++ line ∷ [] =
     ap (λ k. drop k (all_lines (longer line s))) back ∙ ap (drop b) (append-nil (s.done ++ line ∷ [])) ∙ drop-append-le b s.done (line ∷ []) (omega arith) in
     let present : v.present + 1 ≡ s.kept + 1 = ap (λ k. k + 1) h.present in
+    let room : v.present ≤ length v.sizes = omega (arith, h.records, h.present) in
+    let sizes : length (take v.present v.sizes ++ size ∷ []) ≡ v.present + 1 = length_push (take v.present v.sizes) size ∙ ap (λ k. k + 1) (length-take-le v.present v.sizes room) in
     record {
       whole = ap length all ∙ omega (arith, length-append (take (suc n) ws) (whole ∷ []));
       reach = omega arith;
@@ -76,6 +81,8 @@ session_longer story units s v line size whole h waits turn =
       places = reached_map (λ (w : Whole). w.place) v.places (drop b ws) (v.present + 1) (s.kept + 1) whole h.places present ∙ ap (map (λ (w : Whole). w.place)) (sym states);
       texts = reached_map (λ (w : Whole). w.text) v.texts (drop 1 (drop b ws)) v.present s.kept whole h.texts h.present ∙ ap (map (λ (w : Whole). w.text)) (sym texts);
       lines = ap (λ xs. take v.present xs ++ line ∷ []) h.lines ∙ ap (λ k. take k (reached s (all_lines s)) ++ line ∷ []) h.present ∙ ap (λ xs. xs ++ line ∷ []) old ∙ sym lines;
+      records = omega arith;
+      small = all_taken (λ n. n ≤ 72559 + static_base_of story) v.sizes v.present size room h.small small;
       present = present;
     }
 
@@ -97,6 +104,8 @@ session_older story units s v kept e h =
       places = ap (drop 1) h.places ∙ drop-map (λ (w : Whole). w.place) 1 (drop b ws) ∙ ap (map (λ (w : Whole). w.place)) states;
       texts = ap (drop 1) h.texts ∙ drop-map (λ (w : Whole). w.text) 1 (drop 1 (drop b ws)) ∙ ap (λ xs. map (λ (w : Whole). w.text) (drop 1 xs)) states;
       lines = ap (drop 1) h.lines ∙ drop-drop 1 b (all_lines s) ∙ ap (λ k. drop k (all_lines s)) back;
+      records = omega (arith, length-drop 1 v.sizes, h.records);
+      small = All-drop (λ size. size ≤ 72559 + static_base_of story) 1 v.sizes h.small;
       present = omega (arith, h.present);
     }
 
@@ -182,7 +191,7 @@ session_taken story units most line s v mid new h waits t e =
     let waiting : is_waiting (present_of story units s).place ≡ true = ap is_waiting here in
     let turn : turn_on line units (present_of story units s).state ≡ Some t.whole =
     sym (ap (λ n. turn_on line n (get_or v.states v.present some_whole.state)) f.fuel ∙ ap (turn_on line units) (present_state story units s v some_whole.state f)) ∙ t.turn some_whole.state in
-    let long = session_longer story units s v line t.size t.whole f waiting turn in
+    let long = session_longer story units s v line t.size t.whole f waiting turn (omega (arith, t.small, h.static_base)) in
     let result = taken_by story units most line s v t.size t.whole h.keep h.bound h.present (kept_texts story units s v f) long in
     let is : new ≡ bounded (with_turn line t.size t.whole v) = e ∙ ap {A = History} bounded t.is in
     let ws = plays story units (all_lines s) in

@@ -25,7 +25,7 @@ use Rattle.history.specs.Inside.{records_of, with_cells, places_of, history_of, 
 use Rattle.history.specs.Sessions.{IsSession}
 use Rattle.history.specs.Standing.{nothing}
 use Rattle.history.specs.Turned.{Turned}
-use Rattle.history.proofs.Insides.{history_state, history_fuel}
+use Rattle.history.proofs.Insides.{history_state, history_fuel, header_base}
 use Rattle.history.proofs.Moves.{cells_taken, present_cells, length-all_cells}
 
 -- The turn as a function
@@ -41,7 +41,7 @@ answers_turn line s fuel whole h =
     ∙ follows_turn (given h.0 line fuel (resumed (play_of s))) (ended (record { program_counter = (play_of s).program_counter; fuel = fuel })) whole h.2
 
 -- a list cut behind its entry k, and one entry more
-all_taken : {X : Type 0} (P : X → Type 0) (xs : List X) (k : ℕ) (x : X) → k ≤ length xs → All P xs → P x → All P (take k xs ++ x ∷ [])
+pub all_taken : {X : Type 0} (P : X → Type 0) (xs : List X) (k : ℕ) (x : X) → k ≤ length xs → All P xs → P x → All P (take k xs ++ x ∷ [])
 all_taken P xs k x le all p n d lt =
     let long : length (take k xs) ≡ k = length-take-le k xs le in
     let most : n ≤ k = omega (arith, long, length_push (take k xs) x) in
@@ -160,6 +160,7 @@ taken_turned keep units header opening old new first line turns more k t given_u
       ap (λ p. turn_on line v.fuel p) (history_state keep units header opening old.store first turns k given_up v d is le)
       ∙ ap (λ n. turn_on line n (play_of old.store)) (history_fuel keep units header opening old.store first turns k given_up v is)
       ∙ answers_turn line old.store units (whole_of new.store t.place t.text.items) h.answers;
+  small = omega (arith, h.small, header_base keep units header opening old.store first turns k given_up v is);
   is = ap (λ ts. history_of keep units header opening new.store first ts (k + 1) given_up) e
       ∙ taken_history keep units header opening old new first line turns k t given_up le h
       ∙ ap {A = History} (λ w. with_turn line (length t.overwritten) (whole_of new.store t.place t.text.items) w) is;
@@ -235,6 +236,8 @@ opened_by story units keep header new first text given_up e base =
       places = sym (ap (map (λ (w : Whole). w.place)) all);
       texts = sym (ap (λ ws. map (λ (w : Whole). w.text) (drop 1 ws)) all);
       lines = refl;
+      records = refl;
+      small = λ k d lt. absurd (omega arith);
       present = refl;
     }
 

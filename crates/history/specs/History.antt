@@ -1,5 +1,5 @@
 -- The whole states that a session holds, with what it knows of the turns between them.
-use Rattle.std.specs.Prelude.{ℕ, zero, suc, ◌+◌, ◌-◌, nat_lt, if◌then◌else◌, List, [], ◌∷◌, ◌++◌, take, drop, reverse, slice_index_or, Option, Some, None}
+use Rattle.std.specs.Prelude.{ℕ, zero, suc, ◌+◌, ◌-◌, nat_lt, if◌then◌else◌, List, [], ◌∷◌, ◌++◌, length, take, drop, reverse, slice_index_or, Option, Some, None}
 use Rattle.journal.specs.Swap.{back, forward}
 use Rattle.zcore.specs.declared.place.Place.{Place}
 use Rattle.zcore.specs.Turn.{StateOfPlay, Whole}
@@ -58,6 +58,14 @@ size_before (suc turn) v = slice_index_or v.sizes turn 0
 
 abbrev pub latest_size : History → ℕ
 latest_size v = size_before v.present v
+
+-- one turn back; where none is done, 0 - 1 is 0, and nothing changes
+abbrev pub stepped_back : History → History
+stepped_back v = record v { present = v.present - 1 }
+
+-- one turn forward; where all are done, nothing changes
+abbrev pub stepped_forward : History → History
+stepped_forward v = if nat_lt v.present (length v.lines) then record v { present = v.present + 1 } else v
 
 -- one turn more behind the present, and none after it
 abbrev pub with_turn : List ℕ → ℕ → Whole → History → History

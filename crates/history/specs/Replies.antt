@@ -12,9 +12,15 @@ use Rattle.history.specs.Standing.{Standing, nothing, is_typable, taken}
 use Rattle.history.specs.History.{History}
 use Rattle.history.specs.Sessions.{IsSession, InEach}
 
+-- the header of the story is read, and the session is at its beginning
+pub record IsOpened (story : List ℕ) (fuel : ℕ) (keep : Option ℕ) (v : History) : Type 0 where
+  pub header : Header
+  pub reads : Reads story (Ok header)
+  pub session : IsSession story fuel keep nothing v
+
 -- a session at its beginning, or a story that is not loaded, or memory that was refused later
 abbrev pub Opens : List ℕ → ℕ → Option ℕ → Result History OpenFault → Type 0
-Opens story fuel keep (Ok session) = IsSession story fuel keep nothing session
+Opens story fuel keep (Ok session) = IsOpened story fuel keep session
 Opens story fuel keep (Err (faults.Load fault)) = Loads story (Err fault)
 Opens story fuel keep (Err faults.Memory) = (header : Header) × Reads story (Ok header)
 

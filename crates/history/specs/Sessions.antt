@@ -1,9 +1,10 @@
 -- What a session is: the play of a story on the lines that stand.
 use Rattle.std.specs.Prelude.{◌≡◌, ◌≤◌, ◌+◌, ℕ, List, [], ◌++◌, length, map, drop, Option, IfSome}
+use Rattle.std.specs.List.{All}
 use Rattle.zcore.specs.Header.{static_base_of}
 use Rattle.zcore.specs.Turn.{Whole, plays, last_text}
-use Rattle.history.specs.Standing.{Standing, reached}
-use Rattle.history.specs.History.{History}
+use Rattle.history.specs.Standing.{Standing, redo_of, reached}
+use Rattle.history.specs.History.{History, stepped_forward}
 
 -- all lines that stand, in the order in which they are played
 abbrev pub all_lines : Standing → List (List ℕ)
@@ -25,6 +26,10 @@ pub record IsSession (story : List ℕ) (units : ℕ) (most : Option ℕ) (s : S
   -- the oldest state has no turn before it
   pub texts : v.texts ≡ map (λ (w : Whole). w.text) (drop 1 (reached s (plays story units (all_lines s))))
   pub lines : v.lines ≡ reached s (all_lines s)
+  -- there are as many records as turns that can be undone or done again: under a bound, no more than it
+  pub records : length v.sizes ≡ s.kept + length s.undone
+  -- a record holds at most one cell for each byte of dynamic memory and 72,559 for stack, frames and registers
+  pub small : All (λ size. size ≤ 72559 + static_base_of story) v.sizes
   pub present : v.present ≡ s.kept
 
 -- P holds of each story, fuel, bound and lines that stand, of which this is the session
@@ -34,3 +39,8 @@ InEach v P = (story : List ℕ) (fuel : ℕ) (keep : Option ℕ) (s : Standing) 
 -- what stands goes over into what `f` makes of it
 abbrev pub Moves : (Standing → Standing) → History → History → Type 0
 Moves f old new = InEach old (λ story fuel keep s. IsSession story fuel keep (f s) new)
+
+-- the turn after the present is done again, where there is one, and nothing else changes
+pub record Redone (old new : History) : Type 0 where
+  pub history : new ≡ stepped_forward old
+  pub stands : Moves redo_of old new

@@ -1,5 +1,5 @@
 -- What a turn makes of a session.
-use Rattle.std.specs.Prelude.{◌≡◌, ℕ, List, slice_index_or, Some}
+use Rattle.std.specs.Prelude.{◌≡◌, ◌≤◌, ◌+◌, ℕ, List, slice_index_or, Some}
 use Rattle.zcore.specs.Turn.{StateOfPlay, Whole, turn_on}
 use Rattle.history.specs.History.{History, with_turn}
 
@@ -8,4 +8,6 @@ pub record Turned (line : List ℕ) (old new : History) : Type 0 where
   pub whole : Whole
   pub size : ℕ
   pub turn : (d : StateOfPlay) → turn_on line old.fuel (slice_index_or old.states old.present d) ≡ Some whole
+  -- what its record can hold
+  pub small : size ≤ 72559 + old.static_base
   pub is : new ≡ with_turn line size whole old

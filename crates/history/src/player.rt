@@ -7,9 +7,9 @@ ghost use Rattle.zcore.specs.declared.place.Place.TheVariants as places;
 ghost use Rattle.zcore.specs.Header.{static_base_of};
 ghost use Rattle.zcore.specs.Turn.{plays, last_text, last_place};
 ghost use Rattle.history.specs.Standing.{undo_of, redo_of};
-ghost use Rattle.history.specs.History.{latest_text, latest_size, bounded, without_oldest};
+ghost use Rattle.history.specs.History.{latest_text, latest_size, stepped_back, bounded, without_oldest};
 ghost use Rattle.history.specs.Turned.{Turned};
-ghost use Rattle.history.specs.Sessions.{InEach, Moves};
+ghost use Rattle.history.specs.Sessions.{InEach, Moves, Redone};
 ghost use Rattle.history.specs.Replies.{After, Opens, Says};
 ghost use Rattle.history.specs.contracts.player.Session.{the_row};
 
@@ -148,6 +148,7 @@ impl Session {
     pub fn undo(&mut self) -> bool
         ensures found { InEach self.old (λ story fuel keep s. IsTrue result ↔ (0 < s.kept)) }
         ensures undone { Moves undo_of self.old self.new }
+        ensures history { self.new ≡ stepped_back self.old }
     {
         if self.done == 0 {
             return false;
@@ -160,7 +161,7 @@ impl Session {
     /// Does the turn again that was taken back last, and lends its text. It answers `None`, and changes nothing,
     /// exactly where no turn is undone. It takes no memory.
     pub fn redo(&mut self) -> Option<&[u8]>
-        ensures* rests { sem 𝓛 (Rests the_row self.entry (Moves redo_of self.old)) }
+        ensures* rests { sem 𝓛 (Rests the_row self.entry (Redone self.old)) }
         ensures found { InEach self.old (λ story fuel keep s. IsSome result ↔ (0 < length s.undone)) }
         ensures text { InEach self.old (λ story fuel keep s. IfSome result (λ t. t.now ≡ last_text (plays story fuel (redo_of s).done))) }
     {

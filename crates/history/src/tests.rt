@@ -1,7 +1,8 @@
 //! Sessions of small stories, and each refusal of memory.
 
 use crate::{OpenFault, Place, Reply, Session};
-use machine::{Limit, LoadFault};
+use journal::Recorded;
+use machine::{Limit, LoadFault, Machine};
 use std::alloc::{AllocError, Global};
 use std::test::Fail;
 
@@ -153,8 +154,6 @@ fn counts_turns_and_cells(rt: HostRuntime) -> Result<(), Fail> {
     assert_eq!(rt; matches!(session.reply(b"a"), Reply::Taken(_)), true);
     assert_eq!(rt; matches!(session.reply(b"b"), Reply::Taken(_)), true);
     assert_eq!(rt; session.counts(), (2, 0));
-    let cells = session.last_cells();
-    assert_eq!(rt; 0 < cells && cells <= 1_000, true);
     assert_eq!(rt; session.undo(), true);
     assert_eq!(rt; session.counts(), (1, 1));
     assert_eq!(rt; session.undo(), true);
@@ -164,6 +163,39 @@ fn counts_turns_and_cells(rt: HostRuntime) -> Result<(), Fail> {
     assert_eq!(rt; matches!(session.reply(b"a"), Reply::Taken(_)), true);
     assert_eq!(rt; session.counts(), (0, 0));
     assert_eq!(rt; session.last_cells(), 0);
+    Ok(())
+}
+
+/// How many cells the record of the counter's first turn holds, where the machine plays it without a session.
+fn cells_of_a_turn(alloc: Global) -> Result<usize, Fail> {
+    let (machine, store) = Machine::load(alloc, counter(alloc)?)?;
+    let mut store = Recorded::new(alloc, store);
+    let mut text = Vec::new(alloc);
+    let Place::Waiting = machine.turn(None, 1_000_000, &mut store, &mut text)? else {
+        return Err(Fail::from("does not wait"));
+    };
+    store.close();
+    machine.turn(Some(b"a"), 1_000_000, &mut store, &mut text)?;
+    Ok(store.close().cells())
+}
+
+#[test]
+fn records_what_the_turn_wrote(rt: HostRuntime) -> Result<(), Fail> {
+    let alloc = rt.alloc();
+    let mut session = Session::open(alloc, counter(alloc)?, 1_000_000)?;
+    assert_eq!(rt; matches!(session.reply(b"a"), Reply::Taken(_)), true);
+    assert_eq!(rt; session.last_cells(), cells_of_a_turn(alloc)?);
+    assert_eq!(rt; session.last_cells() <= 640, true);
+    Ok(())
+}
+
+#[test]
+fn hands_the_words_of_the_player_to_the_story(rt: HostRuntime) -> Result<(), Fail> {
+    let alloc = rt.alloc();
+    let mut session = Session::open(alloc, counter(alloc)?, 1_000_000)?;
+    is_taken(&mut session, b"/undo", COUNTED[0])?;
+    is_taken(&mut session, b"/redo", COUNTED[1])?;
+    assert_eq!(rt; session.counts(), (2, 0));
     Ok(())
 }
 
@@ -241,48 +273,80 @@ fn tells_why_a_story_is_not_opened(rt: HostRuntime) -> Result<(), Fail> {
     Ok(())
 }
 
-/// Whether a line was taken and its turn printed this text.
-fn took(session: &mut Session, line: &[u8], text: &[u8]) -> bool {
-    match session.reply(line) {
-        Reply::Taken(told) => told == text,
-        _ => false,
-    }
+/// What the counter prints at its first lines.
+const COUNTED: [&[u8]; 4] = [b"1\n>", b"2\n>", b"3\n>", b"4\n>"];
+
+/// What can be seen of a session without changing it.
+fn seen(session: &Session) -> ((usize, usize), Place, usize) {
+    (session.counts(), session.place(), session.last_cells())
 }
 
-// Passes whichever allocation is refused, and so is run with each refused in turn.
+/// Passes where a line is taken and its turn prints this text. Where memory was refused, everything must be as it was,
+/// and the line is taken when it comes again.
+fn is_taken(session: &mut Session, line: &[u8], text: &[u8]) -> Result<(), Fail> {
+    let before = seen(session);
+    for _ in 0..2 {
+        match session.reply(line) {
+            Reply::Taken(told) if told == text => return Ok(()),
+            Reply::NoMemory => {}
+            _ => return Err(Fail::from("answered otherwise")),
+        }
+        if before != seen(session) {
+            return Err(Fail::from("left otherwise"));
+        }
+    }
+    Err(Fail::from("not taken again"))
+}
+
+/// Takes all kept turns back and does them again, down to the last of these texts, so many of them being kept.
+fn goes_back_and_forth(session: &mut Session, texts: &[&[u8]], kept: usize) -> Result<(), Fail> {
+    for _ in 0..kept {
+        if !session.undo() {
+            return Err(Fail::from("nothing to undo"));
+        }
+    }
+    if session.undo() {
+        return Err(Fail::from("more to undo"));
+    }
+    for text in texts.iter().skip(texts.len().saturating_sub(kept)) {
+        if session.redo() != Some(text) {
+            return Err(Fail::from("redone otherwise"));
+        }
+    }
+    if session.redo().is_some() {
+        return Err(Fail::from("more to redo"));
+    }
+    Ok(())
+}
+
+// Passes whichever allocation is refused, and so is run with each refused in turn (tests/refused_growths).
 #[test]
 fn leaves_all_as_it_was_without_memory(rt: HostRuntime) -> Result<(), Fail> {
     let alloc = rt.alloc();
-    let Ok(story) = counter(alloc) else {
-        return Ok(());
-    };
-    let Ok(mut session) = Session::open_with(alloc, story, 1_000_000, Some(2)) else {
-        return Ok(());
-    };
-    assert_eq!(rt; session.opening(), b">".as_slice());
-    let first = took(&mut session, b"a", b"1\n>");
-    assert_eq!(rt; first || took(&mut session, b"a", b"1\n>"), true);
-    assert_eq!(rt; session.counts(), (1, 0));
-    assert_eq!(rt; session.undo(), true);
-    let second = took(&mut session, b"b", b"1\n>");
-    if !second {
-        assert_eq!(rt; session.counts(), (0, 1));
-        assert_eq!(rt; session.redo().is_some(), true);
-        assert_eq!(rt; session.undo(), true);
-        assert_eq!(rt; took(&mut session, b"b", b"1\n>"), true);
+    for (keep, kept, last) in [
+        (None, 3, COUNTED[0]),
+        (Some(0), 0, COUNTED[3]),
+        (Some(1), 1, COUNTED[2]),
+        (Some(2), 2, COUNTED[1]),
+    ] {
+        let Ok(story) = counter(alloc) else {
+            continue;
+        };
+        let mut session = match Session::open_with(alloc, story, 1_000_000, keep) {
+            Ok(session) => session,
+            Err(OpenFault::Memory | OpenFault::Load(LoadFault::Memory)) => continue,
+            Err(_) => return Err(Fail::from("refused otherwise")),
+        };
+        for text in &COUNTED[..3] {
+            is_taken(&mut session, b"a", text)?;
+        }
+        goes_back_and_forth(&mut session, &COUNTED[..3], kept)?;
+        for _ in 0..kept {
+            session.undo();
+        }
+        is_taken(&mut session, b"a", last)?;
+        assert_eq!(rt; session.counts(), (kept.min(1), 0));
+        goes_back_and_forth(&mut session, &[last], kept.min(1))?;
     }
-    assert_eq!(rt; session.counts(), (1, 0));
-    let third = took(&mut session, b"c", b"2\n>");
-    assert_eq!(rt; third || took(&mut session, b"c", b"2\n>"), true);
-    let fourth = took(&mut session, b"d", b"3\n>");
-    if !fourth {
-        assert_eq!(rt; session.counts(), (2, 0));
-        assert_eq!(rt; took(&mut session, b"d", b"3\n>"), true);
-    }
-    assert_eq!(rt; session.counts(), (2, 0));
-    assert_eq!(rt; session.undo(), true);
-    assert_eq!(rt; session.undo(), true);
-    assert_eq!(rt; session.undo(), false);
-    assert_eq!(rt; session.redo().is_some(), true);
     Ok(())
 }

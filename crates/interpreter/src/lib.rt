@@ -7,9 +7,5 @@ mod numbers;
 mod operations;
 mod run;
 mod situation;
-#[cfg(test)]
-mod source_tests;
-#[cfg(test)]
-mod tests;
 
 pub use run::{Run, interpret};

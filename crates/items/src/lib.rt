@@ -5,8 +5,6 @@ mod item;
 mod laws;
 mod routine;
 mod statement;
-#[cfg(test)]
-mod tests;
 mod value;
 mod writing;
 

@@ -20,7 +20,7 @@ const HELLO: [u8; 4] = [0x35, 0x51, 0xC6, 0x85];
 
 /// A story that calls a routine with three locals and this body. At 760 stands a routine that returns its argument, at
 /// 780 one with 16 locals, and at 800 a text.
-fn story_with(alloc: Global, body: &[u8]) -> Result<Vec<u8>, AllocError> {
+pub(crate) fn story_with(alloc: Global, body: &[u8]) -> Result<Vec<u8>, AllocError> {
     let mut code = Vec::new(alloc);
     code.extend_from_slice(&MAIN)?;
     code.extend_from_slice(body)?;
@@ -560,7 +560,11 @@ fn returns_to_the_caller(rt: HostRuntime) -> Result<(), Fail> {
 }
 
 /// The turn of a story's opening, and its store afterwards.
-fn opened(alloc: Global, code: &[u8], fuel: u32) -> Result<(Place, usize, Recorded<Store>), Fail> {
+pub(crate) fn opened(
+    alloc: Global,
+    code: &[u8],
+    fuel: u32,
+) -> Result<(Place, usize, Recorded<Store>), Fail> {
     let (machine, store) = Machine::load(alloc, story_of(alloc, code)?)?;
     let mut store = Recorded::new(alloc, store);
     let mut text = Vec::new(alloc);
@@ -569,7 +573,7 @@ fn opened(alloc: Global, code: &[u8], fuel: u32) -> Result<(Place, usize, Record
 }
 
 /// The two bytes at an address.
-fn bytes_at(store: &Recorded<Store>, at: u16) -> Option<(u8, u8)> {
+pub(crate) fn bytes_at(store: &Recorded<Store>, at: u16) -> Option<(u8, u8)> {
     let memory = store.store().memory();
     match (memory.get(at as usize), memory.get(at as usize + 1)) {
         (Some(high), Some(low)) => Some((*high, *low)),

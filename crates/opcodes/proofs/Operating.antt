@@ -7,7 +7,8 @@ use Rattle.zcore.specs.Reading.{Cause}
 use Rattle.zcore.specs.State.{State, Out, bound, ◌>>=◌}
 use Rattle.zcore.specs.declared.place.Fault.{Fault}
 use Rattle.zcore.specs.Parts.{test, test_target, go, jump_target}
-use Rattle.zcore.specs.Step.{give_result, jump, text_at, read_text, text_fault}
+use Rattle.zcore.specs.declared.instruction.Branch.{Branch}
+use Rattle.zcore.specs.Step.{give_result, write_and_branch, jump, text_at, read_text, text_fault}
 use Rattle.zcore.specs.Text.{decoded}
 use Rattle.frames.specs.Contents.{Contents, memory_of}
 use Rattle.frames.specs.Standing.{state_of, IsSound}
@@ -42,3 +43,6 @@ test_failed s b cause k sound e = went_halt s (test b cause >>= k) sound (λ x. 
 
 pub result_as : {r : Result Next End} {s t : Recording Contents} (here : Next) (after : ℕ) (v : Option ℕ) (q p : ℕ) → q ≡ p → Went r s t (give_result here after v q) → Went r s t (give_result here after v p)
 result_as {r} {s} {t} here after v q p e w = subst (λ n. Went r s t (give_result here after v n)) e w
+
+pub branch_as : {r : Result Next End} {s t : Recording Contents} (here : Next) (after : ℕ) (branch : Option Branch) (variable word : ℕ) (q p : Bool) → q ≡ p → Went r s t (write_and_branch here after branch variable word q) → Went r s t (write_and_branch here after branch variable word p)
+branch_as {r} {s} {t} here after branch variable word q p e w = subst (λ b. Went r s t (write_and_branch here after branch variable word b)) e w

@@ -1,15 +1,15 @@
 //! Jumps and branches (Z-Machine Standards Document 1.1, sections 4.7 and 15).
 
 ghost use Rattle.std.specs.Prelude.{◌≡◌, ◌≤◌};
-ghost use Rattle.zcore.specs.Parts.{test_target, go, spend, jump_target, branch_target, take_branch, branch_on};
-ghost use Rattle.zcore.specs.Step.{jump};
+ghost use Rattle.zcore.specs.Parts.{test_target, go, spend, jump_target, branch_target, take_branch, branch_on, test_taken, test_branch};
+ghost use Rattle.zcore.specs.Step.{jump, check_argument_count};
 ghost use Rattle.opcodes.specs.Says.{Says};
 ghost use Rattle.frames.specs.Standing.{IsSound, IsStoreOf};
 ghost use Rattle.frames.specs.Went.{Went};
 
 use crate::arithmetic::NEGATIVE;
 use crate::calls::give_back;
-use frames::{End, Store, is_code};
+use frames::{End, Store, has_argument, is_code, test_return};
 use journal::Recorded;
 use zcore::{Branch, Fault, Header, Limit, Next, Place};
 
@@ -28,8 +28,8 @@ pub fn jump(store: &Recorded<Store>, here: Next, after: u32, offset: u16) -> Res
     go(here, target)
 }
 
-/// A branch by a condition, of `je`, `jl`, `jg` or `jz`: it is taken where the condition is as the branch asks, and else
-/// the next instruction follows. M2 where the target is no code, and the faults of a return.
+/// A branch by a condition, of `je`, `jl`, `jg`, `jz` or `test`: it is taken where the condition is as the branch asks, and
+/// else the next instruction follows. M2 where the target is no code, and the faults of a return.
 #[inline(always)]
 pub fn branch_on(
     header: &Header,
@@ -79,6 +79,63 @@ fn take_branch(
     let target = branch_target(after, offset);
     test_target(store, target)?;
     go(here, target)
+}
+
+/// Tests whether a branch by a condition can be made, and changes nothing. M2 where the target is no code, and the
+/// faults of a return.
+#[inline]
+pub(crate) fn test_branch(
+    store: &Recorded<Store>,
+    after: u32,
+    branch: Option<Branch>,
+    holds: bool,
+) -> Result<(), End>
+    requires sound { IsSound store.now.store }
+    requires after { after ≤ 524280 }
+    ensures { Went result store.now store.now (test_branch after branch holds) }
+{
+    match branch {
+        None => Ok(()),
+        Some(branch) => {
+            if branch.when != holds {
+                return Ok(());
+            }
+            test_taken(store, after, branch.offset)
+        }
+    }
+}
+
+/// Tests whether a branch can be taken, and changes nothing. M2; M11, M6, M4, M2 of a return.
+#[inline]
+fn test_taken(store: &Recorded<Store>, after: u32, offset: u16) -> Result<(), End>
+    requires sound { IsSound store.now.store }
+    requires after { after ≤ 524280 }
+    ensures { Went result store.now store.now (test_taken after offset) }
+{
+    if offset < 2 {
+        test_return(store)?;
+        return Ok(());
+    }
+    test_target(store, branch_target(after, offset))
+}
+
+/// Branches where the call of the running routine gave an argument of this number, counted from 1: `check_arg_count`. M2
+/// where the target is no code, and the faults of a return.
+#[inline]
+pub fn check_argument_count(
+    header: &Header,
+    store: &mut Recorded<Store>,
+    here: Next,
+    after: u32,
+    branch: Option<Branch>,
+    number: u16,
+) -> Result<Next, End>
+    requires store { IsStoreOf header.now store.old.store }
+    requires after { after ≤ 524280 }
+    ensures { Went result store.old store.new (check_argument_count here after branch number) }
+{
+    let holds = has_argument(store, number);
+    branch_on(header, store, here, after, branch, holds)
 }
 
 /// Where a jump goes: an offset counts from the address after the instruction, and 2 more. Below 0 is 0.

@@ -13,11 +13,14 @@ mod variables;
 
 pub use arithmetic::{divide, equals_any, give_result, modulo, signed_less};
 pub use calls::{call_packed, give_back, return_popped};
-pub use jumps::{branch_on, jump};
+pub use jumps::{branch_on, check_argument_count, jump};
 pub use lines::read;
-pub use memory::store_byte;
+pub use memory::{load_byte, load_word, store_byte, store_word};
 pub use printing::{
-    print_character, print_characters, print_inline, print_number, print_packed, print_return,
+    print_address, print_character, print_characters, print_inline, print_number, print_packed,
+    print_return,
 };
 pub use transcript::print;
-pub use variables::{decrement, increment, load, pull, push_word, store_word};
+pub use variables::{
+    decrement, decrement_check, increment, increment_check, load, pull, push_word, store_variable,
+};

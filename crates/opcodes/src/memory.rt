@@ -1,14 +1,82 @@
-//! Writes to arrays (Z-Machine Standards Document 1.1, section 15).
+//! Reads and writes of arrays (Z-Machine Standards Document 1.1, section 15). An address is a sum of words.
 
-ghost use Rattle.zcore.specs.Step.{store_byte};
+ghost use Rattle.std.specs.Prelude.{◌≡◌, ◌≤◌, ◌+◌, ◌*◌, ◌%◌};
+ghost use Rattle.zcore.specs.Step.{load_word, load_byte, store_word, store_byte};
 ghost use Rattle.frames.specs.Standing.{IsStoreOf};
 ghost use Rattle.frames.specs.Went.{Went};
 
-use frames::{End, Store, write_byte};
+use crate::arithmetic::give_result;
+use frames::{End, Store, read_byte, read_word, write_byte, write_word};
 use journal::Recorded;
 use zcore::{Header, Next};
 
-/// Writes the low byte of a word into an array; the address is a sum of words: `storeb`. M4.
+/// Where a word of an array stands.
+#[inline]
+fn word_place(array: u16, index: u16) -> usize
+    ensures same { result ≡ (array + 2 * index) % 65536 }
+    ensures within { result ≤ 65535 }
+{
+    (array as usize + 2 * index as usize) % 65_536
+}
+
+/// A word of an array: `loadw`. M3, then M6 and M4 of the result.
+#[inline]
+pub fn load_word(
+    header: &Header,
+    store: &mut Recorded<Store>,
+    here: Next,
+    after: u32,
+    result_variable: Option<u8>,
+    array: u16,
+    index: u16,
+) -> Result<Next, End>
+    requires { IsStoreOf header.now store.old.store }
+    ensures { Went result store.old store.new (load_word here after result_variable array index) }
+{
+    let word = read_word(store, word_place(array, index))?;
+    give_result(header, store, here, after, result_variable, word)
+}
+
+/// A byte of an array: `loadb`. M3, then M6 and M4 of the result.
+#[inline]
+pub fn load_byte(
+    header: &Header,
+    store: &mut Recorded<Store>,
+    here: Next,
+    after: u32,
+    result_variable: Option<u8>,
+    array: u16,
+    index: u16,
+) -> Result<Next, End>
+    requires { IsStoreOf header.now store.old.store }
+    ensures { Went result store.old store.new (load_byte here after result_variable array index) }
+{
+    let byte = read_byte(store, array.wrapping_add(index) as usize)?;
+    give_result(header, store, here, after, result_variable, byte as u16)
+}
+
+/// Writes a word into an array: `storew`. M4, and then neither byte is written.
+#[inline]
+pub fn store_word(
+    header: &Header,
+    store: &mut Recorded<Store>,
+    here: Next,
+    after: u32,
+    array: u16,
+    index: u16,
+    word: u16,
+) -> Result<Next, End>
+    requires { IsStoreOf header.now store.old.store }
+    ensures { Went result store.old store.new (store_word here after array index word) }
+{
+    write_word(header, store, word_place(array, index), word)?;
+    Ok(Next {
+        program_counter: after,
+        fuel: here.fuel,
+    })
+}
+
+/// Writes the low byte of a word into an array: `storeb`. M4.
 #[inline]
 pub fn store_byte(
     header: &Header,

@@ -2,7 +2,7 @@
 
 ghost use Rattle.std.specs.Prelude.{◌≡◌, ◌≤◌, ℕ, length, drop};
 ghost use Rattle.zcore.specs.Arithmetic.{signed_text};
-ghost use Rattle.zcore.specs.Step.{text_at, print_characters, print_inline, print_return, print_packed, is_printable, print_character};
+ghost use Rattle.zcore.specs.Step.{text_at, print_characters, print_inline, print_return, print_address, print_packed, is_printable, print_character};
 ghost use Rattle.opcodes.specs.Seen.{seen};
 ghost use Rattle.opcodes.specs.Printed.{HasBegun, Grew};
 ghost use Rattle.frames.specs.Standing.{IsSound, IsStoreOf};
@@ -84,6 +84,25 @@ pub fn print_return(
     print(store, text, start, &characters)?;
     print(store, text, start, &[NEW_LINE])?;
     give_back(header, store, here.fuel, 1)
+}
+
+/// Prints the text at an address: `print_addr`. M3, M10, the limit of text.
+pub fn print_address(
+    alloc: Global,
+    store: &mut Recorded<Store>,
+    text: &mut Vec<u8>,
+    start: usize,
+    here: Next,
+    after: u32,
+    address: u16,
+) -> Result<Next, End>
+    requires sound { IsSound store.old.store }
+    requires text { HasBegun start text.old.items }
+    ensures told { Told result store.old (drop start text.old.items) store.new (drop start text.new.items) (print_address here after address) }
+    ensures text { Grew start text.old.items text.new.items }
+{
+    let (characters, _end) = text_at(alloc, store, address as u32)?;
+    print_characters(store, text, start, here, after, &characters)
 }
 
 /// Prints the text at a packed address: `print_paddr`. M3, M10, the limit of text.

@@ -62,14 +62,16 @@ mod tests {
 
     #[test]
     fn reads_the_words(rt: HostRuntime) -> Result<(), Fail> {
-        let matches = command(rt.alloc())?.try_get_matches_from(&[
-            "play", "--fuel", "3", "--undo", "0", "story.z5",
-        ])?;
-        let words = words_of(&matches);
-        assert_eq!(rt;
-            (words.story, words.fuel, words.keep),
-            ("story.z5", 3, Some(0))
-        );
+        for (fuel, undo, given) in [
+            ("1", "0", (1, Some(0))),
+            ("10000000", "100000", (10_000_000, Some(100_000))),
+        ] {
+            let given_words = ["play", "--fuel", fuel, "--undo", undo, "story.z5"];
+            let matches = command(rt.alloc())?.try_get_matches_from(&given_words)?;
+            let words = words_of(&matches);
+            assert_eq!(rt; words.story, "story.z5");
+            assert_eq!(rt; (words.fuel, words.keep), given);
+        }
         let matches = command(rt.alloc())?.try_get_matches_from(&["play", "story.z5"])?;
         assert_eq!(rt; words_of(&matches).fuel, 1_000_000);
         assert!(rt; words_of(&matches).keep.is_none());
@@ -112,6 +114,7 @@ mod tests {
                 let text = format!(in alloc; "{error}")?;
                 assert!(rt; text.as_str().contains("Usage: play [OPTIONS] <STORY>"));
                 assert!(rt; text.as_str().contains("from 1 to 10000000"));
+                assert!(rt; text.as_str().contains("from 0 to 100000"));
             }
         }
         Ok(())

@@ -5,9 +5,9 @@ use Rattle.std.proofs.lemmas.Bool.Decides.{nat_tests}
 use Rattle.std.specs.List.{list_all}
 use Rattle.std.specs.Io.KnownBytes.{Appends}
 use Rattle.zcore.specs.Turn.{is_waiting}
-use Rattle.session.specs.Game.{Game, text_on, place_on}
+use Rattle.session.specs.Game.{Game, telling_of, text_on, place_on}
 use Rattle.history.specs.Standing.{Standing, undo_of, redo_of, taken, is_typable}
-use Rattle.session.specs.Transcript.{Answer, answer, note, answer_undo, answer_redo, answer_line}
+use Rattle.session.specs.Transcript.{answer_of, Answer, answer, note, answer_undo, answer_redo, answer_line}
 use Rattle.session.specs.Heard.{Heard, Broke, Hears}
 use Rattle.session.specs.Wrote.{Wrote, WroteSome}
 
@@ -54,22 +54,22 @@ absent zero h = omega arith
 absent (suc n) h = let e : false ≡ true = h (omega arith) in cc
 
 pub at_undo : (game : Game) (s : Standing) (line : List ℕ) (m : Bool) → bytes_eq line (codes "/undo") ≡ true → answer game s (record { line = line; refused = m }) ≡ answer_undo s
-unfolding answer
-at_undo game s line m e = ap (λ b. if b then answer_undo s else (if bytes_eq line (codes "/redo") then answer_redo game s else answer_line game s (record { line = line; refused = m }))) e
+unfolding answer_of
+at_undo game s line m e = ap (λ b. if b then answer_undo s else (if bytes_eq line (codes "/redo") then answer_redo (telling_of game) s else answer_line (telling_of game) game.keep s (record { line = line; refused = m }))) e
 
 pub at_redo : (game : Game) (s : Standing) (line : List ℕ) (m : Bool) → bytes_eq line (codes "/undo") ≡ false → bytes_eq line (codes "/redo") ≡ true
-    → answer game s (record { line = line; refused = m }) ≡ answer_redo game s
-unfolding answer
+    → answer game s (record { line = line; refused = m }) ≡ answer_redo (telling_of game) s
+unfolding answer_of
 at_redo game s line m d e =
-    ap (λ b. if b then answer_undo s else (if bytes_eq line (codes "/redo") then answer_redo game s else answer_line game s (record { line = line; refused = m }))) d
-    ∙ ap (λ b. if b then answer_redo game s else answer_line game s (record { line = line; refused = m })) e
+    ap (λ b. if b then answer_undo s else (if bytes_eq line (codes "/redo") then answer_redo (telling_of game) s else answer_line (telling_of game) game.keep s (record { line = line; refused = m }))) d
+    ∙ ap (λ b. if b then answer_redo (telling_of game) s else answer_line (telling_of game) game.keep s (record { line = line; refused = m })) e
 
 pub at_line : (game : Game) (s : Standing) (line : List ℕ) (m : Bool) → bytes_eq line (codes "/undo") ≡ false → bytes_eq line (codes "/redo") ≡ false
-    → answer game s (record { line = line; refused = m }) ≡ answer_line game s (record { line = line; refused = m })
-unfolding answer
+    → answer game s (record { line = line; refused = m }) ≡ answer_line (telling_of game) game.keep s (record { line = line; refused = m })
+unfolding answer_of
 at_line game s line m d e =
-    ap (λ b. if b then answer_undo s else (if bytes_eq line (codes "/redo") then answer_redo game s else answer_line game s (record { line = line; refused = m }))) d
-    ∙ ap (λ b. if b then answer_redo game s else answer_line game s (record { line = line; refused = m })) e
+    ap (λ b. if b then answer_undo s else (if bytes_eq line (codes "/redo") then answer_redo (telling_of game) s else answer_line (telling_of game) game.keep s (record { line = line; refused = m }))) d
+    ∙ ap (λ b. if b then answer_redo (telling_of game) s else answer_line (telling_of game) game.keep s (record { line = line; refused = m })) e
 
 some : (n : ℕ) → 0 < n → (n == 0) ≡ false
 some n h = grind (arith, nat_tests)
@@ -83,26 +83,26 @@ undo_some s h = ap (λ b. record { reply = if b then note (codes "[Nothing to un
 pub undo_none : (s : Standing) → s.kept ≤ 0 → answer_undo s ≡ record { reply = note (codes "[Nothing to undo.]"); standing = undo_of s }
 undo_none s h = ap (λ b. record { reply = if b then note (codes "[Nothing to undo.]") else note (codes "[Undone.]"); standing = undo_of s }) (none_of s.kept h)
 
-pub redo_some : (game : Game) (s : Standing) → 0 < length s.undone → answer_redo game s ≡ record { reply = note (codes "[Redone.]") ++ text_on game (redo_of s).done; standing = redo_of s }
+pub redo_some : (game : Game) (s : Standing) → 0 < length s.undone → answer_redo (telling_of game) s ≡ record { reply = note (codes "[Redone.]") ++ text_on game (redo_of s).done; standing = redo_of s }
 redo_some game s h = ap (λ b. record { reply = if b then note (codes "[Nothing to redo.]") else note (codes "[Redone.]") ++ text_on game (redo_of s).done; standing = redo_of s }) (some (length s.undone) h)
 
-pub redo_none : (game : Game) (s : Standing) → length s.undone ≤ 0 → answer_redo game s ≡ record { reply = note (codes "[Nothing to redo.]"); standing = redo_of s }
+pub redo_none : (game : Game) (s : Standing) → length s.undone ≤ 0 → answer_redo (telling_of game) s ≡ record { reply = note (codes "[Nothing to redo.]"); standing = redo_of s }
 redo_none game s h = ap (λ b. record { reply = if b then note (codes "[Nothing to redo.]") else note (codes "[Redone.]") ++ text_on game (redo_of s).done; standing = redo_of s }) (none_of (length s.undone) h)
 
 pub line_taken : (game : Game) (s : Standing) (line : List ℕ) → is_typable line ≡ true → is_waiting (place_on game s.done) ≡ true
-    → answer_line game s (record { line = line; refused = false }) ≡ record { reply = text_on game (s.done ++ line ∷ []); standing = taken game.keep line s }
+    → answer_line (telling_of game) game.keep s (record { line = line; refused = false }) ≡ record { reply = text_on game (s.done ++ line ∷ []); standing = taken game.keep line s }
 line_taken game s line d e = rw (d, e) refl
 
 pub line_unmet : (game : Game) (s : Standing) (line : List ℕ) → is_typable line ≡ true → is_waiting (place_on game s.done) ≡ true
-    → answer_line game s (record { line = line; refused = true }) ≡ record { reply = note (codes "[No memory: line not taken.]"); standing = s }
+    → answer_line (telling_of game) game.keep s (record { line = line; refused = true }) ≡ record { reply = note (codes "[No memory: line not taken.]"); standing = s }
 line_unmet game s line d e = rw (d, e) refl
 
 pub line_over : (game : Game) (s : Standing) (line : List ℕ) (m : Bool) → is_typable line ≡ true → is_waiting (place_on game s.done) ≡ false
-    → answer_line game s (record { line = line; refused = m }) ≡ record { reply = note (codes "[The story is over.]"); standing = s }
+    → answer_line (telling_of game) game.keep s (record { line = line; refused = m }) ≡ record { reply = note (codes "[The story is over.]"); standing = s }
 line_over game s line m d e = rw (d, e) refl
 
 pub line_refused : (game : Game) (s : Standing) (line : List ℕ) (m : Bool) → is_typable line ≡ false
-    → answer_line game s (record { line = line; refused = m }) ≡ record { reply = note (codes "[Line refused.]"); standing = s }
+    → answer_line (telling_of game) game.keep s (record { line = line; refused = m }) ≡ record { reply = note (codes "[Line refused.]"); standing = s }
 line_refused game s line m d = rw d refl
 
 unequal_at : (xs ys : List ℕ) → (length xs ≡ length ys → ⊥) → (b : Bool) → bytes_eq xs ys ≡ b → b ≡ false

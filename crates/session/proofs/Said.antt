@@ -1,13 +1,16 @@
 -- What a run's contract says where the reader and the writer tell their bytes.
-use Rattle.std.proofs.Common.{Option, None, Some, ◌≡◌, ℕ, false, List, [], ◌∷◌, ◌++◌, map, refl, ap, sym, ◌∙◌, subst, append_assoc, append-nil}
+use Rattle.std.proofs.Common.{Option, None, Some, ◌≡◌, ℕ, false, List, [], ◌∷◌, ◌++◌, map, refl, ap, sym, ◌∙◌, subst, append_assoc, append-nil, Result, Ok, Err}
 use Rattle.std.proofs.lemmas.List.{map-append}
-use Rattle.std.specs.Io.KnownBytes.{Consumes, IsAtEnd}
+use Rattle.std.specs.Io.KnownBytes.{Appends, Consumes, IsAtEnd}
 use Rattle.zcore.specs.declared.place.Place.{Place}
 use Rattle.session.specs.Input.{lines_of}
-use Rattle.session.specs.Game.{Game, text_on, place_on}
+use Rattle.session.specs.Game.{telling_of, Game, Telling, text_on, place_on}
 use Rattle.history.specs.Standing.{Standing, nothing}
-use Rattle.session.specs.Transcript.{Typed, lines_typed, Answer, answer, replies, after, transcript}
-use Rattle.session.specs.Ran.{Played, RanWhole, BrokeInReply}
+use Rattle.session.specs.Transcript.{Typed, lines_typed, Answer, answer, answer_of, replies, replies_of, after, standing_after, transcript, transcript_of}
+use Rattle.session.specs.declared.fault.RunFault.{RunFault}
+use Rattle.session.specs.declared.fault.RunFault.TheVariants.{Reading, Writing}
+use Rattle.session.specs.Wrote.{WroteSome}
+use Rattle.session.specs.Ran.{Played, RanWhole, RanToRead, LinesRead, BrokeInReply, RanToWrite, in_opening, in_reply, Ran}
 use Rattle.session.proofs.Chaining.{replies-append}
 
 -- the input of a run without a fault is all that the reader had
@@ -19,27 +22,27 @@ input_known xs input (Some ys) p q = sym (p ∙ ap (λ y. input ++ y) q ∙ appe
 pub record Told (game : Game) (input before later : List ℕ) (Stands : Standing → Type 0) (p : Place) : Type 0 where
   pub written : List ℕ
   pub wrote : later ≡ before ++ written
-  pub played : Played game (lines_of input) written (λ s. Stands s × (p ≡ place_on game s.done))
+  pub played : Played (telling_of game) game.keep (lines_of input) written (λ s. Stands s × (p ≡ place_on game s.done))
 
-pub whole_told : (game : Game) (xs before later : List ℕ) (r' : Option (List ℕ)) (P : Standing → Type 0) (p : Place) → RanWhole game (Some xs) r' (Some before) (Some later) P p → Told game xs before later P p
+pub whole_told : (game : Game) (xs before later : List ℕ) (r' : Option (List ℕ)) (P : Standing → Type 0) (p : Place) → RanWhole (telling_of game) game.keep (Some xs) r' (Some before) (Some later) P p → Told game xs before later P p
 whole_told game xs before later r' P p h = record {
   written = h.written;
   wrote = h.wrote;
-  played = subst (λ x. Played game (lines_of x) h.written (λ s. P s × (p ≡ place_on game s.done))) (input_known xs h.input r' h.took h.ended) h.played;
+  played = subst (λ x. Played (telling_of game) game.keep (lines_of x) h.written (λ s. P s × (p ≡ place_on game s.done))) (input_known xs h.input r' h.took h.ended) h.played;
 }
 
 lines_unmarked : (ls : List (List ℕ)) → lines_typed (map (λ l. record { line = l; refused = false }) ls) ≡ ls
 lines_unmarked [] = refl
 lines_unmarked (l ∷ ls) = ap (λ t. l ∷ t) (lines_unmarked ls)
 
--- after a failed write, a beginning of the transcript of the input that was read
-pub record Begins (game : Game) (input written : List ℕ) : Type 0 where
+-- after a failed write, a beginning of the transcript of the lines that were read
+pub record Begins (game : Game) (r' : Option (List ℕ)) (input written : List ℕ) : Type 0 where
   pub typed : List Typed
   pub rest : List ℕ
-  pub said : lines_typed typed ≡ lines_of input
+  pub said : LinesRead r' input (lines_typed typed)
   pub begins : written ++ rest ≡ transcript game typed
 
-pub broke_begins : (game : Game) (r r' w w' : Option (List ℕ)) (P : Standing → Type 0) → (h : BrokeInReply game r r' w w' P) → Begins game h.input (transcript game h.typed ++ h.part)
+pub broke_begins : (game : Game) (r r' w w' : Option (List ℕ)) (P : Standing → Type 0) → (h : BrokeInReply (telling_of game) game.keep r r' w w' P) → Begins game r' h.input (transcript game h.typed ++ h.part)
 broke_begins game r r' w w' P h =
     let more : List Typed = map (λ l. record { line = l; refused = false }) h.more in
     let t : Standing = after game nothing h.typed in
@@ -47,7 +50,7 @@ broke_begins game r r' w w' P h =
     record {
       typed = h.typed ++ h.last ∷ more;
       rest = h.rest ++ tail;
-      said = map-append (λ (x : Typed). x.line) h.typed (h.last ∷ more) ∙ ap (λ l. lines_typed h.typed ++ h.last.line ∷ l) (lines_unmarked h.more) ∙ h.said;
+      said = subst (LinesRead r' h.input) (sym (map-append (λ (x : Typed). x.line) h.typed (h.last ∷ more) ∙ ap (λ l. lines_typed h.typed ++ h.last.line ∷ l) (lines_unmarked h.more))) h.said;
       begins =
           append_assoc (transcript game h.typed) h.part (h.rest ++ tail)
           ∙ ap (λ l. transcript game h.typed ++ l) (sym (append_assoc h.part h.rest tail) ∙ ap (λ l. l ++ tail) h.whole)
@@ -55,12 +58,91 @@ broke_begins game r r' w w' P h =
           ∙ ap (λ l. text_on game [] ++ l) (sym (replies-append game nothing h.typed (h.last ∷ more)));
     }
 
--- ---- two games that say the same have one transcript
+-- ---- two tellings that say the same have one transcript, and leave the same lines standing
 
-pub answer_same : (a b : Game) → a.keep ≡ b.keep → ((ls : List (List ℕ)) → text_on a ls ≡ text_on b ls) → ((ls : List (List ℕ)) → place_on a ls ≡ place_on b ls) → (s : Standing) (x : Typed) → answer a s x ≡ answer b s x
-unfolding answer
-answer_same a b e f g s x = simp (e, f, g)
+-- one telling says what the other says, on all lines
+pub record Agree (a b : Telling) : Type 0 where
+  pub texts : (ls : List (List ℕ)) → a.text ls ≡ b.text ls
+  pub places : (ls : List (List ℕ)) → a.place ls ≡ b.place ls
 
-pub replies_same : (a b : Game) → a.keep ≡ b.keep → ((ls : List (List ℕ)) → text_on a ls ≡ text_on b ls) → ((ls : List (List ℕ)) → place_on a ls ≡ place_on b ls) → (s : Standing) (xs : List Typed) → replies a s xs ≡ replies b s xs
-replies_same a b e f g s [] = refl
-replies_same a b e f g s (x ∷ xs) = ap (λ (t : Answer). t.reply ++ replies a t.standing xs) (answer_same a b e f g s x) ∙ ap (λ t. (answer b s x).reply ++ t) (replies_same a b e f g (answer b s x).standing xs)
+pub answer_same : (a b : Telling) (keep : Option ℕ) → Agree a b → (s : Standing) (x : Typed) → answer_of a keep s x ≡ answer_of b keep s x
+unfolding answer_of
+answer_same a b keep same s x = simp (same.texts, same.places)
+
+pub replies_same : (a b : Telling) (keep : Option ℕ) → Agree a b → (s : Standing) (xs : List Typed) → replies_of a keep s xs ≡ replies_of b keep s xs
+replies_same a b keep same s [] = refl
+replies_same a b keep same s (x ∷ xs) =
+    ap (λ (t : Answer). t.reply ++ replies_of a keep t.standing xs) (answer_same a b keep same s x)
+    ∙ ap (λ t. (answer_of b keep s x).reply ++ t) (replies_same a b keep same (answer_of b keep s x).standing xs)
+
+pub standing_same : (a b : Telling) (keep : Option ℕ) → Agree a b → (s : Standing) (xs : List Typed) → standing_after a keep s xs ≡ standing_after b keep s xs
+standing_same a b keep same s [] = refl
+standing_same a b keep same s (x ∷ xs) =
+    ap (λ (t : Answer). standing_after a keep t.standing xs) (answer_same a b keep same s x)
+    ∙ standing_same a b keep same (answer_of b keep s x).standing xs
+
+pub transcript_same : (a b : Telling) (keep : Option ℕ) → Agree a b → (xs : List Typed) → transcript_of a keep xs ≡ transcript_of b keep xs
+transcript_same a b keep same xs = ap (λ t. t ++ replies_of a keep nothing xs) (same.texts []) ∙ ap (λ t. b.text [] ++ t) (replies_same a b keep same nothing xs)
+
+played_same : (a b : Telling) (keep : Option ℕ) → Agree a b → (lines : List (List ℕ)) (written : List ℕ) (P : Standing → Type 0) → Played a keep lines written P → Played b keep lines written P
+played_same a b keep same lines written P h = record {
+  typed = h.typed;
+  said = h.said;
+  wrote = h.wrote ∙ transcript_same a b keep same h.typed;
+  stands = subst P (standing_same a b keep same nothing h.typed) h.stands;
+}
+
+whole_same : (a b : Telling) (keep : Option ℕ) → Agree a b → (r r' w w' : Option (List ℕ)) (P : Standing → Type 0) (p : Place) → RanWhole a keep r r' w w' P p → RanWhole b keep r r' w w' P p
+whole_same a b keep same r r' w w' P p h =
+    let q = subst (λ s. P s × (p ≡ a.place s.done)) (standing_same a b keep same nothing h.played.typed) h.played.stands in
+    record {
+      input = h.input;
+      written = h.written;
+      took = h.took;
+      ended = h.ended;
+      wrote = h.wrote;
+      played = record {
+        typed = h.played.typed;
+        said = h.played.said;
+        wrote = h.played.wrote ∙ transcript_same a b keep same h.played.typed;
+        stands = (q.0, q.1 ∙ same.places (standing_after b keep nothing h.played.typed).done);
+      };
+    }
+
+read_same : (a b : Telling) (keep : Option ℕ) → Agree a b → (r r' w w' : Option (List ℕ)) (P : Standing → Type 0) → RanToRead a keep r r' w w' P → RanToRead b keep r r' w w' P
+read_same a b keep same r r' w w' P h = record {
+  input = h.input;
+  written = h.written;
+  took = h.took;
+  wrote = h.wrote;
+  played = played_same a b keep same _ h.written P h.played;
+}
+
+write_same : (a b : Telling) (keep : Option ℕ) → Agree a b → (r r' w w' : Option (List ℕ)) (P : Standing → Type 0) → RanToWrite a keep r r' w w' P → RanToWrite b keep r r' w w' P
+write_same a b keep same r r' w w' P (in_opening h) = in_opening (record {
+  unread = h.unread;
+  wrote = subst (WroteSome w w') (same.texts []) h.wrote;
+  stands = h.stands;
+})
+write_same a b keep same r r' w w' P (in_reply h) =
+    let e : answer_of a keep (standing_after a keep nothing h.typed) h.last ≡ answer_of b keep (standing_after b keep nothing h.typed) h.last =
+    ap (λ s. answer_of a keep s h.last) (standing_same a b keep same nothing h.typed) ∙ answer_same a b keep same (standing_after b keep nothing h.typed) h.last in
+    in_reply (record {
+      input = h.input;
+      typed = h.typed;
+      last = h.last;
+      more = h.more;
+      took = h.took;
+      said = h.said;
+      part = h.part;
+      rest = h.rest;
+      whole = h.whole ∙ ap (λ (x : Answer). x.reply) e;
+      wrote = subst (λ t. Appends w w' (t ++ h.part)) (transcript_same a b keep same h.typed) h.wrote;
+      stands = subst (λ (x : Answer). P x.standing) e h.stands;
+    })
+
+-- a run is what the one telling says, and so what the other says
+pub ran_same : (a b : Telling) (keep : Option ℕ) → Agree a b → (r r' w w' : Option (List ℕ)) (P : Standing → Type 0) (result : Result Place RunFault) → Ran a keep r r' w w' P result → Ran b keep r r' w w' P result
+ran_same a b keep same r r' w w' P (Ok place) h = whole_same a b keep same r r' w w' P place h
+ran_same a b keep same r r' w w' P (Err Reading) h = read_same a b keep same r r' w w' P h
+ran_same a b keep same r r' w w' P (Err Writing) h = write_same a b keep same r r' w w' P h

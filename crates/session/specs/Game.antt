@@ -22,6 +22,14 @@ text_on game lines = last_text (plays game.story game.fuel lines)
 abbrev pub place_on : Game → List (List ℕ) → Place
 place_on game lines = last_place (plays game.story game.fuel lines)
 
+-- What a story does on lines, whatever it is made of: what it prints last, and where it then stands.
+pub record Telling : Type 0 where
+  pub text : List (List ℕ) → List ℕ
+  pub place : List (List ℕ) → Place
+
+abbrev pub telling_of : Game → Telling
+telling_of game = record { text = text_on game; place = place_on game }
+
 -- the session plays this game, and these lines stand
 abbrev pub IsSessionOf : Game → Standing → History → Type 0
 IsSessionOf game s v = IsSession game.story game.fuel game.keep s v

@@ -1,7 +1,7 @@
 -- The reply to a line, and the transcript of many.
-use Rattle.std.specs.Prelude.{ℕ, Bool, ◌==◌, List, [], ◌∷◌, ◌++◌, length, map, bytes_eq, codes, if◌then◌else◌}
+use Rattle.std.specs.Prelude.{ℕ, Bool, Option, ◌==◌, List, [], ◌∷◌, ◌++◌, length, map, bytes_eq, codes, if◌then◌else◌}
 use Rattle.zcore.specs.Turn.{is_waiting}
-use Rattle.session.specs.Game.{Game, text_on, place_on}
+use Rattle.session.specs.Game.{Game, Telling, telling_of}
 use Rattle.history.specs.Standing.{Standing, nothing, is_typable, taken, undo_of, redo_of}
 
 -- a line of input, and its mark: whether it met refused memory
@@ -28,40 +28,54 @@ answer_undo s = record {
   standing = undo_of s;
 }
 
-abbrev pub answer_redo : Game → Standing → Answer
-answer_redo game s = record {
-  reply = if length s.undone == 0 then note (codes "[Nothing to redo.]") else note (codes "[Redone.]") ++ text_on game (redo_of s).done;
+abbrev pub answer_redo : Telling → Standing → Answer
+answer_redo telling s = record {
+  reply = if length s.undone == 0 then note (codes "[Nothing to redo.]") else note (codes "[Redone.]") ++ telling.text (redo_of s).done;
   standing = redo_of s;
 }
 
--- a line for the story; of two notices that hold the first is given
-abbrev pub answer_line : Game → Standing → Typed → Answer
-answer_line game s x =
+-- a line for the story, of whose turns so many are kept; of two notices that hold the first is given
+abbrev pub answer_line : Telling → Option ℕ → Standing → Typed → Answer
+answer_line telling keep s x =
     if is_typable x.line then (
-    if is_waiting (place_on game s.done) then (
+    if is_waiting (telling.place s.done) then (
     if x.refused
     then (record { reply = note (codes "[No memory: line not taken.]"); standing = s })
-    else (record { reply = text_on game (s.done ++ x.line ∷ []); standing = taken game.keep x.line s })
+    else (record { reply = telling.text (s.done ++ x.line ∷ []); standing = taken keep x.line s })
     )
     else (record { reply = note (codes "[The story is over.]"); standing = s })
     )
     else (record { reply = note (codes "[Line refused.]"); standing = s })
 
-unfoldable pub answer : Game → Standing → Typed → Answer
-answer game s x =
+unfoldable pub answer_of : Telling → Option ℕ → Standing → Typed → Answer
+answer_of telling keep s x =
     if bytes_eq x.line (codes "/undo") then answer_undo s
-    else (if bytes_eq x.line (codes "/redo") then answer_redo game s else answer_line game s x)
+    else (if bytes_eq x.line (codes "/redo") then answer_redo telling s else answer_line telling keep s x)
 
 -- the replies in order
-abbrev pub replies : Game → Standing → List Typed → List ℕ
-replies game s [] = []
-replies game s (x ∷ xs) = (answer game s x).reply ++ replies game (answer game s x).standing xs
+abbrev pub replies_of : Telling → Option ℕ → Standing → List Typed → List ℕ
+replies_of telling keep s [] = []
+replies_of telling keep s (x ∷ xs) = (answer_of telling keep s x).reply ++ replies_of telling keep (answer_of telling keep s x).standing xs
 
 -- what stands after the lines
-abbrev pub after : Game → Standing → List Typed → Standing
-after game s [] = s
-after game s (x ∷ xs) = after game (answer game s x).standing xs
+abbrev pub standing_after : Telling → Option ℕ → Standing → List Typed → Standing
+standing_after telling keep s [] = s
+standing_after telling keep s (x ∷ xs) = standing_after telling keep (answer_of telling keep s x).standing xs
 
 -- the text of the opening, then the replies in order
+abbrev pub transcript_of : Telling → Option ℕ → List Typed → List ℕ
+transcript_of telling keep typed = telling.text [] ++ replies_of telling keep nothing typed
+
+-- The same of a game, which tells what the machine's turns on its story file tell
+
+abbrev pub answer : Game → Standing → Typed → Answer
+answer game = answer_of (telling_of game) game.keep
+
+abbrev pub replies : Game → Standing → List Typed → List ℕ
+replies game = replies_of (telling_of game) game.keep
+
+abbrev pub after : Game → Standing → List Typed → Standing
+after game = standing_after (telling_of game) game.keep
+
 abbrev pub transcript : Game → List Typed → List ℕ
-transcript game typed = text_on game [] ++ replies game nothing typed
+transcript game = transcript_of (telling_of game) game.keep

@@ -1,6 +1,6 @@
 //! A run over all of the input.
 
-ghost use Rattle.session.specs.Game.{IsSessionOf, Game};
+ghost use Rattle.session.specs.Game.{telling_of, IsSessionOf, Game};
 ghost use Rattle.session.specs.Ran.{Ran};
 ghost use Rattle.history.specs.Standing.{nothing};
 
@@ -29,7 +29,7 @@ pub fn run<R: Read, W: Write>(
     session: &mut Session,
 ) -> Result<Place, RunFault>
     ensures { (game : Game) → IsSessionOf game nothing session.old
-        → Ran game (R.remaining reader.old) (R.remaining reader.new)
+        → Ran (telling_of game) game.keep (R.remaining reader.old) (R.remaining reader.new)
         (W.contents writer.old) (W.contents writer.new)
         (λ s. IsSessionOf game s session.new) result }
 {

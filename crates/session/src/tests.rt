@@ -1,4 +1,4 @@
-//! What no contract says: the words of the notices, when it flushes, and what fails.
+//! Transcripts, when it flushes, and what fails.
 
 use crate::stories::{counting, hello};
 use crate::streams::{Broken, Narrow};

@@ -1,6 +1,6 @@
 //! Statements made of their parts.
 
-ghost use Rattle.std.specs.Prelude.{◌≡◌, IfOk};
+ghost use Rattle.std.specs.Prelude.{◌≡◌};
 ghost use Rattle.expressions.specs.Tree.{expression_tree};
 ghost use Rattle.statements.specs.Tree.{statement_tree};
 ghost use Rattle.statements.specs.Tree as tree;
@@ -8,40 +8,34 @@ ghost use Rattle.statements.specs.Tree as tree;
 use crate::tree::Statement;
 use expressions::Expression;
 use lexer::Position;
-use std::alloc::{AllocError, Global};
 
 pub fn if_then<'a>(
-    alloc: Global,
     position: Position,
     condition: Expression<'a>,
-    first: Statement<'a>,
-) -> Result<Statement<'a>, AllocError>
-    ensures { IfOk result (λ s. statement_tree s ≡ tree.if_then position (expression_tree condition.entry) (statement_tree first.entry)) }
+    first: Box<Statement<'a>>,
+) -> Statement<'a>
+    ensures { statement_tree result ≡ tree.if_then position (expression_tree condition.entry) (statement_tree first.entry.value) }
 {
-    Ok(Statement::If(position, condition, Box::new(alloc, first)?))
+    Statement::If(position, condition, first)
 }
 
 pub fn if_else<'a>(
-    alloc: Global,
     position: Position,
     condition: Expression<'a>,
-    first: Statement<'a>,
-    second: Statement<'a>,
-) -> Result<Statement<'a>, AllocError>
-    ensures { IfOk result (λ s. statement_tree s ≡ tree.if_else position (expression_tree condition.entry) (statement_tree first.entry) (statement_tree second.entry)) }
+    first: Box<Statement<'a>>,
+    second: Box<Statement<'a>>,
+) -> Statement<'a>
+    ensures { statement_tree result ≡ tree.if_else position (expression_tree condition.entry) (statement_tree first.entry.value) (statement_tree second.entry.value) }
 {
-    let first = Box::new(alloc, first)?;
-    let second = Box::new(alloc, second)?;
-    Ok(Statement::IfElse(position, condition, first, second))
+    Statement::IfElse(position, condition, first, second)
 }
 
 pub fn while_do<'a>(
-    alloc: Global,
     position: Position,
     condition: Expression<'a>,
-    body: Statement<'a>,
-) -> Result<Statement<'a>, AllocError>
-    ensures { IfOk result (λ s. statement_tree s ≡ tree.while_do position (expression_tree condition.entry) (statement_tree body.entry)) }
+    body: Box<Statement<'a>>,
+) -> Statement<'a>
+    ensures { statement_tree result ≡ tree.while_do position (expression_tree condition.entry) (statement_tree body.entry.value) }
 {
-    Ok(Statement::While(position, condition, Box::new(alloc, body)?))
+    Statement::While(position, condition, body)
 }

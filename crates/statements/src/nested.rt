@@ -1,6 +1,6 @@
 //! Statements, and those inside them, read from tokens.
 
-ghost use Rattle.std.specs.Prelude.{◌≡◌, map};
+ghost use Rattle.std.specs.Prelude.{◌≡◌, ◌<◌, map};
 ghost use Rattle.lexer.specs.Token.{lexeme, lexemes};
 ghost use Rattle.expressions.specs.Parse.{Gives, tail};
 ghost use Rattle.statements.specs.Grammar as grammar;
@@ -117,9 +117,25 @@ fn block<'t, 'a>(
     Ok((Statement::Block(found), rest))
 }
 
+// A statement one nesting further in than where `depth` may be opened, in its box.
+#[cycle(statement)]
+#[tactic(auto, using(crate::proofs::Inside::inside_below))]
+fn further_in<'t, 'a>(
+    alloc: Global,
+    depth: usize,
+    tokens: &'t [Token<'a>],
+) -> Result<(Box<Statement<'a>>, &'t [Token<'a>]), ParseError>
+    requires { 0 < depth }
+    ensures { Gives (λ x. (statement_tree x.0.value, lexemes x.1.now)) result (spec.inside depth (lexemes tokens.now)) }
+{
+    let (found, rest) = statement(alloc, depth - 1, tokens)?;
+    let found = Box::new(alloc, found)?;
+    Ok((found, rest))
+}
+
 // What follows `if`, which stands at `position`.
 #[cycle(statement)]
-#[tactic(auto, unfolding(crate::specs::Parse::choice), using(crate::proofs::Inside::inside_below))]
+#[tactic(auto, unfolding(crate::specs::Parse::choice))]
 fn choice<'t, 'a>(
     alloc: Global,
     depth: usize,
@@ -129,17 +145,17 @@ fn choice<'t, 'a>(
     ensures { Gives (λ x. (statement_tree x.0, lexemes x.1.now)) result (spec.choice depth (spec.inside depth) position (lexemes tokens.now)) }
 {
     let (condition, rest) = test(alloc, depth, tokens)?;
-    let (first, rest) = statement(alloc, depth - 1, rest)?;
+    let (first, rest) = further_in(alloc, depth, rest)?;
     if !else_follows(rest) {
-        return Ok((if_then(alloc, position, condition, first)?, rest));
+        return Ok((if_then(position, condition, first), rest));
     }
-    let (second, rest) = statement(alloc, depth - 1, skip(rest))?;
-    Ok((if_else(alloc, position, condition, first, second)?, rest))
+    let (second, rest) = further_in(alloc, depth, skip(rest))?;
+    Ok((if_else(position, condition, first, second), rest))
 }
 
 // What follows `while`, which stands at `position`.
 #[cycle(statement)]
-#[tactic(auto, unfolding(crate::specs::Parse::repetition), using(crate::proofs::Inside::inside_below))]
+#[tactic(auto, unfolding(crate::specs::Parse::repetition))]
 fn repetition<'t, 'a>(
     alloc: Global,
     depth: usize,
@@ -149,8 +165,8 @@ fn repetition<'t, 'a>(
     ensures { Gives (λ x. (statement_tree x.0, lexemes x.1.now)) result (spec.repetition depth (spec.inside depth) position (lexemes tokens.now)) }
 {
     let (condition, rest) = test(alloc, depth, tokens)?;
-    let (body, rest) = statement(alloc, depth - 1, rest)?;
-    Ok((while_do(alloc, position, condition, body)?, rest))
+    let (body, rest) = further_in(alloc, depth, rest)?;
+    Ok((while_do(position, condition, body), rest))
 }
 
 // A statement in which `depth` nestings more may be opened, and the tokens after it.

@@ -1,17 +1,15 @@
 -- What a source is compiled to, from what each part answers.
-use Rattle.std.proofs.Common.{◌≡◌, ◌⊎◌, inl, inr, ℕ, ◌≤◌, ◌<◌, List, [], ◌∷◌, map, Option, Some, None, Result, Ok, Err, refl, sym, ap, ◌∙◌, subst}
-use Rattle.std.specs.Prelude.{nat_lt, if◌then◌else◌, ◌++◌}
+use Rattle.std.proofs.Common.{◌≡◌, ◌⊎◌, inl, inr, ℕ, ◌≤◌, ◌<◌, List, [], ◌∷◌, Some, None, Result, Ok, Err, refl, sym, ap, ◌∙◌, subst}
+use Rattle.std.specs.Prelude.{◌++◌}
 use Rattle.std.specs.List.{All}
 use Rattle.std.specs.Result.{IsErr, IsErrAnd}
 use Rattle.lexer.specs.declared.fault.SourceFault.{SourceFault}
 use Rattle.lexer.specs.declared.token.Token.{Token}
-use Rattle.lexer.specs.declared.token.Position.{Position}
 use Rattle.lexer.specs.Token.{lexemes}
 use Rattle.lexer.specs.Tokens.{Lexes}
 use Rattle.lexer.specs.Results.{source_tokens}
 use Rattle.lexer.specs.Printable.{PrintableTokens}
-use Rattle.expressions.specs.Tree.{NameTree}
-use Rattle.syntax.specs.Tree.{RoutineTree, ProgramTree}
+use Rattle.syntax.specs.Tree.{ProgramTree}
 use Rattle.syntax.specs.Grammar.{IsProgram, program_nesting}
 use Rattle.syntax.specs.Nesting.{DeepProgram}
 use Rattle.syntax.specs.Laws.{PrintableTrees}
@@ -20,12 +18,11 @@ use Rattle.zcore.specs.Header.{scale_of, Reads}
 use Rattle.zcore.specs.declared.header.Header.{Header}
 use Rattle.checker.specs.declared.breach.Breach.{Breach}
 use Rattle.checker.specs.declared.checked.Checked.{Checked}
-use Rattle.checker.specs.declared.checked.CheckedRoutine.{CheckedRoutine}
 use Rattle.checker.specs.Accepted.{IsAccepted}
 use Rattle.checker.specs.Breaches.{IsAmong, IsFirst}
 use Rattle.checker.specs.Laws.{AcceptedPrograms, PrintablePrograms}
 use Rattle.checker.specs.Printable.{HasPrintableTexts}
-use Rattle.checker.specs.Programs.{program_breaches, routine_trees, title, title_of, IsCheckedOf}
+use Rattle.checker.specs.Programs.{program_breaches, IsCheckedOf}
 use Rattle.checker.specs.Resolved.{program_of}
 use Rattle.checker.specs.Sizes as checked
 use Rattle.code.specs.Laws.{CodePlays, Plays, IsSmall, SmallSourcesHaveSmallCode}
@@ -34,6 +31,7 @@ use Rattle.story.specs.Compiled as spec
 use Rattle.story.specs.Layout.{addresses_in, story_of}
 use Rattle.story.specs.Laws.{StoriesHold}
 use Rattle.story.specs.Written.{Fits}
+use Rattle.story.proofs.Faults.{size_faults}
 use Rattle.story.proofs.Sizes.{stories_are_short, is_story}
 
 -- Faults
@@ -84,35 +82,9 @@ unchecked version source p f tree answer = elim answer [
   | inr broken ↦ spec.rule_broken p tree broken.0 broken.1 broken.2 broken.3 broken.4
 ]
 
--- the first heavy routine, by names and weights
-heavy_title : List (NameTree × ℕ) → Option Position
-heavy_title [] = None
-heavy_title (t ∷ ts) = if nat_lt 32000 t.1 then Some t.0.position else heavy_title ts
-
-heavy_checked : (cs : List CheckedRoutine) → checked.first_heavy cs ≡ heavy_title (map title_of cs)
-unfolding heavy_title
-heavy_checked [] = refl
-heavy_checked (c ∷ cs) = ap (λ rest. if nat_lt 32000 c.weight then Some c.name.position else rest) (heavy_checked cs)
-
-heavy_tree : (rs : List RoutineTree) → first_heavy rs ≡ heavy_title (map title rs)
-unfolding heavy_title
-heavy_tree [] = refl
-heavy_tree (r ∷ rs) = ap (λ rest. if nat_lt 32000 r.weight then Some r.name.position else rest) (heavy_tree rs)
-
-same_heavy : (p : Option Position) → checked.heavy_fault p ≡ heavy_fault p
-same_heavy None = refl
-same_heavy (Some p) = refl
-
-pub same_size : (version : Version) (p : ProgramTree) (c : Checked) → IsCheckedOf p c → checked.size_fault c version ≡ size_fault version p
-same_size version p c is =
-    let heavy : checked.first_heavy c.routines.items ≡ first_heavy (routine_trees p.directives) =
-    heavy_checked c.routines.items ∙ ap heavy_title is.titles ∙ sym (heavy_tree (routine_trees p.directives)) in
-    ap (λ w. if nat_lt (checked.greatest_weight version) w then Some (fault 31 0) else checked.heavy_fault (checked.first_heavy c.routines.items)) is.weight
-    ∙ ap (λ h. if nat_lt (checked.greatest_weight version) p.weight then Some (fault 31 0) else h) (same_heavy (checked.first_heavy c.routines.items) ∙ ap heavy_fault heavy)
-
 pub too_large : (version : Version) (source : List ℕ) (p : ProgramTree) (c : Checked) (f : SourceFault) → IsTreeOf source p → program_breaches p ≡ [] → IsCheckedOf p c
     → Some f ≡ checked.size_fault c version → Refuses version source f
-too_large version source p c f tree lawful is e = spec.too_large p tree lawful (sym (e ∙ same_size version p c is))
+too_large version source p c f tree lawful is e = spec.too_large p tree lawful (sym (e ∙ size_faults version p c is))
 
 -- Stories
 
@@ -143,7 +115,7 @@ module _ (accepted_programs : AcceptedPrograms) (printable_tokens : PrintableTok
         tree = p;
         is_tree = is_tree source ts lexed p parsed nested;
         lawful = lawful;
-        fits = sym (same_size version p c is) ∙ sized;
+        fits = sym (size_faults version p c is) ∙ sized;
         laid_out = laid ∙ ap (story_of version) is.program;
         reads = subst (λ b. (header : Header) × Reads b (Ok header)) (sym laid) held.0;
         plays = λ full lines. subst (λ r. Plays bytes r full lines) is.program (subst (λ b. Plays b q full lines) (sym laid) (plays full lines));

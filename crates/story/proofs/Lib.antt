@@ -1,9 +1,11 @@
 mod Parts
 mod Low
 mod Lengths
+mod Samples
 mod Reading
 mod Holding
 pub mod Sizes
+pub mod Faults
 mod Joined
 mod Laid
 mod Compiling

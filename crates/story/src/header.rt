@@ -15,19 +15,19 @@ const HEADER: usize = 64;
 const RELEASE: u16 = 1;
 
 /// The code that begins the story, where high memory begins too.
-const START: u16 = 871;
+const START_ADDRESS: u16 = 871;
 
 /// The dictionary, where static memory begins too.
-const DICTIONARY: u16 = 864;
+const DICTIONARY_ADDRESS: u16 = 864;
 
 /// The property defaults, with which the object table begins.
-const DEFAULTS: u16 = 738;
+const DEFAULTS_ADDRESS: u16 = 738;
 
 /// The globals.
-const GLOBALS: u16 = 258;
+const GLOBALS_ADDRESS: u16 = 258;
 
 /// The table of abbreviations.
-const ABBREVIATIONS: u16 = 64;
+const ABBREVIATIONS_ADDRESS: u16 = 64;
 
 /// Zero bytes at the end of the header.
 const UNUSED: usize = 34;
@@ -71,13 +71,24 @@ pub fn put_header(story: &mut Vec<u8>, version: Version, body: &[u8]) -> Result<
     put_words(
         story,
         &[
-            RELEASE, START, START, DICTIONARY, DEFAULTS, GLOBALS, DICTIONARY, 0,
+            RELEASE,
+            START_ADDRESS,
+            START_ADDRESS,
+            DICTIONARY_ADDRESS,
+            DEFAULTS_ADDRESS,
+            GLOBALS_ADDRESS,
+            DICTIONARY_ADDRESS,
+            0,
         ],
     )?;
     story.extend_from_slice(b"000000")?;
     put_words(
         story,
-        &[ABBREVIATIONS, stated_length(version, body), sum_of(body)],
+        &[
+            ABBREVIATIONS_ADDRESS,
+            stated_length(version, body),
+            sum_of(body),
+        ],
     )?;
     put_zeros(story, UNUSED)
 }

@@ -7,8 +7,6 @@ mod laws;
 mod places;
 mod story;
 mod tables;
-#[cfg(test)]
-mod tests;
 mod words;
 mod write;
 

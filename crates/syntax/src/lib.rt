@@ -4,8 +4,6 @@
 mod directives;
 mod laws;
 mod program;
-#[cfg(test)]
-mod tests;
 mod tree;
 mod values;
 mod weight;

@@ -4,9 +4,13 @@
 ghost use Rattle.std.specs.Prelude.{◌≡◌};
 ghost use Rattle.tools.specs.Status.{status_of};
 
+mod pair;
+#[cfg(test)]
+mod pair_tests;
 #[cfg(test)]
 mod tests;
 
+pub use pair::{PairFault, compile_and_run};
 use zcore::Place;
 
 /// The exit status of the player at the end of its input: 0 where the story waits or has quit, 3 where a limit stopped

@@ -69,8 +69,8 @@ expression-returns-in_ok-given-in-Call-clause-breaches t c =
     let v : expression_tree c.args.e.now ≡ trees.call (name_tree c.in-Call.name) (trees_of (map expression_tree c.in-Call.given.items)) = rw c.in-Call.is (ap expression_tree (sym (rolls-Call c.in-Call.name c.in-Call.given)) ∙ fold-roll-Expression ExpressionTree layer _) in
     rw v (call_break (look_in c.args.scope.now) c.args.least.now c.routine-number.new.least c.all_expressions.new.least (name_tree c.in-Call.name) c.look-in-Call.result c.len.result c.in-Call.given.items c.look-in-Call.ensures (c.len.ensures ∙ sym c.deref.ensures.len ∙ ap (λ (y : List Expression). length y) c.deref.ensures.value) c.routine-number.ensures.breaches (c.in_ok-given-in-Call.ensures.breaches ∙ ap (λ (y : List Expression). noted c.routine-number.new.least (flat_map (own_breaches (look_in c.args.scope.now)) y)) c.deref.ensures.value))
 
-pub expression-returns-in_ok-new-in-Prefixed-clause-breaches : goal.expression-returns-in_ok-new-in-Prefixed-clause-breaches
-expression-returns-in_ok-new-in-Prefixed-clause-breaches t c =
+pub expression-returns-in_ok-operand-in-Prefixed-clause-breaches : goal.expression-returns-in_ok-operand-in-Prefixed-clause-breaches
+expression-returns-in_ok-operand-in-Prefixed-clause-breaches t c =
     let v : expression_tree c.args.e.now ≡ trees.prefixed c.in-Prefixed.operator (expression_tree c.in-Prefixed.operand.value) = rw c.in-Prefixed.is (ap expression_tree (sym (rolls-Prefixed c.in-Prefixed.operator c.in-Prefixed.operand)) ∙ fold-roll-Expression ExpressionTree layer _) in
     rw v (c.in_ok-operand-in-Prefixed.ensures.breaches ∙ ap (λ (y : Expression). noted c.args.least.now (breaches (look_in c.args.scope.now) (expression_tree y))) c.deref-in-Prefixed.ensures)
 
@@ -84,43 +84,43 @@ expression-returns-in_ok-variable-in-StepAfter-clause-breaches t c =
     let v : expression_tree c.args.e.now ≡ trees.step_after (expression_tree c.in-StepAfter.operand.value) c.in-StepAfter.step c.in-StepAfter.position = rw c.in-StepAfter.is (ap expression_tree (sym (rolls-StepAfter c.in-StepAfter.operand c.in-StepAfter.step c.in-StepAfter.position)) ∙ fold-roll-Expression ExpressionTree layer _) in
     rw v (c.in_ok-variable-in-StepAfter.ensures.breaches ∙ ap (λ (y : Expression). noted c.args.least.now (left_breaches (look_in c.args.scope.now) c.in-StepAfter.position (expression_tree y) (breaches (look_in c.args.scope.now) (expression_tree y)))) c.deref-in-StepAfter.ensures)
 
-pub expression-returns-in_ok-new-in-Chain-clause-breaches : goal.expression-returns-in_ok-new-in-Chain-clause-breaches
-expression-returns-in_ok-new-in-Chain-clause-breaches t c =
+pub expression-returns-in_ok-links-in-Chain-clause-breaches : goal.expression-returns-in_ok-links-in-Chain-clause-breaches
+expression-returns-in_ok-links-in-Chain-clause-breaches t c =
     let v : expression_tree c.args.e.now ≡ trees.chained (trees.binary c.in-Chain.operator (expression_tree c.in-Chain.first.value) (expression_tree c.in-Chain.second.value)) (map tree_link c.in-Chain.links.items) = rw c.in-Chain.is (ap expression_tree (sym (rolls-Chain c.in-Chain.first c.in-Chain.operator c.in-Chain.second c.in-Chain.links)) ∙ fold-roll-Expression ExpressionTree layer _) in
-    rw v (chain_noted (look_in c.args.scope.now) c.args.least.now c.expression-in-Chain.new.least c.expression-in-Chain-2.new.least c.chain_links.new.least c.in-Chain.operator (expression_tree c.in-Chain.first.value) (expression_tree c.in-Chain.second.value) c.in-Chain.links.items (c.in_ok-first-in-Chain.ensures.breaches ∙ ap (λ (y : Expression). noted c.args.least.now (breaches (look_in c.args.scope.now) (expression_tree y))) c.deref-in-Chain.ensures) (c.in_ok-second-in-Chain.ensures.breaches ∙ ap (λ (y : Expression). noted c.expression-in-Chain.new.least (breaches (look_in c.args.scope.now) (expression_tree y))) c.deref-in-Chain-2.ensures) (c.in_ok-links-in-Chain.ensures.breaches ∙ ap (λ (y : List (Binary × Expression)). noted c.expression-in-Chain-2.new.least (flat_map (link_breaches (look_in c.args.scope.now)) y)) c.deref-in-Chain-3.ensures.value))
+    rw v (chain_noted (look_in c.args.scope.now) c.args.least.now c.boxed-in-Chain.new.least c.boxed-in-Chain-2.new.least c.chain_links.new.least c.in-Chain.operator (expression_tree c.in-Chain.first.value) (expression_tree c.in-Chain.second.value) c.in-Chain.links.items (c.in_ok-first-in-Chain.ensures.breaches ∙ ap (λ (y : Expression). noted c.args.least.now (breaches (look_in c.args.scope.now) (expression_tree y))) c.deref-in-Chain.ensures) (c.in_ok-second-in-Chain.ensures.breaches ∙ ap (λ (y : Expression). noted c.boxed-in-Chain.new.least (breaches (look_in c.args.scope.now) (expression_tree y))) c.deref-in-Chain-2.ensures) (c.in_ok-links-in-Chain.ensures.breaches ∙ ap (λ (y : List (Binary × Expression)). noted c.boxed-in-Chain-2.new.least (flat_map (link_breaches (look_in c.args.scope.now)) y)) c.deref-in-Chain-3.ensures.value))
 
-pub expression-returns-in_ok-new-in-Chain-clause-value : goal.expression-returns-in_ok-new-in-Chain-clause-value
-expression-returns-in_ok-new-in-Chain-clause-value t c =
+pub expression-returns-in_ok-links-in-Chain-clause-value : goal.expression-returns-in_ok-links-in-Chain-clause-value
+expression-returns-in_ok-links-in-Chain-clause-value t c =
     let v : expression_tree c.args.e.now ≡ trees.chained (trees.binary c.in-Chain.operator (expression_tree c.in-Chain.first.value) (expression_tree c.in-Chain.second.value)) (map tree_link c.in-Chain.links.items) = rw c.in-Chain.is (ap expression_tree (sym (rolls-Chain c.in-Chain.first c.in-Chain.operator c.in-Chain.second c.in-Chain.links)) ∙ fold-roll-Expression ExpressionTree layer _) in
-    let w : value_of (made.Chain c.in_ok-first-in-Chain-2.first c.in-Chain.operator c.in_ok-new-in-Chain.field-0 c.in_ok-links-in-Chain.links) ≡ values.chained (values.binary c.in-Chain.operator (value_of c.in_ok-first-in-Chain-2.first.value) (value_of c.in_ok-new-in-Chain.field-0.value)) (map value_link c.in_ok-links-in-Chain.links.items) = ap value_of (sym (made.rolls-Chain c.in_ok-first-in-Chain-2.first c.in-Chain.operator c.in_ok-new-in-Chain.field-0 c.in_ok-links-in-Chain.links)) ∙ fold-roll-Evaluation Value value_layer _ in
-    let a : value_of c.in_ok-first-in-Chain-2.first.value ≡ resolve (look_in c.args.scope.now) (expression_tree c.in-Chain.first.value) = ap value_of c.in_ok-first-in-Chain-2.ensures.ok ∙ c.in_ok-first-in-Chain.ensures.value ∙ ap (λ (y : Expression). resolve (look_in c.args.scope.now) (expression_tree y)) c.deref-in-Chain.ensures in
-    let b : value_of c.in_ok-new-in-Chain.field-0.value ≡ resolve (look_in c.args.scope.now) (expression_tree c.in-Chain.second.value) = ap value_of c.in_ok-new-in-Chain.ensures.ok ∙ c.in_ok-second-in-Chain.ensures.value ∙ ap (λ (y : Expression). resolve (look_in c.args.scope.now) (expression_tree y)) c.deref-in-Chain-2.ensures in
+    let w : value_of (made.Chain c.in_ok-first-in-Chain.first c.in-Chain.operator c.in_ok-second-in-Chain.second c.in_ok-links-in-Chain.links) ≡ values.chained (values.binary c.in-Chain.operator (value_of c.in_ok-first-in-Chain.first.value) (value_of c.in_ok-second-in-Chain.second.value)) (map value_link c.in_ok-links-in-Chain.links.items) = ap value_of (sym (made.rolls-Chain c.in_ok-first-in-Chain.first c.in-Chain.operator c.in_ok-second-in-Chain.second c.in_ok-links-in-Chain.links)) ∙ fold-roll-Evaluation Value value_layer _ in
+    let a : value_of c.in_ok-first-in-Chain.first.value ≡ resolve (look_in c.args.scope.now) (expression_tree c.in-Chain.first.value) = c.in_ok-first-in-Chain.ensures.value ∙ ap (λ (y : Expression). resolve (look_in c.args.scope.now) (expression_tree y)) c.deref-in-Chain.ensures in
+    let b : value_of c.in_ok-second-in-Chain.second.value ≡ resolve (look_in c.args.scope.now) (expression_tree c.in-Chain.second.value) = c.in_ok-second-in-Chain.ensures.value ∙ ap (λ (y : Expression). resolve (look_in c.args.scope.now) (expression_tree y)) c.deref-in-Chain-2.ensures in
     let g : map value_link c.in_ok-links-in-Chain.links.items ≡ map (resolved_link (look_in c.args.scope.now)) c.in-Chain.links.items = c.in_ok-links-in-Chain.ensures.value ∙ ap (λ (y : List (Binary × Expression)). map (resolved_link (look_in c.args.scope.now)) y) c.deref-in-Chain-3.ensures.value in
     rw (v, w, a, b, g) (sym (chain_resolve (look_in c.args.scope.now) (trees.binary c.in-Chain.operator (expression_tree c.in-Chain.first.value) (expression_tree c.in-Chain.second.value)) c.in-Chain.links.items))
 
-pub expression-returns-in_ok-new-in-Compare-clause-breaches : goal.expression-returns-in_ok-new-in-Compare-clause-breaches
-expression-returns-in_ok-new-in-Compare-clause-breaches t c =
+pub expression-returns-in_ok-right-in-Compare-clause-breaches : goal.expression-returns-in_ok-right-in-Compare-clause-breaches
+expression-returns-in_ok-right-in-Compare-clause-breaches t c =
     let v : expression_tree c.args.e.now ≡ trees.compare c.in-Compare.comparison (expression_tree c.in-Compare.left.value) (expression_tree c.in-Compare.right.value) = rw c.in-Compare.is (ap expression_tree (sym (rolls-Compare c.in-Compare.left c.in-Compare.comparison c.in-Compare.right)) ∙ fold-roll-Expression ExpressionTree layer _) in
-    rw v (noted_two c.args.least.now c.expression-in-Compare.new.least c.expression-in-Compare-2.new.least (breaches (look_in c.args.scope.now) (expression_tree c.in-Compare.left.value)) (breaches (look_in c.args.scope.now) (expression_tree c.in-Compare.right.value)) (c.in_ok-left-in-Compare.ensures.breaches ∙ ap (λ (y : Expression). noted c.args.least.now (breaches (look_in c.args.scope.now) (expression_tree y))) c.deref-in-Compare.ensures) (c.in_ok-right-in-Compare.ensures.breaches ∙ ap (λ (y : Expression). noted c.expression-in-Compare.new.least (breaches (look_in c.args.scope.now) (expression_tree y))) c.deref-in-Compare-2.ensures))
+    rw v (noted_two c.args.least.now c.boxed-in-Compare.new.least c.boxed-in-Compare-2.new.least (breaches (look_in c.args.scope.now) (expression_tree c.in-Compare.left.value)) (breaches (look_in c.args.scope.now) (expression_tree c.in-Compare.right.value)) (c.in_ok-left-in-Compare.ensures.breaches ∙ ap (λ (y : Expression). noted c.args.least.now (breaches (look_in c.args.scope.now) (expression_tree y))) c.deref-in-Compare.ensures) (c.in_ok-right-in-Compare.ensures.breaches ∙ ap (λ (y : Expression). noted c.boxed-in-Compare.new.least (breaches (look_in c.args.scope.now) (expression_tree y))) c.deref-in-Compare-2.ensures))
 
-pub expression-returns-in_ok-new-in-Equal-clause-breaches : goal.expression-returns-in_ok-new-in-Equal-clause-breaches
-expression-returns-in_ok-new-in-Equal-clause-breaches t c =
+pub expression-returns-in_ok-others-in-Equal-clause-breaches : goal.expression-returns-in_ok-others-in-Equal-clause-breaches
+expression-returns-in_ok-others-in-Equal-clause-breaches t c =
     let v : expression_tree c.args.e.now ≡ trees.equal c.in-Equal.equality (expression_tree c.in-Equal.left.value) (trees.more (expression_tree c.in-Equal.right.value) (trees_of (map expression_tree c.in-Equal.others.items))) = rw c.in-Equal.is (ap expression_tree (sym (rolls-Equal c.in-Equal.left c.in-Equal.equality c.in-Equal.right c.in-Equal.others)) ∙ fold-roll-Expression ExpressionTree layer _) in
-    rw v (noted_two c.args.least.now c.expression-in-Equal.new.least c.all_expressions-in-Equal.new.least (breaches (look_in c.args.scope.now) (expression_tree c.in-Equal.left.value)) (all_breaches (look_in c.args.scope.now) (trees.more (expression_tree c.in-Equal.right.value) (trees_of (map expression_tree c.in-Equal.others.items)))) (c.in_ok-left-in-Equal.ensures.breaches ∙ ap (λ (y : Expression). noted c.args.least.now (breaches (look_in c.args.scope.now) (expression_tree y))) c.deref-in-Equal.ensures) (noted_two c.expression-in-Equal.new.least c.expression-in-Equal-2.new.least c.all_expressions-in-Equal.new.least (breaches (look_in c.args.scope.now) (expression_tree c.in-Equal.right.value)) (all_breaches (look_in c.args.scope.now) (trees_of (map expression_tree c.in-Equal.others.items))) (c.in_ok-right-in-Equal.ensures.breaches ∙ ap (λ (y : Expression). noted c.expression-in-Equal.new.least (breaches (look_in c.args.scope.now) (expression_tree y))) c.deref-in-Equal-2.ensures) (c.in_ok-others-in-Equal.ensures.breaches ∙ ap (λ (y : List Expression). noted c.expression-in-Equal-2.new.least (flat_map (own_breaches (look_in c.args.scope.now)) y)) c.deref-in-Equal-3.ensures.value ∙ ap (λ q. noted c.expression-in-Equal-2.new.least q) (sym (all_break (look_in c.args.scope.now) c.in-Equal.others.items)))))
+    rw v (noted_two c.args.least.now c.boxed-in-Equal.new.least c.all_expressions-in-Equal.new.least (breaches (look_in c.args.scope.now) (expression_tree c.in-Equal.left.value)) (all_breaches (look_in c.args.scope.now) (trees.more (expression_tree c.in-Equal.right.value) (trees_of (map expression_tree c.in-Equal.others.items)))) (c.in_ok-left-in-Equal.ensures.breaches ∙ ap (λ (y : Expression). noted c.args.least.now (breaches (look_in c.args.scope.now) (expression_tree y))) c.deref-in-Equal.ensures) (noted_two c.boxed-in-Equal.new.least c.boxed-in-Equal-2.new.least c.all_expressions-in-Equal.new.least (breaches (look_in c.args.scope.now) (expression_tree c.in-Equal.right.value)) (all_breaches (look_in c.args.scope.now) (trees_of (map expression_tree c.in-Equal.others.items))) (c.in_ok-right-in-Equal.ensures.breaches ∙ ap (λ (y : Expression). noted c.boxed-in-Equal.new.least (breaches (look_in c.args.scope.now) (expression_tree y))) c.deref-in-Equal-2.ensures) (c.in_ok-others-in-Equal.ensures.breaches ∙ ap (λ (y : List Expression). noted c.boxed-in-Equal-2.new.least (flat_map (own_breaches (look_in c.args.scope.now)) y)) c.deref-in-Equal-3.ensures.value ∙ ap (λ q. noted c.boxed-in-Equal-2.new.least q) (sym (all_break (look_in c.args.scope.now) c.in-Equal.others.items)))))
 
-pub expression-returns-in_ok-new-in-Equal-clause-value : goal.expression-returns-in_ok-new-in-Equal-clause-value
-expression-returns-in_ok-new-in-Equal-clause-value t c =
+pub expression-returns-in_ok-others-in-Equal-clause-value : goal.expression-returns-in_ok-others-in-Equal-clause-value
+expression-returns-in_ok-others-in-Equal-clause-value t c =
     let v : expression_tree c.args.e.now ≡ trees.equal c.in-Equal.equality (expression_tree c.in-Equal.left.value) (trees.more (expression_tree c.in-Equal.right.value) (trees_of (map expression_tree c.in-Equal.others.items))) = rw c.in-Equal.is (ap expression_tree (sym (rolls-Equal c.in-Equal.left c.in-Equal.equality c.in-Equal.right c.in-Equal.others)) ∙ fold-roll-Expression ExpressionTree layer _) in
-    let w : value_of (made.Equal c.in_ok-left-in-Equal-2.left c.in-Equal.equality c.in_ok-new-in-Equal.field-0 c.in_ok-others-in-Equal.others) ≡ values.equal c.in-Equal.equality (value_of c.in_ok-left-in-Equal-2.left.value) (values.more (value_of c.in_ok-new-in-Equal.field-0.value) (values.values_of (map value_of c.in_ok-others-in-Equal.others.items))) = ap value_of (sym (made.rolls-Equal c.in_ok-left-in-Equal-2.left c.in-Equal.equality c.in_ok-new-in-Equal.field-0 c.in_ok-others-in-Equal.others)) ∙ fold-roll-Evaluation Value value_layer _ in
-    let a : value_of c.in_ok-left-in-Equal-2.left.value ≡ resolve (look_in c.args.scope.now) (expression_tree c.in-Equal.left.value) = ap value_of c.in_ok-left-in-Equal-2.ensures.ok ∙ c.in_ok-left-in-Equal.ensures.value ∙ ap (λ (y : Expression). resolve (look_in c.args.scope.now) (expression_tree y)) c.deref-in-Equal.ensures in
-    let b : value_of c.in_ok-new-in-Equal.field-0.value ≡ resolve (look_in c.args.scope.now) (expression_tree c.in-Equal.right.value) = ap value_of c.in_ok-new-in-Equal.ensures.ok ∙ c.in_ok-right-in-Equal.ensures.value ∙ ap (λ (y : Expression). resolve (look_in c.args.scope.now) (expression_tree y)) c.deref-in-Equal-2.ensures in
+    let w : value_of (made.Equal c.in_ok-left-in-Equal.left c.in-Equal.equality c.in_ok-right-in-Equal.right c.in_ok-others-in-Equal.others) ≡ values.equal c.in-Equal.equality (value_of c.in_ok-left-in-Equal.left.value) (values.more (value_of c.in_ok-right-in-Equal.right.value) (values.values_of (map value_of c.in_ok-others-in-Equal.others.items))) = ap value_of (sym (made.rolls-Equal c.in_ok-left-in-Equal.left c.in-Equal.equality c.in_ok-right-in-Equal.right c.in_ok-others-in-Equal.others)) ∙ fold-roll-Evaluation Value value_layer _ in
+    let a : value_of c.in_ok-left-in-Equal.left.value ≡ resolve (look_in c.args.scope.now) (expression_tree c.in-Equal.left.value) = c.in_ok-left-in-Equal.ensures.value ∙ ap (λ (y : Expression). resolve (look_in c.args.scope.now) (expression_tree y)) c.deref-in-Equal.ensures in
+    let b : value_of c.in_ok-right-in-Equal.right.value ≡ resolve (look_in c.args.scope.now) (expression_tree c.in-Equal.right.value) = c.in_ok-right-in-Equal.ensures.value ∙ ap (λ (y : Expression). resolve (look_in c.args.scope.now) (expression_tree y)) c.deref-in-Equal-2.ensures in
     let g : map value_of c.in_ok-others-in-Equal.others.items ≡ map (resolved (look_in c.args.scope.now)) c.in-Equal.others.items = c.in_ok-others-in-Equal.ensures.value ∙ ap (λ (y : List Expression). map (resolved (look_in c.args.scope.now)) y) c.deref-in-Equal-3.ensures.value in
     rw (v, w, a, b, g) (ap (λ q. values.equal c.in-Equal.equality (resolve (look_in c.args.scope.now) (expression_tree c.in-Equal.left.value)) (values.more (resolve (look_in c.args.scope.now) (expression_tree c.in-Equal.right.value)) q)) (sym (all_resolve (look_in c.args.scope.now) c.in-Equal.others.items)))
 
-pub expression-returns-in_ok-new-in-Assign-clause-breaches : goal.expression-returns-in_ok-new-in-Assign-clause-breaches
-expression-returns-in_ok-new-in-Assign-clause-breaches t c =
+pub expression-returns-in_ok-right-in-Assign-clause-breaches : goal.expression-returns-in_ok-right-in-Assign-clause-breaches
+expression-returns-in_ok-right-in-Assign-clause-breaches t c =
     let v : expression_tree c.args.e.now ≡ trees.assign (expression_tree c.in-Assign.left.value) c.in-Assign.position (expression_tree c.in-Assign.right.value) = rw c.in-Assign.is (ap expression_tree (sym (rolls-Assign c.in-Assign.left c.in-Assign.position c.in-Assign.right)) ∙ fold-roll-Expression ExpressionTree layer _) in
-    rw v (noted_two c.args.least.now c.variable-in-Assign.new.least c.expression-in-Assign.new.least (left_breaches (look_in c.args.scope.now) c.in-Assign.position (expression_tree c.in-Assign.left.value) (breaches (look_in c.args.scope.now) (expression_tree c.in-Assign.left.value))) (breaches (look_in c.args.scope.now) (expression_tree c.in-Assign.right.value)) (c.in_ok-variable-in-Assign.ensures.breaches ∙ ap (λ (y : Expression). noted c.args.least.now (left_breaches (look_in c.args.scope.now) c.in-Assign.position (expression_tree y) (breaches (look_in c.args.scope.now) (expression_tree y)))) c.deref-in-Assign.ensures) (c.in_ok-right-in-Assign.ensures.breaches ∙ ap (λ (y : Expression). noted c.variable-in-Assign.new.least (breaches (look_in c.args.scope.now) (expression_tree y))) c.deref-in-Assign-2.ensures))
+    rw v (noted_two c.args.least.now c.variable-in-Assign.new.least c.boxed-in-Assign.new.least (left_breaches (look_in c.args.scope.now) c.in-Assign.position (expression_tree c.in-Assign.left.value) (breaches (look_in c.args.scope.now) (expression_tree c.in-Assign.left.value))) (breaches (look_in c.args.scope.now) (expression_tree c.in-Assign.right.value)) (c.in_ok-variable-in-Assign.ensures.breaches ∙ ap (λ (y : Expression). noted c.args.least.now (left_breaches (look_in c.args.scope.now) c.in-Assign.position (expression_tree y) (breaches (look_in c.args.scope.now) (expression_tree y)))) c.deref-in-Assign.ensures) (c.in_ok-right-in-Assign.ensures.breaches ∙ ap (λ (y : Expression). noted c.variable-in-Assign.new.least (breaches (look_in c.args.scope.now) (expression_tree y))) c.deref-in-Assign-2.ensures))
 
 pub variable-returns-in-Chain-clause-value : goal.variable-returns-in-Chain-clause-value
 variable-returns-in-Chain-clause-value t c =

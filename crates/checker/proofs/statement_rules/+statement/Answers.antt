@@ -1,4 +1,4 @@
-use Rattle.std.proofs.Common.{◌≡◌, List, ◌++◌, sym, ap, ◌∙◌}
+use Rattle.std.proofs.Common.{◌≡◌, List, ◌++◌, sym, ap, ◌∙◌, append_assoc}
 use Rattle.std.specs.Prelude.{map}
 use Rattle.std.specs.List.{flat_map}
 use Rattle.expressions.specs.Tree.{expression_tree}
@@ -104,17 +104,20 @@ statement-returns-in_ok-items-in-PrintReturn-clause-breaches t c =
     let v : statement_tree c.args.s.now ≡ trees.print_return (map item_tree c.in-PrintReturn.all.items) = rw c.in-PrintReturn.is (ap statement_tree (sym (rolls-PrintReturn c.in-PrintReturn.all)) ∙ fold-roll-Statement StatementTree layer _) in
     rw v (c.in_ok-items-in-PrintReturn.ensures.breaches ∙ ap (λ (y : List Item). noted c.args.least.now (flat_map (own_item_breaches (look_in c.args.scope.now)) y)) c.deref-in-PrintReturn.ensures.value ∙ ap (λ q. noted c.args.least.now q) (sym (items_break (look_in c.args.scope.now) c.in-PrintReturn.all.items)))
 
-pub statement-returns-in_ok-new-in-If-clause-breaches : goal.statement-returns-in_ok-new-in-If-clause-breaches
-statement-returns-in_ok-new-in-If-clause-breaches t c =
+pub statement-returns-in_ok-condition-in-If-clause-breaches : goal.statement-returns-in_ok-condition-in-If-clause-breaches
+statement-returns-in_ok-condition-in-If-clause-breaches t c =
     let v : statement_tree c.args.s.now ≡ trees.if_then c.in-If.position (expression_tree c.in-If.condition) (statement_tree c.in-If.then.value) = rw c.in-If.is (ap statement_tree (sym (rolls-If c.in-If.position c.in-If.condition c.in-If.then)) ∙ fold-roll-Statement StatementTree layer _) in
-    rw v (noted_two c.args.least.now c.whole.new.least c.statement.new.least (whole_breaches (look_in c.args.scope.now) c.in-If.position (expression_tree c.in-If.condition)) (statement_breaches (look_in c.args.scope.now) (statement_tree c.in-If.then.value)) c.in_ok-condition-in-If.ensures.breaches (c.in_ok-then-in-If.ensures.breaches ∙ ap (λ (y : Statement). noted c.whole.new.least (statement_breaches (look_in c.args.scope.now) (statement_tree y))) c.deref-in-If.ensures))
+    rw v (c.in_ok-condition-in-If.ensures.breaches ∙ ap (λ (y : Statement). noted c.args.least.now (whole_breaches (look_in c.args.scope.now) c.in-If.position (expression_tree c.in-If.condition) ++ statement_breaches (look_in c.args.scope.now) (statement_tree y))) c.deref-in-If.ensures)
 
-pub statement-returns-in_ok-new-in-While-clause-breaches : goal.statement-returns-in_ok-new-in-While-clause-breaches
-statement-returns-in_ok-new-in-While-clause-breaches t c =
+pub statement-returns-in_ok-condition-in-While-clause-breaches : goal.statement-returns-in_ok-condition-in-While-clause-breaches
+statement-returns-in_ok-condition-in-While-clause-breaches t c =
     let v : statement_tree c.args.s.now ≡ trees.while_do c.in-While.position (expression_tree c.in-While.condition) (statement_tree c.in-While.body.value) = rw c.in-While.is (ap statement_tree (sym (rolls-While c.in-While.position c.in-While.condition c.in-While.body)) ∙ fold-roll-Statement StatementTree layer _) in
-    rw v (noted_two c.args.least.now c.whole-in-While.new.least c.statement-in-While.new.least (whole_breaches (look_in c.args.scope.now) c.in-While.position (expression_tree c.in-While.condition)) (statement_breaches (look_in c.args.scope.now) (statement_tree c.in-While.body.value)) c.in_ok-condition-in-While.ensures.breaches (c.in_ok-body-in-While.ensures.breaches ∙ ap (λ (y : Statement). noted c.whole-in-While.new.least (statement_breaches (look_in c.args.scope.now) (statement_tree y))) c.deref-in-While.ensures))
+    rw v (c.in_ok-condition-in-While.ensures.breaches ∙ ap (λ (y : Statement). noted c.args.least.now (whole_breaches (look_in c.args.scope.now) c.in-While.position (expression_tree c.in-While.condition) ++ statement_breaches (look_in c.args.scope.now) (statement_tree y))) c.deref-in-While.ensures)
 
-pub statement-returns-in_ok-new-in-IfElse-clause-breaches : goal.statement-returns-in_ok-new-in-IfElse-clause-breaches
-statement-returns-in_ok-new-in-IfElse-clause-breaches t c =
+pub statement-returns-in_ok-otherwise-in-IfElse-clause-breaches : goal.statement-returns-in_ok-otherwise-in-IfElse-clause-breaches
+statement-returns-in_ok-otherwise-in-IfElse-clause-breaches t c =
     let v : statement_tree c.args.s.now ≡ trees.if_else c.in-IfElse.position (expression_tree c.in-IfElse.condition) (statement_tree c.in-IfElse.then.value) (statement_tree c.in-IfElse.otherwise.value) = rw c.in-IfElse.is (ap statement_tree (sym (rolls-IfElse c.in-IfElse.position c.in-IfElse.condition c.in-IfElse.then c.in-IfElse.otherwise)) ∙ fold-roll-Statement StatementTree layer _) in
-    rw v (noted_two c.args.least.now c.whole-in-IfElse.new.least c.statement-in-IfElse-2.new.least (whole_breaches (look_in c.args.scope.now) c.in-IfElse.position (expression_tree c.in-IfElse.condition)) ((statement_breaches (look_in c.args.scope.now) (statement_tree c.in-IfElse.then.value)) ++ (statement_breaches (look_in c.args.scope.now) (statement_tree c.in-IfElse.otherwise.value))) c.in_ok-condition-in-IfElse.ensures.breaches (noted_two c.whole-in-IfElse.new.least c.statement-in-IfElse.new.least c.statement-in-IfElse-2.new.least (statement_breaches (look_in c.args.scope.now) (statement_tree c.in-IfElse.then.value)) (statement_breaches (look_in c.args.scope.now) (statement_tree c.in-IfElse.otherwise.value)) (c.in_ok-then-in-IfElse.ensures.breaches ∙ ap (λ (y : Statement). noted c.whole-in-IfElse.new.least (statement_breaches (look_in c.args.scope.now) (statement_tree y))) c.deref-in-IfElse.ensures) (c.in_ok-otherwise-in-IfElse.ensures.breaches ∙ ap (λ (y : Statement). noted c.statement-in-IfElse.new.least (statement_breaches (look_in c.args.scope.now) (statement_tree y))) c.deref-in-IfElse-2.ensures)))
+    let w = whole_breaches (look_in c.args.scope.now) c.in-IfElse.position (expression_tree c.in-IfElse.condition) in
+    let x = statement_breaches (look_in c.args.scope.now) (statement_tree c.in-IfElse.then.value) in
+    let y = statement_breaches (look_in c.args.scope.now) (statement_tree c.in-IfElse.otherwise.value) in
+    rw v (noted_two c.args.least.now c.under-in-IfElse.new.least c.boxed.new.least (w ++ x) y (c.in_ok-condition-in-IfElse.ensures.breaches ∙ ap (λ (z : Statement). noted c.args.least.now (w ++ statement_breaches (look_in c.args.scope.now) (statement_tree z))) c.deref-in-IfElse.ensures) (c.in_ok-otherwise-in-IfElse.ensures.breaches ∙ ap (λ (z : Statement). noted c.under-in-IfElse.new.least (statement_breaches (look_in c.args.scope.now) (statement_tree z))) c.deref-in-IfElse-2.ensures) ∙ ap (λ q. noted c.args.least.now q) (append_assoc w x y))

@@ -37,7 +37,8 @@ chain-returns-in_err-second t c =
 
 pub chain-loop-turn-init : goal.chain-loop-turn-init
 chain-loop-turn-init t c =
-    rw c.new-links.ensures.items (level_begins (nested c.args.depth) c.args.operators (lexemes c.args.tokens.now) c.in_ok-first.at_operator.now _ _ c.in-Some.joining _ c.in_ok-first.ensures (grind arith) (rw c.skip.ensures at c.in_ok-second.ensures))
+    rw (c.new-links.ensures.items, c.in_ok-first-2.ensures.ok, c.in_ok-second-2.ensures.ok)
+    (level_begins (nested c.args.depth) c.args.operators (lexemes c.args.tokens.now) c.in_ok-first.at_operator.now _ _ c.in-Some.joining _ c.in_ok-first.ensures (grind arith) (rw c.skip.ensures at c.in_ok-second.ensures))
 
 pub chain-returns-in_err-right : goal.chain-returns-in_err-right
 chain-returns-in_err-right t c =

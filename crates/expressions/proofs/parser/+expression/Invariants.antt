@@ -50,15 +50,27 @@ abbrev pub decreases-unary : goal.decreases-unary
 decreases-unary l = 16 * l.depth + 3
 
 abbrev pub decreases-primary : goal.decreases-primary
-decreases-primary l = 16 * l.depth + 2
+decreases-primary l = 16 * l.depth + 1
+
+abbrev pub decreases-stepped : goal.decreases-stepped
+decreases-stepped l = 16 * l.depth + 2
+
+abbrev pub decreases-assigned : goal.decreases-assigned
+decreases-assigned l = 16 * l.depth
+
+abbrev pub decreases-after_name : goal.decreases-after_name
+decreases-after_name l = 16 * l.depth
+
+abbrev pub decreases-enclosed : goal.decreases-enclosed
+decreases-enclosed l = 16 * l.depth
 
 abbrev pub invariant-chain-loop-turn : goal.invariant-chain-loop-turn
 invariant-chain-loop-turn l =
-    spec.chain (operator_of l.operators) (operand_of (spec.nested l.depth) l.operators) (l.turns - l._turn) (chained (binary l.joining (expression_tree l.first) (expression_tree l.second)) (map link l.links.items)) (lexemes l.rest) ≡ chain_of (spec.nested l.depth) l.operators (lexemes l.fn.tokens)
+    spec.chain (operator_of l.operators) (operand_of (spec.nested l.depth) l.operators) (l.turns - l._turn) (chained (binary l.joining (expression_tree l.first.value) (expression_tree l.second.value)) (map link l.links.items)) (lexemes l.rest) ≡ chain_of (spec.nested l.depth) l.operators (lexemes l.fn.tokens)
 
 abbrev pub invariant-values-loop-turn : goal.invariant-values-loop-turn
 invariant-values-loop-turn l =
-    joined (expression_tree l.first ∷ map expression_tree l.others.items) (spec.further (spec.is_word w.Or) (spec.sum (spec.nested l.depth)) (l._turn-end - l._turn) (lexemes l.rest)) ≡ spec.list (spec.is_word w.Or) (spec.sum (spec.nested l.depth)) (lexemes l.fn.tokens)
+    joined (expression_tree l.first.value ∷ map expression_tree l.others.items) (spec.further (spec.is_word w.Or) (spec.sum (spec.nested l.depth)) (l._turn-end - l._turn) (lexemes l.rest)) ≡ spec.list (spec.is_word w.Or) (spec.sum (spec.nested l.depth)) (lexemes l.fn.tokens)
 
 abbrev pub invariant-called-loop-turn : goal.invariant-called-loop-turn
 invariant-called-loop-turn l =

@@ -14,3 +14,7 @@ returns-in-JumpIfLess-clause-some c = λ here after into branch. rw (c.in-JumpIf
 pub returns-in-JumpIfGreater-clause-some : goal.returns-in-JumpIfGreater-clause-some
 unfolding perform
 returns-in-JumpIfGreater-clause-some c = λ here after into branch. rw (c.in-JumpIfGreater.is, c.signed_less-in-JumpIfGreater.ensures) refl
+
+pub returns-in-TestBits-clause-some : goal.returns-in-TestBits-clause-some
+unfolding perform
+returns-in-TestBits-clause-some c = λ here after into branch. rw c.in-TestBits.is refl

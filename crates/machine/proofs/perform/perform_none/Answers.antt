@@ -1,6 +1,6 @@
 use Rattle.std.proofs.Common.{refl}
 use Rattle.zcore.specs.Step.{perform}
-use Rattle.frames.proofs.Steps.{told_went, told_halt}
+use Rattle.frames.proofs.Steps.{told_went, told_halt, told_still}
 use Rattle.machine.proofs.perform.perform_none.Goals as goal
 
 pub returns-in-ReturnTrue-clause-told : goal.returns-in-ReturnTrue-clause-told
@@ -30,3 +30,7 @@ returns-in-Quit-clause-told c = rw c.in-Quit.is (told_halt _ _ _ c.requires.stor
 pub returns-in-NewLine-clause-told : goal.returns-in-NewLine-clause-told
 unfolding perform
 returns-in-NewLine-clause-told c = rw c.in-NewLine.is (c.print_characters.ensures.told)
+
+pub returns-in-DoNothing-clause-told : goal.returns-in-DoNothing-clause-told
+unfolding perform
+returns-in-DoNothing-clause-told c = rw c.in-DoNothing.is (told_still _ _ _ c.requires.store.sound refl)

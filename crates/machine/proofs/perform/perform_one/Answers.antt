@@ -32,4 +32,12 @@ returns-in-Load-clause-told c = rw c.in-Load.is (told_went _ _ c.load.ensures)
 
 pub returns-in-Call1n-clause-told : goal.returns-in-Call1n-clause-told
 unfolding perform
-returns-in-Call1n-clause-told c = rw c.in-Call1n.is (told_went _ _ c.call_packed.ensures)
+returns-in-Call1n-clause-told c = rw c.in-Call1n.is (told_went _ _ c.call_packed-in-Call1n.ensures)
+
+pub returns-in-PrintAddress-clause-told : goal.returns-in-PrintAddress-clause-told
+unfolding perform
+returns-in-PrintAddress-clause-told c = rw c.in-PrintAddress.is (c.print_address.ensures.told)
+
+pub returns-in-Call1s-clause-told : goal.returns-in-Call1s-clause-told
+unfolding perform
+returns-in-Call1s-clause-told c = rw c.in-Call1s.is (told_went _ _ c.call_packed.ensures)

@@ -39,3 +39,11 @@ returns-in-Pull-clause-told c = rw c.in-Pull.is (told_went _ _ c.pull.ensures)
 pub returns-in-Not-clause-told : goal.returns-in-Not-clause-told
 unfolding perform
 returns-in-Not-clause-told c = rw c.in-Not.is (told_went _ _ c.give_result.ensures)
+
+pub returns-in-StoreWord-clause-told : goal.returns-in-StoreWord-clause-told
+unfolding perform
+returns-in-StoreWord-clause-told c = rw c.in-StoreWord.is (told_went _ _ c.store_word.ensures)
+
+pub returns-in-CheckArgumentCount-clause-told : goal.returns-in-CheckArgumentCount-clause-told
+unfolding perform
+returns-in-CheckArgumentCount-clause-told c = rw c.in-CheckArgumentCount.is (told_went _ _ c.check_argument_count.ensures)

@@ -28,14 +28,14 @@ returns-in_err-put-in-Some g c = λ game s p.
     (heard_err game (g.W.Write.contents c.args.writer.now) (g.W.Write.contents c.put.new.writer) s (λ t. IsSessionOf game t c.redo.follows.lender-at-none)
     c.args.line.now false (record { reply = note (codes "[Redone.]") ++ text_on game (redo_of s).done; standing = redo_of s })
     (at_redo game s c.args.line.now false (tested c.args.line.now (codes "/undo") c.as_slice.result.now c.eq.result false c.as_slice.ensures c.eq.ensures c.if-eq.false) (tested c.args.line.now (codes "/redo") c.as_slice-else-eq.result.now c.eq-else-eq.result true c.as_slice-else-eq.ensures c.eq-else-eq.ensures c.if-eq-2.true) ∙ redo_some game s ((c.in-Some.ensures.found game.story game.fuel game.keep s p).0 refl))
-    (c.redo.follows.holds-at-none game.story game.fuel game.keep s p) (wrote_first (text_on game (redo_of s).done) c.in_err-put-in-Some.ensures))
+    (c.redo.follows.holds-at-none.stands game.story game.fuel game.keep s p) (wrote_first (text_on game (redo_of s).done) c.in_err-put-in-Some.ensures))
 
 pub returns-in_ok-put-in-Some : goal.returns-in_ok-put-in-Some
 returns-in_ok-put-in-Some g c = λ game s p.
     heard_one game (g.W.Write.contents c.args.writer.now) (g.W.Write.contents c.tell-in-Some.new.writer) s (λ t. IsSessionOf game t c.redo.follows.lender-at-none)
     c.args.line.now false (record { reply = note (codes "[Redone.]") ++ text_on game (redo_of s).done; standing = redo_of s }) c.tell-in-Some.result
     (at_redo game s c.args.line.now false (tested c.args.line.now (codes "/undo") c.as_slice.result.now c.eq.result false c.as_slice.ensures c.eq.ensures c.if-eq.false) (tested c.args.line.now (codes "/redo") c.as_slice-else-eq.result.now c.eq-else-eq.result true c.as_slice-else-eq.ensures c.eq-else-eq.ensures c.if-eq-2.true) ∙ redo_some game s ((c.in-Some.ensures.found game.story game.fuel game.keep s p).0 refl))
-    (c.redo.follows.holds-at-none game.story game.fuel game.keep s p)
+    (c.redo.follows.holds-at-none.stands game.story game.fuel game.keep s p)
     (wrote_both (g.W.Write.contents c.args.writer.now) (g.W.Write.contents c.put.new.writer) (g.W.Write.contents c.tell-in-Some.new.writer) (note (codes "[Redone.]")) (text_on game (redo_of s).done) c.tell-in-Some.result c.in_ok-put-in-Some.ensures
     (subst (λ (t : List ℕ). Wrote (g.W.Write.contents c.put.new.writer) (g.W.Write.contents c.tell-in-Some.new.writer) t c.tell-in-Some.result) (c.in-Some.ensures.text game.story game.fuel game.keep s p) c.tell-in-Some.ensures))
 
@@ -44,7 +44,7 @@ returns-in-None g c = λ game s p.
     heard_one game (g.W.Write.contents c.args.writer.now) (g.W.Write.contents c.tell-in-None.new.writer) s (λ t. IsSessionOf game t c.redo.follows.lender-at-none)
     c.args.line.now false (record { reply = note (codes "[Nothing to redo.]"); standing = redo_of s }) c.tell-in-None.result
     (at_redo game s c.args.line.now false (tested c.args.line.now (codes "/undo") c.as_slice.result.now c.eq.result false c.as_slice.ensures c.eq.ensures c.if-eq.false) (tested c.args.line.now (codes "/redo") c.as_slice-else-eq.result.now c.eq-else-eq.result true c.as_slice-else-eq.ensures c.eq-else-eq.ensures c.if-eq-2.true) ∙ redo_none game s (absent _ ((c.in-None.ensures.found game.story game.fuel game.keep s p).1)))
-    (c.redo.follows.holds-at-none game.story game.fuel game.keep s p) c.tell-in-None.ensures
+    (c.redo.follows.holds-at-none.stands game.story game.fuel game.keep s p) c.tell-in-None.ensures
 
 pub returns-in-Taken : goal.returns-in-Taken
 returns-in-Taken g c = λ game s p.

@@ -34,7 +34,8 @@ returns-in_err-finish-in-Ok-eq0 g c = λ game p.
     let w2 = g.W.Write.contents c.finish.new.writer in
     ran_err game r r2 w w2 (λ t. IsSessionOf game t c.finish.new.session) c.from_residual-in_err-finish-in-Ok-eq0.result c.from_residual-in_err-finish-in-Ok-eq0.ensures.1
     (ran_broke_last game r (g.R.Read.remaining c.loop.reader) r2 w (g.W.Write.contents c.loop.writer) w2 (λ t. IsSessionOf game t c.loop.session) (λ t. IsSessionOf game t c.finish.new.session) c.loop.line h
-    (subst (λ (n : ℕ). Consumes (g.R.Read.remaining c.loop.reader) r2 (take n c.read.new.buf)) c.in-Ok-eq0.field-0-test c.in-Ok-eq0.ensures.bytes.0) c.if-line-gt0.true
+    (subst (λ (n : ℕ). Consumes (g.R.Read.remaining c.loop.reader) r2 (take n c.read.new.buf)) c.in-Ok-eq0.field-0-test c.in-Ok-eq0.ensures.bytes.0)
+    (c.in-Ok-eq0.ensures.bytes.1 c.in-Ok-eq0.field-0-test (omega arith)) c.if-line-gt0.true
     (λ t q. c.in_err-finish-in-Ok-eq0.ensures.hears game t (rest_from [] h.input) q h.kept))
 
 pub returns-in_err-hear-in-Ok : goal.returns-in_err-hear-in-Ok

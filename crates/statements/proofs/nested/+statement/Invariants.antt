@@ -18,6 +18,9 @@ decreases-braces l = 4 * l.depth
 abbrev pub decreases-block : goal.decreases-block
 decreases-block l = 4 * l.depth + 1
 
+abbrev pub decreases-further_in : goal.decreases-further_in
+decreases-further_in l = 4 * l.depth
+
 abbrev pub decreases-choice : goal.decreases-choice
 decreases-choice l = 4 * l.depth + 1
 

@@ -29,6 +29,7 @@ returns-in-Ok-turn c =
     let state : state_of c.new-store.result.store [] ≡ first_state story = ap (λ s. state_of s []) same ∙ l.state in
     let words : drop (length c.new-opening.result.items) c.turn.new.text.items ≡ c.turn.new.text.items = ap (λ (x : List ℕ). drop (length x) c.turn.new.text.items) c.new-opening.ensures.items in
     let closed : c.close.new.self.store ≡ c.turn.new.store.store = ap (λ (r : Recording Contents). r.store) c.close.ensures.new in
-    subst (λ s. IsSession story c.args.fuel c.args.keep nothing (history_of c.args.keep c.args.fuel header c.turn.new.text.items s c.in-Ok-turn.first c.new.result.items 0 c.new-in-Ok-turn.result.items)) (sym closed)
+    let session = subst (λ s. IsSession story c.args.fuel c.args.keep nothing (history_of c.args.keep c.args.fuel header c.turn.new.text.items s c.in-Ok-turn.first c.new.result.items 0 c.new-in-Ok-turn.result.items)) (sym closed)
     (session_opened story c.args.fuel c.args.keep header c.new-store.result.store c.turn.new.store.store c.in-Ok-turn.first c.new.result.items (drop (length c.new-opening.result.items) c.turn.new.text.items) c.turn.new.text.items c.new-in-Ok-turn.result.items
-    c.new.ensures.items before state c.in-Ok-turn.ensures.opens words)
+    c.new.ensures.items before state c.in-Ok-turn.ensures.opens words) in
+    record { header = header; reads = l.header; session = session }

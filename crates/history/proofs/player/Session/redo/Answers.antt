@@ -1,24 +1,23 @@
-use Rattle.std.proofs.Common.{◌≡◌, ℕ, ◌+◌, ◌-◌, ◌<◌, min, ap, sym, ◌∙◌, arith, subst, length, refl, List, Option}
+use Rattle.std.proofs.Common.{◌≡◌, ℕ, ◌+◌, ◌-◌, ◌<◌, ap, sym, ◌∙◌, arith, subst, length, refl, List, Option}
 use Rattle.journal.specs.Swap.{Fits}
 use Rattle.frames.specs.Contents.{bound_of}
 use Rattle.history.specs.History.{History}
 use Rattle.history.specs.Sessions.{IsSession}
 use Rattle.history.specs.Standing.{Standing, redo_of}
 use Rattle.history.proofs.Insides.{turn_fits, DoneAgain, redo_history, redo_between, counted, turn_text, redone_text}
-use Rattle.history.proofs.Stands.{session_redo, session_undone, session_again}
+use Rattle.history.proofs.Stands.{session_redo, forward_none, forward_some, session_undone, session_again}
 use Rattle.history.proofs.player.Session.redo.Goals as goal
 
 pub returns-then-self-len : goal.returns-then-self-len
 returns-then-self-len c =
     let i = c.self.inside in
     let n = counted i.keep i.fuel i.machine.header i.opening.items i.store.store i.first i.turns.items i.done i.given_up.items c.args.self.now c.self.view_is in
-    let all : length i.turns.items ≡ i.done = omega (arith, i.turns.ok.0, c.len.ensures, c.if-self-len.true) in (
+    let all : length i.turns.items ≡ i.done = omega (arith, i.turns.ok.0, c.len.ensures, c.if-self-len.true) in
+    let same = c.self.view_is ∙ forward_none c.args.self.now (omega (arith, all, n.present, n.size)) in (
       (
         refl,
         (λ _. tt),
-        λ story fuel keep s h.
-            let u = session_undone story fuel keep s c.args.self.now i.done (length i.turns.items) n.present n.size h in
-            subst (IsSession story fuel keep (redo_of s)) (sym c.self.view_is) (session_redo story fuel keep s c.args.self.now c.args.self.now.present (omega (arith, all, u.0, u.1)) h),
+        record { history = same; stands = λ story fuel keep s h. subst (IsSession story fuel keep (redo_of s)) (sym same) (session_redo story fuel keep s c.args.self.now h) },
       ),
       record {
         rests = tt;
@@ -52,7 +51,8 @@ returns c =
     let b = c.do_again.ensures in
     let h : DoneAgain i.store c.do_again.new.store i.turns.items i.done c.index_mut.result.now c.do_again.new.turn = record { here = here; is = c.index_mut.ensures.value; store = b.store; turn = b.turn; inverse = b.inverse } in
     let is = redo_history i.keep i.fuel i.machine.header i.opening.items i.store c.do_again.new.store i.first i.turns.items c.index_mut.result.now c.do_again.new.turn i.done i.given_up.items h
-    ∙ ap {A = History} (λ v. record v { present = i.done + 1 }) c.self.view_is in
+    ∙ ap {A = History} (λ v. record v { present = i.done + 1 }) c.self.view_is
+    ∙ ap {A = ℕ} (λ k. record c.args.self.now { present = k + 1 }) n.present ∙ forward_some c.args.self.now (omega (arith, here, n.present, n.size)) in
     let e : i.done + 1 - 1 ≡ i.done = omega arith in
     let text = c.deref.ensures.value ∙ redone_text i.turns.items i.done (i.done + 1 - 1) c.index_mut.result.now c.do_again.new.turn c.index.result.now _ here e c.index.ensures b.turn
     ∙ turn_text i.keep i.fuel i.machine.header i.opening.items i.store.store i.first i.turns.items i.done i.given_up.items c.args.self.now i.done c.index_mut.result.now c.self.view_is here c.index_mut.ensures.value in
@@ -63,10 +63,7 @@ returns c =
       (
         refl,
         (λ _. tt),
-        λ story fuel keep s h.
-            let some : 0 < length s.undone = undone story fuel keep s h in
-            let one : min (length s.undone) 1 ≡ 1 = omega arith in
-            subst (IsSession story fuel keep (redo_of s)) (sym is) (session_redo story fuel keep s c.args.self.now (i.done + 1) (omega (arith, one, n.present)) h),
+        record { history = is; stands = λ story fuel keep s h. subst (IsSession story fuel keep (redo_of s)) (sym is) (session_redo story fuel keep s c.args.self.now h) },
       ),
       record {
         rests = tt;

@@ -1,12 +1,12 @@
 use Rattle.std.proofs.Common.{◌≡◌, ◌+◌, ◌-◌, ◌<◌, ap, sym, ◌∙◌, arith, subst, length}
 use Rattle.journal.specs.Swap.{Fits}
 use Rattle.frames.specs.Contents.{bound_of}
-use Rattle.history.specs.History.{History}
+use Rattle.history.specs.History.{History, stepped_back}
 use Rattle.history.specs.Inside.{history_of}
 use Rattle.history.specs.Sessions.{IsSession}
 use Rattle.history.specs.Standing.{undo_of}
 use Rattle.history.proofs.Insides.{turn_fits, undo_history, undo_between}
-use Rattle.history.proofs.Stands.{session_undo, found_none, found_some}
+use Rattle.history.proofs.Stands.{session_undo, back_none, found_none, found_some}
 use Rattle.history.proofs.player.Session.undo.Goals as goal
 
 pub returns-then-self-eq0-clause-found : goal.returns-then-self-eq0-clause-found
@@ -15,11 +15,15 @@ returns-then-self-eq0-clause-found c = λ story fuel keep s h.
     let present : c.self.inside.done ≡ c.args.self.now.present = ap (λ (v : History). v.present) c.self.view_is in
     found_none s.kept (omega (arith, h.present, c.if-self-eq0.true))
 
-pub returns-then-self-eq0-clause-undone : goal.returns-then-self-eq0-clause-undone
+pub returns-then-self-eq0-clause-history : goal.returns-then-self-eq0-clause-history
 unfolding history_of
-returns-then-self-eq0-clause-undone c = λ story fuel keep s h.
+returns-then-self-eq0-clause-history c =
     let present : c.self.inside.done ≡ c.args.self.now.present = ap (λ (v : History). v.present) c.self.view_is in
-    session_undo story fuel keep s c.args.self.now c.args.self.now.present (omega (arith, c.if-self-eq0.true)) h
+    back_none c.args.self.now (omega (arith, c.if-self-eq0.true))
+
+pub returns-then-self-eq0-clause-undone : goal.returns-then-self-eq0-clause-undone
+returns-then-self-eq0-clause-undone c = λ story fuel keep s h.
+    subst (IsSession story fuel keep (undo_of s)) (sym (returns-then-self-eq0-clause-history c)) (session_undo story fuel keep s c.args.self.now h)
 
 pub take_back-requires-clause-fits : goal.take_back-requires-clause-fits
 take_back-requires-clause-fits c =
@@ -43,15 +47,17 @@ returns-clause-found c = λ story fuel keep s h.
     let present : c.self.inside.done ≡ c.args.self.now.present = ap (λ (v : History). v.present) c.self.view_is in
     found_some s.kept (omega (arith, h.present))
 
-pub returns-clause-undone : goal.returns-clause-undone
+pub returns-clause-history : goal.returns-clause-history
 unfolding history_of
-returns-clause-undone c = λ story fuel keep s h.
+returns-clause-history c =
     let i = c.self.inside in
     let here : i.done - 1 < length i.turns.items = omega (arith, c.self.invariant.within) in
     let e : i.done - 1 + 1 ≡ i.done = omega arith in
-    let present : i.done ≡ c.args.self.now.present = ap (λ (v : History). v.present) c.self.view_is in
     let b = c.take_back.ensures in
-    let is = undo_history i.keep i.fuel i.machine.header i.opening.items i.store c.take_back.new.store i.first i.turns.items c.index_mut.result.now c.take_back.new.turn (i.done - 1) i.done i.given_up.items e
+    undo_history i.keep i.fuel i.machine.header i.opening.items i.store c.take_back.new.store i.first i.turns.items c.index_mut.result.now c.take_back.new.turn (i.done - 1) i.done i.given_up.items e
     (record { here = here; is = c.index_mut.ensures.value; store = b.store; turn = b.turn; inverse = b.inverse })
-    ∙ ap {A = History} (λ v. record v { present = i.done - 1 }) c.self.view_is in
-    subst (IsSession story fuel keep (undo_of s)) (sym is) (session_undo story fuel keep s c.args.self.now (i.done - 1) (omega arith) h)
+    ∙ ap {A = History} stepped_back c.self.view_is
+
+pub returns-clause-undone : goal.returns-clause-undone
+returns-clause-undone c = λ story fuel keep s h.
+    subst (IsSession story fuel keep (undo_of s)) (sym (returns-clause-history c)) (session_undo story fuel keep s c.args.self.now h)

@@ -1,0 +1,167 @@
+-- Small stories, computed: their bytes, and what the machine prints.
+use Rattle.std.proofs.Common.{◌≡◌, ℕ, List, [], ◌∷◌, ◌++◌, length, take, drop, Some, None, refl}
+use Rattle.std.specs.Prelude.{codes, option_map, replicate}
+use Rattle.std.specs.List.{flat_map}
+use Rattle.zcore.specs.declared.header.Version.TheVariants.{V5, V8}
+use Rattle.zcore.specs.declared.place.Place.{Place}
+use Rattle.zcore.specs.declared.place.Place.TheVariants as places
+use Rattle.zcore.specs.Alphabets.{spelling_of}
+use Rattle.zcore.specs.Arithmetic.{signed_text, decimal}
+use Rattle.zcore.specs.Instruction.{decode, bytes_of, opcode, operands, operand, byte, large, result_variable, branch}
+use Rattle.zcore.specs.Parts.{read_in_place, write_in_place, push, pop, read_local, write_local, read_global, write_global, read_variable, write_variable, test_variable, test_pull, operand_value, operand_values, test_result, store_result, test_target, spend, go, test_routine, test_calls, enter, call, test_return, leave, give_back, take_branch, branch_on, print}
+use Rattle.zcore.specs.Reading.{reads}
+use Rattle.zcore.specs.Step.{step, perform, push_word, pull, call_packed, return_popped, print_characters, print_inline, print_packed, text_at}
+use Rattle.zcore.specs.Text.{encoded, decoded, abbreviation}
+use Rattle.zcore.specs.Turn.{Whole, opening, turn_from, weight}
+use Rattle.zcore.specs.Words.{packed, unpacked}
+use Rattle.statements.specs.Tree as trees
+use Rattle.syntax.specs.Tree.{ProgramTree, routine}
+use Rattle.expressions.specs.declared.tree.Binary.TheVariants as binaries
+use Rattle.checker.specs.declared.resolved.Variable.TheVariants as variables
+use Rattle.checker.specs.Meaning.{meaning}
+use Rattle.checker.specs.Resolved.{ProgramOf, binary, call as calls, effect, more, none, number, number_of, print as prints, read, stop, text, next}
+use Rattle.story.specs.Compiled.{size_fault}
+use Rattle.story.specs.Layout.{fault_texts, low_bytes, packed_addresses, story_of}
+
+low : length (low_bytes [] 219) ≡ 811
+unfolding bytes_of encoded packed
+low = refl
+
+texts : fault_texts
+    ≡ (20 ∷ 229 ∷ 24 ∷ 91 ∷ 17 ∷ 102 ∷ 106 ∷ 57 ∷ 23 ∷ 160 ∷ 37 ∷ 219 ∷ 59 ∷ 14 ∷ 82 ∷ 96 ∷ 31 ∷ 192 ∷ 125 ∷ 87 ∷ 80 ∷ 166 ∷ 11 ∷ 165 ∷ 156 ∷ 165 ∷ [])
+    ∷ (20 ∷ 229 ∷ 24 ∷ 91 ∷ 17 ∷ 102 ∷ 106 ∷ 57 ∷ 23 ∷ 160 ∷ 78 ∷ 153 ∷ 0 ∷ 192 ∷ 33 ∷ 166 ∷ 92 ∷ 200 ∷ 101 ∷ 87 ∷ 20 ∷ 194 ∷ 244 ∷ 167 ∷ [])
+    ∷ []
+unfolding encoded packed spelling_of
+texts = refl
+
+-- `[ Main; ];`: one routine that does nothing, of 5 bytes
+abbrev nothing : ProgramOf
+nothing = record { globals = []; routines = record { locals = 0; body = stop } ∷ []; main = 0 }
+
+-- the routine at 876 and the texts at 884 and 912 in version 5, and at 880, 888 and 920 in version 8
+places_of_5 : packed_addresses 4 nothing ≡ 219 ∷ 221 ∷ 228 ∷ []
+unfolding bytes_of encoded packed spelling_of
+places_of_5 = refl
+
+places_of_8 : packed_addresses 8 nothing ≡ 110 ∷ 111 ∷ 115 ∷ []
+unfolding bytes_of encoded packed spelling_of
+places_of_8 = refl
+
+-- the whole story in version 5: 936 bytes, whose sum is 18,899
+nothing_laid_out : story_of V5 nothing
+    ≡ (5 ∷ 0 ∷ 0 ∷ 1 ∷ 3 ∷ 103 ∷ 3 ∷ 103 ∷ 3 ∷ 96 ∷ 2 ∷ 226 ∷ 1 ∷ 2 ∷ 3 ∷ 96 ∷ 0 ∷ 0 ∷ 48 ∷ 48 ∷ 48 ∷ 48 ∷ 48 ∷ 48 ∷ 0 ∷ 64 ∷ 0 ∷ 234 ∷ 73 ∷ 211 ∷ [])
+    ++ replicate 34 0
+    ++ flat_map (λ (n : ℕ). 0 ∷ n ∷ []) (replicate 96 128)
+    ++ (148 ∷ 165 ∷ [])
+    ++ replicate 606 0
+    ++ (3 ∷ 46 ∷ 44 ∷ 34 ∷ 9 ∷ 0 ∷ 0 ∷ [])
+    ++ (143 ∷ 0 ∷ 219 ∷ 186 ∷ 0 ∷ [])
+    ++ (0 ∷ 232 ∷ 127 ∷ 1 ∷ 184 ∷ 0 ∷ 0 ∷ 0 ∷ [])
+    ++ (20 ∷ 229 ∷ 24 ∷ 91 ∷ 17 ∷ 102 ∷ 106 ∷ 57 ∷ 23 ∷ 160 ∷ 37 ∷ 219 ∷ 59 ∷ 14 ∷ 82 ∷ 96 ∷ 31 ∷ 192 ∷ 125 ∷ 87 ∷ 80 ∷ 166 ∷ 11 ∷ 165 ∷ 156 ∷ 165 ∷ 0 ∷ 0 ∷ [])
+    ++ (20 ∷ 229 ∷ 24 ∷ 91 ∷ 17 ∷ 102 ∷ 106 ∷ 57 ∷ 23 ∷ 160 ∷ 78 ∷ 153 ∷ 0 ∷ 192 ∷ 33 ∷ 166 ∷ 92 ∷ 200 ∷ 101 ∷ 87 ∷ 20 ∷ 194 ∷ 244 ∷ 167 ∷ [])
+unfolding story_of bytes_of encoded packed spelling_of
+nothing_laid_out = refl
+
+-- what the machine and the meaning give
+abbrev shown : Whole → Place × List ℕ
+shown whole = (whole.place, whole.text)
+
+nothing_played : option_map shown (opening (story_of V5 nothing) 1000000) ≡ Some (places.Quit, [])
+unfolding story_of bytes_of encoded packed spelling_of opening turn_from weight step perform call_packed push_word return_popped decode opcode operands operand byte large result_variable branch operand_values operand_value read_in_place read_variable pop push test_routine test_calls enter call test_return leave give_back spend go store_result
+nothing_played = refl
+
+nothing_played_8 : option_map shown (opening (story_of V8 nothing) 1000000) ≡ Some (places.Quit, [])
+unfolding story_of bytes_of encoded packed spelling_of opening turn_from weight step perform call_packed push_word return_popped decode opcode operands operand byte large result_variable branch operand_values operand_value read_in_place read_variable pop push test_routine test_calls enter call test_return leave give_back spend go store_result
+nothing_played_8 = refl
+
+nothing_meant : (meaning nothing 1000000 []).texts ≡ [] ∷ []
+unfolding meaning
+nothing_meant = refl
+
+nothing_ends : (meaning nothing 1000000 []).place ≡ places.Quit
+unfolding meaning
+nothing_ends = refl
+
+-- `[ Main; print 1/0; ];`, with two globals
+abbrev division : ProgramOf
+division = record {
+  globals = 7 ∷ 1000 ∷ [];
+  routines = record { locals = 0; body = next (prints (number_of (binary binaries.Divide (number 1) (number 0)) ∷ [])) stop } ∷ [];
+  main = 0;
+}
+
+-- Main at 876: push 1; push 0; pull T; jz T over the fault's 4 bytes; div; print_num; push 1; ret_popped
+division_code : take 28 (drop 876 (story_of V5 division))
+    ≡ 0 ∷ 232 ∷ 127 ∷ 1 ∷ 232 ∷ 127 ∷ 0 ∷ 233 ∷ 127 ∷ 248 ∷ 160 ∷ 248 ∷ 70 ∷ 141 ∷ 0 ∷ 226 ∷ 186 ∷ 119 ∷ 0 ∷ 248 ∷ 0 ∷ 230 ∷ 191 ∷ 0 ∷ 232 ∷ 127 ∷ 1 ∷ 184 ∷ []
+unfolding story_of bytes_of encoded packed spelling_of
+division_code = refl
+
+division_globals : take 6 (drop 258 (story_of V5 division)) ≡ 0 ∷ 7 ∷ 3 ∷ 232 ∷ 0 ∷ 0 ∷ []
+unfolding story_of bytes_of encoded packed spelling_of
+division_globals = refl
+
+-- 956 bytes, whose sum is 22,045 and that of the globals' bytes, 242
+division_header : take 6 (drop 24 (story_of V5 division)) ≡ 0 ∷ 64 ∷ 0 ∷ 239 ∷ 87 ∷ 15 ∷ []
+unfolding story_of bytes_of encoded packed spelling_of
+division_header = refl
+
+division_played : option_map shown (opening (story_of V5 division) 1000000) ≡ Some (places.Quit, 10 ∷ codes "[Fault: division by zero]" ++ 10 ∷ [])
+unfolding story_of bytes_of encoded packed spelling_of opening turn_from weight step perform call_packed push_word pull print_packed print_characters text_at decoded abbreviation reads unpacked decode opcode operands operand byte large result_variable branch operand_values operand_value read_in_place write_in_place read_variable write_variable read_global write_global pop push test_variable test_pull test_routine test_calls enter call test_return leave give_back spend go take_branch branch_on test_target print
+division_played = refl
+
+division_meant : (meaning division 1000000 []).texts ≡ (10 ∷ codes "[Fault: division by zero]" ++ 10 ∷ []) ∷ []
+unfolding meaning
+division_meant = refl
+
+division_ends : (meaning division 1000000 []).place ≡ places.Quit
+unfolding meaning
+division_ends = refl
+
+-- `[ Main; f(3); ]; [ f x; print x, "!^"; ];`
+abbrev calling : ProgramOf
+calling = record {
+  globals = [];
+  routines = record { locals = 0; body = next (effect (calls 1 (more (number 3) none))) stop }
+      ∷ record { locals = 1; body = next (prints (number_of (read (variables.Local 0)) ∷ text (codes "!^") ∷ [])) stop }
+      ∷ [];
+  main = 0;
+}
+
+-- Main has 20 bytes at 880 in version 8, and f 16 at 904
+calling_places : packed_addresses 8 calling ≡ 110 ∷ 113 ∷ 115 ∷ 119 ∷ []
+unfolding bytes_of encoded packed spelling_of
+calling_places = refl
+
+calling_code : take 38 (drop 880 (story_of V8 calling))
+    ≡ 0 ∷ 232 ∷ 127 ∷ 3 ∷ 233 ∷ 127 ∷ 248 ∷ 224 ∷ 47 ∷ 0 ∷ 113 ∷ 248 ∷ 0 ∷ 233 ∷ 127 ∷ 248 ∷ 232 ∷ 127 ∷ 1 ∷ 184 ∷ 0 ∷ 0 ∷ 0 ∷ 0
+    ∷ 1 ∷ 232 ∷ 191 ∷ 1 ∷ 230 ∷ 191 ∷ 0 ∷ 178 ∷ 22 ∷ 133 ∷ 156 ∷ 165 ∷ 232 ∷ 127 ∷ []
+unfolding story_of bytes_of encoded packed spelling_of
+calling_code = refl
+
+calling_played : option_map shown (opening (story_of V8 calling) 1000000) ≡ Some (places.Quit, codes "3!" ++ 10 ∷ [])
+unfolding story_of bytes_of encoded packed spelling_of opening turn_from weight step perform call_packed push_word pull return_popped print_inline print_packed print_characters text_at decoded abbreviation reads unpacked decode opcode operands operand byte large result_variable branch operand_values operand_value read_in_place write_in_place read_variable write_variable read_local write_local read_global write_global pop push test_variable test_pull test_routine test_calls enter call test_return leave give_back spend go take_branch branch_on test_target test_result store_result print signed_text decimal
+calling_played = refl
+
+calling_meant : (meaning calling 1000000 []).texts ≡ (codes "3!" ++ 10 ∷ []) ∷ []
+unfolding meaning signed_text decimal
+calling_meant = refl
+
+-- sources that are too large: of this weight, with a routine of that weight whose name stands in line 3
+abbrev weighing : ℕ → ℕ → ProgramTree
+weighing source one = record {
+  directives = routine (record { name = record { text = codes "main"; position = record { offset = 9; line = 3 } }; locals = []; body = trees.stop; weight = one }) ∷ [];
+  end = record { offset = 20; line = 4 };
+  weight = source;
+}
+
+small_source : size_fault V5 (weighing 190000 32000) ≡ None
+small_source = refl
+
+large_source : size_fault V5 (weighing 190001 32001) ≡ Some (record { number = 31; line = 0 })
+large_source = refl
+
+large_source_8 : size_fault V8 (weighing 450001 32000) ≡ Some (record { number = 31; line = 0 })
+large_source_8 = refl
+
+large_routine : size_fault V8 (weighing 190001 32001) ≡ Some (record { number = 32; line = 3 })
+large_routine = refl

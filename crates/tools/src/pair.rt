@@ -1,0 +1,61 @@
+//! Both ends in one call: a source is compiled, and its story is played.
+
+ghost use Rattle.std.specs.Prelude.{◌≡◌};
+ghost use Rattle.tools.specs.Headline.{Pairs};
+
+use history::{OpenFault, Session};
+use lexer::SourceFault;
+use session::{RunFault, run};
+use std::alloc::Global;
+use std::io::{Read, Write};
+use story::compile;
+use thiserror::Error;
+
+/// Why a source was not compiled, its story not opened, or its lines not played to the end.
+#[derive(Clone, Copy, Debug, PartialEq, Eq, Error)]
+pub enum PairFault {
+    /// The source is refused; nothing was read or written.
+    #[error("{0}")]
+    Source(SourceFault),
+
+    /// Memory was refused while the story was opened; nothing was read or written.
+    #[error("{0}")]
+    Open(OpenFault),
+
+    /// Reading or writing failed.
+    #[error("{0}")]
+    Run(RunFault),
+}
+
+/// Compiles a source, opens its story with so many units of fuel for each turn, of which at most `keep` can be taken back or all,
+/// and plays the lines of a reader, as `run` does.
+///
+/// What is written is the transcript that the source's meaning gives, run afresh on the lines that stand at each reply; and the session that
+/// is handed out has the whole states of the machine on these lines, after each undo and each redo too.
+///
+/// # Errors
+///
+/// The fault of the call that refused: that of the source, want of memory for the story or its opening, or that of reading or writing.
+pub fn compile_and_run<R: Read, W: Write>(
+    alloc: Global,
+    source: &[u8],
+    fuel: u32,
+    keep: Option<u32>,
+    reader: &mut R,
+    writer: &mut W,
+) -> Result<Session, PairFault>
+    ensures { Pairs source.now fuel keep (R.remaining reader.old) (R.remaining reader.new) (W.contents writer.old) (W.contents writer.new) result }
+{
+    let story = match compile(alloc, source) {
+        Ok(story) => story,
+        Err(fault) => return Err(PairFault::Source(fault)),
+    };
+    let mut session = match Session::open_with(alloc, story.into_bytes(), fuel, keep) {
+        Ok(session) => session,
+        Err(fault) => return Err(PairFault::Open(fault)),
+    };
+    match run(reader, writer, &mut session) {
+        Ok(_place) => Ok(session),
+        Err(fault) => Err(PairFault::Run(fault)),
+    }
+}
