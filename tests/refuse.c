@@ -1,5 +1,5 @@
-/* Refuses one growth of memory: the call of malloc or realloc whose number the variable REFUSE names, from 1 on. A program that ends before it says so by
-   status 77. It is loaded before a program by LD_PRELOAD. */
+/* Refuses one growth of memory: the call of malloc or realloc whose number the variable REFUSE names, from 1 on. A program that would end well before that call
+   comes ends with status 77 instead. It is loaded before a program by LD_PRELOAD. */
 #define _GNU_SOURCE
 #include <dlfcn.h>
 #include <errno.h>
@@ -7,15 +7,22 @@
 #include <unistd.h>
 
 static long left;
-static int ready;
+
+static void end(int status, void *unused)
+{
+    (void)unused;
+    if (status == 0 && left > 0) _exit(77);
+}
+
+__attribute__((constructor)) static void begin(void)
+{
+    const char *number = getenv("REFUSE");
+    if (on_exit(end, NULL) != 0) _exit(78);
+    left = number ? atol(number) : 0;
+}
 
 static int is_refused(void)
 {
-    if (!ready) {
-        const char *number = getenv("REFUSE");
-        ready = 1;
-        left = number ? atol(number) : 0;
-    }
     if (left > 0 && --left == 0) {
         errno = ENOMEM;
         return 1;
@@ -35,9 +42,4 @@ void *realloc(void *block, size_t size)
     static void *(*next)(void *, size_t);
     if (!next) next = (void *(*)(void *, size_t))dlsym(RTLD_NEXT, "realloc");
     return is_refused() ? NULL : next(block, size);
-}
-
-__attribute__((destructor)) static void end(void)
-{
-    if (left > 0) _exit(77);
 }
