@@ -41,3 +41,10 @@ module _ {A B R : Type 0} (f : A → List Breach) (g : A → R) (v : B → R) wh
       let j : i + 1 ≡ suc i = omega arith in
       let e : map g (take (suc i) xs) ≡ map g (take i xs) ++ g x ∷ [] = map_more xs i x lt ∙ ap (λ (y : A). map g (take i xs) ++ g y ∷ []) (sym is) in
       rw (j, e, map_push, so_far, h) refl
+
+  -- all of it was resolved at the end
+  pub value_end : (xs : List A) (i : ℕ) → length xs ≤ i → map g (take i xs) ≡ map g xs
+  value_end [] zero h = refl
+  value_end [] (suc i) h = refl
+  value_end (x ∷ xs) zero h = absurd (omega arith)
+  value_end (x ∷ xs) (suc i) h = ap (λ r. g x ∷ r) (value_end xs i (omega arith))

@@ -2,6 +2,8 @@ mod Samples
 pub mod Noted
 pub mod Keys
 pub mod Each
+pub mod Shapes
+pub mod Walks
 pub mod Tables
 pub mod Needs
 pub mod Forms

@@ -1,28 +1,30 @@
 -- Locals, one at a time, and what a routine sees.
-use Rattle.std.proofs.Common.{◌≡◌, ℕ, zero, suc, ◌+◌, ◌<◌, ◌≤◌, Bool, true, false, nat_le, List, [], ◌∷◌, ◌++◌, length, take, drop, slice_index_or, Option, Some, None, is_some, cond, refl, sym, ap, ◌∙◌, arith}
-use Rattle.std.specs.Prelude.{map}
+use Rattle.std.proofs.Common.{◌≡◌, ℕ, zero, suc, ◌+◌, ◌<◌, ◌≤◌, Bool, true, false, nat_le, List, [], ◌∷◌, ◌++◌, length, take, drop, slice_index_or, Option, Some, None, is_some, cond, refl, sym, ap, subst, ◌∙◌, arith}
+use Rattle.std.specs.Prelude.{map, Result, IfOk}
+use Rattle.std.specs.declared.alloc.AllocError.{AllocError}
 use Rattle.std.specs.Cmp.Lexicographic.{same_text}
 use Rattle.std.proofs.Math.Path.{fun_ext}
-use Rattle.std.specs.List.{flat_map}
 use Rattle.expressions.specs.declared.tree.Name.{Name}
 use Rattle.expressions.specs.Tree.{NameTree, name_tree}
 use Rattle.statements.specs.declared.tree.Statement.{Statement}
-use Rattle.statements.specs.Tree.{statement_tree, trees_of}
+use Rattle.syntax.specs.declared.tree.Routine.{Routine}
+use Rattle.syntax.specs.Tree.{routine_tree}
 use Rattle.checker.specs.declared.binding.Binding.{Binding}
 use Rattle.checker.specs.declared.binding.Binding.TheVariants as bindings
 use Rattle.checker.specs.declared.breach.Breach.{Breach}
 use Rattle.checker.specs.declared.table.Scope.{Scope}
-use Rattle.checker.specs.declared.resolved.CheckedStatement.{CheckedStatement}
+use Rattle.checker.specs.declared.checked.CheckedRoutine.{CheckedRoutine}
 use Rattle.checker.specs.Breaches.{at}
 use Rattle.checker.specs.Names.{Table, key_of, same_key, in_table, with_name, local_from, local_first, look_up}
 use Rattle.checker.specs.Noted.{noted}
 use Rattle.checker.specs.Scope.{either, look_in, local_binding}
-use Rattle.checker.specs.Resolved.{Actions, RoutineOf, action_of, actions_of}
-use Rattle.checker.specs.Statements.{statements_breaches, resolve_statements}
-use Rattle.checker.specs.Walk.{own_statement_breaches, resolved_statement}
-use Rattle.checker.specs.Programs.{has_local, locals_breaches, twice}
+use Rattle.checker.specs.Resolved.{Action, Actions, RoutineOf, actions_of, routine_of, title_of}
+use Rattle.checker.specs.Statements.{statements_breaches}
+use Rattle.checker.specs.Walk.{IsWalked, AreActions, IsRoutineIn, IsRoutineOf}
+use Rattle.checker.specs.Programs.{has_local, locals_breaches, twice, title, resolve_body, resolve_routine}
 use Rattle.checker.proofs.Noted.{noted_none, noted_two}
-use Rattle.checker.proofs.Forms.{statements_break, statements_resolve}
+use Rattle.checker.proofs.Walks.{before}
+use Rattle.checker.proofs.Forms.{statements_walked}
 
 -- The number of a local
 
@@ -165,22 +167,25 @@ names_length (x ∷ xs) = ap suc (names_length xs)
 abbrev made : ℕ → Actions → RoutineOf
 made n b = record { locals = n; body = b }
 
-pub routine_value : (scope : Scope) (table : Table) (names : List Name) (body given : List Statement) (n : ℕ) (found : List CheckedStatement)
-    → map action_of found ≡ map (resolved_statement (look_in scope)) given → given ≡ body → n ≡ length names
-    → scope.file.now.entries ≡ table → ((key : List ℕ) → in_table scope.locals.now.entries key ≡ local_binding (local_from 0 (map name_tree names) key))
-    → made n (actions_of (map action_of found)) ≡ made (length (map name_tree names)) (resolve_statements (look_up table (map name_tree names)) (trees_of (map statement_tree body)))
-routine_value scope table names body given n found e same count f h =
-    ap (λ (x : ℕ). made x (actions_of (map action_of found))) (count ∙ sym (names_length names))
-    ∙ ap (λ x. made (length (map name_tree names)) (actions_of x)) (e ∙ ap (λ (y : List Statement). map (resolved_statement (look_in scope)) y) same)
-    ∙ ap (λ (look : List ℕ → Option Binding). made (length (map name_tree names)) (actions_of (map (resolved_statement look) body))) (scope_looks scope table (map name_tree names) f h)
-    ∙ ap (λ x. made (length (map name_tree names)) x) (sym (statements_resolve (look_up table (map name_tree names)) body))
+-- a routine of a body that was walked
+pub routine_walked : (look : List ℕ → Option Binding) (r : Routine) (given : List Statement) (n : ℕ) (found : List Action) (m o : Option Breach)
+    → given ≡ r.body.items → n ≡ length r.locals.items → AreActions look given m o found
+    → IsWalked {A = RoutineOf × (NameTree × ℕ)} (statements_breaches look (routine_tree r).body) m o (made n (actions_of found), (name_tree r.name, r.weight)) (resolve_body look (routine_tree r), title (routine_tree r))
+routine_walked look r given n found m o same count w =
+    let body = statements_walked look r.body.items found (subst (λ (ss : List Statement). AreActions look ss m o found) same w) in
+    record {
+      value =
+          ap (λ (k : ℕ). (made k (actions_of found), (name_tree r.name, r.weight))) (count ∙ sym (names_length r.locals.items))
+          ∙ ap (λ (b : Actions). (made (length (map name_tree r.locals.items)) b, (name_tree r.name, r.weight))) body.value;
+      breaches = body.breaches;
+    }
 
-pub routine_break : (m o p : Option Breach) (scope : Scope) (table : Table) (names : List Name) (body given : List Statement)
-    → o ≡ noted m (locals_breaches [] (map name_tree names)) → p ≡ noted o (flat_map (own_statement_breaches (look_in scope)) given) → given ≡ body
-    → scope.file.now.entries ≡ table → ((key : List ℕ) → in_table scope.locals.now.entries key ≡ local_binding (local_from 0 (map name_tree names) key))
-    → p ≡ noted m (locals_breaches [] (map name_tree names) ++ statements_breaches (look_up table (map name_tree names)) (trees_of (map statement_tree body)))
-routine_break m o p scope table names body given a b same f h =
-    noted_two m o p (locals_breaches [] (map name_tree names)) (statements_breaches (look_up table (map name_tree names)) (trees_of (map statement_tree body))) a
-    (b ∙ ap (λ (y : List Statement). noted o (flat_map (own_statement_breaches (look_in scope)) y)) same
-    ∙ ap (λ (look : List ℕ → Option Binding). noted o (flat_map (own_statement_breaches look) body)) (scope_looks scope table (map name_tree names) f h)
-    ∙ ap (λ q. noted o q) (sym (statements_break (look_up table (map name_tree names)) body)))
+-- a routine in the scope of its own locals
+pub routine_scoped : (found : Result CheckedRoutine AllocError) (scope : Scope) (table : Table) (r : Routine) (m n o : Option Breach)
+    → scope.file.now.entries ≡ table → ((key : List ℕ) → in_table scope.locals.now.entries key ≡ local_binding (local_from 0 (map name_tree r.locals.items) key))
+    → n ≡ noted m (locals_breaches [] (map name_tree r.locals.items)) → IfOk found (λ c. IsRoutineIn (look_in scope) (routine_tree r) n o c)
+    → IfOk found (λ c. IsRoutineOf table (routine_tree r) m o c)
+routine_scoped found scope table r m n o f h b w =
+    before (λ (c : CheckedRoutine). (routine_of c, title_of c)) found (locals_breaches [] (map name_tree r.locals.items)) (statements_breaches (look_up table (map name_tree r.locals.items)) (routine_tree r).body) m n o
+    (resolve_routine table (routine_tree r), title (routine_tree r)) b
+    (subst (λ (look : List ℕ → Option Binding). IfOk found (λ c. IsRoutineIn look (routine_tree r) n o c)) (scope_looks scope table (map name_tree r.locals.items) f h) w)

@@ -1,12 +1,13 @@
 -- What operands and chains need.
-use Rattle.std.proofs.Common.{◌≡◌, ℕ, zero, suc, ◌+◌, ◌-◌, ◌<◌, ◌≤◌, max, Bool, true, false, nat_le, nat_lt, not, List, [], ◌∷◌, length, drop, slice_index_or, refl, sym, ap, ◌∙◌, arith}
+use Rattle.std.proofs.Common.{◌≡◌, ℕ, zero, suc, ◌+◌, ◌-◌, ◌<◌, ◌≤◌, max, Bool, true, false, nat_le, nat_lt, not, List, [], ◌∷◌, ◌++◌, length, drop, slice_index_or, Option, Some, refl, sym, ap, ◌∙◌, arith}
 use Rattle.std.specs.Prelude.{map}
 use Rattle.std.proofs.lemmas.Bool.Decides.{nat_tests}
 use Rattle.expressions.specs.declared.tree.Binary.{Binary}
 use Rattle.expressions.specs.declared.tree.Expression.{Expression}
 use Rattle.expressions.specs.Tree as trees
-use Rattle.expressions.specs.Tree.{ExpressionTree, expression_tree, trees_of, chained}
-use Rattle.checker.specs.Temporaries.{need, needs, operands, greatest}
+use Rattle.expressions.specs.Tree.{NameTree, ExpressionTree, expression_tree, trees_of, chained, link}
+use Rattle.checker.specs.Names.{name_of}
+use Rattle.checker.specs.Temporaries.{need, needs, operands, greatest, left_needs}
 
 operands_one : (b : ℕ) (ns : List ℕ) → 1 ≤ operands b ns
 operands_one b [] = omega arith
@@ -18,16 +19,12 @@ need_one (trees.named n) = omega arith
 need_one (trees.call n es) = operands_one 0 (needs es)
 need_one (trees.parenthesised e) = need_one e
 need_one (trees.prefixed op e) = operands_one 0 (need e ∷ [])
-need_one (trees.step_before op p e) = omega arith
-need_one (trees.step_after e op p) = omega arith
+need_one (trees.step_before op p e) = operands_one 0 (need e ∷ [])
+need_one (trees.step_after e op p) = operands_one 0 (need e ∷ [])
 need_one (trees.binary op a b) = operands_one 0 (need a ∷ need b ∷ [])
 need_one (trees.compare op a b) = operands_one 0 (need a ∷ need b ∷ [])
 need_one (trees.equal op a bs) = operands_one 0 (need a ∷ needs bs)
-need_one (trees.assign a p b) = operands_one 0 (need b ∷ [])
-
--- the link of a chain, without where it lies in memory
-abbrev pub link : Binary × Expression → Binary × ExpressionTree
-link l = (l.0, expression_tree l.1)
+need_one (trees.assign a p b) = operands_one 0 (left_needs (name_of a) (need a) ++ need b ∷ [])
 
 abbrev pub link_need : Binary × Expression → ℕ
 link_need l = need (expression_tree l.1)
@@ -140,3 +137,7 @@ equal_bad a b r ns one h = grind (arith, nat_tests)
 
 pub fits_not : (b : Bool) (n : ℕ) → b ≡ nat_le n 48 → nat_lt 48 n ≡ not b
 fits_not b n h = grind (arith, nat_tests)
+
+-- a name that is assigned is no operand
+pub named_fits : (r : Bool) (left : Option NameTree) (n : NameTree) (own b room : ℕ) → left ≡ Some n → 1 ≤ b → r ≡ nat_le b room → r ≡ nat_le (operands 0 (left_needs left own ++ b ∷ [])) room
+named_fits r left n own b room is one h = let e : max (0 + b) 1 ≡ b = omega arith in rw is (h ∙ ap (λ m. nat_le m room) (sym e))

@@ -1,10 +1,11 @@
 -- Programs and what they mean, computed.
-use Rattle.std.proofs.Common.{◌≡◌, ℕ, List, [], ◌∷◌, ◌++◌, None, refl}
+use Rattle.std.proofs.Common.{◌≡◌, ℕ, zero, suc, List, [], ◌∷◌, ◌++◌, None, refl}
 use Rattle.std.specs.Prelude.{codes}
 use Rattle.lexer.specs.declared.token.Position.{Position}
-use Rattle.expressions.specs.Tree.{NameTree, ExpressionTree, constant, named, call, prefixed, step_after, binary, compare, assign, none, more}
+use Rattle.expressions.specs.Tree.{NameTree, ExpressionTree, ExpressionTrees, constant, named, call, parenthesised, prefixed, step_before, step_after, binary, compare, equal, assign, none, more}
 use Rattle.expressions.specs.declared.tree.Binary.TheVariants as op
 use Rattle.expressions.specs.declared.tree.Comparison.TheVariants as comparison
+use Rattle.expressions.specs.declared.tree.Equality.TheVariants as equality
 use Rattle.expressions.specs.declared.tree.Prefix.TheVariants as prefix
 use Rattle.expressions.specs.declared.tree.Step.TheVariants as steps
 use Rattle.statements.specs.Tree as s
@@ -17,6 +18,7 @@ use Rattle.checker.specs.Breaches.{at}
 use Rattle.checker.specs.Programs.{program_breaches, resolve_program}
 use Rattle.checker.specs.Names.{table_of, key_of, look_up}
 use Rattle.zcore.specs.Arithmetic.{signed_text, decimal, quotient, remainder}
+use Rattle.checker.specs.Temporaries.{need}
 use Rattle.checker.specs.World.{Outcome}
 use Rattle.checker.specs.Meaning.{meaning}
 
@@ -182,3 +184,40 @@ kinds : program_breaches (program (routine (codes "F") [] [] ∷ routine (codes 
     ∷ []) ∷ [])) ≡ at (p 1) 23 ++ at (p 2) 26 ++ at (p 3) 25 ++ at (p 5) 26
 unfolding program_breaches table_of key_of look_up
 kinds = refl
+
+-- Temporaries
+
+-- a call needs one for each argument, and one where it has none
+abbrev arguments : ℕ → ExpressionTrees
+arguments zero = none
+arguments (suc n) = more (constant 1) (arguments n)
+
+abbrev wide : ℕ → ExpressionTree
+wide n = call (the 1 (codes "F")) (arguments n)
+
+wide_needs : need (wide 49) ≡ 49
+wide_needs = refl
+
+-- (D)++, --D and D = 1 need what D needs, and x = D does; a name that is assigned is no operand
+steps_need : need (step_after (parenthesised (wide 49)) steps.Increment (p 2)) ≡ 49
+steps_need = refl
+
+step_before_needs : need (step_before steps.Decrement (p 2) (wide 49)) ≡ 49
+step_before_needs = refl
+
+left_needs : need (assign (wide 49) (p 2) (constant 1)) ≡ 49
+left_needs = refl
+
+right_needs : need (assign (constant 1) (p 2) (wide 48)) ≡ 49
+right_needs = refl
+
+name_needs : need (assign (parenthesised (named (the 1 (codes "x")))) (p 2) (wide 48)) ≡ 48
+name_needs = refl
+
+-- (D)++ with D of 49 is E29 at the statement beside E26 at the operator
+abbrev many : ExpressionTree
+many = equal equality.Equal (constant 1) (arguments 48)
+
+stepped_wide : program_breaches (program (routine (codes "Main") [] (s.effect (p 3) (step_after (parenthesised many) steps.Increment (p 4)) ∷ []) ∷ [])) ≡ at (p 3) 29 ++ at (p 4) 26
+unfolding program_breaches table_of key_of look_up
+stepped_wide = refl

@@ -6,14 +6,15 @@ use Rattle.std.proofs.lemmas.Bool.Decides.{nat_tests}
 use Rattle.std.proofs.lemmas.List.Elements.{All-nil, All-cons}
 use Rattle.lexer.specs.declared.token.Position.{Position}
 use Rattle.expressions.specs.Tree as trees
-use Rattle.expressions.specs.Tree.{ExpressionTree, ExpressionTrees}
+use Rattle.expressions.specs.Tree.{NameTree, ExpressionTree, ExpressionTrees}
 use Rattle.statements.specs.Tree as written
 use Rattle.statements.specs.Tree.{ItemTree, StatementTree, StatementTrees}
 use Rattle.checker.specs.declared.binding.Binding.{Binding}
 use Rattle.checker.specs.declared.binding.Binding.TheVariants as bindings
 use Rattle.checker.specs.declared.breach.Breach.{Breach}
 use Rattle.checker.specs.Breaches.{at}
-use Rattle.checker.specs.Temporaries.{need, needs, operands}
+use Rattle.checker.specs.Names.{name_of}
+use Rattle.checker.specs.Temporaries.{need, needs, operands, left_needs}
 use Rattle.checker.specs.Resolved.{ProgramOf}
 use Rattle.checker.specs.Expressions.{value_breaches, call_breaches, target_breaches, count, value_of_binding, variable_of_binding, routine_of_binding, left_breaches, breaches, all_breaches, target, resolve, resolve_all}
 use Rattle.checker.specs.Statements.{whole_breaches, item_breaches, statement_breaches, statements_breaches, resolve_item, resolve_statement, resolve_statements}
@@ -52,24 +53,42 @@ need_named (Some (bindings.Routine r n)) = refl
 need_named (Some bindings.Property) = refl
 need_named (Some (bindings.Local l)) = refl
 
+-- the right side of an assignment needs no more than both
+right_below : (left : Option NameTree) (a b n : ℕ) → n ≤ b → operands 0 (n ∷ []) ≤ operands 0 (left_needs left a ++ b ∷ [])
+right_below (Some x) a b n h = omega (arith, h)
+right_below None a b n h = omega (arith, h)
+
+-- each of the second needs is at least that of the first
+abbrev pub AreBelow : List ℕ → List ℕ → Type 0
+AreBelow [] [] = Unit {0}
+AreBelow [] (n ∷ ns) = ⊥
+AreBelow (m ∷ ms) [] = ⊥
+AreBelow (m ∷ ms) (n ∷ ns) = (m ≤ n) × AreBelow ms ns
+
+operands_below : (b : ℕ) (ms ns : List ℕ) → AreBelow ms ns → operands b ms ≤ operands b ns
+operands_below b [] [] h = omega arith
+operands_below b [] (n ∷ ns) h = absurd h
+operands_below b (m ∷ ms) [] h = absurd h
+operands_below b (m ∷ ms) (n ∷ ns) h = let first = h.0 in let rest = operands_below (b + 1) ms ns h.1 in omega (arith, first, rest)
+
 module _ (look : List ℕ → Option Binding) where
   mutual
-    pub need_same : (e : ExpressionTree) → need_of (resolve look e) ≡ need e
-    need_same (trees.constant n) = refl
-    need_same (trees.named n) = need_named (look n.text)
-    need_same (trees.call n es) = ap (λ (ns : List ℕ). operands 0 ns) (needs_same es)
-    need_same (trees.parenthesised e) = need_same e
-    need_same (trees.prefixed op e) = ap (λ (n : ℕ). operands 0 (n ∷ [])) (need_same e)
-    need_same (trees.step_before op p e) = refl
-    need_same (trees.step_after e op p) = refl
-    need_same (trees.binary op a b) = rw (need_same a, need_same b) refl
-    need_same (trees.compare op a b) = rw (need_same a, need_same b) refl
-    need_same (trees.equal op a bs) = rw (need_same a, needs_same bs) refl
-    need_same (trees.assign a p b) = ap (λ (n : ℕ). operands 0 (n ∷ [])) (need_same b)
+    pub need_below : (e : ExpressionTree) → need_of (resolve look e) ≤ need e
+    need_below (trees.constant n) = omega arith
+    need_below (trees.named n) = let one = need_named (look n.text) in omega (arith, one)
+    need_below (trees.call n es) = operands_below 0 (needs_of (resolve_all look es)) (needs es) (needs_below es)
+    need_below (trees.parenthesised e) = need_below e
+    need_below (trees.prefixed op e) = let h = need_below e in omega (arith, h)
+    need_below (trees.step_before op p e) = omega arith
+    need_below (trees.step_after e op p) = omega arith
+    need_below (trees.binary op a b) = let h = need_below a in let k = need_below b in omega (arith, h, k)
+    need_below (trees.compare op a b) = let h = need_below a in let k = need_below b in omega (arith, h, k)
+    need_below (trees.equal op a bs) = operands_below 0 (need_of (resolve look a) ∷ needs_of (resolve_all look bs)) (need a ∷ needs bs) (need_below a, needs_below bs)
+    need_below (trees.assign a p b) = right_below (name_of a) (need a) (need b) (need_of (resolve look b)) (need_below b)
 
-    pub needs_same : (es : ExpressionTrees) → needs_of (resolve_all look es) ≡ needs es
-    needs_same trees.none = refl
-    needs_same (trees.more e es) = rw (need_same e, needs_same es) refl
+    pub needs_below : (es : ExpressionTrees) → AreBelow (needs_of (resolve_all look es)) (needs es)
+    needs_below trees.none = tt
+    needs_below (trees.more e es) = (need_below e, needs_below es)
 
 -- What names stand for
 
@@ -123,18 +142,9 @@ module _ (p : ProgramOf) (locals : ℕ) where
     not_empty : (xs : List Breach) (operator : Position) → xs ++ at operator 26 ≡ [] → ⊥
     not_empty xs operator h = let e = right_empty xs (at operator 26) h in cc
 
-    left_within : (operator : Position) (e : ExpressionTree) (inside : List Breach) → left_breaches look operator e inside ≡ [] → IsVariable p locals (target look e)
-    left_within operator (trees.named n) inside h = target_within n.position operator (look n.text) (meant n.text) h
-    left_within operator (trees.parenthesised e) inside h = left_within operator e inside h
-    left_within operator (trees.constant n) inside h = absurd (not_empty inside operator h)
-    left_within operator (trees.call n es) inside h = absurd (not_empty inside operator h)
-    left_within operator (trees.prefixed op e) inside h = absurd (not_empty inside operator h)
-    left_within operator (trees.step_before op q e) inside h = absurd (not_empty inside operator h)
-    left_within operator (trees.step_after e op q) inside h = absurd (not_empty inside operator h)
-    left_within operator (trees.binary op a b) inside h = absurd (not_empty inside operator h)
-    left_within operator (trees.compare op a b) inside h = absurd (not_empty inside operator h)
-    left_within operator (trees.equal op a bs) inside h = absurd (not_empty inside operator h)
-    left_within operator (trees.assign a q b) inside h = absurd (not_empty inside operator h)
+    left_within : (operator : Position) (name : Option NameTree) (inside : List Breach) → left_breaches look operator name inside ≡ [] → IsVariable p locals (target look name)
+    left_within operator (Some n) inside h = target_within n.position operator (look n.text) (meant n.text) h
+    left_within operator None inside h = absurd (not_empty inside operator h)
 
     mutual
       pub value_within : (e : ExpressionTree) → breaches look e ≡ [] → IsValue p locals (resolve look e)
@@ -147,14 +157,14 @@ module _ (p : ProgramOf) (locals : ℕ) where
           (called.there, omega (arith, called.seven, same), omega (arith, called.taken, same), values_within es (right_empty own (all_breaches look es) h))
       value_within (trees.parenthesised e) h = value_within e h
       value_within (trees.prefixed op e) h = value_within e h
-      value_within (trees.step_before op q e) h = left_within q e (breaches look e) h
-      value_within (trees.step_after e op q) h = left_within q e (breaches look e) h
+      value_within (trees.step_before op q e) h = left_within q (name_of e) (breaches look e) h
+      value_within (trees.step_after e op q) h = left_within q (name_of e) (breaches look e) h
       value_within (trees.binary op a b) h = (value_within a (left_empty (breaches look a) (breaches look b) h), value_within b (right_empty (breaches look a) (breaches look b) h))
       value_within (trees.compare op a b) h = (value_within a (left_empty (breaches look a) (breaches look b) h), value_within b (right_empty (breaches look a) (breaches look b) h))
       value_within (trees.equal op a bs) h = (value_within a (left_empty (breaches look a) (all_breaches look bs) h), values_within bs (right_empty (breaches look a) (all_breaches look bs) h))
       value_within (trees.assign a q b) h =
-          let left = left_breaches look q a (breaches look a) in
-          (left_within q a (breaches look a) (left_empty left (breaches look b) h), value_within b (right_empty left (breaches look b) h))
+          let left = left_breaches look q (name_of a) (breaches look a) in
+          (left_within q (name_of a) (breaches look a) (left_empty left (breaches look b) h), value_within b (right_empty left (breaches look b) h))
 
       pub values_within : (es : ExpressionTrees) → all_breaches look es ≡ [] → AreValues p locals (resolve_all look es)
       values_within trees.none h = tt
@@ -164,8 +174,8 @@ module _ (p : ProgramOf) (locals : ℕ) where
     whole_within position e h =
         let large = cond (nat_lt 48 (need e)) (at position 29) [] in
         let few = at_most 48 (need e) (kept (nat_lt 48 (need e)) position 29 (left_empty large (breaches look e) h)) in
-        let same = need_same look e in
-        (value_within e (right_empty large (breaches look e) h), omega (arith, few, same))
+        let below = need_below look e in
+        (value_within e (right_empty large (breaches look e) h), omega (arith, few, below))
 
     -- Statements
 

@@ -9,6 +9,7 @@ use Rattle.checker.specs.declared.breach.Breach.{Breach}
 use Rattle.checker.specs.declared.resolved.Variable.{Variable}
 use Rattle.checker.specs.declared.resolved.Variable.TheVariants as variables
 use Rattle.checker.specs.Breaches.{at}
+use Rattle.checker.specs.Names.{name_of}
 use Rattle.checker.specs.Resolved.{Value, Values, number, read, call, prefixed, step_before, step_after, binary, compare, equal, assign, none, more}
 
 -- a name as a value: E20 where it is unknown, E23 where it is a routine or a property
@@ -58,11 +59,10 @@ routine_of_binding _ = 0
 
 -- `look` tells what a name stands for
 module _ (look : List ℕ → Option Binding) where
-  -- What is assigned to or stepped, parentheses apart; `inside` are the rules that it breaks as an expression.
-  abbrev pub left_breaches : Position → ExpressionTree → List Breach → List Breach
-  left_breaches operator (trees.named n) inside = target_breaches n.position operator (look n.text)
-  left_breaches operator (trees.parenthesised e) inside = left_breaches operator e inside
-  left_breaches operator _ inside = inside ++ at operator 26
+  -- What is assigned to or stepped, by the name that it is; `inside` are the rules that it breaks as an expression.
+  abbrev pub left_breaches : Position → Option NameTree → List Breach → List Breach
+  left_breaches operator (Some n) inside = target_breaches n.position operator (look n.text)
+  left_breaches operator None inside = inside ++ at operator 26
 
   abbrev mutual
     pub breaches : ExpressionTree → List Breach
@@ -71,12 +71,12 @@ module _ (look : List ℕ → Option Binding) where
     breaches (trees.call n es) = call_breaches n.position (count es) (look n.text) ++ all_breaches es
     breaches (trees.parenthesised e) = breaches e
     breaches (trees.prefixed op e) = breaches e
-    breaches (trees.step_before op p e) = left_breaches p e (breaches e)
-    breaches (trees.step_after e op p) = left_breaches p e (breaches e)
+    breaches (trees.step_before op p e) = left_breaches p (name_of e) (breaches e)
+    breaches (trees.step_after e op p) = left_breaches p (name_of e) (breaches e)
     breaches (trees.binary op a b) = breaches a ++ breaches b
     breaches (trees.compare op a b) = breaches a ++ breaches b
     breaches (trees.equal op a bs) = breaches a ++ all_breaches bs
-    breaches (trees.assign a p b) = left_breaches p a (breaches a) ++ breaches b
+    breaches (trees.assign a p b) = left_breaches p (name_of a) (breaches a) ++ breaches b
 
     pub all_breaches : ExpressionTrees → List Breach
     all_breaches trees.none = []
@@ -84,10 +84,9 @@ module _ (look : List ℕ → Option Binding) where
 
   -- Resolving. Where a rule is broken any value will do.
 
-  abbrev pub target : ExpressionTree → Variable
-  target (trees.named n) = variable_of_binding (look n.text)
-  target (trees.parenthesised e) = target e
-  target _ = variables.Local 0
+  abbrev pub target : Option NameTree → Variable
+  target (Some n) = variable_of_binding (look n.text)
+  target None = variables.Local 0
 
   abbrev mutual
     pub resolve : ExpressionTree → Value
@@ -96,12 +95,12 @@ module _ (look : List ℕ → Option Binding) where
     resolve (trees.call n es) = call (routine_of_binding (look n.text)) (resolve_all es)
     resolve (trees.parenthesised e) = resolve e
     resolve (trees.prefixed op e) = prefixed op (resolve e)
-    resolve (trees.step_before op p e) = step_before op (target e)
-    resolve (trees.step_after e op p) = step_after (target e) op
+    resolve (trees.step_before op p e) = step_before op (target (name_of e))
+    resolve (trees.step_after e op p) = step_after (target (name_of e)) op
     resolve (trees.binary op a b) = binary op (resolve a) (resolve b)
     resolve (trees.compare op a b) = compare op (resolve a) (resolve b)
     resolve (trees.equal op a bs) = equal op (resolve a) (resolve_all bs)
-    resolve (trees.assign a p b) = assign (target a) (resolve b)
+    resolve (trees.assign a p b) = assign (target (name_of a)) (resolve b)
 
     pub resolve_all : ExpressionTrees → Values
     resolve_all trees.none = none

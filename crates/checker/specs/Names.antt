@@ -2,7 +2,8 @@
 -- its whole routine.
 use Rattle.std.specs.Prelude.{◌&&◌, ◌+◌, ℕ, zero, suc, nat_eq, nat_le, Bool, if◌then◌else◌, List, [], ◌∷◌, ◌++◌, codes, length, Option, Some, None, is_some}
 use Rattle.std.specs.Cmp.Lexicographic.{pointwise}
-use Rattle.expressions.specs.Tree.{NameTree}
+use Rattle.expressions.specs.Tree as trees
+use Rattle.expressions.specs.Tree.{NameTree, ExpressionTree}
 use Rattle.syntax.specs.Tree.{ValueTree, number_value, named_value, DirectiveTree, global, constant, routine}
 use Rattle.checker.specs.declared.binding.Binding.{Binding}
 use Rattle.checker.specs.declared.binding.Binding.TheVariants as bindings
@@ -19,6 +20,12 @@ padded (suc n) (c ∷ s) = lower_case c ∷ padded n s
 -- A name has at most 32 bytes. Two names are the same where their keys are.
 unfoldable pub key_of : List ℕ → List ℕ
 key_of name = padded 32 name
+
+-- the name that an expression is, parentheses apart
+abbrev pub name_of : ExpressionTree → Option NameTree
+name_of (trees.named n) = Some n
+name_of (trees.parenthesised e) = name_of e
+name_of _ = None
 
 abbrev pub same_key : List ℕ → List ℕ → Bool
 same_key = pointwise nat_eq

@@ -1,4 +1,4 @@
--- The first of the broken rules that were met so far.
+-- Words of proofs: the first of the broken rules that were met so far.
 use Rattle.std.specs.Prelude.{if◌then◌else◌, List, [], ◌∷◌, Option, Some, None}
 use Rattle.checker.specs.declared.breach.Breach.{Breach}
 use Rattle.checker.specs.Breaches.{is_before}

@@ -1,7 +1,7 @@
 -- The rules that a program can break, and what it resolves to.
 use Rattle.std.specs.Prelude.{◌≡◌, ℕ, nat_le, map, Bool, true, false, if◌then◌else◌, List, [], ◌∷◌, ◌++◌, codes, length, Option, Some, None, is_some}
 use Rattle.lexer.specs.declared.token.Position.{Position}
-use Rattle.expressions.specs.Tree.{NameTree, name_tree}
+use Rattle.expressions.specs.Tree.{NameTree}
 use Rattle.syntax.specs.Tree.{ValueTree, number_value, named_value, RoutineTree, DirectiveTree, global, constant, routine, ProgramTree}
 use Rattle.checker.specs.declared.binding.Binding.{Binding}
 use Rattle.checker.specs.declared.binding.Binding.TheVariants as bindings
@@ -9,9 +9,7 @@ use Rattle.checker.specs.declared.breach.Breach.{Breach}
 use Rattle.checker.specs.Breaches.{at}
 use Rattle.checker.specs.Names.{Table, key_of, same_key, in_table, first_table, with_directive, globals_after, routines_after, table_of, look_up, constant_or_zero}
 use Rattle.checker.specs.Statements.{statements_breaches, resolve_statements}
-use Rattle.checker.specs.Resolved.{RoutineOf, ProgramOf, program_of}
-use Rattle.checker.specs.declared.checked.CheckedRoutine.{CheckedRoutine}
-use Rattle.checker.specs.declared.checked.Checked.{Checked}
+use Rattle.checker.specs.Resolved.{RoutineOf, ProgramOf, CheckedProgram, program_of, title_of}
 
 -- Values of globals and constants
 
@@ -59,10 +57,13 @@ locals_breaches before (l ∷ ls) =
 abbrev pub routine_breaches : Table → RoutineTree → List Breach
 routine_breaches whole r = locals_breaches [] r.locals ++ statements_breaches (look_up whole r.locals) r.body
 
+abbrev pub global_directive_breaches : Table → Table → ℕ → NameTree → Option ValueTree → List Breach
+global_directive_breaches whole table globals n v =
+    twice table n ++ ((if nat_le 232 globals then at n.position 24 else []) ++ initial_breaches whole v)
+
 -- of a directive, with the names of the file so far and of the whole file
 abbrev pub directive_breaches : Table → Table → ℕ → DirectiveTree → List Breach
-directive_breaches whole table globals (global n v) =
-    twice table n ++ ((if nat_le 232 globals then at n.position 24 else []) ++ initial_breaches whole v)
+directive_breaches whole table globals (global n v) = global_directive_breaches whole table globals n v
 directive_breaches whole table globals (constant n v) = twice table n ++ named_breaches whole table v
 directive_breaches whole table globals (routine r) = twice table r.name ++ routine_breaches whole r
 
@@ -109,8 +110,12 @@ globals_of whole [] = []
 globals_of whole (global n v ∷ ds) = initial_value whole v ∷ globals_of whole ds
 globals_of whole (_ ∷ ds) = globals_of whole ds
 
+-- where `look` tells what a name stands for
+abbrev pub resolve_body : (List ℕ → Option Binding) → RoutineTree → RoutineOf
+resolve_body look r = record { locals = length r.locals; body = resolve_statements look r.body }
+
 abbrev pub resolve_routine : Table → RoutineTree → RoutineOf
-resolve_routine whole r = record { locals = length r.locals; body = resolve_statements (look_up whole r.locals) r.body }
+resolve_routine whole r = resolve_body (look_up whole r.locals) r
 
 abbrev pub routines_of : Table → List DirectiveTree → List RoutineOf
 routines_of whole [] = []
@@ -140,11 +145,9 @@ routine_trees (_ ∷ ds) = routine_trees ds
 abbrev pub title : RoutineTree → NameTree × ℕ
 title r = (r.name, r.weight)
 
-abbrev pub title_of : CheckedRoutine → NameTree × ℕ
-title_of r = (name_tree r.name, r.weight)
-
--- it is what the source resolves to, with the source's names and weights
-pub record IsCheckedOf (p : ProgramTree) (c : Checked) : Type 0 where
+-- it is what the source resolves to, with the source's names, weights and end
+pub record IsCheckedOf (p : ProgramTree) (c : CheckedProgram) : Type 0 where
   pub program : program_of c ≡ resolve_program p
-  pub titles : map title_of c.routines.items ≡ map title (routine_trees p.directives)
+  pub titles : map title_of c.routines ≡ map title (routine_trees p.directives)
   pub weight : c.weight ≡ p.weight
+  pub end_line : c.end_line ≡ p.end.line

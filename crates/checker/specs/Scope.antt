@@ -1,4 +1,4 @@
--- What a name stands for in a routine, by two tables.
+-- Words of proofs: what a name stands for in a routine, by two tables.
 use Rattle.std.specs.Prelude.{ℕ, List, Option, Some, None}
 use Rattle.checker.specs.declared.binding.Binding.{Binding}
 use Rattle.checker.specs.declared.binding.Binding.TheVariants as bindings

@@ -1,12 +1,19 @@
 -- How many temporaries an expression needs. A constant or variable needs 1; a form with operands e1, e2, .. in order of
--- evaluation needs the greatest of (i - 1) + need(ei), and at least 1. The variable assigned is no operand.
-use Rattle.std.specs.Prelude.{◌+◌, ℕ, max, List, [], ◌∷◌}
-use Rattle.expressions.specs.Tree.{ExpressionTree, ExpressionTrees, constant, named, call, parenthesised, prefixed, step_before, step_after, binary, compare, equal, assign, none, more}
+-- evaluation needs the greatest of (i - 1) + need(ei), and at least 1. What `++` or `--` steps is an operand. So is the left
+-- side of an assignment where, parentheses apart, it is no name; a name that is assigned is no operand.
+use Rattle.std.specs.Prelude.{◌+◌, ℕ, max, List, [], ◌∷◌, ◌++◌, Option, Some, None}
+use Rattle.expressions.specs.Tree.{NameTree, ExpressionTree, ExpressionTrees, constant, named, call, parenthesised, prefixed, step_before, step_after, binary, compare, equal, assign, none, more}
+use Rattle.checker.specs.Names.{name_of}
 
 -- of operands with these needs, so many operands before them
 abbrev pub operands : ℕ → List ℕ → ℕ
 operands before [] = 1
 operands before (n ∷ ns) = max (before + n) (operands (before + 1) ns)
+
+-- what the left side of an assignment needs as an operand, by the name that it is; `own` is its need as an expression
+abbrev pub left_needs : Option NameTree → ℕ → List ℕ
+left_needs (Some n) own = []
+left_needs None own = own ∷ []
 
 abbrev mutual
   pub need : ExpressionTree → ℕ
@@ -15,12 +22,12 @@ abbrev mutual
   need (call n es) = operands 0 (needs es)
   need (parenthesised e) = need e
   need (prefixed op e) = operands 0 (need e ∷ [])
-  need (step_before op p e) = 1
-  need (step_after e op p) = 1
+  need (step_before op p e) = operands 0 (need e ∷ [])
+  need (step_after e op p) = operands 0 (need e ∷ [])
   need (binary op a b) = operands 0 (need a ∷ need b ∷ [])
   need (compare op a b) = operands 0 (need a ∷ need b ∷ [])
   need (equal op a bs) = operands 0 (need a ∷ needs bs)
-  need (assign a p b) = operands 0 (need b ∷ [])
+  need (assign a p b) = operands 0 (left_needs (name_of a) (need a) ++ need b ∷ [])
 
   pub needs : ExpressionTrees → List ℕ
   needs none = []

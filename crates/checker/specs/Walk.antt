@@ -1,27 +1,39 @@
--- The rules that the parts of a tree can break, and what they resolve to.
-use Rattle.std.specs.Prelude.{ℕ, List, Option}
+-- Words of proofs: what a walk over a part of a tree finds, and what it notes.
+use Rattle.std.specs.Prelude.{◌≡◌, ℕ, List, ◌++◌, Option, map}
+use Rattle.std.specs.List.{flat_map}
+use Rattle.lexer.specs.declared.token.Position.{Position}
 use Rattle.expressions.specs.declared.tree.Binary.{Binary}
 use Rattle.expressions.specs.declared.tree.Expression.{Expression}
-use Rattle.expressions.specs.Tree.{ExpressionTree, expression_tree}
+use Rattle.expressions.specs.Tree.{NameTree, ExpressionTree, expression_tree}
 use Rattle.statements.specs.declared.tree.Item.{Item}
 use Rattle.statements.specs.declared.tree.Statement.{Statement}
-use Rattle.statements.specs.Tree.{item_tree, statement_tree}
+use Rattle.statements.specs.Tree.{ItemTree, StatementTree, item_tree, statement_tree}
+use Rattle.syntax.specs.Tree.{RoutineTree, DirectiveTree}
 use Rattle.checker.specs.declared.binding.Binding.{Binding}
 use Rattle.checker.specs.declared.breach.Breach.{Breach}
+use Rattle.checker.specs.declared.resolved.Variable.{Variable}
 use Rattle.checker.specs.declared.resolved.Evaluation.{Evaluation}
-use Rattle.checker.specs.Resolved.{Value, Printed, Action, value_of}
-use Rattle.checker.specs.Expressions.{breaches, resolve}
-use Rattle.checker.specs.Statements.{item_breaches, resolve_item, statement_breaches, resolve_statement}
+use Rattle.checker.specs.declared.checked.CheckedRoutine.{CheckedRoutine}
+use Rattle.checker.specs.declared.directive_rules.Found.{Found}
+use Rattle.checker.specs.Names.{Table, name_of}
+use Rattle.checker.specs.Noted.{noted}
+use Rattle.checker.specs.Resolved.{Value, Printed, Action, RoutineOf, value_of, routine_of, title_of}
+use Rattle.checker.specs.Expressions.{breaches, left_breaches, target, resolve}
+use Rattle.checker.specs.Statements.{whole_breaches, item_breaches, resolve_item, statement_breaches, statements_breaches, resolve_statement}
+use Rattle.checker.specs.Programs.{routine_breaches, resolve_body, resolve_routine, routine_trees, title, globals_of, routines_of}
 
--- a link of a chain: an operator and its right operand
-abbrev pub tree_link : Binary × Expression → Binary × ExpressionTree
-tree_link l = (l.0, expression_tree l.1)
+-- what is found is what is meant, and the broken rules are noted over what was noted before
+pub record IsWalked {A : Type 0} (broken : List Breach) (before after : Option Breach) (found meant : A) : Type 0 where
+  pub value : found ≡ meant
+  pub breaches : after ≡ noted before broken
 
 abbrev pub value_link : Binary × Evaluation → Binary × Value
 value_link l = (l.0, value_of l.1)
 
 -- `look` tells what a name stands for
 module _ (look : List ℕ → Option Binding) where
+  -- Parts of the code's trees
+
   abbrev pub own_breaches : Expression → List Breach
   own_breaches e = breaches look (expression_tree e)
 
@@ -45,3 +57,63 @@ module _ (look : List ℕ → Option Binding) where
 
   abbrev pub resolved_statement : Statement → Action
   resolved_statement s = resolve_statement look (statement_tree s)
+
+  -- Walks, from what was noted before to what is noted after
+
+  abbrev pub IsResolved : ExpressionTree → Option Breach → Option Breach → Value → Type 0
+  IsResolved e before after v = IsWalked (breaches look e) before after v (resolve look e)
+
+  abbrev pub AreResolved : List Expression → Option Breach → Option Breach → List Value → Type 0
+  AreResolved es before after vs = IsWalked (flat_map own_breaches es) before after vs (map resolved es)
+
+  abbrev pub AreLinks : List (Binary × Expression) → Option Breach → Option Breach → List (Binary × Value) → Type 0
+  AreLinks ls before after vs = IsWalked (flat_map link_breaches ls) before after vs (map resolved_link ls)
+
+  -- what is assigned to or stepped by an operator there
+  abbrev pub IsTarget : Position → ExpressionTree → Option Breach → Option Breach → Variable → Type 0
+  IsTarget operator e before after x =
+      IsWalked (left_breaches look operator (name_of e) (breaches look e)) before after x (target look (name_of e))
+
+  -- a whole expression of what begins there
+  abbrev pub IsWhole : Position → ExpressionTree → Option Breach → Option Breach → Value → Type 0
+  IsWhole position e before after v = IsWalked (whole_breaches look position e) before after v (resolve look e)
+
+  abbrev pub IsItem : ItemTree → Option Breach → Option Breach → Printed → Type 0
+  IsItem x before after i = IsWalked (item_breaches look x) before after i (resolve_item look x)
+
+  abbrev pub AreItems : List Item → Option Breach → Option Breach → List Printed → Type 0
+  AreItems xs before after is = IsWalked (flat_map own_item_breaches xs) before after is (map resolved_item xs)
+
+  abbrev pub IsAction : StatementTree → Option Breach → Option Breach → Action → Type 0
+  IsAction s before after a = IsWalked (statement_breaches look s) before after a (resolve_statement look s)
+
+  abbrev pub AreActions : List Statement → Option Breach → Option Breach → List Action → Type 0
+  AreActions ss before after found = IsWalked (flat_map own_statement_breaches ss) before after found (map resolved_statement ss)
+
+  -- a routine and its title
+  abbrev pub IsRoutineIn : RoutineTree → Option Breach → Option Breach → CheckedRoutine → Type 0
+  IsRoutineIn r before after c =
+      IsWalked {A = RoutineOf × (NameTree × ℕ)} (statements_breaches look r.body) before after (routine_of c, title_of c) (resolve_body look r, title r)
+
+-- in a file of these names
+abbrev pub IsRoutineOf : Table → RoutineTree → Option Breach → Option Breach → CheckedRoutine → Type 0
+IsRoutineOf whole r before after c =
+    IsWalked {A = RoutineOf × (NameTree × ℕ)} (routine_breaches whole r) before after (routine_of c, title_of c) (resolve_routine whole r, title r)
+
+-- what these directives resolve to
+pub record IsFound (whole : Table) (ds : List DirectiveTree) (found : Found) : Type 0 where
+  pub globals : found.globals.items ≡ globals_of whole ds
+  pub routines : map routine_of found.routines.items ≡ routines_of whole ds
+  pub titles : map title_of found.routines.items ≡ map title (routine_trees ds)
+
+-- it is added to what was found before
+pub record IsAdded (whole : Table) (ds : List DirectiveTree) (old new : Found) : Type 0 where
+  pub globals : new.globals.items ≡ old.globals.items ++ globals_of whole ds
+  pub routines : map routine_of new.routines.items ≡ map routine_of old.routines.items ++ routines_of whole ds
+  pub titles : map title_of new.routines.items ≡ map title_of old.routines.items ++ map title (routine_trees ds)
+
+-- with what the rest adds, what was found becomes what all add to what was found first
+pub record IsAdding (whole : Table) (rest all : List DirectiveTree) (first found : Found) : Type 0 where
+  pub globals : found.globals.items ++ globals_of whole rest ≡ first.globals.items ++ globals_of whole all
+  pub routines : map routine_of found.routines.items ++ routines_of whole rest ≡ map routine_of first.routines.items ++ routines_of whole all
+  pub titles : map title_of found.routines.items ++ map title (routine_trees rest) ≡ map title_of first.routines.items ++ map title (routine_trees all)

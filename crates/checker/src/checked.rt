@@ -2,9 +2,15 @@
 
 ghost use Rattle.std.specs.Prelude.{◌≡◌, ◌<◌, length, slice_get, Some};
 ghost use Rattle.std.specs.Option.{option_map};
+ghost use Rattle.std.specs.Coded.{codes};
+ghost use denote.Signature.{static_lft};
+ghost use Rattle.checker.specs.contracts.resolved.CheckedStatement as statement;
+ghost use Rattle.checker.specs.Resolved.{CheckedProgram, routine_of, program_of};
+ghost use Rattle.checker.specs.Meaning.{routine_at};
 
 use crate::resolved::CheckedStatement;
 use expressions::Name;
+use std::marker::Model;
 
 /// A routine of an accepted program.
 #[derive(Drop)]
@@ -20,32 +26,99 @@ pub struct CheckedRoutine<'a> {
 /// A program that breaks no rule of the language.
 #[derive(Drop)]
 pub struct Checked<'a> {
-    /// What the global variables begin with, in order of definition.
-    pub globals: Vec<u16>,
+    globals: Vec<u16>,
+    routines: Vec<CheckedRoutine<'a>>,
+    main: usize,
+    weight: u128,
+    end_line: usize,
+}
 
-    /// The routines in order of definition.
-    pub routines: Vec<CheckedRoutine<'a>>,
+impl<'a> Model for Checked<'a> {
+    ghost Value = { CheckedProgram };
 
-    /// The number of the routine `Main`.
-    pub main: usize,
+    ghost coded = { Prim.hlevel (codes, (statement.the_row static_lft).coded) };
 
-    /// 32 for each token of the source but the end, and 3 for each byte between the quotes of a text.
-    pub weight: u128,
+    ghost view = { λ c. record { globals = c.globals.items; routines = c.routines.items; main = c.main; weight = c.weight; end_line = c.end_line } };
 }
 
 impl<'a> Checked<'a> {
+    /// A program with these globals and routines in order of definition, the number of `Main`, the weight of its source,
+    /// and the line where the source ends.
+    pub(crate) fn new(
+        globals: Vec<u16>,
+        routines: Vec<CheckedRoutine<'a>>,
+        main: usize,
+        weight: u128,
+        end_line: usize,
+    ) -> Self
+        ensures { result ≡ record { globals = globals.items; routines = routines.entry.items; main = main; weight = weight; end_line = end_line } }
+    {
+        Checked {
+            globals,
+            routines,
+            main,
+            weight,
+            end_line,
+        }
+    }
+
+    /// What the global variables begin with, in order of definition.
+    pub fn globals(&self) -> &[u16]
+        ensures { result.now ≡ self.now.globals }
+    {
+        &self.globals
+    }
+
     /// How many routines there are.
     pub fn routines(&self) -> usize
-        ensures { result ≡ length self.now.routines.items }
+        ensures { result ≡ length self.now.routines }
     {
         self.routines.len()
     }
 
+    /// A routine, by its number in order of definition.
+    #[tactic(auto, using(crate::proofs::Whole::routine_found))]
+    pub fn routine(&self, routine: usize) -> &CheckedRoutine<'a>
+        requires { routine < length self.now.routines }
+        ensures given { Some result.now ≡ slice_get self.now.routines routine }
+        ensures resolved { routine_of result.now ≡ routine_at (program_of self.now).routines routine }
+    {
+        &self.routines[routine]
+    }
+
+    /// The routines in order of definition.
+    pub(crate) fn in_order(&self) -> &[CheckedRoutine<'a>]
+        ensures { result.now ≡ self.now.routines }
+    {
+        &self.routines
+    }
+
     /// The weight of a routine, by its number.
     pub fn weight(&self, routine: usize) -> u128
-        requires { routine < length self.now.routines.items }
-        ensures { Some result ≡ option_map (λ r. r.weight) (slice_get self.now.routines.items routine) }
+        requires { routine < length self.now.routines }
+        ensures { Some result ≡ option_map (λ r. r.weight) (slice_get self.now.routines routine) }
     {
         self.routines[routine].weight
+    }
+
+    /// The number of the routine `Main`.
+    pub fn main(&self) -> usize
+        ensures { result ≡ self.now.main }
+    {
+        self.main
+    }
+
+    /// 32 for each token of the source but the end, and 3 for each byte between the quotes of a text.
+    pub fn source_weight(&self) -> u128
+        ensures { result ≡ self.now.weight }
+    {
+        self.weight
+    }
+
+    /// The line where the source ends.
+    pub fn end_line(&self) -> usize
+        ensures { result ≡ self.now.end_line }
+    {
+        self.end_line
     }
 }

@@ -1,16 +1,15 @@
 //! Directives: the rules that they can break, and what they resolve to.
 
-ghost use Rattle.std.specs.Prelude.{◌≡◌, ◌++◌, ◌∷◌, [], ℕ, List, IfOk, OnOk, map, nat_le, if◌then◌else◌};
+ghost use Rattle.std.specs.Prelude.{◌≡◌, ◌∷◌, [], ℕ, List, IfOk, OnOk, map, nat_le, if◌then◌else◌};
 ghost use Rattle.expressions.specs.Tree.{name_tree};
 ghost use Rattle.syntax.specs.Tree.{value_tree, optional_tree, routine_tree, directive_tree};
 ghost use Rattle.checker.specs.Names.{in_table, local_from, first_table};
 ghost use Rattle.checker.specs.Breaches.{at};
 ghost use Rattle.checker.specs.Names as names;
 ghost use Rattle.checker.specs.Noted.{noted};
-ghost use Rattle.checker.specs.Scope.{local_binding};
-ghost use Rattle.checker.specs.Resolved.{routine_of};
+ghost use Rattle.checker.specs.Scope.{look_in, local_binding};
+ghost use Rattle.checker.specs.Walk.{IsRoutineIn, IsRoutineOf, IsAdded, IsFound};
 ghost use Rattle.checker.specs.Programs as spec;
-ghost use Rattle.checker.specs.Programs.{routine_trees, title, title_of};
 
 use crate::binding::Binding;
 use crate::breach::Breach;
@@ -124,28 +123,38 @@ fn locals(
     Ok(table)
 }
 
-fn routine<'a>(
+// A routine whose names this scope has.
+fn routine_in<'a>(
     alloc: Global,
-    whole: &Table,
+    scope: &Scope<'_>,
     routine: &Routine<'a>,
     least: &mut Option<Breach>,
 ) -> Result<CheckedRoutine<'a>, AllocError>
-    ensures value { IfOk result (λ r. routine_of r ≡ spec.resolve_routine whole.now.entries (routine_tree routine.now)) }
-    ensures title { IfOk result (λ r. title_of r ≡ title (routine_tree routine.now)) }
-    ensures breaches { OnOk result (least.new ≡ noted least.old (spec.routine_breaches whole.now.entries (routine_tree routine.now))) }
+    ensures { IfOk result (λ r. IsRoutineIn (look_in scope.now) (routine_tree routine.now) least.old least.new r) }
 {
-    let locals = locals(alloc, &routine.locals, least)?;
-    let scope = Scope {
-        file: whole,
-        locals: &locals,
-    };
-    let body = all_statements(alloc, &scope, &routine.body, least)?;
+    let body = all_statements(alloc, scope, &routine.body, least)?;
     Ok(CheckedRoutine {
         name: routine.name,
         locals: routine.locals.len(),
         body,
         weight: routine.weight,
     })
+}
+
+fn routine<'a>(
+    alloc: Global,
+    whole: &Table,
+    routine: &Routine<'a>,
+    least: &mut Option<Breach>,
+) -> Result<CheckedRoutine<'a>, AllocError>
+    ensures { IfOk result (λ r. IsRoutineOf whole.now.entries (routine_tree routine.now) least.old least.new r) }
+{
+    let locals = locals(alloc, &routine.locals, least)?;
+    let scope = Scope {
+        file: whole,
+        locals: &locals,
+    };
+    routine_in(alloc, &scope, routine, least)
 }
 
 /// What the directives of a file resolve to.
@@ -167,6 +176,21 @@ fn count_globals(globals: usize, position: Position, least: &mut Option<Breach>)
     }
 }
 
+fn global(
+    whole: &Table,
+    names: &Names,
+    name: Name<'_>,
+    value: &Option<Value<'_>>,
+    least: &mut Option<Breach>,
+) -> u16
+    ensures value { result ≡ spec.initial_value whole.now.entries (optional_tree value.now) }
+    ensures breaches { least.new ≡ noted least.old (spec.global_directive_breaches whole.now.entries names.now.table.entries names.now.globals (name_tree name.entry) (optional_tree value.now)) }
+{
+    twice(&names.table, name, least);
+    count_globals(names.globals, name.position, least);
+    initial(value, whole, least)
+}
+
 // A directive that follows those of these names.
 fn directive<'a>(
     alloc: Global,
@@ -176,16 +200,14 @@ fn directive<'a>(
     found: &mut Found<'a>,
     least: &mut Option<Breach>,
 ) -> Result<(), AllocError>
-    ensures globals { OnOk result (found.new.globals.items ≡ found.old.globals.items ++ spec.globals_of whole.now.entries (directive_tree directive.now ∷ [])) }
-    ensures routines { OnOk result (map routine_of found.new.routines.items ≡ map routine_of found.old.routines.items ++ spec.routines_of whole.now.entries (directive_tree directive.now ∷ [])) }
-    ensures titles { OnOk result (map title_of found.new.routines.items ≡ map title_of found.old.routines.items ++ map title (routine_trees (directive_tree directive.now ∷ []))) }
+    ensures added { OnOk result (IsAdded whole.now.entries (directive_tree directive.now ∷ []) found.old found.new) }
     ensures breaches { OnOk result (least.new ≡ noted least.old (spec.directive_breaches whole.now.entries names.now.table.entries names.now.globals (directive_tree directive.now))) }
 {
     match directive {
         Directive::Global(name, value) => {
-            twice(&names.table, *name, least);
-            count_globals(names.globals, name.position, least);
-            found.globals.push(initial(value, whole, least))?;
+            found
+                .globals
+                .push(global(whole, names, *name, value, least))?;
             Ok(())
         }
         Directive::Constant(name, value) => {
@@ -201,8 +223,31 @@ fn directive<'a>(
     }
 }
 
+// The directives of a file from its first, with the names that are there before it.
+fn add_all<'a>(
+    alloc: Global,
+    whole: &Table,
+    directives: &[Directive<'a>],
+    names: &mut Names,
+    found: &mut Found<'a>,
+    least: &mut Option<Breach>,
+) -> Result<(), AllocError>
+    requires no_globals { names.old.globals ≡ 0 }
+    requires no_routines { names.old.routines ≡ 0 }
+    ensures added { OnOk result (IsAdded whole.now.entries (map directive_tree directives.now) found.old found.new) }
+    ensures breaches { OnOk result (least.new ≡ noted least.old (spec.directives_breaches whole.now.entries names.old.table.entries 0 0 (map directive_tree directives.now))) }
+{
+    for one in directives {
+        directive(alloc, whole, names, one, found, least)?;
+        names.add(one)?;
+    }
+    Ok(())
+}
+
 /// Resolves the names of a file's directives, where these are the names of the whole file, and notes the rules that
 /// they break.
+///
+/// # Errors
 ///
 /// `AllocError` where memory is refused.
 pub fn all_directives<'a>(
@@ -211,9 +256,7 @@ pub fn all_directives<'a>(
     directives: &[Directive<'a>],
     least: &mut Option<Breach>,
 ) -> Result<Found<'a>, AllocError>
-    ensures globals { IfOk result (λ f. f.globals.items ≡ spec.globals_of whole.now.entries (map directive_tree directives.now)) }
-    ensures routines { IfOk result (λ f. map routine_of f.routines.items ≡ spec.routines_of whole.now.entries (map directive_tree directives.now)) }
-    ensures titles { IfOk result (λ f. map title_of f.routines.items ≡ map title (routine_trees (map directive_tree directives.now))) }
+    ensures found { IfOk result (λ f. IsFound whole.now.entries (map directive_tree directives.now) f) }
     ensures breaches { OnOk result (least.new ≡ noted least.old (spec.directives_breaches whole.now.entries first_table 0 0 (map directive_tree directives.now))) }
 {
     let mut names = Names::new(alloc)?;
@@ -221,9 +264,6 @@ pub fn all_directives<'a>(
         globals: Vec::new(alloc),
         routines: Vec::new(alloc),
     };
-    for one in directives {
-        directive(alloc, whole, &names, one, &mut found, least)?;
-        names.add(one)?;
-    }
+    add_all(alloc, whole, directives, &mut names, &mut found, least)?;
     Ok(found)
 }

@@ -1,22 +1,23 @@
 //! Expressions: the rules that they can break, and what they resolve to.
 
-ghost use Rattle.std.specs.Prelude.{◌≡◌, ◌++◌, IfOk, OnOk, map};
-ghost use Rattle.std.specs.List.{flat_map};
-ghost use Rattle.expressions.specs.Tree.{expression_tree, name_tree};
-ghost use Rattle.checker.specs.declared.resolved.Variable.TheVariants as variables;
+ghost use Rattle.std.specs.Prelude.{◌≡◌, ◌++◌, IfOk, map};
+ghost use Rattle.std.specs.Option.{option_map};
+ghost use Rattle.expressions.specs.Tree as trees;
+ghost use Rattle.expressions.specs.Tree.{expression_tree, name_tree, trees_of, link};
 ghost use Rattle.checker.specs.Breaches.{at};
 ghost use Rattle.checker.specs.Noted.{noted};
 ghost use Rattle.checker.specs.Scope.{look_in};
 ghost use Rattle.checker.specs.Resolved.{value_of};
-ghost use Rattle.checker.specs.Walk.{resolved, own_breaches, value_link, resolved_link, link_breaches};
-ghost use Rattle.checker.specs.Expressions.{breaches, resolve, left_breaches, target, value_breaches, argument_breaches, call_breaches, target_breaches, value_of_binding, variable_of_binding, routine_of_binding};
+ghost use Rattle.checker.specs.Expressions.{value_breaches, argument_breaches, call_breaches, target_breaches, value_of_binding, variable_of_binding, routine_of_binding};
+ghost use Rattle.checker.specs.Names as names;
+ghost use Rattle.checker.specs.Walk.{IsResolved, AreResolved, AreLinks, IsTarget, value_link};
 
 use crate::binding::Binding;
 use crate::breach::Breach;
 use crate::note::note;
 use crate::resolved::{Evaluation, Variable};
 use crate::table::Scope;
-use expressions::{Binary, Expression, Name};
+use expressions::{Binary, Comparison, Equality, Expression, Name, Prefix, Step};
 use lexer::{NOT_ASSIGNABLE, Position, TOO_MANY, TOO_MANY_ARGUMENTS, UNKNOWN_NAME, WRONG_KIND};
 use std::alloc::{AllocError, Global};
 
@@ -106,62 +107,65 @@ fn target_of(
     Variable::Local(0)
 }
 
+/// Drops a value that is not wanted: one of a broken rule, or of a statement for which memory is refused.
+pub fn discard(_value: Evaluation) {}
+
+/// The name that an expression is, parentheses apart.
+pub fn name_of<'a>(e: &Expression<'a>) -> Option<Name<'a>>
+    ensures { option_map name_tree result ≡ names.name_of (expression_tree e.now) }
+{
+    match e {
+        Expression::Named(name) => Some(*name),
+        Expression::Parenthesised(inside) => name_of(inside),
+        Expression::Constant(_) => None,
+        Expression::Call(_, _) => None,
+        Expression::Prefixed(_, _) => None,
+        Expression::StepBefore(_, _, _) => None,
+        Expression::StepAfter(_, _, _) => None,
+        Expression::Chain(_, _, _, _) => None,
+        Expression::Compare(_, _, _) => None,
+        Expression::Equal(_, _, _, _) => None,
+        Expression::Assign(_, _, _) => None,
+    }
+}
+
 /// Resolves the names of an expression, and notes the rules that it breaks.
+///
+/// # Errors
 ///
 /// `AllocError` where memory is refused.
 #[cycle(expression)]
-#[tactic(auto, using(crate::proofs::Noted::noted_append))]
 pub fn expression(
     alloc: Global,
     scope: &Scope<'_>,
     e: &Expression<'_>,
     least: &mut Option<Breach>,
 ) -> Result<Evaluation, AllocError>
-    ensures value { IfOk result (λ v. value_of v ≡ resolve (look_in scope.now) (expression_tree e.now)) }
-    ensures breaches { OnOk result (least.new ≡ noted least.old (breaches (look_in scope.now) (expression_tree e.now))) }
+    ensures { IfOk result (λ v. IsResolved (look_in scope.now) (expression_tree e.now) least.old least.new (value_of v)) }
 {
     match e {
         Expression::Constant(number) => Ok(Evaluation::Number(*number)),
         Expression::Named(name) => Ok(value(*name, scope.look(name.text), least)),
-        Expression::Call(name, given) => {
-            let number = routine(*name, given.len(), scope.look(name.text), least);
-            let given = all_expressions(alloc, scope, given, least)?;
-            Ok(Evaluation::Call(number, given))
-        }
+        Expression::Call(name, given) => call(alloc, scope, given, *name, least),
         Expression::Parenthesised(inside) => expression(alloc, scope, inside, least),
-        Expression::Prefixed(operator, operand) => {
-            let operand = boxed(alloc, scope, operand, least)?;
-            Ok(Evaluation::Prefixed(*operator, operand))
-        }
+        Expression::Prefixed(prefix, operand) => prefixed(alloc, scope, operand, *prefix, least),
         Expression::StepBefore(step, position, operand) => {
-            let variable = variable(alloc, scope, operand, *position, least)?;
-            Ok(Evaluation::StepBefore(*step, variable))
+            step_before(alloc, scope, operand, *step, *position, least)
         }
         Expression::StepAfter(operand, step, position) => {
-            let variable = variable(alloc, scope, operand, *position, least)?;
-            Ok(Evaluation::StepAfter(variable, *step))
+            step_after(alloc, scope, operand, *step, *position, least)
         }
         Expression::Chain(first, operator, second, links) => {
-            let first = boxed(alloc, scope, first, least)?;
-            let second = boxed(alloc, scope, second, least)?;
-            let links = chain_links(alloc, scope, links, least)?;
-            Ok(Evaluation::Chain(first, *operator, second, links))
+            chain(alloc, scope, links, first, *operator, second, least)
         }
         Expression::Compare(left, comparison, right) => {
-            let left = boxed(alloc, scope, left, least)?;
-            let right = boxed(alloc, scope, right, least)?;
-            Ok(Evaluation::Compare(left, *comparison, right))
+            compare(alloc, scope, left, *comparison, right, least)
         }
         Expression::Equal(left, equality, right, others) => {
-            let left = boxed(alloc, scope, left, least)?;
-            let right = boxed(alloc, scope, right, least)?;
-            let others = all_expressions(alloc, scope, others, least)?;
-            Ok(Evaluation::Equal(left, *equality, right, others))
+            equal(alloc, scope, others, left, *equality, right, least)
         }
         Expression::Assign(left, position, right) => {
-            let variable = variable(alloc, scope, left, *position, least)?;
-            let right = boxed(alloc, scope, right, least)?;
-            Ok(Evaluation::Assign(variable, right))
+            assign(alloc, scope, left, *position, right, least)
         }
     }
 }
@@ -174,23 +178,20 @@ fn boxed(
     e: &Expression<'_>,
     least: &mut Option<Breach>,
 ) -> Result<Box<Evaluation>, AllocError>
-    ensures value { IfOk result (λ v. value_of v.value ≡ resolve (look_in scope.now) (expression_tree e.now)) }
-    ensures breaches { OnOk result (least.new ≡ noted least.old (breaches (look_in scope.now) (expression_tree e.now))) }
+    ensures { IfOk result (λ v. IsResolved (look_in scope.now) (expression_tree e.now) least.old least.new (value_of v.value)) }
 {
     let found = expression(alloc, scope, e, least)?;
     Ok(Box::new(alloc, found)?)
 }
 
 #[cycle(expression)]
-#[tactic(auto, using(crate::proofs::Noted::noted_append))]
 fn all_expressions(
     alloc: Global,
     scope: &Scope<'_>,
     given: &[Expression<'_>],
     least: &mut Option<Breach>,
 ) -> Result<Vec<Evaluation>, AllocError>
-    ensures value { IfOk result (λ v. map value_of v.items ≡ map (resolved (look_in scope.now)) given.now) }
-    ensures breaches { OnOk result (least.new ≡ noted least.old (flat_map (own_breaches (look_in scope.now)) given.now)) }
+    ensures { IfOk result (λ v. AreResolved (look_in scope.now) given.now least.old least.new (map value_of v.items)) }
 {
     let mut found = Vec::new(alloc);
     for e in given {
@@ -201,15 +202,13 @@ fn all_expressions(
 
 // The operators and operands that follow in a chain.
 #[cycle(expression)]
-#[tactic(auto, using(crate::proofs::Noted::noted_append))]
 fn chain_links(
     alloc: Global,
     scope: &Scope<'_>,
     links: &[(Binary, Expression<'_>)],
     least: &mut Option<Breach>,
 ) -> Result<Vec<(Binary, Evaluation)>, AllocError>
-    ensures value { IfOk result (λ v. map value_link v.items ≡ map (resolved_link (look_in scope.now)) links.now) }
-    ensures breaches { OnOk result (least.new ≡ noted least.old (flat_map (link_breaches (look_in scope.now)) links.now)) }
+    ensures { IfOk result (λ v. AreLinks (look_in scope.now) links.now least.old least.new (map value_link v.items)) }
 {
     let mut found = Vec::new(alloc);
     for link in links {
@@ -219,9 +218,8 @@ fn chain_links(
     Ok(found)
 }
 
-// What is assigned to or stepped, parentheses apart, by an operator at this position.
+// What is assigned to or stepped, by an operator at this position.
 #[cycle(expression)]
-#[tactic(auto, using(crate::proofs::Noted::noted_append))]
 fn variable(
     alloc: Global,
     scope: &Scope<'_>,
@@ -229,38 +227,141 @@ fn variable(
     operator: Position,
     least: &mut Option<Breach>,
 ) -> Result<Variable, AllocError>
-    ensures value { IfOk result (λ x. x ≡ target (look_in scope.now) (expression_tree e.now)) }
-    ensures breaches { OnOk result (least.new ≡ noted least.old (left_breaches (look_in scope.now) operator (expression_tree e.now) (breaches (look_in scope.now) (expression_tree e.now)))) }
+    ensures { IfOk result (λ x. IsTarget (look_in scope.now) operator (expression_tree e.now) least.old least.new x) }
 {
-    match e {
-        Expression::Named(name) => Ok(target_of(*name, operator, scope.look(name.text), least)),
-        Expression::Parenthesised(inside) => variable(alloc, scope, inside, operator, least),
-        Expression::Constant(_) => no_variable(alloc, scope, e, operator, least),
-        Expression::Call(_, _) => no_variable(alloc, scope, e, operator, least),
-        Expression::Prefixed(_, _) => no_variable(alloc, scope, e, operator, least),
-        Expression::StepBefore(_, _, _) => no_variable(alloc, scope, e, operator, least),
-        Expression::StepAfter(_, _, _) => no_variable(alloc, scope, e, operator, least),
-        Expression::Chain(_, _, _, _) => no_variable(alloc, scope, e, operator, least),
-        Expression::Compare(_, _, _) => no_variable(alloc, scope, e, operator, least),
-        Expression::Equal(_, _, _, _) => no_variable(alloc, scope, e, operator, least),
-        Expression::Assign(_, _, _) => no_variable(alloc, scope, e, operator, least),
+    match name_of(e) {
+        Some(name) => Ok(target_of(name, operator, scope.look(name.text), least)),
+        None => {
+            discard(expression(alloc, scope, e, least)?);
+            note(least, NOT_ASSIGNABLE, operator);
+            Ok(Variable::Local(0))
+        }
     }
 }
 
-// An expression that is no variable, where one is needed.
 #[cycle(expression)]
-#[tactic(auto, using(crate::proofs::Noted::noted_append))]
-fn no_variable(
+fn call(
     alloc: Global,
     scope: &Scope<'_>,
-    e: &Expression<'_>,
-    operator: Position,
+    given: &[Expression<'_>],
+    name: Name<'_>,
     least: &mut Option<Breach>,
-) -> Result<Variable, AllocError>
-    ensures value { IfOk result (λ x. x ≡ variables.Local 0) }
-    ensures breaches { OnOk result (least.new ≡ noted least.old (breaches (look_in scope.now) (expression_tree e.now) ++ at operator 26)) }
+) -> Result<Evaluation, AllocError>
+    ensures { IfOk result (λ v. IsResolved (look_in scope.now) (trees.call (name_tree name.entry) (trees_of (map expression_tree given.now))) least.old least.new (value_of v)) }
 {
-    let _value = expression(alloc, scope, e, least)?;
-    note(least, NOT_ASSIGNABLE, operator);
-    Ok(Variable::Local(0))
+    let number = routine(name, given.len(), scope.look(name.text), least);
+    let given = all_expressions(alloc, scope, given, least)?;
+    Ok(Evaluation::Call(number, given))
+}
+
+#[cycle(expression)]
+fn prefixed(
+    alloc: Global,
+    scope: &Scope<'_>,
+    operand: &Expression<'_>,
+    prefix: Prefix,
+    least: &mut Option<Breach>,
+) -> Result<Evaluation, AllocError>
+    ensures { IfOk result (λ v. IsResolved (look_in scope.now) (trees.prefixed prefix (expression_tree operand.now)) least.old least.new (value_of v)) }
+{
+    let operand = boxed(alloc, scope, operand, least)?;
+    Ok(Evaluation::Prefixed(prefix, operand))
+}
+
+#[cycle(expression)]
+fn step_before(
+    alloc: Global,
+    scope: &Scope<'_>,
+    operand: &Expression<'_>,
+    step: Step,
+    position: Position,
+    least: &mut Option<Breach>,
+) -> Result<Evaluation, AllocError>
+    ensures { IfOk result (λ v. IsResolved (look_in scope.now) (trees.step_before step position (expression_tree operand.now)) least.old least.new (value_of v)) }
+{
+    let variable = variable(alloc, scope, operand, position, least)?;
+    Ok(Evaluation::StepBefore(step, variable))
+}
+
+#[cycle(expression)]
+fn step_after(
+    alloc: Global,
+    scope: &Scope<'_>,
+    operand: &Expression<'_>,
+    step: Step,
+    position: Position,
+    least: &mut Option<Breach>,
+) -> Result<Evaluation, AllocError>
+    ensures { IfOk result (λ v. IsResolved (look_in scope.now) (trees.step_after (expression_tree operand.now) step position) least.old least.new (value_of v)) }
+{
+    let variable = variable(alloc, scope, operand, position, least)?;
+    Ok(Evaluation::StepAfter(variable, step))
+}
+
+#[cycle(expression)]
+fn chain(
+    alloc: Global,
+    scope: &Scope<'_>,
+    links: &[(Binary, Expression<'_>)],
+    first: &Expression<'_>,
+    operator: Binary,
+    second: &Expression<'_>,
+    least: &mut Option<Breach>,
+) -> Result<Evaluation, AllocError>
+    ensures { IfOk result (λ v. IsResolved (look_in scope.now) (trees.chained (trees.binary operator (expression_tree first.now) (expression_tree second.now)) (map link links.now)) least.old least.new (value_of v)) }
+{
+    let first = boxed(alloc, scope, first, least)?;
+    let second = boxed(alloc, scope, second, least)?;
+    let links = chain_links(alloc, scope, links, least)?;
+    Ok(Evaluation::Chain(first, operator, second, links))
+}
+
+#[cycle(expression)]
+fn compare(
+    alloc: Global,
+    scope: &Scope<'_>,
+    left: &Expression<'_>,
+    comparison: Comparison,
+    right: &Expression<'_>,
+    least: &mut Option<Breach>,
+) -> Result<Evaluation, AllocError>
+    ensures { IfOk result (λ v. IsResolved (look_in scope.now) (trees.compare comparison (expression_tree left.now) (expression_tree right.now)) least.old least.new (value_of v)) }
+{
+    let left = boxed(alloc, scope, left, least)?;
+    let right = boxed(alloc, scope, right, least)?;
+    Ok(Evaluation::Compare(left, comparison, right))
+}
+
+#[cycle(expression)]
+fn equal(
+    alloc: Global,
+    scope: &Scope<'_>,
+    others: &[Expression<'_>],
+    left: &Expression<'_>,
+    equality: Equality,
+    right: &Expression<'_>,
+    least: &mut Option<Breach>,
+) -> Result<Evaluation, AllocError>
+    ensures { IfOk result (λ v. IsResolved (look_in scope.now) (trees.equal equality (expression_tree left.now) (trees.more (expression_tree right.now) (trees_of (map expression_tree others.now)))) least.old least.new (value_of v)) }
+{
+    let left = boxed(alloc, scope, left, least)?;
+    let right = boxed(alloc, scope, right, least)?;
+    let others = all_expressions(alloc, scope, others, least)?;
+    Ok(Evaluation::Equal(left, equality, right, others))
+}
+
+#[cycle(expression)]
+fn assign(
+    alloc: Global,
+    scope: &Scope<'_>,
+    left: &Expression<'_>,
+    position: Position,
+    right: &Expression<'_>,
+    least: &mut Option<Breach>,
+) -> Result<Evaluation, AllocError>
+    ensures { IfOk result (λ v. IsResolved (look_in scope.now) (trees.assign (expression_tree left.now) position (expression_tree right.now)) least.old least.new (value_of v)) }
+{
+    let variable = variable(alloc, scope, left, position, least)?;
+    let right = boxed(alloc, scope, right, least)?;
+    Ok(Evaluation::Assign(variable, right))
 }

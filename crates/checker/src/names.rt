@@ -45,6 +45,8 @@ fn value_so_far(table: &Table, value: &Value<'_>) -> u16
 impl Names {
     /// The names that are there before the first directive: the property `name`.
     ///
+    /// # Errors
+    ///
     /// `AllocError` where memory is refused.
     pub fn new(alloc: Global) -> Result<Names, AllocError>
         ensures table { IfOk result (λ n. n.table.entries ≡ spec.first_table) }
@@ -61,6 +63,8 @@ impl Names {
     }
 
     /// Gives the name of a directive its meaning.
+    ///
+    /// # Errors
     ///
     /// `AllocError` where memory is refused.
     pub fn add(&mut self, directive: &Directive<'_>) -> Result<(), AllocError>
@@ -91,6 +95,8 @@ impl Names {
 }
 
 /// The names of a whole file.
+///
+/// # Errors
 ///
 /// `AllocError` where memory is refused.
 #[tactic(auto, using(crate::proofs::Directives::globals_fit, crate::proofs::Directives::routines_fit))]

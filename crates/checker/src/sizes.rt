@@ -45,6 +45,8 @@ fn first_heavy(routines: &[CheckedRoutine<'_>]) -> Option<Position>
 
 /// Whether a program is small enough to be compiled for a version.
 ///
+/// # Errors
+///
 /// E30, with line 0, where the parts before the routines pass 65,535 bytes; else E31, with line 0, where the source
 /// weighs more than 190,000 in version 5 or 450,000 in version 8; else E32, with the line of its name, at the first routine
 /// that weighs more than 32,000.
@@ -57,13 +59,13 @@ pub fn test_sizes(checked: &Checked<'_>, version: Version) -> Result<(), SourceF
             line: 0,
         });
     }
-    if checked.weight > greatest_weight(version) {
+    if checked.source_weight() > greatest_weight(version) {
         return Err(SourceFault {
             number: STORY_TOO_LARGE,
             line: 0,
         });
     }
-    match first_heavy(&checked.routines) {
+    match first_heavy(checked.in_order()) {
         None => Ok(()),
         Some(position) => Err(SourceFault {
             number: ROUTINE_TOO_LARGE,

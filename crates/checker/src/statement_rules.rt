@@ -1,20 +1,18 @@
 //! Statements: the rules that they can break, and what they resolve to.
 
-ghost use Rattle.std.specs.Prelude.{◌≡◌, ◌++◌, IfOk, OnOk, map, nat_lt, if◌then◌else◌, []};
-ghost use Rattle.std.specs.List.{flat_map};
+ghost use Rattle.std.specs.Prelude.{◌≡◌, IfOk, map, nat_lt, if◌then◌else◌, []};
 ghost use Rattle.expressions.specs.Tree.{expression_tree};
-ghost use Rattle.statements.specs.Tree.{item_tree, statement_tree};
+ghost use Rattle.statements.specs.Tree as trees;
+ghost use Rattle.statements.specs.Tree.{item_tree, statement_tree, trees_of};
 ghost use Rattle.checker.specs.Breaches.{at};
 ghost use Rattle.checker.specs.Noted.{noted};
 ghost use Rattle.checker.specs.Scope.{look_in};
 ghost use Rattle.checker.specs.Temporaries.{need};
 ghost use Rattle.checker.specs.Resolved.{value_of, printed_of, action_of};
-ghost use Rattle.checker.specs.Expressions.{resolve};
-ghost use Rattle.checker.specs.Walk.{resolved_item, own_item_breaches, resolved_statement, own_statement_breaches};
-ghost use Rattle.checker.specs.Statements.{whole_breaches, item_breaches, statement_breaches, resolve_item, resolve_statement};
+ghost use Rattle.checker.specs.Walk.{IsWhole, IsItem, AreItems, IsAction, AreActions};
 
 use crate::breach::Breach;
-use crate::expression_rules::expression;
+use crate::expression_rules::{discard, expression};
 use crate::note::note;
 use crate::resolved::{CheckedItem, CheckedStatement, Evaluation};
 use crate::table::Scope;
@@ -34,7 +32,6 @@ fn temporaries(position: Position, e: &Expression<'_>, least: &mut Option<Breach
 }
 
 // An expression of a statement or an item that begins at this position.
-#[tactic(auto, using(crate::proofs::Noted::noted_append))]
 fn whole(
     alloc: Global,
     scope: &Scope<'_>,
@@ -42,8 +39,7 @@ fn whole(
     e: &Expression<'_>,
     least: &mut Option<Breach>,
 ) -> Result<Evaluation, AllocError>
-    ensures value { IfOk result (λ v. value_of v ≡ resolve (look_in scope.now) (expression_tree e.now)) }
-    ensures breaches { OnOk result (least.new ≡ noted least.old (whole_breaches (look_in scope.now) position (expression_tree e.now))) }
+    ensures { IfOk result (λ v. IsWhole (look_in scope.now) position (expression_tree e.now) least.old least.new (value_of v)) }
 {
     temporaries(position, e, least);
     expression(alloc, scope, e, least)
@@ -56,8 +52,7 @@ fn item<'a>(
     printed: &Item<'a>,
     least: &mut Option<Breach>,
 ) -> Result<CheckedItem<'a>, AllocError>
-    ensures value { IfOk result (λ x. printed_of x ≡ resolve_item (look_in scope.now) (item_tree printed.now)) }
-    ensures breaches { OnOk result (least.new ≡ noted least.old (item_breaches (look_in scope.now) (item_tree printed.now))) }
+    ensures { IfOk result (λ x. IsItem (look_in scope.now) (item_tree printed.now) least.old least.new (printed_of x)) }
 {
     match printed {
         Item::Text(text) => Ok(CheckedItem::Text(text)),
@@ -76,8 +71,7 @@ fn items<'a>(
     printed: &[Item<'a>],
     least: &mut Option<Breach>,
 ) -> Result<Vec<CheckedItem<'a>>, AllocError>
-    ensures value { IfOk result (λ v. map printed_of v.items ≡ map (resolved_item (look_in scope.now)) printed.now) }
-    ensures breaches { OnOk result (least.new ≡ noted least.old (flat_map (own_item_breaches (look_in scope.now)) printed.now)) }
+    ensures { IfOk result (λ v. AreItems (look_in scope.now) printed.now least.old least.new (map printed_of v.items)) }
 {
     let mut found = Vec::new(alloc);
     for x in printed {
@@ -86,7 +80,59 @@ fn items<'a>(
     Ok(found)
 }
 
+fn print<'a>(
+    alloc: Global,
+    scope: &Scope<'_>,
+    printed: &[Item<'a>],
+    least: &mut Option<Breach>,
+) -> Result<CheckedStatement<'a>, AllocError>
+    ensures { IfOk result (λ x. IsAction (look_in scope.now) (trees.print (map item_tree printed.now)) least.old least.new (action_of x)) }
+{
+    let found = items(alloc, scope, printed, least)?;
+    Ok(CheckedStatement::Print(found))
+}
+
+fn print_return<'a>(
+    alloc: Global,
+    scope: &Scope<'_>,
+    printed: &[Item<'a>],
+    least: &mut Option<Breach>,
+) -> Result<CheckedStatement<'a>, AllocError>
+    ensures { IfOk result (λ x. IsAction (look_in scope.now) (trees.print_return (map item_tree printed.now)) least.old least.new (action_of x)) }
+{
+    let found = items(alloc, scope, printed, least)?;
+    Ok(CheckedStatement::PrintReturn(found))
+}
+
+fn return_value<'a>(
+    alloc: Global,
+    scope: &Scope<'_>,
+    position: Position,
+    e: &Expression<'_>,
+    least: &mut Option<Breach>,
+) -> Result<CheckedStatement<'a>, AllocError>
+    ensures { IfOk result (λ x. IsAction (look_in scope.now) (trees.return_value position (expression_tree e.now)) least.old least.new (action_of x)) }
+{
+    let value = whole(alloc, scope, position, e, least)?;
+    Ok(CheckedStatement::ReturnValue(value))
+}
+
+fn effect<'a>(
+    alloc: Global,
+    scope: &Scope<'_>,
+    position: Position,
+    e: &Expression<'_>,
+    least: &mut Option<Breach>,
+) -> Result<CheckedStatement<'a>, AllocError>
+    ensures { IfOk result (λ x. IsAction (look_in scope.now) (trees.effect position (expression_tree e.now)) least.old least.new (action_of x)) }
+{
+    let value = whole(alloc, scope, position, e, least)?;
+    Ok(CheckedStatement::Effect(value))
+}
+
 /// Resolves the names of a statement, and notes the rules that it breaks.
+///
+/// # Errors
 ///
 /// `AllocError` where memory is refused.
 #[cycle(statement)]
@@ -96,64 +142,31 @@ pub fn statement<'a>(
     s: &Statement<'a>,
     least: &mut Option<Breach>,
 ) -> Result<CheckedStatement<'a>, AllocError>
-    ensures value { IfOk result (λ x. action_of x ≡ resolve_statement (look_in scope.now) (statement_tree s.now)) }
-    ensures breaches { OnOk result (least.new ≡ noted least.old (statement_breaches (look_in scope.now) (statement_tree s.now))) }
+    ensures { IfOk result (λ x. IsAction (look_in scope.now) (statement_tree s.now) least.old least.new (action_of x)) }
 {
     match s {
         Statement::Empty => Ok(CheckedStatement::Empty),
-        Statement::Block(all) => {
-            Ok(CheckedStatement::Block(all_statements(alloc, scope, all, least)?))
-        }
+        Statement::Block(all) => block(alloc, scope, all, least),
         Statement::Text(text) => Ok(CheckedStatement::Text(text)),
-        Statement::Print(all) => Ok(CheckedStatement::Print(items(alloc, scope, all, least)?)),
-        Statement::PrintReturn(all) => {
-            Ok(CheckedStatement::PrintReturn(items(alloc, scope, all, least)?))
-        }
+        Statement::Print(all) => print(alloc, scope, all, least),
+        Statement::PrintReturn(all) => print_return(alloc, scope, all, least),
         Statement::NewLine => Ok(CheckedStatement::NewLine),
         Statement::If(position, condition, then) => {
-            let (condition, then) = under(alloc, scope, then, *position, condition, least)?;
-            Ok(CheckedStatement::If(condition, then))
+            if_then(alloc, scope, then, *position, condition, least)
         }
         Statement::IfElse(position, condition, then, otherwise) => {
-            let (condition, then) = under(alloc, scope, then, *position, condition, least)?;
-            let otherwise = boxed(alloc, scope, otherwise, least)?;
-            Ok(CheckedStatement::IfElse(condition, then, otherwise))
+            if_else(alloc, scope, then, otherwise, *position, condition, least)
         }
         Statement::While(position, condition, body) => {
-            let (condition, body) = under(alloc, scope, body, *position, condition, least)?;
-            Ok(CheckedStatement::While(condition, body))
+            while_do(alloc, scope, body, *position, condition, least)
         }
         Statement::Return => Ok(CheckedStatement::ReturnValue(Evaluation::Number(1))),
-        Statement::ReturnValue(position, e) => {
-            Ok(CheckedStatement::ReturnValue(whole(alloc, scope, *position, e, least)?))
-        }
+        Statement::ReturnValue(position, e) => return_value(alloc, scope, *position, e, least),
         Statement::ReturnTrue => Ok(CheckedStatement::ReturnValue(Evaluation::Number(1))),
         Statement::ReturnFalse => Ok(CheckedStatement::ReturnValue(Evaluation::Number(0))),
         Statement::Quit => Ok(CheckedStatement::Quit),
-        Statement::Effect(position, e) => {
-            Ok(CheckedStatement::Effect(whole(alloc, scope, *position, e, least)?))
-        }
+        Statement::Effect(position, e) => effect(alloc, scope, *position, e, least),
     }
-}
-
-// A statement and the condition under which it runs.
-#[cycle(statement)]
-#[tactic(auto, using(crate::proofs::Noted::noted_append))]
-fn under<'a>(
-    alloc: Global,
-    scope: &Scope<'_>,
-    s: &Statement<'a>,
-    position: Position,
-    condition: &Expression<'_>,
-    least: &mut Option<Breach>,
-) -> Result<(Evaluation, Box<CheckedStatement<'a>>), AllocError>
-    ensures condition { IfOk result (λ x. value_of x.0 ≡ resolve (look_in scope.now) (expression_tree condition.now)) }
-    ensures value { IfOk result (λ x. action_of x.1.value ≡ resolve_statement (look_in scope.now) (statement_tree s.now)) }
-    ensures breaches { OnOk result (least.new ≡ noted least.old (whole_breaches (look_in scope.now) position (expression_tree condition.now) ++ statement_breaches (look_in scope.now) (statement_tree s.now))) }
-{
-    let condition = whole(alloc, scope, position, condition, least)?;
-    let found = boxed(alloc, scope, s, least)?;
-    Ok((condition, found))
 }
 
 // The same for a statement inside another, in its box.
@@ -161,17 +174,18 @@ fn under<'a>(
 fn boxed<'a>(
     alloc: Global,
     scope: &Scope<'_>,
-    s: &Statement<'a>,
+    s: &Box<Statement<'a>>,
     least: &mut Option<Breach>,
 ) -> Result<Box<CheckedStatement<'a>>, AllocError>
-    ensures value { IfOk result (λ x. action_of x.value ≡ resolve_statement (look_in scope.now) (statement_tree s.now)) }
-    ensures breaches { OnOk result (least.new ≡ noted least.old (statement_breaches (look_in scope.now) (statement_tree s.now))) }
+    ensures { IfOk result (λ x. IsAction (look_in scope.now) (statement_tree s.now.value) least.old least.new (action_of x.value)) }
 {
     let found = statement(alloc, scope, s, least)?;
     Ok(Box::new(alloc, found)?)
 }
 
 /// Resolves the names of statements in order, and notes the rules that they break.
+///
+/// # Errors
 ///
 /// `AllocError` where memory is refused.
 #[cycle(statement)]
@@ -181,12 +195,86 @@ pub fn all_statements<'a>(
     all: &[Statement<'a>],
     least: &mut Option<Breach>,
 ) -> Result<Vec<CheckedStatement<'a>>, AllocError>
-    ensures value { IfOk result (λ v. map action_of v.items ≡ map (resolved_statement (look_in scope.now)) all.now) }
-    ensures breaches { OnOk result (least.new ≡ noted least.old (flat_map (own_statement_breaches (look_in scope.now)) all.now)) }
+    ensures { IfOk result (λ v. AreActions (look_in scope.now) all.now least.old least.new (map action_of v.items)) }
 {
     let mut found = Vec::new(alloc);
     for s in all {
         found.push(statement(alloc, scope, s, least)?)?;
     }
     Ok(found)
+}
+
+#[cycle(statement)]
+fn block<'a>(
+    alloc: Global,
+    scope: &Scope<'_>,
+    all: &[Statement<'a>],
+    least: &mut Option<Breach>,
+) -> Result<CheckedStatement<'a>, AllocError>
+    ensures { IfOk result (λ x. IsAction (look_in scope.now) (trees.block (trees_of (map statement_tree all.now))) least.old least.new (action_of x)) }
+{
+    let found = all_statements(alloc, scope, all, least)?;
+    Ok(CheckedStatement::Block(found))
+}
+
+#[cycle(statement)]
+fn if_then<'a>(
+    alloc: Global,
+    scope: &Scope<'_>,
+    body: &Box<Statement<'a>>,
+    position: Position,
+    condition: &Expression<'_>,
+    least: &mut Option<Breach>,
+) -> Result<CheckedStatement<'a>, AllocError>
+    ensures { IfOk result (λ x. IsAction (look_in scope.now) (trees.if_then position (expression_tree condition.now) (statement_tree body.now.value)) least.old least.new (action_of x)) }
+{
+    let condition = whole(alloc, scope, position, condition, least)?;
+    let Ok(body) = boxed(alloc, scope, body, least) else {
+        discard(condition);
+        return Err(AllocError);
+    };
+    Ok(CheckedStatement::If(condition, body))
+}
+
+#[cycle(statement)]
+fn if_else<'a>(
+    alloc: Global,
+    scope: &Scope<'_>,
+    first: &Box<Statement<'a>>,
+    otherwise: &Box<Statement<'a>>,
+    position: Position,
+    condition: &Expression<'_>,
+    least: &mut Option<Breach>,
+) -> Result<CheckedStatement<'a>, AllocError>
+    ensures { IfOk result (λ x. IsAction (look_in scope.now) (trees.if_else position (expression_tree condition.now) (statement_tree first.now.value) (statement_tree otherwise.now.value)) least.old least.new (action_of x)) }
+{
+    let condition = whole(alloc, scope, position, condition, least)?;
+    let Ok(first) = boxed(alloc, scope, first, least) else {
+        discard(condition);
+        return Err(AllocError);
+    };
+    let Ok(otherwise) = boxed(alloc, scope, otherwise, least) else {
+        discard(condition);
+        return Err(AllocError);
+    };
+    Ok(CheckedStatement::IfElse(condition, first, otherwise))
+}
+
+#[cycle(statement)]
+fn while_do<'a>(
+    alloc: Global,
+    scope: &Scope<'_>,
+    body: &Box<Statement<'a>>,
+    position: Position,
+    condition: &Expression<'_>,
+    least: &mut Option<Breach>,
+) -> Result<CheckedStatement<'a>, AllocError>
+    ensures { IfOk result (λ x. IsAction (look_in scope.now) (trees.while_do position (expression_tree condition.now) (statement_tree body.now.value)) least.old least.new (action_of x)) }
+{
+    let condition = whole(alloc, scope, position, condition, least)?;
+    let Ok(body) = boxed(alloc, scope, body, least) else {
+        discard(condition);
+        return Err(AllocError);
+    };
+    Ok(CheckedStatement::While(condition, body))
 }

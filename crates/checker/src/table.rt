@@ -30,6 +30,8 @@ pub fn find(table: &Table, name: &[u8]) -> Option<Binding>
 
 /// Gives a name its meaning, where it has none.
 ///
+/// # Errors
+///
 /// `AllocError` where memory is refused.
 pub fn define(table: &mut Table, name: Name<'_>, binding: Binding) -> Result<(), AllocError>
     ensures { OnOk result (table.new.entries ≡ with_name table.old.entries (name_tree name.entry) binding) }

@@ -1,9 +1,11 @@
 //! How many temporaries an expression needs.
 
-ghost use Rattle.std.specs.Prelude.{◌≡◌, nat_le, map};
+ghost use Rattle.std.specs.Prelude.{◌≡◌, ◌-◌, ◌++◌, ◌∷◌, [], nat_le, map};
 ghost use Rattle.expressions.specs.Tree.{expression_tree, trees_of};
-ghost use Rattle.checker.specs.Temporaries.{need, needs, operands, greatest};
+ghost use Rattle.checker.specs.Names as names;
+ghost use Rattle.checker.specs.Temporaries.{need, needs, operands, greatest, left_needs};
 
+use crate::expression_rules::name_of;
 use expressions::{Binary, Expression};
 
 /// Whether an expression needs at most `room` temporaries.
@@ -17,22 +19,35 @@ pub fn fits(expression: &Expression<'_>, room: u8) -> bool
         Expression::Call(_, arguments) => operands_fit(arguments, 0, room),
         Expression::Parenthesised(inside) => fits(inside, room),
         Expression::Prefixed(_, operand) => fits(operand, room),
-        Expression::StepBefore(_, _, _) => room >= 1,
-        Expression::StepAfter(_, _, _) => room >= 1,
+        Expression::StepBefore(_, _, operand) => fits(operand, room),
+        Expression::StepAfter(operand, _, _) => fits(operand, room),
         Expression::Chain(first, _, second, links) => {
-            if !fits(first, room) {
-                return false;
-            }
-            fits(second, room - 1) && links_fit(links, room - 1)
+            both_fit(first, second, room) && links_fit(links, room)
         }
-        Expression::Compare(left, _, right) => fits(left, room) && fits(right, room - 1),
+        Expression::Compare(left, _, right) => both_fit(left, right, room),
         Expression::Equal(left, _, right, others) => {
-            if !fits(left, room) {
-                return false;
-            }
-            fits(right, room - 1) && operands_fit(others, 2, room)
+            both_fit(left, right, room) && operands_fit(others, 2, room)
         }
-        Expression::Assign(_, _, right) => fits(right, room),
+        Expression::Assign(left, _, right) => assignment_fits(left, right, room),
+    }
+}
+
+// Two operands.
+#[cycle(fits)]
+fn both_fit(first: &Expression<'_>, second: &Expression<'_>, room: u8) -> bool
+    ensures { result ≡ nat_le (operands 0 (need (expression_tree first.now) ∷ need (expression_tree second.now) ∷ [])) room }
+{
+    fits(first, room) && fits(second, room.saturating_sub(1))
+}
+
+// The sides of an assignment.
+#[cycle(fits)]
+fn assignment_fits(left: &Expression<'_>, right: &Expression<'_>, room: u8) -> bool
+    ensures { result ≡ nat_le (operands 0 (left_needs (names.name_of (expression_tree left.now)) (need (expression_tree left.now)) ++ need (expression_tree right.now) ∷ [])) room }
+{
+    match name_of(left) {
+        Some(_) => fits(right, room),
+        None => both_fit(left, right, room),
     }
 }
 
@@ -51,13 +66,13 @@ fn operands_fit(given: &[Expression<'_>], before: u8, room: u8) -> bool
     room >= 1
 }
 
-// The operands that follow in a chain.
+// The operands that follow the first in a chain.
 #[cycle(fits)]
 fn links_fit(links: &[(Binary, Expression<'_>)], room: u8) -> bool
-    ensures { result ≡ nat_le (greatest (map (λ l. need (expression_tree l.1)) links.now)) room }
+    ensures { result ≡ nat_le (greatest (map (λ l. need (expression_tree l.1)) links.now)) (room - 1) }
 {
     for link in links {
-        if !fits(&link.1, room) {
+        if !fits(&link.1, room.saturating_sub(1)) {
             return false;
         }
     }

@@ -12,7 +12,7 @@ use Rattle.zcore.specs.Instruction.{bytes_of, IsEncodable}
 use Rattle.zcore.specs.State.{State, done, words}
 use Rattle.zcore.specs.Parts.{operand_values, branch_on}
 use Rattle.zcore.specs.Step.{give_result, perform, step}
-use Rattle.zcore.specs.Text.{Holds}
+use Rattle.code.proofs.Behind.{Holds}
 use Rattle.code.specs.Instructions.{giving, branching, top, constant, push, flag, arithmetic}
 use Rattle.code.proofs.Play.{Leads, moves}
 use Rattle.code.proofs.Parts.{Around, machine as at_words, Reads}

@@ -7,8 +7,10 @@ use Rattle.std.proofs.lemmas.List.{length-reverse, length-set, get_or-drop, get_
 use Rattle.zcore.specs.Header.{globals_of, static_base_of}
 use Rattle.zcore.specs.Instruction.{Instruction, bytes_of}
 use Rattle.zcore.specs.State.{done, words}
-use Rattle.zcore.specs.Text.{Holds}
+use Rattle.zcore.specs.Text as text
 use Rattle.zcore.proofs.Holding.{holds_append}
+use Rattle.code.proofs.Behind.{Holds}
+use Rattle.code.proofs.Behind as behind
 use Rattle.checker.specs.declared.resolved.Variable.{Variable}
 use Rattle.checker.specs.declared.resolved.Variable.TheVariants as variables
 use Rattle.checker.specs.Resolved.{RoutineOf, ProgramOf}
@@ -23,7 +25,7 @@ use Rattle.code.specs.Instructions.{number_of, item_code, pull, copy}
 use Rattle.code.specs.Bytes.{text_bytes, item_bytes, item_size, code_size, place_of}
 use Rattle.code.specs.Standing.{HoldsProgram}
 use Rattle.code.proofs.Play.{Leads, Stored, items_in, address, frames_of, back_of, result_of, state_of, next_of, IsCaller, Good, Led, other_counts}
-use Rattle.code.proofs.Memory.{word_of, with_variable, holds_on, Ground, writes_ground, stored_temporary, stored_global, global_is}
+use Rattle.code.proofs.Memory.{word_of, with_variable, Ground, writes_ground, stored_temporary, stored_global, global_is}
 use Rattle.code.proofs.Parts.{Around, machine as at_words, Reads, Writes, local_reads, local_writes, global_reads, global_writes}
 use Rattle.zcore.specs.Step.{step}
 use Rattle.code.proofs.Steps.{point, others_held, pull_step, copy_step}
@@ -124,7 +126,7 @@ module _ (c : Running) where
 
   -- an item stands here
   pub record Stands (i : Item) : Type 0 where
-    pub held : Holds m here (item_bytes a (place_of (items_in story a p routine)) (place_of (items_in story a p routine) place) i)
+    pub held : text.Holds m here (item_bytes a (place_of (items_in story a p routine)) (place_of (items_in story a p routine) place) i)
     pub next : address story a p routine (place + 1) ≡ here + item_size i
     pub followed : address story a p routine (place + 1) < length m
 
@@ -150,7 +152,7 @@ module _ (c : Running) where
   -- an item's instructions
   pub code_held : (i : Item) → Stands i → Holds m here (flat_map bytes_of (item_code a (place_of (items_in story a p routine)) (place_of (items_in story a p routine) place) i))
   code_held i stands =
-      (holds_append m here (flat_map bytes_of (item_code a (place_of (items_in story a p routine)) (place_of (items_in story a p routine) place) i)) (text_bytes i) stands.held).0
+      (above, (holds_append m here (flat_map bytes_of (item_code a (place_of (items_in story a p routine)) (place_of (items_in story a p routine) place) i)) (text_bytes i) stands.held).0)
 
   -- The machine comes to the next item
   pub arrives : (i : Item) (before after m1 : List ℕ) (situation : Situation) (end : ℕ) → Stands i → end ≡ here + item_size i
@@ -189,17 +191,21 @@ module _ (c : Running) where
   memory_with (variables.Local i) word = m
   memory_with (variables.Global g) word = with_variable m (16 + g) word
 
-  pub record Held (x : Variable) : Type 0 where
-    pub reads : Reads around m locals (number_of x) (value_in x situation_here)
-    pub writes : (word : ℕ) → Writes around m locals (number_of x) word (memory_with x word) (with_value x word situation_here).locals
-    pub again : (word : ℕ) → Reads around (memory_with x word) (with_value x word situation_here).locals (number_of x) word
+  -- what is known of a variable of a number in instructions
+  pub record HeldAt (n : ℕ) (x : Variable) : Type 0 where
+    pub reads : Reads around m locals n (value_in x situation_here)
+    pub writes : (word : ℕ) → Writes around m locals n word (memory_with x word) (with_value x word situation_here).locals
+    pub again : (word : ℕ) → Reads around (memory_with x word) (with_value x word situation_here).locals n word
     pub kept : (word : ℕ) → drop (static_base_of story) (memory_with x word) ≡ drop (static_base_of story) m
     pub stored : (word : ℕ) → Stored story (with_value x word situation_here).world.globals (memory_with x word)
     pub locals_same : (word : ℕ) → length (with_value x word situation_here).locals ≡ length locals
     pub globals_same : (word : ℕ) → length (with_value x word situation_here).world.globals ≡ length world.globals
 
-  pub variable_held : (x : Variable) → IsVariable p (routine_at p.routines routine).locals x → Held x
-  variable_held (variables.Local i) is =
+  abbrev pub Held : Variable → Type 0
+  Held x = HeldAt (number_of x) x
+
+  local_held : (i : ℕ) → IsVariable p (routine_at p.routines routine).locals (variables.Local i) → HeldAt (1 + i) (variables.Local i)
+  local_held i is =
       let within : i < length locals = omega (arith, is, good.locals) in
       let few15 : i < 15 = omega (arith, is, few_locals story a p accepted holds routine good.known) in
       record {
@@ -212,7 +218,9 @@ module _ (c : Running) where
         locals_same = λ word. length-set locals i word;
         globals_same = λ word. refl;
       }
-  variable_held (variables.Global g) is =
+
+  global_held : (g : ℕ) → IsVariable p (routine_at p.routines routine).locals (variables.Global g) → HeldAt (16 + g) (variables.Global g)
+  global_held g is =
       let within : g < length world.globals = omega (arith, is, good.globals) in
       let from : 16 ≤ 16 + g = omega arith in
       let small : 16 + g < 256 = omega (arith, within, few) in
@@ -227,6 +235,14 @@ module _ (c : Running) where
         locals_same = λ word. refl;
         globals_same = λ word. length-set world.globals g word;
       }
+
+  pub variable_held : (x : Variable) → IsVariable p (routine_at p.routines routine).locals x → Held x
+  variable_held (variables.Local i) is =
+      let number : 1 + i ≡ number_of (variables.Local i) = omega (arith, is, few_locals story a p accepted holds routine good.known) in
+      subst (λ n. HeldAt n (variables.Local i)) number (local_held i is)
+  variable_held (variables.Global g) is =
+      let number : 16 + g ≡ number_of (variables.Global g) = omega (arith, is, good.globals, few) in
+      subst (λ n. HeldAt n (variables.Global g)) number (global_held g is)
 
   -- Temporaries
 
@@ -271,7 +287,7 @@ module _ (c : Running) where
 
   -- an item's bytes stand there too
   pub held_in : (other bytes : List ℕ) (q : ℕ) → Scratch other → here ≤ q → Holds m q bytes → Holds other q bytes
-  held_in other bytes q scratch from h = holds_on (static_base_of story) q m other bytes scratch.kept (omega (arith, high, from)) h
+  held_in other bytes q scratch from h = behind.holds_on (static_base_of story) q m other bytes scratch.kept (omega (arith, high, from)) h
 
   -- a word is pulled into a temporary
   pub pull_temporary : (other s text : List ℕ) (q variable word : ℕ) → Scratch other → 248 ≤ variable → variable < 256 → here ≤ q → Holds m q (bytes_of (pull variable))

@@ -19,9 +19,9 @@ use Rattle.zcore.specs.State.{Frame, State, Out, done, halt, bound}
 use Rattle.zcore.specs.State as state
 use Rattle.zcore.specs.Parts.{operand_value, operand_values, push, goes_on, test_return, leave, give_back, store_result, write_variable}
 use Rattle.zcore.specs.Step.{step, perform, call_packed, return_popped}
-use Rattle.zcore.specs.Text.{Holds}
 use Rattle.zcore.specs.Turn.{first_environment}
-use Rattle.zcore.proofs.Holding.{holds_append, holds_byte}
+use Rattle.zcore.proofs.Holding.{holds_byte}
+use Rattle.code.proofs.Behind.{Holds, holds_append, holds_on}
 use Rattle.checker.specs.Resolved.{ProgramOf}
 use Rattle.checker.specs.Meaning.{routine_at}
 use Rattle.checker.specs.World.{World}
@@ -30,10 +30,10 @@ use Rattle.items.specs.Items as items
 use Rattle.items.specs.Stack.{Caller}
 use Rattle.items.specs.Stack as stack
 use Rattle.code.specs.Addresses.{Addresses}
-use Rattle.code.specs.Instructions.{plain, giving, pull, temporary, take_arguments, arguments, call_operation}
+use Rattle.code.specs.Instructions.{plain, giving, pull, temporary, take_arguments, arguments, argument_count, call_operation, call_with}
 use Rattle.code.specs.Bytes.{place_of}
 use Rattle.code.proofs.Play.{Leads, stays, moves, items_in, address, frames_of, frame_of, back_of, result_of, next_of, state_of, first_count, other_counts, IsCaller, Led}
-use Rattle.code.proofs.Memory.{word_of, with_variable, holds_on}
+use Rattle.code.proofs.Memory.{word_of, with_variable}
 use Rattle.code.proofs.Parts.{Around, machine as at_words, pushes, tops, Reads, global_reads}
 use Rattle.code.proofs.Steps.{point, leads_then, one_step, step_is, first_held, others_held, fits_none, fits_one, fits_more, no_operand, one_operand, large_value, variable_value}
 use Rattle.code.proofs.Ends.{does_after, quits}
@@ -196,8 +196,11 @@ module _ (c : Running) where
       word : packed < 65536
       word = (holds.routines r known).word
 
+      counted : argument_count n ≡ n
+      counted = ap (λ b. if b then n else 7) (le-leb n 7 few)
+
       both : Holds m (here c) (flat_map bytes_of (take_arguments n ++ call_of packed n ∷ []))
-      both = code_held c (items.call r n) stands
+      both = subst (λ k. Holds m (here c) (flat_map bytes_of (call_with a r k))) counted (code_held c (items.call r n) stands)
 
       parted : Holds m (here c) (flat_map bytes_of (take_arguments n) ++ flat_map bytes_of (call_of packed n ∷ []))
       parted = subst (λ bs. Holds m (here c) bs) (flat_map-append bytes_of (take_arguments n) (call_of packed n ∷ [])) both
@@ -214,9 +217,11 @@ module _ (c : Running) where
       behind =
           let size = item_length a (place_of (items_in story a p routine)) (place_of (items_in story a p routine) place) (items.call r n) in
           let parts = ap length (flat_map-append bytes_of (take_arguments n) (call_of packed n ∷ [])) in
+          let same = ap (λ k. length (flat_map bytes_of (call_with a r k) ++ [])) counted in
           omega (
             arith,
             size,
+            same,
             parts,
             pulls_length n,
             stands.next,
@@ -299,11 +304,11 @@ module _ (c : Running) where
       let main = slice_index a.routines p.main in
       let i = plain operations.Call1n (Large main ∷ []) in
       holds_on (static_base_of story) (word_at story 6 + 3) story m (bytes_of (plain operations.Quit [])) good.stored.kept (omega (arith, holds.start_above))
-      (first_held story (word_at story 6 + 3) (plain operations.Quit []) [] (others_held story (word_at story 6) i (plain operations.Quit [] ∷ []) holds.start))
+      (first_held story (word_at story 6 + 3) (plain operations.Quit []) [] (others_held story (word_at story 6) i (plain operations.Quit [] ∷ []) (omega (arith, holds.start_above, holds.globals_above, holds.globals_below), holds.start)))
 
   end_within : word_at story 6 + 3 < length m
   unfolding bytes_of
-  end_within = (holds_byte m (word_at story 6 + 3) 186 [] end_held).within
+  end_within = (holds_byte m (word_at story 6 + 3) 186 [] end_held.1).within
 
   end_above : 64 ≤ word_at story 6 + 3
   end_above = omega (arith, holds.start_above, holds.globals_above, holds.globals_below)

@@ -11,7 +11,7 @@ use Rattle.zcore.specs.Instruction.{bytes_of}
 use Rattle.zcore.specs.State.{State, done, halt}
 use Rattle.zcore.specs.Parts.{transcribed, print}
 use Rattle.zcore.specs.Step.{perform, print_characters, step}
-use Rattle.zcore.specs.Text.{Holds}
+use Rattle.code.proofs.Behind.{Holds}
 use Rattle.zcore.specs.Turn.{Whole, turn_in, after_step, ended, notice, is_waiting, plays_from, last_place}
 use Rattle.checker.specs.World.{Outcome, World}
 use Rattle.code.specs.Instructions.{plain}

@@ -76,7 +76,7 @@ module _ (memory : List ℕ) (frames : List Frame) (text : List ℕ) (packed cou
   pub enters : (fuel : ℕ) → length frames < 1001
       → call_packed (point pc (suc fuel)) after result packed arguments caller
       ≡ done (point (unpacked memory packed + 1) fuel)
-      (in_frames memory (record { locals = machine.locals_of count arguments; stack = []; arguments = length arguments; return_place = after; result = result } ∷ frames) text)
+      (in_frames memory (record { locals = machine.locals_of count arguments; stack = []; arguments = length arguments; return_address = after; result = result } ∷ frames) text)
   unfolding call_packed call test_routine test_calls spend machine.enter
   enters fuel fits =
       let a : nat_eq packed 0 ≡ false = ne_eqb _ _ (λ h. omega (arith, h, can.named)) in
@@ -89,7 +89,7 @@ module _ (memory : List ℕ) (frames : List Frame) (text : List ℕ) (packed cou
       let h : nat_eq (suc fuel) 0 ≡ false = ne_eqb _ _ (λ h. omega (arith, h)) in
       let i : suc fuel - 1 ≡ fuel = omega arith in
       rw a (rw b (rw c (rw d (rw e (rw f (rw g (rw h (rw i
-      (ap (λ (n : ℕ). done (point (unpacked memory packed + 1) fuel) (in_frames memory (record { locals = machine.locals_of n arguments; stack = []; arguments = length arguments; return_place = after; result = result } ∷ frames) text)) can.locals)))))))))
+      (ap (λ (n : ℕ). done (point (unpacked memory packed + 1) fuel) (in_frames memory (record { locals = machine.locals_of n arguments; stack = []; arguments = length arguments; return_address = after; result = result } ∷ frames) text)) can.locals)))))))))
 
   pub no_unit : length frames < 1001 → call_packed (point pc 0) after result packed arguments caller ≡ halt (places.Limit limits.Fuel) caller
   unfolding call_packed call test_routine test_calls spend
@@ -182,7 +182,7 @@ module _ (story : List ℕ) (a : Addresses) (p : ProgramOf) (accepted : IsAccept
       }
 
       many : List ℕ → State
-      many locals = in_frames memory (record { locals = locals; stack = []; arguments = length arguments; return_place = back_of story a p callers; result = result_of story a p callers } ∷ frames) s.world.text
+      many locals = in_frames memory (record { locals = locals; stack = []; arguments = length arguments; return_address = back_of story a p callers; result = result_of story a p callers } ∷ frames) s.world.text
 
       go : (b : Bool) → nat_lt (length callers) 1000 ≡ b → (fuel : ℕ) → Called fuel
           → Led story a p full (point pc fuel) st s.world

@@ -11,7 +11,7 @@ use Rattle.zcore.specs.State.{State, done, halt}
 use Rattle.zcore.specs.Parts as parts
 use Rattle.zcore.specs.Parts.{jump_target, test_target, go, spend}
 use Rattle.zcore.specs.Step.{step, perform, jump}
-use Rattle.zcore.specs.Text.{Holds}
+use Rattle.code.proofs.Behind.{Holds}
 use Rattle.checker.specs.World.{spend_from}
 use Rattle.checker.specs.Meaning.{is_true}
 use Rattle.items.specs.Items.{Item}

@@ -1,5 +1,6 @@
 pub mod Play
 pub mod Memory
+pub mod Behind
 pub mod Parts
 pub mod Steps
 pub mod Acts
@@ -28,7 +29,6 @@ mod Types
 mod Chains
 mod Lengths
 mod Starts
-mod Writable
 pub mod Sizes
 pub mod SizesOfTrees
 pub mod SizesOfPrograms

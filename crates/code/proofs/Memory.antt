@@ -4,16 +4,16 @@ use Rattle.std.proofs.lemmas.Bool.{cases_eq, cases_lt}
 use Rattle.std.proofs.lemmas.List.{length-set, drop-set-lt, drop-drop, get_or-set_same, get_or-set_other}
 use Rattle.zcore.specs.Bytes.{word_at}
 use Rattle.zcore.specs.Header.{globals_of, static_base_of}
-use Rattle.zcore.specs.Parts.{global_place, with_word}
+use Rattle.zcore.specs.Parts.{global_address, with_word}
 use Rattle.zcore.specs.Text.{Holds}
 use Rattle.code.proofs.Play.{Stored}
 
 -- the word of a variable from 16 on, and the memory where it is another
 abbrev pub word_of : List ℕ → ℕ → ℕ
-word_of memory variable = word_at memory (global_place memory variable)
+word_of memory variable = word_at memory (global_address memory variable)
 
 abbrev pub with_variable : List ℕ → ℕ → ℕ → List ℕ
-with_variable memory variable word = with_word memory (global_place memory variable) word
+with_variable memory variable word = with_word memory (global_address memory variable) word
 
 module _ (memory : List ℕ) (at word : ℕ) where
   pub length_with : length (with_word memory at word) ≡ length memory
@@ -80,7 +80,7 @@ apart a b ne = go (cases_lt a b)
 
 pub writes_ground : (base : ℕ) (memory : List ℕ) (variable word : ℕ) → Ground base memory → 16 ≤ variable → variable < 256 → Written base memory variable word
 writes_ground base memory variable word ground low high =
-    let at = global_place memory variable in
+    let at = global_address memory variable in
     let m1 = with_word memory at word in
     let a : 64 ≤ at = omega (arith, ground.above) in
     let b : at + 1 < base = omega (arith, ground.below, low, high) in
@@ -92,11 +92,11 @@ writes_ground base memory variable word ground low high =
       kept = drop_with memory at word base b;
       size = length_with memory at word;
       is = ap (λ g. word_at m1 (g + 2 * (variable - 16))) same ∙ word_here memory at word (omega (arith, b, ground.long));
-      other = λ v from ne. ap (λ g. word_at m1 (g + 2 * (v - 16))) same ∙ word_other memory at word (global_place memory v) (away v from (apart v variable ne));
+      other = λ v from ne. ap (λ g. word_at m1 (g + 2 * (v - 16))) same ∙ word_other memory at word (global_address memory v) (away v from (apart v variable ne));
       globals = same;
     }
   where
-    away : (v : ℕ) → 16 ≤ v → (v < variable) ⊎ (variable < v) → (global_place memory v + 1 < global_place memory variable) ⊎ (global_place memory variable + 1 < global_place memory v)
+    away : (v : ℕ) → 16 ≤ v → (v < variable) ⊎ (variable < v) → (global_address memory v + 1 < global_address memory variable) ⊎ (global_address memory variable + 1 < global_address memory v)
     away v from (inl h) = inl (omega (arith, h, from, low))
     away v from (inr h) = inr (omega (arith, h, from, low))
 
@@ -117,7 +117,7 @@ module _ (story globals memory : List ℕ) (ground : Ground (static_base_of stor
 
   header_kept : (variable word : ℕ) (q : ℕ) → q < 64 → slice_index (with_variable memory variable word) q ≡ slice_index story q
   header_kept variable word q h =
-      byte_other memory (global_place memory variable) word q (λ e. omega (arith, h, e, ground.above)) (λ e. omega (arith, h, e, ground.above)) ∙ stored.header q h
+      byte_other memory (global_address memory variable) word q (λ e. omega (arith, h, e, ground.above)) (λ e. omega (arith, h, e, ground.above)) ∙ stored.header q h
 
   -- a variable of the compiler is written
   pub stored_temporary : (variable word : ℕ) → 248 ≤ variable → variable < 256 → Stored story globals (with_variable memory variable word)
@@ -127,7 +127,7 @@ module _ (story globals memory : List ℕ) (ground : Ground (static_base_of stor
         size = w.size ∙ stored.size;
         header = header_kept variable word;
         kept = w.kept ∙ stored.kept;
-        values = λ g h. word_other memory (global_place memory variable) word (globals_of story + 2 * g) (inl (omega (arith, h, few, low, same_globals))) ∙ stored.values g h;
+        values = λ g h. word_other memory (global_address memory variable) word (globals_of story + 2 * g) (inl (omega (arith, h, few, low, same_globals))) ∙ stored.values g h;
       }
 
   -- a global of the source is written
@@ -143,14 +143,14 @@ module _ (story globals memory : List ℕ) (ground : Ground (static_base_of stor
     where
       value : (k : ℕ) → k < length globals → (k ≡ g) ⊎ (k ≡ g → ⊥) → word_at (with_variable memory (16 + g) word) (globals_of story + 2 * k) ≡ slice_index (slice_set globals g word) k
       value k h (inl e) =
-          let place : globals_of story + 2 * k ≡ global_place memory (16 + g) = omega (arith, e, same_globals) in
+          let place : globals_of story + 2 * k ≡ global_address memory (16 + g) = omega (arith, e, same_globals) in
           ap (word_at (with_variable memory (16 + g) word)) place
-          ∙ word_here memory (global_place memory (16 + g)) word (omega (arith, within, few, ground.below, ground.long))
+          ∙ word_here memory (global_address memory (16 + g)) word (omega (arith, within, few, ground.below, ground.long))
           ∙ sym (ap (slice_index (slice_set globals g word)) e ∙ get_or-set_same globals g word 0 within)
       value k h (inr ne) =
-          word_other memory (global_place memory (16 + g)) word (globals_of story + 2 * k) (away (apart k g ne))
+          word_other memory (global_address memory (16 + g)) word (globals_of story + 2 * k) (away (apart k g ne))
           ∙ stored.values k h ∙ sym (get_or-set_other globals g k word 0 ne)
         where
-          away : (k < g) ⊎ (g < k) → (globals_of story + 2 * k + 1 < global_place memory (16 + g)) ⊎ (global_place memory (16 + g) + 1 < globals_of story + 2 * k)
+          away : (k < g) ⊎ (g < k) → (globals_of story + 2 * k + 1 < global_address memory (16 + g)) ⊎ (global_address memory (16 + g) + 1 < globals_of story + 2 * k)
           away (inl h) = inl (omega (arith, h, same_globals))
           away (inr h) = inr (omega (arith, h, same_globals))

@@ -36,7 +36,7 @@ module _ (story : List ℕ) (a : Addresses) (p : ProgramOf) (accepted : IsAccept
       let i = plain Call1n (Large word ∷ []) in
       step_is (first_next story full) (first_state story) (first_state story) i (word ∷ [])
       (record { least = omega arith; most = omega arith; operands_fit = fits_one (Large word) (holds.routines p.main accepted.main).word; result_fits = tt; branch_fits = tt })
-      (first_held story (word_at story 6) i (plain Quit [] ∷ []) holds.start)
+      (first_held story (word_at story 6) i (plain Quit [] ∷ []) (omega (arith, holds.start_above, holds.globals_above, holds.globals_below), holds.start))
       (one_operand (first_state story) (first_state story) (Large word) word (large_value (first_state story) word))
 
   stored : Stored story p.globals story

@@ -18,7 +18,7 @@ use Rattle.expressions.specs.declared.tree.Step.TheVariants as steps
 use Rattle.items.specs.Items.{Item}
 use Rattle.items.specs.Items as items
 use Rattle.code.specs.Addresses.{Addresses}
-use Rattle.code.specs.Instructions.{giving, take_arguments, arguments, call_operation, jump_offset}
+use Rattle.code.specs.Instructions.{giving, take_arguments, arguments, argument_count, call_operation, call_with, jump_offset}
 use Rattle.code.specs.Bytes.{bytes_of_all, item_bytes, item_size, nowhere, code_size, place_of, items_bytes}
 
 -- Sizes
@@ -57,8 +57,9 @@ module _ (a : Addresses) (places : ℕ → ℕ) (at : ℕ) where
   binary_length binaries.And = refl
   binary_length binaries.Or = refl
 
-  called_length : (r n : ℕ) → length (item_bytes a places at (items.call r n)) ≡ item_size (items.call r n)
-  called_length r n =
+  called_length : (r count : ℕ) → length (item_bytes a places at (items.call r count)) ≡ item_size (items.call r count)
+  called_length r count =
+      let n = argument_count count in
       let xs = take_arguments n in
       let i = giving (call_operation n) (Large (slice_index a.routines r) ∷ arguments n) 0 in
       let j = giving (call_operation n) (Large (slice_index nowhere.routines r) ∷ arguments n) 0 in
@@ -99,10 +100,13 @@ unfolding bytes_of
 call_some true os x = omega arith
 call_some false os x = omega arith
 
-called_some : (r n : ℕ) → 1 ≤ item_size (items.call r n)
+call_with_some : (r n : ℕ) → 1 ≤ length (bytes_of_all (call_with nowhere r n) ++ [])
 unfolding bytes_of
-called_some r zero = omega arith
-called_some r (suc n) = omega arith
+call_with_some r zero = omega arith
+call_with_some r (suc n) = omega arith
+
+called_some : (r count : ℕ) → 1 ≤ item_size (items.call r count)
+called_some r count = call_with_some r (argument_count count)
 
 prefix_some : (op : Prefix) → 1 ≤ item_size (items.apply_prefix op)
 unfolding bytes_of

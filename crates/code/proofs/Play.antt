@@ -71,7 +71,7 @@ module _ (story : List ℕ) (a : Addresses) (p : ProgramOf) where
   -- the frame of a routine with these locals and this stack, its newest word first, which was called by these
   abbrev pub frame_of : List ℕ → List ℕ → ℕ → List Caller → Frame
   frame_of locals stack count callers =
-      record { locals = locals; stack = reverse stack; arguments = count; return_place = back_of callers; result = result_of callers }
+      record { locals = locals; stack = reverse stack; arguments = count; return_address = back_of callers; result = result_of callers }
 
   abbrev pub frames_of : List Caller → List ℕ → List Frame
   frames_of [] counts = first_environment ∷ []

@@ -2,6 +2,7 @@
 use Rattle.std.proofs.Common.{◌≡◌, ◌≤◌, ◌+◌, ◌-◌, ◌*◌, ◌%◌, ◌==◌, ℕ, zero, suc, Bool, true, false, List, [], ◌∷◌, ◌++◌, length, map, Option, Some, None, refl, arith, length-append}
 use Rattle.std.specs.Prelude.{nat_le, if◌then◌else◌, replicate, slice_index}
 use Rattle.std.specs.List.{flat_map}
+use Rattle.std.proofs.lemmas.Bool.{leb-false}
 use Rattle.std.proofs.lemmas.List.{append-nil, length-map, length-replicate}
 use Rattle.std.proofs.lemmas.List.Concat.{flat_map-append}
 use Rattle.zcore.specs.declared.instruction.Operand.{Operand}
@@ -24,7 +25,7 @@ use Rattle.expressions.specs.declared.tree.Step.TheVariants as steps
 use Rattle.checker.specs.declared.resolved.Variable as source
 use Rattle.items.specs.Items.{Item}
 use Rattle.items.specs.Items as items
-use Rattle.code.specs.Instructions.{giving, push, constant, take_arguments, arguments, call_operation}
+use Rattle.code.specs.Instructions.{giving, push, constant, take_arguments, arguments, argument_count, call_operation, call_with}
 use Rattle.code.specs.Bytes.{bytes_of_all, character_of, nowhere, item_size, code_size}
 
 -- Lists of items
@@ -108,11 +109,18 @@ unfolding bytes_of
 given_size true routine os = simp length-append (omega arith)
 given_size false routine os = simp length-append (omega arith)
 
-pub call_size : (r n : ℕ) → item_size (items.call r n) ≤ 4 * n + 6
-call_size r n =
+call_with_size : (r n : ℕ) → length (bytes_of_all (call_with nowhere r n) ++ []) ≤ 4 * n + 6
+call_with_size r n =
     let last = giving (call_operation n) (Large (slice_index nowhere.routines r) ∷ arguments n) 0 in
     let size : length (bytes_of last) ≤ n + 6 = omega (arith, given_size (nat_le n 3) (slice_index nowhere.routines r) (arguments n), arguments_size n) in
     simp (flat_map-append, length-append, append-nil) (omega (arith, taken_size n, size))
+
+count_by : (b : Bool) (n : ℕ) → nat_le n 7 ≡ b → (if b then n else 7) ≤ n
+count_by true n e = omega arith
+count_by false n e = omega (arith, leb-false n 7 e)
+
+pub call_size : (r n : ℕ) → item_size (items.call r n) ≤ 4 * n + 6
+call_size r n = omega (arith, call_with_size r (argument_count n), count_by (nat_le n 7) n refl)
 
 -- Texts
 

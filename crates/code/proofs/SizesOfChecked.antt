@@ -11,10 +11,9 @@ use Rattle.syntax.specs.Tree.{RoutineTree, DirectiveTree, ProgramTree}
 use Rattle.syntax.specs.Tree as trees
 use Rattle.zcore.specs.declared.header.Version.{Version}
 use Rattle.checker.specs.declared.checked.CheckedRoutine.{CheckedRoutine}
-use Rattle.checker.specs.declared.checked.Checked.{Checked}
 use Rattle.checker.specs.Names.{Table, table_of}
-use Rattle.checker.specs.Programs.{resolve_routine, resolve_program, routines_of, routine_trees, title, title_of, IsCheckedOf}
-use Rattle.checker.specs.Resolved.{RoutineOf, ProgramOf, routine_of}
+use Rattle.checker.specs.Programs.{resolve_routine, resolve_program, routines_of, routine_trees, title, IsCheckedOf}
+use Rattle.checker.specs.Resolved.{RoutineOf, ProgramOf, CheckedProgram, routine_of, title_of}
 use Rattle.checker.specs.Sizes.{sum_of_parts, greatest_weight, first_heavy, heavy_fault, size_fault, fault}
 use Rattle.code.specs.Sizes.{routine_size, routines_size}
 use Rattle.code.specs.Laws.{SmallSourcesHaveSmallCode}
@@ -32,9 +31,9 @@ light (c ∷ cs) e =
     let f = light_first (nat_lt 32000 c.weight) c.name.position (first_heavy cs) e in
     All-cons (λ (c : CheckedRoutine). c.weight ≤ 32000) c cs (ltb-false 32000 c.weight f.0) (light cs f.1)
 
-record Tests (c : Checked) (version : Version) : Type 0 where
+record Tests (c : CheckedProgram) (version : Version) : Type 0 where
   weight : c.weight ≤ greatest_weight version
-  light : All (λ (r : CheckedRoutine). r.weight ≤ 32000) c.routines.items
+  light : All (λ (r : CheckedRoutine). r.weight ≤ 32000) c.routines
 
 small_first : (large : Bool) (f : SourceFault) (rest : Option SourceFault) → (if large then Some f else rest) ≡ None → (large ≡ false) × (rest ≡ None)
 small_first true f rest e = absurd cc
@@ -44,13 +43,13 @@ no_heavy : (p : Option Position) → heavy_fault p ≡ None → p ≡ None
 no_heavy None e = refl
 no_heavy (Some p) e = absurd cc
 
-tests : (c : Checked) (version : Version) → size_fault c version ≡ None → Tests c version
+tests : (c : CheckedProgram) (version : Version) → size_fault c version ≡ None → Tests c version
 tests c version e =
-    let heavy = heavy_fault (first_heavy c.routines.items) in
+    let heavy = heavy_fault (first_heavy c.routines) in
     let large = nat_lt (greatest_weight version) c.weight in
     let parts = small_first (nat_lt 65535 (sum_of_parts c)) (fault 30 0) (if large then Some (fault 31 0) else heavy) e in
     let whole = small_first large (fault 31 0) heavy parts.1 in
-    record { weight = ltb-false (greatest_weight version) c.weight whole.0; light = light c.routines.items (no_heavy (first_heavy c.routines.items) whole.1) }
+    record { weight = ltb-false (greatest_weight version) c.weight whole.0; light = light c.routines (no_heavy (first_heavy c.routines) whole.1) }
 
 -- the routines of a checked program
 
@@ -81,7 +80,7 @@ module _ (whole : Table) where
       (one_small c r first name (All-head (IsRoutineShort whole) r rs h) (All-head P c cs k))
       (all_small cs rs more names (All-tail (IsRoutineShort whole) r rs h) (All-tail P c cs k))
 
-routines_are : (p : ProgramTree) (c : Checked) → IsCheckedOf p c → map routine_of c.routines.items ≡ routines_of (table_of p.directives) p.directives
+routines_are : (p : ProgramTree) (c : CheckedProgram) → IsCheckedOf p c → map routine_of c.routines ≡ routines_of (table_of p.directives) p.directives
 unfolding resolve_program
 routines_are p c h = ap (λ (x : ProgramOf). x.routines) h.program
 
@@ -94,6 +93,6 @@ small_sources_have_small_code tokens p c version g h e =
     let size = ap routines_size is in
     let weight = h.weight in
     record {
-      each = all_small whole c.routines.items (routine_trees p.directives) (is ∙ resolved_trees whole p.directives) h.titles short.each t.light;
+      each = all_small whole c.routines (routine_trees p.directives) (is ∙ resolved_trees whole p.directives) h.titles short.each t.light;
       all = omega (arith, short.all, t.weight, size, weight);
     }

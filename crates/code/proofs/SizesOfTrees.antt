@@ -17,6 +17,7 @@ use Rattle.statements.specs.Grammar.{IsItem, item_text, item_character, item_num
 use Rattle.syntax.specs.Weight.{expression_weight, expression_weights, item_weight, item_weights, statement_weight, statement_weights}
 use Rattle.checker.specs.declared.binding.Binding.{Binding}
 use Rattle.checker.specs.declared.binding.Binding.TheVariants as bindings
+use Rattle.checker.specs.Names.{name_of}
 use Rattle.checker.specs.Accepted.{count_of}
 use Rattle.checker.specs.Expressions.{value_of_binding, target, routine_of_binding, resolve, resolve_all}
 use Rattle.checker.specs.Statements.{resolve_item, resolve_statement, resolve_statements}
@@ -126,10 +127,10 @@ module _ (look : List ℕ → Option Binding) where
   prefixed_fits {op} {e} a = record { within = λ at. omega (arith, size_append (value_items at (resolve look e)) (items.apply_prefix op ∷ []), prefix_size op, a.within at) }
 
   step_before_fits : {op : Step} {p : Position} {e : ExpressionTree} → Fits e → Fits (trees.step_before op p e)
-  step_before_fits {op} {e = e} a = record { within = λ at. omega (arith, step_before_size op (target look e), a.within at) }
+  step_before_fits {op} {e = e} a = record { within = λ at. omega (arith, step_before_size op (target look (name_of e)), a.within at) }
 
   step_after_fits : {op : Step} {p : Position} {e : ExpressionTree} → Fits e → Fits (trees.step_after e op p)
-  step_after_fits {op} {e = e} a = record { within = λ at. omega (arith, step_after_size (target look e) op, a.within at) }
+  step_after_fits {op} {e = e} a = record { within = λ at. omega (arith, step_after_size (target look (name_of e)) op, a.within at) }
 
   binary_fits : {op : Binary} {a b : ExpressionTree} → Fits a → Fits b → Fits (trees.binary op a b)
   binary_fits {op} {a} {b} f g =
@@ -151,7 +152,7 @@ module _ (look : List ℕ → Option Binding) where
 
   assign_fits : {p : Position} {a b : ExpressionTree} → Fits a → Fits b → Fits (trees.assign a p b)
   unfolding bytes_of
-  assign_fits {a = a} {b = b} f g = record { within = λ at. omega (arith, size_append (value_items at (resolve look b)) (items.keep (target look a) ∷ []), f.within at, g.within at) }
+  assign_fits {a = a} {b = b} f g = record { within = λ at. omega (arith, size_append (value_items at (resolve look b)) (items.keep (target look (name_of a)) ∷ []), f.within at, g.within at) }
 
   mutual
     fits_E : {ts r : List Lexeme} {e : ExpressionTree} → IsE ts e r → Fits e

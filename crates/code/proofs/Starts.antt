@@ -1,21 +1,14 @@
 -- Where items begin, and the bytes of several.
 use Rattle.std.proofs.Common.{◌≡◌, ℕ, zero, suc, ◌+◌, ◌-◌, ◌%◌, ◌<◌, ◌≤◌, List, [], ◌∷◌, ◌++◌, length, drop, slice_index_or, refl, sym, ap, ◌∙◌, arith, append_assoc, length-append}
 use Rattle.std.specs.Prelude.{map}
-use Rattle.std.specs.List.{list_all}
 use Rattle.std.proofs.Math.Path.{fun_ext}
-use Rattle.std.proofs.lemmas.List.Folds.{list_all_at, list_all-map}
-use Rattle.checker.specs.declared.checked.CheckedRoutine.{CheckedRoutine}
-use Rattle.checker.specs.Resolved.{routine_of}
-use Rattle.checker.specs.Meaning.{routine_at}
 use Rattle.items.specs.declared.item.Item as code
-use Rattle.code.specs.declared.fault.CodeFault.{CodeFault}
-use Rattle.code.specs.declared.fault.CodeFault.TheVariants as faults
 use Rattle.code.specs.Addresses.{Addresses}
 use Rattle.items.specs.Items.{Item}
 use Rattle.items.specs.Code.{item_of, items_of}
 use Rattle.code.specs.Bytes.{item_bytes, item_size, code_size, place_of, items_bytes, code_bytes}
-use Rattle.code.specs.Written.{CodeOf, starts_of, is_writable, Refuses}
-use Rattle.code.proofs.Lengths.{size_of}
+use Rattle.code.specs.Written.{CodeOf, starts_of}
+use Rattle.code.proofs.Places.{item_length}
 
 pub place_found : (is : List Item) (at n : ℕ) → slice_index_or (starts_of at is) n (at + code_size is) ≡ at + place_of is n
 place_found [] at zero = refl
@@ -36,7 +29,7 @@ from_item (y ∷ xs) (suc i) x h =
 
 module _ (a : Addresses) (places : ℕ → ℕ) where
   longer : (b b1 : List ℕ) (at : ℕ) (i : Item) → b1 ≡ b ++ item_bytes a places at i → length b1 ≡ length b + item_size i
-  longer b b1 at i e = ap length e ∙ length-append b (item_bytes a places at i) ∙ ap (λ k. length b + k) (size_of a places at i)
+  longer b b1 at i e = ap length e ∙ length-append b (item_bytes a places at i) ∙ ap (λ k. length b + k) (item_length a places at i)
 
   pub items_next : (b b1 : List ℕ) (xs : List code.Item) (i : ℕ) (x : code.Item) (start at : ℕ) → i < length xs → start ≤ length b → at ≡ length b - start → b1 ≡ b ++ item_bytes a places at (item_of (slice_index_or xs i x))
       → (start ≤ length b1) × (b1 ++ items_bytes a places (length b1 - start) (items_of (drop (i + 1) xs)) ≡ b ++ items_bytes a places (length b - start) (items_of (drop i xs)))
@@ -67,11 +60,6 @@ module _ (a : Addresses) (places : ℕ → ℕ) where
         ap (λ n. n + code_size rest) l ∙ omega (arith, ap code_size whole),
       )
 
--- a fault of an item is one of them all
-pub refused_at : (xs : List code.Item) (i : ℕ) (x : code.Item) (e : CodeFault) → i < length xs → Refuses e (is_writable (item_of (slice_index_or xs i x))) → Refuses e (list_all is_writable (items_of xs))
-refused_at xs i x faults.Memory lt h = tt
-refused_at xs i x faults.Item lt h = list_all-map is_writable item_of xs ∙ list_all_at (λ (y : code.Item). is_writable (item_of y)) xs i x lt h
-
 -- what is written of a routine
 pub code_written : (a : Addresses) (v : CodeOf) (xs ys : List code.Item) (locals size : ℕ) (pl s s1 b b1 z : List ℕ) → record { locals = locals; items = items_of xs } ≡ v → ys ≡ xs → pl ≡ starts_of 0 (items_of xs) → size ≡ code_size (items_of xs)
     → b ≡ (locals % 256) ∷ [] → b1 ≡ b ++ items_bytes a (λ n. slice_index_or pl n size) 0 (items_of ys) → z ≡ b1 → s1 ≡ s ++ z → s1 ≡ s ++ (v.locals % 256) ∷ code_bytes a v.items
@@ -83,9 +71,3 @@ code_written a v xs ys locals size pl s s1 b b1 z ev ey ep es eb e1 ez e =
     ∙ ap (λ (w : List code.Item). s ++ (locals % 256) ∷ items_bytes a (λ n. slice_index_or pl n size) 0 (items_of w)) ey
     ∙ ap (λ (g : ℕ → ℕ). s ++ (locals % 256) ∷ items_bytes a g 0 is) f
     ∙ ap (λ (w : CodeOf). s ++ (w.locals % 256) ∷ code_bytes a w.items) ev
-
--- the routine of a number
-pub routine_found : (rs : List CheckedRoutine) (r : ℕ) (x : CheckedRoutine) → r < length rs → x ≡ slice_index_or rs r x → routine_of x ≡ routine_at (map routine_of rs) r
-routine_found [] r x h e = absurd (omega arith)
-routine_found (y ∷ rs) zero x h e = ap routine_of e
-routine_found (y ∷ rs) (suc r) x h e = routine_found rs r x (omega arith) e

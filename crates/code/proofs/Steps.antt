@@ -15,9 +15,9 @@ use Rattle.zcore.specs.Parts as parts
 use Rattle.zcore.specs.Parts.{read_variable, write_variable, read_in_place, write_in_place, test_variable, test_pull, operand_value, operand_values, test_result, store_result, goes_on, test_target, go, take_branch, branch_on, is_code}
 use Rattle.zcore.specs.Step as machine
 use Rattle.zcore.specs.Step.{give_result, divide, modulo, load, increment, decrement, push_word, jump, perform, execute, step}
-use Rattle.zcore.specs.Text.{Holds}
 use Rattle.zcore.proofs.Encoding.{decode_bytes}
-use Rattle.zcore.proofs.Holding.{holds_append}
+use Rattle.zcore.proofs.Ahead.{decode_ahead}
+use Rattle.code.proofs.Behind.{Holds, holds_append}
 use Rattle.code.specs.Instructions.{plain, giving, branching, top, push, pull, copy, flag}
 use Rattle.code.proofs.Play.{Leads, stays, moves}
 use Rattle.code.proofs.Parts.{room_is, Around, machine as at_words, pushes, pops, tops, writes_top, can_pull_top, Reads, Writes}
@@ -47,7 +47,10 @@ others_held memory q i is h = (holds_append memory q (bytes_of i) (flat_map byte
 
 pub step_at : (here : Next) (s : State) (i : Instruction) → IsEncodable i → Holds s.memory here.program_counter (bytes_of i) → step here s ≡ execute here (Ok (i, here.program_counter + length (bytes_of i))) s
 unfolding step
-step_at here s i fits h = ap (λ r. execute here r s) (decode_bytes s.memory here.program_counter i fits h)
+step_at here s i fits h =
+    let above : nat_le 64 here.program_counter ≡ true = le-leb _ _ h.0 in
+    let within : nat_lt here.program_counter (length s.memory) ≡ true = lt-ltb _ _ (decode_ahead s.memory here.program_counter (i, here.program_counter + length (bytes_of i)) (decode_bytes s.memory here.program_counter i fits h.1)).1 in
+    rw (above, within) (ap (λ r. execute here r s) (decode_bytes s.memory here.program_counter i fits h.1))
 
 -- and where its operands have values, it does what its operation does with them
 pub step_is : (here : Next) (s t : State) (i : Instruction) (values : List ℕ) → IsEncodable i → Holds s.memory here.program_counter (bytes_of i) → operand_values i.operands s ≡ done values t

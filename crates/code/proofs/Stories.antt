@@ -14,7 +14,7 @@ use Rattle.zcore.specs.Step.{step, perform, give_result, divide, load, increment
 use Rattle.zcore.specs.Parts.{read_in_place, write_in_place, push, pop, read_local, write_local, read_global, write_global, read_variable, write_variable, test_variable, test_pull, operand_value, operand_values, test_result, store_result, test_target, spend, go, test_routine, test_calls, enter, call, test_return, leave, give_back, take_branch, branch_on, print}
 use Rattle.zcore.specs.Text.{decoded, abbreviation, encoded}
 use Rattle.zcore.specs.Reading.{reads}
-use Rattle.zcore.specs.Words.{packed, unpacked}
+use Rattle.zcore.specs.Words.{packed, unpacked_text}
 use Rattle.zcore.specs.Alphabets.{spelling_of}
 use Rattle.zcore.specs.Arithmetic.{quotient, decimal, signed_text}
 use Rattle.checker.specs.declared.resolved.Variable.TheVariants as variables
@@ -101,11 +101,11 @@ unfolding meaning signed_text decimal
 means = refl
 
 played : texts (plays story 1000 []) ≡ (codes "Hi" ++ 10 ∷ codes "42A321" ++ 10 ∷ codes "[Fault: division by zero]" ++ 10 ∷ []) ∷ []
-unfolding bytes_of encoded packed spelling_of opening turn_from weight step perform give_result divide load increment decrement push_word pull jump call_packed return_popped print_characters print_inline print_packed print_character text_at read_in_place write_in_place push pop read_local write_local read_global write_global read_variable write_variable test_variable test_pull operand_value operand_values test_result store_result test_target spend go test_routine test_calls enter call test_return leave give_back take_branch branch_on print decoded abbreviation reads unpacked decode opcode operands operand byte large result_variable branch signed_text decimal quotient
+unfolding bytes_of encoded packed spelling_of opening turn_from weight step perform give_result divide load increment decrement push_word pull jump call_packed return_popped print_characters print_inline print_packed print_character text_at read_in_place write_in_place push pop read_local write_local read_global write_global read_variable write_variable test_variable test_pull operand_value operand_values test_result store_result test_target spend go test_routine test_calls enter call test_return leave give_back take_branch branch_on print decoded abbreviation reads unpacked_text decode opcode operands operand byte large result_variable branch signed_text decimal quotient
 played = refl
 
 ends : last_place (plays story 1000 []) ≡ places.Quit
-unfolding bytes_of encoded packed spelling_of opening turn_from weight step perform give_result divide load increment decrement push_word pull jump call_packed return_popped print_characters print_inline print_packed print_character text_at read_in_place write_in_place push pop read_local write_local read_global write_global read_variable write_variable test_variable test_pull operand_value operand_values test_result store_result test_target spend go test_routine test_calls enter call test_return leave give_back take_branch branch_on print decoded abbreviation reads unpacked decode opcode operands operand byte large result_variable branch signed_text decimal quotient
+unfolding bytes_of encoded packed spelling_of opening turn_from weight step perform give_result divide load increment decrement push_word pull jump call_packed return_popped print_characters print_inline print_packed print_character text_at read_in_place write_in_place push pop read_local write_local read_global write_global read_variable write_variable test_variable test_pull operand_value operand_values test_result store_result test_target spend go test_routine test_calls enter call test_return leave give_back take_branch branch_on print decoded abbreviation reads unpacked_text decode opcode operands operand byte large result_variable branch signed_text decimal quotient
 ends = refl
 
 -- with 4 units the call of Main, that of the other routine and two rounds of the loop are paid, and no third
@@ -114,7 +114,7 @@ unfolding meaning signed_text decimal
 means_stopped = refl
 
 stopped : texts (plays story 4 []) ≡ (codes "Hi" ++ 10 ∷ codes "42A321" ++ 10 ∷ codes "[Limit: turn too long]" ++ 10 ∷ []) ∷ []
-unfolding bytes_of encoded packed spelling_of opening turn_from weight step perform give_result divide load increment decrement push_word pull jump call_packed return_popped print_characters print_inline print_packed print_character text_at read_in_place write_in_place push pop read_local write_local read_global write_global read_variable write_variable test_variable test_pull operand_value operand_values test_result store_result test_target spend go test_routine test_calls enter call test_return leave give_back take_branch branch_on print decoded abbreviation reads unpacked decode opcode operands operand byte large result_variable branch signed_text decimal quotient
+unfolding bytes_of encoded packed spelling_of opening turn_from weight step perform give_result divide load increment decrement push_word pull jump call_packed return_popped print_characters print_inline print_packed print_character text_at read_in_place write_in_place push pop read_local write_local read_global write_global read_variable write_variable test_variable test_pull operand_value operand_values test_result store_result test_target spend go test_routine test_calls enter call test_return leave give_back take_branch branch_on print decoded abbreviation reads unpacked_text decode opcode operands operand byte large result_variable branch signed_text decimal quotient
 stopped = refl
 
 -- [ Main; f(1); ];  [ f a; return f(a); ];
@@ -132,7 +132,7 @@ unfolding meaning
 means_endless = refl
 
 endless : texts (plays (story_of [] (routine_at calls_itself.routines 0) (routine_at calls_itself.routines 1)) 12 []) ≡ (10 ∷ codes "[Limit: turn too long]" ++ 10 ∷ []) ∷ []
-unfolding bytes_of encoded packed spelling_of opening turn_from weight step perform give_result divide load increment decrement push_word pull jump call_packed return_popped print_characters print_inline print_packed print_character text_at read_in_place write_in_place push pop read_local write_local read_global write_global read_variable write_variable test_variable test_pull operand_value operand_values test_result store_result test_target spend go test_routine test_calls enter call test_return leave give_back take_branch branch_on print decoded abbreviation reads unpacked decode opcode operands operand byte large result_variable branch signed_text decimal quotient
+unfolding bytes_of encoded packed spelling_of opening turn_from weight step perform give_result divide load increment decrement push_word pull jump call_packed return_popped print_characters print_inline print_packed print_character text_at read_in_place write_in_place push pop read_local write_local read_global write_global read_variable write_variable test_variable test_pull operand_value operand_values test_result store_result test_target spend go test_routine test_calls enter call test_return leave give_back take_branch branch_on print decoded abbreviation reads unpacked_text decode opcode operands operand byte large result_variable branch signed_text decimal quotient
 endless = refl
 
 -- [ Main; if (g == 3 or 9 && ~~0) print "yes~"; else print "no"; print -5, (char) 5; ];  with 9 in g
@@ -155,5 +155,5 @@ unfolding meaning signed_text decimal
 means_asked = refl
 
 asked : texts (plays (story_of (0 ∷ 9 ∷ []) asks sum_of_two) 100 []) ≡ (codes "yes" ++ 34 ∷ codes "-5" ++ 10 ∷ codes "[Fault: not a character]" ++ 10 ∷ []) ∷ []
-unfolding bytes_of encoded packed spelling_of opening turn_from weight step perform give_result divide load increment decrement push_word pull jump call_packed return_popped print_characters print_inline print_packed print_character text_at read_in_place write_in_place push pop read_local write_local read_global write_global read_variable write_variable test_variable test_pull operand_value operand_values test_result store_result test_target spend go test_routine test_calls enter call test_return leave give_back take_branch branch_on print decoded abbreviation reads unpacked decode opcode operands operand byte large result_variable branch signed_text decimal quotient
+unfolding bytes_of encoded packed spelling_of opening turn_from weight step perform give_result divide load increment decrement push_word pull jump call_packed return_popped print_characters print_inline print_packed print_character text_at read_in_place write_in_place push pop read_local write_local read_global write_global read_variable write_variable test_variable test_pull operand_value operand_values test_result store_result test_target spend go test_routine test_calls enter call test_return leave give_back take_branch branch_on print decoded abbreviation reads unpacked_text decode opcode operands operand byte large result_variable branch signed_text decimal quotient
 asked = refl

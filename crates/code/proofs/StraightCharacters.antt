@@ -11,8 +11,7 @@ use Rattle.zcore.specs.Instruction.{Instruction, bytes_of, IsEncodable}
 use Rattle.zcore.specs.State.{State, done}
 use Rattle.zcore.specs.Parts.{transcribed}
 use Rattle.zcore.specs.Step.{perform, step, equals_any, print_character}
-use Rattle.zcore.specs.Text.{Holds}
-use Rattle.zcore.proofs.Holding.{holds_append}
+use Rattle.code.proofs.Behind.{Holds, holds_append}
 use Rattle.checker.specs.World.{◌>>=◌, give, put}
 use Rattle.checker.specs.World as source
 use Rattle.checker.specs.Meaning.{is_character}

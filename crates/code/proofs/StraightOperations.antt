@@ -8,11 +8,11 @@ use Rattle.zcore.specs.declared.instruction.Operation.{Operation}
 use Rattle.zcore.specs.declared.instruction.Operation.TheVariants as operations
 use Rattle.zcore.specs.declared.next.Next.{Next}
 use Rattle.zcore.specs.Arithmetic.{quotient, remainder}
-use Rattle.zcore.specs.Instruction.{Instruction, bytes_of, least_operands, most_operands, has_result, has_branch, IsEncodable, FitsResult, FitsBranch}
+use Rattle.zcore.specs.Operations.{least_operands, most_operands, has_result, has_branch}
+use Rattle.zcore.specs.Instruction.{Instruction, bytes_of, IsEncodable, FitsResult, FitsBranch}
 use Rattle.zcore.specs.State.{State}
 use Rattle.zcore.specs.Step.{give_result, divide, modulo, perform}
-use Rattle.zcore.specs.Text.{Holds}
-use Rattle.zcore.proofs.Holding.{holds_append}
+use Rattle.code.proofs.Behind.{Holds, holds_append}
 use Rattle.expressions.specs.declared.tree.Binary.{Binary}
 use Rattle.expressions.specs.declared.tree.Binary.TheVariants as binaries
 use Rattle.expressions.specs.declared.tree.Prefix.{Prefix}

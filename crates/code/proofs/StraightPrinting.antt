@@ -12,8 +12,10 @@ use Rattle.zcore.specs.Instruction.{bytes_of, IsEncodable}
 use Rattle.zcore.specs.State.{done, halt, words}
 use Rattle.zcore.specs.Parts.{unpacked}
 use Rattle.zcore.specs.Step.{perform, step, text_at, print_inline, print_packed}
-use Rattle.zcore.specs.Text.{Holds, encoded}
+use Rattle.zcore.specs.Text.{encoded}
+use Rattle.zcore.specs.Text as machine_text
 use Rattle.zcore.proofs.Holding.{holds_append}
+use Rattle.code.proofs.Behind.{Holds}
 use Rattle.checker.specs.World.{World, Situation, Outcome, Comes, to, over, bound, Part, ◌>>=◌, give, put, shown}
 use Rattle.checker.specs.World as source
 use Rattle.items.specs.Items.{Item}
@@ -101,7 +103,7 @@ module _ (c : Running) where
       let fits : IsEncodable i = record { least = omega arith; most = omega arith; operands_fit = fits_none; result_fits = tt; branch_fits = tt } in
       let h = (holds_append m (here c) (178 ∷ []) (encoded line) stands.held).1 in
       let size : here c + 1 + length (encoded line) ≡ here c + item_size (items.print_text bytes) = omega arith in
-      let read = text_read bytes m (here c + 1) printable h (omega (arith, size, stands.next, address_low story a p accepted holds routine (place + 1) good.known)) in
+      let read = text_read bytes m (here c + 1) h (omega (arith, size, stands.next, address_low story a p accepted holds routine (place + 1) good.known)) in
       let made = step_is (point (here c) world.fuel) st st i [] fits (first_held m (here c) i [] (code_held c (items.print_text bytes) stands)) (no_operand st) in
       printed_led (items.print_text bytes) s s s m shown_bytes (here c) (here c + 1 + length (encoded line)) stands size (scratch_here c) (stays (point (here c) world.fuel) st)
       (λ e. made ∙ rw (read, prints (around c) m locals s world.text line shown_bytes (text_prints bytes printable) e) refl)
@@ -147,7 +149,7 @@ module _ (c : Running) where
       let same = unpacked_same m1 k scratch in
       let kept1 = scratch.kept ∙ kept c in
       let line_held = holds_on (static_base_of story) (unpacked story k) story m1 (encoded (fault_line words)) kept1 text.above text.bytes in
-      let read = line_read words m1 (unpacked m1 k) line (subst (λ x. Holds m1 x (encoded (fault_line words))) (sym same) line_held) (omega (arith, same, unpacked_low (nat_eq (slice_index story 0) 8) k small)) in
+      let read = line_read words m1 (unpacked m1 k) line (subst (λ x. machine_text.Holds m1 x (encoded (fault_line words))) (sym same) line_held) (omega (arith, same, unpacked_low (nat_eq (slice_index story 0) 8) k small)) in
       let fits : IsEncodable i = record { least = omega arith; most = omega arith; operands_fit = fits_one (Large k) small; result_fits = tt; branch_fits = tt } in
       let made = step_is (point q world.fuel) st st i (k ∷ []) fits (held_in c m1 (bytes_of i) q scratch from first) (one_operand st st (Large k) k (large_value st k)) in
       let h2 = held_in c m1 (bytes_of quit) (q + 3) scratch (omega (arith, from)) (first_held m (q + 3) quit [] (others_held m q i (quit ∷ []) h)) in

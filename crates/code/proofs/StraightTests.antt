@@ -9,11 +9,12 @@ use Rattle.zcore.specs.declared.instruction.Operation.{Operation}
 use Rattle.zcore.specs.declared.instruction.Operation.TheVariants as operations
 use Rattle.zcore.specs.declared.next.Next.{Next}
 use Rattle.zcore.specs.Arithmetic.{signed_less}
-use Rattle.zcore.specs.Instruction.{bytes_of, least_operands, most_operands, has_result, has_branch, IsEncodable, FitsOperand, FitsResult, FitsBranch}
+use Rattle.zcore.specs.Operations.{least_operands, most_operands, has_result, has_branch}
+use Rattle.zcore.specs.Instruction.{bytes_of, IsEncodable, FitsOperand, FitsResult, FitsBranch}
 use Rattle.zcore.specs.State.{State}
 use Rattle.zcore.specs.Parts.{branch_on}
 use Rattle.zcore.specs.Step.{perform, equals_any}
-use Rattle.zcore.specs.Text.{Holds}
+use Rattle.code.proofs.Behind.{Holds}
 use Rattle.expressions.specs.declared.tree.Comparison.{Comparison}
 use Rattle.expressions.specs.declared.tree.Comparison.TheVariants as comparisons
 use Rattle.expressions.specs.declared.tree.Equality.{Equality}

@@ -9,8 +9,9 @@ use Rattle.zcore.specs.Header.{static_base_of}
 use Rattle.zcore.specs.Instruction.{bytes_of}
 use Rattle.zcore.specs.State.{done, words}
 use Rattle.zcore.specs.Step.{step}
-use Rattle.zcore.specs.Text.{Holds}
 use Rattle.zcore.proofs.Holding.{holds_byte}
+use Rattle.code.proofs.Behind.{Holds}
+use Rattle.code.proofs.Behind as behind
 use Rattle.expressions.specs.declared.tree.Step.{Step}
 use Rattle.expressions.specs.declared.tree.Step.TheVariants as steps
 use Rattle.checker.specs.declared.resolved.Variable as source
@@ -24,7 +25,7 @@ use Rattle.items.specs.Stack as stack
 use Rattle.code.specs.Instructions.{number_of, constant, temporary, push, pull, copy, step_code}
 use Rattle.code.specs.Bytes.{item_size}
 use Rattle.code.proofs.Play.{Leads, moves}
-use Rattle.code.proofs.Memory.{with_variable, holds_on, stored_temporary}
+use Rattle.code.proofs.Memory.{with_variable, stored_temporary}
 use Rattle.code.proofs.Parts.{machine as at_words, global_writes}
 use Rattle.code.proofs.Steps.{point, one_step, first_held, others_held, pull_step, pull_below_step, copy_step, increment_step, decrement_step}
 use Rattle.code.proofs.Acts.{push_number_step, push_variable_step}
@@ -47,7 +48,7 @@ module _ (c : Running) where
   unfolding bytes_of
   number_by true n e h = omega (arith, ltb-true n 256 e)
   number_by false n e h =
-      let b0 = holds_byte m (here c) _ _ h in
+      let b0 = holds_byte m (here c) _ _ h.1 in
       let b1 = holds_byte m (here c + 1) _ _ b0.rest in
       let b2 = holds_byte m (here c + 1 + 1) _ _ b1.rest in
       let small = byte_small story a p accepted holds m (here c + 1 + 1) (kept c) (omega (arith, high c)) (omega (arith, b2.within, good.stored.size)) in
@@ -146,7 +147,7 @@ module _ (c : Running) where
       let all = code_held c (items.step_before op x) stands in
       let h = first_held m (here c) (step_code op x) (push (Variable (number_of x)) ∷ []) all in
       let h1 = subst (λ k. Holds m (here c + k) (flat_map bytes_of (push (Variable (number_of x)) ∷ []))) (step_size op x) (others_held m (here c) (step_code op x) (push (Variable (number_of x)) ∷ []) all) in
-      let h2 = holds_on (static_base_of story) (here c + 2) m m1 _ (held.kept w) (omega (arith, high c)) (first_held m (here c + 2) (push (Variable (number_of x))) [] h1) in
+      let h2 = behind.holds_on (static_base_of story) (here c + 2) m m1 _ (held.kept w) (omega (arith, high c)) (first_held m (here c + 2) (push (Variable (number_of x))) [] h1) in
       let fits : length l1 + length s + words (around c).others < 65536 = omega (arith, room_for s (omega (arith, short)), held.locals_same w) in
       arrives_writing (items.step_before op x) s (w ∷ s) x w (here c + 2 + 3) held stands (before_size op x)
       (moves (point (here c) world.fuel) (point (here c + 2) world.fuel) (point (here c + 2 + 3) world.fuel) (at_words (around c) m locals s world.text) (at_words (around c) m1 l1 s world.text) (at_words (around c) m1 l1 (w ∷ s) world.text)

@@ -2,6 +2,7 @@
 use Rattle.std.specs.Prelude.{◌+◌, ◌==◌, ℕ, zero, suc, if◌then◌else◌, List, [], ◌∷◌, ◌++◌, length, map}
 use Rattle.std.specs.List.{flat_map}
 use Rattle.zcore.specs.Instruction.{Instruction, bytes_of}
+use Rattle.zcore.specs.Alphabets.{is_printable}
 use Rattle.zcore.specs.Text.{encoded}
 use Rattle.items.specs.Items.{Item}
 use Rattle.items.specs.Items as items
@@ -11,12 +12,13 @@ use Rattle.code.specs.Instructions.{item_code}
 abbrev pub bytes_of_all : List Instruction → List ℕ
 bytes_of_all instructions = flat_map bytes_of instructions
 
--- a character between the quotes of a text: `^` is a new line, `~` a double quote
+-- a character between the quotes of a text: `^` is a new line, `~` a double quote, and what is not printable a question mark
 abbrev pub character_of : ℕ → ℕ
 character_of byte =
     if byte == 94 then 13
     else (if byte == 126 then 34
-    else byte)
+    else (if is_printable byte then byte
+    else 63))
 
 -- the text that follows an instruction `print`
 abbrev pub text_bytes : Item → List ℕ

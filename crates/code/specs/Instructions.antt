@@ -36,10 +36,10 @@ giving operation operands variable = record { operation = operation; operands = 
 abbrev pub branching : Operation → List Operand → Bool → ℕ → Instruction
 branching operation operands when offset = record { operation = operation; operands = operands; result = None; branch = Some (record { when = when; offset = offset }) }
 
--- the number of a variable of the source: locals from 1 on, globals from 16 on (4.2.2)
+-- the number of a variable of the source, one byte: locals from 1 on, globals from 16 on (4.2.2)
 abbrev pub number_of : source.Variable → ℕ
-number_of (variables.Local i) = 1 + i
-number_of (variables.Global g) = 16 + g
+number_of (variables.Local i) = (1 + i) % 256
+number_of (variables.Global g) = (16 + g) % 256
 
 -- the word on the top of the stack, which is taken
 abbrev pub top : Operand
@@ -164,8 +164,15 @@ arguments (suc n) = arguments n ++ Variable (temporary n) ∷ []
 abbrev pub call_operation : ℕ → Operation
 call_operation n = if nat_le n 3 then CallVs else CallVs2
 
+-- a call has at most seven arguments (section 15, `call_vs2`)
+abbrev pub argument_count : ℕ → ℕ
+argument_count n = if nat_le n 7 then n else 7
+
+abbrev pub call_with : Addresses → ℕ → ℕ → List Instruction
+call_with a r n = take_arguments n ++ giving (call_operation n) (Large (slice_index a.routines r) ∷ arguments n) 0 ∷ []
+
 abbrev pub call_code : Addresses → ℕ → ℕ → List Instruction
-call_code a r n = take_arguments n ++ giving (call_operation n) (Large (slice_index a.routines r) ∷ arguments n) 0 ∷ []
+call_code a r n = call_with a r (argument_count n)
 
 -- The instructions of an item that stands at a place of its routine's code, where items stand at these places
 abbrev pub item_code : Addresses → (ℕ → ℕ) → ℕ → Item → List Instruction

@@ -1,6 +1,6 @@
 -- The laws of code that functions of `laws` and `size_law` carry as their contracts.
-use Rattle.std.specs.Prelude.{◌≡◌, ◌≢◌, ◌+◌, ◌<◌, ◌≤◌, ℕ, true, List, length, map, None}
-use Rattle.std.specs.List.{All, list_all}
+use Rattle.std.specs.Prelude.{◌≡◌, ◌≢◌, ◌+◌, ◌≤◌, ℕ, List, map, None}
+use Rattle.std.specs.List.{All}
 use Rattle.lexer.specs.Token.{Lexeme}
 use Rattle.syntax.specs.Tree.{RoutineTree, ProgramTree}
 use Rattle.syntax.specs.Grammar.{IsProgram}
@@ -8,19 +8,16 @@ use Rattle.zcore.specs.declared.place.Fault.{Fault}
 use Rattle.zcore.specs.declared.place.Place.TheVariants as places
 use Rattle.zcore.specs.Turn.{Whole, plays, last_place}
 use Rattle.zcore.specs.declared.header.Version.{Version}
-use Rattle.checker.specs.declared.checked.Checked.{Checked}
 use Rattle.checker.specs.Names.{Table}
 use Rattle.checker.specs.Programs.{resolve_routine, routines_of, routine_trees, IsCheckedOf}
-use Rattle.checker.specs.Resolved.{RoutineOf, ProgramOf, program_of}
+use Rattle.checker.specs.Resolved.{RoutineOf, ProgramOf, CheckedProgram, program_of}
 use Rattle.checker.specs.Sizes.{greatest_weight, size_fault}
 use Rattle.checker.specs.Accepted.{IsAccepted}
 use Rattle.checker.specs.Printable.{HasPrintableTexts}
-use Rattle.checker.specs.Meaning.{routine_at, meaning}
-use Rattle.items.specs.Items.{routine_items}
+use Rattle.checker.specs.Meaning.{meaning}
 use Rattle.code.specs.Addresses.{Addresses}
 use Rattle.code.specs.Standing.{HoldsProgram}
 use Rattle.code.specs.Sizes.{routine_size, routines_size}
-use Rattle.code.specs.Written.{is_writable}
 
 -- the machine's turns on a story print what a program means, and end where it ends, which is no machine fault
 pub record Plays (story : List ℕ) (p : ProgramOf) (full : ℕ) (lines : List (List ℕ)) : Type 0 where
@@ -43,16 +40,11 @@ abbrev pub CodeIsShort : Type 0
 CodeIsShort = (tokens : List Lexeme) (p : ProgramTree) → IsProgram tokens p → (whole : Table) → IsShort p whole
 
 -- the code of a checked program is within the limits of a source's weight: 32,000 for a routine, and the version's for all
-pub record IsSmall (c : Checked) (version : Version) : Type 0 where
+pub record IsSmall (c : CheckedProgram) (version : Version) : Type 0 where
   pub each : All (λ (r : RoutineOf). routine_size r + 7 ≤ 32000) (program_of c).routines
   pub all : routines_size (program_of c).routines ≤ greatest_weight version
 
 -- so is that of each source that is not too large for a version
 abbrev pub SmallSourcesHaveSmallCode : Type 0
 SmallSourcesHaveSmallCode =
-    (tokens : List Lexeme) (p : ProgramTree) (c : Checked) (version : Version) → IsProgram tokens p → IsCheckedOf p c → size_fault c version ≡ None → IsSmall c version
-
--- each item of an accepted program whose texts are printable can be written
-abbrev pub ItemsAreWritable : Type 0
-ItemsAreWritable =
-    (p : ProgramOf) → IsAccepted p → HasPrintableTexts p → (r : ℕ) → r < length p.routines → list_all is_writable (routine_items (routine_at p.routines r)) ≡ true
+    (tokens : List Lexeme) (p : ProgramTree) (c : CheckedProgram) (version : Version) → IsProgram tokens p → IsCheckedOf p c → size_fault c version ≡ None → IsSmall c version

@@ -1,19 +1,15 @@
 -- What the values of the code stand for.
-use Rattle.std.specs.Prelude.{◌+◌, ◌≡◌, ℕ, nat_le, nat_lt, Bool, true, false, List, [], ◌∷◌, Option, Some, None, map, slice_index_or}
-use Rattle.std.specs.List.{list_all}
+use Rattle.std.specs.Prelude.{◌+◌, ℕ, List, [], ◌∷◌, Option, Some, None, slice_index_or}
 use Rattle.zcore.specs.declared.instruction.Branch.{Branch}
 use Rattle.zcore.specs.declared.instruction.Operand.{Operand}
-use Rattle.zcore.specs.Alphabets.{is_printable}
-use Rattle.zcore.specs.Instruction.{Instruction, Count, two, one, none, several}
+use Rattle.zcore.specs.declared.operations.OperandCount.{OperandCount}
+use Rattle.zcore.specs.declared.operations.OperandCount.TheVariants as operand_counts
+use Rattle.zcore.specs.Instruction.{Instruction}
 use Rattle.items.specs.Items.{Item}
-use Rattle.items.specs.Items as items
 use Rattle.code.specs.Addresses.{Addresses}
-use Rattle.code.specs.Instructions.{number_of}
-use Rattle.code.specs.Bytes.{character_of, item_size}
+use Rattle.code.specs.Bytes.{item_size}
 use Rattle.code.specs.declared.addresses.Addresses as located
 use Rattle.code.specs.declared.addresses.Layout.{Layout}
-use Rattle.code.specs.declared.fault.CodeFault.{CodeFault}
-use Rattle.code.specs.declared.fault.CodeFault.TheVariants as faults
 use Rattle.code.specs.declared.opcode.Count as source
 use Rattle.code.specs.declared.opcode.Count.TheVariants as counts
 use Rattle.code.specs.declared.instruction.Operands.{Operands}
@@ -24,11 +20,11 @@ use Rattle.code.specs.declared.instruction.Instruction as written
 -- Instructions
 
 -- by how many operands an opcode is numbered
-abbrev pub opcode_count : source.Count → Count
-opcode_count counts.Two = two
-opcode_count counts.One = one
-opcode_count counts.Zero = none
-opcode_count counts.Several = several
+abbrev pub opcode_count : source.Count → OperandCount
+opcode_count counts.Two = operand_counts.Two
+opcode_count counts.One = operand_counts.One
+opcode_count counts.Zero = operand_counts.Zero
+opcode_count counts.Several = operand_counts.Several
 
 abbrev pub operands_of : Operands → List Operand
 operands_of Zero = []
@@ -61,20 +57,3 @@ starts_of at (i ∷ is) = at ∷ starts_of (at + item_size i) is
 pub record CodeOf : Type 0 where
   pub locals : ℕ
   pub items : List Item
-
--- Faults
-
--- what it names fits an instruction, and its text is printable: so is each item of an accepted program
-abbrev pub is_writable : Item → Bool
-is_writable (items.push_variable x) = nat_lt (number_of x) 256
-is_writable (items.keep x) = nat_lt (number_of x) 256
-is_writable (items.step_before op x) = nat_lt (number_of x) 256
-is_writable (items.step_after x op) = nat_lt (number_of x) 256
-is_writable (items.print_text bytes) = list_all is_printable (map character_of bytes)
-is_writable (items.call r n) = nat_le n 7
-is_writable _ = true
-
--- a fault where something can be written, or cannot
-abbrev pub Refuses : CodeFault → Bool → Type 0
-Refuses faults.Memory writable = Unit {0}
-Refuses faults.Item writable = writable ≡ false

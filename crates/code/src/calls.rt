@@ -1,15 +1,14 @@
 //! Calls of routines.
 
-ghost use Rattle.std.specs.Prelude.{◌≡◌, ◌≤◌, ◌++◌, ◌∷◌, nat_le, IfErr, OnOk};
+ghost use Rattle.std.specs.Prelude.{◌≡◌, ◌≤◌, ◌++◌, ◌∷◌, OnOk};
 ghost use Rattle.zcore.specs.declared.instruction.Operand.TheVariants.{Large};
 ghost use Rattle.zcore.specs.Instruction.{bytes_of};
 ghost use Rattle.code.specs.Instructions.{call_code};
 ghost use Rattle.code.specs.Instructions as spec;
 ghost use Rattle.code.specs.Bytes.{bytes_of_all};
-ghost use Rattle.code.specs.Written.{Refuses, addresses_of};
+ghost use Rattle.code.specs.Written.{addresses_of};
 
 use crate::addresses::{Addresses, routine_address};
-use crate::fault::CodeFault;
 use crate::instruction::{FIRST, pull, put_all, put_instruction};
 use std::alloc::AllocError;
 use zcore::{Operand, Operation};
@@ -59,22 +58,25 @@ fn put_routine_call(bytes: &mut Vec<u8>, address: u16, count: u8) -> Result<(), 
     Ok(())
 }
 
-/// A call of the routine of a number, whose arguments are on the stack, the last on top. `Item` where there are more than
-/// seven.
+/// A call has at most seven arguments.
+fn argument_count(count: usize) -> u8
+    ensures count { result ≡ spec.argument_count count }
+    ensures few { result ≤ 7 }
+{
+    if count <= 7 { count as u8 } else { 7 }
+}
+
+/// A call of the routine of a number, whose arguments are on the stack, the last on top.
 #[tactic(auto, using(crate::proofs::Chains::one_joined))]
 pub fn put_call(
     bytes: &mut Vec<u8>,
     addresses: &Addresses<'_>,
     routine: usize,
     count: usize,
-) -> Result<(), CodeFault>
-    ensures bytes { OnOk result (bytes.new.items ≡ bytes.old.items ++ bytes_of_all (call_code (addresses_of addresses.now) routine count)) }
-    ensures fault { IfErr result (λ e. Refuses e (nat_le count 7)) }
+) -> Result<(), AllocError>
+    ensures { OnOk result (bytes.new.items ≡ bytes.old.items ++ bytes_of_all (call_code (addresses_of addresses.now) routine count)) }
 {
-    if count > 7 {
-        return Err(CodeFault::Item);
-    }
-    let count = count as u8;
+    let count = argument_count(count);
     take_arguments(bytes, count)?;
     put_routine_call(bytes, routine_address(addresses, routine), count)?;
     Ok(())

@@ -12,12 +12,6 @@ pub enum CodeFault {
     /// A growth of memory was refused.
     #[error("memory")]
     Memory,
-
-    /// An item that instructions cannot say: a variable whose number does not fit a byte, a call with more than seven
-    /// arguments, or a text with a character that is not printable. A program that breaks no rule of the language has
-    /// none.
-    #[error("item")]
-    Item,
 }
 
 impl From<AllocError> for CodeFault {

@@ -1,16 +1,15 @@
 //! The instructions of an item.
 
-ghost use Rattle.std.specs.Prelude.{◌≡◌, ◌++◌, [], ◌∷◌, false, IfErr, OnOk};
+ghost use Rattle.std.specs.Prelude.{◌≡◌, ◌++◌, [], ◌∷◌, false, OnOk};
 ghost use Rattle.zcore.specs.declared.instruction.Operation.TheVariants.{JumpIfZero, PrintNumber};
 ghost use Rattle.items.specs.Code.{item_of};
 ghost use Rattle.code.specs.Instructions.{top, flag};
 ghost use Rattle.code.specs.Instructions as spec;
 ghost use Rattle.code.specs.Bytes.{bytes_of_all, item_bytes};
-ghost use Rattle.code.specs.Written.{Refuses, is_writable, addresses_of, places_in};
+ghost use Rattle.code.specs.Written.{addresses_of, places_in};
 
 use crate::addresses::Layout;
 use crate::calls::put_call;
-use crate::fault::CodeFault;
 use crate::instruction::{FIRST, Operands, TOP, branching, plain, pull, put_all};
 use crate::jumps::{put_if_zero, put_jump};
 use crate::operators::{
@@ -53,7 +52,7 @@ fn put_print_number(bytes: &mut Vec<u8>) -> Result<(), AllocError>
     put_all(bytes, &[plain(Operation::PrintNumber, Operands::One(TOP))])
 }
 
-/// The bytes of an item that stands at a place of its routine's code. `Item` where no instructions can say it.
+/// The bytes of an item that stands at a place of its routine's code.
 #[tactic(auto, using(crate::proofs::Chains::no_text))]
 pub fn put_item(
     bytes: &mut Vec<u8>,
@@ -61,9 +60,8 @@ pub fn put_item(
     layout: &Layout<'_>,
     at: usize,
     item: Item<'_>,
-) -> Result<(), CodeFault>
-    ensures bytes { OnOk result (bytes.new.items ≡ bytes.old.items ++ item_bytes (addresses_of layout.now.addresses) (places_in layout.now) at (item_of item.entry)) }
-    ensures fault { IfErr result (λ e. Refuses e (is_writable (item_of item.entry))) }
+) -> Result<(), AllocError>
+    ensures { OnOk result (bytes.new.items ≡ bytes.old.items ++ item_bytes (addresses_of layout.now.addresses) (places_in layout.now) at (item_of item.entry)) }
 {
     match item {
         Item::PushNumber(number) => put_number(bytes, number)?,

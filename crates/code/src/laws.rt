@@ -1,6 +1,6 @@
 //! Laws of code. Each function carries a law as its contract, and calls those of the laws that it stands on.
 
-ghost use Rattle.code.specs.Laws.{CodePlays, ItemsAreWritable};
+ghost use Rattle.code.specs.Laws.{CodePlays};
 
 use items::{items_are_within, items_follow};
 
@@ -14,9 +14,3 @@ pub fn code_plays()
     items_follow();
     items_are_within();
 }
-
-/// Each item of an accepted program whose texts are printable can be written: `routine_code` and `put` then answer no
-/// fault but that memory is refused.
-pub fn items_are_writable()
-    ensures { ItemsAreWritable }
-{}

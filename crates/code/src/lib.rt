@@ -13,12 +13,10 @@ mod operators;
 mod printing;
 mod routine;
 mod size_law;
-#[cfg(test)]
-mod tests;
 mod words;
 
 pub use addresses::Addresses;
 pub use fault::CodeFault;
-pub use laws::{code_plays, items_are_writable};
+pub use laws::code_plays;
 pub use routine::{Code, routine_code};
 pub use size_law::{code_is_short, small_sources_have_small_code};

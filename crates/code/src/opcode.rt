@@ -2,7 +2,9 @@
 
 ghost use Rattle.std.specs.Prelude.{◌≡◌, ◌<◌, ◌≤◌, ◌+◌, ◌++◌, drop, slice_index, OnOk};
 ghost use Rattle.zcore.specs.Instruction as definitions;
-ghost use Rattle.zcore.specs.Instruction.{count_of, number_of, types_to_write, two_bytes, one_bytes, opcode_bytes, variable_bytes};
+ghost use Rattle.zcore.specs.Operations as table;
+ghost use Rattle.zcore.specs.Operations.{count_of, number_of};
+ghost use Rattle.zcore.specs.Instruction.{types_to_write, two_bytes, one_bytes, opcode_bytes, variable_bytes};
 ghost use Rattle.code.specs.Written.{opcode_count};
 
 use std::alloc::AllocError;
@@ -98,7 +100,7 @@ fn opcode_number(operation: Operation) -> u8
 
 /// Whether an operation has a second byte of operand types.
 fn has_more_types(operation: Operation) -> bool
-    ensures { result ≡ definitions.has_more_types operation }
+    ensures { result ≡ table.has_more_types operation }
 {
     match operation {
         Operation::CallVs2 | Operation::CallVn2 => true,
@@ -192,7 +194,7 @@ pub fn put_opcode(
     operation: Operation,
     operands: &[Operand],
 ) -> Result<(), AllocError>
-    ensures { OnOk result (bytes.new.items ≡ bytes.old.items ++ opcode_bytes (count_of operation) (number_of operation) (definitions.has_more_types operation) operands.now) }
+    ensures { OnOk result (bytes.new.items ≡ bytes.old.items ++ opcode_bytes (count_of operation) (number_of operation) (table.has_more_types operation) operands.now) }
 {
     let number = opcode_number(operation);
     match operand_count(operation) {

@@ -1,6 +1,6 @@
 //! What is printed.
 
-ghost use Rattle.std.specs.Prelude.{◌≡◌, ◌++◌, [], ◌∷◌, map, IfOk, IfErr, OnOk};
+ghost use Rattle.std.specs.Prelude.{◌≡◌, ◌++◌, [], ◌∷◌, true, map, IfOk, OnOk};
 ghost use Rattle.std.specs.List.{list_all};
 ghost use Rattle.zcore.specs.declared.instruction.Operation.TheVariants.{Print};
 ghost use Rattle.zcore.specs.Alphabets.{is_printable};
@@ -9,22 +9,23 @@ ghost use Rattle.code.specs.Instructions.{character_code};
 ghost use Rattle.code.specs.Instructions as spec;
 ghost use Rattle.code.specs.Bytes.{bytes_of_all};
 ghost use Rattle.code.specs.Bytes as definitions;
-ghost use Rattle.code.specs.Written.{Refuses, addresses_of};
+ghost use Rattle.code.specs.Written.{addresses_of};
 
 use crate::addresses::Addresses;
-use crate::fault::CodeFault;
 use crate::instruction::{FIRST, Operands, branching, plain, print_fault, pull, put_all, quit};
 use std::alloc::{AllocError, Global};
 use zcore::{Operand, Operation, TextFault, encode_text};
 
-/// A character between the quotes of a text: `^` is a new line, `~` a double quote.
+/// A character between the quotes of a text: `^` is a new line, `~` a double quote, and what is not printable a question
+/// mark.
 fn character_of(byte: u8) -> u8
     ensures { result ≡ definitions.character_of byte }
 {
     match byte {
         b'^' => 13,
         b'~' => 34,
-        _ => byte,
+        13 | 32..=126 => byte,
+        _ => b'?',
     }
 }
 
@@ -39,28 +40,27 @@ fn characters(alloc: Global, text: &[u8]) -> Result<Vec<u8>, AllocError>
     Ok(characters)
 }
 
-/// The Z-text of characters. `Item` where one is not printable.
-fn z_text(alloc: Global, characters: &[u8]) -> Result<Vec<u8>, CodeFault>
-    ensures text { IfOk result (λ v. v.items ≡ encoded characters.now) }
-    ensures fault { IfErr result (λ e. Refuses e (list_all is_printable characters.now)) }
+/// The Z-text of characters.
+fn z_text(alloc: Global, characters: &[u8]) -> Result<Vec<u8>, AllocError>
+    requires { list_all is_printable characters.now ≡ true }
+    ensures { IfOk result (λ v. v.items ≡ encoded characters.now) }
 {
     match encode_text(alloc, characters) {
         Ok(text) => Ok(text),
-        Err(TextFault::Character) => Err(CodeFault::Item),
-        Err(_) => Err(CodeFault::Memory),
+        Err(TextFault::Memory) => Err(AllocError),
+        Err(_) => unreachable!(),
     }
 }
 
-/// The text between quotes is printed. `Item` where a character of it is not printable.
-pub fn put_text(bytes: &mut Vec<u8>, alloc: Global, text: &[u8]) -> Result<(), CodeFault>
-    ensures bytes { OnOk result (bytes.new.items ≡ bytes.old.items ++ (bytes_of_all (spec.plain Print [] ∷ []) ++ encoded (map definitions.character_of text.now))) }
-    ensures fault { IfErr result (λ e. Refuses e (list_all is_printable (map definitions.character_of text.now))) }
+/// The text between quotes is printed.
+#[tactic(auto, using(crate::proofs::Texts::all_printable))]
+pub fn put_text(bytes: &mut Vec<u8>, alloc: Global, text: &[u8]) -> Result<(), AllocError>
+    ensures { OnOk result (bytes.new.items ≡ bytes.old.items ++ (bytes_of_all (spec.plain Print [] ∷ []) ++ encoded (map definitions.character_of text.now))) }
 {
     put_all(bytes, &[plain(Operation::Print, Operands::Zero)])?;
     let characters = characters(alloc, text)?;
     let text = z_text(alloc, &characters)?;
-    bytes.extend_from_slice(&text)?;
-    Ok(())
+    bytes.extend_from_slice(&text)
 }
 
 /// The topmost word is printed as a character, or the text of the fault that it is none, and the story ends.

@@ -1,13 +1,12 @@
 //! The code of a routine.
 
-ghost use Rattle.std.specs.Prelude.{◌≡◌, ◌<◌, ◌+◌, ◌++◌, length, IfOk, IfErr, OnOk};
-ghost use Rattle.std.specs.List.{list_all};
+ghost use Rattle.std.specs.Prelude.{◌≡◌, ◌<◌, ◌+◌, ◌++◌, length, IfOk, OnOk};
 ghost use Rattle.checker.specs.Meaning.{routine_at};
 ghost use Rattle.checker.specs.Resolved.{program_of};
 ghost use Rattle.items.specs.Code.{items_of};
 ghost use Rattle.items.specs.Items as definitions;
 ghost use Rattle.code.specs.Bytes.{code_size, items_bytes};
-ghost use Rattle.code.specs.Written.{Refuses, is_writable, starts_of, addresses_of, places_in};
+ghost use Rattle.code.specs.Written.{starts_of, addresses_of, places_in};
 
 use crate::addresses::{Addresses, Layout};
 use crate::fault::CodeFault;
@@ -50,9 +49,8 @@ fn put_items(
     alloc: Global,
     layout: &Layout<'_>,
     items: &[Item<'_>],
-) -> Result<(), CodeFault>
-    ensures bytes { OnOk result (bytes.new.items ≡ bytes.old.items ++ items_bytes (addresses_of layout.now.addresses) (places_in layout.now) 0 (items_of items.now)) }
-    ensures fault { IfErr result (λ e. Refuses e (list_all is_writable (items_of items.now))) }
+) -> Result<(), AllocError>
+    ensures { OnOk result (bytes.new.items ≡ bytes.old.items ++ items_bytes (addresses_of layout.now.addresses) (places_in layout.now) 0 (items_of items.now)) }
 {
     let start = bytes.len();
     for item in items {
@@ -64,10 +62,9 @@ fn put_items(
 
 /// Where each item begins, and how many bytes a routine has, with one for the number of its locals. The items are written
 /// once, with no addresses, and their bytes are thrown away: an item has as many bytes wherever all stands.
-fn measured(alloc: Global, items: &[Item<'_>]) -> Result<(Vec<usize>, usize), CodeFault>
+fn measured(alloc: Global, items: &[Item<'_>]) -> Result<(Vec<usize>, usize), AllocError>
     ensures places { IfOk result (λ m. m.0.items ≡ starts_of 0 (items_of items.now)) }
     ensures length { IfOk result (λ m. m.1 ≡ 1 + code_size (items_of items.now)) }
-    ensures fault { IfErr result (λ e. Refuses e (list_all is_writable (items_of items.now))) }
 {
     let layout = Layout {
         addresses: Addresses {
@@ -91,10 +88,9 @@ fn measured(alloc: Global, items: &[Item<'_>]) -> Result<(Vec<usize>, usize), Co
 }
 
 /// The code of items of a routine with so many locals.
-fn code_of<'a>(alloc: Global, locals: usize, items: Vec<Item<'a>>) -> Result<Code<'a>, CodeFault>
+fn code_of<'a>(alloc: Global, locals: usize, items: Vec<Item<'a>>) -> Result<Code<'a>, AllocError>
     ensures locals { IfOk result (λ c. c.locals ≡ locals) }
     ensures items { IfOk result (λ c. c.items ≡ items_of items.entry.items) }
-    ensures fault { IfErr result (λ e. Refuses e (list_all is_writable (items_of items.entry.items))) }
 {
     let (places, length) = measured(alloc, &items)?;
     Ok(Code {
@@ -106,29 +102,29 @@ fn code_of<'a>(alloc: Global, locals: usize, items: Vec<Item<'a>>) -> Result<Cod
     })
 }
 
-/// The code of the routine of a number, ready to be written. `Memory` where memory is refused; `Item` where an item cannot
-/// be written: an accepted program has none (`items_are_writable`).
-#[tactic(auto, using(crate::proofs::Starts::routine_found))]
+/// The code of the routine of a number, ready to be written.
+///
+/// # Errors
+///
+/// `Memory` where a growth of memory was refused.
 pub fn routine_code<'a>(
     alloc: Global,
     checked: &Checked<'a>,
     routine: usize,
 ) -> Result<Code<'a>, CodeFault>
-    requires { routine < length checked.now.routines.items }
+    requires { routine < length checked.now.routines }
     ensures locals { IfOk result (λ c. c.locals ≡ (routine_at (program_of checked.now).routines routine).locals) }
     ensures items { IfOk result (λ c. c.items ≡ definitions.routine_items (routine_at (program_of checked.now).routines routine)) }
-    ensures fault { IfErr result (λ e. Refuses e (list_all is_writable (definitions.routine_items (routine_at (program_of checked.now).routines routine)))) }
 {
-    let source = &checked.routines[routine];
+    let source = checked.routine(routine);
     let items = routine_items(alloc, source)?;
-    code_of(alloc, source.locals, items)
+    Ok(code_of(alloc, source.locals, items)?)
 }
 
 impl Code<'_> {
-    ghost use Rattle.std.specs.Prelude.{◌≡◌, ◌+◌, ◌%◌, ◌∷◌, ◌++◌, OnOk, OnErr, IfErr};
-    ghost use Rattle.std.specs.List.{list_all};
+    ghost use Rattle.std.specs.Prelude.{◌≡◌, ◌+◌, ◌%◌, ◌∷◌, ◌++◌, OnOk, OnErr};
     ghost use Rattle.code.specs.Bytes.{code_size, code_bytes};
-    ghost use Rattle.code.specs.Written.{Refuses, is_writable, addresses_of};
+    ghost use Rattle.code.specs.Written.{addresses_of};
 
     /// How many bytes `put` writes: one for the number of locals, and those of the items.
     pub fn length(&self) -> usize
@@ -138,12 +134,14 @@ impl Code<'_> {
     }
 
     /// Writes the routine behind what is written of a story: how many locals it has, and its code (Z-Machine Standards
-    /// Document 1.1, section 5.2), in as many bytes as its length. `Memory` where memory is refused: then nothing is
-    /// written. `Item` where an item cannot be written, which `routine_code` has tested.
+    /// Document 1.1, section 5.2), in as many bytes as its length.
+    ///
+    /// # Errors
+    ///
+    /// `Memory` where a growth of memory was refused: then nothing is written.
     pub fn put(&self, addresses: &Addresses<'_>, story: &mut Vec<u8>) -> Result<(), CodeFault>
         ensures written { OnOk result (story.new.items ≡ story.old.items ++ (self.now.locals % 256) ∷ code_bytes (addresses_of addresses.now) self.now.items) }
         ensures kept { OnErr result (story.new.items ≡ story.old.items) }
-        ensures fault { IfErr result (λ e. Refuses e (list_all is_writable self.now.items)) }
     {
         let layout = Layout {
             addresses: *addresses,

@@ -1,13 +1,11 @@
 //! Words that are pushed, kept and stepped.
 
-ghost use Rattle.std.specs.Prelude.{◌≡◌, ◌++◌, [], ◌∷◌, nat_lt, IfOk, IfErr, OnOk};
+ghost use Rattle.std.specs.Prelude.{◌≡◌, ◌++◌, [], ◌∷◌, OnOk};
 ghost use Rattle.code.specs.Instructions.{number_of, step_code, step_operation};
 ghost use Rattle.code.specs.Instructions as spec;
 ghost use Rattle.code.specs.Bytes.{bytes_of_all};
-ghost use Rattle.code.specs.Written.{Refuses};
 ghost use Rattle.zcore.specs.declared.instruction.Operand.TheVariants as forms;
 
-use crate::fault::CodeFault;
 use crate::instruction::{Operands, copy, plain, push, put_all};
 use checker::Variable;
 use expressions::Step;
@@ -25,27 +23,14 @@ fn constant(number: u16) -> Operand
     }
 }
 
-/// The number of a variable in instructions: locals from 1 on, globals from 16 on (Z-Machine Standards Document 1.1,
-/// section 4.2.2). `Item` where it does not fit a byte.
-fn variable_number(variable: Variable) -> Result<u8, CodeFault>
-    ensures number { IfOk result (λ n. n ≡ number_of variable) }
-    ensures fault { IfErr result (λ e. Refuses e (nat_lt (number_of variable) 256)) }
+/// The number of a variable in instructions, one byte: locals from 1 on, globals from 16 on (Z-Machine Standards Document
+/// 1.1, section 4.2.2).
+fn variable_number(variable: Variable) -> u8
+    ensures { result ≡ number_of variable }
 {
     match variable {
-        Variable::Local(index) => {
-            if index < 255 {
-                Ok(1 + index as u8)
-            } else {
-                Err(CodeFault::Item)
-            }
-        }
-        Variable::Global(index) => {
-            if index < 240 {
-                Ok(16 + index as u8)
-            } else {
-                Err(CodeFault::Item)
-            }
-        }
+        Variable::Local(index) => ((1 + index as u128) % 256) as u8,
+        Variable::Global(index) => ((16 + index as u128) % 256) as u8,
     }
 }
 
@@ -57,23 +42,19 @@ pub fn put_number(bytes: &mut Vec<u8>, number: u16) -> Result<(), AllocError>
 }
 
 /// The word in a variable is pushed.
-pub fn put_variable(bytes: &mut Vec<u8>, variable: Variable) -> Result<(), CodeFault>
-    ensures bytes { OnOk result (bytes.new.items ≡ bytes.old.items ++ bytes_of_all (spec.push (forms.Variable (number_of variable)) ∷ [])) }
-    ensures fault { IfErr result (λ e. Refuses e (nat_lt (number_of variable) 256)) }
+pub fn put_variable(bytes: &mut Vec<u8>, variable: Variable) -> Result<(), AllocError>
+    ensures { OnOk result (bytes.new.items ≡ bytes.old.items ++ bytes_of_all (spec.push (forms.Variable (number_of variable)) ∷ [])) }
 {
-    let number = variable_number(variable)?;
-    put_all(bytes, &[push(Operand::Variable(number))])?;
-    Ok(())
+    let number = variable_number(variable);
+    put_all(bytes, &[push(Operand::Variable(number))])
 }
 
 /// The topmost word goes to a variable, and stays.
-pub fn put_keep(bytes: &mut Vec<u8>, variable: Variable) -> Result<(), CodeFault>
-    ensures bytes { OnOk result (bytes.new.items ≡ bytes.old.items ++ bytes_of_all (spec.copy (number_of variable) ∷ [])) }
-    ensures fault { IfErr result (λ e. Refuses e (nat_lt (number_of variable) 256)) }
+pub fn put_keep(bytes: &mut Vec<u8>, variable: Variable) -> Result<(), AllocError>
+    ensures { OnOk result (bytes.new.items ≡ bytes.old.items ++ bytes_of_all (spec.copy (number_of variable) ∷ [])) }
 {
-    let number = variable_number(variable)?;
-    put_all(bytes, &[copy(number)])?;
-    Ok(())
+    let number = variable_number(variable);
+    put_all(bytes, &[copy(number)])
 }
 
 /// The instruction that steps a variable.
@@ -87,23 +68,23 @@ fn operation_of(step: Step) -> Operation
 }
 
 /// A variable is stepped, and its new word is pushed.
-pub fn put_step_before(bytes: &mut Vec<u8>, step: Step, variable: Variable) -> Result<(), CodeFault>
-    ensures bytes { OnOk result (bytes.new.items ≡ bytes.old.items ++ bytes_of_all (step_code step variable ∷ spec.push (forms.Variable (number_of variable)) ∷ [])) }
-    ensures fault { IfErr result (λ e. Refuses e (nat_lt (number_of variable) 256)) }
+pub fn put_step_before(
+    bytes: &mut Vec<u8>,
+    step: Step,
+    variable: Variable,
+) -> Result<(), AllocError>
+    ensures { OnOk result (bytes.new.items ≡ bytes.old.items ++ bytes_of_all (step_code step variable ∷ spec.push (forms.Variable (number_of variable)) ∷ [])) }
 {
-    let number = variable_number(variable)?;
+    let number = variable_number(variable);
     let stepped = plain(operation_of(step), Operands::One(Operand::Small(number)));
-    put_all(bytes, &[stepped, push(Operand::Variable(number))])?;
-    Ok(())
+    put_all(bytes, &[stepped, push(Operand::Variable(number))])
 }
 
 /// A variable is stepped, and its old word is pushed.
-pub fn put_step_after(bytes: &mut Vec<u8>, variable: Variable, step: Step) -> Result<(), CodeFault>
-    ensures bytes { OnOk result (bytes.new.items ≡ bytes.old.items ++ bytes_of_all (spec.push (forms.Variable (number_of variable)) ∷ step_code step variable ∷ [])) }
-    ensures fault { IfErr result (λ e. Refuses e (nat_lt (number_of variable) 256)) }
+pub fn put_step_after(bytes: &mut Vec<u8>, variable: Variable, step: Step) -> Result<(), AllocError>
+    ensures { OnOk result (bytes.new.items ≡ bytes.old.items ++ bytes_of_all (spec.push (forms.Variable (number_of variable)) ∷ step_code step variable ∷ [])) }
 {
-    let number = variable_number(variable)?;
+    let number = variable_number(variable);
     let stepped = plain(operation_of(step), Operands::One(Operand::Small(number)));
-    put_all(bytes, &[push(Operand::Variable(number)), stepped])?;
-    Ok(())
+    put_all(bytes, &[push(Operand::Variable(number)), stepped])
 }

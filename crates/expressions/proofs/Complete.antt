@@ -73,11 +73,11 @@ module _ (ts : List Lexeme) (d : ℕ) where
 
   step_u_plain : {n : ℕ} {e : ExpressionTree} {r : List Lexeme} → is_sign s.Minus (head ts) ≡ false → stepping (head ts) ≡ None → Limited (primary (nested d) ts) d n e r → Stops 6 r → Limited (unary (nested d) ts) d n e r
   unfolding unary stepped
-  step_u_plain {r = r} h o a st = same {S = primary (nested d) ts >>= λ x. step_on (nested d) x.0 x.1 (stepping (head x.1))} (rw (h, o) refl) (then _ a (rw (stepping_stops (head r) st) refl))
+  step_u_plain {r = r} h o a st = same {S = primary (nested d) ts >>= λ x. step_on x.0 x.1 (stepping (head x.1))} (rw (h, o) refl) (then _ a (rw (stepping_stops (head r) st) refl))
 
   step_u_after : {n : ℕ} {e : ExpressionTree} {t : Lexeme} {op : Step} {r : List Lexeme} → is_sign s.Minus (head ts) ≡ false → stepping (head ts) ≡ None → Limited (primary (nested d) ts) d n e (t ∷ r) → stepping t ≡ Some op → Limited (unary (nested d) ts) d n (step_after e op (position_of t)) r
   unfolding unary stepped
-  step_u_after h o a p = same {S = primary (nested d) ts >>= λ x. step_on (nested d) x.0 x.1 (stepping (head x.1))} (rw (h, o) refl) (then _ a (rw p refl))
+  step_u_after h o a p = same {S = primary (nested d) ts >>= λ x. step_on x.0 x.1 (stepping (head x.1))} (rw (h, o) refl) (then _ a (rw p refl))
 
 module _ (d : ℕ) (m : List Lexeme) where
   step_n1_not : {n : ℕ} (p : Position) {e : ExpressionTree} {r : List Lexeme} → Limited (nested d negation m) d n e r → Limited (negated (nested d) (sign s.Not p ∷ m)) d n (prefixed op.Not e) r

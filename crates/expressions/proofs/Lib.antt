@@ -1,8 +1,9 @@
 pub mod Judged
 pub mod Tokens
 pub mod Chain
-pub mod Exits
+pub mod GoesOn
 pub mod Nested
+pub mod Cases
 pub mod Limited
 pub mod Repeated
 pub mod Sound

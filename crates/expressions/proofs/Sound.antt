@@ -71,11 +71,11 @@ module _ (d : ℕ) (inner : Inner d) where
   unfolding stepped
   stepped_judged ts = judged_then _ (primary_judged ts) (λ a r h. go a r h.0 h.1) (λ h. deep_u_plain h)
     where
-      go2 : (a : ExpressionTree) (t : Lexeme) (m : List Lexeme) → IsP ts a (t ∷ m) → nesting a ≤ d → (o : Option Step) → stepping t ≡ o → Judged (λ e r. IsU ts e r × (nesting e ≤ d)) (DeepU (suc d) ts) (step_on (nested d) a (t ∷ m) o)
+      go2 : (a : ExpressionTree) (t : Lexeme) (m : List Lexeme) → IsP ts a (t ∷ m) → nesting a ≤ d → (o : Option Step) → stepping t ≡ o → Judged (λ e r. IsU ts e r × (nesting e ≤ d)) (DeepU (suc d) ts) (step_on a (t ∷ m) o)
       go2 a t m h b None o = judged_read a (t ∷ m) (u_plain h, b)
       go2 a t m h b (Some op) o = judged_read (step_after a op (position_of t)) m (u_after h o, b)
 
-      go : (a : ExpressionTree) (r : List Lexeme) → IsP ts a r → nesting a ≤ d → Judged (λ e u. IsU ts e u × (nesting e ≤ d)) (DeepU (suc d) ts) (step_on (nested d) a r (stepping (head r)))
+      go : (a : ExpressionTree) (r : List Lexeme) → IsP ts a r → nesting a ≤ d → Judged (λ e u. IsU ts e u × (nesting e ≤ d)) (DeepU (suc d) ts) (step_on a r (stepping (head r)))
       go a [] h b = judged_read a [] (u_plain h, b)
       go a (t ∷ m) h b = go2 a t m h b (stepping t) refl
 

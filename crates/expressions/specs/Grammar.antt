@@ -17,50 +17,62 @@ mutual
   -- E = E1 ["=" E]
   pub data IsE : List Lexeme → ExpressionTree → List Lexeme → Type 0 where
     e_plain : {ts r : List Lexeme} {e : ExpressionTree} → IsE1 ts e r → IsE ts e r
-    e_assign : {ts m r : List Lexeme} {p : Position} {a b : ExpressionTree} → IsE1 ts a (sign s.Assign p ∷ m) → IsE m b r → IsE ts (assign a p b) r
+    e_assign : {ts m r : List Lexeme} {p : Position} {a b : ExpressionTree} → IsE1 ts a (sign s.Assign p ∷ m)
+        → IsE m b r → IsE ts (assign a p b) r
 
   -- E1 = E1 ("&&" | "||") N1 | N1
   pub data IsE1 : List Lexeme → ExpressionTree → List Lexeme → Type 0 where
     e1_plain : {ts r : List Lexeme} {e : ExpressionTree} → IsN1 ts e r → IsE1 ts e r
-    e1_logical : {ts m r : List Lexeme} {t : Lexeme} {op : Binary} {a b : ExpressionTree} → IsE1 ts a (t ∷ m) → logical t ≡ Some op → IsN1 m b r → IsE1 ts (binary op a b) r
+    e1_logical : {ts m r : List Lexeme} {t : Lexeme} {op : Binary} {a b : ExpressionTree} → IsE1 ts a (t ∷ m)
+        → logical t ≡ Some op → IsN1 m b r → IsE1 ts (binary op a b) r
 
   -- N1 = "~~" N1 | E2
   pub data IsN1 : List Lexeme → ExpressionTree → List Lexeme → Type 0 where
     n1_plain : {ts r : List Lexeme} {e : ExpressionTree} → IsE2 ts e r → IsN1 ts e r
-    n1_not : {m r : List Lexeme} {p : Position} {e : ExpressionTree} → IsN1 m e r → IsN1 (sign s.Not p ∷ m) (prefixed prefix.Not e) r
+    n1_not : {m r : List Lexeme} {p : Position} {e : ExpressionTree} → IsN1 m e r
+        → IsN1 (sign s.Not p ∷ m) (prefixed prefix.Not e) r
 
   -- E2 = E3 | E3 ("<" | ">" | "<=" | ">=") E3 | E3 ("==" | "~=") E3 {"or" E3}
   pub data IsE2 : List Lexeme → ExpressionTree → List Lexeme → Type 0 where
     e2_plain : {ts r : List Lexeme} {e : ExpressionTree} → IsE3 ts e r → IsE2 ts e r
-    e2_compare : {ts m r : List Lexeme} {t : Lexeme} {op : Comparison} {a b : ExpressionTree} → IsE3 ts a (t ∷ m) → comparing t ≡ Some op → IsE3 m b r → IsE2 ts (compare op a b) r
-    e2_equal : {ts m r : List Lexeme} {t : Lexeme} {op : Equality} {a : ExpressionTree} {bs : ExpressionTrees} → IsE3 ts a (t ∷ m) → equating t ≡ Some op → IsChoice m bs r → IsE2 ts (equal op a bs) r
+    e2_compare : {ts m r : List Lexeme} {t : Lexeme} {op : Comparison} {a b : ExpressionTree} → IsE3 ts a (t ∷ m)
+        → comparing t ≡ Some op → IsE3 m b r → IsE2 ts (compare op a b) r
+    e2_equal : {ts m r : List Lexeme} {t : Lexeme} {op : Equality} {a : ExpressionTree} {bs : ExpressionTrees}
+        → IsE3 ts a (t ∷ m) → equating t ≡ Some op → IsChoice m bs r → IsE2 ts (equal op a bs) r
 
   -- E3 {"or" E3}
   pub data IsChoice : List Lexeme → ExpressionTrees → List Lexeme → Type 0 where
     choice_last : {ts r : List Lexeme} {e : ExpressionTree} → IsE3 ts e r → IsChoice ts (more e none) r
-    choice_or : {ts m r : List Lexeme} {p : Position} {e : ExpressionTree} {es : ExpressionTrees} → IsE3 ts e (reserved w.Or p ∷ m) → IsChoice m es r → IsChoice ts (more e es) r
+    choice_or : {ts m r : List Lexeme} {p : Position} {e : ExpressionTree} {es : ExpressionTrees}
+        → IsE3 ts e (reserved w.Or p ∷ m) → IsChoice m es r → IsChoice ts (more e es) r
 
   -- E3 = E3 ("+" | "-") E4 | E4
   pub data IsE3 : List Lexeme → ExpressionTree → List Lexeme → Type 0 where
     e3_plain : {ts r : List Lexeme} {e : ExpressionTree} → IsE4 ts e r → IsE3 ts e r
-    e3_add : {ts m r : List Lexeme} {t : Lexeme} {op : Binary} {a b : ExpressionTree} → IsE3 ts a (t ∷ m) → adding t ≡ Some op → IsE4 m b r → IsE3 ts (binary op a b) r
+    e3_add : {ts m r : List Lexeme} {t : Lexeme} {op : Binary} {a b : ExpressionTree} → IsE3 ts a (t ∷ m)
+        → adding t ≡ Some op → IsE4 m b r → IsE3 ts (binary op a b) r
 
   -- E4 = E4 ("*" | "/" | "%" | "&" | "|") N4 | N4
   pub data IsE4 : List Lexeme → ExpressionTree → List Lexeme → Type 0 where
     e4_plain : {ts r : List Lexeme} {e : ExpressionTree} → IsN4 ts e r → IsE4 ts e r
-    e4_scale : {ts m r : List Lexeme} {t : Lexeme} {op : Binary} {a b : ExpressionTree} → IsE4 ts a (t ∷ m) → scaling t ≡ Some op → IsN4 m b r → IsE4 ts (binary op a b) r
+    e4_scale : {ts m r : List Lexeme} {t : Lexeme} {op : Binary} {a b : ExpressionTree} → IsE4 ts a (t ∷ m)
+        → scaling t ≡ Some op → IsN4 m b r → IsE4 ts (binary op a b) r
 
   -- N4 = "~" N4 | U
   pub data IsN4 : List Lexeme → ExpressionTree → List Lexeme → Type 0 where
     n4_plain : {ts r : List Lexeme} {e : ExpressionTree} → IsU ts e r → IsN4 ts e r
-    n4_complement : {m r : List Lexeme} {p : Position} {e : ExpressionTree} → IsN4 m e r → IsN4 (sign s.Tilde p ∷ m) (prefixed prefix.Complement e) r
+    n4_complement : {m r : List Lexeme} {p : Position} {e : ExpressionTree} → IsN4 m e r
+        → IsN4 (sign s.Tilde p ∷ m) (prefixed prefix.Complement e) r
 
   -- U = "-" U | ("++" | "--") P | P ["++" | "--"]
   pub data IsU : List Lexeme → ExpressionTree → List Lexeme → Type 0 where
     u_plain : {ts r : List Lexeme} {e : ExpressionTree} → IsP ts e r → IsU ts e r
-    u_minus : {m r : List Lexeme} {p : Position} {e : ExpressionTree} → IsU m e r → IsU (sign s.Minus p ∷ m) (prefixed prefix.Minus e) r
-    u_before : {m r : List Lexeme} {t : Lexeme} {op : Step} {e : ExpressionTree} → stepping t ≡ Some op → IsP m e r → IsU (t ∷ m) (step_before op (position_of t) e) r
-    u_after : {ts r : List Lexeme} {t : Lexeme} {op : Step} {e : ExpressionTree} → IsP ts e (t ∷ r) → stepping t ≡ Some op → IsU ts (step_after e op (position_of t)) r
+    u_minus : {m r : List Lexeme} {p : Position} {e : ExpressionTree} → IsU m e r
+        → IsU (sign s.Minus p ∷ m) (prefixed prefix.Minus e) r
+    u_before : {m r : List Lexeme} {t : Lexeme} {op : Step} {e : ExpressionTree} → stepping t ≡ Some op → IsP m e r
+        → IsU (t ∷ m) (step_before op (position_of t) e) r
+    u_after : {ts r : List Lexeme} {t : Lexeme} {op : Step} {e : ExpressionTree} → IsP ts e (t ∷ r)
+        → stepping t ≡ Some op → IsU ts (step_after e op (position_of t)) r
 
   -- P = number | char | name | "true" | "false" | "nothing" | name "(" [E {"," E}] ")" | "(" E ")"
   pub data IsP : List Lexeme → ExpressionTree → List Lexeme → Type 0 where
@@ -69,15 +81,21 @@ mutual
     p_true : {r : List Lexeme} {p : Position} → IsP (reserved w.True p ∷ r) (constant 1) r
     p_false : {r : List Lexeme} {p : Position} → IsP (reserved w.False p ∷ r) (constant 0) r
     p_nothing : {r : List Lexeme} {p : Position} → IsP (reserved w.Nothing p ∷ r) (constant 0) r
-    p_name : {r : List Lexeme} {p : Position} {n : List ℕ} → IsP (name n p ∷ r) (named (record { text = n; position = p })) r
-    p_call : {r : List Lexeme} {p q o : Position} {n : List ℕ} → IsP (name n p ∷ sign s.OpenParenthesis q ∷ sign s.CloseParenthesis o ∷ r) (call (record { text = n; position = p }) none) r
-    p_call_with : {m r : List Lexeme} {p q o : Position} {n : List ℕ} {es : ExpressionTrees} → IsArguments m es (sign s.CloseParenthesis o ∷ r) → IsP (name n p ∷ sign s.OpenParenthesis q ∷ m) (call (record { text = n; position = p }) es) r
-    p_parenthesised : {m r : List Lexeme} {p o : Position} {e : ExpressionTree} → IsE m e (sign s.CloseParenthesis o ∷ r) → IsP (sign s.OpenParenthesis p ∷ m) (parenthesised e) r
+    p_name : {r : List Lexeme} {p : Position} {n : List ℕ}
+        → IsP (name n p ∷ r) (named (record { text = n; position = p })) r
+    p_call : {r : List Lexeme} {p q o : Position} {n : List ℕ}
+        → IsP (name n p ∷ sign s.OpenParenthesis q ∷ sign s.CloseParenthesis o ∷ r) (call (record { text = n; position = p }) none) r
+    p_call_with : {m r : List Lexeme} {p q o : Position} {n : List ℕ} {es : ExpressionTrees}
+        → IsArguments m es (sign s.CloseParenthesis o ∷ r)
+        → IsP (name n p ∷ sign s.OpenParenthesis q ∷ m) (call (record { text = n; position = p }) es) r
+    p_parenthesised : {m r : List Lexeme} {p o : Position} {e : ExpressionTree}
+        → IsE m e (sign s.CloseParenthesis o ∷ r) → IsP (sign s.OpenParenthesis p ∷ m) (parenthesised e) r
 
   -- E {"," E}
   pub data IsArguments : List Lexeme → ExpressionTrees → List Lexeme → Type 0 where
     arguments_last : {ts r : List Lexeme} {e : ExpressionTree} → IsE ts e r → IsArguments ts (more e none) r
-    arguments_comma : {ts m r : List Lexeme} {p : Position} {e : ExpressionTree} {es : ExpressionTrees} → IsE ts e (sign s.Comma p ∷ m) → IsArguments m es r → IsArguments ts (more e es) r
+    arguments_comma : {ts m r : List Lexeme} {p : Position} {e : ExpressionTree} {es : ExpressionTrees}
+        → IsE ts e (sign s.Comma p ∷ m) → IsArguments m es r → IsArguments ts (more e es) r
 
 -- How deep a tree is nested: a parenthesis, also that of a call, and an operator before its operand count from their own
 -- token on, the right side of an assignment from its first token on.

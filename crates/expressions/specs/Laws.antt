@@ -35,7 +35,9 @@ goes_on _ = false
 
 -- what is read derives, and is nested no deeper than was allowed
 abbrev pub ReadsWhatDerives : Type 0
-ReadsWhatDerives = (d : ℕ) (ts r : List Lexeme) (e : ExpressionTree) → expression (nested d) ts ≡ Ok (e, r) → IsE ts e r × (nesting e ≤ d)
+ReadsWhatDerives =
+    (d : ℕ) (ts r : List Lexeme) (e : ExpressionTree) → expression (nested d) ts ≡ Ok (e, r)
+    → IsE ts e r × (nesting e ≤ d)
 
 -- what derives, up to a token that does not go on with it, is read; or the fault is that it is nested too deep, which it is
 abbrev pub DerivesWhatIsRead : Type 0
@@ -48,4 +50,6 @@ DeepWhereDeep = (d : ℕ) (ts : List Lexeme) → expression (nested d) ts ≡ Er
 
 -- tokens have one tree
 abbrev pub OneTree : Type 0
-OneTree = (ts r u : List Lexeme) (a b : ExpressionTree) → IsE ts a r → IsE ts b u → goes_on (head r) ≡ false → goes_on (head u) ≡ false → (a ≡ b) × (r ≡ u)
+OneTree =
+    (ts r u : List Lexeme) (a b : ExpressionTree) → IsE ts a r → IsE ts b u → goes_on (head r) ≡ false
+    → goes_on (head u) ≡ false → (a ≡ b) × (r ≡ u)

@@ -37,13 +37,16 @@ mutual
   -- E = E1 ["=" E]
   pub data DeepE : ℕ → List Lexeme → Type 0 where
     deep_e_left : {n : ℕ} {ts : List Lexeme} → DeepE1 n ts → DeepE n ts
-    deep_e_first : {ts m : List Lexeme} {p : Position} {t : Lexeme} {a : ExpressionTree} → IsE1 ts a (sign s.Assign p ∷ t ∷ m) → begins_expression t ≡ true → DeepE 1 ts
-    deep_e_right : {n : ℕ} {ts m : List Lexeme} {p : Position} {a : ExpressionTree} → IsE1 ts a (sign s.Assign p ∷ m) → DeepE n m → DeepE (suc n) ts
+    deep_e_first : {ts m : List Lexeme} {p : Position} {t : Lexeme} {a : ExpressionTree}
+        → IsE1 ts a (sign s.Assign p ∷ t ∷ m) → begins_expression t ≡ true → DeepE 1 ts
+    deep_e_right : {n : ℕ} {ts m : List Lexeme} {p : Position} {a : ExpressionTree} → IsE1 ts a (sign s.Assign p ∷ m)
+        → DeepE n m → DeepE (suc n) ts
 
   -- E1 = E1 ("&&" | "||") N1 | N1
   pub data DeepE1 : ℕ → List Lexeme → Type 0 where
     deep_e1_first : {n : ℕ} {ts : List Lexeme} → DeepN1 n ts → DeepE1 n ts
-    deep_e1_next : {n : ℕ} {ts m : List Lexeme} {t : Lexeme} {op : Binary} {a : ExpressionTree} → IsE1 ts a (t ∷ m) → logical t ≡ Some op → DeepN1 n m → DeepE1 n ts
+    deep_e1_next : {n : ℕ} {ts m : List Lexeme} {t : Lexeme} {op : Binary} {a : ExpressionTree} → IsE1 ts a (t ∷ m)
+        → logical t ≡ Some op → DeepN1 n m → DeepE1 n ts
 
   -- N1 = "~~" N1 | E2
   pub data DeepN1 : ℕ → List Lexeme → Type 0 where
@@ -54,23 +57,28 @@ mutual
   -- E2 = E3 | E3 ("<" | ">" | "<=" | ">=") E3 | E3 ("==" | "~=") E3 {"or" E3}
   pub data DeepE2 : ℕ → List Lexeme → Type 0 where
     deep_e2_left : {n : ℕ} {ts : List Lexeme} → DeepE3 n ts → DeepE2 n ts
-    deep_e2_compare : {n : ℕ} {ts m : List Lexeme} {t : Lexeme} {op : Comparison} {a : ExpressionTree} → IsE3 ts a (t ∷ m) → comparing t ≡ Some op → DeepE3 n m → DeepE2 n ts
-    deep_e2_equal : {n : ℕ} {ts m : List Lexeme} {t : Lexeme} {op : Equality} {a : ExpressionTree} → IsE3 ts a (t ∷ m) → equating t ≡ Some op → DeepChoice n m → DeepE2 n ts
+    deep_e2_compare : {n : ℕ} {ts m : List Lexeme} {t : Lexeme} {op : Comparison} {a : ExpressionTree}
+        → IsE3 ts a (t ∷ m) → comparing t ≡ Some op → DeepE3 n m → DeepE2 n ts
+    deep_e2_equal : {n : ℕ} {ts m : List Lexeme} {t : Lexeme} {op : Equality} {a : ExpressionTree} → IsE3 ts a (t ∷ m)
+        → equating t ≡ Some op → DeepChoice n m → DeepE2 n ts
 
   -- E3 {"or" E3}
   pub data DeepChoice : ℕ → List Lexeme → Type 0 where
     deep_choice_first : {n : ℕ} {ts : List Lexeme} → DeepE3 n ts → DeepChoice n ts
-    deep_choice_next : {n : ℕ} {ts m : List Lexeme} {p : Position} {e : ExpressionTree} → IsE3 ts e (reserved w.Or p ∷ m) → DeepChoice n m → DeepChoice n ts
+    deep_choice_next : {n : ℕ} {ts m : List Lexeme} {p : Position} {e : ExpressionTree}
+        → IsE3 ts e (reserved w.Or p ∷ m) → DeepChoice n m → DeepChoice n ts
 
   -- E3 = E3 ("+" | "-") E4 | E4
   pub data DeepE3 : ℕ → List Lexeme → Type 0 where
     deep_e3_first : {n : ℕ} {ts : List Lexeme} → DeepE4 n ts → DeepE3 n ts
-    deep_e3_next : {n : ℕ} {ts m : List Lexeme} {t : Lexeme} {op : Binary} {a : ExpressionTree} → IsE3 ts a (t ∷ m) → adding t ≡ Some op → DeepE4 n m → DeepE3 n ts
+    deep_e3_next : {n : ℕ} {ts m : List Lexeme} {t : Lexeme} {op : Binary} {a : ExpressionTree} → IsE3 ts a (t ∷ m)
+        → adding t ≡ Some op → DeepE4 n m → DeepE3 n ts
 
   -- E4 = E4 ("*" | "/" | "%" | "&" | "|") N4 | N4
   pub data DeepE4 : ℕ → List Lexeme → Type 0 where
     deep_e4_first : {n : ℕ} {ts : List Lexeme} → DeepN4 n ts → DeepE4 n ts
-    deep_e4_next : {n : ℕ} {ts m : List Lexeme} {t : Lexeme} {op : Binary} {a : ExpressionTree} → IsE4 ts a (t ∷ m) → scaling t ≡ Some op → DeepN4 n m → DeepE4 n ts
+    deep_e4_next : {n : ℕ} {ts m : List Lexeme} {t : Lexeme} {op : Binary} {a : ExpressionTree} → IsE4 ts a (t ∷ m)
+        → scaling t ≡ Some op → DeepN4 n m → DeepE4 n ts
 
   -- N4 = "~" N4 | U
   pub data DeepN4 : ℕ → List Lexeme → Type 0 where
@@ -84,16 +92,19 @@ mutual
     deep_u_minus : {m : List Lexeme} {p : Position} → DeepU 1 (sign s.Minus p ∷ m)
     deep_u_minus_in : {n : ℕ} {m : List Lexeme} {p : Position} → DeepU n m → DeepU (suc n) (sign s.Minus p ∷ m)
     deep_u_before : {m : List Lexeme} {t : Lexeme} {op : Step} → stepping t ≡ Some op → DeepU 1 (t ∷ m)
-    deep_u_before_in : {n : ℕ} {m : List Lexeme} {t : Lexeme} {op : Step} → stepping t ≡ Some op → DeepP n m → DeepU (suc n) (t ∷ m)
+    deep_u_before_in : {n : ℕ} {m : List Lexeme} {t : Lexeme} {op : Step} → stepping t ≡ Some op → DeepP n m
+        → DeepU (suc n) (t ∷ m)
 
   -- P = .. | name "(" [E {"," E}] ")" | "(" E ")"
   pub data DeepP : ℕ → List Lexeme → Type 0 where
     deep_p_call : {m : List Lexeme} {p q : Position} {f : List ℕ} → DeepP 1 (name f p ∷ sign s.OpenParenthesis q ∷ m)
-    deep_p_arguments : {n : ℕ} {m : List Lexeme} {p q : Position} {f : List ℕ} → DeepArguments n m → DeepP (suc n) (name f p ∷ sign s.OpenParenthesis q ∷ m)
+    deep_p_arguments : {n : ℕ} {m : List Lexeme} {p q : Position} {f : List ℕ} → DeepArguments n m
+        → DeepP (suc n) (name f p ∷ sign s.OpenParenthesis q ∷ m)
     deep_p_parenthesis : {m : List Lexeme} {p : Position} → DeepP 1 (sign s.OpenParenthesis p ∷ m)
     deep_p_in : {n : ℕ} {m : List Lexeme} {p : Position} → DeepE n m → DeepP (suc n) (sign s.OpenParenthesis p ∷ m)
 
   -- E {"," E}
   pub data DeepArguments : ℕ → List Lexeme → Type 0 where
     deep_arguments_first : {n : ℕ} {ts : List Lexeme} → DeepE n ts → DeepArguments n ts
-    deep_arguments_next : {n : ℕ} {ts m : List Lexeme} {p : Position} {e : ExpressionTree} → IsE ts e (sign s.Comma p ∷ m) → DeepArguments n m → DeepArguments n ts
+    deep_arguments_next : {n : ℕ} {ts m : List Lexeme} {p : Position} {e : ExpressionTree}
+        → IsE ts e (sign s.Comma p ∷ m) → DeepArguments n m → DeepArguments n ts

@@ -1,4 +1,5 @@
--- Expressions, read from left to right: functions from a list of tokens to a tree and the tokens after it.
+-- Words of proofs: expressions, read from left to right, as functions from a list of tokens to a tree and the tokens
+-- after it.
 use Rattle.std.specs.Prelude.{◌≡◌, ◌==◌, if◌then◌else◌, Bool, false, ℕ, zero, suc, List, [], ◌∷◌, length, Option, Some, None, Result, Ok, Err}
 use Rattle.lexer.specs.declared.token.Sign.{Sign}
 use Rattle.lexer.specs.declared.token.Sign.TheVariants as s
@@ -27,6 +28,10 @@ abbrev pub ◌>>=◌ : {A B : Type 0} → Result A Fault → (A → Result B Fau
 (Ok x) >>= f = f x
 (Err e) >>= f = Err e
 
+-- one expression, and the tokens after it
+abbrev pub ReadOne : Type 0
+ReadOne = ExpressionTree × List Lexeme
+
 -- What a function returned, seen by view, is what reading gives, unless memory was refused.
 abbrev pub Fails : {Y : Type 0} → ParseError → Result Y Fault → Type 0
 Fails errors.Memory read = Unit {0}
@@ -35,6 +40,13 @@ Fails (errors.Fault f line) read = read ≡ Err f
 abbrev pub Gives : {X Y : Type 0} → (X → Y) → Result X ParseError → Result Y Fault → Type 0
 Gives view (Ok x) read = read ≡ Ok (view x)
 Gives view (Err e) read = Fails e read
+
+-- From what reading a part gave to what reading the whole gives: where the whole is read by reading the part, and then by
+-- a function of what that gives.
+abbrev pub GoesOn : {X Y A B : Type 0} → (X → A) → Result X ParseError → (Y → B) → Result Y ParseError
+    → (A → Result B Fault) → Type 0
+GoesOn {A = A} {B = B} view part view_whole whole next =
+    (read : Result A Fault) (read_whole : Result B Fault) → Gives view part read → read_whole ≡ (read >>= next) → Gives view_whole whole read_whole
 
 -- ---- one token
 
@@ -147,10 +159,15 @@ expect s ts = if is_sign s (head ts) then Ok (tail ts) else Err Grammar
 unfoldable pub expect_word : Word → List Lexeme → Result (List Lexeme) Fault
 expect_word w ts = if is_word w (head ts) then Ok (tail ts) else Err Grammar
 
+-- what stands in parentheses, with the second of them
+abbrev pub closed : {A B : Type 0} → (A → B) → A × List Lexeme → Result (B × List Lexeme) Fault
+closed make x = expect s.CloseParenthesis x.1 >>= λ r. Ok (make x.0, r)
+
 -- ---- chains and lists. The number bounds the turns; the count of tokens is enough.
 
 -- {operator operand} after a left side, grouped to the left
-abbrev pub chain_on : (ExpressionTree → Parse ExpressionTree) → Parse ExpressionTree → ExpressionTree → List Lexeme → Option Binary → Result (ExpressionTree × List Lexeme) Fault
+abbrev pub chain_on : (ExpressionTree → Parse ExpressionTree) → Parse ExpressionTree → ExpressionTree → List Lexeme
+    → Option Binary → Result (ExpressionTree × List Lexeme) Fault
 chain_on again operand left ts None = Ok (left, ts)
 chain_on again operand left ts (Some op) = operand (tail ts) >>= λ x. again (binary op left x.0) x.1
 
@@ -180,6 +197,11 @@ pub data Level : Type 0 where
   operand : Level
   arguments : NameTree → Level
 
+-- an operand, and `++` or `--` where it stands after it
+abbrev pub step_on : ExpressionTree → List Lexeme → Option Step → Result (ExpressionTree × List Lexeme) Fault
+step_on e ts None = Ok (e, ts)
+step_on e ts (Some op) = Ok (step_after e op (position_of (head ts)), tail ts)
+
 -- over the levels one nesting further in
 module _ (below : Level → Parse ExpressionTree) where
   -- a name, and behind a parenthesis its arguments
@@ -206,10 +228,6 @@ module _ (below : Level → Parse ExpressionTree) where
 
   unfoldable pub primary : Parse ExpressionTree
   primary ts = primary_on (head ts) (tail ts)
-
-  abbrev pub step_on : ExpressionTree → List Lexeme → Option Step → Result (ExpressionTree × List Lexeme) Fault
-  step_on e ts None = Ok (e, ts)
-  step_on e ts (Some op) = Ok (step_after e op (position_of (head ts)), tail ts)
 
   unfoldable pub stepped : Parse ExpressionTree
   stepped ts = primary ts >>= λ x. step_on x.0 x.1 (stepping (head x.1))
@@ -241,7 +259,8 @@ module _ (below : Level → Parse ExpressionTree) where
   equated_on left ts None = Ok (left, ts)
   equated_on left ts (Some op) = equated left op (tail ts)
 
-  abbrev pub compared_on : ExpressionTree → List Lexeme → Option Comparison → Result (ExpressionTree × List Lexeme) Fault
+  abbrev pub compared_on : ExpressionTree → List Lexeme → Option Comparison
+      → Result (ExpressionTree × List Lexeme) Fault
   compared_on left ts None = equated_on left ts (equating (head ts))
   compared_on left ts (Some op) = sum (tail ts) >>= λ x. Ok (compare op left x.0, x.1)
 

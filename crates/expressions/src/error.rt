@@ -8,7 +8,7 @@ use lexer::SourceFault;
 use std::alloc::{AllocError, AllocFailed};
 
 /// Why tokens have no tree.
-#[derive(Clone, Copy, Debug, PartialEq, Eq)]
+#[derive(Clone, Copy, Debug)]
 pub enum Fault {
     /// No derivation of the grammar goes on with the token (E10).
     Grammar,

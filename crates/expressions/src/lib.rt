@@ -6,6 +6,7 @@ mod error;
 mod laws;
 mod operators;
 mod parser;
+mod parts;
 mod reading;
 mod tree;
 

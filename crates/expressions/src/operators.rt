@@ -10,7 +10,7 @@ use crate::tree::{Binary, Comparison, Equality, Step};
 use lexer::{Kind, Sign, Token, Word};
 
 /// The operators of one level, in chains that group to the left.
-#[derive(Clone, Copy, Debug, PartialEq, Eq)]
+#[derive(Clone, Copy)]
 pub enum Operators {
     /// `&&` and `||`
     Logical,

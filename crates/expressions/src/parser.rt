@@ -10,11 +10,11 @@ ghost use Rattle.expressions.specs.Parse as spec;
 ghost use Rattle.expressions.specs.Parse.{Gives, tail};
 ghost use Rattle.expressions.specs.Levels.{operand_of, chain_of};
 
-use crate::build;
 use crate::error::{Fault, ParseError};
 use crate::operators::{Operators, begins_expression, comparing, equating, operator, stepping};
-use crate::reading::{expect, fault_at, is_sign, is_word, open, peek, position, skip};
+use crate::reading::{fault_at, is_sign, is_word, open, peek, position, skip};
 use crate::tree::{Expression, Name, Prefix};
+use crate::{build, parts};
 use lexer::{Kind, Sign, Token, Word};
 use std::alloc::Global;
 
@@ -22,8 +22,11 @@ use std::alloc::Global;
 /// parenthesis, also that of a call, and an operator before its operand open one at their own token, the right side of an
 /// assignment at its first token.
 ///
-/// Errors: `Fault::Grammar` at the first token with which no derivation can go on, `Fault::Deep` at the token that opens a
-/// nesting where none is left, and `Memory` where a growth was refused.
+/// # Errors
+///
+/// - `Fault::Grammar` at the first token with which no derivation can go on.
+/// - `Fault::Deep` at the token that opens a nesting where none is left.
+/// - `Memory`: a growth is refused.
 #[cycle(expression)]
 #[tactic(auto, unfolding(crate::specs::Parse::expression))]
 pub fn expression<'t, 'a>(
@@ -31,15 +34,15 @@ pub fn expression<'t, 'a>(
     depth: usize,
     tokens: &'t [Token<'a>],
 ) -> Result<(Expression<'a>, &'t [Token<'a>]), ParseError>
-    ensures { Gives (λ x. (expression_tree x.0, lexemes x.1.now)) result (spec.expression (spec.nested depth) (lexemes tokens.now)) }
+    ensures { Gives (λ x. (expression_tree x.0, lexemes x.1.now)) result
+        (spec.expression (spec.nested depth) (lexemes tokens.now)) }
 {
     let (left, rest) = chain(alloc, depth, Operators::Logical, tokens)?;
     if !is_sign(peek(rest), Sign::Assign) {
         return Ok((left, rest));
     }
-    let left = Box::new(alloc, left)?;
-    let (right, after) = assigned(alloc, depth, skip(rest))?;
-    Ok((build::assign(alloc, left, position(rest), right)?, after))
+    let right = assigned(alloc, depth, skip(rest));
+    parts::assign(alloc, left, position(rest), right)
 }
 
 /// The right side of an assignment, a nesting at its first token.
@@ -50,7 +53,8 @@ fn assigned<'t, 'a>(
     depth: usize,
     tokens: &'t [Token<'a>],
 ) -> Result<(Expression<'a>, &'t [Token<'a>]), ParseError>
-    ensures { Gives (λ x. (expression_tree x.0, lexemes x.1.now)) result (spec.assigned (spec.nested depth) (lexemes tokens.now)) }
+    ensures { Gives (λ x. (expression_tree x.0, lexemes x.1.now)) result
+        (spec.assigned (spec.nested depth) (lexemes tokens.now)) }
 {
     if !begins_expression(peek(tokens)) {
         return Err(fault_at(Fault::Grammar, tokens));
@@ -68,16 +72,16 @@ fn chain<'t, 'a>(
     operators: Operators,
     tokens: &'t [Token<'a>],
 ) -> Result<(Expression<'a>, &'t [Token<'a>]), ParseError>
-    ensures { Gives (λ x. (expression_tree x.0, lexemes x.1.now)) result (chain_of (spec.nested depth) operators (lexemes tokens.now)) }
+    ensures { Gives (λ x. (expression_tree x.0, lexemes x.1.now))
+        result (chain_of (spec.nested depth) operators (lexemes tokens.now)) }
 {
     let (first, at_operator) = operand(alloc, depth, operators, tokens)?;
     let Some(joining) = operator(operators, peek(at_operator)) else {
         return Ok((first, at_operator));
     };
-    let first = Box::new(alloc, first)?;
     let turns = at_operator.len();
-    let (second, mut rest) = operand(alloc, depth, operators, skip(at_operator))?;
-    let second = Box::new(alloc, second)?;
+    let second = operand(alloc, depth, operators, skip(at_operator));
+    let (first, second, mut rest) = parts::both(alloc, first, second)?;
     let mut links = Vec::new(alloc);
     for _turn in 1..turns {
         let Some(next) = operator(operators, peek(rest)) else {
@@ -98,7 +102,8 @@ fn operand<'t, 'a>(
     operators: Operators,
     tokens: &'t [Token<'a>],
 ) -> Result<(Expression<'a>, &'t [Token<'a>]), ParseError>
-    ensures { Gives (λ x. (expression_tree x.0, lexemes x.1.now)) result (operand_of (spec.nested depth) operators (lexemes tokens.now)) }
+    ensures { Gives (λ x. (expression_tree x.0, lexemes x.1.now))
+        result (operand_of (spec.nested depth) operators (lexemes tokens.now)) }
 {
     match operators {
         Operators::Logical => negated(alloc, depth, tokens),
@@ -115,14 +120,15 @@ fn negated<'t, 'a>(
     depth: usize,
     tokens: &'t [Token<'a>],
 ) -> Result<(Expression<'a>, &'t [Token<'a>]), ParseError>
-    ensures { Gives (λ x. (expression_tree x.0, lexemes x.1.now)) result (spec.negated (spec.nested depth) (lexemes tokens.now)) }
+    ensures { Gives (λ x. (expression_tree x.0, lexemes x.1.now)) result
+        (spec.negated (spec.nested depth) (lexemes tokens.now)) }
 {
     if !is_sign(peek(tokens), Sign::Not) {
         return comparison(alloc, depth, tokens);
     }
     let inside = open(depth, tokens)?;
-    let (operand, rest) = negated(alloc, inside, skip(tokens))?;
-    Ok((build::prefixed(alloc, Prefix::Not, operand)?, rest))
+    let operand = negated(alloc, inside, skip(tokens));
+    parts::prefixed(alloc, Prefix::Not, operand)
 }
 
 /// A sum, or two that are compared. A comparison is no operand of another.
@@ -133,18 +139,17 @@ fn comparison<'t, 'a>(
     depth: usize,
     tokens: &'t [Token<'a>],
 ) -> Result<(Expression<'a>, &'t [Token<'a>]), ParseError>
-    ensures { Gives (λ x. (expression_tree x.0, lexemes x.1.now)) result (spec.comparison (spec.nested depth) (lexemes tokens.now)) }
+    ensures { Gives (λ x. (expression_tree x.0, lexemes x.1.now)) result
+        (spec.comparison (spec.nested depth) (lexemes tokens.now)) }
 {
     let (left, rest) = chain(alloc, depth, Operators::Adding, tokens)?;
     if let Some(comparison) = comparing(peek(rest)) {
-        let left = Box::new(alloc, left)?;
-        let (right, after) = chain(alloc, depth, Operators::Adding, skip(rest))?;
-        return Ok((build::compare(alloc, left, comparison, right)?, after));
+        let right = chain(alloc, depth, Operators::Adding, skip(rest));
+        return parts::compare(alloc, left, comparison, right);
     }
     if let Some(equality) = equating(peek(rest)) {
-        let left = Box::new(alloc, left)?;
-        let (first, others, after) = values(alloc, depth, skip(rest))?;
-        return Ok((build::equal(left, equality, first, others), after));
+        let values = values(alloc, depth, skip(rest));
+        return parts::equal(alloc, left, equality, values);
     }
     Ok((left, rest))
 }
@@ -157,10 +162,11 @@ fn values<'t, 'a>(
     depth: usize,
     tokens: &'t [Token<'a>],
 ) -> Result<(Box<Expression<'a>>, Vec<Expression<'a>>, &'t [Token<'a>]), ParseError>
-    ensures { Gives (λ x. (expression_tree x.0.value ∷ map expression_tree x.1.items, lexemes x.2.now)) result (spec.list (spec.is_word Word.Or) (spec.sum (spec.nested depth)) (lexemes tokens.now)) }
+    ensures { Gives (λ x. (expression_tree x.0.value ∷ map expression_tree x.1.items, lexemes x.2.now)) result
+        (spec.list (spec.is_word Word.Or) (spec.sum (spec.nested depth)) (lexemes tokens.now)) }
 {
-    let (first, mut rest) = chain(alloc, depth, Operators::Adding, tokens)?;
-    let first = Box::new(alloc, first)?;
+    let first = chain(alloc, depth, Operators::Adding, tokens);
+    let (first, mut rest) = parts::boxed(alloc, first)?;
     let mut others = Vec::new(alloc);
     for _turn in 0..rest.len() {
         if !is_word(peek(rest), Word::Or) {
@@ -181,58 +187,40 @@ fn complemented<'t, 'a>(
     depth: usize,
     tokens: &'t [Token<'a>],
 ) -> Result<(Expression<'a>, &'t [Token<'a>]), ParseError>
-    ensures { Gives (λ x. (expression_tree x.0, lexemes x.1.now)) result (spec.complemented (spec.nested depth) (lexemes tokens.now)) }
+    ensures { Gives (λ x. (expression_tree x.0, lexemes x.1.now)) result
+        (spec.complemented (spec.nested depth) (lexemes tokens.now)) }
 {
     if !is_sign(peek(tokens), Sign::Tilde) {
         return unary(alloc, depth, tokens);
     }
     let inside = open(depth, tokens)?;
-    let (operand, rest) = complemented(alloc, inside, skip(tokens))?;
-    Ok((build::prefixed(alloc, Prefix::Complement, operand)?, rest))
+    let operand = complemented(alloc, inside, skip(tokens));
+    parts::prefixed(alloc, Prefix::Complement, operand)
 }
 
 /// `-` before its operand, or a primary with `++` or `--` before or after it.
 #[cycle(expression)]
-#[tactic(auto, unfolding(crate::specs::Parse::unary), using(crate::proofs::Nested::nested_zero, crate::proofs::Nested::nested_prefix, crate::proofs::Nested::nested_operand))]
+#[tactic(auto, unfolding(crate::specs::Parse::unary, crate::specs::Parse::stepped), using(crate::proofs::Nested::nested_zero, crate::proofs::Nested::nested_prefix, crate::proofs::Nested::nested_operand))]
 fn unary<'t, 'a>(
     alloc: Global,
     depth: usize,
     tokens: &'t [Token<'a>],
 ) -> Result<(Expression<'a>, &'t [Token<'a>]), ParseError>
-    ensures { Gives (λ x. (expression_tree x.0, lexemes x.1.now)) result (spec.unary (spec.nested depth) (lexemes tokens.now)) }
+    ensures { Gives (λ x. (expression_tree x.0, lexemes x.1.now)) result
+        (spec.unary (spec.nested depth) (lexemes tokens.now)) }
 {
+    let after = skip(tokens);
     if is_sign(peek(tokens), Sign::Minus) {
         let inside = open(depth, tokens)?;
-        let (operand, rest) = unary(alloc, inside, skip(tokens))?;
-        return Ok((build::prefixed(alloc, Prefix::Minus, operand)?, rest));
+        let operand = unary(alloc, inside, after);
+        return parts::prefixed(alloc, Prefix::Minus, operand);
     }
     if let Some(step) = stepping(peek(tokens)) {
-        let inside = open(depth, tokens)?;
-        let (operand, rest) = primary(alloc, inside, skip(tokens))?;
-        let before = build::step_before(alloc, step, position(tokens), operand)?;
-        return Ok((before, rest));
+        let within = open(depth, tokens)?;
+        let stepped = primary(alloc, within, after);
+        return parts::step_before(alloc, step, position(tokens), stepped);
     }
-    stepped(alloc, depth, tokens)
-}
-
-/// A primary, and `++` or `--` after it.
-#[cycle(expression)]
-#[tactic(auto, unfolding(crate::specs::Parse::stepped))]
-fn stepped<'t, 'a>(
-    alloc: Global,
-    depth: usize,
-    tokens: &'t [Token<'a>],
-) -> Result<(Expression<'a>, &'t [Token<'a>]), ParseError>
-    ensures { Gives (λ x. (expression_tree x.0, lexemes x.1.now)) result (spec.stepped (spec.nested depth) (lexemes tokens.now)) }
-{
-    let (operand, rest) = primary(alloc, depth, tokens)?;
-    match stepping(peek(rest)) {
-        Some(step) => {
-            let after = build::step_after(alloc, operand, step, position(rest))?;
-            Ok((after, skip(rest)))
-        }
-        None => Ok((operand, rest)),
-    }
+    parts::stepped(alloc, primary(alloc, depth, tokens))
 }
 
 /// A constant, a name, a call, or an expression in parentheses.
@@ -243,7 +231,8 @@ fn primary<'t, 'a>(
     depth: usize,
     tokens: &'t [Token<'a>],
 ) -> Result<(Expression<'a>, &'t [Token<'a>]), ParseError>
-    ensures { Gives (λ x. (expression_tree x.0, lexemes x.1.now)) result (spec.primary (spec.nested depth) (lexemes tokens.now)) }
+    ensures { Gives (λ x. (expression_tree x.0, lexemes x.1.now)) result
+        (spec.primary (spec.nested depth) (lexemes tokens.now)) }
 {
     let token = peek(tokens);
     let rest = skip(tokens);
@@ -274,7 +263,8 @@ fn after_name<'t, 'a>(
     name: Name<'a>,
     tokens: &'t [Token<'a>],
 ) -> Result<(Expression<'a>, &'t [Token<'a>]), ParseError>
-    ensures { Gives (λ x. (expression_tree x.0, lexemes x.1.now)) result (spec.after_name (spec.nested depth) (name_tree name.entry) (lexemes tokens.now)) }
+    ensures { Gives (λ x. (expression_tree x.0, lexemes x.1.now)) result
+        (spec.after_name (spec.nested depth) (name_tree name.entry) (lexemes tokens.now)) }
 {
     if !is_sign(peek(tokens), Sign::OpenParenthesis) {
         return Ok((Expression::Named(name), tokens));
@@ -291,30 +281,44 @@ fn enclosed<'t, 'a>(
     depth: usize,
     tokens: &'t [Token<'a>],
 ) -> Result<(Expression<'a>, &'t [Token<'a>]), ParseError>
-    ensures { Gives (λ x. (expression_tree x.0, lexemes x.1.now)) result (spec.enclosed (spec.nested depth) (tail (lexemes tokens.now))) }
+    ensures { Gives (λ x. (expression_tree x.0, lexemes x.1.now)) result
+        (spec.enclosed (spec.nested depth) (tail (lexemes tokens.now))) }
 {
     let inside = open(depth, tokens)?;
-    let (enclosed, rest) = expression(alloc, inside, skip(tokens))?;
-    let enclosed = Box::new(alloc, enclosed)?;
-    let rest = expect(Sign::CloseParenthesis, rest)?;
-    Ok((build::parenthesised(enclosed), rest))
+    let enclosed = expression(alloc, inside, skip(tokens));
+    parts::parenthesised(alloc, enclosed)
 }
 
 /// The call of a name, from behind its parenthesis.
 #[cycle(expression)]
-#[tactic(auto, unfolding(crate::specs::Parse::called), using(crate::proofs::Chain::arguments_begin, crate::proofs::Chain::arguments_more))]
+#[tactic(auto, unfolding(crate::specs::Parse::called))]
 fn called<'t, 'a>(
     alloc: Global,
     depth: usize,
     name: Name<'a>,
     tokens: &'t [Token<'a>],
 ) -> Result<(Expression<'a>, &'t [Token<'a>]), ParseError>
-    ensures { Gives (λ x. (expression_tree x.0, lexemes x.1.now)) result (spec.called (spec.nested depth) (name_tree name.entry) (lexemes tokens.now)) }
+    ensures { Gives (λ x. (expression_tree x.0, lexemes x.1.now)) result
+        (spec.called (spec.nested depth) (name_tree name.entry) (lexemes tokens.now)) }
+{
+    if is_sign(peek(tokens), Sign::CloseParenthesis) {
+        return Ok((build::call(name, Vec::new(alloc)), skip(tokens)));
+    }
+    parts::call(name, arguments(alloc, depth, tokens))
+}
+
+/// Arguments, at least one.
+#[cycle(expression)]
+#[tactic(auto, using(crate::proofs::Chain::arguments_begin, crate::proofs::Chain::arguments_more))]
+fn arguments<'t, 'a>(
+    alloc: Global,
+    depth: usize,
+    tokens: &'t [Token<'a>],
+) -> Result<(Vec<Expression<'a>>, &'t [Token<'a>]), ParseError>
+    ensures { Gives (λ x. (map expression_tree x.0.items, lexemes x.1.now)) result
+        (spec.list (spec.is_sign Sign.Comma) (spec.expression (spec.nested depth)) (lexemes tokens.now)) }
 {
     let mut arguments = Vec::new(alloc);
-    if is_sign(peek(tokens), Sign::CloseParenthesis) {
-        return Ok((build::call(name, arguments), skip(tokens)));
-    }
     let (first, mut rest) = expression(alloc, depth, tokens)?;
     arguments.push(first)?;
     for _turn in 0..rest.len() {
@@ -325,6 +329,5 @@ fn called<'t, 'a>(
         arguments.push(argument)?;
         rest = after;
     }
-    let rest = expect(Sign::CloseParenthesis, rest)?;
-    Ok((build::call(name, arguments), rest))
+    Ok((arguments, rest))
 }

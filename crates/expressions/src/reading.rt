@@ -67,11 +67,15 @@ pub fn fault_at(fault: Fault, tokens: &[Token<'_>]) -> ParseError
     ParseError::Fault(fault, position(tokens).line)
 }
 
-/// How many nestings more may be opened inside the next token, which opens one of `depth`. Where none is left, the fault
-/// that this token stands too deep.
+/// How many nestings more may be opened inside the next token, which opens one of `depth`.
+///
+/// # Errors
+///
+/// `Fault::Deep` at that token: no nesting is left.
 pub fn open<'a>(depth: usize, tokens: &[Token<'a>]) -> Result<usize, ParseError>
     ensures opened { IfOk result (λ inside. depth ≡ inside + 1) }
-    ensures refused { IfErr result (λ e. (depth ≡ 0) × (e ≡ ParseError.Fault Fault.Deep (position_of (spec.head (lexemes tokens.now))).line)) }
+    ensures refused { IfErr result
+        (λ e. (depth ≡ 0) × (e ≡ ParseError.Fault Fault.Deep (position_of (spec.head (lexemes tokens.now))).line)) }
 {
     if depth == 0 {
         return Err(fault_at(Fault::Deep, tokens));
@@ -79,7 +83,11 @@ pub fn open<'a>(depth: usize, tokens: &[Token<'a>]) -> Result<usize, ParseError>
     Ok(depth - 1)
 }
 
-/// The tokens after that sign, or a fault of the grammar at the token that stands in its place.
+/// The tokens after that sign.
+///
+/// # Errors
+///
+/// `Fault::Grammar` at the next token: it is not that sign.
 #[tactic(auto, unfolding(crate::specs::Parse::expect))]
 pub fn expect<'t, 'a>(sign: Sign, tokens: &'t [Token<'a>]) -> Result<&'t [Token<'a>], ParseError>
     ensures { Gives (λ r. lexemes r.now) result (spec.expect sign (lexemes tokens.now)) }
@@ -91,7 +99,11 @@ pub fn expect<'t, 'a>(sign: Sign, tokens: &'t [Token<'a>]) -> Result<&'t [Token<
     }
 }
 
-/// The tokens after that word, or a fault of the grammar at the token that stands in its place.
+/// The tokens after that word.
+///
+/// # Errors
+///
+/// `Fault::Grammar` at the next token: it is not that word.
 #[tactic(auto, unfolding(crate::specs::Parse::expect_word))]
 pub fn expect_word<'t, 'a>(
     word: Word,

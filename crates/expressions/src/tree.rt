@@ -3,14 +3,14 @@
 use lexer::Position;
 
 /// A name where it is used or defined.
-#[derive(Clone, Copy, Debug)]
+#[derive(Clone, Copy)]
 pub struct Name<'a> {
     pub text: &'a [u8],
     pub position: Position,
 }
 
 /// An operator of a chain that groups to the left.
-#[derive(Clone, Copy, Debug, PartialEq, Eq)]
+#[derive(Clone, Copy)]
 pub enum Binary {
     /// `&&`
     AndAlso,
@@ -33,7 +33,7 @@ pub enum Binary {
 }
 
 /// A comparison of signed numbers.
-#[derive(Clone, Copy, Debug, PartialEq, Eq)]
+#[derive(Clone, Copy)]
 pub enum Comparison {
     /// `<`
     Less,
@@ -46,7 +46,7 @@ pub enum Comparison {
 }
 
 /// A comparison with one value or several.
-#[derive(Clone, Copy, Debug, PartialEq, Eq)]
+#[derive(Clone, Copy, PartialEq, Eq)]
 pub enum Equality {
     /// `==`: equal to any of them
     Equal,
@@ -55,7 +55,7 @@ pub enum Equality {
 }
 
 /// An operator before its operand.
-#[derive(Clone, Copy, Debug, PartialEq, Eq)]
+#[derive(Clone, Copy)]
 pub enum Prefix {
     /// `-`
     Minus,
@@ -66,7 +66,7 @@ pub enum Prefix {
 }
 
 /// One more or one less.
-#[derive(Clone, Copy, Debug, PartialEq, Eq)]
+#[derive(Clone, Copy)]
 pub enum Step {
     /// `++`
     Increment,

@@ -1,5 +1,6 @@
+pub mod Layout
 pub mod Contents
-pub mod Standing
+pub mod States
 pub mod Went
 pub mod Playing
 pub mod Lines

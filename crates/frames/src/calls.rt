@@ -1,14 +1,16 @@
 //! Calls of routines and returns from them.
 
 ghost use Rattle.std.specs.Prelude.{◌≡◌, ◌<◌, ◌≤◌, ◌+◌, ◌-◌, ◌*◌, [], length, slice_index, OnOk};
-ghost use Rattle.frames.specs.Standing.{frame_count, state_of, variable_of, IsSound};
+ghost use Rattle.frames.specs.Layout.{record_count};
+ghost use Rattle.frames.specs.States.{frame_count, state_of, variable_of, IsSound};
 ghost use Rattle.frames.specs.Went.{Went, CanEnter};
 ghost use Rattle.zcore.specs.Parts.{is_code, test_routine, test_calls, enter, has_argument, test_return, leave};
 
 use crate::cells::{cell, long, put_all, put_long};
 use crate::end::End;
 use crate::layout::{
-    FRAME_COUNT, HEIGHT, NO_VARIABLE, RECORD, RECORD_COUNT, RECORDS, STACK, STACK_SIZE,
+    ARGUMENT_COUNT, FRAME_COUNT, HEIGHT, NO_VARIABLE, RECORD, RECORD_COUNT, RECORDS, RESULT,
+    RETURN, STACK, STACK_SIZE,
 };
 use crate::results::test_caller;
 use crate::stack::{height, running};
@@ -18,14 +20,17 @@ use zcore::{Fault, Limit, Place};
 
 /// Where code may stand: behind the header, below the story's length.
 #[inline]
-pub fn is_code(memory: &[u8], place: usize) -> bool
-    ensures { result ≡ is_code memory.now place }
+pub fn is_code(memory: &[u8], address: usize) -> bool
+    ensures { result ≡ is_code memory.now address }
 {
-    64 <= place && place < memory.len()
+    64 <= address && address < memory.len()
 }
 
-/// Tests whether a routine can be entered, and changes nothing. M2 where it does not lie in the story or has more than
-/// 15 locals, M6 where its locals find no room.
+/// Tests whether a routine can be entered, and changes nothing.
+///
+/// # Errors
+///
+/// M2 where it does not lie in the story or has more than 15 locals, M6 where its locals find no room.
 #[inline]
 pub fn test_routine(store: &Recorded<Store>, routine: usize) -> Result<(), End>
     requires { IsSound store.now.store }
@@ -46,12 +51,16 @@ pub fn test_routine(store: &Recorded<Store>, routine: usize) -> Result<(), End>
     Ok(())
 }
 
-/// Tests whether one more call may be open, and changes nothing. The limit of calls.
+/// Tests whether one more call may be open, and changes nothing.
+///
+/// # Errors
+///
+/// The limit of calls, where 1,000 calls are open.
 #[inline]
 pub fn test_calls(store: &Recorded<Store>) -> Result<(), End>
     requires { IsSound store.now.store }
     ensures went { Went result store.now store.now test_calls }
-    ensures room { OnOk result (frame_count (slice_index store.now.store.cells) < 1001) }
+    ensures room { OnOk result (frame_count (slice_index store.now.store.cells) < record_count) }
 {
     if cell(store, FRAME_COUNT) as usize >= RECORD_COUNT {
         return Err(End::Stop(Place::Limit(Limit::Calls)));
@@ -61,19 +70,23 @@ pub fn test_calls(store: &Recorded<Store>) -> Result<(), End>
 
 /// Makes the frame of a routine that was tested. The first locals are the arguments, the others are 0; surplus
 /// arguments are dropped.
+///
+/// # Errors
+///
+/// `End::Memory` where memory was refused: the turn is given up.
 #[inline]
 pub fn enter(
     store: &mut Recorded<Store>,
     routine: usize,
     arguments: &[u16],
     result_variable: Option<u8>,
-    return_place: u32,
+    return_address: u32,
 ) -> Result<(), End>
     requires sound { IsSound store.old.store }
     requires ready { CanEnter store.old.store routine }
-    requires room { frame_count (slice_index store.old.store.cells) < 1001 }
+    requires room { frame_count (slice_index store.old.store.cells) < record_count }
     requires few { length arguments.now ≤ 15 }
-    ensures { Went result store.old store.new (enter routine arguments.now result_variable return_place) }
+    ensures { Went result store.old store.new (enter routine arguments.now result_variable return_address) }
 {
     let count = store.store().memory()[routine] as usize;
     let base = height(store);
@@ -83,8 +96,8 @@ pub fn enter(
     let record = [
         (base / 65_536) as u16,
         (base % 65_536) as u16,
-        (return_place / 65_536) as u16,
-        (return_place % 65_536) as u16,
+        (return_address / 65_536) as u16,
+        (return_address % 65_536) as u16,
         count as u16,
         arguments.len() as u16,
         variable_cell(result_variable),
@@ -102,7 +115,7 @@ pub fn has_argument(store: &Recorded<Store>, number: u16) -> bool
     requires { IsSound store.now.store }
     ensures { result ≡ has_argument number (state_of store.now.store []).frames }
 {
-    1 <= number && number <= cell(store, running(store) + 5)
+    1 <= number && number <= cell(store, running(store) + ARGUMENT_COUNT)
 }
 
 /// The cell for the variable of a result.
@@ -129,8 +142,11 @@ pub(crate) fn variable_in(cell: u16) -> Option<u8>
 }
 
 /// Tests whether the running frame can return, and changes nothing: where it returns to, and the variable for its
-/// result. M11 in the first environment, M6 and M4 where the caller cannot store the result, M2 where the place is no
-/// code.
+/// result.
+///
+/// # Errors
+///
+/// M11 in the first environment, M6 and M4 where the caller cannot store the result, M2 where the address is no code.
 #[inline]
 pub fn test_return(store: &Recorded<Store>) -> Result<(u32, Option<u8>), End>
     requires { IsSound store.now.store }
@@ -142,16 +158,20 @@ pub fn test_return(store: &Recorded<Store>) -> Result<(u32, Option<u8>), End>
         return Err(End::Stop(Place::Fault(Fault::Return)));
     }
     let record = running(store);
-    let return_place = long(store, record + 2);
-    let result_variable = variable_in(cell(store, record + 6));
+    let return_address = long(store, record + RETURN);
+    let result_variable = variable_in(cell(store, record + RESULT));
     test_caller(store, record, result_variable)?;
-    if !is_code(store.store().memory(), return_place as usize) {
+    if !is_code(store.store().memory(), return_address as usize) {
         return Err(End::Stop(Place::Fault(Fault::Code)));
     }
-    Ok((return_place, result_variable))
+    Ok((return_address, result_variable))
 }
 
 /// Ends the running frame, which has a caller: its record and its words are no longer in use.
+///
+/// # Errors
+///
+/// `End::Memory` where memory was refused: the turn is given up.
 #[inline]
 pub fn leave(store: &mut Recorded<Store>) -> Result<(), End>
     requires sound { IsSound store.old.store }

@@ -1,8 +1,9 @@
 //! Cells of a recorded store, by what they hold.
 
 ghost use Rattle.std.specs.Prelude.{◌≡◌, ℕ, ◌<◌, ◌≤◌, ◌+◌, ◌-◌, ◌*◌, ◌/◌, ◌%◌, [], ◌∷◌, List, length, slice_index, OnOk, OnErr};
+ghost use Rattle.frames.specs.Layout.{words_before_memory};
 ghost use Rattle.frames.specs.Contents.{Wrote};
-ghost use Rattle.frames.specs.Standing.{long_at, state_of, program_counter_of, IsSound};
+ghost use Rattle.frames.specs.States.{long_at, state_of, program_counter_of, IsSound};
 ghost use Rattle.frames.specs.Went.{GoesOn, GivenUp};
 
 use crate::layout::PROGRAM_COUNTER;
@@ -12,7 +13,7 @@ use journal::{Cells, NoMemory, Recorded};
 /// The value of a cell before dynamic memory.
 #[inline(always)]
 pub(crate) fn cell(store: &Recorded<Store>, i: usize) -> u16
-    requires { i < 72559 }
+    requires { i < words_before_memory }
     ensures { result ≡ slice_index store.now.store.cells i }
 {
     store.store().word(i)
@@ -22,7 +23,7 @@ pub(crate) fn cell(store: &Recorded<Store>, i: usize) -> u16
 #[inline]
 pub(crate) fn long(store: &Recorded<Store>, i: usize) -> u32
     requires cells { i + 1 < length store.now.store.cells }
-    requires words { i + 1 < 72559 }
+    requires words { i + 1 < words_before_memory }
     ensures { result ≡ long_at (slice_index store.now.store.cells) i }
 {
     cell(store, i) as u32 * 65_536 + cell(store, i + 1) as u32
@@ -36,7 +37,7 @@ pub(crate) fn put_all(
     values: &[u16],
 ) -> Result<(), NoMemory>
     requires size { at + length values.now ≤ length store.old.store.cells }
-    requires words { at + length values.now ≤ 72559 }
+    requires words { at + length values.now ≤ words_before_memory }
     ensures cells { OnOk result (Wrote store.old.store.cells store.new.store.cells at values.now) }
     ensures beginning { OnOk result (store.new.beginning ≡ store.old.beginning) }
     ensures abandoned { OnErr result ((store.new.store.cells ≡ store.old.beginning) × (store.new.beginning ≡ store.old.beginning) × (store.new.kept ≡ [])) }
@@ -52,7 +53,7 @@ pub(crate) fn put_all(
 #[inline]
 pub(crate) fn put_long(store: &mut Recorded<Store>, at: usize, number: u32) -> Result<(), NoMemory>
     requires size { at + 2 ≤ length store.old.store.cells }
-    requires words { at + 2 ≤ 72559 }
+    requires words { at + 2 ≤ words_before_memory }
     ensures cells { OnOk result (Wrote store.old.store.cells store.new.store.cells at (number / 65536 ∷ number % 65536 ∷ [])) }
     ensures beginning { OnOk result (store.new.beginning ≡ store.old.beginning) }
     ensures abandoned { OnErr result ((store.new.store.cells ≡ store.old.beginning) × (store.new.beginning ≡ store.old.beginning) × (store.new.kept ≡ [])) }
@@ -74,6 +75,10 @@ pub fn program_counter(store: &Recorded<Store>) -> u32
 }
 
 /// Keeps the program counter in its registers, at the end of a turn.
+///
+/// # Errors
+///
+/// Memory was refused.
 pub fn set_program_counter(
     store: &mut Recorded<Store>,
     program_counter: u32,

@@ -20,14 +20,26 @@ pub(crate) const TEXT_BUFFER: usize = 6;
 pub(crate) const RESULT_VARIABLE: usize = 8;
 
 /// Where the machine goes on with the line (two cells).
-pub(crate) const RETURN_PLACE: usize = 9;
+pub(crate) const RETURN_ADDRESS: usize = 9;
 
 /// The first frame record.
 pub(crate) const RECORDS: usize = 16;
 
-/// The cells of a frame record: its base on the stack (two cells), the place to go on at after it (two cells), the
+/// The cells of a frame record: its base on the stack (two cells), the address to go on at after it (two cells), the
 /// number of locals, the number of arguments, the variable for its result.
 pub(crate) const RECORD: usize = 7;
+
+/// In a frame record: the address to go on at after the frame (two cells).
+pub(crate) const RETURN: usize = 2;
+
+/// In a frame record: the number of locals.
+pub(crate) const LOCAL_COUNT: usize = 4;
+
+/// In a frame record: the number of arguments that the call gave.
+pub(crate) const ARGUMENT_COUNT: usize = 5;
+
+/// In a frame record: the variable for the frame's result.
+pub(crate) const RESULT: usize = 6;
 
 /// How many frame records there are: 1,000 calls and the first environment.
 pub(crate) const RECORD_COUNT: usize = 1_001;

@@ -11,8 +11,6 @@ mod operands;
 mod results;
 mod stack;
 mod store;
-#[cfg(test)]
-mod tests;
 mod variables;
 
 pub use calls::{enter, has_argument, is_code, leave, test_calls, test_return, test_routine};

@@ -9,13 +9,13 @@ ghost use Rattle.zcore.specs.Turn.{given, with_letters};
 ghost use Rattle.frames.specs.Contents.{memory_of};
 ghost use Rattle.frames.specs.Lines.{Filled, WaitsNoMore};
 ghost use Rattle.frames.specs.Playing.{IsWaiting};
-ghost use Rattle.frames.specs.Standing.{pending_of, IsSound, IsStoreOf};
+ghost use Rattle.frames.specs.States.{pending_of, IsSound, IsStoreOf};
 ghost use Rattle.frames.specs.Went.{GivenUp, Went, Told};
 
 use crate::calls::{variable_cell, variable_in};
 use crate::cells::{cell, long, put_all};
 use crate::end::End;
-use crate::layout::{MEMORY, RESULT_VARIABLE, RETURN_PLACE, TEXT_BUFFER, WAITING};
+use crate::layout::{MEMORY, RESULT_VARIABLE, RETURN_ADDRESS, TEXT_BUFFER, WAITING};
 use crate::results::store_result;
 use crate::store::Store;
 use journal::{NoMemory, Recorded};
@@ -28,7 +28,11 @@ const HEADER_LENGTH: usize = 64;
 const NEW_LINE: u16 = 13;
 
 /// Tests whether a line can be read into a text buffer, and changes nothing: it lies in dynamic memory behind the
-/// header, with room for a letter or more, and holds none (Z-Machine Standards Document 1.1, section 15, `aread`). M12.
+/// header, with room for a letter or more, and holds none (Z-Machine Standards Document 1.1, section 15, `aread`).
+///
+/// # Errors
+///
+/// M12 where it cannot.
 pub fn test_text_buffer(header: &Header, store: &Recorded<Store>, buffer: u16) -> Result<(), End>
     requires { IsStoreOf header.now store.now.store }
     ensures { Went result store.now store.now (test_text_buffer buffer) }
@@ -56,24 +60,28 @@ fn is_text_buffer(memory: &[u8], static_base: u16, buffer: u16) -> bool
 }
 
 /// Ends the turn: the machine waits for a line, with these buffers (the second 0 for none), the variable for the result
-/// and the place to go on at. It never answers `Ok`.
+/// and the address to go on at. It never answers `Ok`.
+///
+/// # Errors
+///
+/// `Place::Waiting`, at all times. `End::Memory` where memory was refused: the turn is given up.
 pub fn wait(
     store: &mut Recorded<Store>,
     text_buffer: u16,
     parse_buffer: u16,
     result_variable: Option<u8>,
-    return_place: u32,
+    return_address: u32,
 ) -> Result<Next, End>
     requires { IsSound store.old.store }
-    ensures { Went result store.old store.new (wait (record { text_buffer = text_buffer; parse_buffer = parse_buffer; result = result_variable; return_place = return_place })) }
+    ensures { Went result store.old store.new (wait (record { text_buffer = text_buffer; parse_buffer = parse_buffer; result = result_variable; return_address = return_address })) }
 {
     let registers = [
         1,
         text_buffer,
         parse_buffer,
         variable_cell(result_variable),
-        (return_place / 65_536) as u16,
-        (return_place % 65_536) as u16,
+        (return_address / 65_536) as u16,
+        (return_address % 65_536) as u16,
     ];
     put_all(store, WAITING, &registers)?;
     Err(End::Stop(Place::Waiting))
@@ -81,7 +89,12 @@ pub fn wait(
 
 /// Gives a line to a store that waits for one, and answers where the turn goes on: the text buffer takes as many
 /// letters as it has room for, and the result is the code of the key that ended the line (Z-Machine Standards Document
-/// 1.1, section 15, `aread`). M6, M4 of the result.
+/// 1.1, section 15, `aread`).
+///
+/// # Errors
+///
+/// M6 where the stack is full, M4 where the frame has not the local, both of the result. `End::Memory` where memory was
+/// refused: the turn is given up.
 pub fn give_line(
     header: &Header,
     store: &mut Recorded<Store>,
@@ -94,7 +107,7 @@ pub fn give_line(
 {
     let buffer = cell(store, TEXT_BUFFER) as usize;
     let result_variable = variable_in(cell(store, RESULT_VARIABLE));
-    let program_counter = long(store, RETURN_PLACE);
+    let program_counter = long(store, RETURN_ADDRESS);
     let most = store.store().memory()[buffer] as usize;
     let count = most.min(line.len());
     fill_buffer(store, buffer, &line[..count])?;

@@ -1,7 +1,7 @@
 //! Bytes and words of memory.
 
 ghost use Rattle.std.specs.Prelude.{◌≡◌, ◌<◌, ◌≤◌, ◌+◌, ◌&&◌, nat_le, nat_lt, length};
-ghost use Rattle.frames.specs.Standing.{IsSound, IsStoreOf};
+ghost use Rattle.frames.specs.States.{IsSound, IsStoreOf};
 ghost use Rattle.frames.specs.Went.{Went};
 ghost use Rattle.zcore.specs.Parts.{is_readable, is_writable, read_byte, read_word, write_byte, write_word};
 
@@ -44,7 +44,11 @@ fn is_writable_word(header: &Header, at: usize) -> bool
     64 <= at && at + 1 < header.static_base as usize
 }
 
-/// Reads a byte. M3 at or past the lesser of the story's length and 65,536.
+/// Reads a byte.
+///
+/// # Errors
+///
+/// M3 at or past the lesser of the story's length and 65,536.
 #[inline]
 pub fn read_byte(store: &Recorded<Store>, at: usize) -> Result<u8, End>
     requires { IsSound store.now.store }
@@ -57,7 +61,11 @@ pub fn read_byte(store: &Recorded<Store>, at: usize) -> Result<u8, End>
     Ok(memory[at])
 }
 
-/// Reads a word. M3 where one of its bytes stands at or past the lesser of the story's length and 65,536.
+/// Reads a word.
+///
+/// # Errors
+///
+/// M3 where one of its bytes stands at or past the lesser of the story's length and 65,536.
 #[inline]
 pub fn read_word(store: &Recorded<Store>, at: usize) -> Result<u16, End>
     requires sound { IsSound store.now.store }
@@ -71,7 +79,11 @@ pub fn read_word(store: &Recorded<Store>, at: usize) -> Result<u16, End>
     Ok(memory[at] as u16 * 256 + memory[at + 1] as u16)
 }
 
-/// Writes a byte. M4 below 64 and from static base on.
+/// Writes a byte.
+///
+/// # Errors
+///
+/// M4 below 64 and from static base on. `End::Memory` where memory was refused: the turn is given up.
 #[inline]
 pub fn write_byte(
     header: &Header,
@@ -89,7 +101,12 @@ pub fn write_byte(
     Ok(())
 }
 
-/// Writes a word. M4 where one of its bytes stands below 64 or from static base on.
+/// Writes a word.
+///
+/// # Errors
+///
+/// M4 where one of its bytes stands below 64 or from static base on. `End::Memory` where memory was refused: the turn
+/// is given up.
 #[inline]
 pub fn write_word(
     header: &Header,

@@ -1,6 +1,6 @@
 //! Operands of an instruction.
 
-ghost use Rattle.frames.specs.Standing.{IsStoreOf};
+ghost use Rattle.frames.specs.States.{IsStoreOf};
 ghost use Rattle.frames.specs.Went.{Went};
 ghost use Rattle.zcore.specs.Parts.{operand_value};
 
@@ -10,7 +10,12 @@ use crate::variables::read_variable;
 use journal::Recorded;
 use zcore::{Header, Operand};
 
-/// The value of an operand. M5, M3.
+/// The value of an operand.
+///
+/// # Errors
+///
+/// M5 where the stack is empty, M3 where the frame has not such a local. `End::Memory` where memory was refused: the
+/// turn is given up.
 #[inline(always)]
 pub fn operand_value(
     header: &Header,

@@ -1,21 +1,25 @@
 //! Results of instructions.
 
 ghost use Rattle.std.specs.Prelude.{◌≡◌, ◌+◌, ◌-◌, ◌*◌, ◌<◌, drop, slice_index};
-ghost use Rattle.frames.specs.Standing.{frame_count, IsSound, IsStoreOf};
+ghost use Rattle.frames.specs.Layout.{base_cell, record_length};
+ghost use Rattle.frames.specs.States.{frame_count, IsSound, IsStoreOf};
 ghost use Rattle.frames.specs.Went.{Went};
 ghost use Rattle.zcore.specs.Parts.{can_store, test_result, store_result};
 
 use crate::cells::{cell, long};
 use crate::end::End;
-use crate::layout::{RECORD, STACK_SIZE};
+use crate::layout::{LOCAL_COUNT, RECORD, STACK_SIZE};
 use crate::stack::{height, running};
 use crate::store::Store;
 use crate::variables::write_variable;
 use journal::Recorded;
 use zcore::{Fault, Header, Place};
 
-/// Tests whether a result can be stored, and changes nothing. M6 where the stack is full, M4 where the frame has not
-/// such a local.
+/// Tests whether a result can be stored, and changes nothing.
+///
+/// # Errors
+///
+/// M6 where the stack is full, M4 where the frame has not such a local.
 #[inline(always)]
 pub fn test_result(store: &Recorded<Store>, result_variable: Option<u8>) -> Result<(), End>
     requires { IsSound store.now.store }
@@ -31,7 +35,7 @@ pub fn test_result(store: &Recorded<Store>, result_variable: Option<u8>) -> Resu
                 Ok(())
             }
             1..16 => {
-                if variable as u16 > cell(store, running(store) + 4) {
+                if variable as u16 > cell(store, running(store) + LOCAL_COUNT) {
                     return Err(End::Stop(Place::Fault(Fault::Write)));
                 }
                 Ok(())
@@ -42,6 +46,10 @@ pub fn test_result(store: &Recorded<Store>, result_variable: Option<u8>) -> Resu
 }
 
 /// Stores a result, which was tested before.
+///
+/// # Errors
+///
+/// M6 and M4, where it was not tested. `End::Memory` where memory was refused: the turn is given up.
 #[inline(always)]
 pub fn store_result(
     header: &Header,
@@ -67,7 +75,7 @@ pub(crate) fn test_caller(
 ) -> Result<(), End>
     requires sound { IsSound store.now.store }
     requires called { 1 < frame_count (slice_index store.now.store.cells) }
-    requires running { at ≡ 16 + 7 * (frame_count (slice_index store.now.store.cells) - 1) }
+    requires running { at ≡ base_cell + record_length * (frame_count (slice_index store.now.store.cells) - 1) }
     ensures { Went result store.now store.now (λ s. can_store result_variable (drop 1 s.frames) s) }
 {
     match result_variable {
@@ -80,7 +88,7 @@ pub(crate) fn test_caller(
                 Ok(())
             }
             1..16 => {
-                if variable as u16 > cell(store, at - RECORD + 4) {
+                if variable as u16 > cell(store, at - RECORD + LOCAL_COUNT) {
                     return Err(End::Stop(Place::Fault(Fault::Write)));
                 }
                 Ok(())

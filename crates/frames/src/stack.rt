@@ -1,13 +1,14 @@
 //! The stack of the running frame.
 
 ghost use Rattle.std.specs.Prelude.{◌≡◌, ◌<◌, ◌≤◌, ◌+◌, ◌-◌, ◌*◌, slice_index, IfSome, IfNone};
-ghost use Rattle.frames.specs.Standing.{base_of, local_count, frame_count, height_of, IsSound};
+ghost use Rattle.frames.specs.Layout.{base_cell, record_length};
+ghost use Rattle.frames.specs.States.{base_of, local_count, frame_count, height_of, IsSound};
 ghost use Rattle.frames.specs.Went.{Went};
 ghost use Rattle.zcore.specs.Parts.{push, pop, read_in_place, write_in_place};
 
 use crate::cells::{cell, long, put_long};
 use crate::end::End;
-use crate::layout::{FRAME_COUNT, HEIGHT, RECORD, RECORDS, STACK, STACK_SIZE};
+use crate::layout::{FRAME_COUNT, HEIGHT, LOCAL_COUNT, RECORD, RECORDS, STACK, STACK_SIZE};
 use crate::store::Store;
 use journal::Recorded;
 use zcore::{Fault, Place};
@@ -16,7 +17,7 @@ use zcore::{Fault, Place};
 #[inline]
 pub(crate) fn running(store: &Recorded<Store>) -> usize
     requires { IsSound store.now.store }
-    ensures { result ≡ 16 + 7 * (frame_count (slice_index store.now.store.cells) - 1) }
+    ensures { result ≡ base_cell + record_length * (frame_count (slice_index store.now.store.cells) - 1) }
 {
     RECORDS + RECORD * (cell(store, FRAME_COUNT) as usize - 1)
 }
@@ -31,7 +32,11 @@ pub(crate) fn height(store: &Recorded<Store>) -> usize
     long(store, HEIGHT) as usize
 }
 
-/// Pushes a word on the running frame's stack. M6 where all stacks hold 65,536 words.
+/// Pushes a word on the running frame's stack.
+///
+/// # Errors
+///
+/// M6 where all stacks hold 65,536 words. `End::Memory` where memory was refused: the turn is given up.
 #[inline]
 pub fn push(store: &mut Recorded<Store>, word: u16) -> Result<(), End>
     requires { IsSound store.old.store }
@@ -54,7 +59,7 @@ pub(crate) fn bottom(store: &Recorded<Store>) -> usize
     ensures within { result ≤ height_of (slice_index store.now.store.cells) }
 {
     let record = running(store);
-    long(store, record) as usize + cell(store, record + 4) as usize
+    long(store, record) as usize + cell(store, record + LOCAL_COUNT) as usize
 }
 
 /// The cell of the word on the top of the running frame's stack, if there is one.
@@ -73,7 +78,11 @@ fn top_cell(store: &Recorded<Store>) -> Option<usize>
     }
 }
 
-/// Pops the running frame's stack. M5 where it is empty.
+/// Pops the running frame's stack.
+///
+/// # Errors
+///
+/// M5 where it is empty. `End::Memory` where memory was refused: the turn is given up.
 #[inline]
 pub fn pop(store: &mut Recorded<Store>) -> Result<u16, End>
     requires { IsSound store.old.store }
@@ -88,7 +97,11 @@ pub fn pop(store: &mut Recorded<Store>) -> Result<u16, End>
 }
 
 /// Reads the word on the top of the running frame's stack, where it stays: variable 0 in place (Z-Machine Standards
-/// Document 1.1, section 6.3.4). M5 where the stack is empty.
+/// Document 1.1, section 6.3.4).
+///
+/// # Errors
+///
+/// M5 where the stack is empty.
 #[inline]
 pub fn top(store: &Recorded<Store>) -> Result<u16, End>
     requires { IsSound store.now.store }

@@ -1,13 +1,14 @@
 //! Variables: the stack, locals and globals.
 
 ghost use Rattle.std.specs.Prelude.{◌≡◌, ◌<◌, ◌≤◌, ◌+◌, ◌-◌, ◌*◌, ◌^◌, slice_index, IfSome, IfNone};
-ghost use Rattle.frames.specs.Standing.{base_of, local_count, frame_count, IsSound, IsStoreOf};
+ghost use Rattle.frames.specs.Layout.{stack_offset};
+ghost use Rattle.frames.specs.States.{base_of, local_count, frame_count, IsSound, IsStoreOf};
 ghost use Rattle.frames.specs.Went.{Went};
 ghost use Rattle.zcore.specs.Parts.{read_local, write_local, read_global, write_global, read_variable, write_variable, read_in_place, write_in_place, test_pull};
 
 use crate::cells::{cell, long};
 use crate::end::End;
-use crate::layout::{MEMORY, STACK};
+use crate::layout::{LOCAL_COUNT, MEMORY, STACK};
 use crate::results::test_result;
 use crate::stack::{bottom, height, pop, push, running, set_top, top};
 use crate::store::Store;
@@ -19,11 +20,11 @@ use zcore::{Fault, Header, Place};
 fn local_cell(store: &Recorded<Store>, number: usize) -> Option<usize>
     requires { IsSound store.now.store }
     ensures some { IfSome result (λ i. (number < local_count (slice_index store.now.store.cells) (frame_count (slice_index store.now.store.cells) - 1))
-        × (i ≡ 7023 + base_of (slice_index store.now.store.cells) (frame_count (slice_index store.now.store.cells) - 1) + number)) }
+        × (i ≡ stack_offset + base_of (slice_index store.now.store.cells) (frame_count (slice_index store.now.store.cells) - 1) + number)) }
     ensures none { IfNone result (local_count (slice_index store.now.store.cells) (frame_count (slice_index store.now.store.cells) - 1) ≤ number) }
 {
     let record = running(store);
-    if number < cell(store, record + 4) as usize {
+    if number < cell(store, record + LOCAL_COUNT) as usize {
         Some(STACK + long(store, record) as usize + number)
     } else {
         None
@@ -56,7 +57,7 @@ fn write_local(store: &mut Recorded<Store>, number: usize, word: u16) -> Result<
 
 /// Where a global stands, from variable 16 on.
 #[inline]
-fn global_place(header: &Header, variable: u8) -> usize
+fn global_address(header: &Header, variable: u8) -> usize
     requires { 16 ≤ variable }
     ensures same { result ≡ header.now.globals + 2 * (variable - 16) }
     ensures within { result < 2 ^ 17 }
@@ -71,7 +72,7 @@ fn read_global(header: &Header, store: &Recorded<Store>, variable: u8) -> Result
     requires variable { 16 ≤ variable }
     ensures { Went result store.now store.now (read_global variable) }
 {
-    let at = global_place(header, variable);
+    let at = global_address(header, variable);
     let memory = store.store().memory();
     Ok(memory[at] as u16 * 256 + memory[at + 1] as u16)
 }
@@ -88,13 +89,17 @@ fn write_global(
     requires variable { 16 ≤ variable }
     ensures { Went result store.old store.new (write_global variable word) }
 {
-    let at = global_place(header, variable);
+    let at = global_address(header, variable);
     store.put(MEMORY + at, word / 256)?;
     store.put(MEMORY + at + 1, word % 256)?;
     Ok(())
 }
 
-/// Reads a variable in place: 0 is the top of the stack, which stays (section 6.3.4). M5, M3.
+/// Reads a variable in place: 0 is the top of the stack, which stays (section 6.3.4).
+///
+/// # Errors
+///
+/// M5 where the stack is empty, M3 where the frame has not such a local.
 #[inline(always)]
 pub fn read_in_place(header: &Header, store: &Recorded<Store>, variable: u8) -> Result<u16, End>
     requires { IsStoreOf header.now store.now.store }
@@ -107,7 +112,12 @@ pub fn read_in_place(header: &Header, store: &Recorded<Store>, variable: u8) -> 
     }
 }
 
-/// Reads a variable: 0 pops the stack, 1 to 15 are locals, 16 and above are globals. M5, M3.
+/// Reads a variable: 0 pops the stack, 1 to 15 are locals, 16 and above are globals.
+///
+/// # Errors
+///
+/// M5 where the stack is empty, M3 where the frame has not such a local. `End::Memory` where memory was refused: the
+/// turn is given up.
 #[inline(always)]
 pub fn read_variable(header: &Header, store: &mut Recorded<Store>, variable: u8) -> Result<u16, End>
     requires { IsStoreOf header.now store.old.store }
@@ -119,7 +129,12 @@ pub fn read_variable(header: &Header, store: &mut Recorded<Store>, variable: u8)
     }
 }
 
-/// Writes a variable: 0 pushes on the stack, 1 to 15 are locals, 16 and above are globals. M6, M4.
+/// Writes a variable: 0 pushes on the stack, 1 to 15 are locals, 16 and above are globals.
+///
+/// # Errors
+///
+/// M6 where the stack is full, M4 where the frame has not such a local. `End::Memory` where memory was refused: the
+/// turn is given up.
 #[inline(always)]
 pub fn write_variable(
     header: &Header,
@@ -137,7 +152,12 @@ pub fn write_variable(
     }
 }
 
-/// Writes a variable in place: 0 is the top of the stack, whose word is replaced (section 6.3.4). M5, M4.
+/// Writes a variable in place: 0 is the top of the stack, whose word is replaced (section 6.3.4).
+///
+/// # Errors
+///
+/// M5 where the stack is empty, M4 where the frame has not such a local. `End::Memory` where memory was refused: the
+/// turn is given up.
 #[inline]
 pub fn write_in_place(
     header: &Header,
@@ -155,6 +175,9 @@ pub fn write_in_place(
 }
 
 /// Tests whether a word that is taken from the stack can then be stored in a variable in place, and changes nothing.
+///
+/// # Errors
+///
 /// M5 where variable 0 leaves no word below it, M4 where the frame has not such a local.
 #[inline]
 pub fn test_pull(store: &Recorded<Store>, variable: u8) -> Result<(), End>

@@ -4,7 +4,7 @@
 mod output;
 mod words;
 
-use crate::output::write_whole;
+use crate::output::{is_one_file, write_whole};
 use crate::words::{Words, command, words_of};
 use std::fmt::Display;
 use std::process::ExitCode;
@@ -52,6 +52,12 @@ fn build(rt: &HostRuntime, words: Words<'_>) -> ExitCode {
     let Ok(source) = fs::read(rt, words.source) else {
         return misused(rt, format_args!("cannot read {}", words.source));
     };
+    if is_one_file(rt, words.source, words.story) {
+        return misused(
+            rt,
+            format_args!("cannot write {}: it is the source", words.story),
+        );
+    }
     match compile(rt.alloc(), &source) {
         Ok(story) => match write_whole(rt, words.story, story.bytes()) {
             Ok(()) => ExitCode::SUCCESS,

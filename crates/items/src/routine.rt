@@ -10,7 +10,11 @@ use crate::statement::{put_return_true, put_statements};
 use checker::CheckedRoutine;
 use std::alloc::{AllocError, Global};
 
-/// The items of a routine: those of its statements, and then it returns true. An error where memory is refused.
+/// The items of a routine: those of its statements, and then it returns true.
+///
+/// # Errors
+///
+/// `AllocError` where a growth of memory was refused.
 #[tactic(auto, using(crate::proofs::Chains::routine_more))]
 pub fn routine_items<'a>(
     alloc: Global,

@@ -5,8 +5,6 @@
 mod cells;
 mod record;
 mod recorded;
-#[cfg(test)]
-mod tests;
 
 pub use cells::Cells;
 pub use record::{Record, swap_back, swap_forward};

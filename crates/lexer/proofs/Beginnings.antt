@@ -8,7 +8,8 @@ use Rattle.lexer.specs.declared.token.Sign.TheVariants as s
 use Rattle.lexer.specs.Token.{Lexeme, name, number, text, character, dictionary_word, reserved, sign, end}
 use Rattle.lexer.specs.Bytes.{is_letter, is_digit, is_divider, is_digit_of, Each}
 use Rattle.lexer.specs.Spelling.{sign_spelling, prefix, Spells}
-use Rattle.lexer.proofs.Tables.{reserved_first, word_sizes, sign_size}
+use Rattle.lexer.proofs.SignTables.{sign_size}
+use Rattle.lexer.proofs.WordTables.{reserved_first, word_sizes}
 
 -- 1: names and reserved words, 2: numbers, 3: texts, 4: characters and dictionary words, 5: signs
 abbrev pub class_of : Lexeme → ℕ

@@ -1,5 +1,6 @@
 pub mod Runs
-pub mod Tables
+pub mod SignTables
+pub mod WordTables
 pub mod Beginnings
 pub mod Words
 pub mod Longest

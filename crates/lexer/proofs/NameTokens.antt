@@ -9,7 +9,7 @@ use Rattle.lexer.specs.Bytes.{is_letter, is_name_byte, run, Each}
 use Rattle.lexer.specs.Spelling.{IsReserved, IsName, Spells}
 use Rattle.lexer.specs.Tokens.{IsLongest, Breaks}
 use Rattle.lexer.proofs.Runs.{run_within}
-use Rattle.lexer.proofs.Tables.{reserved_each, word_sizes}
+use Rattle.lexer.proofs.WordTables.{reserved_each, word_sizes}
 use Rattle.lexer.proofs.Beginnings.{class_of, letter_class}
 use Rattle.lexer.proofs.Longest.{run_each, run_longest, run_some, front_class}
 use Rattle.lexer.proofs.Words.{reserved_length}

@@ -14,7 +14,7 @@ use Rattle.lexer.specs.Token.{Lexeme, sign, lexeme_of}
 use Rattle.lexer.specs.Spelling.{sign_spelling, Spells}
 use Rattle.lexer.specs.Tokens.{IsLongest, Breaks}
 use Rattle.lexer.specs.Fronts.{HasNoSign, IsLongestSign, Scanned}
-use Rattle.lexer.proofs.Tables.{sign_facts, first_alone, first_alone_is}
+use Rattle.lexer.proofs.SignTables.{sign_facts, first_alone, first_alone_is}
 use Rattle.lexer.proofs.Beginnings.{class_of, class_at, begins, takes, sign_class}
 use Rattle.lexer.proofs.Longest.{front_class}
 

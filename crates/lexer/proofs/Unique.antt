@@ -12,7 +12,8 @@ use Rattle.lexer.specs.Token.{Lexeme, name, number, text, character, dictionary_
 use Rattle.lexer.specs.Bytes.{is_divider, value_from}
 use Rattle.lexer.specs.Spelling.{IsName, IsReserved, IsNumber, IsDictionaryWord, prefix, quoted, Spells}
 use Rattle.lexer.specs.Tokens.{IsLongest, IsAllowed, Breaks, number_of, Outcome, put, Lexes, at_end, divider, comment, token, fault}
-use Rattle.lexer.proofs.Tables.{same_sign, same_word}
+use Rattle.lexer.proofs.SignTables.{same_sign}
+use Rattle.lexer.proofs.WordTables.{same_word}
 use Rattle.lexer.proofs.Beginnings.{class_of, class_at, begins, takes, divider_class, comment_class, text_class, quoted_class}
 use Rattle.lexer.proofs.NumberTokens.{base_is}
 use Rattle.lexer.proofs.Contents.{same_front, long_word, not_plain}

@@ -6,7 +6,7 @@ use Rattle.std.specs.Str.{str_eq_ignore_ascii_case}
 use Rattle.std.proofs.lemmas.List.{length-map}
 use Rattle.lexer.specs.declared.token.Word.{Word}
 use Rattle.lexer.specs.Spelling.{IsReserved, word_spelling}
-use Rattle.lexer.proofs.Tables.{spelled_false}
+use Rattle.lexer.proofs.WordTables.{spelled_false}
 
 pub reserved_length : (w : Word) (bs : List ℕ) → IsReserved w bs → length (word_spelling w) ≡ length bs
 reserved_length w bs r = ap length (sym r) ∙ length-map bs to_ascii_lowercase

@@ -1,11 +1,13 @@
--- What the parts of a scan find at the front of bytes.
-use Rattle.std.specs.Prelude.{◌≡◌, ◌==◌, ◌≤◌, ℕ, if◌then◌else◌, List, length, take, drop, Result, Ok, Err}
+-- Words of proofs: what the parts of a scan find at the front of bytes.
+use Rattle.std.specs.Prelude.{◌≡◌, ◌==◌, ◌≤◌, ℕ, Bool, true, false, if◌then◌else◌, List, length, take, drop, Result, Ok, Err}
 use Rattle.lexer.specs.declared.bytes.Base.{Base}
 use Rattle.lexer.specs.declared.bytes.Base.TheVariants as bases
 use Rattle.lexer.specs.declared.fault.LexicalFault.{LexicalFault}
 use Rattle.lexer.specs.declared.token.Kind.{Kind}
 use Rattle.lexer.specs.declared.token.Position.{Position}
 use Rattle.lexer.specs.declared.token.Sign.{Sign}
+use Rattle.lexer.specs.declared.token.Word.{Word}
+use Rattle.lexer.specs.declared.token.Word.TheVariants as w
 use Rattle.lexer.specs.Token.{Lexeme, character, dictionary_word, lexeme_of}
 use Rattle.lexer.specs.Spelling.{sign_spelling, IsCharacter, IsDictionaryWord}
 use Rattle.lexer.specs.Tokens.{IsLongest, IsAllowed, Breaks}
@@ -24,6 +26,34 @@ abbrev pub IsContent : Lexeme → List ℕ → Type 0
 IsContent (character c p) content = IsCharacter c content
 IsContent (dictionary_word s p) content = IsDictionaryWord s content
 IsContent lexeme content = ⊥
+
+-- the words of statements
+abbrev pub is_statement_word : Word → Bool
+is_statement_word w.Break = true
+is_statement_word w.Continue = true
+is_statement_word w.Default = true
+is_statement_word w.Do = true
+is_statement_word w.Else = true
+is_statement_word w.For = true
+is_statement_word w.Give = true
+is_statement_word w.If = true
+is_statement_word w.Move = true
+is_statement_word w.NewLine = true
+is_statement_word w.Objectloop = true
+is_statement_word w.Print = true
+is_statement_word w.PrintRet = true
+is_statement_word w.Quit = true
+is_statement_word w.Read = true
+is_statement_word w.Remove = true
+is_statement_word w.Return = true
+is_statement_word w.Rfalse = true
+is_statement_word w.Rtrue = true
+is_statement_word w.String = true
+is_statement_word w.Switch = true
+is_statement_word w.To = true
+is_statement_word w.Until = true
+is_statement_word w.While = true
+is_statement_word _ = false
 
 abbrev pub HasNoSign : List ℕ → Type 0
 HasNoSign bs = (s : Sign) (n : ℕ) → take n bs ≡ sign_spelling s → ⊥

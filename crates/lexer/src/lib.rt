@@ -10,8 +10,6 @@ mod quoted;
 mod scan;
 mod signs;
 mod source;
-#[cfg(test)]
-mod tests;
 mod token;
 
 pub use fault::{

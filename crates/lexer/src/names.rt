@@ -6,7 +6,7 @@ ghost use Rattle.std.specs.Str.{str_eq_ignore_ascii_case};
 ghost use Rattle.lexer.specs.Bytes as classes;
 ghost use Rattle.lexer.specs.declared.token.Word.{Word};
 ghost use Rattle.lexer.specs.Spelling.{IsReserved, word_spelling};
-ghost use Rattle.lexer.specs.Fronts.{Scanned};
+ghost use Rattle.lexer.specs.Fronts.{Scanned, is_statement_word};
 
 use crate::bytes::{Class, front, run_length};
 use crate::fault::LexicalFault;
@@ -15,6 +15,40 @@ use crate::token::{Kind, Word};
 /// The most bytes that a name may have.
 pub const LONGEST_NAME: usize = 32;
 
+// The words of statements.
+fn statement_word_spelling(word: Word) -> &'static [u8]
+    requires { is_statement_word word ≡ true }
+    ensures { result.now ≡ word_spelling word }
+{
+    match word {
+        Word::Break => b"break",
+        Word::Continue => b"continue",
+        Word::Default => b"default",
+        Word::Do => b"do",
+        Word::Else => b"else",
+        Word::For => b"for",
+        Word::Give => b"give",
+        Word::If => b"if",
+        Word::Move => b"move",
+        Word::NewLine => b"new_line",
+        Word::Objectloop => b"objectloop",
+        Word::Print => b"print",
+        Word::PrintRet => b"print_ret",
+        Word::Quit => b"quit",
+        Word::Read => b"read",
+        Word::Remove => b"remove",
+        Word::Return => b"return",
+        Word::Rfalse => b"rfalse",
+        Word::Rtrue => b"rtrue",
+        Word::String => b"string",
+        Word::Switch => b"switch",
+        Word::To => b"to",
+        Word::Until => b"until",
+        Word::While => b"while",
+        _ => b"",
+    }
+}
+
 fn spelling(word: Word) -> &'static [u8]
     ensures { result.now ≡ word_spelling word }
 {
@@ -22,53 +56,32 @@ fn spelling(word: Word) -> &'static [u8]
         Word::Abbreviate => b"abbreviate",
         Word::Array => b"array",
         Word::Attribute => b"attribute",
-        Word::Break => b"break",
         Word::Char => b"char",
         Word::Child => b"child",
         Word::Constant => b"constant",
-        Word::Continue => b"continue",
-        Word::Default => b"default",
-        Word::Do => b"do",
-        Word::Else => b"else",
         Word::False => b"false",
-        Word::For => b"for",
-        Word::Give => b"give",
         Word::Global => b"global",
         Word::Has => b"has",
         Word::Hasnt => b"hasnt",
-        Word::If => b"if",
         Word::In => b"in",
-        Word::Move => b"move",
-        Word::NewLine => b"new_line",
         Word::Nothing => b"nothing",
         Word::Notin => b"notin",
         Word::Object => b"object",
-        Word::Objectloop => b"objectloop",
         Word::Or => b"or",
         Word::Parent => b"parent",
-        Word::Print => b"print",
-        Word::PrintRet => b"print_ret",
         Word::Property => b"property",
         Word::Provides => b"provides",
-        Word::Quit => b"quit",
-        Word::Read => b"read",
-        Word::Remove => b"remove",
-        Word::Return => b"return",
-        Word::Rfalse => b"rfalse",
-        Word::Rtrue => b"rtrue",
         Word::Sibling => b"sibling",
-        Word::String => b"string",
-        Word::Switch => b"switch",
         Word::Table => b"table",
-        Word::To => b"to",
         Word::True => b"true",
-        Word::Until => b"until",
-        Word::While => b"while",
         Word::With => b"with",
+        _ => statement_word_spelling(word),
     }
 }
 
-fn words_of_length(size: usize) -> &'static [Word]
+// Words of at most five bytes, by their length.
+fn short_words(size: usize) -> &'static [Word]
+    requires { size < 6 }
     ensures { (w : Word) → length (word_spelling w) ≡ size → Contains result.now w }
 {
     match size {
@@ -97,6 +110,15 @@ fn words_of_length(size: usize) -> &'static [Word]
             Word::Until,
             Word::While,
         ],
+        _ => &[],
+    }
+}
+
+fn words_of_length(size: usize) -> &'static [Word]
+    ensures { (w : Word) → length (word_spelling w) ≡ size → Contains result.now w }
+{
+    match size {
+        0..=5 => short_words(size),
         6 => &[
             Word::Global,
             Word::Object,
@@ -139,6 +161,10 @@ fn reserved_word(text: &[u8]) -> Option<Word>
 }
 
 /// The name or reserved word at the front, and its length.
+///
+/// # Errors
+///
+/// `NameTooLong`: a name of more than 32 bytes.
 pub fn name_token<'a>(bytes: &'a [u8]) -> Result<(Kind<'a>, usize), LexicalFault>
     requires { classes.is_letter (slice_index bytes.now 0) ≡ true }
     ensures { Scanned bytes.now result }

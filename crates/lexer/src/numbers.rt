@@ -48,6 +48,10 @@ fn value(base: Base, digits: &[u8]) -> Option<u16>
 }
 
 /// The number at the front, and its length.
+///
+/// # Errors
+///
+/// `BadNumber`: no digit stands behind the prefix, the value is above 65,535, or a byte of names stands directly after it.
 pub fn number_token<'a>(bytes: &'a [u8]) -> Result<(Kind<'a>, usize), LexicalFault>
     requires { (classes.is_digit (slice_index bytes.now 0) || slice_index bytes.now 0 == 36) ≡ true }
     ensures { Scanned bytes.now result }

@@ -13,6 +13,10 @@ use crate::fault::LexicalFault;
 use crate::token::Kind;
 
 /// The text at the front, and its length.
+///
+/// # Errors
+///
+/// `BadText`: no quote ends it, or a byte that it may not have stands before that quote.
 pub fn text_token<'a>(bytes: &'a [u8]) -> Result<(Kind<'a>, usize), LexicalFault>
     requires { slice_index bytes.now 0 ≡ 34 }
     ensures { Scanned bytes.now result }
@@ -79,6 +83,10 @@ fn quoted_kind<'a>(content: &'a [u8]) -> Option<Kind<'a>>
 }
 
 /// The character or dictionary word at the front, and its length.
+///
+/// # Errors
+///
+/// `BadText`: no quote ends it, or what stands before that quote is no character and no dictionary word.
 pub fn quoted_token<'a>(bytes: &'a [u8]) -> Result<(Kind<'a>, usize), LexicalFault>
     requires { slice_index bytes.now 0 ≡ 39 }
     ensures { Scanned bytes.now result }

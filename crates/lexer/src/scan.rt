@@ -13,6 +13,10 @@ use crate::signs::{sign_at, sign_length};
 use crate::token::Kind;
 
 /// The token at the front, where no divider and no comment stands, and its length.
+///
+/// # Errors
+///
+/// `StrayByte`: the first byte begins no token. The other faults are those of the token that it begins.
 pub fn scan<'a>(bytes: &'a [u8]) -> Result<(Kind<'a>, usize), LexicalFault>
     requires nonempty { 0 < length bytes.now }
     requires no_divider { classes.is_divider (slice_index bytes.now 0) ≡ false }

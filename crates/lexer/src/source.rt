@@ -44,8 +44,12 @@ fn token_at<'a>(source: &'a [u8], position: Position) -> Result<Token<'a>, Sourc
     }
 }
 
-/// The tokens of a source, of which the last is its end; or the fault at the smallest place, with its line. E99 and
-/// line 0 where memory was refused.
+/// The tokens of a source, of which the last is its end.
+///
+/// # Errors
+///
+/// - E01 to E04: the rule of tokens that is broken at the smallest place, with the line of that place.
+/// - E99, with line 0: a growth of memory is refused.
 pub fn lex<'a>(alloc: Global, source: &'a [u8]) -> Result<Vec<Token<'a>>, SourceFault>
     ensures meets { Meets result (λ o. Lexes 0 1 source.now o) }
     ensures ends_once { IfOk result (λ v. EndsOnce (lexemes v.items)) }

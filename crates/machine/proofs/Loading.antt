@@ -6,7 +6,7 @@ use Rattle.zcore.specs.State.{State}
 use Rattle.zcore.specs.Turn.{first_state}
 use Rattle.frames.specs.Contents.{Contents, memory_of}
 use Rattle.machine.specs.Loaded.{IsLoaded}
-use Rattle.frames.specs.Standing.{state_of, IsSound, IsHeadedBy}
+use Rattle.frames.specs.States.{state_of, IsSound, IsHeadedBy}
 use Rattle.machine.specs.declared.turn.Machine.{Machine}
 
 headed_by : (story : List ℕ) (header : Header) → IsHeaderOf story header → IsHeadedBy header story
@@ -16,7 +16,7 @@ headed_by story header h = record {
   globals = h.globals;
   defaults = h.defaults;
   abbreviations = h.abbreviations;
-  dictionary = h.dictionary.place;
+  dictionary = h.dictionary.address;
 }
 
 pub loaded : (story : List ℕ) (machine : Machine) (s : Contents) → Reads story (Ok machine.header) → IsSound s → state_of s [] ≡ first_state story → IsLoaded story machine s

@@ -11,7 +11,7 @@ use Rattle.zcore.specs.declared.instruction.Branch.{Branch}
 use Rattle.zcore.specs.Step.{give_result, write_and_branch, jump, text_at, read_text, text_fault}
 use Rattle.zcore.specs.Text.{decoded}
 use Rattle.frames.specs.Contents.{Contents, memory_of}
-use Rattle.frames.specs.Standing.{state_of, IsSound}
+use Rattle.frames.specs.States.{state_of, IsSound}
 use Rattle.frames.specs.Went.{Went}
 use Rattle.frames.specs.declared.end.End.{End}
 use Rattle.frames.specs.declared.end.End.TheVariants as ends
@@ -25,13 +25,13 @@ pub jump_stops : (here : Next) (after offset target : ℕ) (x : End) (s : Record
 unfolding jump
 jump_stops here after offset target x s e v = went_no_further _ (subst (λ t. Went {A = Unit {0}} (Err x) s s (test_target t)) e v)
 
-pub text_read : (s : Recording Contents) (story : List ℕ) (place : ℕ) (x : List ℕ × ℕ) → IsSound s.store → story ≡ memory_of s.store → decoded story place ≡ Ok x → Went (Ok x) s s (text_at place)
+pub text_read : (s : Recording Contents) (story : List ℕ) (address : ℕ) (x : List ℕ × ℕ) → IsSound s.store → story ≡ memory_of s.store → decoded story address ≡ Ok x → Went (Ok x) s s (text_at address)
 unfolding text_at
-text_read s story place x sound m e = went_still s (text_at place) sound (λ t. ap (λ r. read_text r (state_of s.store t)) (ap (λ l. decoded l place) (sym m) ∙ e))
+text_read s story address x sound m e = went_still s (text_at address) sound (λ t. ap (λ r. read_text r (state_of s.store t)) (ap (λ l. decoded l address) (sym m) ∙ e))
 
-pub text_unread : (s : Recording Contents) (story : List ℕ) (place : ℕ) (cause : Cause) → IsSound s.store → story ≡ memory_of s.store → decoded story place ≡ Err cause → Went {A = List ℕ × ℕ} (Err (ends.Stop (places.Fault (text_fault cause)))) s s (text_at place)
+pub text_unread : (s : Recording Contents) (story : List ℕ) (address : ℕ) (cause : Cause) → IsSound s.store → story ≡ memory_of s.store → decoded story address ≡ Err cause → Went {A = List ℕ × ℕ} (Err (ends.Stop (places.Fault (text_fault cause)))) s s (text_at address)
 unfolding text_at
-text_unread s story place cause sound m e = went_halt s (text_at place) sound (λ t. ap (λ r. read_text r (state_of s.store t)) (ap (λ l. decoded l place) (sym m) ∙ e))
+text_unread s story address cause sound m e = went_halt s (text_at address) sound (λ t. ap (λ r. read_text r (state_of s.store t)) (ap (λ l. decoded l address) (sym m) ∙ e))
 
 -- a test that passes
 pub test_passed : {B : Type 0} {r : Result B End} {s t : Recording Contents} (b : Bool) (cause : Fault) (k : Unit {0} → State → Out B) → b ≡ true → Went r s t (k tt) → Went r s t (test b cause >>= k)

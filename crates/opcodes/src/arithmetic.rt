@@ -3,7 +3,7 @@
 ghost use Rattle.std.specs.Prelude.{◌≡◌, ◌≤◌, ℕ, MatchOption};
 ghost use Rattle.zcore.specs.Arithmetic.{magnitude, quotient, remainder, signed_less};
 ghost use Rattle.zcore.specs.Step.{equals_any, give_result, divide, modulo};
-ghost use Rattle.frames.specs.Standing.{IsStoreOf};
+ghost use Rattle.frames.specs.States.{IsStoreOf};
 ghost use Rattle.frames.specs.Went.{Went};
 
 use frames::{End, Store, store_result, test_result};
@@ -29,7 +29,11 @@ pub fn signed_less(x: u16, y: u16) -> bool
     x.wrapping_add(NEGATIVE) < y.wrapping_add(NEGATIVE)
 }
 
-/// Stores a result, of `or`, `and`, `not`, `add`, `sub` or `mul`, and goes on. M6 and M4 of the result.
+/// Stores a result, of `or`, `and`, `not`, `add`, `sub` or `mul`, and goes on.
+///
+/// # Errors
+///
+/// M6 and M4 of the result. `End::Memory` where memory was refused: the turn is given up.
 #[inline(always)]
 pub fn give_result(
     header: &Header,
@@ -50,7 +54,11 @@ pub fn give_result(
     })
 }
 
-/// Signed division, rounded towards zero: `div`. M7 by zero, then M6 and M4 of the result.
+/// Signed division, rounded towards zero: `div`.
+///
+/// # Errors
+///
+/// M7 by zero, then M6 and M4 of the result. `End::Memory` where memory was refused: the turn is given up.
 #[inline]
 pub fn divide(
     header: &Header,
@@ -70,7 +78,11 @@ pub fn divide(
     give_result(header, store, here, after, result_variable, quotient)
 }
 
-/// The remainder of signed division, with the sign of the dividend: `mod`. M7 by zero, then M6 and M4 of the result.
+/// The remainder of signed division, with the sign of the dividend: `mod`.
+///
+/// # Errors
+///
+/// M7 by zero, then M6 and M4 of the result. `End::Memory` where memory was refused: the turn is given up.
 #[inline]
 pub fn modulo(
     header: &Header,

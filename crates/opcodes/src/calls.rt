@@ -1,10 +1,10 @@
 //! Calls of routines and returns from them (Z-Machine Standards Document 1.1, sections 6.4 and 15).
 
 ghost use Rattle.std.specs.Prelude.{◌≡◌, ◌≤◌, ◌*◌, length};
-ghost use Rattle.zcore.specs.Header.{scale_of};
+ghost use Rattle.zcore.specs.Header.{scale_of, longest_story};
 ghost use Rattle.zcore.specs.Parts.{call, give_back};
 ghost use Rattle.zcore.specs.Step.{call_packed, return_popped};
-ghost use Rattle.frames.specs.Standing.{IsSound, IsStoreOf};
+ghost use Rattle.frames.specs.States.{IsSound, IsStoreOf};
 ghost use Rattle.frames.specs.Went.{Went};
 
 use crate::arithmetic::give_result;
@@ -14,8 +14,12 @@ use journal::Recorded;
 use zcore::{Header, Next};
 
 /// A call of a routine at a packed address: `call_vs`, `call_vs2`, and with no variable for the result `call_1n`,
-/// `call_vn` and `call_vn2`. Address 0 calls nothing and gives 0 at once, for which it spends nothing. M2, M6, the limit
-/// of calls, the limit of fuel; at address 0 M6 and M4 of the result.
+/// `call_vn` and `call_vn2`. Address 0 calls nothing and gives 0 at once, for which it spends nothing.
+///
+/// # Errors
+///
+/// M2 where no routine stands there, M6 where its locals find no room, the limit of calls, the limit of fuel; at
+/// address 0 M6 and M4 of the result. `End::Memory` where memory was refused: the turn is given up.
 #[inline]
 pub fn call_packed(
     header: &Header,
@@ -41,7 +45,7 @@ pub fn call_packed(
 #[inline]
 pub(crate) fn unpacked(header: &Header, packed: u16) -> u32
     ensures same { result ≡ scale_of header.now.version * packed }
-    ensures within { result ≤ 524280 }
+    ensures within { result ≤ longest_story }
 {
     header.version.scale() * packed as u32
 }
@@ -57,7 +61,7 @@ fn call(
     result_variable: Option<u8>,
 ) -> Result<Next, End>
     requires sound { IsSound store.old.store }
-    requires place { routine ≤ 524280 }
+    requires address { routine ≤ longest_story }
     requires few { length arguments.now ≤ 15 }
     ensures { Went result store.old store.new (call here after routine arguments.now result_variable) }
 {
@@ -71,7 +75,12 @@ fn call(
     })
 }
 
-/// Returns a word from the running routine: `ret`; `rtrue` returns 1, and `rfalse` 0. M11, M6, M4, M2.
+/// Returns a word from the running routine: `ret`; `rtrue` returns 1, and `rfalse` 0.
+///
+/// # Errors
+///
+/// M11 in the first environment, M6 and M4 where the caller cannot store the result, M2 where the address to go on at
+/// is no code. `End::Memory` where memory was refused: the turn is given up.
 #[inline]
 pub fn give_back(
     header: &Header,
@@ -91,7 +100,12 @@ pub fn give_back(
     })
 }
 
-/// Returns the word on the top of the stack: `ret_popped`. M5, then M11, M6, M4, M2.
+/// Returns the word on the top of the stack: `ret_popped`.
+///
+/// # Errors
+///
+/// M5 where the stack is empty, M11 in the first environment, M6 and M4 where the caller cannot store the result, M2
+/// where the address to go on at is no code. `End::Memory` where memory was refused: the turn is given up.
 #[inline]
 pub fn return_popped(header: &Header, store: &mut Recorded<Store>, here: Next) -> Result<Next, End>
     requires { IsStoreOf header.now store.old.store }

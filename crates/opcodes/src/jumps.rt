@@ -1,10 +1,11 @@
 //! Jumps and branches (Z-Machine Standards Document 1.1, sections 4.7 and 15).
 
 ghost use Rattle.std.specs.Prelude.{◌≡◌, ◌≤◌};
+ghost use Rattle.zcore.specs.Header.{longest_story};
 ghost use Rattle.zcore.specs.Parts.{test_target, go, spend, jump_target, branch_target, take_branch, branch_on, test_taken, test_branch};
 ghost use Rattle.zcore.specs.Step.{jump, check_argument_count};
 ghost use Rattle.opcodes.specs.Says.{Says};
-ghost use Rattle.frames.specs.Standing.{IsSound, IsStoreOf};
+ghost use Rattle.frames.specs.States.{IsSound, IsStoreOf};
 ghost use Rattle.frames.specs.Went.{Went};
 
 use crate::arithmetic::NEGATIVE;
@@ -16,11 +17,15 @@ use zcore::{Branch, Fault, Header, Limit, Next, Place};
 /// From here on a branch's offset stands for itself less 16,384 (section 4.7).
 const NEGATIVE_BRANCH: u16 = 0x2000;
 
-/// A jump by a signed offset: `jump`. M2 where the target is no code; backwards it costs a unit of fuel.
+/// A jump by a signed offset: `jump`.
+///
+/// # Errors
+///
+/// M2 where the target is no code, the limit of fuel where it does not lead on and no unit is left.
 #[inline]
 pub fn jump(store: &Recorded<Store>, here: Next, after: u32, offset: u16) -> Result<Next, End>
     requires sound { IsSound store.now.store }
-    requires after { after ≤ 524280 }
+    requires after { after ≤ longest_story }
     ensures { Went result store.now store.now (jump here after offset) }
 {
     let target = jump_target(after, offset);
@@ -28,8 +33,13 @@ pub fn jump(store: &Recorded<Store>, here: Next, after: u32, offset: u16) -> Res
     go(here, target)
 }
 
-/// A branch by a condition, of `je`, `jl`, `jg`, `jz` or `test`: it is taken where the condition is as the branch asks, and
-/// else the next instruction follows. M2 where the target is no code, and the faults of a return.
+/// A branch by a condition, of `je`, `jl`, `jg`, `jz` or `test`: it is taken where the condition is as the branch asks,
+/// and else the next instruction follows.
+///
+/// # Errors
+///
+/// M2 where the target is no code, and the faults of a return. `End::Memory` where memory was refused: the turn is
+/// given up.
 #[inline(always)]
 pub fn branch_on(
     header: &Header,
@@ -40,7 +50,7 @@ pub fn branch_on(
     holds: bool,
 ) -> Result<Next, End>
     requires store { IsStoreOf header.now store.old.store }
-    requires after { after ≤ 524280 }
+    requires after { after ≤ longest_story }
     ensures { Went result store.old store.new (branch_on here after branch holds) }
 {
     match branch {
@@ -70,7 +80,7 @@ fn take_branch(
     offset: u16,
 ) -> Result<Next, End>
     requires store { IsStoreOf header.now store.old.store }
-    requires after { after ≤ 524280 }
+    requires after { after ≤ longest_story }
     ensures { Went result store.old store.new (take_branch here after offset) }
 {
     if offset < 2 {
@@ -91,7 +101,7 @@ pub(crate) fn test_branch(
     holds: bool,
 ) -> Result<(), End>
     requires sound { IsSound store.now.store }
-    requires after { after ≤ 524280 }
+    requires after { after ≤ longest_story }
     ensures { Went result store.now store.now (test_branch after branch holds) }
 {
     match branch {
@@ -109,7 +119,7 @@ pub(crate) fn test_branch(
 #[inline]
 fn test_taken(store: &Recorded<Store>, after: u32, offset: u16) -> Result<(), End>
     requires sound { IsSound store.now.store }
-    requires after { after ≤ 524280 }
+    requires after { after ≤ longest_story }
     ensures { Went result store.now store.now (test_taken after offset) }
 {
     if offset < 2 {
@@ -119,8 +129,12 @@ fn test_taken(store: &Recorded<Store>, after: u32, offset: u16) -> Result<(), En
     test_target(store, branch_target(after, offset))
 }
 
-/// Branches where the call of the running routine gave an argument of this number, counted from 1: `check_arg_count`. M2
-/// where the target is no code, and the faults of a return.
+/// Branches where the call of the running routine gave an argument of this number, counted from 1: `check_arg_count`.
+///
+/// # Errors
+///
+/// M2 where the target is no code, and the faults of a return. `End::Memory` where memory was refused: the turn is
+/// given up.
 #[inline]
 pub fn check_argument_count(
     header: &Header,
@@ -131,7 +145,7 @@ pub fn check_argument_count(
     number: u16,
 ) -> Result<Next, End>
     requires store { IsStoreOf header.now store.old.store }
-    requires after { after ≤ 524280 }
+    requires after { after ≤ longest_story }
     ensures { Went result store.old store.new (check_argument_count here after branch number) }
 {
     let holds = has_argument(store, number);
@@ -141,7 +155,7 @@ pub fn check_argument_count(
 /// Where a jump goes: an offset counts from the address after the instruction, and 2 more. Below 0 is 0.
 #[inline]
 fn jump_target(after: u32, offset: u16) -> u32
-    requires { after ≤ 524280 }
+    requires { after ≤ longest_story }
     ensures { result ≡ jump_target after offset }
 {
     let sum = after + offset as u32;
@@ -155,7 +169,7 @@ fn jump_target(after: u32, offset: u16) -> u32
 /// Where a branch leads: an offset of 14 bits counts from the address after the branch, and 2 more. Below 0 is 0.
 #[inline]
 fn branch_target(after: u32, offset: u16) -> u32
-    requires { after ≤ 524280 }
+    requires { after ≤ longest_story }
     ensures { result ≡ branch_target after offset }
 {
     let sum = after + offset as u32;

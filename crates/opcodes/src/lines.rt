@@ -1,15 +1,19 @@
 //! Waiting for a line (Z-Machine Standards Document 1.1, section 15, `aread`).
 
 ghost use Rattle.zcore.specs.Step as steps;
-ghost use Rattle.frames.specs.Standing.{IsStoreOf};
+ghost use Rattle.frames.specs.States.{IsStoreOf};
 ghost use Rattle.frames.specs.Went.{Went};
 
 use frames::{End, Store, test_result, test_text_buffer, wait};
 use journal::Recorded;
 use zcore::{Fault, Header, Next, Place};
 
-/// Waits for a line: `aread`. M1 with a parse buffer, M12 where the text buffer cannot take a line, then M6 and M4 of
-/// the result.
+/// Waits for a line: `aread`.
+///
+/// # Errors
+///
+/// M1 with a parse buffer, M12 where the text buffer cannot take a line, then M6 and M4 of the result. `End::Memory`
+/// where memory was refused: the turn is given up.
 pub fn read(
     header: &Header,
     store: &mut Recorded<Store>,

@@ -2,7 +2,7 @@
 
 ghost use Rattle.std.specs.Prelude.{◌≡◌, ◌≤◌, ◌+◌, ◌*◌, ◌%◌};
 ghost use Rattle.zcore.specs.Step.{load_word, load_byte, store_word, store_byte};
-ghost use Rattle.frames.specs.Standing.{IsStoreOf};
+ghost use Rattle.frames.specs.States.{IsStoreOf};
 ghost use Rattle.frames.specs.Went.{Went};
 
 use crate::arithmetic::give_result;
@@ -12,14 +12,19 @@ use zcore::{Header, Next};
 
 /// Where a word of an array stands.
 #[inline]
-fn word_place(array: u16, index: u16) -> usize
+fn word_address(array: u16, index: u16) -> usize
     ensures same { result ≡ (array + 2 * index) % 65536 }
     ensures within { result ≤ 65535 }
 {
     (array as usize + 2 * index as usize) % 65_536
 }
 
-/// A word of an array: `loadw`. M3, then M6 and M4 of the result.
+/// A word of an array: `loadw`.
+///
+/// # Errors
+///
+/// M3 where the array cannot be read there, then M6 and M4 of the result. `End::Memory` where memory was refused: the
+/// turn is given up.
 #[inline]
 pub fn load_word(
     header: &Header,
@@ -33,11 +38,16 @@ pub fn load_word(
     requires { IsStoreOf header.now store.old.store }
     ensures { Went result store.old store.new (load_word here after result_variable array index) }
 {
-    let word = read_word(store, word_place(array, index))?;
+    let word = read_word(store, word_address(array, index))?;
     give_result(header, store, here, after, result_variable, word)
 }
 
-/// A byte of an array: `loadb`. M3, then M6 and M4 of the result.
+/// A byte of an array: `loadb`.
+///
+/// # Errors
+///
+/// M3 where the array cannot be read there, then M6 and M4 of the result. `End::Memory` where memory was refused: the
+/// turn is given up.
 #[inline]
 pub fn load_byte(
     header: &Header,
@@ -55,7 +65,12 @@ pub fn load_byte(
     give_result(header, store, here, after, result_variable, byte as u16)
 }
 
-/// Writes a word into an array: `storew`. M4, and then neither byte is written.
+/// Writes a word into an array: `storew`.
+///
+/// # Errors
+///
+/// M4 where one of its bytes cannot be written, and then neither is. `End::Memory` where memory was refused: the turn
+/// is given up.
 #[inline]
 pub fn store_word(
     header: &Header,
@@ -69,14 +84,18 @@ pub fn store_word(
     requires { IsStoreOf header.now store.old.store }
     ensures { Went result store.old store.new (store_word here after array index word) }
 {
-    write_word(header, store, word_place(array, index), word)?;
+    write_word(header, store, word_address(array, index), word)?;
     Ok(Next {
         program_counter: after,
         fuel: here.fuel,
     })
 }
 
-/// Writes the low byte of a word into an array: `storeb`. M4.
+/// Writes the low byte of a word into an array: `storeb`.
+///
+/// # Errors
+///
+/// M4 where it cannot be written. `End::Memory` where memory was refused: the turn is given up.
 #[inline]
 pub fn store_byte(
     header: &Header,

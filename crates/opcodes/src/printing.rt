@@ -2,10 +2,10 @@
 
 ghost use Rattle.std.specs.Prelude.{◌≡◌, ◌≤◌, ℕ, length, drop};
 ghost use Rattle.zcore.specs.Arithmetic.{signed_text};
-ghost use Rattle.zcore.specs.Step.{text_at, print_characters, print_inline, print_return, print_address, print_packed, is_printable, print_character};
+ghost use Rattle.zcore.specs.Step.{text_at, print_characters, print_inline, print_return, print_address, print_packed, is_output, print_character};
 ghost use Rattle.opcodes.specs.Seen.{seen};
 ghost use Rattle.opcodes.specs.Printed.{HasBegun, Grew};
-ghost use Rattle.frames.specs.Standing.{IsSound, IsStoreOf};
+ghost use Rattle.frames.specs.States.{IsSound, IsStoreOf};
 ghost use Rattle.frames.specs.Went.{Went, Told};
 
 use crate::calls::{give_back, unpacked};
@@ -19,7 +19,11 @@ use zcore::{Fault, Header, Next, Place, TextFault, decode_text};
 /// The character of a new line (section 3.8.2.2).
 const NEW_LINE: u8 = 13;
 
-/// Prints characters, and goes on: `new_line` prints 13. The limit of text.
+/// Prints characters, and goes on: `new_line` prints 13.
+///
+/// # Errors
+///
+/// The limit of text. `End::Memory` where memory was refused: the turn is given up.
 #[inline]
 pub fn print_characters(
     store: &mut Recorded<Store>,
@@ -41,7 +45,12 @@ pub fn print_characters(
     })
 }
 
-/// Prints the text that follows the opcode, and goes on after it: `print`. M3, M10, the limit of text.
+/// Prints the text that follows the opcode, and goes on after it: `print`.
+///
+/// # Errors
+///
+/// M3 where the text runs past the end, M10 where it holds what no text may, the limit of text. `End::Memory` where
+/// memory was refused: the turn is given up.
 pub fn print_inline(
     alloc: Global,
     store: &mut Recorded<Store>,
@@ -63,8 +72,12 @@ pub fn print_inline(
     })
 }
 
-/// Prints the text that follows the opcode and a new line, and returns 1: `print_ret`. M3, M10; M11, M6, M4, M2 of the
-/// return; the limit of text.
+/// Prints the text that follows the opcode and a new line, and returns 1: `print_ret`.
+///
+/// # Errors
+///
+/// M3 where the text runs past the end, M10 where it holds what no text may, then the faults of a return, the limit of
+/// text. `End::Memory` where memory was refused: the turn is given up.
 pub fn print_return(
     alloc: Global,
     header: &Header,
@@ -86,7 +99,12 @@ pub fn print_return(
     give_back(header, store, here.fuel, 1)
 }
 
-/// Prints the text at an address: `print_addr`. M3, M10, the limit of text.
+/// Prints the text at an address: `print_addr`.
+///
+/// # Errors
+///
+/// M3 where the text runs past the end, M10 where it holds what no text may, the limit of text. `End::Memory` where
+/// memory was refused: the turn is given up.
 pub fn print_address(
     alloc: Global,
     store: &mut Recorded<Store>,
@@ -105,7 +123,12 @@ pub fn print_address(
     print_characters(store, text, start, here, after, &characters)
 }
 
-/// Prints the text at a packed address: `print_paddr`. M3, M10, the limit of text.
+/// Prints the text at a packed address: `print_paddr`.
+///
+/// # Errors
+///
+/// M3 where the text runs past the end, M10 where it holds what no text may, the limit of text. `End::Memory` where
+/// memory was refused: the turn is given up.
 pub fn print_packed(
     alloc: Global,
     header: &Header,
@@ -125,7 +148,11 @@ pub fn print_packed(
     print_characters(store, text, start, here, after, &characters)
 }
 
-/// Prints a character: `print_char`. M10 where it cannot be printed, the limit of text.
+/// Prints a character: `print_char`.
+///
+/// # Errors
+///
+/// M10 where it cannot be printed, the limit of text. `End::Memory` where memory was refused: the turn is given up.
 #[inline]
 pub fn print_character(
     store: &mut Recorded<Store>,
@@ -140,13 +167,17 @@ pub fn print_character(
     ensures told { Told result store.old (drop start text.old.items) store.new (drop start text.new.items) (print_character here after character) }
     ensures text { Grew start text.old.items text.new.items }
 {
-    if !is_printable(character) {
+    if !is_output(character) {
         return Err(End::Stop(Place::Fault(Fault::Character)));
     }
     print_characters(store, text, start, here, after, &[character as u8])
 }
 
-/// Prints a signed number: `print_num`. The limit of text.
+/// Prints a signed number: `print_num`.
+///
+/// # Errors
+///
+/// The limit of text. `End::Memory` where memory was refused: the turn is given up.
 pub fn print_number(
     store: &mut Recorded<Store>,
     text: &mut Vec<u8>,
@@ -166,18 +197,18 @@ pub fn print_number(
 
 /// Whether a character can be printed (section 3.8): 13 is a new line, and 0 prints nothing.
 #[inline]
-fn is_printable(character: u16) -> bool
-    ensures { result ≡ is_printable character }
+fn is_output(character: u16) -> bool
+    ensures { result ≡ is_output character }
 {
     character == 0 || character == 13 || (32 <= character && character <= 126)
 }
 
 /// The text at an address, and the address after it. M3, M10.
-fn text_at(alloc: Global, store: &mut Recorded<Store>, place: u32) -> Result<(Vec<u8>, u32), End>
+fn text_at(alloc: Global, store: &mut Recorded<Store>, address: u32) -> Result<(Vec<u8>, u32), End>
     requires { IsSound store.old.store }
-    ensures { Went (seen (λ x. (x.0.items, x.1)) result) store.old store.new (text_at place) }
+    ensures { Went (seen (λ x. (x.0.items, x.1)) result) store.old store.new (text_at address) }
 {
-    match decode_text(alloc, store.store().memory(), place) {
+    match decode_text(alloc, store.store().memory(), address) {
         Ok(text) => Ok(text),
         Err(TextFault::End) => Err(End::Stop(Place::Fault(Fault::Read))),
         Err(TextFault::Memory) => {

@@ -3,7 +3,7 @@
 ghost use Rattle.std.specs.Prelude.{◌≡◌, ◌≢◌, ◌≤◌, ℕ, List, [], ◌∷◌, length, take, drop};
 ghost use Rattle.zcore.specs.Parts as parts;
 ghost use Rattle.opcodes.specs.Printed.{HasBegun, Grew};
-ghost use Rattle.frames.specs.Standing.{IsSound};
+ghost use Rattle.frames.specs.States.{IsSound};
 ghost use Rattle.frames.specs.Went.{Told};
 
 use frames::{End, Store};
@@ -13,8 +13,11 @@ use zcore::{Limit, Place};
 /// How many bytes a turn may print.
 const TEXT_LIMIT: usize = 65_536;
 
-/// Prints characters to the transcript of a turn, which begins at `start` of the text. The limit of text; what fits
-/// before it stands.
+/// Prints characters to the transcript of a turn, which begins at `start` of the text.
+///
+/// # Errors
+///
+/// The limit of text; what fits before it stands. `End::Memory` where memory was refused: the turn is given up.
 pub fn print(
     store: &mut Recorded<Store>,
     text: &mut Vec<u8>,

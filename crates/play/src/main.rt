@@ -3,12 +3,13 @@
 
 mod words;
 
-use crate::words::{Words, command, words_of};
-use session::{Session, run};
+ghost use Rattle.play.specs.Range.{IsInRange};
+
+use crate::words::{Words, words_of};
+use session::{Session, run, status};
 use std::fmt::Display;
 use std::process::ExitCode;
 use std::{env, fs};
-use tools::status;
 
 /// The exit status where the story cannot be played.
 const REFUSED: u8 = 1;
@@ -25,11 +26,8 @@ fn main(rt: HostRuntime) -> ExitCode {
         },
         Err(_) => return refuse(&rt, "cannot read the command line"),
     };
-    let Ok(command) = command(alloc) else {
-        return refuse(&rt, "cannot read the command line");
-    };
-    match command.try_get_matches_from(given.as_slice()) {
-        Ok(matches) => play(&rt, words_of(&matches)),
+    match words_of(alloc, given.as_slice()) {
+        Ok(words) => play(&rt, words),
         Err(error) => {
             let status = if error.use_stderr() { REFUSED } else { 0 };
             match error.print(&rt) {
@@ -48,7 +46,9 @@ fn refuse<W: Display + Drop>(rt: &HostRuntime, why: W) -> ExitCode {
 
 /// Plays a story file on the lines of standard input. The transcript goes to standard output, each reply as soon as its
 /// line was read.
-fn play(rt: &HostRuntime, words: Words<'_>) -> ExitCode {
+fn play(rt: &HostRuntime, words: Words<'_>) -> ExitCode
+    requires { IsInRange words }
+{
     let Ok(story) = fs::read(rt, words.story) else {
         return refuse(rt, format_args!("cannot read {}", words.story));
     };

@@ -8,14 +8,17 @@ use Rattle.session.specs.declared.fault.RunFault.{RunFault}
 use Rattle.session.specs.declared.fault.RunFault.TheVariants.{Writing}
 use Rattle.session.specs.Input.{whole_from, rest_from, last_line, lines_of, whole_lines}
 use Rattle.session.specs.Game.{telling_of, Game, text_on, place_on}
-use Rattle.history.specs.Standing.{Standing, nothing}
+use Rattle.session.specs.Standing.{Standing, nothing}
 use Rattle.session.specs.Transcript.{replies, after, transcript}
 use Rattle.session.specs.Heard.{Heard, Broke}
 use Rattle.session.specs.Wrote.{WroteSome}
 use Rattle.session.specs.Kept.{IsKept}
-use Rattle.session.specs.Ran.{RanWhole, RanToRead, RanToWrite, LinesRead, in_opening, in_reply, RanToFault, Ran}
+use Rattle.session.specs.Ran.{Streams, RanWhole, RanToRead, RanToWrite, LinesRead, in_opening, in_reply, RanToFault, Ran}
 use Rattle.session.proofs.Cutting.{whole_from-append, rest_from-append, kept_some}
 use Rattle.session.proofs.Chaining.{heard_none, heard_then, heard_broke}
+
+abbrev pub streams : (r r' w w' : Option (List ℕ)) → Streams
+streams r r' w w' = record { unread_before = r; unread_after = r'; held_before = w; held_after = w' }
 
 -- a run on its way: the opening was written, and this input heard
 pub record Going (game : Game) (r r' w w' : Option (List ℕ)) (P : Standing → Type 0) (line : Line) : Type 0 where
@@ -61,7 +64,7 @@ played game w opened w' P lines wrote h = Appends-trans w opened w' (text_on gam
 -- the end of the input was reached
 pub ran_whole : (game : Game) (r r1 r2 w w1 w2 : Option (List ℕ)) (P Q : Standing → Type 0) (line : Line) (p : Place)
     → (h : Going game r r1 w w1 P line) → Consumes r1 r2 [] → IsAtEnd r2 → ((t : Standing) → P t → Heard game w1 w2 t Q (last_line (rest_from [] h.input)))
-    → ((t : Standing) → Q t → p ≡ place_on game t.done) → RanWhole (telling_of game) game.keep r r2 w w2 Q p
+    → ((t : Standing) → Q t → p ≡ place_on game t.done) → RanWhole (telling_of game) game.keep (streams r r2 w w2) Q p
 ran_whole game r r1 r2 w w1 w2 P Q line p h took end k place =
     let all : Heard game h.opened w2 nothing Q (lines_of h.input) = heard_then h.heard k in
     record {
@@ -74,7 +77,7 @@ ran_whole game r r1 r2 w w1 w2 P Q line p h took end k place =
     }
 
 -- a read failed
-pub ran_read : (game : Game) (r r1 r2 w w1 : Option (List ℕ)) (P : Standing → Type 0) (line : Line) → Going game r r1 w w1 P line → Keeps r1 r2 → RanToRead (telling_of game) game.keep r r2 w w1 P
+pub ran_read : (game : Game) (r r1 r2 w w1 : Option (List ℕ)) (P : Standing → Type 0) (line : Line) → Going game r r1 w w1 P line → Keeps r1 r2 → RanToRead (telling_of game) game.keep (streams r r2 w w1) P
 ran_read game r r1 r2 w w1 P line h keeps = record {
   input = h.input;
   written = transcript game h.heard.typed;
@@ -84,7 +87,7 @@ ran_read game r r1 r2 w w1 P line h keeps = record {
 }
 
 -- the reads came to no end
-pub ran_long : (game : Game) (r r1 w w1 : Option (List ℕ)) (P : Standing → Type 0) (line : Line) → Going game r r1 w w1 P line → RanToRead (telling_of game) game.keep r r1 w w1 P
+pub ran_long : (game : Game) (r r1 w w1 : Option (List ℕ)) (P : Standing → Type 0) (line : Line) → Going game r r1 w w1 P line → RanToRead (telling_of game) game.keep (streams r r1 w w1) P
 ran_long game r r1 w w1 P line h = record {
   input = h.input;
   written = transcript game h.heard.typed;
@@ -94,7 +97,7 @@ ran_long game r r1 w w1 P line h = record {
 }
 
 ran_broke : (game : Game) (r r2 w opened w2 : Option (List ℕ)) (P : Standing → Type 0) (input : List ℕ) (lines : List (List ℕ)) → Consumes r r2 input → LinesRead r2 input lines → Appends w opened (text_on game []) → Broke game opened w2 nothing P lines
-    → RanToWrite (telling_of game) game.keep r r2 w w2 P
+    → RanToWrite (telling_of game) game.keep (streams r r2 w w2) P
 ran_broke game r r2 w opened w2 P input lines took read wrote k = in_reply (record {
   input = input;
   typed = k.typed;
@@ -111,26 +114,26 @@ ran_broke game r r2 w opened w2 P input lines took read wrote k = in_reply (reco
 
 -- writing failed in a reply to a line of the chunk
 pub ran_broke_in : (game : Game) (r r1 r2 w w1 w2 : Option (List ℕ)) (P Q : Standing → Type 0) (line : Line) (chunk : List ℕ)
-    → (h : Going game r r1 w w1 P line) → Consumes r1 r2 chunk → ((t : Standing) → P t → Broke game w1 w2 t Q (whole_from (rest_from [] h.input) chunk)) → RanToWrite (telling_of game) game.keep r r2 w w2 Q
+    → (h : Going game r r1 w w1 P line) → Consumes r1 r2 chunk → ((t : Standing) → P t → Broke game w1 w2 t Q (whole_from (rest_from [] h.input) chunk)) → RanToWrite (telling_of game) game.keep (streams r r2 w w2) Q
 ran_broke_in game r r1 r2 w w1 w2 P Q line chunk h took k =
     ran_broke game r r2 w h.opened w2 Q (h.input ++ chunk) (whole_lines h.input ++ whole_from (rest_from [] h.input) chunk) (Consumes-trans r r1 r2 h.input chunk h.took took)
     (inl (sym (whole_from-append [] h.input chunk))) h.wrote (heard_broke h.heard k)
 
 -- writing failed in the reply to the last line
 pub ran_broke_last : (game : Game) (r r1 r2 w w1 w2 : Option (List ℕ)) (P Q : Standing → Type 0) (line : Line)
-    → (h : Going game r r1 w w1 P line) → Consumes r1 r2 [] → IsAtEnd r2 → 0 < line.len → ((t : Standing) → P t → Broke game w1 w2 t Q (rest_from [] h.input ∷ [])) → RanToWrite (telling_of game) game.keep r r2 w w2 Q
+    → (h : Going game r r1 w w1 P line) → Consumes r1 r2 [] → IsAtEnd r2 → 0 < line.len → ((t : Standing) → P t → Broke game w1 w2 t Q (rest_from [] h.input ∷ [])) → RanToWrite (telling_of game) game.keep (streams r r2 w w2) Q
 ran_broke_last game r r1 r2 w w1 w2 P Q line h took end some k =
     ran_broke game r r2 w h.opened w2 Q h.input (whole_lines h.input ++ rest_from [] h.input ∷ []) (Consumes-kept r r1 r2 h.input h.took (keeps_of r1 r2 took))
     (inr (end, ap (λ x. whole_lines h.input ++ x) (sym (kept_some line (rest_from [] h.input) h.kept some)))) h.wrote (heard_broke h.heard k)
 
-pub ran_err : (game : Game) (r r' w w' : Option (List ℕ)) (P : Standing → Type 0) (e : Result Place RunFault) → IsErrAnd e (λ x. x ≡ Writing) → RanToWrite (telling_of game) game.keep r r' w w' P → Ran (telling_of game) game.keep r r' w w' P e
+pub ran_err : (game : Game) (r r' w w' : Option (List ℕ)) (P : Standing → Type 0) (e : Result Place RunFault) → IsErrAnd e (λ x. x ≡ Writing) → RanToWrite (telling_of game) game.keep (streams r r' w w') P → Ran (telling_of game) game.keep (streams r r' w w') P e
 ran_err game r r' w w' P (Ok p) h k = absurd h
-ran_err game r r' w w' P (Err x) h k = subst (RanToFault (telling_of game) game.keep r r' w w' P) (sym h) k
+ran_err game r r' w w' P (Err x) h k = subst (RanToFault (telling_of game) game.keep (streams r r' w w') P) (sym h) k
 
 keeps_same : (a : Option (List ℕ)) → Keeps a a
 keeps_same None = tt
 keeps_same (Some x) = refl
 
 -- writing failed in the opening
-pub opening_broke : (game : Game) (r w w' : Option (List ℕ)) (P : Standing → Type 0) (e : Result Place RunFault) → IsErrAnd e (λ x. x ≡ Writing) → WroteSome w w' (text_on game []) → P nothing → Ran (telling_of game) game.keep r r w w' P e
+pub opening_broke : (game : Game) (r w w' : Option (List ℕ)) (P : Standing → Type 0) (e : Result Place RunFault) → IsErrAnd e (λ x. x ≡ Writing) → WroteSome w w' (text_on game []) → P nothing → Ran (telling_of game) game.keep (streams r r w w') P e
 opening_broke game r w w' P e h p q = ran_err game r r w w' P e h (in_opening (record { unread = keeps_same r; wrote = p; stands = q }))

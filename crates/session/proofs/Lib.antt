@@ -1,7 +1,14 @@
+pub mod Moves
+pub mod Insides
+pub mod Plays
+pub mod Sessions
+pub mod Turning
+pub mod Taking
+mod Samples
 pub mod Cutting
 pub mod Chaining
 pub mod Replying
 pub mod Going
 pub mod Telling
 pub mod Said
-mod Samples
+mod ReplySamples

@@ -6,7 +6,7 @@ use Rattle.std.specs.List.{list_all}
 use Rattle.std.specs.Io.KnownBytes.{Appends}
 use Rattle.zcore.specs.Turn.{is_waiting}
 use Rattle.session.specs.Game.{Game, telling_of, text_on, place_on}
-use Rattle.history.specs.Standing.{Standing, undo_of, redo_of, taken, is_typable}
+use Rattle.session.specs.Standing.{Standing, longest_line, undo_of, redo_of, taken, is_typable, is_typable_byte}
 use Rattle.session.specs.Transcript.{answer_of, Answer, answer, note, answer_undo, answer_redo, answer_line}
 use Rattle.session.specs.Heard.{Heard, Broke, Hears}
 use Rattle.session.specs.Wrote.{Wrote, WroteSome}
@@ -115,11 +115,11 @@ above n m h = grind (arith, nat_tests)
 pub unequal : (xs ys : List ℕ) → (length xs ≡ length ys → ⊥) → bytes_eq xs ys ≡ false
 unequal xs ys h = unequal_at xs ys h (bytes_eq xs ys) refl
 
-pub long_untypable : (line : List ℕ) → 1000 < length line → is_typable line ≡ false
-long_untypable line h = ap (λ b. b && list_all (λ b. nat_le 32 b && nat_le b 126) line) (above (length line) 1000 h)
+pub long_untypable : (line : List ℕ) → longest_line < length line → is_typable line ≡ false
+long_untypable line h = ap (λ b. b && list_all is_typable_byte line) (above (length line) longest_line h)
 
 -- a line of more than 1,000 bytes is refused
-pub answer_long : (game : Game) (s : Standing) (line : List ℕ) → 1000 < length line → answer game s (record { line = line; refused = false }) ≡ record { reply = note (codes "[Line refused.]"); standing = s }
+pub answer_long : (game : Game) (s : Standing) (line : List ℕ) → longest_line < length line → answer game s (record { line = line; refused = false }) ≡ record { reply = note (codes "[Line refused.]"); standing = s }
 answer_long game s line h =
     at_line game s line false (unequal line (codes "/undo") (λ e. omega arith)) (unequal line (codes "/redo") (λ e. omega arith))
     ∙ line_refused game s line false (long_untypable line h)

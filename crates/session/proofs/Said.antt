@@ -5,13 +5,14 @@ use Rattle.std.specs.Io.KnownBytes.{Appends, Consumes, IsAtEnd}
 use Rattle.zcore.specs.declared.place.Place.{Place}
 use Rattle.session.specs.Input.{lines_of}
 use Rattle.session.specs.Game.{telling_of, Game, Telling, text_on, place_on}
-use Rattle.history.specs.Standing.{Standing, nothing}
+use Rattle.session.specs.Standing.{Standing, nothing}
 use Rattle.session.specs.Transcript.{Typed, lines_typed, Answer, answer, answer_of, replies, replies_of, after, standing_after, transcript, transcript_of}
 use Rattle.session.specs.declared.fault.RunFault.{RunFault}
 use Rattle.session.specs.declared.fault.RunFault.TheVariants.{Reading, Writing}
 use Rattle.session.specs.Wrote.{WroteSome}
-use Rattle.session.specs.Ran.{Played, RanWhole, RanToRead, LinesRead, BrokeInReply, RanToWrite, in_opening, in_reply, Ran}
+use Rattle.session.specs.Ran.{Streams, Played, RanWhole, RanToRead, LinesRead, BrokeInReply, RanToWrite, in_opening, in_reply, Ran}
 use Rattle.session.proofs.Chaining.{replies-append}
+use Rattle.session.proofs.Going.{streams}
 
 -- the input of a run without a fault is all that the reader had
 pub input_known : (xs input : List ℕ) (r' : Option (List ℕ)) → Consumes (Some xs) r' input → IsAtEnd r' → input ≡ xs
@@ -19,12 +20,12 @@ input_known xs input None p q = absurd p
 input_known xs input (Some ys) p q = sym (p ∙ ap (λ y. input ++ y) q ∙ append-nil input)
 
 -- a run without a fault: all of the reader's bytes were played, and the writer holds what was written beside what it held
-pub record Told (game : Game) (input before later : List ℕ) (Stands : Standing → Type 0) (p : Place) : Type 0 where
+pub record Told (game : Game) (input before later : List ℕ) (P : Standing → Type 0) (p : Place) : Type 0 where
   pub written : List ℕ
   pub wrote : later ≡ before ++ written
-  pub played : Played (telling_of game) game.keep (lines_of input) written (λ s. Stands s × (p ≡ place_on game s.done))
+  pub played : Played (telling_of game) game.keep (lines_of input) written (λ s. P s × (p ≡ place_on game s.done))
 
-pub whole_told : (game : Game) (xs before later : List ℕ) (r' : Option (List ℕ)) (P : Standing → Type 0) (p : Place) → RanWhole (telling_of game) game.keep (Some xs) r' (Some before) (Some later) P p → Told game xs before later P p
+pub whole_told : (game : Game) (xs before later : List ℕ) (r' : Option (List ℕ)) (P : Standing → Type 0) (p : Place) → RanWhole (telling_of game) game.keep (streams (Some xs) r' (Some before) (Some later)) P p → Told game xs before later P p
 whole_told game xs before later r' P p h = record {
   written = h.written;
   wrote = h.wrote;
@@ -42,7 +43,7 @@ pub record Begins (game : Game) (r' : Option (List ℕ)) (input written : List �
   pub said : LinesRead r' input (lines_typed typed)
   pub begins : written ++ rest ≡ transcript game typed
 
-pub broke_begins : (game : Game) (r r' w w' : Option (List ℕ)) (P : Standing → Type 0) → (h : BrokeInReply (telling_of game) game.keep r r' w w' P) → Begins game r' h.input (transcript game h.typed ++ h.part)
+pub broke_begins : (game : Game) (r r' w w' : Option (List ℕ)) (P : Standing → Type 0) → (h : BrokeInReply (telling_of game) game.keep (streams r r' w w') P) → Begins game r' h.input (transcript game h.typed ++ h.part)
 broke_begins game r r' w w' P h =
     let more : List Typed = map (λ l. record { line = l; refused = false }) h.more in
     let t : Standing = after game nothing h.typed in
@@ -92,8 +93,8 @@ played_same a b keep same lines written P h = record {
   stands = subst P (standing_same a b keep same nothing h.typed) h.stands;
 }
 
-whole_same : (a b : Telling) (keep : Option ℕ) → Agree a b → (r r' w w' : Option (List ℕ)) (P : Standing → Type 0) (p : Place) → RanWhole a keep r r' w w' P p → RanWhole b keep r r' w w' P p
-whole_same a b keep same r r' w w' P p h =
+whole_same : (a b : Telling) (keep : Option ℕ) → Agree a b → (io : Streams) (P : Standing → Type 0) (p : Place) → RanWhole a keep io P p → RanWhole b keep io P p
+whole_same a b keep same io P p h =
     let q = subst (λ s. P s × (p ≡ a.place s.done)) (standing_same a b keep same nothing h.played.typed) h.played.stands in
     record {
       input = h.input;
@@ -109,8 +110,8 @@ whole_same a b keep same r r' w w' P p h =
       };
     }
 
-read_same : (a b : Telling) (keep : Option ℕ) → Agree a b → (r r' w w' : Option (List ℕ)) (P : Standing → Type 0) → RanToRead a keep r r' w w' P → RanToRead b keep r r' w w' P
-read_same a b keep same r r' w w' P h = record {
+read_same : (a b : Telling) (keep : Option ℕ) → Agree a b → (io : Streams) (P : Standing → Type 0) → RanToRead a keep io P → RanToRead b keep io P
+read_same a b keep same io P h = record {
   input = h.input;
   written = h.written;
   took = h.took;
@@ -118,13 +119,13 @@ read_same a b keep same r r' w w' P h = record {
   played = played_same a b keep same _ h.written P h.played;
 }
 
-write_same : (a b : Telling) (keep : Option ℕ) → Agree a b → (r r' w w' : Option (List ℕ)) (P : Standing → Type 0) → RanToWrite a keep r r' w w' P → RanToWrite b keep r r' w w' P
-write_same a b keep same r r' w w' P (in_opening h) = in_opening (record {
+write_same : (a b : Telling) (keep : Option ℕ) → Agree a b → (io : Streams) (P : Standing → Type 0) → RanToWrite a keep io P → RanToWrite b keep io P
+write_same a b keep same io P (in_opening h) = in_opening (record {
   unread = h.unread;
-  wrote = subst (WroteSome w w') (same.texts []) h.wrote;
+  wrote = subst (WroteSome io.held_before io.held_after) (same.texts []) h.wrote;
   stands = h.stands;
 })
-write_same a b keep same r r' w w' P (in_reply h) =
+write_same a b keep same io P (in_reply h) =
     let e : answer_of a keep (standing_after a keep nothing h.typed) h.last ≡ answer_of b keep (standing_after b keep nothing h.typed) h.last =
     ap (λ s. answer_of a keep s h.last) (standing_same a b keep same nothing h.typed) ∙ answer_same a b keep same (standing_after b keep nothing h.typed) h.last in
     in_reply (record {
@@ -137,12 +138,12 @@ write_same a b keep same r r' w w' P (in_reply h) =
       part = h.part;
       rest = h.rest;
       whole = h.whole ∙ ap (λ (x : Answer). x.reply) e;
-      wrote = subst (λ t. Appends w w' (t ++ h.part)) (transcript_same a b keep same h.typed) h.wrote;
+      wrote = subst (λ t. Appends io.held_before io.held_after (t ++ h.part)) (transcript_same a b keep same h.typed) h.wrote;
       stands = subst (λ (x : Answer). P x.standing) e h.stands;
     })
 
 -- a run is what the one telling says, and so what the other says
-pub ran_same : (a b : Telling) (keep : Option ℕ) → Agree a b → (r r' w w' : Option (List ℕ)) (P : Standing → Type 0) (result : Result Place RunFault) → Ran a keep r r' w w' P result → Ran b keep r r' w w' P result
-ran_same a b keep same r r' w w' P (Ok place) h = whole_same a b keep same r r' w w' P place h
-ran_same a b keep same r r' w w' P (Err Reading) h = read_same a b keep same r r' w w' P h
-ran_same a b keep same r r' w w' P (Err Writing) h = write_same a b keep same r r' w w' P h
+pub ran_same : (a b : Telling) (keep : Option ℕ) → Agree a b → (io : Streams) (P : Standing → Type 0) (result : Result Place RunFault) → Ran a keep io P result → Ran b keep io P result
+ran_same a b keep same io P (Ok place) h = whole_same a b keep same io P place h
+ran_same a b keep same io P (Err Reading) h = read_same a b keep same io P h
+ran_same a b keep same io P (Err Writing) h = write_same a b keep same io P h

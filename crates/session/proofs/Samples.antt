@@ -1,62 +1,10 @@
--- Computed examples of the definitions.
-use Rattle.std.proofs.Common.{◌≡◌, ℕ, true, false, None, Some, List, [], ◌∷◌, ◌++◌, codes, refl, inl, inr}
-use Rattle.session.specs.Input.{lines_of, whole_lines}
-use Rattle.session.specs.Game.{Game, text_on}
-use Rattle.history.specs.Standing.{Standing, nothing, is_typable, taken, undo_of, redo_of}
-use Rattle.session.specs.Ran.{LinesRead}
-use Rattle.session.specs.Transcript.{answer_of, answer, note, transcript}
-
--- ---- lines
-
-no_input : lines_of [] ≡ []
-no_input = refl
-
-last_without_end : lines_of (97 ∷ 10 ∷ 98 ∷ []) ≡ codes "a" ∷ codes "b" ∷ []
-last_without_end = refl
-
-last_with_end : lines_of (97 ∷ 10 ∷ 98 ∷ 10 ∷ []) ≡ codes "a" ∷ codes "b" ∷ []
-last_with_end = refl
-
-empty_lines : lines_of (10 ∷ 10 ∷ 97 ∷ []) ≡ [] ∷ [] ∷ codes "a" ∷ []
-empty_lines = refl
-
-whole_only : whole_lines (97 ∷ 10 ∷ 98 ∷ []) ≡ codes "a" ∷ []
-whole_only = refl
-
--- a carriage return is a byte of its line
-carriage_return : lines_of (97 ∷ 13 ∷ 10 ∷ []) ≡ (97 ∷ 13 ∷ []) ∷ []
-carriage_return = refl
-
--- ---- lines that were read
-
-before_the_end : LinesRead (Some (99 ∷ [])) (97 ∷ 10 ∷ 98 ∷ []) (codes "a" ∷ [])
-before_the_end = inl refl
-
-at_the_end : LinesRead (Some []) (97 ∷ 10 ∷ 98 ∷ []) (codes "a" ∷ codes "b" ∷ [])
-at_the_end = inr (refl, refl)
-
-no_line_before_its_end : LinesRead (Some (99 ∷ [])) (97 ∷ 10 ∷ 98 ∷ []) (codes "a" ∷ codes "b" ∷ []) → ⊥
-no_line_before_its_end (inl e) = cc
-no_line_before_its_end (inr h) = let e : 99 ∷ [] ≡ [] = h.0 in cc
-
--- ---- lines for the story
-
-typable : is_typable (codes "take lamp,box ~") ≡ true
-typable = refl
-
-empty_typable : is_typable [] ≡ true
-empty_typable = refl
-
-untypable : is_typable (97 ∷ 195 ∷ []) ≡ false
-untypable = refl
-
-control_untypable : is_typable (31 ∷ []) ≡ false
-control_untypable = refl
-
-delete_untypable : is_typable (127 ∷ []) ≡ false
-delete_untypable = refl
-
--- ---- what stands
+-- The definitions of a session, computed.
+use Rattle.std.proofs.Common.{◌≡◌, ℕ, List, [], ◌∷◌, Some, None, true, false, refl}
+use Rattle.std.specs.Prelude.{codes, replicate}
+use Rattle.zcore.specs.declared.place.Place.TheVariants as places
+use Rattle.zcore.specs.Turn.{StateOfPlay, Whole}
+use Rattle.session.specs.Standing.{nothing, is_typable, undo_of, redo_of, taken, reached}
+use Rattle.session.specs.Session.{Session, all_cells, stepped_back, stepped_forward, with_turn, bounded, latest_text, latest_size}
 
 abbrev a : List ℕ
 a = codes "a"
@@ -64,51 +12,130 @@ a = codes "a"
 abbrev b : List ℕ
 b = codes "b"
 
-two : taken None b (taken None a nothing) ≡ record { done = a ∷ b ∷ []; undone = []; kept = 2 }
-two = refl
+-- lines
 
-two_keeping_one : taken (Some 1) b (taken (Some 1) a nothing) ≡ record { done = a ∷ b ∷ []; undone = []; kept = 1 }
-two_keeping_one = refl
+typable_line : is_typable (codes "take lamp~") ≡ true
+typable_line = refl
 
-one_keeping_none : taken (Some 0) a nothing ≡ record { done = a ∷ []; undone = []; kept = 0 }
-one_keeping_none = refl
+empty_line : is_typable [] ≡ true
+empty_line = refl
 
-undone : undo_of (record { done = a ∷ b ∷ []; undone = []; kept = 1 }) ≡ record { done = a ∷ []; undone = b ∷ []; kept = 0 }
-undone = refl
+control_byte : is_typable (31 ∷ []) ≡ false
+control_byte = refl
+
+delete_byte : is_typable (127 ∷ []) ≡ false
+delete_byte = refl
+
+high_byte : is_typable (97 ∷ 195 ∷ []) ≡ false
+high_byte = refl
+
+longest_line : is_typable (replicate 1000 32) ≡ true
+longest_line = refl
+
+too_long_line : is_typable (replicate 1001 32) ≡ false
+too_long_line = refl
+
+-- lines that stand
+
+two_taken : taken None b (taken None a nothing) ≡ record { done = a ∷ b ∷ []; undone = []; kept = 2 }
+two_taken = refl
+
+one_undone : undo_of (taken None b (taken None a nothing)) ≡ record { done = a ∷ []; undone = b ∷ []; kept = 1 }
+one_undone = refl
+
+nothing_undone : undo_of nothing ≡ nothing
+nothing_undone = refl
+
+both_undone : undo_of (undo_of (taken None b (taken None a nothing))) ≡ record { done = []; undone = a ∷ b ∷ []; kept = 0 }
+both_undone = refl
+
+done_again : redo_of (undo_of (undo_of (taken None b (taken None a nothing)))) ≡ record { done = a ∷ []; undone = b ∷ []; kept = 1 }
+done_again = refl
 
 undone_no_further : undo_of (record { done = a ∷ []; undone = b ∷ []; kept = 0 }) ≡ record { done = a ∷ []; undone = b ∷ []; kept = 0 }
 undone_no_further = refl
 
-redone : redo_of (record { done = []; undone = a ∷ b ∷ []; kept = 0 }) ≡ record { done = a ∷ []; undone = b ∷ []; kept = 1 }
-redone = refl
+nothing_done_again : redo_of (taken None a nothing) ≡ taken None a nothing
+nothing_done_again = refl
 
-redone_no_further : redo_of (record { done = a ∷ []; undone = []; kept = 1 }) ≡ record { done = a ∷ []; undone = []; kept = 1 }
-redone_no_further = refl
+undone_given_up : taken None b (undo_of (taken None a nothing)) ≡ record { done = b ∷ []; undone = []; kept = 1 }
+undone_given_up = refl
 
--- a line that is taken gives up the undone ones
-taken_over : taken None b (record { done = []; undone = a ∷ []; kept = 0 }) ≡ record { done = b ∷ []; undone = []; kept = 1 }
-taken_over = refl
+one_kept : taken (Some 1) b (taken (Some 1) a nothing) ≡ record { done = a ∷ b ∷ []; undone = []; kept = 1 }
+one_kept = refl
 
--- ---- replies
+none_kept : undo_of (taken (Some 0) a nothing) ≡ record { done = a ∷ []; undone = []; kept = 0 }
+none_kept = refl
 
-nothing_undone : (game : Game) → transcript game ((record { line = codes "/undo"; refused = false }) ∷ []) ≡ text_on game [] ++ note (codes "[Nothing to undo.]")
-unfolding answer_of
-nothing_undone game = refl
+reached_lines : reached (taken (Some 1) b (taken (Some 1) a nothing)) (a ∷ b ∷ []) ≡ b ∷ []
+reached_lines = refl
 
-nothing_redone : (game : Game) (s : Standing) → answer game (record { done = s.done; undone = []; kept = s.kept }) (record { line = codes "/redo"; refused = false })
-    ≡ record { reply = note (codes "[Nothing to redo.]"); standing = record { done = s.done; undone = []; kept = s.kept } }
-unfolding answer_of
-nothing_redone game s = refl
+-- cells at all times: the first turn wrote 6 over 5, the second 8 over 7; the first of them is done
 
-redone_told : (game : Game) → answer game (record { done = []; undone = a ∷ []; kept = 0 }) (record { line = codes "/redo"; refused = false })
-    ≡ record { reply = note (codes "[Redone.]") ++ text_on game (a ∷ []); standing = record { done = a ∷ []; undone = []; kept = 1 } }
-unfolding answer_of
-redone_told game = refl
+all_times : all_cells (6 ∷ 7 ∷ []) (((0, 5) ∷ []) ∷ ((1, 8) ∷ []) ∷ []) 1 ≡ (5 ∷ 7 ∷ []) ∷ (6 ∷ 7 ∷ []) ∷ (6 ∷ 8 ∷ []) ∷ []
+unfolding all_cells
+all_times = refl
 
-line_refused : (game : Game) (s : Standing) → answer game s (record { line = 195 ∷ []; refused = true }) ≡ record { reply = note (codes "[Line refused.]"); standing = s }
-unfolding answer_of
-line_refused game s = refl
+-- a session that keeps one turn
 
-command_with_a_space : (game : Game) (s : Standing) → (answer game s (record { line = codes "/undo\t"; refused = false })).reply ≡ note (codes "[Line refused.]")
-unfolding answer_of
-command_with_a_space game s = refl
+abbrev state : ℕ → StateOfPlay
+state n = record { memory = []; frames = []; pending = None; program_counter = n }
+
+abbrev at_start : Session
+at_start = record {
+  keep = Some 1;
+  fuel = 10;
+  static_base = 64;
+  opening = codes ">";
+  states = state 0 ∷ state 1 ∷ [];
+  places = places.Waiting ∷ places.Waiting ∷ [];
+  texts = codes "1" ∷ [];
+  lines = a ∷ [];
+  sizes = 64 ∷ [];
+  present = 1;
+  given_up = [];
+}
+
+-- a turn back and forward, and no further
+
+turn_back : stepped_back at_start ≡ record at_start { present = 0 }
+turn_back = refl
+
+no_turn_back : stepped_back (stepped_back at_start) ≡ stepped_back at_start
+no_turn_back = refl
+
+turn_forward : stepped_forward (stepped_back at_start) ≡ at_start
+turn_forward = refl
+
+no_turn_forward : stepped_forward at_start ≡ at_start
+no_turn_forward = refl
+
+-- a turn under a bound
+
+abbrev second : Whole
+second = record { state = state 2; place = places.Quit; text = codes "2" }
+
+turn_bounded : bounded (with_turn b 128 second at_start) ≡ record at_start {
+  states = state 1 ∷ state 2 ∷ [];
+  places = places.Waiting ∷ places.Quit ∷ [];
+  texts = codes "2" ∷ [];
+  lines = b ∷ [];
+  sizes = 128 ∷ [];
+  given_up = codes "1";
+}
+turn_bounded = refl
+
+latest : latest_text (bounded (with_turn b 128 second at_start)) ≡ codes "2"
+latest = refl
+
+latest_record : latest_size (bounded (with_turn b 128 second at_start)) ≡ 128
+latest_record = refl
+
+abbrev none_kept_yet : Session
+none_kept_yet = record at_start { keep = Some 0; states = state 0 ∷ []; places = places.Waiting ∷ []; texts = []; lines = []; sizes = []; present = 0 }
+
+turn_not_kept : bounded (with_turn b 128 second none_kept_yet) ≡ record none_kept_yet { states = state 2 ∷ []; places = places.Quit ∷ []; given_up = codes "2" }
+turn_not_kept = refl
+
+latest_not_kept : latest_text (bounded (with_turn b 128 second none_kept_yet)) ≡ codes "2"
+latest_not_kept = refl

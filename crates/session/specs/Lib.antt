@@ -1,3 +1,9 @@
+pub mod Standing
+pub mod Session
+pub mod Inside
+pub mod Sessions
+pub mod Turned
+pub mod Replies
 pub mod Game
 pub mod Input
 pub mod Transcript
@@ -5,3 +11,4 @@ pub mod Wrote
 pub mod Kept
 pub mod Heard
 pub mod Ran
+pub mod Status

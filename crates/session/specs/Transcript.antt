@@ -2,7 +2,7 @@
 use Rattle.std.specs.Prelude.{ℕ, Bool, Option, ◌==◌, List, [], ◌∷◌, ◌++◌, length, map, bytes_eq, codes, if◌then◌else◌}
 use Rattle.zcore.specs.Turn.{is_waiting}
 use Rattle.session.specs.Game.{Game, Telling, telling_of}
-use Rattle.history.specs.Standing.{Standing, nothing, is_typable, taken, undo_of, redo_of}
+use Rattle.session.specs.Standing.{Standing, nothing, is_typable, taken, undo_of, redo_of}
 
 -- a line of input, and its mark: whether it met refused memory
 pub record Typed : Type 0 where
@@ -30,7 +30,9 @@ answer_undo s = record {
 
 abbrev pub answer_redo : Telling → Standing → Answer
 answer_redo telling s = record {
-  reply = if length s.undone == 0 then note (codes "[Nothing to redo.]") else note (codes "[Redone.]") ++ telling.text (redo_of s).done;
+  reply =
+      if length s.undone == 0 then note (codes "[Nothing to redo.]")
+      else note (codes "[Redone.]") ++ telling.text (redo_of s).done;
   standing = redo_of s;
 }
 
@@ -55,7 +57,8 @@ answer_of telling keep s x =
 -- the replies in order
 abbrev pub replies_of : Telling → Option ℕ → Standing → List Typed → List ℕ
 replies_of telling keep s [] = []
-replies_of telling keep s (x ∷ xs) = (answer_of telling keep s x).reply ++ replies_of telling keep (answer_of telling keep s x).standing xs
+replies_of telling keep s (x ∷ xs) =
+    (answer_of telling keep s x).reply ++ replies_of telling keep (answer_of telling keep s x).standing xs
 
 -- what stands after the lines
 abbrev pub standing_after : Telling → Option ℕ → Standing → List Typed → Standing

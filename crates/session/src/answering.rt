@@ -3,11 +3,12 @@
 ghost use Rattle.std.specs.Prelude.{◌∷◌, []};
 ghost use Rattle.session.specs.Game.{IsSessionOf, Game};
 ghost use Rattle.session.specs.Heard.{Hears};
-ghost use Rattle.history.specs.Standing.{Standing};
+ghost use Rattle.session.specs.Standing.{Standing};
 
 use crate::fault::WriteFailed;
+use crate::reply::Reply;
+use crate::session::Session;
 use crate::writing::{put, tell};
-use history::{Reply, Session};
 use std::io::Write;
 
 /// Answers a line: the two commands of the player, or a line for the story.

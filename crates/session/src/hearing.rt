@@ -5,13 +5,13 @@ ghost use Rattle.session.specs.Input.{whole_from, rest_from};
 ghost use Rattle.session.specs.Game.{IsSessionOf, Game};
 ghost use Rattle.session.specs.Heard.{Hears};
 ghost use Rattle.session.specs.Kept.{IsKept};
-ghost use Rattle.history.specs.Standing.{Standing};
+ghost use Rattle.session.specs.Standing.{Standing, longest_line};
 
 use crate::answering::answer;
 use crate::fault::WriteFailed;
 use crate::line::Line;
+use crate::session::Session;
 use crate::writing::tell;
-use history::Session;
 use std::io::Write;
 
 /// Answers the line that ended, and begins an empty one.
@@ -20,13 +20,13 @@ pub(crate) fn finish<W: Write>(
     writer: &mut W,
     session: &mut Session,
 ) -> Result<(), WriteFailed>
-    requires { line.old.len ≤ 1000 }
+    requires { line.old.len ≤ longest_line }
     ensures hears { (game : Game) (s : Standing) (full : List ℕ) → IsSessionOf game s session.old
         → IsKept line.old full
         → Hears game (W.contents writer.old) (W.contents writer.new) s
         (λ t. IsSessionOf game t session.new) (full ∷ []) result }
     ensures line { OnOk result (IsKept line.new []) }
-    ensures within { line.new.len ≤ 1000 }
+    ensures within { line.new.len ≤ longest_line }
 {
     if line.more {
         tell(writer, b"[Line refused.]\n")?;
@@ -44,13 +44,13 @@ pub(crate) fn hear<W: Write>(
     writer: &mut W,
     session: &mut Session,
 ) -> Result<(), WriteFailed>
-    requires { line.old.len ≤ 1000 }
+    requires { line.old.len ≤ longest_line }
     ensures hears { (game : Game) (s : Standing) (full : List ℕ) → IsSessionOf game s session.old
         → IsKept line.old full
         → Hears game (W.contents writer.old) (W.contents writer.new) s
         (λ t. IsSessionOf game t session.new) (whole_from full chunk.now) result }
     ensures line { (full : List ℕ) → IsKept line.old full → OnOk result (IsKept line.new (rest_from full chunk.now)) }
-    ensures within { line.new.len ≤ 1000 }
+    ensures within { line.new.len ≤ longest_line }
 {
     for byte in chunk {
         if *byte == b'\n' {

@@ -1,20 +1,23 @@
-//! The loop of a session: lines come in by a reader, and the transcript goes out by a writer.
+//! The session of a player: the turns of a story, which can be taken back and done again, and the loop over the lines
+//! of a reader, whose transcript goes to a writer.
 #![tactic(auto)]
 
 mod answering;
+mod exit;
 mod fault;
 mod hearing;
 mod line;
+mod reply;
 mod running;
-#[cfg(test)]
-mod stories;
-#[cfg(test)]
-mod streams;
-#[cfg(test)]
-mod tests;
+mod session;
+mod turns;
+mod typable;
 mod writing;
 
-pub use fault::RunFault;
-pub use history::{Reply, Session};
+pub use exit::status;
+pub use fault::{OpenFault, RunFault};
+pub use machine::LoadFault;
+pub use reply::Reply;
 pub use running::run;
+pub use session::Session;
 pub use zcore::Place;

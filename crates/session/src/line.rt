@@ -2,11 +2,14 @@
 
 ghost use Rattle.std.specs.Prelude.{◌≡◌, ℕ, [], ◌∷◌, ◌++◌, ◌≤◌, List};
 ghost use Rattle.session.specs.Kept.{IsKept};
+ghost use Rattle.session.specs.Standing.{longest_line};
+
+use crate::typable::LONGEST_LINE;
 
 /// The bytes of a line so far, or the knowledge that there are more than a line for the story can have.
 #[derive(Drop)]
 pub(crate) struct Line {
-    pub(crate) bytes: [u8; 1000],
+    pub(crate) bytes: [u8; LONGEST_LINE],
     pub(crate) len: usize,
     pub(crate) more: bool,
 }
@@ -15,10 +18,10 @@ impl Line {
     /// No byte so far.
     pub(crate) fn new() -> Line
         ensures kept { IsKept result [] }
-        ensures within { result.len ≤ 1000 }
+        ensures within { result.len ≤ longest_line }
     {
         Line {
-            bytes: [0; 1000],
+            bytes: [0; LONGEST_LINE],
             len: 0,
             more: false,
         }
@@ -27,7 +30,7 @@ impl Line {
     /// Begins an empty line.
     pub(crate) fn clear(&mut self)
         ensures kept { IsKept self.new [] }
-        ensures within { self.new.len ≤ 1000 }
+        ensures within { self.new.len ≤ longest_line }
     {
         self.len = 0;
         self.more = false;
@@ -35,11 +38,11 @@ impl Line {
 
     /// Adds a byte. Of a byte past the thousandth it is only kept that it was there.
     pub(crate) fn push(&mut self, byte: u8)
-        requires { self.old.len ≤ 1000 }
+        requires { self.old.len ≤ longest_line }
         ensures kept { (full : List ℕ) → IsKept self.old full → IsKept self.new (full ++ byte ∷ []) }
-        ensures within { self.new.len ≤ 1000 }
+        ensures within { self.new.len ≤ longest_line }
     {
-        if self.len < 1000 {
+        if self.len < LONGEST_LINE {
             self.bytes[self.len] = byte;
             self.len += 1;
         } else {

@@ -2,13 +2,13 @@
 
 ghost use Rattle.session.specs.Game.{telling_of, IsSessionOf, Game};
 ghost use Rattle.session.specs.Ran.{Ran};
-ghost use Rattle.history.specs.Standing.{nothing};
+ghost use Rattle.session.specs.Standing.{nothing};
 
 use crate::fault::RunFault;
 use crate::hearing::{finish, hear};
 use crate::line::Line;
+use crate::session::Session;
 use crate::writing::tell;
-use history::Session;
 use std::io::{Read, Write};
 use zcore::Place;
 
@@ -29,9 +29,12 @@ pub fn run<R: Read, W: Write>(
     session: &mut Session,
 ) -> Result<Place, RunFault>
     ensures { (game : Game) → IsSessionOf game nothing session.old
-        → Ran (telling_of game) game.keep (R.remaining reader.old) (R.remaining reader.new)
-        (W.contents writer.old) (W.contents writer.new)
-        (λ s. IsSessionOf game s session.new) result }
+        → Ran (telling_of game) game.keep (record {
+          unread_before = R.remaining reader.old;
+          unread_after = R.remaining reader.new;
+          held_before = W.contents writer.old;
+          held_after = W.contents writer.new;
+        }) (λ s. IsSessionOf game s session.new) result }
 {
     tell(writer, session.opening())?;
     let mut line = Line::new();

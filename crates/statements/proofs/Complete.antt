@@ -1,121 +1,21 @@
 -- What has a tree is read as that tree, unless it is nested too deep.
-use Rattle.std.proofs.Common.{◌≡◌, ◌&&◌, ℕ, zero, suc, ◌<◌, ◌≤◌, max, Bool, true, false, List, [], ◌∷◌, length, Some, Result, Ok, refl, ap, arith}
+use Rattle.std.proofs.Common.{◌≡◌, ◌&&◌, ℕ, zero, suc, ◌≤◌, max, Bool, true, false, List, [], ◌∷◌, length, Result, Ok, refl, ap, arith}
 use Rattle.lexer.specs.declared.token.Position.{Position}
 use Rattle.lexer.specs.declared.token.Sign.TheVariants as s
 use Rattle.lexer.specs.declared.token.Word.TheVariants as w
 use Rattle.lexer.specs.Token.{Lexeme, name, number, text, character, reserved, sign, position_of}
 use Rattle.expressions.specs.declared.error.Fault.{Fault}
-use Rattle.expressions.specs.declared.tree.Step.{Step}
-use Rattle.expressions.specs.Operators.{stepping}
 use Rattle.expressions.specs.Tree.{ExpressionTree}
-use Rattle.expressions.specs.Grammar.{IsE, e_plain, e_assign, IsE1, e1_plain, e1_logical, IsN1, n1_plain, n1_not, IsE2, e2_plain, e2_compare, e2_equal, IsE3, e3_plain, e3_add, IsE4, e4_plain, e4_scale, IsN4, n4_plain, n4_complement, IsU, u_plain, u_minus, u_before, u_after, IsP, p_number, p_character, p_true, p_false, p_nothing, p_name, p_call, p_call_with, p_parenthesised}
 use Rattle.expressions.specs.Nesting.{begins_expression}
 use Rattle.expressions.specs.Parse.{◌>>=◌, Parse, head, tail, is_sign, is_word, expect, whole, nested, expression}
-use Rattle.expressions.proofs.Follow.{Stops, short_E, first_E}
+use Rattle.expressions.proofs.Follow.{Stops, first_E}
 use Rattle.expressions.proofs.Limited.{Limited, bound, then, at_once, same, in_whole, Listed, listed_last, listed_next, listed_all}
 use Rattle.expressions.proofs.Complete.{at_E}
 use Rattle.statements.specs.Tree.{ItemTree, text_item, character_item, number_item, StatementTree, StatementTrees, trees_of, empty, block, text_alone, print, print_return, new_line, if_then, if_else, while_do, return_alone, return_value, return_true, return_false, quit, effect, stop, next}
 use Rattle.statements.specs.Grammar.{has_effect, else_follows, IsItem, item_text, item_character, item_number, IsItems, items_last, items_comma, IsS, s_empty, s_block, s_text, s_print, s_print_ret, s_new_line, s_if, s_if_else, s_while, s_return, s_return_value, s_rtrue, s_rfalse, s_quit, s_effect, IsSs, ss_stop, ss_next, item_nesting, items_nesting, statement_nesting, inside_nesting, body_nesting}
 use Rattle.statements.specs.Nesting.{begins_statement}
-use Rattle.statements.specs.Parse.{repeated, ended, character as cast, value, item, items, printed, test, returned, alone, choice, repetition, braced, statement_over, inside, braces, statement, statements}
-
--- ---- each derivation takes a token
-
-pub short_Item : {ts r : List Lexeme} {i : ItemTree} → IsItem ts i r → length r < length ts
-short_Item item_text = omega arith
-short_Item (item_character a) = omega (arith, short_E a)
-short_Item (item_number a) = short_E a
-
-pub short_Items : {ts r : List Lexeme} {is : List ItemTree} → IsItems ts is r → length r < length ts
-short_Items (items_last a) = short_Item a
-short_Items (items_comma a b) = omega (arith, short_Item a, short_Items b)
-
-mutual
-  pub short_S : {ts r : List Lexeme} {x : StatementTree} → IsS ts x r → length r < length ts
-  short_S s_empty = omega arith
-  short_S (s_block a) = omega (arith, short_Ss a)
-  short_S s_text = omega arith
-  short_S (s_print a) = omega (arith, short_Items a)
-  short_S (s_print_ret a) = omega (arith, short_Items a)
-  short_S s_new_line = omega arith
-  short_S (s_if c a e) = omega (arith, short_E c, short_S a)
-  short_S (s_if_else c a b) = omega (arith, short_E c, short_S a, short_S b)
-  short_S (s_while c a) = omega (arith, short_E c, short_S a)
-  short_S s_return = omega arith
-  short_S (s_return_value c) = omega (arith, short_E c)
-  short_S s_rtrue = omega arith
-  short_S s_rfalse = omega arith
-  short_S s_quit = omega arith
-  short_S (s_effect c f) = omega (arith, short_E c)
-
-  pub short_Ss : {ts r : List Lexeme} {xs : StatementTrees} → IsSs ts xs r → length r ≤ length ts
-  short_Ss ss_stop = omega arith
-  short_Ss (ss_next a b) = omega (arith, short_S a, short_Ss b)
-
--- ---- tokens with which parts begin
-
--- behind a parenthesis an expression begins
-stepping_opens : (t : Lexeme) (op : Step) → stepping t ≡ Some op → is_sign s.OpenParenthesis t ≡ false
-stepping_opens (sign s.OpenParenthesis p) op e = absurd cc
-stepping_opens _ op e = refl
-
-second_P : {ts r : List Lexeme} {e : ExpressionTree} → IsP ts e r → is_sign s.OpenParenthesis (head ts) ≡ true → begins_expression (head (tail ts)) ≡ true
-second_P p_number h = absurd cc
-second_P p_character h = absurd cc
-second_P p_true h = absurd cc
-second_P p_false h = absurd cc
-second_P p_nothing h = absurd cc
-second_P p_name h = absurd cc
-second_P p_call h = absurd cc
-second_P (p_call_with a) h = absurd cc
-second_P (p_parenthesised a) h = first_E a
-
-second_U : {ts r : List Lexeme} {e : ExpressionTree} → IsU ts e r → is_sign s.OpenParenthesis (head ts) ≡ true → begins_expression (head (tail ts)) ≡ true
-second_U (u_plain a) h = second_P a h
-second_U (u_minus a) h = absurd cc
-second_U (u_before {t = t} {op = op} o a) h = let no = stepping_opens t op o in absurd cc
-second_U (u_after a o) h = second_P a h
-
-second_N4 : {ts r : List Lexeme} {e : ExpressionTree} → IsN4 ts e r → is_sign s.OpenParenthesis (head ts) ≡ true → begins_expression (head (tail ts)) ≡ true
-second_N4 (n4_plain a) h = second_U a h
-second_N4 (n4_complement a) h = absurd cc
-
-second_E4 : {ts r : List Lexeme} {e : ExpressionTree} → IsE4 ts e r → is_sign s.OpenParenthesis (head ts) ≡ true → begins_expression (head (tail ts)) ≡ true
-second_E4 (e4_plain a) h = second_N4 a h
-second_E4 (e4_scale a o b) h = second_E4 a h
-
-second_E3 : {ts r : List Lexeme} {e : ExpressionTree} → IsE3 ts e r → is_sign s.OpenParenthesis (head ts) ≡ true → begins_expression (head (tail ts)) ≡ true
-second_E3 (e3_plain a) h = second_E4 a h
-second_E3 (e3_add a o b) h = second_E3 a h
-
-second_E2 : {ts r : List Lexeme} {e : ExpressionTree} → IsE2 ts e r → is_sign s.OpenParenthesis (head ts) ≡ true → begins_expression (head (tail ts)) ≡ true
-second_E2 (e2_plain a) h = second_E3 a h
-second_E2 (e2_compare a o b) h = second_E3 a h
-second_E2 (e2_equal a o b) h = second_E3 a h
-
-second_N1 : {ts r : List Lexeme} {e : ExpressionTree} → IsN1 ts e r → is_sign s.OpenParenthesis (head ts) ≡ true → begins_expression (head (tail ts)) ≡ true
-second_N1 (n1_plain a) h = second_E2 a h
-second_N1 (n1_not a) h = absurd cc
-
-second_E1 : {ts r : List Lexeme} {e : ExpressionTree} → IsE1 ts e r → is_sign s.OpenParenthesis (head ts) ≡ true → begins_expression (head (tail ts)) ≡ true
-second_E1 (e1_plain a) h = second_N1 a h
-second_E1 (e1_logical a o b) h = second_E1 a h
-
-second_E : {ts r : List Lexeme} {e : ExpressionTree} → IsE ts e r → is_sign s.OpenParenthesis (head ts) ≡ true → begins_expression (head (tail ts)) ≡ true
-second_E (e_plain a) h = second_E1 a h
-second_E (e_assign a b) h = second_E1 a h
-
--- `char` begins no expression
-no_character : (t : Lexeme) → begins_expression t ≡ true → is_word w.Char t ≡ false
-no_character (reserved w.Char p) e = absurd cc
-no_character _ e = refl
-
-either : (a b : Bool) → (a ≡ true → b ≡ false) → (a && b) ≡ false
-either true b h = h refl
-either false b h = refl
-
-no_cast : {ts r : List Lexeme} {e : ExpressionTree} → IsE ts e r → (is_sign s.OpenParenthesis (head ts) && is_word w.Char (head (tail ts))) ≡ false
-no_cast {ts} a = either (is_sign s.OpenParenthesis (head ts)) (is_word w.Char (head (tail ts))) (λ h. no_character (head (tail ts)) (second_E a h))
+use Rattle.statements.specs.Parse.{repeated, ended, character as cast, value, item, items, printed, enclosed_condition, returned, alone, choice, repetition, braced, statement_over, inside, braces, statement, statements}
+use Rattle.statements.proofs.Follow.{short_Item, short_S, no_cast}
 
 -- ---- what `print` prints
 
@@ -228,19 +128,19 @@ module _ (d : ℕ) where
   unfolding statement statement_over returned
   step_return_value {e = e} p q m r h a = same {S = expression (nested d) m >>= λ x. ended (return_value p x.0) x.1} (rw h refl) (then _ a (step_ended (return_value p e) q r))
 
-  step_test : {n : ℕ} {c : ExpressionTree} (q o : Position) (m k : List Lexeme) → Limited (nested d whole m) d n c (sign s.CloseParenthesis o ∷ k) → Limited (test d (sign s.OpenParenthesis q ∷ m)) d n c k
-  unfolding test expect
-  step_test q o m k a = then _ a refl
+  step_condition : {n : ℕ} {c : ExpressionTree} (q o : Position) (m k : List Lexeme) → Limited (nested d whole m) d n c (sign s.CloseParenthesis o ∷ k) → Limited (enclosed_condition d (sign s.OpenParenthesis q ∷ m)) d n c k
+  unfolding enclosed_condition expect
+  step_condition q o m k a = then _ a refl
 
-  step_if : {n l : ℕ} {c : ExpressionTree} {x : StatementTree} {k r : List Lexeme} (p : Position) (ts : List Lexeme) → Limited (test d ts) d n c k → Limited (inside d k) d l x r → else_follows r ≡ false → Limited (statement d (reserved w.If p ∷ ts)) d (max n l) (if_then p c x) r
+  step_if : {n l : ℕ} {c : ExpressionTree} {x : StatementTree} {k r : List Lexeme} (p : Position) (ts : List Lexeme) → Limited (enclosed_condition d ts) d n c k → Limited (inside d k) d l x r → else_follows r ≡ false → Limited (statement d (reserved w.If p ∷ ts)) d (max n l) (if_then p c x) r
   unfolding statement statement_over choice
   step_if p ts t a e = bound _ t (then _ a (rw e refl))
 
-  step_if_else : {n l j : ℕ} {c : ExpressionTree} {x y : StatementTree} {k r : List Lexeme} (p e : Position) (ts q : List Lexeme) → Limited (test d ts) d n c k → Limited (inside d k) d l x (reserved w.Else e ∷ q) → Limited (inside d q) d j y r → Limited (statement d (reserved w.If p ∷ ts)) d (max n (max l j)) (if_else p c x y) r
+  step_if_else : {n l j : ℕ} {c : ExpressionTree} {x y : StatementTree} {k r : List Lexeme} (p e : Position) (ts q : List Lexeme) → Limited (enclosed_condition d ts) d n c k → Limited (inside d k) d l x (reserved w.Else e ∷ q) → Limited (inside d q) d j y r → Limited (statement d (reserved w.If p ∷ ts)) d (max n (max l j)) (if_else p c x y) r
   unfolding statement statement_over choice
   step_if_else p e ts q t a b = bound _ t (bound _ a (then _ b refl))
 
-  step_while : {n l : ℕ} {c : ExpressionTree} {x : StatementTree} {k r : List Lexeme} (p : Position) (ts : List Lexeme) → Limited (test d ts) d n c k → Limited (inside d k) d l x r → Limited (statement d (reserved w.While p ∷ ts)) d (max n l) (while_do p c x) r
+  step_while : {n l : ℕ} {c : ExpressionTree} {x : StatementTree} {k r : List Lexeme} (p : Position) (ts : List Lexeme) → Limited (enclosed_condition d ts) d n c k → Limited (inside d k) d l x r → Limited (statement d (reserved w.While p ∷ ts)) d (max n l) (while_do p c x) r
   unfolding statement statement_over repetition
   step_while p ts t a = bound _ t (then _ a refl)
 
@@ -330,9 +230,9 @@ mutual
   at_S (s_print {m = m} {r = r} {p = p} {q = q} {is = is} a) d = step_print d is p q m r (at_Items a d)
   at_S (s_print_ret {m = m} {r = r} {p = p} {q = q} {is = is} a) d = step_print_ret d is p q m r (at_Items a d)
   at_S (s_new_line {r = r} {p = p} {q = q}) d = step_new_line d p q r
-  at_S (s_if {m = m} {k = k} {p = p} {q = q} {o = o} c a e) d = up (step_if d p (sign s.OpenParenthesis q ∷ m) (step_test d q o m k (in_whole m d (λ j. at_E c j (omega arith)))) (in_statement k d (λ j. at_S a j)) e) (omega arith)
-  at_S (s_if_else {m = m} {k = k} {l = l} {p = p} {q = q} {o = o} {e = e} c a b) d = up (step_if_else d p e (sign s.OpenParenthesis q ∷ m) l (step_test d q o m k (in_whole m d (λ j. at_E c j (omega arith)))) (in_statement k d (λ j. at_S a j)) (in_statement l d (λ j. at_S b j))) (omega arith)
-  at_S (s_while {m = m} {k = k} {p = p} {q = q} {o = o} c a) d = up (step_while d p (sign s.OpenParenthesis q ∷ m) (step_test d q o m k (in_whole m d (λ j. at_E c j (omega arith)))) (in_statement k d (λ j. at_S a j))) (omega arith)
+  at_S (s_if {m = m} {k = k} {p = p} {q = q} {o = o} c a e) d = up (step_if d p (sign s.OpenParenthesis q ∷ m) (step_condition d q o m k (in_whole m d (λ j. at_E c j (omega arith)))) (in_statement k d (λ j. at_S a j)) e) (omega arith)
+  at_S (s_if_else {m = m} {k = k} {l = l} {p = p} {q = q} {o = o} {e = e} c a b) d = up (step_if_else d p e (sign s.OpenParenthesis q ∷ m) l (step_condition d q o m k (in_whole m d (λ j. at_E c j (omega arith)))) (in_statement k d (λ j. at_S a j)) (in_statement l d (λ j. at_S b j))) (omega arith)
+  at_S (s_while {m = m} {k = k} {p = p} {q = q} {o = o} c a) d = up (step_while d p (sign s.OpenParenthesis q ∷ m) (step_condition d q o m k (in_whole m d (λ j. at_E c j (omega arith)))) (in_statement k d (λ j. at_S a j))) (omega arith)
   at_S (s_return {r = r} {p = p} {q = q}) d = step_return d p q r
   at_S (s_return_value {m = m} {r = r} {p = p} {q = q} c) d = step_return_value d p q m r (expression_semicolon (head m) (first_E c)) (at_E c d (omega arith))
   at_S (s_rtrue {r = r} {p = p} {q = q}) d = step_rtrue d p q r

@@ -17,7 +17,7 @@ use Rattle.expressions.proofs.Sound.{judged_E, judged_whole}
 use Rattle.statements.specs.Tree.{ItemTree, text_item, character_item, number_item, StatementTree, trees_of, empty, block, text_alone, print, print_return, new_line, if_then, if_else, while_do, return_alone, return_value, return_true, return_false, quit, effect}
 use Rattle.statements.specs.Grammar.{has_effect, else_follows, IsItem, item_text, item_character, item_number, IsItems, items_last, items_comma, IsS, s_empty, s_block, s_text, s_print, s_print_ret, s_new_line, s_if, s_if_else, s_while, s_return, s_return_value, s_rtrue, s_rfalse, s_quit, s_effect, IsSs, ss_stop, ss_next, item_nesting, items_nesting, statement_nesting, inside_nesting, body_nesting}
 use Rattle.statements.specs.Nesting.{begins_statement, DeepItem, deep_item_parenthesis, deep_item_character, deep_item_number, DeepItems, deep_items_first, deep_items_next, DeepS, deep_s_brace, deep_s_block, deep_s_print, deep_s_print_ret, deep_s_if, deep_s_if_condition, deep_s_if_then, deep_s_if_else, deep_s_while, deep_s_while_condition, deep_s_while_do, deep_s_return, deep_s_effect, DeepInside, deep_inside_begins, deep_inside_first, deep_inside_next, DeepSs, deep_ss_first, deep_ss_next}
-use Rattle.statements.specs.Parse.{repeated, ended, character, value, item, items, printed, test, returned, alone, choice, repetition, braced, statement_over, inside, braces, statement, statements}
+use Rattle.statements.specs.Parse.{repeated, ended, character, value, item, items, printed, enclosed_condition, returned, alone, choice, repetition, braced, statement_over, inside, braces, statement, statements}
 
 -- one nesting further in: at its first token, or behind that
 deeper : (D E : ℕ → Type 0) (d : ℕ) → E 1 → ((n : ℕ) → D n → E (suc n)) → (d ≡ 0) ⊎ D d → E (suc d)
@@ -149,9 +149,9 @@ pub record DeepCondition (d : ℕ) (ts : List Lexeme) : Type 0 where
   pub at : ts ≡ sign s.OpenParenthesis opens ∷ from
   pub deep : (d ≡ 0) ⊎ DeepE d from
 
-test_judged : (d : ℕ) (ts : List Lexeme) → Judged (IsCondition d ts) (DeepCondition d ts) (test d ts)
-unfolding test
-test_judged d ts =
+condition_judged : (d : ℕ) (ts : List Lexeme) → Judged (IsCondition d ts) (DeepCondition d ts) (enclosed_condition d ts)
+unfolding enclosed_condition
+condition_judged d ts =
     judged_after (expect s.OpenParenthesis ts) _
     (λ m e. judged_then _ (judged_whole d m)
     (λ c r h. judged_after (expect s.CloseParenthesis r) _
@@ -175,7 +175,7 @@ module _ (d : ℕ) (inner : Inner d) where
   choice_judged : (p : Position) (ts : List Lexeme) → Judged (λ x r. IsS (reserved w.If p ∷ ts) x r × (statement_nesting x ≤ d)) (DeepS (suc d) (reserved w.If p ∷ ts)) (choice d (inside d) p ts)
   unfolding choice
   choice_judged p ts =
-      judged_then _ (test_judged d ts)
+      judged_then _ (condition_judged d ts)
       (λ c r h. judged_then _ (inner.in_statement r)
       (λ x u g. judged_by (else_follows u) _ _
       (λ e.
@@ -190,7 +190,7 @@ module _ (d : ℕ) (inner : Inner d) where
   repetition_judged : (p : Position) (ts : List Lexeme) → Judged (λ x r. IsS (reserved w.While p ∷ ts) x r × (statement_nesting x ≤ d)) (DeepS (suc d) (reserved w.While p ∷ ts)) (repetition d (inside d) p ts)
   unfolding repetition
   repetition_judged p ts =
-      judged_then _ (test_judged d ts)
+      judged_then _ (condition_judged d ts)
       (λ c r h. judged_then _ (inner.in_statement r)
       (λ x u g. judged_read _ u (subst (λ us. IsS (reserved w.While p ∷ us) (while_do p c x) u) (sym h.at) (s_while h.derives g.0), omega (arith, h.within, g.1)))
       (λ z. subst (λ us. DeepS (suc d) (reserved w.While p ∷ us)) (sym h.at) (deeper (λ n. DeepS n r) (λ n. DeepS n (reserved w.While p ∷ sign s.OpenParenthesis h.opens ∷ h.from)) d deep_s_while (λ n x. deep_s_while_do h.derives x) z)))

@@ -1,4 +1,4 @@
--- Statements, read from left to right: functions from a list of tokens to a tree and the tokens after it.
+-- Words of proofs: statements, read from left to right: functions from a list of tokens to a tree and the tokens after it.
 use Rattle.std.specs.Prelude.{◌&&◌, if◌then◌else◌, Bool, ℕ, zero, suc, List, [], ◌∷◌, length, Result, Ok, Err}
 use Rattle.lexer.specs.declared.token.Position.{Position}
 use Rattle.lexer.specs.declared.token.Sign.TheVariants as s
@@ -28,6 +28,10 @@ opened (suc d) R = R
 unfoldable pub ended : StatementTree → Parse StatementTree
 ended x ts = expect s.Semicolon ts >>= λ r. Ok (x, r)
 
+-- the statements of a block, with its second brace
+abbrev pub block_of : List StatementTree → Parse StatementTree
+block_of xs ts = expect s.CloseBrace ts >>= λ r. Ok (block (trees_of xs), r)
+
 -- where d nestings more may be opened
 module _ (d : ℕ) where
   -- `(char)` and a value
@@ -53,8 +57,8 @@ module _ (d : ℕ) where
   printed make ts = items ts >>= λ x. ended (make x.0) x.1
 
   -- a condition in parentheses
-  unfoldable pub test : Parse ExpressionTree
-  test ts = do
+  unfoldable pub enclosed_condition : Parse ExpressionTree
+  enclosed_condition ts = do
     r ← expect s.OpenParenthesis ts
     x ← nested d whole r
     u ← expect s.CloseParenthesis x.1
@@ -76,14 +80,14 @@ module _ (d : ℕ) where
   module _ (inside : Parse StatementTree) where
     unfoldable pub choice : Position → Parse StatementTree
     choice p ts = do
-      c ← test ts
+      c ← enclosed_condition ts
       x ← inside c.1
       if else_follows x.1 then (inside (tail x.1) >>= λ y. Ok (if_else p c.0 x.0 y.0, y.1))
           else Ok (if_then p c.0 x.0, x.1)
 
     unfoldable pub repetition : Position → Parse StatementTree
     repetition p ts = do
-      c ← test ts
+      c ← enclosed_condition ts
       x ← inside c.1
       Ok (while_do p c.0 x.0, x.1)
 

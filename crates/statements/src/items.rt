@@ -22,8 +22,10 @@ fn character<'t, 'a>(
 {
     open(depth, tokens)?;
     let begin = expect(Sign::CloseParenthesis, skip(skip(tokens)))?;
-    let (value, rest) = expression(alloc, depth, begin)?;
-    Ok((Item::Character(position(begin), value), rest))
+    match expression(alloc, depth, begin) {
+        Ok((value, rest)) => Ok((Item::Character(position(begin), value), rest)),
+        Err(e) => Err(e),
+    }
 }
 
 #[tactic(auto, unfolding(crate::specs::Parse::item, crate::specs::Parse::value))]
@@ -41,11 +43,17 @@ fn item<'t, 'a>(
     if is_sign(first, Sign::OpenParenthesis) && is_word(peek(skip(tokens)), Word::Char) {
         return character(alloc, depth, tokens);
     }
-    let (value, rest) = expression(alloc, depth, tokens)?;
-    Ok((Item::Number(first.position, value), rest))
+    match expression(alloc, depth, tokens) {
+        Ok((value, rest)) => Ok((Item::Number(first.position, value), rest)),
+        Err(e) => Err(e),
+    }
 }
 
 /// Items with commas between them.
+///
+/// # Errors
+///
+/// Those of `expression`; and `Fault::Deep` at the parenthesis of `(char)` where no nesting is left.
 #[tactic(auto, unfolding(crate::specs::Parse::items, expressions::specs::Parse::list), using(crate::proofs::Loops::further_out, crate::proofs::Loops::further_done, crate::proofs::Loops::further_more, crate::proofs::Loops::further_fails))]
 pub fn items<'t, 'a>(
     alloc: Global,

@@ -1,12 +1,10 @@
 //! Statements: their trees, and the parser that reads them.
 #![tactic(auto)]
 
-mod build;
 mod items;
 mod nested;
+mod parts;
 mod simple;
-#[cfg(test)]
-mod tests;
 mod tree;
 
 pub use nested::statements;

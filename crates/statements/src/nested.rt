@@ -8,11 +8,10 @@ ghost use Rattle.statements.specs.Nesting as nesting;
 ghost use Rattle.statements.specs.Tree.{statement_tree};
 ghost use Rattle.statements.specs.Parse as spec;
 
-use crate::build::{if_else, if_then, while_do};
-use crate::items::items;
-use crate::simple::{alone, ended, returned, test};
+use crate::parts;
+use crate::simple::{alone, enclosed_condition, ended, print, print_return, returned};
 use crate::tree::Statement;
-use expressions::{ParseError, begins_expression, expect, is_word, open, peek, skip};
+use expressions::{ParseError, begins_expression, is_word, open, peek, skip};
 use lexer::{Kind, Position, Sign, Token, Word};
 use std::alloc::Global;
 
@@ -59,8 +58,11 @@ fn same<'t, 'a>(tokens: &'t [Token<'a>]) -> &'t [Token<'a>]
 /// belongs to the nearest `if`. Braces, the parentheses of a condition and of `(char)`, and a statement inside a statement
 /// are nestings, as are those of expressions.
 ///
-/// A fault of the grammar stands at the first token with which no derivation goes on; a fault of depth at the token for
-/// which no nesting is left. `Memory`, where a growth is refused.
+/// # Errors
+///
+/// - `Fault::Grammar` at the first token with which no derivation goes on.
+/// - `Fault::Deep` at the token for which no nesting is left.
+/// - `Memory`: a growth is refused.
 #[cycle(statement)]
 #[tactic(auto, unfolding(crate::specs::Parse::statements), using(crate::proofs::Loops::repeated_out, crate::proofs::Loops::repeated_done, crate::proofs::Loops::repeated_more, crate::proofs::Loops::repeated_fails, crate::proofs::Loops::joined_none))]
 pub fn statements<'t, 'a>(
@@ -104,7 +106,6 @@ fn braces<'t, 'a>(
 
 // A block, from its brace on.
 #[cycle(statement)]
-#[tactic(auto, unfolding(crate::specs::Parse::braced))]
 fn block<'t, 'a>(
     alloc: Global,
     depth: usize,
@@ -112,9 +113,7 @@ fn block<'t, 'a>(
 ) -> Result<(Statement<'a>, &'t [Token<'a>]), ParseError>
     ensures { Gives (λ x. (statement_tree x.0, lexemes x.1.now)) result (spec.braced depth (spec.inside depth) (spec.braces depth) (tail (lexemes tokens.now))) }
 {
-    let (found, rest) = braces(alloc, depth, tokens)?;
-    let rest = expect(Sign::CloseBrace, rest)?;
-    Ok((Statement::Block(found), rest))
+    parts::block(braces(alloc, depth, tokens))
 }
 
 // A statement one nesting further in than where `depth` may be opened, in its box.
@@ -128,9 +127,7 @@ fn further_in<'t, 'a>(
     requires { 0 < depth }
     ensures { Gives (λ x. (statement_tree x.0.value, lexemes x.1.now)) result (spec.inside depth (lexemes tokens.now)) }
 {
-    let (found, rest) = statement(alloc, depth - 1, tokens)?;
-    let found = Box::new(alloc, found)?;
-    Ok((found, rest))
+    parts::boxed(alloc, statement(alloc, depth - 1, tokens))
 }
 
 // What follows `if`, which stands at `position`.
@@ -144,13 +141,21 @@ fn choice<'t, 'a>(
 ) -> Result<(Statement<'a>, &'t [Token<'a>]), ParseError>
     ensures { Gives (λ x. (statement_tree x.0, lexemes x.1.now)) result (spec.choice depth (spec.inside depth) position (lexemes tokens.now)) }
 {
-    let (condition, rest) = test(alloc, depth, tokens)?;
-    let (first, rest) = further_in(alloc, depth, rest)?;
-    if !else_follows(rest) {
-        return Ok((if_then(position, condition, first), rest));
+    let (condition, rest) = enclosed_condition(alloc, depth, tokens)?;
+    match further_in(alloc, depth, rest) {
+        Ok((first, rest)) => {
+            if !else_follows(rest) {
+                return Ok((parts::if_then(position, condition, first), rest));
+            }
+            let second = further_in(alloc, depth, skip(rest));
+            parts::if_else(position, condition, first, second)
+        }
+        Err(e) => {
+            // By a call, so that the proof here does not go through each kind of expression.
+            drop(condition);
+            Err(e)
+        }
     }
-    let (second, rest) = further_in(alloc, depth, skip(rest))?;
-    Ok((if_else(position, condition, first, second), rest))
 }
 
 // What follows `while`, which stands at `position`.
@@ -164,14 +169,14 @@ fn repetition<'t, 'a>(
 ) -> Result<(Statement<'a>, &'t [Token<'a>]), ParseError>
     ensures { Gives (λ x. (statement_tree x.0, lexemes x.1.now)) result (spec.repetition depth (spec.inside depth) position (lexemes tokens.now)) }
 {
-    let (condition, rest) = test(alloc, depth, tokens)?;
-    let (body, rest) = further_in(alloc, depth, rest)?;
-    Ok((while_do(position, condition, body), rest))
+    let (condition, rest) = enclosed_condition(alloc, depth, tokens)?;
+    let body = further_in(alloc, depth, rest);
+    parts::while_do(position, condition, body)
 }
 
 // A statement in which `depth` nestings more may be opened, and the tokens after it.
 #[cycle(statement)]
-#[tactic(auto, unfolding(crate::specs::Parse::statement, crate::specs::Parse::statement_over, crate::specs::Parse::printed))]
+#[tactic(auto, unfolding(crate::specs::Parse::statement, crate::specs::Parse::statement_over))]
 fn statement<'t, 'a>(
     alloc: Global,
     depth: usize,
@@ -185,14 +190,8 @@ fn statement<'t, 'a>(
         Kind::Sign(Sign::Semicolon) => Ok((Statement::Empty, rest)),
         Kind::Sign(Sign::OpenBrace) => block(alloc, depth, tokens),
         Kind::Text(bytes) => ended(Statement::Text(bytes), rest),
-        Kind::Reserved(Word::Print) => {
-            let (found, rest) = items(alloc, depth, rest)?;
-            ended(Statement::Print(found), rest)
-        }
-        Kind::Reserved(Word::PrintRet) => {
-            let (found, rest) = items(alloc, depth, rest)?;
-            ended(Statement::PrintReturn(found), rest)
-        }
+        Kind::Reserved(Word::Print) => print(alloc, depth, rest),
+        Kind::Reserved(Word::PrintRet) => print_return(alloc, depth, rest),
         Kind::Reserved(Word::NewLine) => ended(Statement::NewLine, rest),
         Kind::Reserved(Word::If) => choice(alloc, depth, first.position, rest),
         Kind::Reserved(Word::While) => repetition(alloc, depth, first.position, rest),

@@ -7,7 +7,7 @@ use Rattle.lexer.specs.declared.fault.SourceFault.{SourceFault}
 use Rattle.lexer.specs.declared.token.Token.{Token}
 use Rattle.lexer.specs.Token.{lexemes}
 use Rattle.lexer.specs.Tokens.{Lexes}
-use Rattle.lexer.specs.Results.{source_tokens}
+use Rattle.lexer.specs.Results.{no_memory, source_tokens}
 use Rattle.lexer.specs.Printable.{PrintableTokens}
 use Rattle.syntax.specs.Tree.{ProgramTree}
 use Rattle.syntax.specs.Grammar.{IsProgram, program_nesting}
@@ -17,13 +17,12 @@ use Rattle.zcore.specs.declared.header.Version.{Version}
 use Rattle.zcore.specs.Header.{scale_of, Reads}
 use Rattle.zcore.specs.declared.header.Header.{Header}
 use Rattle.checker.specs.declared.breach.Breach.{Breach}
-use Rattle.checker.specs.declared.checked.Checked.{Checked}
 use Rattle.checker.specs.Accepted.{IsAccepted}
 use Rattle.checker.specs.Breaches.{IsAmong, IsFirst}
 use Rattle.checker.specs.Laws.{AcceptedPrograms, PrintablePrograms}
 use Rattle.checker.specs.Printable.{HasPrintableTexts}
 use Rattle.checker.specs.Programs.{program_breaches, IsCheckedOf}
-use Rattle.checker.specs.Resolved.{program_of}
+use Rattle.checker.specs.Resolved.{CheckedProgram, program_of}
 use Rattle.checker.specs.Sizes as checked
 use Rattle.code.specs.Laws.{CodePlays, Plays, IsSmall, SmallSourcesHaveSmallCode}
 use Rattle.story.specs.Compiled.{IsTreeOf, IsStoryOf, Refuses, Compiles, lexemes_of, first_heavy, heavy_fault, size_fault, fault}
@@ -60,7 +59,7 @@ module _ (source : List ℕ) (ts : List Token) (lexed : Lexes 0 1 source (Ok (so
   pub unparsed : (version : Version) (f : SourceFault)
       → (f.number ≡ 10 → ((p : ProgramTree) → IsProgram (lexemes ts) p → ⊥))
       → (f.number ≡ 5 → (DeepProgram 101 (lexemes ts) × ((p : ProgramTree) → IsProgram (lexemes ts) p → 100 < program_nesting p)))
-      → (f.number ≡ 5) ⊎ (f.number ≡ 10) ⊎ (f.number ≡ 99)
+      → (f.number ≡ 5) ⊎ (f.number ≡ 10) ⊎ (f ≡ no_memory)
       → Refuses version source f
   unparsed version f grammar deep number = elim number [
     | inl five ↦
@@ -75,14 +74,14 @@ module _ (source : List ℕ) (ts : List Token) (lexed : Lexes 0 1 source (Ok (so
 -- Rules and sizes
 
 pub unchecked : (version : Version) (source : List ℕ) (p : ProgramTree) (f : SourceFault) → IsTreeOf source p
-    → (f.number ≡ 99) ⊎ ((b : Breach) × IsAmong b (program_breaches p) × IsFirst b (program_breaches p) × (f.number ≡ b.number) × (f.line ≡ b.position.line))
+    → (f ≡ no_memory) ⊎ ((b : Breach) × IsAmong b (program_breaches p) × IsFirst b (program_breaches p) × (f.number ≡ b.number) × (f.line ≡ b.position.line))
     → Refuses version source f
 unchecked version source p f tree answer = elim answer [
   | inl refused ↦ spec.no_memory refused
   | inr broken ↦ spec.rule_broken p tree broken.0 broken.1 broken.2 broken.3 broken.4
 ]
 
-pub too_large : (version : Version) (source : List ℕ) (p : ProgramTree) (c : Checked) (f : SourceFault) → IsTreeOf source p → program_breaches p ≡ [] → IsCheckedOf p c
+pub too_large : (version : Version) (source : List ℕ) (p : ProgramTree) (c : CheckedProgram) (f : SourceFault) → IsTreeOf source p → program_breaches p ≡ [] → IsCheckedOf p c
     → Some f ≡ checked.size_fault c version → Refuses version source f
 too_large version source p c f tree lawful is e = spec.too_large p tree lawful (sym (e ∙ size_faults version p c is))
 
@@ -90,7 +89,7 @@ too_large version source p c f tree lawful is e = spec.too_large p tree lawful (
 
 module _ (accepted_programs : AcceptedPrograms) (printable_tokens : PrintableTokens) (printable_trees : PrintableTrees) (printable_programs : PrintablePrograms)
     (small_sources : SmallSourcesHaveSmallCode)
-    (version : Version) (source : List ℕ) (ts : List Token) (p : ProgramTree) (c : Checked)
+    (version : Version) (source : List ℕ) (ts : List Token) (p : ProgramTree) (c : CheckedProgram)
     (lexed : Lexes 0 1 source (Ok (source_tokens ts))) (parsed : IsProgram (lexemes ts) p) (lawful : program_breaches p ≡ []) (is : IsCheckedOf p c)
     (sized : checked.size_fault c version ≡ None) where
   small : IsSmall c version
@@ -103,7 +102,7 @@ module _ (accepted_programs : AcceptedPrograms) (printable_tokens : PrintableTok
   printable = subst HasPrintableTexts (sym is.program) (printable_programs p (printable_trees (lexemes ts) p parsed (printable_tokens source ts lexed)))
 
   pub fits : Fits version (program_of c)
-  fits = record { accepted = accepted; printable = printable; within = stories_are_short version (program_of c) small.all }
+  fits = record { accepted = accepted; within = stories_are_short version (program_of c) small.all }
 
   pub compiled : StoriesHold → CodePlays → (bytes : List ℕ) → All (λ b. b < 256) bytes → bytes ≡ story_of version (program_of c) → program_nesting p ≤ 100 → IsStoryOf version source bytes
   compiled stories_hold code_plays bytes are_bytes laid nested =

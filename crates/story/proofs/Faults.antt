@@ -5,8 +5,8 @@ use Rattle.lexer.specs.declared.token.Position.{Position}
 use Rattle.zcore.specs.declared.header.Version.{Version}
 use Rattle.syntax.specs.Tree.{RoutineTree, ProgramTree}
 use Rattle.checker.specs.declared.checked.CheckedRoutine.{CheckedRoutine}
-use Rattle.checker.specs.declared.checked.Checked.{Checked}
-use Rattle.checker.specs.Programs.{IsCheckedOf, routine_trees, title, title_of}
+use Rattle.checker.specs.Resolved.{CheckedProgram, title_of}
+use Rattle.checker.specs.Programs.{IsCheckedOf, routine_trees, title}
 use Rattle.checker.specs.Sizes.{greatest_weight}
 use Rattle.checker.specs.Sizes as checked
 use Rattle.story.specs.Compiled.{first_heavy, heavy_fault, size_fault}
@@ -27,8 +27,8 @@ heavy_faults : (q : Option Position) → checked.heavy_fault q ≡ heavy_fault q
 heavy_faults None = refl
 heavy_faults (Some q) = refl
 
-pub size_faults : (version : Version) (p : ProgramTree) (c : Checked) → IsCheckedOf p c → checked.size_fault c version ≡ size_fault version p
+pub size_faults : (version : Version) (p : ProgramTree) (c : CheckedProgram) → IsCheckedOf p c → checked.size_fault c version ≡ size_fault version p
 size_faults version p c is =
-    ap (λ w. if nat_lt (greatest_weight version) w then Some (checked.fault 31 0) else checked.heavy_fault (checked.first_heavy c.routines.items)) is.weight
+    ap (λ w. if nat_lt (greatest_weight version) w then Some (checked.fault 31 0) else checked.heavy_fault (checked.first_heavy c.routines)) is.weight
     ∙ ap (λ q. if nat_lt (greatest_weight version) p.weight then Some (checked.fault 31 0) else q)
-    (heavy_faults (checked.first_heavy c.routines.items) ∙ ap heavy_fault (heavy_same (routine_trees p.directives) c.routines.items is.titles))
+    (heavy_faults (checked.first_heavy c.routines) ∙ ap heavy_fault (heavy_same (routine_trees p.directives) c.routines is.titles))

@@ -19,35 +19,35 @@ use Rattle.code.specs.Addresses.{Addresses}
 use Rattle.code.specs.Bytes.{code_size}
 use Rattle.code.specs.Standing.{HoldsProgram, HoldsRoutine, HoldsText, fault_line, start_code}
 use Rattle.code.specs.Sizes.{routine_size}
-use Rattle.story.specs.Layout.{addresses_in, fault_texts, first_place, packed_addresses, parts_from, places_from, low_bytes, routine_bytes, story_of}
+use Rattle.story.specs.Layout.{addresses_in, fault_texts, first_address, packed_addresses, parts_from, addresses_from, low_bytes, routine_bytes, story_of}
 use Rattle.story.specs.Laws.{IsShort, StoriesHold}
-use Rattle.story.proofs.Parts.{whole, Stands, holds_first, parts_rise, parts_stand, places_count}
+use Rattle.story.proofs.Parts.{whole, HasPartAt, holds_first, parts_rise, parts_stand, addresses_count}
 use Rattle.story.proofs.Lengths.{routine_length, sizes_are}
 use Rattle.story.proofs.Low.{global_stands, high_stands, start_stands}
 use Rattle.story.proofs.Reading.{Says, behind_header, says, header_read, laid_length, laid_out, laid_read}
 
 -- Packed addresses
 
-packed_is : (version : Version) (places : List ℕ) (k : ℕ) → k < length places
-    → slice_index (map (λ place. place / scale_of version) places) k ≡ slice_index places k / scale_of version
+packed_is : (version : Version) (addresses : List ℕ) (k : ℕ) → k < length addresses
+    → slice_index (map (λ address. address / scale_of version) addresses) k ≡ slice_index addresses k / scale_of version
 packed_is version [] k within = absurd (omega (arith, within))
-packed_is version (place ∷ places) zero within = refl
-packed_is version (place ∷ places) (suc k) within = packed_is version places k (omega (arith, within))
+packed_is version (address ∷ addresses) zero within = refl
+packed_is version (address ∷ addresses) (suc k) within = packed_is version addresses k (omega (arith, within))
 
 scale_is : (version : Version) (story : List ℕ) → slice_index story 0 ≡ version_number version → scale_in story ≡ scale_of version
 scale_is V5 story e = ap (λ n. if n == 8 then 8 else 4) e
 scale_is V8 story e = ap (λ n. if n == 8 then 8 else 4) e
 
--- what a packed address of a place in a story is
-pub record IsPacked (version : Version) (place : ℕ) : Type 0 where
-  pub back : scale_of version * (place / scale_of version) ≡ place
-  pub named : 0 < place / scale_of version
-  pub word : place / scale_of version < 65536
+-- what the packed address of an address in a story is
+pub record IsPacked (version : Version) (address : ℕ) : Type 0 where
+  pub back : scale_of version * (address / scale_of version) ≡ address
+  pub named : 0 < address / scale_of version
+  pub word : address / scale_of version < 65536
 
-is_packed : (version : Version) (place end : ℕ) → whole version place → 875 ≤ place → place ≤ end → end ≤ 65535 * scale_of version → IsPacked version place
-is_packed V5 place end multiple low below within =
+is_packed : (version : Version) (address end : ℕ) → whole version address → 875 ≤ address → address ≤ end → end ≤ 65535 * scale_of version → IsPacked version address
+is_packed V5 address end multiple low below within =
     record { back = omega (arith, multiple); named = omega (arith, low); word = omega (arith, below, within) }
-is_packed V8 place end multiple low below within =
+is_packed V8 address end multiple low below within =
     record { back = omega (arith, multiple); named = omega (arith, low); word = omega (arith, below, within) }
 
 -- Parts by their numbers
@@ -95,8 +95,8 @@ module _ (a : Addresses) where
 
 -- Programs
 
-abbrev places_in : Version → ProgramOf → List ℕ
-places_in version p = places_from (scale_of version) first_place (map routine_size p.routines ++ map length fault_texts)
+abbrev addresses_at : Version → ProgramOf → List ℕ
+addresses_at version p = addresses_from (scale_of version) first_address (map routine_size p.routines ++ map length fault_texts)
 
 abbrev parts_in : Version → ProgramOf → List (List ℕ)
 parts_in version p = parts_of (addresses_in (scale_of version) p) p.routines
@@ -114,36 +114,36 @@ record Lies (version : Version) (story : List ℕ) (packed : ℕ) (part : List �
 
 module _ (version : Version) (p : ProgramOf) (story : List ℕ)
     (said : Says version story) (long : 875 ≤ length story) (short : length story ≤ 65535 * scale_of version)
-    (high : drop 875 story ≡ parts_from (scale_of version) first_place (parts_in version p)) where
+    (high : drop 875 story ≡ parts_from (scale_of version) first_address (parts_in version p)) where
   sizes_same : map length (parts_in version p) ≡ map routine_size p.routines ++ map length fault_texts
   sizes_same = sizes_are (addresses_in (scale_of version) p) p.routines
 
   part_stands : (k : ℕ) → k < length (parts_in version p)
-      → Stands version story first_place (slice_index (places_in version p) k) (slice_index_or (parts_in version p) k [])
+      → HasPartAt version story first_address (slice_index (addresses_at version p) k) (slice_index_or (parts_in version p) k [])
   part_stands k within =
-      subst (λ sizes. Stands version story first_place (slice_index (places_from (scale_of version) first_place sizes) k) (slice_index_or (parts_in version p) k []))
-      sizes_same (parts_stand version story first_place (parts_in version p) long high k within)
+      subst (λ sizes. HasPartAt version story first_address (slice_index (addresses_from (scale_of version) first_address sizes) k) (slice_index_or (parts_in version p) k []))
+      sizes_same (parts_stand version story first_address (parts_in version p) long high k within)
 
-  count_is : length (places_in version p) ≡ length (parts_in version p)
+  count_is : length (addresses_at version p) ≡ length (parts_in version p)
   count_is =
-      places_count version first_place (map routine_size p.routines ++ map length fault_texts)
+      addresses_count version first_address (map routine_size p.routines ++ map length fault_texts)
       ∙ ap length (sym sizes_same) ∙ length-map (parts_in version p) length
 
-  unpacked_is : (k : ℕ) → k < length (parts_in version p) → unpacked story (slice_index (packed_in version p) k) ≡ slice_index (places_in version p) k
+  unpacked_is : (k : ℕ) → k < length (parts_in version p) → unpacked story (slice_index (packed_in version p) k) ≡ slice_index (addresses_at version p) k
   unpacked_is k within =
       let stands = part_stands k within in
-      let fits = is_packed version (slice_index (places_in version p) k) (length story) stands.multiple stands.above (omega (arith, stands.within)) short in
+      let fits = is_packed version (slice_index (addresses_at version p) k) (length story) stands.multiple stands.above (omega (arith, stands.within)) short in
       ap (λ n. n * slice_index (packed_in version p) k) (scale_is version story said.version_byte)
-      ∙ ap (λ n. scale_of version * n) (packed_is version (places_in version p) k (omega (arith, within, count_is)))
+      ∙ ap (λ n. scale_of version * n) (packed_is version (addresses_at version p) k (omega (arith, within, count_is)))
       ∙ fits.back
 
   part_lies : (k : ℕ) → k < length (parts_in version p) → Lies version story (slice_index (packed_in version p) k) (slice_index_or (parts_in version p) k [])
   part_lies k within =
       let stands = part_stands k within in
-      let e : unpacked story (slice_index (packed_in version p) k) ≡ slice_index (places_in version p) k = unpacked_is k within in
-      let f : slice_index (packed_in version p) k ≡ slice_index (places_in version p) k / scale_of version =
-      packed_is version (places_in version p) k (omega (arith, within, count_is)) in
-      let fits = is_packed version (slice_index (places_in version p) k) (length story) stands.multiple stands.above (omega (arith, stands.within)) short in
+      let e : unpacked story (slice_index (packed_in version p) k) ≡ slice_index (addresses_at version p) k = unpacked_is k within in
+      let f : slice_index (packed_in version p) k ≡ slice_index (addresses_at version p) k / scale_of version =
+      packed_is version (addresses_at version p) k (omega (arith, within, count_is)) in
+      let fits = is_packed version (slice_index (addresses_at version p) k) (length story) stands.multiple stands.above (omega (arith, stands.within)) short in
       record {
         bytes = subst (λ at. Holds story at (slice_index_or (parts_in version p) k [])) (sym e) stands.bytes;
         within = omega (arith, stands.within, e);
@@ -158,9 +158,9 @@ module _ (version : Version) (p : ProgramOf) (story : List ℕ)
   followed k within =
       let here : k < length (parts_in version p) = omega (arith, within) in
       let next = part_stands (suc k) within in
-      let rises : slice_index (places_in version p) k + slice_index (map length (parts_in version p)) k ≤ slice_index (places_in version p) (suc k) =
-      subst (λ sizes. slice_index (places_from (scale_of version) first_place sizes) k + slice_index (map length (parts_in version p)) k ≤ slice_index (places_from (scale_of version) first_place sizes) (suc k))
-      sizes_same (parts_rise version first_place (map length (parts_in version p)) k (omega (arith, within, length-map (parts_in version p) length))) in
+      let rises : slice_index (addresses_at version p) k + slice_index (map length (parts_in version p)) k ≤ slice_index (addresses_at version p) (suc k) =
+      subst (λ sizes. slice_index (addresses_from (scale_of version) first_address sizes) k + slice_index (map length (parts_in version p)) k ≤ slice_index (addresses_from (scale_of version) first_address sizes) (suc k))
+      sizes_same (parts_rise version first_address (map length (parts_in version p)) k (omega (arith, within, length-map (parts_in version p) length))) in
       let size : slice_index (map length (parts_in version p)) k ≡ length (slice_index_or (parts_in version p) k []) = size_at (parts_in version p) k here in
       let size_next : slice_index (map length (parts_in version p)) (suc k) ≡ length (slice_index_or (parts_in version p) (suc k) []) = size_at (parts_in version p) (suc k) within in
       let full : 0 < slice_index (map length (parts_in version p)) (suc k) = part_long (addresses_in (scale_of version) p) p.routines (suc k) within in
@@ -205,7 +205,7 @@ module _ (version : Version) (p : ProgramOf) where
   main = slice_index (packed_in version p) p.main
 
   abbrev high : List ℕ
-  high = parts_from (scale_of version) first_place (parts_in version p)
+  high = parts_from (scale_of version) first_address (parts_in version p)
 
   abbrev story : List ℕ
   story = laid_out version p.globals main (parts_in version p)

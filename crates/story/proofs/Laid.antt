@@ -12,8 +12,7 @@ use Rattle.checker.specs.Accepted.{IsRoutine}
 use Rattle.code.specs.Addresses.{Addresses}
 use Rattle.code.specs.Sizes.{routine_size}
 use Rattle.code.specs.Written.{CodeOf}
-use Rattle.code.specs.Laws.{ItemsAreWritable}
-use Rattle.story.specs.Layout.{aligned, parts_from, fault_texts, first_place, routine_bytes, packed_addresses, addresses_in, low_bytes, body_with, body_of, header_of, story_of}
+use Rattle.story.specs.Layout.{aligned, parts_from, fault_texts, first_address, routine_bytes, packed_addresses, addresses_in, low_bytes, body_with, body_of, header_of, story_of}
 use Rattle.story.specs.Written.{Fits, IsReady, code_of, code_part, part_size, packed_from, end_from}
 use Rattle.story.proofs.Parts.{aligned_above}
 use Rattle.story.proofs.Low.{low_length}
@@ -42,16 +41,15 @@ codes_count : (rs : List RoutineOf) → length (map code_of rs) ≡ length rs
 codes_count [] = refl
 codes_count (r ∷ rs) = ap suc (codes_count rs)
 
-pub codes_ready : ItemsAreWritable → (version : Version) (p : ProgramOf) (codes : List CodeOf) → Fits version p → codes ≡ map code_of p.routines → All IsReady codes
-codes_ready items_are_writable version p codes fits e k d h =
+pub codes_ready : (version : Version) (p : ProgramOf) (codes : List CodeOf) → Fits version p → codes ≡ map code_of p.routines → All IsReady codes
+codes_ready version p codes fits e k d h =
     let within : k < length p.routines = omega (arith, h, ap length e, codes_count p.routines) in
     let found : slice_index_or codes k d ≡ code_of (routine_at p.routines k) = ap (λ cs. slice_index_or cs k d) e ∙ code_found p.routines k d within in
     let few : (routine_at p.routines k).locals ≤ 15 = few_locals p p.routines k fits.accepted.routines within in
-    let small : (routine_at p.routines k).locals < 256 = omega (arith, few) in
-    let ready : IsReady (code_of (routine_at p.routines k)) = (small, items_are_writable p fits.accepted fits.printable k within) in
+    let ready : IsReady (code_of (routine_at p.routines k)) = omega (arith, few) in
     subst IsReady (sym found) ready
 
--- Sizes and places
+-- Sizes and addresses
 
 pub found_at : (xs : List ℕ) (i d : ℕ) → i < length xs → slice_index_or xs i d ≡ slice_index xs i
 found_at [] i d h = absurd (omega arith)
@@ -107,13 +105,13 @@ abbrev high_parts : Addresses → ProgramOf → List (List ℕ)
 high_parts a p = map (routine_bytes a) p.routines ++ fault_texts
 
 -- how long the bytes behind the header are
-body_length : (version : Version) (p : ProgramOf) → 64 + length (body_of version p) ≡ end_from (scale_of version) first_place (map routine_size p.routines ++ map length fault_texts)
+body_length : (version : Version) (p : ProgramOf) → 64 + length (body_of version p) ≡ end_from (scale_of version) first_address (map routine_size p.routines ++ map length fault_texts)
 body_length version p =
     let a : Addresses = addresses_in (scale_of version) p in
     let low : List ℕ = low_bytes p.globals (slice_index a.routines p.main) in
-    let high : List ℕ = parts_from (scale_of version) first_place (high_parts a p) in
-    let end : end_from (scale_of version) first_place (map routine_size p.routines ++ map length fault_texts) ≡ first_place + length high =
-    ap (end_from (scale_of version) first_place) (sym (sizes_are a p.routines)) ∙ end_is version first_place (high_parts a p) in
+    let high : List ℕ = parts_from (scale_of version) first_address (high_parts a p) in
+    let end : end_from (scale_of version) first_address (map routine_size p.routines ++ map length fault_texts) ≡ first_address + length high =
+    ap (end_from (scale_of version) first_address) (sym (sizes_are a p.routines)) ∙ end_is version first_address (high_parts a p) in
     omega (arith, end, low_length p.globals (slice_index a.routines p.main), length-append low high)
 
 pub body_within : (version : Version) (p : ProgramOf) (body : List ℕ) → Fits version p → body ≡ body_of version p → 64 + length body ≤ 65535 * scale_of version
@@ -123,24 +121,24 @@ body_within version p body fits e =
     let within : length (header_of version (body_of version p) ++ body_of version p) ≤ 65535 * scale_of version = fits.within in
     omega (arith, ap length e, whole, within)
 
-pub places_within : (version : Version) (p : ProgramOf) (codes : List CodeOf) (first second : List ℕ) (m n : ℕ) → Fits version p → codes ≡ map code_of p.routines → first ∷ second ∷ [] ≡ fault_texts
+pub packed_within : (version : Version) (p : ProgramOf) (codes : List CodeOf) (first second : List ℕ) (m n : ℕ) → Fits version p → codes ≡ map code_of p.routines → first ∷ second ∷ [] ≡ fault_texts
     → m ≡ length first → n ≡ length second
-    → end_from (scale_of version) first_place (map part_size codes ++ m ∷ n ∷ []) ≤ 65535 * scale_of version
-places_within version p codes first second m n fits e t em en =
+    → end_from (scale_of version) first_address (map part_size codes ++ m ∷ n ∷ []) ≤ 65535 * scale_of version
+packed_within version p codes first second m n fits e t em en =
     let sizes = ap (λ k. map part_size codes ++ k ∷ n ∷ []) em ∙ ap (λ k. map part_size codes ++ length first ∷ k ∷ []) en ∙ all_sizes p codes first second e t in
-    let end = ap (end_from (scale_of version) first_place) sizes in
+    let end = ap (end_from (scale_of version) first_address) sizes in
     omega (arith, end, body_length version p, body_within version p (body_of version p) fits refl)
 
 -- The addresses of a story
 
-pub places_are : (version : Version) (p : ProgramOf) (codes : List CodeOf) (first second places : List ℕ) (m n : ℕ) → codes ≡ map code_of p.routines → first ∷ second ∷ [] ≡ fault_texts
+pub packed_are : (version : Version) (p : ProgramOf) (codes : List CodeOf) (first second packed : List ℕ) (m n : ℕ) → codes ≡ map code_of p.routines → first ∷ second ∷ [] ≡ fault_texts
     → m ≡ length first → n ≡ length second
-    → places ≡ packed_from (scale_of version) first_place (map part_size codes ++ m ∷ n ∷ [])
-    → places ≡ packed_addresses (scale_of version) p
-places_are version p codes first second places m n e t em en h =
-    h ∙ ap (λ k. packed_from (scale_of version) first_place (map part_size codes ++ k ∷ n ∷ [])) em
-    ∙ ap (λ k. packed_from (scale_of version) first_place (map part_size codes ++ length first ∷ k ∷ [])) en
-    ∙ ap (packed_from (scale_of version) first_place) (all_sizes p codes first second e t)
+    → packed ≡ packed_from (scale_of version) first_address (map part_size codes ++ m ∷ n ∷ [])
+    → packed ≡ packed_addresses (scale_of version) p
+packed_are version p codes first second packed m n e t em en h =
+    h ∙ ap (λ k. packed_from (scale_of version) first_address (map part_size codes ++ k ∷ n ∷ [])) em
+    ∙ ap (λ k. packed_from (scale_of version) first_address (map part_size codes ++ length first ∷ k ∷ [])) en
+    ∙ ap (packed_from (scale_of version) first_address) (all_sizes p codes first second e t)
 
 packed_count : (version : Version) (at : ℕ) (sizes : List ℕ) → length (packed_from (scale_of version) at sizes) ≡ length sizes
 packed_count version at [] = refl
@@ -151,8 +149,8 @@ sizes_count [] m n = refl
 sizes_count (x ∷ xs) m n = let e = sizes_count xs m n in omega (arith, e)
 
 -- an address for each routine and for each text
-pub places_counted : (version : Version) (codes : List CodeOf) (places : List ℕ) (m n : ℕ) → places ≡ packed_from (scale_of version) first_place (map part_size codes ++ m ∷ n ∷ []) → length places ≡ length codes + 2
-places_counted version codes places m n e = ap length e ∙ packed_count version first_place (map part_size codes ++ m ∷ n ∷ []) ∙ sizes_count codes m n
+pub packed_counted : (version : Version) (codes : List CodeOf) (packed : List ℕ) (m n : ℕ) → packed ≡ packed_from (scale_of version) first_address (map part_size codes ++ m ∷ n ∷ []) → length packed ≡ length codes + 2
+packed_counted version codes packed m n e = ap length e ∙ packed_count version first_address (map part_size codes ++ m ∷ n ∷ []) ∙ sizes_count codes m n
 
 pub codes_counted : (p : ProgramOf) (codes : List CodeOf) → codes ≡ map code_of p.routines → length codes ≡ length p.routines
 codes_counted p codes e = ap length e ∙ codes_count p.routines
@@ -173,23 +171,23 @@ pub body_laid : (version : Version) (p : ProgramOf) (codes : List CodeOf) (a : A
     → b3 ≡ body_of version p
 body_laid version p codes a first second b b1 b2 b3 main e t at em e0 e1 e2 e3 =
     let low : b1 ≡ low_bytes p.globals main = e1 ∙ ap (λ z. z ++ low_bytes p.globals main) e0 in
-    let begin : 64 + length b1 ≡ first_place = omega (arith, ap length low, low_length p.globals main) in
+    let begin : 64 + length b1 ≡ first_address = omega (arith, ap length low, low_length p.globals main) in
     let parts : map (code_part a) codes ++ first ∷ second ∷ [] ≡ high_parts a p =
     ap (λ cs. map (code_part a) cs ++ first ∷ second ∷ []) e ∙ parts_are a p.routines (first ∷ second ∷ []) ∙ ap (λ ts. map (routine_bytes a) p.routines ++ ts) t in
     let with_these : b3 ≡ body_with (scale_of version) a p =
     e3 ∙ e2 (first ∷ second ∷ []) ∙ ap (λ n. b1 ++ parts_from (scale_of version) n (map (code_part a) codes ++ first ∷ second ∷ [])) begin
-    ∙ ap (λ ps. b1 ++ parts_from (scale_of version) first_place ps) parts
-    ∙ ap (λ z. z ++ parts_from (scale_of version) first_place (high_parts a p)) low
-    ∙ ap (λ n. low_bytes p.globals n ++ parts_from (scale_of version) first_place (high_parts a p)) em in
+    ∙ ap (λ ps. b1 ++ parts_from (scale_of version) first_address ps) parts
+    ∙ ap (λ z. z ++ parts_from (scale_of version) first_address (high_parts a p)) low
+    ∙ ap (λ n. low_bytes p.globals n ++ parts_from (scale_of version) first_address (high_parts a p)) em in
     with_these ∙ ap (λ x. body_with (scale_of version) x p) at
 
 -- the addresses are the story's
-pub addresses_are : (version : Version) (p : ProgramOf) (a : Addresses) (places : List ℕ) (n : ℕ) → places ≡ packed_addresses (scale_of version) p → n ≡ length p.routines
-    → a ≡ record { routines = places; division_by_zero = slice_index places n; not_a_character = slice_index places (n + 1) }
+pub addresses_are : (version : Version) (p : ProgramOf) (a : Addresses) (packed : List ℕ) (n : ℕ) → packed ≡ packed_addresses (scale_of version) p → n ≡ length p.routines
+    → a ≡ record { routines = packed; division_by_zero = slice_index packed n; not_a_character = slice_index packed (n + 1) }
     → a ≡ addresses_in (scale_of version) p
-addresses_are version p a places n e en h =
-    let of_places : List ℕ → ℕ → Addresses = λ (xs : List ℕ) (k : ℕ). record { routines = xs; division_by_zero = slice_index xs k; not_a_character = slice_index xs (k + 1) } in
-    h ∙ ap (λ xs. of_places xs n) e ∙ ap (of_places (packed_addresses (scale_of version) p)) en
+addresses_are version p a packed n e en h =
+    let of_packed : List ℕ → ℕ → Addresses = λ (xs : List ℕ) (k : ℕ). record { routines = xs; division_by_zero = slice_index xs k; not_a_character = slice_index xs (k + 1) } in
+    h ∙ ap (λ xs. of_packed xs n) e ∙ ap (of_packed (packed_addresses (scale_of version) p)) en
 
 -- The story
 

@@ -76,7 +76,7 @@ low_length globals main =
     let d = length-append (first_bytes ++ global_bytes globals ++ filling ++ dictionary_bytes) (start_code main) in
     omega (arith, a, b, c, d, first_length, globals_length globals, length-replicate {A = ℕ} 126 0, start_length main)
 
--- Places
+-- Addresses
 
 regrouped : (a b c d e f : List ℕ) → a ++ b ++ c ++ d ++ e ++ f ≡ a ++ (b ++ (c ++ (d ++ (e ++ f))))
 regrouped a b c d e f =

@@ -6,7 +6,7 @@ use Rattle.zcore.specs.declared.header.Version.{Version}
 use Rattle.zcore.specs.declared.header.Version.TheVariants.{V5, V8}
 use Rattle.zcore.specs.Header.{scale_of}
 use Rattle.zcore.specs.Text.{Holds}
-use Rattle.story.specs.Layout.{aligned, places_from, parts_from}
+use Rattle.story.specs.Layout.{aligned, addresses_from, parts_from}
 
 -- Lists
 
@@ -40,12 +40,12 @@ aligned_below V8 at = omega arith
 -- Parts
 
 module _ (version : Version) (story : List ℕ) where
-  -- a part that stands at a place
-  pub record Stands (at place : ℕ) (part : List ℕ) : Type 0 where
-    pub bytes : Holds story place part
-    pub above : at ≤ place
-    pub multiple : whole version place
-    pub within : place + length part ≤ length story
+  -- a part that stands at an address
+  pub record HasPartAt (at address : ℕ) (part : List ℕ) : Type 0 where
+    pub bytes : Holds story address part
+    pub above : at ≤ address
+    pub multiple : whole version address
+    pub within : address + length part ≤ length story
 
   -- parts from an address on: filling, the first of them, and the others
   first_stands : (at : ℕ) (part : List ℕ) (parts : List (List ℕ))
@@ -80,10 +80,10 @@ module _ (version : Version) (story : List ℕ) where
       let d : length filling ≡ up - at = length-replicate {A = ℕ} (up - at) 0 in
       omega (arith, a, b, c, d, low, aligned_above version at)
 
-  -- each part stands at its place
+  -- each part stands at its address
   pub parts_stand : (at : ℕ) (parts : List (List ℕ)) → at ≤ length story → drop at story ≡ parts_from (scale_of version) at parts
       → (k : ℕ) → k < length parts
-      → Stands at (slice_index (places_from (scale_of version) at (map length parts)) k) (slice_index_or parts k [])
+      → HasPartAt at (slice_index (addresses_from (scale_of version) at (map length parts)) k) (slice_index_or parts k [])
   parts_stand at [] low stands k within = absurd (omega (arith, within))
   parts_stand at (part ∷ parts) low stands zero within =
       record {
@@ -103,15 +103,15 @@ module _ (version : Version) (story : List ℕ) where
 
 -- a part ends where the next one stands or before
 pub parts_rise : (version : Version) (at : ℕ) (sizes : List ℕ) (k : ℕ) → suc k < length sizes
-    → slice_index (places_from (scale_of version) at sizes) k + slice_index sizes k ≤ slice_index (places_from (scale_of version) at sizes) (suc k)
+    → slice_index (addresses_from (scale_of version) at sizes) k + slice_index sizes k ≤ slice_index (addresses_from (scale_of version) at sizes) (suc k)
 parts_rise version at [] k within = absurd (omega (arith, within))
 parts_rise version at (size ∷ []) k within = absurd (omega (arith, within))
 parts_rise version at (size ∷ next ∷ sizes) zero within = aligned_above version (aligned (scale_of version) at + size)
 parts_rise version at (size ∷ next ∷ sizes) (suc k) within = parts_rise version (aligned (scale_of version) at + size) (next ∷ sizes) k (omega (arith, within))
 
-pub places_count : (version : Version) (at : ℕ) (sizes : List ℕ) → length (places_from (scale_of version) at sizes) ≡ length sizes
-places_count version at [] = refl
-places_count version at (size ∷ sizes) = ap suc (places_count version (aligned (scale_of version) at + size) sizes)
+pub addresses_count : (version : Version) (at : ℕ) (sizes : List ℕ) → length (addresses_from (scale_of version) at sizes) ≡ length sizes
+addresses_count version at [] = refl
+addresses_count version at (size ∷ sizes) = ap suc (addresses_count version (aligned (scale_of version) at + size) sizes)
 
 -- the end of the parts is a multiple
 pub parts_end : (version : Version) (at : ℕ) (parts : List (List ℕ)) → whole version (at + length (parts_from (scale_of version) at parts))

@@ -7,7 +7,7 @@ use Rattle.zcore.specs.declared.header.Header.{Header}
 use Rattle.zcore.specs.Bytes.{word_at}
 use Rattle.zcore.specs.Header.{IsDictionary, IsDictionaryOf, IsPlaced, Reads, StatesSum, abbreviations_of, defaults_of, dictionary_of, first_instruction_of, globals_of, high_memory_of, scale_of, entry_length_of, entry_count, static_base_of, version_number}
 use Rattle.code.specs.Standing.{start_code}
-use Rattle.story.specs.Layout.{header_of, low_bytes, dictionary_bytes, parts_from, first_place}
+use Rattle.story.specs.Layout.{header_of, low_bytes, dictionary_bytes, parts_from, first_address}
 use Rattle.story.proofs.Parts.{whole, parts_end}
 use Rattle.story.proofs.Low.{word_is, byte_behind, word_behind, low_length, dictionary_stands}
 
@@ -79,7 +79,7 @@ header_read version = record {
   abbreviations = 64;
   high_memory = 871;
   first_instruction = 871;
-  dictionary = record { place = 864; separators = 3; entry_length = 9; entries = 0 };
+  dictionary = record { address = 864; separators = 3; entry_length = 9; entries = 0 };
 }
 
 module _ (version : Version) (story rest : List ℕ) (said : Says version story) (multiple : whole version (length story)) (long : 875 ≤ length story) (stands : drop 864 story ≡ dictionary_bytes ++ rest) where
@@ -96,7 +96,7 @@ module _ (version : Version) (story rest : List ℕ) (said : Says version story)
 
   is_dictionary_read : IsDictionaryOf story 864 (header_read version).dictionary
   is_dictionary_read = record {
-    place = refl;
+    address = refl;
     separators = sym (separators_are story rest (omega (arith, long)) stands);
     entry_length = sym (entry_length_is story rest (omega (arith, long)) stands);
     entries = sym (no_entries story rest (omega (arith, long)) stands);
@@ -125,7 +125,7 @@ module _ (version : Version) (story rest : List ℕ) (said : Says version story)
 
 module _ (version : Version) (globals : List ℕ) (main : ℕ) (parts : List (List ℕ)) where
   abbrev high : List ℕ
-  high = parts_from (scale_of version) first_place parts
+  high = parts_from (scale_of version) first_address parts
 
   abbrev pub laid_out : List ℕ
   laid_out = header_of version (low_bytes globals main ++ high) ++ (low_bytes globals main ++ high)
@@ -134,7 +134,7 @@ module _ (version : Version) (globals : List ℕ) (main : ℕ) (parts : List (Li
   laid_length = omega (arith, whole_length version (low_bytes globals main ++ high), length-append (low_bytes globals main) high, low_length globals main)
 
   pub laid_multiple : whole version (length laid_out)
-  laid_multiple = subst (whole version) (sym laid_length) (parts_end version first_place parts)
+  laid_multiple = subst (whole version) (sym laid_length) (parts_end version first_address parts)
 
   pub laid_read : Reads laid_out (Ok (header_read version))
   laid_read =

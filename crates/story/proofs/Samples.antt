@@ -13,7 +13,7 @@ use Rattle.zcore.specs.Reading.{reads}
 use Rattle.zcore.specs.Step.{step, perform, push_word, pull, call_packed, return_popped, print_characters, print_inline, print_packed, text_at}
 use Rattle.zcore.specs.Text.{encoded, decoded, abbreviation}
 use Rattle.zcore.specs.Turn.{Whole, opening, turn_from, weight}
-use Rattle.zcore.specs.Words.{packed, unpacked}
+use Rattle.zcore.specs.Words.{packed, unpacked_text}
 use Rattle.statements.specs.Tree as trees
 use Rattle.syntax.specs.Tree.{ProgramTree, routine}
 use Rattle.expressions.specs.declared.tree.Binary.TheVariants as binaries
@@ -39,13 +39,13 @@ abbrev nothing : ProgramOf
 nothing = record { globals = []; routines = record { locals = 0; body = stop } ∷ []; main = 0 }
 
 -- the routine at 876 and the texts at 884 and 912 in version 5, and at 880, 888 and 920 in version 8
-places_of_5 : packed_addresses 4 nothing ≡ 219 ∷ 221 ∷ 228 ∷ []
+addresses_of_5 : packed_addresses 4 nothing ≡ 219 ∷ 221 ∷ 228 ∷ []
 unfolding bytes_of encoded packed spelling_of
-places_of_5 = refl
+addresses_of_5 = refl
 
-places_of_8 : packed_addresses 8 nothing ≡ 110 ∷ 111 ∷ 115 ∷ []
+addresses_of_8 : packed_addresses 8 nothing ≡ 110 ∷ 111 ∷ 115 ∷ []
 unfolding bytes_of encoded packed spelling_of
-places_of_8 = refl
+addresses_of_8 = refl
 
 -- the whole story in version 5: 936 bytes, whose sum is 18,899
 nothing_laid_out : story_of V5 nothing
@@ -106,7 +106,7 @@ unfolding story_of bytes_of encoded packed spelling_of
 division_header = refl
 
 division_played : option_map shown (opening (story_of V5 division) 1000000) ≡ Some (places.Quit, 10 ∷ codes "[Fault: division by zero]" ++ 10 ∷ [])
-unfolding story_of bytes_of encoded packed spelling_of opening turn_from weight step perform call_packed push_word pull print_packed print_characters text_at decoded abbreviation reads unpacked decode opcode operands operand byte large result_variable branch operand_values operand_value read_in_place write_in_place read_variable write_variable read_global write_global pop push test_variable test_pull test_routine test_calls enter call test_return leave give_back spend go take_branch branch_on test_target print
+unfolding story_of bytes_of encoded packed spelling_of opening turn_from weight step perform call_packed push_word pull print_packed print_characters text_at decoded abbreviation reads unpacked_text decode opcode operands operand byte large result_variable branch operand_values operand_value read_in_place write_in_place read_variable write_variable read_global write_global pop push test_variable test_pull test_routine test_calls enter call test_return leave give_back spend go take_branch branch_on test_target print
 division_played = refl
 
 division_meant : (meaning division 1000000 []).texts ≡ (10 ∷ codes "[Fault: division by zero]" ++ 10 ∷ []) ∷ []
@@ -128,9 +128,9 @@ calling = record {
 }
 
 -- Main has 20 bytes at 880 in version 8, and f 16 at 904
-calling_places : packed_addresses 8 calling ≡ 110 ∷ 113 ∷ 115 ∷ 119 ∷ []
+calling_addresses : packed_addresses 8 calling ≡ 110 ∷ 113 ∷ 115 ∷ 119 ∷ []
 unfolding bytes_of encoded packed spelling_of
-calling_places = refl
+calling_addresses = refl
 
 calling_code : take 38 (drop 880 (story_of V8 calling))
     ≡ 0 ∷ 232 ∷ 127 ∷ 3 ∷ 233 ∷ 127 ∷ 248 ∷ 224 ∷ 47 ∷ 0 ∷ 113 ∷ 248 ∷ 0 ∷ 233 ∷ 127 ∷ 248 ∷ 232 ∷ 127 ∷ 1 ∷ 184 ∷ 0 ∷ 0 ∷ 0 ∷ 0
@@ -139,7 +139,7 @@ unfolding story_of bytes_of encoded packed spelling_of
 calling_code = refl
 
 calling_played : option_map shown (opening (story_of V8 calling) 1000000) ≡ Some (places.Quit, codes "3!" ++ 10 ∷ [])
-unfolding story_of bytes_of encoded packed spelling_of opening turn_from weight step perform call_packed push_word pull return_popped print_inline print_packed print_characters text_at decoded abbreviation reads unpacked decode opcode operands operand byte large result_variable branch operand_values operand_value read_in_place write_in_place read_variable write_variable read_local write_local read_global write_global pop push test_variable test_pull test_routine test_calls enter call test_return leave give_back spend go take_branch branch_on test_target test_result store_result print signed_text decimal
+unfolding story_of bytes_of encoded packed spelling_of opening turn_from weight step perform call_packed push_word pull return_popped print_inline print_packed print_characters text_at decoded abbreviation reads unpacked_text decode opcode operands operand byte large result_variable branch operand_values operand_value read_in_place write_in_place read_variable write_variable read_local write_local read_global write_global pop push test_variable test_pull test_routine test_calls enter call test_return leave give_back spend go take_branch branch_on test_target test_result store_result print signed_text decimal
 calling_played = refl
 
 calling_meant : (meaning calling 1000000 []).texts ≡ (codes "3!" ++ 10 ∷ []) ∷ []

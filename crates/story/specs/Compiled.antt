@@ -1,6 +1,8 @@
 -- What a source is compiled to, and why it is refused.
-use Rattle.std.specs.Prelude.{◌≡◌, ◌≤◌, ◌<◌, ℕ, nat_lt, if◌then◌else◌, List, [], ◌∷◌, map, Option, Some, None, Result, Ok, Err}
+use Rattle.std.specs.Prelude.{◌≡◌, ◌≤◌, ◌<◌, ◌+◌, ℕ, nat_lt, if◌then◌else◌, List, [], ◌∷◌, map, Option, Some, None, Result, Ok, Err}
 use Rattle.lexer.specs.declared.fault.SourceFault.{SourceFault}
+use Rattle.lexer.specs.declared.fault.TheConstants.{NESTED_TOO_DEEP, NOT_IN_GRAMMAR, TABLES_TOO_LARGE, STORY_TOO_LARGE, ROUTINE_TOO_LARGE}
+use Rattle.lexer.specs.Results as faults
 use Rattle.lexer.specs.declared.token.Position.{Position}
 use Rattle.lexer.specs.Token.{Lexeme}
 use Rattle.lexer.specs.Tokens.{SourceToken, Lexes}
@@ -15,38 +17,46 @@ use Rattle.zcore.specs.declared.header.Version.{Version}
 use Rattle.zcore.specs.declared.header.Header.{Header}
 use Rattle.zcore.specs.Header.{Reads}
 use Rattle.code.specs.Laws.{Plays}
-use Rattle.story.specs.Layout.{story_of, first_place}
+use Rattle.story.specs.Layout.{story_of, first_address, greatest_word}
 
 -- the tokens of a source
 abbrev pub lexemes_of : List SourceToken → List Lexeme
 lexemes_of tokens = map (λ (t : SourceToken). t.lexeme) tokens
+
+-- how deep a program may be nested
+abbrev pub greatest_nesting : ℕ
+greatest_nesting = 100
 
 -- the tree of a source that has one
 pub record IsTreeOf (source : List ℕ) (p : ProgramTree) : Type 0 where
   pub tokens : List SourceToken
   pub lexed : Lexes 0 1 source (Ok tokens)
   pub parsed : IsProgram (lexemes_of tokens) p
-  pub nested : program_nesting p ≤ 100
+  pub nested : program_nesting p ≤ greatest_nesting
 
 -- Sizes
 
 abbrev pub fault : ℕ → ℕ → SourceFault
 fault number line = record { number = number; line = line }
 
--- the position of the name of the first routine that weighs more than 32,000
+-- what a routine may weigh
+abbrev pub greatest_routine_weight : ℕ
+greatest_routine_weight = 32000
+
+-- the position of the name of the first routine that weighs more
 abbrev pub first_heavy : List RoutineTree → Option Position
 first_heavy [] = None
-first_heavy (r ∷ rs) = if nat_lt 32000 r.weight then Some r.name.position else first_heavy rs
+first_heavy (r ∷ rs) = if nat_lt greatest_routine_weight r.weight then Some r.name.position else first_heavy rs
 
 abbrev pub heavy_fault : Option Position → Option SourceFault
 heavy_fault None = None
-heavy_fault (Some p) = Some (fault 32 p.line)
+heavy_fault (Some p) = Some (fault ROUTINE_TOO_LARGE p.line)
 
 -- E30 where the parts below the routines are too large, else E31 where the source is, else E32 where a routine is
 abbrev pub size_fault : Version → ProgramTree → Option SourceFault
 size_fault version p =
-    if nat_lt 65535 first_place then Some (fault 30 0)
-    else (if nat_lt (greatest_weight version) p.weight then Some (fault 31 0)
+    if nat_lt greatest_word first_address then Some (fault TABLES_TOO_LARGE 0)
+    else (if nat_lt (greatest_weight version) p.weight then Some (fault STORY_TOO_LARGE 0)
     else heavy_fault (first_heavy (routine_trees p.directives)))
 
 -- Stories and refusals
@@ -61,14 +71,15 @@ pub record IsStoryOf (version : Version) (source bytes : List ℕ) : Type 0 wher
   pub reads : (header : Header) × Reads bytes (Ok header)
   pub plays : (full : ℕ) (lines : List (List ℕ)) → Plays bytes (resolve_program tree) full lines
 
--- why a source is refused: the earliest part that finds a fault answers. Number 99 tells of refused memory.
+-- why a source is refused: the earliest part that finds a fault answers, or a growth of memory was refused
 pub data Refuses (version : Version) (source : List ℕ) (f : SourceFault) : Type 0 where
-  no_memory : f.number ≡ 99 → Refuses version source f
+  no_memory : f ≡ faults.no_memory → Refuses version source f
   in_tokens : Lexes 0 1 source (Err f) → Refuses version source f
   not_in_grammar : (tokens : List SourceToken) → Lexes 0 1 source (Ok tokens) → ((p : ProgramTree) → IsProgram (lexemes_of tokens) p → ⊥)
-      → f.number ≡ 10 → Refuses version source f
-  too_deep : (tokens : List SourceToken) → Lexes 0 1 source (Ok tokens) → DeepProgram 101 (lexemes_of tokens)
-      → ((p : ProgramTree) → IsProgram (lexemes_of tokens) p → 100 < program_nesting p) → f.number ≡ 5 → Refuses version source f
+      → f.number ≡ NOT_IN_GRAMMAR → Refuses version source f
+  too_deep : (tokens : List SourceToken) → Lexes 0 1 source (Ok tokens) → DeepProgram (greatest_nesting + 1) (lexemes_of tokens)
+      → ((p : ProgramTree) → IsProgram (lexemes_of tokens) p → greatest_nesting < program_nesting p)
+      → f.number ≡ NESTED_TOO_DEEP → Refuses version source f
   rule_broken : (p : ProgramTree) → IsTreeOf source p → (b : Breach) → IsAmong b (program_breaches p) → IsFirst b (program_breaches p)
       → f.number ≡ b.number → f.line ≡ b.position.line → Refuses version source f
   too_large : (p : ProgramTree) → IsTreeOf source p → program_breaches p ≡ [] → size_fault version p ≡ Some f → Refuses version source f

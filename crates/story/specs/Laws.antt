@@ -1,5 +1,5 @@
 -- The laws of stories that functions of `laws` carry as their contracts.
-use Rattle.std.specs.Prelude.{◌<◌, ◌≤◌, ◌*◌, length, Ok}
+use Rattle.std.specs.Prelude.{◌<◌, ◌≤◌, length, Ok}
 use Rattle.std.specs.List.{All}
 use Rattle.zcore.specs.declared.header.Version.{Version}
 use Rattle.zcore.specs.declared.header.Header.{Header}
@@ -11,7 +11,7 @@ use Rattle.items.specs.Items.{routine_items}
 use Rattle.code.specs.Bytes.{code_size}
 use Rattle.code.specs.Sizes.{routines_size}
 use Rattle.code.specs.Standing.{HoldsProgram}
-use Rattle.story.specs.Layout.{addresses_in, story_of}
+use Rattle.story.specs.Layout.{addresses_in, greatest_length, story_of}
 
 -- the code of a routine can be reached by jumps
 abbrev pub IsShort : RoutineOf → Type 0
@@ -21,7 +21,7 @@ IsShort r = code_size (routine_items r) ≤ 32000
 pub record IsStory (version : Version) (p : ProgramOf) : Type 0 where
   pub accepted : IsAccepted p
   pub short : All IsShort p.routines
-  pub within : length (story_of version p) ≤ 65535 * scale_of version
+  pub within : length (story_of version p) ≤ greatest_length version
   pub bytes : All (λ b. b < 256) (story_of version p)
 
 -- such a story is read, and holds its program
@@ -33,4 +33,5 @@ StoriesHold =
 -- the packed addresses of a story are words where its code weighs no more than a source may
 abbrev pub StoriesAreShort : Type 0
 StoriesAreShort =
-    (version : Version) (p : ProgramOf) → routines_size p.routines ≤ greatest_weight version → length (story_of version p) ≤ 65535 * scale_of version
+    (version : Version) (p : ProgramOf) → routines_size p.routines ≤ greatest_weight version
+    → length (story_of version p) ≤ greatest_length version

@@ -22,6 +22,49 @@ use Rattle.code.specs.Bytes.{code_bytes}
 use Rattle.code.specs.Sizes.{routine_size}
 use Rattle.code.specs.Standing.{start_code, fault_line}
 
+-- Addresses, and how much stands at them
+
+abbrev pub header_length : ℕ
+header_length = 64
+
+-- the table holds as many words
+abbrev pub abbreviation_count : ℕ
+abbreviation_count = 96
+
+-- the empty text
+abbrev pub empty_text_address : ℕ
+empty_text_address = 256
+
+abbrev pub globals_address : ℕ
+globals_address = 258
+
+abbrev pub global_count : ℕ
+global_count = 240
+
+abbrev pub defaults_address : ℕ
+defaults_address = 738
+
+abbrev pub default_count : ℕ
+default_count = 63
+
+abbrev pub dictionary_address : ℕ
+dictionary_address = 864
+
+abbrev pub start_address : ℕ
+start_address = 871
+
+-- where the first part at a packed address can stand
+abbrev pub first_address : ℕ
+first_address = 875
+
+-- the greatest address that a word holds, and the greatest packed address
+abbrev pub greatest_word : ℕ
+greatest_word = 65535
+
+-- how long a story can be whose packed addresses are words
+abbrev pub greatest_length : Version → ℕ
+greatest_length version = greatest_word * scale_of version
+
 abbrev pub word : ℕ → List ℕ
 word n = (n / 256) ∷ (n % 256) ∷ []
 
@@ -29,10 +72,10 @@ word n = (n / 256) ∷ (n % 256) ∷ []
 
 -- the table holds addresses halved (3.3)
 abbrev pub abbreviation_bytes : List ℕ
-abbreviation_bytes = flat_map word (replicate 96 128)
+abbreviation_bytes = flat_map word (replicate abbreviation_count (empty_text_address / 2))
 
 abbrev pub global_bytes : List ℕ → List ℕ
-global_bytes globals = flat_map word (take 240 (globals ++ replicate 240 0))
+global_bytes globals = flat_map word (take global_count (globals ++ replicate global_count 0))
 
 -- three separators, the length of an entry, and no entries (13.2)
 abbrev pub dictionary_bytes : List ℕ
@@ -40,7 +83,7 @@ dictionary_bytes = 3 ∷ codes ".,\"" ++ 9 ∷ word 0
 
 abbrev pub low_bytes : List ℕ → ℕ → List ℕ
 low_bytes globals main =
-    abbreviation_bytes ++ encoded [] ++ global_bytes globals ++ replicate 126 0 ++ dictionary_bytes ++ start_code main
+    abbreviation_bytes ++ encoded [] ++ global_bytes globals ++ replicate (2 * default_count) 0 ++ dictionary_bytes ++ start_code main
 
 -- Parts at packed addresses
 
@@ -49,9 +92,9 @@ abbrev pub aligned : ℕ → ℕ → ℕ
 aligned scale at = (at + scale - 1) / scale * scale
 
 -- where parts of these sizes stand
-abbrev pub places_from : ℕ → ℕ → List ℕ → List ℕ
-places_from scale at [] = []
-places_from scale at (size ∷ sizes) = aligned scale at ∷ places_from scale (aligned scale at + size) sizes
+abbrev pub addresses_from : ℕ → ℕ → List ℕ → List ℕ
+addresses_from scale at [] = []
+addresses_from scale at (size ∷ sizes) = aligned scale at ∷ addresses_from scale (aligned scale at + size) sizes
 
 -- the bytes of parts from an address on, up to a multiple
 abbrev pub parts_from : ℕ → ℕ → List (List ℕ) → List ℕ
@@ -67,13 +110,9 @@ fault_texts = encoded (fault_line (codes "division by zero")) ∷ encoded (fault
 abbrev pub routine_bytes : Addresses → RoutineOf → List ℕ
 routine_bytes a r = r.locals ∷ code_bytes a (routine_items r)
 
--- where the first part at a packed address can stand
-abbrev pub first_place : ℕ
-first_place = 875
-
 abbrev pub packed_addresses : ℕ → ProgramOf → List ℕ
 packed_addresses scale p =
-    map (λ place. place / scale) (places_from scale first_place (map routine_size p.routines ++ map length fault_texts))
+    map (λ address. address / scale) (addresses_from scale first_address (map routine_size p.routines ++ map length fault_texts))
 
 abbrev pub addresses_in : ℕ → ProgramOf → Addresses
 addresses_in scale p = record {
@@ -83,7 +122,7 @@ addresses_in scale p = record {
 }
 
 abbrev pub high_bytes : ℕ → Addresses → List RoutineOf → List ℕ
-high_bytes scale a routines = parts_from scale first_place (map (routine_bytes a) routines ++ fault_texts)
+high_bytes scale a routines = parts_from scale first_address (map (routine_bytes a) routines ++ fault_texts)
 
 -- The story
 
@@ -94,8 +133,9 @@ body_with scale a p = low_bytes p.globals (slice_index a.routines p.main) ++ hig
 -- the header of the bytes behind it (11.1): release 1 and serial number 000000
 abbrev pub header_of : Version → List ℕ → List ℕ
 header_of version body =
-    version_number version ∷ 0 ∷ word 1 ++ word 871 ++ word 871 ++ word 864 ++ word 738 ++ word 258 ++ word 864 ++ word 0
-    ++ codes "000000" ++ word 64 ++ word ((64 + length body) / scale_of version) ++ word (sum body % 65536) ++ replicate 34 0
+    version_number version ∷ 0 ∷ word 1 ++ word start_address ++ word start_address ++ word dictionary_address
+    ++ word defaults_address ++ word globals_address ++ word dictionary_address ++ word 0 ++ codes "000000"
+    ++ word header_length ++ word ((header_length + length body) / scale_of version) ++ word (sum body % 65536) ++ replicate 34 0
 
 abbrev pub body_of : Version → ProgramOf → List ℕ
 body_of version p = body_with (scale_of version) (addresses_in (scale_of version) p) p

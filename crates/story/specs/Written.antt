@@ -1,30 +1,26 @@
 -- What the values of the code stand for.
-use Rattle.std.specs.Prelude.{◌≡◌, ◌+◌, ◌*◌, ◌/◌, ◌≤◌, ◌<◌, ℕ, true, List, [], ◌∷◌, length, map}
-use Rattle.std.specs.List.{list_all}
+use Rattle.std.specs.Prelude.{◌+◌, ◌/◌, ◌≤◌, ◌<◌, ℕ, List, [], ◌∷◌, length, map}
 use Rattle.zcore.specs.declared.header.Version.{Version}
-use Rattle.zcore.specs.Header.{scale_of}
 use Rattle.checker.specs.Resolved.{RoutineOf, ProgramOf}
 use Rattle.checker.specs.Accepted.{IsAccepted}
 use Rattle.items.specs.Items.{routine_items}
 use Rattle.code.specs.Addresses.{Addresses}
 use Rattle.code.specs.Bytes.{code_size, code_bytes}
-use Rattle.checker.specs.Printable.{HasPrintableTexts}
-use Rattle.code.specs.Written.{CodeOf, is_writable}
-use Rattle.story.specs.Layout.{aligned, places_from, story_of}
+use Rattle.code.specs.Written.{CodeOf}
+use Rattle.story.specs.Layout.{aligned, addresses_from, greatest_length, story_of}
 
 -- a program that a story of this version can hold
 pub record Fits (version : Version) (p : ProgramOf) : Type 0 where
   pub accepted : IsAccepted p
-  pub printable : HasPrintableTexts p
-  pub within : length (story_of version p) ≤ 65535 * scale_of version
+  pub within : length (story_of version p) ≤ greatest_length version
 
 -- the code of a routine, ready to be written
 abbrev pub code_of : RoutineOf → CodeOf
 code_of r = record { locals = r.locals; items = routine_items r }
 
--- it can be written, behind a byte with the number of locals
+-- the number of its locals is a byte
 abbrev pub IsReady : CodeOf → Type 0
-IsReady c = (c.locals < 256) × (list_all is_writable c.items ≡ true)
+IsReady c = c.locals < 256
 
 abbrev pub code_part : Addresses → CodeOf → List ℕ
 code_part a c = c.locals ∷ code_bytes a c.items
@@ -34,7 +30,7 @@ part_size c = 1 + code_size c.items
 
 -- the packed addresses of parts of these sizes
 abbrev pub packed_from : ℕ → ℕ → List ℕ → List ℕ
-packed_from scale at sizes = map (λ place. place / scale) (places_from scale at sizes)
+packed_from scale at sizes = map (λ address. address / scale) (addresses_from scale at sizes)
 
 -- where parts of these sizes end, up to a multiple
 abbrev pub end_from : ℕ → ℕ → List ℕ → ℕ

@@ -1,8 +1,8 @@
 //! The header of a story (Z-Machine Standards Document 1.1, section 11.1).
 
-ghost use Rattle.std.specs.Prelude.{◌≡◌, ◌≤◌, ◌+◌, ◌*◌, ◌/◌, ◌%◌, ◌++◌, OnOk, length, sum};
+ghost use Rattle.std.specs.Prelude.{◌≡◌, ◌≤◌, ◌+◌, ◌/◌, ◌%◌, ◌++◌, OnOk, length, sum};
 ghost use Rattle.zcore.specs.Header.{scale_of, version_number};
-ghost use Rattle.story.specs.Layout.{header_of};
+ghost use Rattle.story.specs.Layout.{greatest_length, header_length, header_of};
 
 use crate::words::{put_words, put_zeros};
 use std::alloc::AllocError;
@@ -55,15 +55,15 @@ fn sum_of(bytes: &[u8]) -> u16
 
 /// How long a story with these bytes behind its header is, in the unit of its version.
 fn stated_length(version: Version, body: &[u8]) -> u16
-    requires { 64 + length body.now ≤ 65535 * scale_of version }
-    ensures { result ≡ (64 + length body.now) / scale_of version }
+    requires { header_length + length body.now ≤ greatest_length version }
+    ensures { result ≡ (header_length + length body.now) / scale_of version }
 {
     ((HEADER + body.len()) / version.scale() as usize) as u16
 }
 
 /// The header of a story with these bytes behind it.
 pub fn put_header(story: &mut Vec<u8>, version: Version, body: &[u8]) -> Result<(), AllocError>
-    requires { 64 + length body.now ≤ 65535 * scale_of version }
+    requires { header_length + length body.now ≤ greatest_length version }
     ensures { OnOk result (story.new.items ≡ story.old.items ++ header_of version body.now) }
 {
     story.push(number_of(version))?;
@@ -90,5 +90,6 @@ pub fn put_header(story: &mut Vec<u8>, version: Version, body: &[u8]) -> Result<
             sum_of(body),
         ],
     )?;
-    put_zeros(story, UNUSED)
+    put_zeros(story, UNUSED)?;
+    Ok(())
 }

@@ -4,7 +4,7 @@
 mod header;
 mod high;
 mod laws;
-mod places;
+mod packed;
 mod story;
 mod tables;
 mod words;

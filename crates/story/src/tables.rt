@@ -2,7 +2,7 @@
 
 ghost use Rattle.std.specs.Prelude.{◌≡◌, ◌≤◌, ◌++◌, OnOk, length};
 ghost use Rattle.code.specs.Standing.{start_code};
-ghost use Rattle.story.specs.Layout.{dictionary_bytes, global_bytes, low_bytes};
+ghost use Rattle.story.specs.Layout.{dictionary_bytes, global_bytes, global_count, low_bytes};
 
 use crate::words::{put_word, put_words, put_zeros};
 use std::alloc::AllocError;
@@ -30,7 +30,7 @@ const QUIT: u8 = 0xBA;
 
 /// The words with which the globals begin, 0 where the source has none.
 fn put_globals(bytes: &mut Vec<u8>, globals: &[u16]) -> Result<(), AllocError>
-    requires { length globals.now ≤ 240 }
+    requires { length globals.now ≤ global_count }
     ensures { OnOk result (bytes.new.items ≡ bytes.old.items ++ global_bytes globals.now) }
 {
     put_words(bytes, globals)?;
@@ -57,7 +57,7 @@ fn put_start(bytes: &mut Vec<u8>, main: u16) -> Result<(), AllocError>
 
 /// All that stands between the header and the routines.
 pub fn put_low(bytes: &mut Vec<u8>, globals: &[u16], main: u16) -> Result<(), AllocError>
-    requires { length globals.now ≤ 240 }
+    requires { length globals.now ≤ global_count }
     ensures { OnOk result (bytes.new.items ≡ bytes.old.items ++ low_bytes globals.now main) }
 {
     put_words(bytes, &[EMPTY_TEXT; ABBREVIATIONS])?;

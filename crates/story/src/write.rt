@@ -1,21 +1,19 @@
 //! The bytes of a story.
 
-ghost use Rattle.std.specs.Prelude.{◌≡◌, ◌<◌, ◌+◌, [], ◌∷◌, true, IfOk, length, map, slice_index};
-ghost use Rattle.std.specs.List.{list_all};
+ghost use Rattle.std.specs.Prelude.{◌≡◌, ◌<◌, ◌+◌, [], ◌∷◌, IfOk, length, map, slice_index};
 ghost use Rattle.zcore.specs.Header.{scale_of};
 ghost use Rattle.checker.specs.Meaning.{routine_at};
 ghost use Rattle.checker.specs.Resolved.{program_of};
-ghost use Rattle.items.specs.Items.{routine_items};
-ghost use Rattle.code.specs.Written.{addresses_of, is_writable};
+ghost use Rattle.code.specs.Written.{addresses_of};
 ghost use Rattle.story.specs.Layout as layout;
 ghost use Rattle.story.specs.Written.{Fits, code_of};
 
 use crate::header::put_header;
 use crate::high::{put_routines, put_texts, z_text};
-use crate::places::packed_places;
+use crate::packed::packed_addresses;
 use crate::tables::put_low;
 use checker::Checked;
-use code::{Addresses, Code, CodeFault, items_are_writable, routine_code};
+use code::{Addresses, Code, CodeFault, routine_code};
 use std::alloc::{AllocError, Global};
 use zcore::Version;
 
@@ -39,42 +37,34 @@ fn fault_texts(alloc: Global) -> Result<FaultTexts, AllocError>
 }
 
 /// Where the routines and the texts of faults stand, by the packed addresses of all parts.
-fn addresses_in<'a>(places: &'a [u16], routines: usize) -> Addresses<'a>
-    requires { routines + 1 < length places.now }
-    ensures { addresses_of result ≡ record { routines = places.now; division_by_zero = slice_index places.now routines; not_a_character = slice_index places.now (routines + 1) } }
+fn addresses_in<'a>(packed: &'a [u16], routines: usize) -> Addresses<'a>
+    requires { routines + 1 < length packed.now }
+    ensures { addresses_of result ≡ record { routines = packed.now; division_by_zero = slice_index packed.now routines; not_a_character = slice_index packed.now (routines + 1) } }
 {
     Addresses {
-        routines: places,
-        division_by_zero: places[routines],
-        not_a_character: places[routines + 1],
+        routines: packed,
+        division_by_zero: packed[routines],
+        not_a_character: packed[routines + 1],
     }
 }
 
 /// The code of the routine of a number.
 fn code_at<'a>(alloc: Global, checked: &Checked<'a>, routine: usize) -> Result<Code<'a>, AllocError>
-    requires there { routine < length checked.now.routines.items }
-    requires writable { list_all is_writable (routine_items (routine_at (program_of checked.now).routines routine)) ≡ true }
+    requires { routine < length checked.now.routines }
     ensures { IfOk result (λ c. c ≡ code_of (routine_at (program_of checked.now).routines routine)) }
 {
     match routine_code(alloc, checked, routine) {
         Ok(code) => Ok(code),
         Err(CodeFault::Memory) => Err(AllocError),
-        Err(CodeFault::Item) => unreachable!(),
     }
 }
 
 /// The code of all routines, in order of definition.
-fn codes_of<'a>(
-    alloc: Global,
-    version: Version,
-    checked: &Checked<'a>,
-) -> Result<Vec<Code<'a>>, AllocError>
-    requires { Fits version (program_of checked.now) }
+fn codes_of<'a>(alloc: Global, checked: &Checked<'a>) -> Result<Vec<Code<'a>>, AllocError>
     ensures { IfOk result (λ v. v.items ≡ map code_of (program_of checked.now).routines) }
 {
-    items_are_writable();
     let mut codes = Vec::new(alloc);
-    for routine in 0..checked.routines.len() {
+    for routine in 0..checked.routines() {
         codes.push(code_at(alloc, checked, routine)?)?;
     }
     Ok(codes)
@@ -85,19 +75,18 @@ fn body_of(alloc: Global, version: Version, checked: &Checked<'_>) -> Result<Vec
     requires { Fits version (program_of checked.now) }
     ensures { IfOk result (λ v. v.items ≡ layout.body_of version (program_of checked.now)) }
 {
-    items_are_writable();
-    let codes = codes_of(alloc, version, checked)?;
+    let codes = codes_of(alloc, checked)?;
     let texts = fault_texts(alloc)?;
-    let places = packed_places(
+    let packed = packed_addresses(
         alloc,
         version,
         &codes,
         texts.division_by_zero.len(),
         texts.not_a_character.len(),
     )?;
-    let addresses = addresses_in(&places, codes.len());
+    let addresses = addresses_in(&packed, codes.len());
     let mut body = Vec::new(alloc);
-    put_low(&mut body, &checked.globals, places[checked.main])?;
+    put_low(&mut body, checked.globals(), packed[checked.main()])?;
     put_routines(&mut body, version, &codes, &addresses)?;
     put_texts(
         &mut body,

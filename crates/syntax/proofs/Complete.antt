@@ -12,7 +12,8 @@ use Rattle.expressions.proofs.Limited.{Limited, then, at_once}
 use Rattle.statements.specs.Tree.{StatementTrees}
 use Rattle.statements.specs.Nesting.{begins_statement}
 use Rattle.statements.specs.Parse.{repeated, statements}
-use Rattle.statements.proofs.Complete.{listed, listed_back, short_Ss, at_Ss, repeated_stop, repeated_next}
+use Rattle.statements.proofs.Complete.{listed, listed_back, at_Ss, repeated_stop, repeated_next}
+use Rattle.statements.proofs.Follow.{short_Ss}
 use Rattle.syntax.specs.Tree.{ValueTree, RoutineTree, DirectiveTree, global, constant, routine, ProgramTree}
 use Rattle.syntax.specs.Grammar.{weight_of, IsK, k_number, k_negative, k_character, k_true, k_false, k_nothing, k_name, IsNames, names_stop, names_next, IsDirective, d_global, d_global_value, d_constant, d_routine, IsDirectives, directives_stop, directives_next, IsProgram, program as program_is, directive_nesting, directives_nesting, program_nesting}
 use Rattle.syntax.specs.Parse.{named, is_name, names, value, ended, global_behind, constant_behind, goes_on, routine_at, directive, directives, program}

@@ -3,6 +3,7 @@ use Rattle.std.proofs.Common.{◌≡◌, ℕ, suc, ◌<◌, ◌≤◌, ◌⊎◌
 use Rattle.std.proofs.lemmas.Bool.{cases_lt}
 use Rattle.lexer.specs.declared.fault.SourceFault.{SourceFault}
 use Rattle.lexer.specs.declared.token.Position.{Position}
+use Rattle.lexer.specs.Results.{no_memory}
 use Rattle.lexer.specs.Token.{Lexeme, end}
 use Rattle.expressions.specs.declared.error.Fault.{Fault}
 use Rattle.expressions.specs.declared.error.Fault.TheVariants.{Grammar, Deep}
@@ -78,12 +79,12 @@ err_deep errors.Memory f ts h is n = absurd (omega (arith, ap (λ (x : SourceFau
 err_deep (errors.Fault Grammar line) f ts h is n = absurd (omega (arith, ap (λ (x : SourceFault). x.number) is))
 err_deep (errors.Fault Deep line) f ts h is n = (too_deep 100 ts h, none_within 100 ts h)
 
-pub err_only : (e : ParseError) (f : SourceFault) (ts : List Lexeme) → Fails e (program 100 ts) → f ≡ source_fault e → (p : ProgramTree) → IsProgram ts p → program_nesting p ≤ 100 → f.number ≡ 99
-err_only errors.Memory f ts h is p a le = ap (λ (x : SourceFault). x.number) is
+pub err_only : (e : ParseError) (f : SourceFault) (ts : List Lexeme) → Fails e (program 100 ts) → f ≡ source_fault e → (p : ProgramTree) → IsProgram ts p → program_nesting p ≤ 100 → f ≡ no_memory
+err_only errors.Memory f ts h is p a le = is
 err_only (errors.Fault g line) f ts h is p a le = let never = sym h ∙ within 100 a le in absurd cc
 
-pub err_numbers : (e : ParseError) (f : SourceFault) → f ≡ source_fault e → (f.number ≡ 5) ⊎ (f.number ≡ 10) ⊎ (f.number ≡ 99)
-err_numbers errors.Memory f is = inr (inr (ap (λ (x : SourceFault). x.number) is))
+pub err_numbers : (e : ParseError) (f : SourceFault) → f ≡ source_fault e → (f.number ≡ 5) ⊎ (f.number ≡ 10) ⊎ (f ≡ no_memory)
+err_numbers errors.Memory f is = inr (inr is)
 err_numbers (errors.Fault Grammar line) f is = inr (inl (ap (λ (x : SourceFault). x.number) is))
 err_numbers (errors.Fault Deep line) f is = inl (ap (λ (x : SourceFault). x.number) is)
 

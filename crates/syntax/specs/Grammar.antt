@@ -24,34 +24,51 @@ weight_of (t ∷ ts) = token_weight t + weight_of ts
 -- K = ["-"] number | char | name | "true" | "false" | "nothing"
 pub data IsK : List Lexeme → ValueTree → List Lexeme → Type 0 where
   k_number : {r : List Lexeme} {p : Position} {n : ℕ} → IsK (number n p ∷ r) (number_value n) r
-  k_negative : {r : List Lexeme} {p q : Position} {n : ℕ} → IsK (sign s.Minus p ∷ number n q ∷ r) (number_value ((65536 - n) % 65536)) r
+  k_negative : {r : List Lexeme} {p q : Position} {n : ℕ}
+      → IsK (sign s.Minus p ∷ number n q ∷ r) (number_value ((65536 - n) % 65536)) r
   k_character : {r : List Lexeme} {p : Position} {c : ℕ} → IsK (character c p ∷ r) (number_value c) r
   k_true : {r : List Lexeme} {p : Position} → IsK (reserved w.True p ∷ r) (number_value 1) r
   k_false : {r : List Lexeme} {p : Position} → IsK (reserved w.False p ∷ r) (number_value 0) r
   k_nothing : {r : List Lexeme} {p : Position} → IsK (reserved w.Nothing p ∷ r) (number_value 0) r
-  k_name : {r : List Lexeme} {p : Position} {n : List ℕ} → IsK (name n p ∷ r) (named_value (record { text = n; position = p })) r
+  k_name : {r : List Lexeme} {p : Position} {n : List ℕ}
+      → IsK (name n p ∷ r) (named_value (record { text = n; position = p })) r
 
 -- {name}
 pub data IsNames : List Lexeme → List NameTree → List Lexeme → Type 0 where
   names_stop : {r : List Lexeme} → IsNames r [] r
-  names_next : {m r : List Lexeme} {p : Position} {n : List ℕ} {ns : List NameTree} → IsNames m ns r → IsNames (name n p ∷ m) (record { text = n; position = p } ∷ ns) r
+  names_next : {m r : List Lexeme} {p : Position} {n : List ℕ} {ns : List NameTree} → IsNames m ns r
+      → IsNames (name n p ∷ m) (record { text = n; position = p } ∷ ns) r
 
 -- Directive = "global" name ["=" K] ";" | "constant" name "=" K ";" | "[" name {name} ";" {S} "]" ";"
 pub data IsDirective : List Lexeme → DirectiveTree → List Lexeme → Type 0 where
-  d_global : {r : List Lexeme} {p q o : Position} {n : List ℕ} → IsDirective (reserved w.Global p ∷ name n q ∷ sign s.Semicolon o ∷ r) (global (record { text = n; position = q }) None) r
-  d_global_value : {m r : List Lexeme} {p q o l : Position} {n : List ℕ} {k : ValueTree} → IsK m k (sign s.Semicolon l ∷ r) → IsDirective (reserved w.Global p ∷ name n q ∷ sign s.Assign o ∷ m) (global (record { text = n; position = q }) (Some k)) r
-  d_constant : {m r : List Lexeme} {p q o l : Position} {n : List ℕ} {k : ValueTree} → IsK m k (sign s.Semicolon l ∷ r) → IsDirective (reserved w.Constant p ∷ name n q ∷ sign s.Assign o ∷ m) (constant (record { text = n; position = q }) k) r
-  d_routine : {m k r : List Lexeme} {p q o l j : Position} {n : List ℕ} {ns : List NameTree} {xs : StatementTrees} → IsNames m ns (sign s.Semicolon o ∷ k) → IsSs k xs (sign s.CloseBracket l ∷ sign s.Semicolon j ∷ r)
-      → IsDirective (sign s.OpenBracket p ∷ name n q ∷ m) (routine (record { name = record { text = n; position = q }; locals = ns; body = xs; weight = weight_of (sign s.OpenBracket p ∷ name n q ∷ m) - weight_of r })) r
+  d_global : {r : List Lexeme} {p q o : Position} {n : List ℕ}
+      → IsDirective (reserved w.Global p ∷ name n q ∷ sign s.Semicolon o ∷ r) (global (record { text = n; position = q }) None) r
+  d_global_value : {m r : List Lexeme} {p q o l : Position} {n : List ℕ} {k : ValueTree}
+      → IsK m k (sign s.Semicolon l ∷ r)
+      → IsDirective (reserved w.Global p ∷ name n q ∷ sign s.Assign o ∷ m) (global (record { text = n; position = q }) (Some k)) r
+  d_constant : {m r : List Lexeme} {p q o l : Position} {n : List ℕ} {k : ValueTree}
+      → IsK m k (sign s.Semicolon l ∷ r)
+      → IsDirective (reserved w.Constant p ∷ name n q ∷ sign s.Assign o ∷ m) (constant (record { text = n; position = q }) k) r
+  d_routine : {m k r : List Lexeme} {p q o l j : Position} {n : List ℕ} {ns : List NameTree} {xs : StatementTrees}
+      → IsNames m ns (sign s.Semicolon o ∷ k) → IsSs k xs (sign s.CloseBracket l ∷ sign s.Semicolon j ∷ r)
+      → IsDirective (sign s.OpenBracket p ∷ name n q ∷ m) (routine (record {
+        name =
+            record { text = n; position = q };
+        locals = ns;
+        body = xs;
+        weight = weight_of (sign s.OpenBracket p ∷ name n q ∷ m) - weight_of r;
+      })) r
 
 -- {Directive}
 pub data IsDirectives : List Lexeme → List DirectiveTree → List Lexeme → Type 0 where
   directives_stop : {r : List Lexeme} → IsDirectives r [] r
-  directives_next : {ts m r : List Lexeme} {d : DirectiveTree} {ds : List DirectiveTree} → IsDirective ts d m → IsDirectives m ds r → IsDirectives ts (d ∷ ds) r
+  directives_next : {ts m r : List Lexeme} {d : DirectiveTree} {ds : List DirectiveTree} → IsDirective ts d m
+      → IsDirectives m ds r → IsDirectives ts (d ∷ ds) r
 
 -- Program = {Directive}, up to the end
 pub data IsProgram : List Lexeme → ProgramTree → Type 0 where
-  program : {ts : List Lexeme} {p : Position} {ds : List DirectiveTree} → IsDirectives ts ds (end p ∷ []) → IsProgram ts (record { directives = ds; end = p; weight = weight_of ts })
+  program : {ts : List Lexeme} {p : Position} {ds : List DirectiveTree} → IsDirectives ts ds (end p ∷ [])
+      → IsProgram ts (record { directives = ds; end = p; weight = weight_of ts })
 
 -- How deep a program is nested
 

@@ -15,9 +15,11 @@ use Rattle.syntax.specs.Grammar.{IsNames, IsDirective}
 
 -- Directive = .. | "[" name {name} ";" {S} "]" ";"
 pub data DeepDirective : ℕ → List Lexeme → Type 0 where
-  deep_d_routine : {n : ℕ} {m k : List Lexeme} {p q o : Position} {f : List ℕ} {ns : List NameTree} → IsNames m ns (sign s.Semicolon o ∷ k) → DeepSs n k → DeepDirective n (sign s.OpenBracket p ∷ name f q ∷ m)
+  deep_d_routine : {n : ℕ} {m k : List Lexeme} {p q o : Position} {f : List ℕ} {ns : List NameTree}
+      → IsNames m ns (sign s.Semicolon o ∷ k) → DeepSs n k → DeepDirective n (sign s.OpenBracket p ∷ name f q ∷ m)
 
 -- {Directive}
 pub data DeepProgram : ℕ → List Lexeme → Type 0 where
   deep_program_first : {n : ℕ} {ts : List Lexeme} → DeepDirective n ts → DeepProgram n ts
-  deep_program_next : {n : ℕ} {ts m : List Lexeme} {d : DirectiveTree} → IsDirective ts d m → DeepProgram n m → DeepProgram n ts
+  deep_program_next : {n : ℕ} {ts m : List Lexeme} {d : DirectiveTree} → IsDirective ts d m → DeepProgram n m
+      → DeepProgram n ts

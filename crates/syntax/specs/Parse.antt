@@ -1,4 +1,4 @@
--- Programs, read from left to right: functions from a list of tokens to a tree and the tokens after it.
+-- Words of proofs: programs, read from left to right: functions from a list of tokens to a tree and the tokens after it.
 use Rattle.std.specs.Prelude.{◌-◌, ◌%◌, if◌then◌else◌, Bool, true, false, ℕ, List, [], ◌∷◌, length, Option, Some, None, Result, Ok, Err}
 use Rattle.lexer.specs.declared.token.Position.{Position}
 use Rattle.lexer.specs.declared.token.Sign.TheVariants as s

@@ -41,7 +41,8 @@ optional_tree None = None
 optional_tree (Some v) = Some (value_tree v)
 
 abbrev pub routine_tree : Routine → RoutineTree
-routine_tree r = record { name = name_tree r.name; locals = map name_tree r.locals.items; body = trees_of (map statement_tree r.body.items); weight = r.weight }
+routine_tree r =
+    record { name = name_tree r.name; locals = map name_tree r.locals.items; body = trees_of (map statement_tree r.body.items); weight = r.weight }
 
 abbrev pub directive_tree : Directive → DirectiveTree
 directive_tree (directives.Global n v) = global (name_tree n) (optional_tree v)

@@ -23,7 +23,8 @@ fn ended<'t, 'a>(
     directive: Directive<'a>,
     tokens: &'t [Token<'a>],
 ) -> Result<(Directive<'a>, &'t [Token<'a>]), ParseError>
-    ensures { Gives (λ x. (directive_tree x.0, lexemes x.1.now)) result (spec.ended (directive_tree directive.entry) (lexemes tokens.now)) }
+    ensures { Gives (λ x. (directive_tree x.0, lexemes x.1.now)) result
+        (spec.ended (directive_tree directive.entry) (lexemes tokens.now)) }
 {
     let rest = expect(Sign::Semicolon, tokens)?;
     Ok((directive, rest))
@@ -110,12 +111,18 @@ fn same<'t, 'a>(tokens: &'t [Token<'a>]) -> &'t [Token<'a>]
 }
 
 /// Directives, up to the end.
+///
+/// # Errors
+///
+/// `Fault::Grammar` at the first token with which no derivation goes on, `Fault::Deep` at the token for which no nesting is
+/// left, and `Memory` where a growth is refused.
 #[tactic(auto, unfolding(crate::specs::Parse::directives), using(statements::proofs::Loops::repeated_out, statements::proofs::Loops::repeated_done, statements::proofs::Loops::repeated_more, statements::proofs::Loops::repeated_fails, statements::proofs::Loops::joined_none))]
 pub fn directives<'t, 'a>(
     alloc: Global,
     tokens: &'t [Token<'a>],
 ) -> Result<(Vec<Directive<'a>>, &'t [Token<'a>]), ParseError>
-    ensures { Gives (λ x. (map directive_tree x.0.items, lexemes x.1.now)) result (spec.directives 100 (lexemes tokens.now)) }
+    ensures { Gives (λ x. (map directive_tree x.0.items, lexemes x.1.now)) result
+        (spec.directives 100 (lexemes tokens.now)) }
 {
     let mut found = Vec::new(alloc);
     let mut rest = tokens;

@@ -1,6 +1,7 @@
 //! Whole programs, read from tokens.
 
 ghost use Rattle.std.specs.Prelude.{◌≡◌, ◌≤◌, ◌<◌, ◌⊎◌, ◌∷◌, [], IfOk, IfErr, List};
+ghost use Rattle.lexer.specs.Results.{no_memory};
 ghost use Rattle.lexer.specs.Token.{Lexeme, lexeme, lexemes};
 ghost use Rattle.expressions.specs.Parse.{Gives};
 ghost use Rattle.syntax.specs.Answers.{IfNumber, Answers};
@@ -63,17 +64,22 @@ fn program<'a>(alloc: Global, tokens: &[Token<'a>]) -> Result<Program<'a>, Parse
 ///
 /// where S is a statement. A program is nested at most 100 deep.
 ///
-/// E10: the tokens are not in the grammar, at the first with which no derivation goes on. E05: a token stands more than 100
-/// nestings deep. Both have that token's line. E99, with line 0: a growth of memory is refused.
+/// # Errors
+///
+/// - E10: the tokens are not in the grammar. The line is that of the first with which no derivation goes on.
+/// - E05: a token stands more than 100 nestings deep. The line is that token's.
+/// - E99, with line 0: a growth of memory is refused.
 pub fn parse<'a>(alloc: Global, tokens: &[Token<'a>]) -> Result<Program<'a>, SourceFault>
     // What is read derives.
-    ensures found { IfOk result (λ p. IsProgram (lexemes tokens.now) (program_tree p) × (program_nesting (program_tree p) ≤ 100)) }
+    ensures found { IfOk result
+        (λ p. IsProgram (lexemes tokens.now) (program_tree p) × (program_nesting (program_tree p) ≤ 100)) }
     // What derives is read.
     ensures only { (p : ProgramTree) → IsProgram (lexemes tokens.now) p → program_nesting p ≤ 100 → Answers result p }
     // When each fault comes.
     ensures grammar { IfNumber result 10 ((p : ProgramTree) → IsProgram (lexemes tokens.now) p → ⊥) }
-    ensures deep { IfNumber result 5 (DeepProgram 101 (lexemes tokens.now) × ((p : ProgramTree) → IsProgram (lexemes tokens.now) p → 100 < program_nesting p)) }
-    ensures numbers { IfErr result (λ f. (f.number ≡ 5) ⊎ (f.number ≡ 10) ⊎ (f.number ≡ 99)) }
+    ensures deep { IfNumber result 5 (DeepProgram 101 (lexemes tokens.now)
+        × ((p : ProgramTree) → IsProgram (lexemes tokens.now) p → 100 < program_nesting p)) }
+    ensures numbers { IfErr result (λ f. (f.number ≡ 5) ⊎ (f.number ≡ 10) ⊎ (f ≡ no_memory)) }
 {
     let found = program(alloc, tokens)?;
     Ok(found)

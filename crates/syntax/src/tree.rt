@@ -5,7 +5,7 @@ use lexer::Position;
 use statements::Statement;
 
 /// A value that is known before a story runs.
-#[derive(Clone, Copy, Debug)]
+#[derive(Clone, Copy)]
 pub enum Value<'a> {
     /// A number, with its sign as a word; a character; `true` is 1, `false` and `nothing` are 0.
     Number(u16),

@@ -13,7 +13,8 @@ use lexer::{Kind, Sign, Token, Word};
 use std::alloc::Global;
 
 fn name_of<'a>(token: Token<'a>) -> Option<Name<'a>>
-    ensures { MatchOption result (spec.is_name (lexeme token.entry) ≡ false) (λ n. lexeme token.entry ≡ name n.text.now n.position) }
+    ensures { MatchOption result (spec.is_name (lexeme token.entry) ≡ false)
+        (λ n. lexeme token.entry ≡ name n.text.now n.position) }
 {
     match token.kind {
         Kind::Name(text) => Some(Name {
@@ -25,6 +26,10 @@ fn name_of<'a>(token: Token<'a>) -> Option<Name<'a>>
 }
 
 /// The name that comes next.
+///
+/// # Errors
+///
+/// `Fault::Grammar` at the next token: it is no name.
 #[tactic(auto, using(crate::proofs::Names::named_at, crate::proofs::Names::named_none))]
 pub fn named<'t, 'a>(tokens: &'t [Token<'a>]) -> Result<(Name<'a>, &'t [Token<'a>]), ParseError>
     ensures { Gives (λ x. (name_tree x.0, lexemes x.1.now)) result (spec.named (lexemes tokens.now)) }
@@ -36,6 +41,10 @@ pub fn named<'t, 'a>(tokens: &'t [Token<'a>]) -> Result<(Name<'a>, &'t [Token<'a
 }
 
 /// Names, up to a token that is none.
+///
+/// # Errors
+///
+/// `Memory`: a growth is refused.
 #[tactic(auto, unfolding(crate::specs::Parse::names), using(crate::proofs::Names::names_more, statements::proofs::Loops::repeated_out, statements::proofs::Loops::repeated_done, statements::proofs::Loops::joined_none))]
 pub fn names<'t, 'a>(
     alloc: Global,
@@ -57,7 +66,8 @@ pub fn names<'t, 'a>(
 
 // The number behind a `-`.
 fn negative<'t, 'a>(tokens: &'t [Token<'a>]) -> Result<(Value<'a>, &'t [Token<'a>]), ParseError>
-    ensures { Gives (λ x. (value_tree x.0, lexemes x.1.now)) result (spec.negative_on (head (lexemes tokens.now)) (tail (lexemes tokens.now))) }
+    ensures { Gives (λ x. (value_tree x.0, lexemes x.1.now)) result
+        (spec.negative_on (head (lexemes tokens.now)) (tail (lexemes tokens.now))) }
 {
     match peek(tokens).kind {
         Kind::Number(number) => Ok((Value::Number(number.wrapping_neg()), skip(tokens))),
@@ -66,6 +76,10 @@ fn negative<'t, 'a>(tokens: &'t [Token<'a>]) -> Result<(Value<'a>, &'t [Token<'a
 }
 
 /// A value that is known before a story runs.
+///
+/// # Errors
+///
+/// `Fault::Grammar`: the tokens begin no value.
 #[tactic(auto, unfolding(crate::specs::Parse::value))]
 pub fn value<'t, 'a>(tokens: &'t [Token<'a>]) -> Result<(Value<'a>, &'t [Token<'a>]), ParseError>
     ensures { Gives (λ x. (value_tree x.0, lexemes x.1.now)) result (spec.value (lexemes tokens.now)) }

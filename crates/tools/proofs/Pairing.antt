@@ -1,24 +1,22 @@
 -- A compiled story tells what its source means; and it is refused for want of memory alone.
-use Rattle.std.proofs.Common.{◌≡◌, ℕ, List, [], ◌∷◌, map, refl, ap, sym, ◌∙◌, subst, Option, None, Some, Result, Ok, Err, ◌⊎◌, inl, inr}
+use Rattle.std.proofs.Common.{◌≡◌, ℕ, List, [], ◌∷◌, map, refl, ap, ◌∙◌, subst, Option, None, Some, Ok, Err, inl, inr}
 use Rattle.std.specs.Io.KnownBytes.{Keeps}
-use Rattle.zcore.specs.Turn.{Whole, plays, last_text, last_place}
+use Rattle.zcore.specs.Turn.{Whole, plays, last_text}
 use Rattle.zcore.specs.declared.header.Version.{Version}
 use Rattle.zcore.specs.declared.header.Version.TheVariants.{V5, V8}
 use Rattle.zcore.specs.declared.header.Header.{Header}
 use Rattle.zcore.specs.declared.header.HeaderFault.{HeaderFault}
-use Rattle.zcore.specs.declared.header.HeaderFault.TheVariants.{TooShort, UnknownVersion, WrongLength, WrongSum, WrongPlace}
-use Rattle.zcore.specs.Header.{Reads, IsOfVersion, StatesLength, version_number}
+use Rattle.zcore.specs.declared.header.HeaderFault.TheVariants.{TooShort, UnknownVersion, WrongLength, WrongSum, WrongAddress}
+use Rattle.zcore.specs.Header.{Reads, IsOfVersion, StatesLength}
 use Rattle.checker.specs.Resolved.{ProgramOf}
-use Rattle.checker.specs.Meaning.{meaning}
 use Rattle.code.specs.Laws.{Plays}
 use Rattle.machine.specs.declared.load.LoadFault.TheVariants as loads
-use Rattle.history.specs.declared.fault.OpenFault.{OpenFault}
-use Rattle.history.specs.declared.fault.OpenFault.TheVariants as opens
-use Rattle.history.specs.Replies.{Opens}
+use Rattle.session.specs.declared.fault.OpenFault.{OpenFault}
+use Rattle.session.specs.declared.fault.OpenFault.TheVariants as opens
+use Rattle.session.specs.Replies.{Opens}
 use Rattle.session.specs.Game.{Game, telling_of}
 use Rattle.session.proofs.Said.{Agree}
-use Rattle.tools.specs.Headline as headline
-use Rattle.tools.specs.Headline.{last_of, WantsMemory}
+use Rattle.tools.specs.Headline.{last_of, meant_by, WantsMemory}
 
 -- the text of the last of some whole states is the last of their texts
 last_said : (ws : List Whole) → last_text ws ≡ last_of (map (λ (w : Whole). w.text) ws)
@@ -27,7 +25,7 @@ last_said (w ∷ []) = refl
 last_said (w ∷ v ∷ ws) = last_said (v ∷ ws)
 
 -- a story that plays a program tells what the program means
-pub agrees : (game : Game) (p : ProgramOf) → ((lines : List (List ℕ)) → Plays game.story p game.fuel lines) → Agree (telling_of game) (headline.telling_of p game.fuel)
+pub agrees : (game : Game) (p : ProgramOf) → ((lines : List (List ℕ)) → Plays game.story p game.fuel lines) → Agree (telling_of game) (meant_by p game.fuel)
 agrees game p h = record {
   texts = λ lines. last_said (plays game.story game.fuel lines) ∙ ap last_of (h lines).texts;
   places = λ lines. (h lines).place;
@@ -46,7 +44,7 @@ read_whole story h TooShort p q = q p.0
 read_whole story h UnknownVersion p q = q.1 (h.version, p.5.version)
 read_whole story h WrongLength p q = q.1.2 (subst (StatesLength story) (one_version story h.version q.0 p.5.version q.1.1) p.1)
 read_whole story h WrongSum p q = q.1.3 p.2
-read_whole story h WrongPlace p q = q.1.4 (p.3, p.4)
+read_whole story h WrongAddress p q = q.1.4 (p.3, p.4)
 
 -- so memory was refused where it is not opened
 pub wants_memory : (story : List ℕ) (fuel : ℕ) (keep : Option ℕ) (h : Header) (f : OpenFault) → Reads story (Ok h) → Opens story fuel keep (Err f) → WantsMemory f

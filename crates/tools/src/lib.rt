@@ -1,26 +1,13 @@
-//! What the programs share.
+//! Both ends in one call, and the types that a caller of it meets.
 #![tactic(auto)]
 
-ghost use Rattle.std.specs.Prelude.{◌≡◌};
-ghost use Rattle.tools.specs.Status.{status_of};
-
-mod pair;
 #[cfg(test)]
-mod pair_tests;
+mod counting;
+mod pair;
 #[cfg(test)]
 mod tests;
 
+pub use lexer::SourceFault;
+pub use machine::LoadFault;
 pub use pair::{PairFault, compile_and_run};
-use zcore::Place;
-
-/// The exit status of the player at the end of its input: 0 where the story waits or has quit, 3 where a limit stopped
-/// it, 4 where a machine fault did. It takes no memory.
-pub fn status(place: &Place) -> u8
-    ensures { result ≡ status_of place.now }
-{
-    match place {
-        Place::Waiting | Place::Quit => 0,
-        Place::Limit(_) => 3,
-        Place::Fault(_) => 4,
-    }
-}
+pub use session::{OpenFault, Place, RunFault, Session, status};

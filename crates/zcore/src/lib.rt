@@ -8,10 +8,9 @@ mod header;
 mod instruction;
 mod laws;
 mod next;
+mod operations;
 mod place;
 mod reading;
-#[cfg(test)]
-mod tests;
 mod text;
 mod words;
 
@@ -20,5 +19,6 @@ pub use header::{Dictionary, Header, HeaderFault, Version};
 pub use instruction::{Branch, Operand, Operation};
 pub use laws::{every_turn_ends, instructions_decode};
 pub use next::Next;
+pub use operations::{OpcodeRow, OperandCount};
 pub use place::{Fault, Limit, Place};
 pub use text::{decode_text, encode_text, word_key};

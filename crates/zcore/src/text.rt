@@ -5,7 +5,7 @@ ghost use Rattle.zcore.specs.Alphabets.{spelling_of};
 ghost use Rattle.zcore.specs.Words as words;
 ghost use Rattle.zcore.specs.Text as spec;
 ghost use Rattle.zcore.specs.Text.{Holds};
-ghost use Rattle.zcore.specs.Faults.{Gives, Encodes, HasCause};
+ghost use Rattle.zcore.specs.Faults.{Gives, Encodes, HasFault};
 ghost use Rattle.zcore.specs.TextParts.{AreSmall, IsFilled};
 
 use crate::alphabets::{are_printable, spelled, spelling};
@@ -18,6 +18,9 @@ use std::alloc::Global;
 /// marked by its top bit (Z-Machine Standards Document 1.1, section 3).
 ///
 /// Each character is spelled by its first place in the three alphabets, or else by an escape; no abbreviation is used.
+///
+/// # Errors
+///
 /// `Z1` where a character is not printable, that is not 13 or 32 to 126, which is tested before memory is asked for;
 /// `Z9` where a growth of memory was refused. No other fault is answered.
 pub fn encode_text(alloc: Global, text: &[u8]) -> Result<Vec<u8>, TextFault>
@@ -37,6 +40,8 @@ pub fn encode_text(alloc: Global, text: &[u8]) -> Result<Vec<u8>, TextFault>
 ///
 /// An escape or an abbreviation that the end of the text cuts off prints nothing.
 ///
+/// # Errors
+///
 /// `Z2` where no word up to the end of the story has its top bit set, or the address after it has more than 32 bits;
 /// `Z1` where an escape names a code that is no character (a code 0 prints nothing); `Z3` where an abbreviation uses
 /// another, or is used in a story without a table of 96; an abbreviation's own text may answer each of them too.
@@ -44,7 +49,7 @@ pub fn encode_text(alloc: Global, text: &[u8]) -> Result<Vec<u8>, TextFault>
 /// `Z3`; of those, and of an abbreviation's, the first in the text is answered.
 pub fn decode_text(alloc: Global, story: &[u8], at: u32) -> Result<(Vec<u8>, u32), TextFault>
     ensures text { Gives (λ x. (x.0.items, x.1)) result (spec.decoded story.now at) }
-    ensures cause { IfErr result (HasCause story.now at) }
+    ensures cause { IfErr result (HasFault story.now at) }
 {
     let mut text = Vec::new(alloc);
     let after = put_text(&mut text, story, at, false)?;

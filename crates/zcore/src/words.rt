@@ -83,7 +83,7 @@ pub(crate) fn bytes_from(story: &[u8], at: usize) -> &[u8]
 /// the text has 32 bits.
 #[tactic(auto, using(crate::proofs::Packing::words_none, crate::proofs::Packing::words_more, crate::proofs::Packing::words_last, crate::proofs::Packing::words_beyond, crate::proofs::Packing::words_short))]
 pub(crate) fn word_count(bytes: &[u8], at: u32) -> Result<usize, TextFault>
-    ensures words { Gives (λ n. (words_of n bytes.now, at + 2 * n)) result (spec.unpacked at bytes.now) }
+    ensures words { Gives (λ n. (words_of n bytes.now, at + 2 * n)) result (spec.unpacked_text at bytes.now) }
     ensures room { IfOk result (λ n. 2 * n ≤ length bytes.now) }
     ensures address { IfOk result (λ n. at + 2 * n < 2 ^ 32) }
 {

@@ -1,123 +1,70 @@
-use Rattle.std.proofs.Common.{◌≡◌, List, ◌++◌, sym, ap, ◌∙◌, append_assoc}
+use Rattle.std.proofs.Common.{sym, ◌∙◌}
 use Rattle.std.specs.Prelude.{map}
-use Rattle.std.specs.List.{flat_map}
-use Rattle.expressions.specs.Tree.{expression_tree}
-use Rattle.statements.specs.declared.tree.Item.{Item}
 use Rattle.statements.specs.declared.tree.Statement.{Statement}
-use Rattle.statements.specs.declared.tree.Statement.TheVariants.{rolls-Empty, rolls-Block, rolls-Text, rolls-Print, rolls-PrintReturn, rolls-NewLine, rolls-If, rolls-IfElse, rolls-While, rolls-Return, rolls-ReturnTrue, rolls-ReturnFalse, rolls-Quit}
-use Rattle.statements.specs.declared.tree.Statement.TheFolds.{fold-roll-Statement}
-use Rattle.statements.specs.Tree as trees
-use Rattle.statements.specs.Tree.{StatementTree, statement_tree, item_tree, trees_of, layer}
-use Rattle.checker.specs.declared.resolved.CheckedStatement.TheVariants as made
-use Rattle.checker.specs.declared.resolved.CheckedStatement.TheFolds.{fold-roll-CheckedStatement}
+use Rattle.checker.specs.declared.resolved.Evaluation.TheVariants as made
 use Rattle.checker.specs.Resolved as values
-use Rattle.checker.specs.Resolved.{Action, action_of, action_layer, printed_of}
-use Rattle.checker.specs.Noted.{noted}
+use Rattle.checker.specs.Resolved.{Action, action_of}
 use Rattle.checker.specs.Scope.{look_in}
-use Rattle.checker.specs.Statements.{whole_breaches, statement_breaches}
-use Rattle.checker.specs.Walk.{own_item_breaches, resolved_item, own_statement_breaches, resolved_statement}
-use Rattle.checker.proofs.Noted.{noted_none, noted_two}
-use Rattle.checker.proofs.Each.{each_next, each_end, value_next}
-use Rattle.checker.proofs.Forms.{statements_break, statements_resolve, items_break, items_resolve}
+use Rattle.checker.specs.Walk.{resolved_statement, own_statement_breaches}
+use Rattle.checker.proofs.Each.{each_next, each_end, value_next, value_end}
+use Rattle.checker.proofs.Shapes.{is_empty_statement, is_text_statement, is_new_line_statement, is_quit_statement, is_return_statement, is_return_true_statement, is_return_false_statement}
+use Rattle.checker.proofs.Walks.{leaf, one, two, made_number, made_empty, made_text, made_new_line, made_quit, made_return_value, made_block, made_if_then, made_if_else, made_while_do}
+use Rattle.checker.proofs.Forms.{statements_walked}
 use Rattle.checker.proofs.statement_rules.+statement.Goals as goal
+
+abbrev pair : Action → Action → Action × Action
+pair a b = (a, b)
 
 pub all_statements-loop-s-preserved : goal.all_statements-loop-s-preserved
 all_statements-loop-s-preserved t c =
-    let f = λ (s : Statement). own_statement_breaches (look_in c.args.scope.now) s in
-    let g = λ (s : Statement). resolved_statement (look_in c.args.scope.now) s in
+    let f = λ (x : Statement). own_statement_breaches (look_in c.args.scope.now) x in
+    let g = λ (x : Statement). resolved_statement (look_in c.args.scope.now) x in
     record {
       value = rw c.in_ok-push.ensures.items (value_next f g action_of c.loop-s.found.items c.in_ok-statement.field-0 c.args.all.now c.loop-s.s-index c.s-item.result c.loop-s-test.true c.s-item.is c.loop-s.invariant.value c.in_ok-statement.ensures.value);
       least = rw c.in_ok-statement.ensures.breaches (sym (each_next f g action_of c.loop-s.least c.args.all.now c.loop-s.s-index c.s-item.result c.loop-s-test.true c.s-item.is) ∙ c.loop-s.invariant.least);
     }
 
-pub all_statements-returns-clause-breaches : goal.all_statements-returns-clause-breaches
-all_statements-returns-clause-breaches t c =
-    let f = λ (s : Statement). own_statement_breaches (look_in c.args.scope.now) s in
-    let g = λ (s : Statement). resolved_statement (look_in c.args.scope.now) s in
-    sym (each_end f g action_of c.loop-s.least c.args.all.now c.loop-s.s-index c.loop-s-test.false) ∙ c.loop-s.invariant.least
+pub all_statements-returns : goal.all_statements-returns
+all_statements-returns t c =
+    let f = λ (x : Statement). own_statement_breaches (look_in c.args.scope.now) x in
+    let g = λ (x : Statement). resolved_statement (look_in c.args.scope.now) x in
+    record {
+      value = c.loop-s.invariant.value ∙ value_end f g action_of c.args.all.now c.loop-s.s-index c.loop-s-test.false;
+      breaches = sym (each_end f g action_of c.loop-s.least c.args.all.now c.loop-s.s-index c.loop-s-test.false) ∙ c.loop-s.invariant.least;
+    }
 
-pub statement-returns-in-Empty-clause-breaches : goal.statement-returns-in-Empty-clause-breaches
-statement-returns-in-Empty-clause-breaches t c =
-    let v : statement_tree c.args.s.now ≡ trees.empty = rw c.in-Empty.is (ap statement_tree (sym rolls-Empty) ∙ fold-roll-Statement StatementTree layer _) in
-    rw v (sym (noted_none c.args.least.now))
+pub block-returns : goal.block-returns
+block-returns t c =
+    rw (made_block c.in_ok-found.found) (one values.block (statements_walked (look_in c.args.scope.now) c.args.all.now (map action_of c.in_ok-found.found.items) c.in_ok-found.ensures))
 
-pub statement-returns-in-NewLine-clause-breaches : goal.statement-returns-in-NewLine-clause-breaches
-statement-returns-in-NewLine-clause-breaches t c =
-    let v : statement_tree c.args.s.now ≡ trees.new_line = rw c.in-NewLine.is (ap statement_tree (sym rolls-NewLine) ∙ fold-roll-Statement StatementTree layer _) in
-    rw v (sym (noted_none c.args.least.now))
+pub if_then-returns : goal.if_then-returns
+if_then-returns t c = rw (made_if_then c.in_ok-condition.condition c.in-Ok.body) (two values.if_then c.in_ok-condition.ensures c.in-Ok.ensures)
 
-pub statement-returns-in-Return-clause-breaches : goal.statement-returns-in-Return-clause-breaches
-statement-returns-in-Return-clause-breaches t c =
-    let v : statement_tree c.args.s.now ≡ trees.return_alone = rw c.in-Return.is (ap statement_tree (sym rolls-Return) ∙ fold-roll-Statement StatementTree layer _) in
-    rw v (sym (noted_none c.args.least.now))
+pub while_do-returns : goal.while_do-returns
+while_do-returns t c = rw (made_while_do c.in_ok-condition.condition c.in-Ok.body) (two values.while_do c.in_ok-condition.ensures c.in-Ok.ensures)
 
-pub statement-returns-in-ReturnTrue-clause-breaches : goal.statement-returns-in-ReturnTrue-clause-breaches
-statement-returns-in-ReturnTrue-clause-breaches t c =
-    let v : statement_tree c.args.s.now ≡ trees.return_true = rw c.in-ReturnTrue.is (ap statement_tree (sym rolls-ReturnTrue) ∙ fold-roll-Statement StatementTree layer _) in
-    rw v (sym (noted_none c.args.least.now))
+pub if_else-returns : goal.if_else-returns
+if_else-returns t c =
+    rw (made_if_else c.in_ok-condition.condition c.in-Ok.first c.in-Ok-boxed.otherwise)
+    (two (λ v (ab : Action × Action). values.if_else v ab.0 ab.1) c.in_ok-condition.ensures (two pair c.in-Ok.ensures c.in-Ok-boxed.ensures))
 
-pub statement-returns-in-ReturnFalse-clause-breaches : goal.statement-returns-in-ReturnFalse-clause-breaches
-statement-returns-in-ReturnFalse-clause-breaches t c =
-    let v : statement_tree c.args.s.now ≡ trees.return_false = rw c.in-ReturnFalse.is (ap statement_tree (sym rolls-ReturnFalse) ∙ fold-roll-Statement StatementTree layer _) in
-    rw v (sym (noted_none c.args.least.now))
+pub statement-returns-in-Empty : goal.statement-returns-in-Empty
+statement-returns-in-Empty t c = rw (is_empty_statement c.args.s.now c.in-Empty.is, made_empty) (leaf c.args.least.now values.empty)
 
-pub statement-returns-in-Quit-clause-breaches : goal.statement-returns-in-Quit-clause-breaches
-statement-returns-in-Quit-clause-breaches t c =
-    let v : statement_tree c.args.s.now ≡ trees.quit = rw c.in-Quit.is (ap statement_tree (sym rolls-Quit) ∙ fold-roll-Statement StatementTree layer _) in
-    rw v (sym (noted_none c.args.least.now))
+pub statement-returns-in-NewLine : goal.statement-returns-in-NewLine
+statement-returns-in-NewLine t c = rw (is_new_line_statement c.args.s.now c.in-NewLine.is, made_new_line) (leaf c.args.least.now values.new_line)
 
-pub statement-returns-in-Text-clause-breaches : goal.statement-returns-in-Text-clause-breaches
-statement-returns-in-Text-clause-breaches t c =
-    let v : statement_tree c.args.s.now ≡ trees.text_alone c.in-Text.text.now = rw c.in-Text.is (ap statement_tree (sym (rolls-Text c.in-Text.text)) ∙ fold-roll-Statement StatementTree layer _) in
-    rw v (sym (noted_none c.args.least.now))
+pub statement-returns-in-Quit : goal.statement-returns-in-Quit
+statement-returns-in-Quit t c = rw (is_quit_statement c.args.s.now c.in-Quit.is, made_quit) (leaf c.args.least.now values.quit)
 
-pub statement-returns-in_ok-all_statements-in-Block-clause-value : goal.statement-returns-in_ok-all_statements-in-Block-clause-value
-statement-returns-in_ok-all_statements-in-Block-clause-value t c =
-    let v : statement_tree c.args.s.now ≡ trees.block (trees_of (map statement_tree c.in-Block.all.items)) = rw c.in-Block.is (ap statement_tree (sym (rolls-Block c.in-Block.all)) ∙ fold-roll-Statement StatementTree layer _) in
-    let w : action_of (made.Block c.in_ok-all_statements-in-Block.field-0) ≡ values.block (values.actions_of (map action_of c.in_ok-all_statements-in-Block.field-0.items)) = ap action_of (sym (made.rolls-Block c.in_ok-all_statements-in-Block.field-0)) ∙ fold-roll-CheckedStatement Action action_layer _ in
-    rw v (w ∙ ap (λ q. values.block (values.actions_of q)) (c.in_ok-all_statements-in-Block.ensures.value ∙ ap (λ (y : List Statement). map (resolved_statement (look_in c.args.scope.now)) y) c.deref.ensures.value) ∙ ap (λ q. values.block q) (sym (statements_resolve (look_in c.args.scope.now) c.in-Block.all.items)))
+pub statement-returns-in-Text : goal.statement-returns-in-Text
+statement-returns-in-Text t c = rw (is_text_statement c.args.s.now c.in-Text.text c.in-Text.is, made_text c.in-Text.text) (leaf c.args.least.now (values.text_alone c.in-Text.text.now))
 
-pub statement-returns-in_ok-all_statements-in-Block-clause-breaches : goal.statement-returns-in_ok-all_statements-in-Block-clause-breaches
-statement-returns-in_ok-all_statements-in-Block-clause-breaches t c =
-    let v : statement_tree c.args.s.now ≡ trees.block (trees_of (map statement_tree c.in-Block.all.items)) = rw c.in-Block.is (ap statement_tree (sym (rolls-Block c.in-Block.all)) ∙ fold-roll-Statement StatementTree layer _) in
-    rw v (c.in_ok-all_statements-in-Block.ensures.breaches ∙ ap (λ (y : List Statement). noted c.args.least.now (flat_map (own_statement_breaches (look_in c.args.scope.now)) y)) c.deref.ensures.value ∙ ap (λ q. noted c.args.least.now q) (sym (statements_break (look_in c.args.scope.now) c.in-Block.all.items)))
+pub statement-returns-in-Return : goal.statement-returns-in-Return
+statement-returns-in-Return t c = rw (is_return_statement c.args.s.now c.in-Return.is, made_return_value (made.Number 1), made_number 1) (leaf c.args.least.now (values.return_value (values.number 1)))
 
-pub statement-returns-in_ok-items-in-Print-clause-value : goal.statement-returns-in_ok-items-in-Print-clause-value
-statement-returns-in_ok-items-in-Print-clause-value t c =
-    let v : statement_tree c.args.s.now ≡ trees.print (map item_tree c.in-Print.all.items) = rw c.in-Print.is (ap statement_tree (sym (rolls-Print c.in-Print.all)) ∙ fold-roll-Statement StatementTree layer _) in
-    let w : action_of (made.Print c.in_ok-items-in-Print.field-0) ≡ values.print (map printed_of c.in_ok-items-in-Print.field-0.items) = ap action_of (sym (made.rolls-Print c.in_ok-items-in-Print.field-0)) ∙ fold-roll-CheckedStatement Action action_layer _ in
-    rw v (w ∙ ap (λ q. values.print q) (c.in_ok-items-in-Print.ensures.value ∙ ap (λ (y : List Item). map (resolved_item (look_in c.args.scope.now)) y) c.deref-in-Print.ensures.value ∙ sym (items_resolve (look_in c.args.scope.now) c.in-Print.all.items)))
+pub statement-returns-in-ReturnTrue : goal.statement-returns-in-ReturnTrue
+statement-returns-in-ReturnTrue t c = rw (is_return_true_statement c.args.s.now c.in-ReturnTrue.is, made_return_value (made.Number 1), made_number 1) (leaf c.args.least.now (values.return_value (values.number 1)))
 
-pub statement-returns-in_ok-items-in-Print-clause-breaches : goal.statement-returns-in_ok-items-in-Print-clause-breaches
-statement-returns-in_ok-items-in-Print-clause-breaches t c =
-    let v : statement_tree c.args.s.now ≡ trees.print (map item_tree c.in-Print.all.items) = rw c.in-Print.is (ap statement_tree (sym (rolls-Print c.in-Print.all)) ∙ fold-roll-Statement StatementTree layer _) in
-    rw v (c.in_ok-items-in-Print.ensures.breaches ∙ ap (λ (y : List Item). noted c.args.least.now (flat_map (own_item_breaches (look_in c.args.scope.now)) y)) c.deref-in-Print.ensures.value ∙ ap (λ q. noted c.args.least.now q) (sym (items_break (look_in c.args.scope.now) c.in-Print.all.items)))
-
-pub statement-returns-in_ok-items-in-PrintReturn-clause-value : goal.statement-returns-in_ok-items-in-PrintReturn-clause-value
-statement-returns-in_ok-items-in-PrintReturn-clause-value t c =
-    let v : statement_tree c.args.s.now ≡ trees.print_return (map item_tree c.in-PrintReturn.all.items) = rw c.in-PrintReturn.is (ap statement_tree (sym (rolls-PrintReturn c.in-PrintReturn.all)) ∙ fold-roll-Statement StatementTree layer _) in
-    let w : action_of (made.PrintReturn c.in_ok-items-in-PrintReturn.field-0) ≡ values.print_return (map printed_of c.in_ok-items-in-PrintReturn.field-0.items) = ap action_of (sym (made.rolls-PrintReturn c.in_ok-items-in-PrintReturn.field-0)) ∙ fold-roll-CheckedStatement Action action_layer _ in
-    rw v (w ∙ ap (λ q. values.print_return q) (c.in_ok-items-in-PrintReturn.ensures.value ∙ ap (λ (y : List Item). map (resolved_item (look_in c.args.scope.now)) y) c.deref-in-PrintReturn.ensures.value ∙ sym (items_resolve (look_in c.args.scope.now) c.in-PrintReturn.all.items)))
-
-pub statement-returns-in_ok-items-in-PrintReturn-clause-breaches : goal.statement-returns-in_ok-items-in-PrintReturn-clause-breaches
-statement-returns-in_ok-items-in-PrintReturn-clause-breaches t c =
-    let v : statement_tree c.args.s.now ≡ trees.print_return (map item_tree c.in-PrintReturn.all.items) = rw c.in-PrintReturn.is (ap statement_tree (sym (rolls-PrintReturn c.in-PrintReturn.all)) ∙ fold-roll-Statement StatementTree layer _) in
-    rw v (c.in_ok-items-in-PrintReturn.ensures.breaches ∙ ap (λ (y : List Item). noted c.args.least.now (flat_map (own_item_breaches (look_in c.args.scope.now)) y)) c.deref-in-PrintReturn.ensures.value ∙ ap (λ q. noted c.args.least.now q) (sym (items_break (look_in c.args.scope.now) c.in-PrintReturn.all.items)))
-
-pub statement-returns-in_ok-condition-in-If-clause-breaches : goal.statement-returns-in_ok-condition-in-If-clause-breaches
-statement-returns-in_ok-condition-in-If-clause-breaches t c =
-    let v : statement_tree c.args.s.now ≡ trees.if_then c.in-If.position (expression_tree c.in-If.condition) (statement_tree c.in-If.then.value) = rw c.in-If.is (ap statement_tree (sym (rolls-If c.in-If.position c.in-If.condition c.in-If.then)) ∙ fold-roll-Statement StatementTree layer _) in
-    rw v (c.in_ok-condition-in-If.ensures.breaches ∙ ap (λ (y : Statement). noted c.args.least.now (whole_breaches (look_in c.args.scope.now) c.in-If.position (expression_tree c.in-If.condition) ++ statement_breaches (look_in c.args.scope.now) (statement_tree y))) c.deref-in-If.ensures)
-
-pub statement-returns-in_ok-condition-in-While-clause-breaches : goal.statement-returns-in_ok-condition-in-While-clause-breaches
-statement-returns-in_ok-condition-in-While-clause-breaches t c =
-    let v : statement_tree c.args.s.now ≡ trees.while_do c.in-While.position (expression_tree c.in-While.condition) (statement_tree c.in-While.body.value) = rw c.in-While.is (ap statement_tree (sym (rolls-While c.in-While.position c.in-While.condition c.in-While.body)) ∙ fold-roll-Statement StatementTree layer _) in
-    rw v (c.in_ok-condition-in-While.ensures.breaches ∙ ap (λ (y : Statement). noted c.args.least.now (whole_breaches (look_in c.args.scope.now) c.in-While.position (expression_tree c.in-While.condition) ++ statement_breaches (look_in c.args.scope.now) (statement_tree y))) c.deref-in-While.ensures)
-
-pub statement-returns-in_ok-otherwise-in-IfElse-clause-breaches : goal.statement-returns-in_ok-otherwise-in-IfElse-clause-breaches
-statement-returns-in_ok-otherwise-in-IfElse-clause-breaches t c =
-    let v : statement_tree c.args.s.now ≡ trees.if_else c.in-IfElse.position (expression_tree c.in-IfElse.condition) (statement_tree c.in-IfElse.then.value) (statement_tree c.in-IfElse.otherwise.value) = rw c.in-IfElse.is (ap statement_tree (sym (rolls-IfElse c.in-IfElse.position c.in-IfElse.condition c.in-IfElse.then c.in-IfElse.otherwise)) ∙ fold-roll-Statement StatementTree layer _) in
-    let w = whole_breaches (look_in c.args.scope.now) c.in-IfElse.position (expression_tree c.in-IfElse.condition) in
-    let x = statement_breaches (look_in c.args.scope.now) (statement_tree c.in-IfElse.then.value) in
-    let y = statement_breaches (look_in c.args.scope.now) (statement_tree c.in-IfElse.otherwise.value) in
-    rw v (noted_two c.args.least.now c.under-in-IfElse.new.least c.boxed.new.least (w ++ x) y (c.in_ok-condition-in-IfElse.ensures.breaches ∙ ap (λ (z : Statement). noted c.args.least.now (w ++ statement_breaches (look_in c.args.scope.now) (statement_tree z))) c.deref-in-IfElse.ensures) (c.in_ok-otherwise-in-IfElse.ensures.breaches ∙ ap (λ (z : Statement). noted c.under-in-IfElse.new.least (statement_breaches (look_in c.args.scope.now) (statement_tree z))) c.deref-in-IfElse-2.ensures) ∙ ap (λ q. noted c.args.least.now q) (append_assoc w x y))
+pub statement-returns-in-ReturnFalse : goal.statement-returns-in-ReturnFalse
+statement-returns-in-ReturnFalse t c = rw (is_return_false_statement c.args.s.now c.in-ReturnFalse.is, made_return_value (made.Number 0), made_number 0) (leaf c.args.least.now (values.return_value (values.number 0)))

@@ -3,7 +3,7 @@ use Rattle.statements.specs.declared.tree.Item.{Item}
 use Rattle.checker.specs.Scope.{look_in}
 use Rattle.checker.specs.Resolved.{printed_of}
 use Rattle.checker.specs.Walk.{own_item_breaches, resolved_item}
-use Rattle.checker.proofs.Each.{each_next, each_end, value_next}
+use Rattle.checker.proofs.Each.{each_next, each_end, value_next, value_end}
 use Rattle.checker.proofs.statement_rules.items.Goals as goal
 
 pub loop-x-preserved : goal.loop-x-preserved
@@ -15,8 +15,11 @@ loop-x-preserved c =
       least = rw c.in_ok-item.ensures.breaches (sym (each_next f g printed_of c.loop-x.least c.args.printed.now c.loop-x.x-index c.x-item.result c.loop-x-test.true c.x-item.is) ∙ c.loop-x.invariant.least);
     }
 
-pub returns-clause-breaches : goal.returns-clause-breaches
-returns-clause-breaches c =
+pub returns : goal.returns
+returns c =
     let f = λ (x : Item). own_item_breaches (look_in c.args.scope.now) x in
     let g = λ (x : Item). resolved_item (look_in c.args.scope.now) x in
-    sym (each_end f g printed_of c.loop-x.least c.args.printed.now c.loop-x.x-index c.loop-x-test.false) ∙ c.loop-x.invariant.least
+    record {
+      value = c.loop-x.invariant.value ∙ value_end f g printed_of c.args.printed.now c.loop-x.x-index c.loop-x-test.false;
+      breaches = sym (each_end f g printed_of c.loop-x.least c.args.printed.now c.loop-x.x-index c.loop-x-test.false) ∙ c.loop-x.invariant.least;
+    }

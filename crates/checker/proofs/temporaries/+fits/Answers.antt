@@ -1,78 +1,65 @@
-use Rattle.std.proofs.Common.{◌≡◌, ◌+◌, ◌-◌, nat_le, true, false, List, sym, ap, ◌∙◌}
-use Rattle.std.specs.Prelude.{map}
-use Rattle.expressions.specs.declared.tree.Binary.{Binary}
+use Rattle.std.proofs.Common.{◌≡◌, ◌+◌, nat_le, Some, sym, ap, ◌∙◌}
+use Rattle.std.specs.Option.{option_map}
 use Rattle.expressions.specs.declared.tree.Expression.{Expression}
-use Rattle.expressions.specs.declared.tree.Expression.TheVariants.{rolls-Prefixed, rolls-Chain, rolls-Compare, rolls-Equal, rolls-Assign}
-use Rattle.expressions.specs.declared.tree.Expression.TheFolds.{fold-roll-Expression}
 use Rattle.expressions.specs.Tree as trees
-use Rattle.expressions.specs.Tree.{ExpressionTree, expression_tree, trees_of, layer}
-use Rattle.checker.specs.Temporaries.{need, operands, greatest}
-use Rattle.checker.proofs.Needs.{need_one, link, link_need, operand_needs, operands_bad, operands_full, both_next, both_bad, room_one, one_need, chain_next, chain_bad, equal_next}
+use Rattle.expressions.specs.Tree.{expression_tree, name_tree}
+use Rattle.checker.specs.Names.{name_of}
+use Rattle.checker.specs.Temporaries.{need}
+use Rattle.checker.proofs.Shapes.{is_prefixed, is_step_before, is_step_after, is_chain}
+use Rattle.checker.proofs.Needs.{need_one, one_need, both_next, chain_next, chain_bad, named_fits, operands_full, operands_bad}
 use Rattle.checker.proofs.temporaries.+fits.Goals as goal
 use Rattle.checker.proofs.temporaries.+fits.Goals.{operands_fit-then-left-eq0-via-then-left-eq0, operands_fit-then-left-eq0-via-else-left-eq0+then-not-fits}
 
-pub fits-returns-then-not-fits : goal.fits-returns-then-not-fits
-fits-returns-then-not-fits t c =
-    let v : expression_tree c.args.expression.now ≡ trees.chained (trees.binary c.in-Chain.field-1 (expression_tree c.in-Chain.first.value) (expression_tree c.in-Chain.second.value)) (map link c.in-Chain.links.items) = rw c.in-Chain.is (ap expression_tree (sym (rolls-Chain c.in-Chain.first c.in-Chain.field-1 c.in-Chain.second c.in-Chain.links)) ∙ fold-roll-Expression ExpressionTree layer _) in
-    let h : nat_le (need (expression_tree c.in-Chain.first.value)) c.args.room ≡ false = ap (λ (y : Expression). nat_le (need (expression_tree y)) c.args.room) (sym c.deref-in-Chain.ensures) ∙ sym c.fits-in-Chain.ensures ∙ c.if-not-fits.true in
-    rw v (chain_bad (trees.binary c.in-Chain.field-1 (expression_tree c.in-Chain.first.value) (expression_tree c.in-Chain.second.value)) c.in-Chain.links.items c.args.room (sym (both_bad (need (expression_tree c.in-Chain.first.value)) (need (expression_tree c.in-Chain.second.value)) c.args.room h)))
+pub assignment_fits-returns-in-Some : goal.assignment_fits-returns-in-Some
+assignment_fits-returns-in-Some t c =
+    let left = expression_tree c.args.left.now in
+    let right = expression_tree c.args.right.now in
+    let is : name_of left ≡ Some (name_tree c.in-Some.field-0) = sym c.name_of.ensures ∙ ap (option_map name_tree) c.in-Some.is in
+    named_fits c.fits.result (name_of left) (name_tree c.in-Some.field-0) (need left) (need right) c.args.room is (need_one right) c.fits.ensures
 
-pub fits-overflow_sub-room : goal.fits-overflow_sub-room
-fits-overflow_sub-room t c =
-    let h : nat_le (need (expression_tree c.in-Chain.first.value)) c.args.room ≡ true = ap (λ (y : Expression). nat_le (need (expression_tree y)) c.args.room) (sym c.deref-in-Chain.ensures) ∙ sym c.fits-in-Chain.ensures ∙ c.if-not-fits.false in
-    room_one (need (expression_tree c.in-Chain.first.value)) c.args.room (need_one (expression_tree c.in-Chain.first.value)) h
-
-pub fits-overflow_sub-room-then-fits : goal.fits-overflow_sub-room-then-fits
-fits-overflow_sub-room-then-fits t c =
-    let h : nat_le (need (expression_tree c.in-Chain.first.value)) c.args.room ≡ true = ap (λ (y : Expression). nat_le (need (expression_tree y)) c.args.room) (sym c.deref-in-Chain.ensures) ∙ sym c.fits-in-Chain.ensures ∙ c.if-not-fits.false in
-    room_one (need (expression_tree c.in-Chain.first.value)) c.args.room (need_one (expression_tree c.in-Chain.first.value)) h
-
-pub fits-returns-then-fits : goal.fits-returns-then-fits
-fits-returns-then-fits t c =
-    let v : expression_tree c.args.expression.now ≡ trees.chained (trees.binary c.in-Chain.field-1 (expression_tree c.in-Chain.first.value) (expression_tree c.in-Chain.second.value)) (map link c.in-Chain.links.items) = rw c.in-Chain.is (ap expression_tree (sym (rolls-Chain c.in-Chain.first c.in-Chain.field-1 c.in-Chain.second c.in-Chain.links)) ∙ fold-roll-Expression ExpressionTree layer _) in
-    let h : nat_le (need (expression_tree c.in-Chain.first.value)) c.args.room ≡ true = ap (λ (y : Expression). nat_le (need (expression_tree y)) c.args.room) (sym c.deref-in-Chain.ensures) ∙ sym c.fits-in-Chain.ensures ∙ c.if-not-fits.false in
-    let k : nat_le (need (expression_tree c.in-Chain.second.value)) (c.args.room - 1) ≡ true = ap (λ (y : Expression). nat_le (need (expression_tree y)) (c.args.room - 1)) (sym c.deref-in-Chain-2.ensures) ∙ sym c.fits-in-Chain-2.ensures ∙ c.if-fits.true in
-    rw v (c.links_fit.ensures ∙ ap (λ (y : List (Binary × Expression)). nat_le (greatest (map link_need y)) (c.args.room - 1)) c.deref-then-fits.ensures.value ∙ chain_next (trees.binary c.in-Chain.field-1 (expression_tree c.in-Chain.first.value) (expression_tree c.in-Chain.second.value)) c.in-Chain.links.items c.args.room (sym (both_next (need (expression_tree c.in-Chain.first.value)) (need (expression_tree c.in-Chain.second.value)) c.args.room (need_one (expression_tree c.in-Chain.first.value)) (need_one (expression_tree c.in-Chain.second.value)) h) ∙ k))
-
-pub fits-returns-else-fits : goal.fits-returns-else-fits
-fits-returns-else-fits t c =
-    let v : expression_tree c.args.expression.now ≡ trees.chained (trees.binary c.in-Chain.field-1 (expression_tree c.in-Chain.first.value) (expression_tree c.in-Chain.second.value)) (map link c.in-Chain.links.items) = rw c.in-Chain.is (ap expression_tree (sym (rolls-Chain c.in-Chain.first c.in-Chain.field-1 c.in-Chain.second c.in-Chain.links)) ∙ fold-roll-Expression ExpressionTree layer _) in
-    let h : nat_le (need (expression_tree c.in-Chain.first.value)) c.args.room ≡ true = ap (λ (y : Expression). nat_le (need (expression_tree y)) c.args.room) (sym c.deref-in-Chain.ensures) ∙ sym c.fits-in-Chain.ensures ∙ c.if-not-fits.false in
-    let k : nat_le (need (expression_tree c.in-Chain.second.value)) (c.args.room - 1) ≡ false = ap (λ (y : Expression). nat_le (need (expression_tree y)) (c.args.room - 1)) (sym c.deref-in-Chain-2.ensures) ∙ sym c.fits-in-Chain-2.ensures ∙ c.if-fits.false in
-    rw v (c.if-fits.false ∙ chain_bad (trees.binary c.in-Chain.field-1 (expression_tree c.in-Chain.first.value) (expression_tree c.in-Chain.second.value)) c.in-Chain.links.items c.args.room (sym (both_next (need (expression_tree c.in-Chain.first.value)) (need (expression_tree c.in-Chain.second.value)) c.args.room (need_one (expression_tree c.in-Chain.first.value)) (need_one (expression_tree c.in-Chain.second.value)) h) ∙ k))
-
-pub fits-overflow_sub-room-then-fits-2 : goal.fits-overflow_sub-room-then-fits-2
-fits-overflow_sub-room-then-fits-2 t c =
-    let h : nat_le (need (expression_tree c.in-Compare.left.value)) c.args.room ≡ true = ap (λ (y : Expression). nat_le (need (expression_tree y)) c.args.room) (sym c.deref-in-Compare.ensures) ∙ sym c.fits-in-Compare.ensures ∙ c.if-fits-2.true in
-    room_one (need (expression_tree c.in-Compare.left.value)) c.args.room (need_one (expression_tree c.in-Compare.left.value)) h
-
-pub fits-returns-then-fits-2 : goal.fits-returns-then-fits-2
-fits-returns-then-fits-2 t c =
-    let v : expression_tree c.args.expression.now ≡ trees.compare c.in-Compare.field-1 (expression_tree c.in-Compare.left.value) (expression_tree c.in-Compare.right.value) = rw c.in-Compare.is (ap expression_tree (sym (rolls-Compare c.in-Compare.left c.in-Compare.field-1 c.in-Compare.right)) ∙ fold-roll-Expression ExpressionTree layer _) in
-    let h : nat_le (need (expression_tree c.in-Compare.left.value)) c.args.room ≡ true = ap (λ (y : Expression). nat_le (need (expression_tree y)) c.args.room) (sym c.deref-in-Compare.ensures) ∙ sym c.fits-in-Compare.ensures ∙ c.if-fits-2.true in
-    rw v (c.fits-then-fits-2.ensures ∙ ap (λ (y : Expression). nat_le (need (expression_tree y)) (c.args.room - 1)) c.deref-then-fits-2.ensures ∙ both_next (need (expression_tree c.in-Compare.left.value)) (need (expression_tree c.in-Compare.right.value)) c.args.room (need_one (expression_tree c.in-Compare.left.value)) (need_one (expression_tree c.in-Compare.right.value)) h)
-
-pub fits-overflow_sub-room-in-Equal : goal.fits-overflow_sub-room-in-Equal
-fits-overflow_sub-room-in-Equal t c =
-    let h : nat_le (need (expression_tree c.in-Equal.left.value)) c.args.room ≡ true = ap (λ (y : Expression). nat_le (need (expression_tree y)) c.args.room) (sym c.deref-in-Equal.ensures) ∙ sym c.fits-in-Equal.ensures ∙ c.if-not-fits-2.false in
-    room_one (need (expression_tree c.in-Equal.left.value)) c.args.room (need_one (expression_tree c.in-Equal.left.value)) h
-
-pub fits-returns-then-fits-3 : goal.fits-returns-then-fits-3
-fits-returns-then-fits-3 t c =
-    let v : expression_tree c.args.expression.now ≡ trees.equal c.in-Equal.field-1 (expression_tree c.in-Equal.left.value) (trees.more (expression_tree c.in-Equal.right.value) (trees_of (map expression_tree c.in-Equal.others.items))) = rw c.in-Equal.is (ap expression_tree (sym (rolls-Equal c.in-Equal.left c.in-Equal.field-1 c.in-Equal.right c.in-Equal.others)) ∙ fold-roll-Expression ExpressionTree layer _) in
-    let h : nat_le (need (expression_tree c.in-Equal.left.value)) c.args.room ≡ true = ap (λ (y : Expression). nat_le (need (expression_tree y)) c.args.room) (sym c.deref-in-Equal.ensures) ∙ sym c.fits-in-Equal.ensures ∙ c.if-not-fits-2.false in
-    let k : nat_le (need (expression_tree c.in-Equal.right.value)) (c.args.room - 1) ≡ true = ap (λ (y : Expression). nat_le (need (expression_tree y)) (c.args.room - 1)) (sym c.deref-in-Equal-2.ensures) ∙ sym c.fits-in-Equal-2.ensures ∙ c.if-fits-3.true in
-    rw v (c.operands_fit-then-fits-3.ensures ∙ ap (λ (y : List Expression). nat_le (operands 2 (operand_needs y)) c.args.room) c.deref-then-fits-3.ensures.value ∙ equal_next (need (expression_tree c.in-Equal.left.value)) (need (expression_tree c.in-Equal.right.value)) c.args.room (operand_needs c.in-Equal.others.items) (need_one (expression_tree c.in-Equal.left.value)) (sym (both_next (need (expression_tree c.in-Equal.left.value)) (need (expression_tree c.in-Equal.right.value)) c.args.room (need_one (expression_tree c.in-Equal.left.value)) (need_one (expression_tree c.in-Equal.right.value)) h) ∙ k))
+pub both_fit-returns-then-fits : goal.both_fit-returns-then-fits
+both_fit-returns-then-fits t c =
+    let first = expression_tree c.args.first.now in
+    let second = expression_tree c.args.second.now in
+    c.fits-then-fits.ensures ∙ ap (λ r. nat_le (need second) r) c.saturating_sub.ensures
+    ∙ both_next (need first) (need second) c.args.room (need_one first) (need_one second) (sym c.fits.ensures ∙ c.if-fits.true)
 
 pub fits-returns-in-Prefixed : goal.fits-returns-in-Prefixed
 fits-returns-in-Prefixed t c =
-    let v : expression_tree c.args.expression.now ≡ trees.prefixed c.in-Prefixed.field-0 (expression_tree c.in-Prefixed.operand.value) = rw c.in-Prefixed.is (ap expression_tree (sym (rolls-Prefixed c.in-Prefixed.field-0 c.in-Prefixed.operand)) ∙ fold-roll-Expression ExpressionTree layer _) in
-    rw v (c.fits-in-Prefixed.ensures ∙ ap (λ (y : Expression). nat_le (need (expression_tree y)) c.args.room) c.deref-in-Prefixed.ensures ∙ ap (λ n. nat_le n c.args.room) (sym (one_need (expression_tree c.in-Prefixed.operand.value))))
+    let v = c.in-Prefixed in
+    rw (is_prefixed c.args.expression.now v.field-0 v.operand v.is)
+    (c.fits-in-Prefixed.ensures ∙ ap (λ (y : Expression). nat_le (need (expression_tree y)) c.args.room) c.deref-in-Prefixed.ensures
+    ∙ ap (λ n. nat_le n c.args.room) (sym (one_need (expression_tree v.operand.value))))
 
-pub fits-returns-in-Assign : goal.fits-returns-in-Assign
-fits-returns-in-Assign t c =
-    let v : expression_tree c.args.expression.now ≡ trees.assign (expression_tree c.in-Assign.field-0.value) c.in-Assign.field-1 (expression_tree c.in-Assign.right.value) = rw c.in-Assign.is (ap expression_tree (sym (rolls-Assign c.in-Assign.field-0 c.in-Assign.field-1 c.in-Assign.right)) ∙ fold-roll-Expression ExpressionTree layer _) in
-    rw v (c.fits-in-Assign.ensures ∙ ap (λ (y : Expression). nat_le (need (expression_tree y)) c.args.room) c.deref-in-Assign.ensures ∙ ap (λ n. nat_le n c.args.room) (sym (one_need (expression_tree c.in-Assign.right.value))))
+pub fits-returns-in-StepBefore : goal.fits-returns-in-StepBefore
+fits-returns-in-StepBefore t c =
+    let v = c.in-StepBefore in
+    rw (is_step_before c.args.expression.now v.field-0 v.field-1 v.operand v.is)
+    (c.fits-in-StepBefore.ensures ∙ ap (λ (y : Expression). nat_le (need (expression_tree y)) c.args.room) c.deref-in-StepBefore.ensures
+    ∙ ap (λ n. nat_le n c.args.room) (sym (one_need (expression_tree v.operand.value))))
+
+pub fits-returns-in-StepAfter : goal.fits-returns-in-StepAfter
+fits-returns-in-StepAfter t c =
+    let v = c.in-StepAfter in
+    rw (is_step_after c.args.expression.now v.operand v.field-1 v.field-2 v.is)
+    (c.fits-in-StepAfter.ensures ∙ ap (λ (y : Expression). nat_le (need (expression_tree y)) c.args.room) c.deref-in-StepAfter.ensures
+    ∙ ap (λ n. nat_le n c.args.room) (sym (one_need (expression_tree v.operand.value))))
+
+pub fits-returns-then-both_fit : goal.fits-returns-then-both_fit
+fits-returns-then-both_fit t c =
+    let v = c.in-Chain in
+    rw (is_chain c.args.expression.now v.first v.field-1 v.second v.links v.is, ← c.deref-in-Chain.ensures, ← c.deref-in-Chain-2.ensures, ← c.deref-then-both_fit.ensures.value)
+    (c.links_fit.ensures
+    ∙ chain_next (trees.binary v.field-1 (expression_tree c.deref-in-Chain.result.now) (expression_tree c.deref-in-Chain-2.result.now)) c.deref-then-both_fit.result.now c.args.room
+    (sym c.both_fit.ensures ∙ c.if-both_fit.true))
+
+pub fits-returns-else-both_fit : goal.fits-returns-else-both_fit
+fits-returns-else-both_fit t c =
+    let v = c.in-Chain in
+    rw (is_chain c.args.expression.now v.first v.field-1 v.second v.links v.is, ← c.deref-in-Chain.ensures, ← c.deref-in-Chain-2.ensures)
+    (c.if-both_fit.false
+    ∙ chain_bad (trees.binary v.field-1 (expression_tree c.deref-in-Chain.result.now) (expression_tree c.deref-in-Chain-2.result.now)) v.links.items c.args.room
+    (sym c.both_fit.ensures ∙ c.if-both_fit.false))
 
 pub operands_fit-returns-then-left-eq0 : goal.operands_fit-returns-then-left-eq0
 operands_fit-returns-then-left-eq0 t c =

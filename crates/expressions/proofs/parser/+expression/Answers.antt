@@ -5,40 +5,27 @@ use Rattle.lexer.specs.declared.token.Sign.TheVariants as s
 use Rattle.lexer.specs.declared.token.Word.TheVariants as w
 use Rattle.lexer.specs.Token.{lexemes}
 use Rattle.expressions.specs.Tree.{name_tree, expression_tree}
-use Rattle.expressions.specs.Parse.{is_sign, is_word, nested, expression, sum}
+use Rattle.expressions.specs.Parse.{tail, is_sign, is_word, nested, expression, sum}
 use Rattle.expressions.specs.Levels.{operator_of, operand_of}
-use Rattle.expressions.proofs.Chain.{level_second_fails, level_begins, chain_fails, chain_more, list_fails, further_fails, arguments_read, values_read}
-use Rattle.expressions.proofs.Exits.{called_fails, called_read, called_unclosed}
-use Rattle.expressions.proofs.parser.+expression.Goals.{called-else-loop-turn-test, called-then-loop-turn-test+then-not-is_sign, values-else-loop-turn-test, values-then-loop-turn-test+then-not-is_word}
+use Rattle.expressions.proofs.Cases.{expression_assigns, comparison_compares, comparison_equates, unary_steps, called_with, negated_not, complemented_tilde, unary_minus, unary_step, enclosed_whole}
+use Rattle.expressions.proofs.Chain.{values_begin, level_second_fails, level_begins, chain_fails, chain_more, list_fails, further_fails, arguments_read, values_read}
+use Rattle.expressions.proofs.parser.+expression.Goals.{arguments-else-loop-turn-test, arguments-then-loop-turn-test+then-not-is_sign, values-else-loop-turn-test, values-then-loop-turn-test+then-not-is_word}
 use Rattle.expressions.proofs.parser.+expression.Goals as goal
 
-pub called-returns-in_err-first : goal.called-returns-in_err-first
-called-returns-in_err-first t c =
+pub arguments-returns-in_err-first : goal.arguments-returns-in_err-first
+arguments-returns-in_err-first t c =
     let p = err_from_is_err_and c.from_residual.result c.from_residual.ensures.1 in
-    rw (p.1, p.2) (called_fails (nested c.args.depth) c.in_err-first.field-0.0 (name_tree c.args.name) (lexemes c.args.tokens.now) (grind arith)
-    (list_fails (is_sign s.Comma) (expression (nested c.args.depth)) c.in_err-first.field-0.0 (lexemes c.args.tokens.now) c.in_err-first.ensures))
+    rw (p.1, p.2) (list_fails (is_sign s.Comma) (expression (nested c.args.depth)) c.in_err-first.field-0.0 (lexemes c.args.tokens.now) c.in_err-first.ensures)
 
-pub called-returns-in_err-argument : goal.called-returns-in_err-argument
-called-returns-in_err-argument t c =
+pub arguments-returns-in_err-argument : goal.arguments-returns-in_err-argument
+arguments-returns-in_err-argument t c =
     let p = err_from_is_err_and c.from_residual-in_err-argument.result c.from_residual-in_err-argument.ensures.1 in
-    rw (p.1, p.2) (called_fails (nested c.args.depth) c.in_err-argument.field-0.0 (name_tree c.args.name) (lexemes c.args.tokens.now) (grind arith)
-    (further_fails (is_sign s.Comma) (expression (nested c.args.depth)) c.in_err-argument.field-0.0 _ c.loop-turn._turn (map expression_tree c.loop-turn.arguments.items) (lexemes c.loop-turn.rest.now) _ c.loop-turn-test.true (grind arith) (rw c.skip-in-loop-turn.ensures at c.in_err-argument.ensures) c.loop-turn.invariant))
+    rw (p.1, p.2) (further_fails (is_sign s.Comma) (expression (nested c.args.depth)) c.in_err-argument.field-0.0 _ c.loop-turn._turn (map expression_tree c.loop-turn.arguments.items) (lexemes c.loop-turn.rest.now) _ c.loop-turn-test.true (grind arith) (rw c.skip.ensures at c.in_err-argument.ensures) c.loop-turn.invariant)
 
-pub called-returns : goal.called-returns
-called-returns t c =
-    let ended = arguments_read (is_sign s.Comma) (expression (nested c.args.depth)) _ c.loop-turn._turn c.loop-turn.arguments.items (lexemes c.args.tokens.now) (lexemes c.loop-turn.rest.now) c.loop-turn.invariant
-    (elim c.loop-turn-test.branch [ called-else-loop-turn-test q ↦ inl q.loop-turn-test.false | called-then-loop-turn-test+then-not-is_sign q ↦ inr (grind arith) ]) in
-    called_read (nested c.args.depth) (name_tree c.args.name) (lexemes c.args.tokens.now) _ (lexemes c.loop-turn.rest.now) (lexemes c.in_ok-rest.rest.now) (expression_tree c.call-2.result) (grind arith) ended c.in_ok-rest.ensures c.call-2.ensures
-
-pub chain-returns-in_err-second : goal.chain-returns-in_err-second
-chain-returns-in_err-second t c =
-    let p = err_from_is_err_and c.from_residual-in_err-second.result c.from_residual-in_err-second.ensures.1 in
-    rw (p.1, p.2) (level_second_fails (nested c.args.depth) c.args.operators c.in_err-second.field-0.0 (lexemes c.args.tokens.now) c.in_ok-first.at_operator.now _ c.in-Some.joining c.in_ok-first.ensures (grind arith) (rw c.skip.ensures at c.in_err-second.ensures))
-
-pub chain-loop-turn-init : goal.chain-loop-turn-init
-chain-loop-turn-init t c =
-    rw (c.new-links.ensures.items, c.in_ok-first-2.ensures.ok, c.in_ok-second-2.ensures.ok)
-    (level_begins (nested c.args.depth) c.args.operators (lexemes c.args.tokens.now) c.in_ok-first.at_operator.now _ _ c.in-Some.joining _ c.in_ok-first.ensures (grind arith) (rw c.skip.ensures at c.in_ok-second.ensures))
+pub arguments-returns : goal.arguments-returns
+arguments-returns t c =
+    arguments_read (is_sign s.Comma) (expression (nested c.args.depth)) _ c.loop-turn._turn c.loop-turn.arguments.items (lexemes c.args.tokens.now) (lexemes c.loop-turn.rest.now) c.loop-turn.invariant
+    (elim c.loop-turn-test.branch [ arguments-else-loop-turn-test q ↦ inl q.loop-turn-test.false | arguments-then-loop-turn-test+then-not-is_sign q ↦ inr (grind arith) ])
 
 pub chain-returns-in_err-right : goal.chain-returns-in_err-right
 chain-returns-in_err-right t c =
@@ -51,18 +38,6 @@ chain-loop-turn-preserved t c =
     (sym (chain_more (operator_of c.args.operators) (operand_of (nested c.args.depth) c.args.operators) _ c.loop-turn._turn _ c.loop-turn.links.items (lexemes c.loop-turn.rest.now) c.in-Some-operator.next c.in_ok-right.right _ c.loop-turn-test.true (grind arith) (rw c.skip-in-loop-turn.ensures at c.in_ok-right.ensures))
     ∙ c.loop-turn.invariant)
 
-pub called-returns-in_err-rest : goal.called-returns-in_err-rest
-called-returns-in_err-rest t c =
-    let p = err_from_is_err_and c.from_residual-in_err-rest.result c.from_residual-in_err-rest.ensures.1 in
-    let ended = arguments_read (is_sign s.Comma) (expression (nested c.args.depth)) _ c.loop-turn._turn c.loop-turn.arguments.items (lexemes c.args.tokens.now) (lexemes c.loop-turn.rest.now) c.loop-turn.invariant
-    (elim c.loop-turn-test.branch [ called-else-loop-turn-test q ↦ inl q.loop-turn-test.false | called-then-loop-turn-test+then-not-is_sign q ↦ inr (grind arith) ]) in
-    rw (p.1, p.2) (called_unclosed (nested c.args.depth) c.in_err-rest.field-0.0 (name_tree c.args.name) (lexemes c.args.tokens.now) _ (lexemes c.loop-turn.rest.now) (grind arith) ended c.in_err-rest.ensures)
-
-pub values-returns-in_err-first : goal.values-returns-in_err-first
-values-returns-in_err-first t c =
-    let p = err_from_is_err_and c.from_residual.result c.from_residual.ensures.1 in
-    rw (p.1, p.2) (list_fails (is_word w.Or) (sum (nested c.args.depth)) c.in_err-first.field-0.0 (lexemes c.args.tokens.now) c.in_err-first.ensures)
-
 pub values-returns-in_err-value : goal.values-returns-in_err-value
 values-returns-in_err-value t c =
     let p = err_from_is_err_and c.from_residual-in_err-value.result c.from_residual-in_err-value.ensures.1 in
@@ -72,3 +47,52 @@ pub values-returns : goal.values-returns
 values-returns t c =
     values_read (is_word w.Or) (sum (nested c.args.depth)) _ c.loop-turn._turn _ c.loop-turn.others.items (lexemes c.args.tokens.now) (lexemes c.loop-turn.rest.now) c.loop-turn.invariant
     (elim c.loop-turn-test.branch [ values-else-loop-turn-test q ↦ inl q.loop-turn-test.false | values-then-loop-turn-test+then-not-is_word q ↦ inr (grind arith) ])
+
+pub called-returns : goal.called-returns
+called-returns t c = c.call-2.ensures _ _ c.arguments.ensures (called_with c.args.depth (name_tree c.args.name) (lexemes c.args.tokens.now) (grind arith))
+
+pub chain-returns-in_err-first-2 : goal.chain-returns-in_err-first-2
+chain-returns-in_err-first-2 t c =
+    let p = err_from_is_err_and c.from_residual-in_err-first-2.result c.from_residual-in_err-first-2.ensures.1 in
+    rw (p.1, p.2) (level_second_fails (nested c.args.depth) c.args.operators c.in_err-first-2.field-0.0 (lexemes c.args.tokens.now) c.in_ok-first.at_operator.now _ c.in-Some.joining c.in_ok-first.ensures (grind arith) (c.in_err-first-2.ensures.right _ (rw c.skip.ensures at c.operand-second.ensures)))
+
+pub chain-loop-turn-init : goal.chain-loop-turn-init
+chain-loop-turn-init t c =
+    rw (c.new-links.ensures.items, c.in_ok-first-2.ensures.left)
+    (level_begins (nested c.args.depth) c.args.operators (lexemes c.args.tokens.now) c.in_ok-first.at_operator.now _ _ c.in-Some.joining _ c.in_ok-first.ensures (grind arith) (c.in_ok-first-2.ensures.right _ (rw c.skip.ensures at c.operand-second.ensures)))
+
+pub comparison-returns-in-Some : goal.comparison-returns-in-Some
+comparison-returns-in-Some t c = c.compare.ensures _ _ c.chain-right.ensures (comparison_compares c.args.depth (lexemes c.args.tokens.now) (lexemes c.in_ok-left.rest.now) (lexemes c.skip.result.now) _ c.in-Some.comparison c.in_ok-left.ensures (grind arith) c.skip.ensures)
+
+pub comparison-returns-in-Some-equating : goal.comparison-returns-in-Some-equating
+comparison-returns-in-Some-equating t c = c.equal.ensures _ _ c.values-values.ensures (comparison_equates c.args.depth (lexemes c.args.tokens.now) (lexemes c.in_ok-left.rest.now) (lexemes c.skip-in-Some-equating.result.now) _ c.in-Some-equating.equality c.in_ok-left.ensures (grind arith) (grind arith) c.skip-in-Some-equating.ensures)
+
+pub complemented-returns : goal.complemented-returns
+complemented-returns t c = c.prefixed.ensures _ _ c.complemented-operand.ensures (complemented_tilde c.args.depth c.in_ok-inside.inside c.in_ok-inside.ensures.opened (lexemes c.args.tokens.now) (lexemes c.skip.result.now) (grind arith) c.skip.ensures)
+
+pub enclosed-returns : goal.enclosed-returns
+enclosed-returns t c = c.parenthesised.ensures _ _ c.expression-enclosed.ensures (enclosed_whole c.args.depth c.in_ok-inside.inside c.in_ok-inside.ensures.opened (tail (lexemes c.args.tokens.now)) (lexemes c.skip.result.now) c.skip.ensures)
+
+pub expression-returns : goal.expression-returns
+expression-returns t c = c.assign.ensures _ _ c.assigned-right.ensures (expression_assigns c.args.depth (lexemes c.args.tokens.now) (lexemes c.in_ok-left.rest.now) (lexemes c.skip.result.now) _ _ c.in_ok-left.ensures (grind arith) c.skip.ensures c.position.ensures)
+
+pub negated-returns : goal.negated-returns
+negated-returns t c = c.prefixed.ensures _ _ c.negated-operand.ensures (negated_not c.args.depth c.in_ok-inside.inside c.in_ok-inside.ensures.opened (lexemes c.args.tokens.now) (lexemes c.skip.result.now) (grind arith) c.skip.ensures)
+
+pub unary-returns-then-is_sign : goal.unary-returns-then-is_sign
+unary-returns-then-is_sign t c = c.prefixed.ensures _ _ c.unary-operand.ensures (unary_minus c.args.depth c.in_ok-inside.inside c.in_ok-inside.ensures.opened (lexemes c.args.tokens.now) (lexemes c.skip-after.result.now) (grind arith) c.skip-after.ensures)
+
+pub unary-returns-in-Some : goal.unary-returns-in-Some
+unary-returns-in-Some t c = c.step_before.ensures _ _ c.primary-stepped.ensures (unary_step c.args.depth c.in_ok-within.within c.in_ok-within.ensures.opened (lexemes c.args.tokens.now) (lexemes c.skip-after.result.now) c.in-Some.step _ (grind arith) (grind arith) c.skip-after.ensures c.position.ensures)
+
+pub unary-returns : goal.unary-returns
+unary-returns t c = c.stepped.ensures _ _ c.primary.ensures (unary_steps c.args.depth (lexemes c.args.tokens.now) (grind arith) (grind arith))
+
+pub values-returns-in_err-first : goal.values-returns-in_err-first
+values-returns-in_err-first t c =
+    let p = err_from_is_err_and c.from_residual.result c.from_residual.ensures.1 in
+    rw (p.1, p.2) (list_fails (is_word w.Or) (sum (nested c.args.depth)) c.in_err-first.field-0.0 (lexemes c.args.tokens.now) (c.in_err-first.ensures _ c.chain-first.ensures))
+
+pub values-loop-turn-init : goal.values-loop-turn-init
+values-loop-turn-init t c =
+    rw c.new-others.ensures.items (values_begin (is_word w.Or) (sum (nested c.args.depth)) (lexemes c.args.tokens.now) c.in_ok-first.rest.now _ (c.in_ok-first.ensures _ c.chain-first.ensures))

@@ -23,46 +23,46 @@ operand_rank operators.Adding = 7
 operand_rank operators.Scaling = 5
 
 abbrev pub decreases-called : goal.decreases-called
-decreases-called l = 16 * l.depth + 15
+decreases-called l = 17 * l.depth + 16
+
+abbrev pub decreases-arguments : goal.decreases-arguments
+decreases-arguments l = 17 * l.depth + 15
 
 abbrev pub decreases-expression : goal.decreases-expression
-decreases-expression l = 16 * l.depth + 14
+decreases-expression l = 17 * l.depth + 14
 
 abbrev pub decreases-chain : goal.decreases-chain
-decreases-chain l = 16 * l.depth + chain_rank l.operators
+decreases-chain l = 17 * l.depth + chain_rank l.operators
 
 abbrev pub decreases-operand : goal.decreases-operand
-decreases-operand l = 16 * l.depth + operand_rank l.operators
+decreases-operand l = 17 * l.depth + operand_rank l.operators
 
 abbrev pub decreases-negated : goal.decreases-negated
-decreases-negated l = 16 * l.depth + 11
+decreases-negated l = 17 * l.depth + 11
 
 abbrev pub decreases-comparison : goal.decreases-comparison
-decreases-comparison l = 16 * l.depth + 10
+decreases-comparison l = 17 * l.depth + 10
 
 abbrev pub decreases-values : goal.decreases-values
-decreases-values l = 16 * l.depth + 9
+decreases-values l = 17 * l.depth + 9
 
 abbrev pub decreases-complemented : goal.decreases-complemented
-decreases-complemented l = 16 * l.depth + 4
+decreases-complemented l = 17 * l.depth + 4
 
 abbrev pub decreases-unary : goal.decreases-unary
-decreases-unary l = 16 * l.depth + 3
+decreases-unary l = 17 * l.depth + 3
 
 abbrev pub decreases-primary : goal.decreases-primary
-decreases-primary l = 16 * l.depth + 1
-
-abbrev pub decreases-stepped : goal.decreases-stepped
-decreases-stepped l = 16 * l.depth + 2
+decreases-primary l = 17 * l.depth + 1
 
 abbrev pub decreases-assigned : goal.decreases-assigned
-decreases-assigned l = 16 * l.depth
+decreases-assigned l = 17 * l.depth
 
 abbrev pub decreases-after_name : goal.decreases-after_name
-decreases-after_name l = 16 * l.depth
+decreases-after_name l = 17 * l.depth
 
 abbrev pub decreases-enclosed : goal.decreases-enclosed
-decreases-enclosed l = 16 * l.depth
+decreases-enclosed l = 17 * l.depth
 
 abbrev pub invariant-chain-loop-turn : goal.invariant-chain-loop-turn
 invariant-chain-loop-turn l =
@@ -72,6 +72,6 @@ abbrev pub invariant-values-loop-turn : goal.invariant-values-loop-turn
 invariant-values-loop-turn l =
     joined (expression_tree l.first.value ∷ map expression_tree l.others.items) (spec.further (spec.is_word w.Or) (spec.sum (spec.nested l.depth)) (l._turn-end - l._turn) (lexemes l.rest)) ≡ spec.list (spec.is_word w.Or) (spec.sum (spec.nested l.depth)) (lexemes l.fn.tokens)
 
-abbrev pub invariant-called-loop-turn : goal.invariant-called-loop-turn
-invariant-called-loop-turn l =
+abbrev pub invariant-arguments-loop-turn : goal.invariant-arguments-loop-turn
+invariant-arguments-loop-turn l =
     joined (map expression_tree l.arguments.items) (spec.further (spec.is_sign s.Comma) (spec.expression (spec.nested l.depth)) (l._turn-end - l._turn) (lexemes l.rest)) ≡ spec.list (spec.is_sign s.Comma) (spec.expression (spec.nested l.depth)) (lexemes l.fn.tokens)

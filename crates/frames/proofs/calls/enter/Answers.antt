@@ -26,7 +26,7 @@ returns c =
     let few : count ≤ 15 = omega (arith, is_count, c.requires.ready.few) in
     let locals = copied_locals c.copy_from_slice.new.self c.args.arguments.now count c.copy_from_slice.ensures.after c.requires.few few in
     let some : 0 < length c.put_all-2.new.store.store.cells = omega (arith, c.in_ok-put_all-2.ensures.cells.size, c.in_ok-put_all.ensures.cells.size, c.requires.sound.size) in
-    enter_went _ _ c.cell-frames.result c.height-base.result count c.args.routine c.args.return_place c.variable_cell.result c.args.arguments.now _ c.args.result_variable c.requires.sound c.requires.ready
+    enter_went _ _ c.cell-frames.result c.height-base.result count c.args.routine c.args.return_address c.variable_cell.result c.args.arguments.now _ c.args.result_variable c.requires.sound c.requires.ready
     c.cell-frames.ensures (omega (arith, c.cell-frames.ensures, c.requires.room)) c.height-base.ensures.same is_count locals c.variable_cell.ensures
     (record {
       first = c.put_all.new.store.store.cells;

@@ -1,6 +1,6 @@
 use Rattle.std.proofs.Common.{◌≡◌, ◌+◌, ◌-◌, ◌*◌, ◌&&◌, nat_le, false, refl, ap, sym, ◌∙◌, arith, slice_index}
 use Rattle.std.proofs.lemmas.Bool.{le-leb, lt-leb}
-use Rattle.frames.specs.Standing.{frame_count, height_of}
+use Rattle.frames.specs.States.{frame_count, height_of}
 use Rattle.frames.proofs.Storing.{argument_there}
 use Rattle.frames.proofs.calls.has_argument.Goals as goal
 

@@ -2,7 +2,7 @@ use Rattle.std.proofs.Common.{◌≡◌, ap, ◌∙◌, arith, length, take, sli
 use Rattle.std.proofs.lemmas.List.{length-take-le, take_min}
 use Rattle.zcore.specs.State.{Pending}
 use Rattle.frames.specs.Contents.{memory_of}
-use Rattle.frames.specs.Standing.{variable_of}
+use Rattle.frames.specs.States.{variable_of}
 use Rattle.frames.proofs.Kept.{length-memory}
 use Rattle.frames.proofs.Lines.{pending_parts, waiting_buffer, line_told, line_went, line_stops}
 use Rattle.frames.proofs.Steps.{store_after, told_err}
@@ -44,4 +44,4 @@ returns c = λ p h.
     line_told p c.args.line.now _ c.cell-buffer.result c.args.fuel (c.cell-buffer.ensures ∙ ap (λ (q : Pending). q.text_buffer) parts)
     (ap (λ n. take n c.args.line.now) c.min-count.ensures ∙ take_min (slice_index c.memory.result.now c.cell-buffer.result) c.args.line.now ∙ ap (λ m. take (slice_index m c.cell-buffer.result) c.args.line.now) memory)
     c.in_ok-fill_buffer.ensures.filled c.in_ok-stop_waiting.ensures.waits
-    (line_went p _ _ c.args.fuel (c.variable_in-result_variable.ensures ∙ ap variable_of c.cell.ensures ∙ ap (λ (q : Pending). q.result) parts) (c.long-program_counter.ensures ∙ ap (λ (q : Pending). q.return_place) parts) c.in_ok-store_result.ensures)
+    (line_went p _ _ c.args.fuel (c.variable_in-result_variable.ensures ∙ ap variable_of c.cell.ensures ∙ ap (λ (q : Pending). q.result) parts) (c.long-program_counter.ensures ∙ ap (λ (q : Pending). q.return_address) parts) c.in_ok-store_result.ensures)

@@ -1,5 +1,5 @@
 use Rattle.std.proofs.Common.{ℕ, ◌<◌, ◌≤◌, ◌+◌, ◌-◌, Option, None, Some, refl, arith, slice_index}
-use Rattle.frames.specs.Standing.{frame_count, height_of, base_of}
+use Rattle.frames.specs.States.{frame_count, height_of, base_of}
 use Rattle.frames.proofs.Frames.{stacked_below}
 use Rattle.frames.proofs.Storing.{stack_full, stack_room, local_missing, local_there, global_there, base_there, count_there, caller_halts, caller_done}
 use Rattle.frames.proofs.results.test_caller.Goals as goal

@@ -1,5 +1,5 @@
 use Rattle.std.proofs.Common.{◌<◌, ◌≤◌, ◌+◌, ◌-◌, Some, refl, arith, slice_index}
-use Rattle.frames.specs.Standing.{frame_count, height_of}
+use Rattle.frames.specs.States.{frame_count, height_of}
 use Rattle.frames.proofs.Storing.{stack_full, stack_room, local_missing, local_there, global_there, count_there, test_result_halts, test_result_done}
 use Rattle.frames.proofs.results.test_result.Goals as goal
 

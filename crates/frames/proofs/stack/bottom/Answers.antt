@@ -1,5 +1,5 @@
 use Rattle.std.proofs.Common.{◌+◌, ◌-◌, arith, slice_index}
-use Rattle.frames.specs.Standing.{frame_count, height_of}
+use Rattle.frames.specs.States.{frame_count, height_of}
 use Rattle.frames.proofs.Frames.{running_fits}
 use Rattle.frames.proofs.Storing.{base_there, count_there}
 use Rattle.frames.proofs.stack.bottom.Goals as goal

@@ -1,6 +1,6 @@
 use Rattle.std.proofs.Common.{sym, ◌∙◌, arith, inl, inr}
 use Rattle.std.proofs.lemmas.Bool.{cases_order}
-use Rattle.lexer.proofs.Tables.{spelled_true}
+use Rattle.lexer.proofs.WordTables.{spelled_true}
 use Rattle.lexer.proofs.Words.{tested, none_spelled}
 use Rattle.lexer.proofs.names.reserved_word.Goals as goal
 

@@ -1,5 +1,6 @@
-use Rattle.std.proofs.Common.{◌∙◌, sym}
+use Rattle.std.proofs.Common.{arith, ◌∙◌, sym}
 use Rattle.machine.proofs.Decoding.{seen_err, found_several, unknown_several, variable_wrong, variable_read}
+use Rattle.machine.proofs.Performing.{some_operand}
 use Rattle.machine.proofs.decode.several_operand_form.Goals as goal
 
 pub returns-in_default-clause-instruction : goal.returns-in_default-clause-instruction
@@ -17,3 +18,6 @@ returns-in_err-ending-clause-instruction c =
 pub returns-clause-instruction : goal.returns-clause-instruction
 returns-clause-instruction c =
     c.in_ok-ending.ensures.ending _ ∙ variable_read c.args.story.now c.args.first c.args.at _ _ _ (found_several _ _ c.requires.several c.in-Some.ensures.same) c.in_ok-count.ensures.operands
+
+pub returns-clause-some : goal.returns-clause-some
+returns-clause-some c = let most = some_operand _ c.in-Some.ensures.count in omega (arith, most, c.in_ok-count.ensures.enough)

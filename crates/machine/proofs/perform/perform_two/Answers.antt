@@ -2,7 +2,7 @@ use Rattle.std.proofs.Common.{ap}
 use Rattle.zcore.specs.State.{State, Out}
 use Rattle.zcore.specs.Step.{perform}
 use Rattle.zcore.specs.declared.next.Next.{Next}
-use Rattle.frames.specs.Standing.{state_of}
+use Rattle.frames.specs.States.{state_of}
 use Rattle.frames.proofs.Steps.{went_as}
 use Rattle.machine.proofs.perform.perform_two.Goals as goal
 

@@ -1,7 +1,7 @@
 use Rattle.std.proofs.Common.{ap, sym}
 use Rattle.zcore.specs.Parts.{branch_on}
 use Rattle.zcore.specs.Step.{check_argument_count}
-use Rattle.frames.specs.Standing.{state_of}
+use Rattle.frames.specs.States.{state_of}
 use Rattle.frames.proofs.Steps.{went_as}
 use Rattle.opcodes.proofs.jumps.check_argument_count.Goals as goal
 

@@ -2,7 +2,7 @@ use Rattle.std.proofs.Common.{ap, sym, ◌∙◌}
 use Rattle.zcore.specs.Parts.{test_target, is_code, test}
 use Rattle.zcore.specs.declared.place.Fault.TheVariants as faults
 use Rattle.frames.specs.Contents.{memory_of}
-use Rattle.frames.specs.Standing.{state_of}
+use Rattle.frames.specs.States.{state_of}
 use Rattle.frames.proofs.Steps.{went_still, went_halt}
 use Rattle.opcodes.proofs.jumps.test_target.Goals as goal
 

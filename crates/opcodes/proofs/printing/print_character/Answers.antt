@@ -5,10 +5,10 @@ use Rattle.opcodes.proofs.Transcripts.{told_passed}
 use Rattle.frames.proofs.Steps.{told_went}
 use Rattle.opcodes.proofs.printing.print_character.Goals as goal
 
-pub returns-then-not-is_printable-clause-told : goal.returns-then-not-is_printable-clause-told
+pub returns-then-not-is_output-clause-told : goal.returns-then-not-is_output-clause-told
 unfolding print_character
-returns-then-not-is_printable-clause-told c = told_went _ _ (test_failed _ _ _ _ c.requires.sound (sym c.is_printable.ensures ∙ c.if-not-is_printable.true))
+returns-then-not-is_output-clause-told c = told_went _ _ (test_failed _ _ _ _ c.requires.sound (sym c.is_output.ensures ∙ c.if-not-is_output.true))
 
 pub returns-clause-told : goal.returns-clause-told
 unfolding print_character
-returns-clause-told c = told_passed _ _ _ (sym c.is_printable.ensures ∙ c.if-not-is_printable.false) c.print_characters.ensures.told
+returns-clause-told c = told_passed _ _ _ (sym c.is_output.ensures ∙ c.if-not-is_output.false) c.print_characters.ensures.told

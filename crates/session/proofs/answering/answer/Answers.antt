@@ -1,8 +1,8 @@
 use Rattle.std.proofs.Common.{◌∙◌, refl, sym, ℕ, ◌∷◌, List, [], true, false, ◌++◌, codes, subst}
 use Rattle.session.specs.Game.{IsSessionOf, text_on}
-use Rattle.history.specs.Standing.{undo_of, redo_of, taken}
+use Rattle.session.specs.Standing.{undo_of, redo_of, taken}
 use Rattle.session.specs.Transcript.{note}
-use Rattle.history.specs.Replies.{After}
+use Rattle.session.specs.Replies.{After}
 use Rattle.session.specs.Wrote.{Wrote}
 use Rattle.session.proofs.Replying.{heard_one, heard_err, hears_err, absent, tested, at_undo, at_redo, at_line, undo_some, undo_none, redo_some, redo_none, line_taken, line_unmet, line_over, line_refused}
 use Rattle.session.proofs.Telling.{wrote_both, wrote_first}

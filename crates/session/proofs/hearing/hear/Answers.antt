@@ -2,6 +2,7 @@ use Rattle.session.specs.Game.{IsSessionOf}
 use Rattle.std.proofs.Common.{arith, sym, ◌+◌, ◌≤◌, subst, take}
 use Rattle.session.specs.declared.line.Line.{Line}
 use Rattle.session.specs.Input.{whole_from, rest_from}
+use Rattle.session.specs.Standing.{longest_line}
 use Rattle.session.specs.Heard.{Heard}
 use Rattle.session.specs.Kept.{IsKept}
 use Rattle.session.proofs.Replying.{hears_err, untrue}
@@ -31,7 +32,7 @@ loop-byte-preserved g c =
     let now = c.if-byte-eq10 in
     elim c.if-byte-eq10.branch [
       | then-byte-eq10+in_ok-finish v ↦ record {
-        within = subst (λ (x : Line). x.len ≤ 1000) (sym v.line-is) v.finish.ensures.within;
+        within = subst (λ (x : Line). x.len ≤ longest_line) (sym v.line-is) v.finish.ensures.within;
         kept = λ full kept. subst (λ x. IsKept x (rest_from full (take (i + 1) chunk))) (sym v.line-is) (kept_end full chunk v.finish.new.line i 0 (omega arith) v.if-byte-eq10.true v.in_ok-finish.ensures.line);
         heard = λ game s full p kept.
             let w2 = g.W.Write.contents v.finish.new.writer in
@@ -42,7 +43,7 @@ loop-byte-preserved g c =
             (λ t q. v.in_ok-finish.ensures.hears game t (rest_from full (take i chunk)) q (c.loop-byte.invariant.kept full kept))));
       }
       | else-byte-eq10 v ↦ record {
-        within = subst (λ (x : Line). x.len ≤ 1000) (sym v.line-is) v.push.ensures.within;
+        within = subst (λ (x : Line). x.len ≤ longest_line) (sym v.line-is) v.push.ensures.within;
         kept = λ full kept. subst (λ x. IsKept x (rest_from full (take (i + 1) chunk))) (sym v.line-is)
             (kept_byte full chunk v.push.new.self i 0 (omega arith) (untrue _ _ v.if-byte-eq10.false) (v.push.ensures.kept (rest_from full (take i chunk)) (c.loop-byte.invariant.kept full kept)));
         heard = λ game s full p kept.

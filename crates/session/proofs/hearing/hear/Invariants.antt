@@ -1,14 +1,14 @@
 use Rattle.std.proofs.Common.{ℕ, ◌≤◌, List, take}
 use Rattle.session.specs.Input.{whole_from, rest_from}
 use Rattle.session.specs.Game.{IsSessionOf, Game}
-use Rattle.history.specs.Standing.{Standing}
+use Rattle.session.specs.Standing.{Standing, longest_line}
 use Rattle.session.specs.Heard.{Heard}
 use Rattle.session.specs.Kept.{IsKept}
 use Rattle.session.proofs.hearing.hear.Given as goal
 
 abbrev pub invariant-loop-byte : goal.invariant-loop-byte
 invariant-loop-byte g l = record {
-  within : l.line.len ≤ 1000;
+  within : l.line.len ≤ longest_line;
   kept : (full : List ℕ) → IsKept l.fn.line full → IsKept l.line (rest_from full (take l.byte-index l.chunk));
   heard : (game : Game) (s : Standing) (full : List ℕ) → IsSessionOf game s l.fn.session → IsKept l.fn.line full
       → Heard game (g.W.Write.contents l.fn.writer) (g.W.Write.contents l.writer) s (λ t. IsSessionOf game t l.session) (whole_from full (take l.byte-index l.chunk));

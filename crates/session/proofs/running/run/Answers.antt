@@ -4,7 +4,7 @@ use Rattle.std.specs.Io.KnownBytes.{Appends, Consumes}
 use Rattle.session.specs.Input.{rest_from, last_line}
 use Rattle.session.specs.Heard.{Heard}
 use Rattle.session.specs.Wrote.{WroteSome}
-use Rattle.history.specs.Standing.{Standing, nothing}
+use Rattle.session.specs.Standing.{Standing, nothing}
 use Rattle.session.proofs.Cutting.{kept_some, kept_none}
 use Rattle.session.proofs.Chaining.{heard_none}
 use Rattle.session.proofs.Going.{going_start, going_on, ran_whole, ran_read, ran_long, ran_broke_in, ran_broke_last, ran_err, opening_broke}

@@ -1,12 +1,12 @@
 use Rattle.std.proofs.Common.{◌≤◌}
 use Rattle.session.specs.Game.{IsSessionOf, Game}
-use Rattle.history.specs.Standing.{nothing}
+use Rattle.session.specs.Standing.{nothing, longest_line}
 use Rattle.session.proofs.Going.{Going}
 use Rattle.session.proofs.running.run.Given as goal
 
 abbrev pub invariant-loop : goal.invariant-loop
 invariant-loop g l = record {
-  within : l.line.len ≤ 1000;
+  within : l.line.len ≤ longest_line;
   going : (game : Game) → IsSessionOf game nothing l.fn.session
       → Going game (g.R.Read.remaining l.fn.reader) (g.R.Read.remaining l.reader) (g.W.Write.contents l.fn.writer) (g.W.Write.contents l.writer) (λ t. IsSessionOf game t l.session) l.line;
 }

@@ -6,18 +6,11 @@ use Rattle.story.specs.Written.{code_of}
 use Rattle.story.proofs.Laid.{code_next}
 use Rattle.story.proofs.write.codes_of.Goals as goal
 
-pub code_at-requires-clause-writable : goal.code_at-requires-clause-writable
-code_at-requires-clause-writable c =
-    let count = length-map c.args.checked.now.routines.items routine_of in
-    let within : c.loop-routine.routine < length (program_of c.args.checked.now).routines =
-    omega (arith, count, c.loop-routine-test.true, c.len-routine-end.ensures, c.args.checked.now.routines.ok.0) in
-    c.items_are_writable.ensures (program_of c.args.checked.now) c.requires.accepted c.requires.printable c.loop-routine.routine within
-
 pub loop-routine-preserved : goal.loop-routine-preserved
 loop-routine-preserved c =
-    let count = length-map c.args.checked.now.routines.items routine_of in
+    let count = length-map c.args.checked.now.routines routine_of in
     let within : c.loop-routine.routine < length (program_of c.args.checked.now).routines =
-    omega (arith, count, c.loop-routine-test.true, c.len-routine-end.ensures, c.args.checked.now.routines.ok.0) in
+    omega (arith, count, c.loop-routine-test.true, c.routines-routine-end.ensures) in
     let next = code_next (program_of c.args.checked.now).routines c.loop-routine.routine within in
     let code = c.in_ok-code_at.ensures in
     c.in_ok-push.ensures.items

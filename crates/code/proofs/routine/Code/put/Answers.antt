@@ -13,4 +13,4 @@ returns-clause-written c =
     code_written (addresses_of c.args.addresses.now) c.args.self.now x.items.items c.deref-2.result.now x.locals (x.length - 1) c.deref.result.now
     c.args.story.now.items c.extend_from_slice.new.self.items c.push.new.self.items c.put_items.new.bytes.items c.deref-3.result.now
     c.self.view_is c.deref-2.ensures.value (c.deref.ensures.value ∙ c.self.invariant.0) size first
-    c.in_ok-put_items.ensures.bytes c.deref-3.ensures.value c.in_ok-extend_from_slice.ensures.items
+    c.in_ok-put_items.ensures c.deref-3.ensures.value c.in_ok-extend_from_slice.ensures.items

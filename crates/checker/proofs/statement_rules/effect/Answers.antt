@@ -1,0 +1,6 @@
+use Rattle.checker.specs.Resolved as values
+use Rattle.checker.proofs.Walks.{one, made_effect}
+use Rattle.checker.proofs.statement_rules.effect.Goals as goal
+
+pub returns : goal.returns
+returns c = rw (made_effect c.in_ok-value.value) (one values.effect c.in_ok-value.ensures)

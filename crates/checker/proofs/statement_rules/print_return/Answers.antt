@@ -1,0 +1,10 @@
+use Rattle.std.specs.Prelude.{map}
+use Rattle.checker.specs.Resolved as values
+use Rattle.checker.specs.Resolved.{printed_of}
+use Rattle.checker.specs.Scope.{look_in}
+use Rattle.checker.proofs.Walks.{one, made_print_return}
+use Rattle.checker.proofs.Forms.{items_walked}
+use Rattle.checker.proofs.statement_rules.print_return.Goals as goal
+
+pub returns : goal.returns
+returns c = rw (made_print_return c.in_ok-found.found) (one values.print_return (items_walked (look_in c.args.scope.now) c.args.printed.now (map printed_of c.in_ok-found.found.items) c.in_ok-found.ensures))

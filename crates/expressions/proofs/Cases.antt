@@ -1,0 +1,61 @@
+-- What a level reads, by the case that the code is in: each as reading a part, and a function of what that gives.
+use Rattle.std.proofs.Common.{◌≡◌, ℕ, ◌+◌, true, false, List, Option, Some, None, Ok, Result, refl, sym, ap, ◌∙◌}
+use Rattle.lexer.specs.declared.token.Position.{Position}
+use Rattle.lexer.specs.declared.token.Sign.TheVariants as s
+use Rattle.lexer.specs.declared.token.Word.TheVariants as w
+use Rattle.lexer.specs.Token.{Lexeme, position_of}
+use Rattle.expressions.specs.declared.tree.Comparison.{Comparison}
+use Rattle.expressions.specs.declared.tree.Equality.{Equality}
+use Rattle.expressions.specs.declared.tree.Prefix.TheVariants as op
+use Rattle.expressions.specs.declared.tree.Step.{Step}
+use Rattle.expressions.specs.Operators.{comparing, equating, stepping}
+use Rattle.expressions.specs.Tree.{NameTree, ExpressionTree, assign, call, compare, equal, parenthesised, prefixed, step_before, trees_of}
+use Rattle.expressions.specs.Parse.{◌>>=◌, Level, Parse, head, tail, is_sign, is_word, list, closed, step_on, nested, enclosed, primary, stepped, unary, complemented, sum, equated, comparison, negated, condition, assigned, expression, called}
+use Rattle.expressions.proofs.Nested.{nested_whole, nested_negation, nested_complement, nested_prefix, nested_operand}
+
+module _ (d : ℕ) where
+  pub expression_assigns : (ts r us : List Lexeme) (a : ExpressionTree) (p : Position) → condition (nested d) ts ≡ Ok (a, r) → is_sign s.Assign (head r) ≡ true → us ≡ tail r → p ≡ position_of (head r)
+      → expression (nested d) ts ≡ (assigned (nested d) us >>= λ y. Ok (assign a p y.0, y.1))
+  unfolding expression
+  expression_assigns ts r us a p h e u q = rw (h, e, u, q) refl
+
+  pub comparison_compares : (ts r us : List Lexeme) (a : ExpressionTree) (o : Comparison) → sum (nested d) ts ≡ Ok (a, r) → comparing (head r) ≡ Some o → us ≡ tail r
+      → comparison (nested d) ts ≡ (sum (nested d) us >>= λ x. Ok (compare o a x.0, x.1))
+  unfolding comparison
+  comparison_compares ts r us a o h e u = rw (h, e, u) refl
+
+  pub comparison_equates : (ts r us : List Lexeme) (a : ExpressionTree) (o : Equality) → sum (nested d) ts ≡ Ok (a, r) → comparing (head r) ≡ None → equating (head r) ≡ Some o → us ≡ tail r
+      → comparison (nested d) ts ≡ (list (is_word w.Or) (sum (nested d)) us >>= λ x. Ok (equal o a (trees_of x.0), x.1))
+  unfolding comparison equated
+  comparison_equates ts r us a o h n e u = rw (h, n, e, u) refl
+
+  pub unary_steps : (ts : List Lexeme) → is_sign s.Minus (head ts) ≡ false → stepping (head ts) ≡ None → unary (nested d) ts ≡ (primary (nested d) ts >>= λ x. step_on x.0 x.1 (stepping (head x.1)))
+  unfolding unary stepped
+  unary_steps ts e o = rw (e, o) refl
+
+  pub called_with : (n : NameTree) (ts : List Lexeme) → is_sign s.CloseParenthesis (head ts) ≡ false → called (nested d) n ts ≡ (list (is_sign s.Comma) (expression (nested d)) ts >>= closed (λ xs. call n (trees_of xs)))
+  unfolding called
+  called_with n ts e = rw e refl
+
+-- with one nesting more opened
+module _ (d k : ℕ) (more : d ≡ k + 1) where
+  pub negated_not : (ts us : List Lexeme) → is_sign s.Not (head ts) ≡ true → us ≡ tail ts → negated (nested d) ts ≡ (negated (nested k) us >>= λ x. Ok (prefixed op.Not x.0, x.1))
+  unfolding negated
+  negated_not ts us e u = rw (e, u, nested_negation d k (tail ts) more) refl
+
+  pub complemented_tilde : (ts us : List Lexeme) → is_sign s.Tilde (head ts) ≡ true → us ≡ tail ts → complemented (nested d) ts ≡ (complemented (nested k) us >>= λ x. Ok (prefixed op.Complement x.0, x.1))
+  unfolding complemented
+  complemented_tilde ts us e u = rw (e, u, nested_complement d k (tail ts) more) refl
+
+  pub unary_minus : (ts us : List Lexeme) → is_sign s.Minus (head ts) ≡ true → us ≡ tail ts → unary (nested d) ts ≡ (unary (nested k) us >>= λ x. Ok (prefixed op.Minus x.0, x.1))
+  unfolding unary
+  unary_minus ts us e u = rw (e, u, nested_prefix d k (tail ts) more) refl
+
+  pub unary_step : (ts us : List Lexeme) (o : Step) (p : Position) → is_sign s.Minus (head ts) ≡ false → stepping (head ts) ≡ Some o → us ≡ tail ts → p ≡ position_of (head ts)
+      → unary (nested d) ts ≡ (primary (nested k) us >>= λ x. Ok (step_before o p x.0, x.1))
+  unfolding unary
+  unary_step ts us o p e h u q = rw (e, h, u, q, nested_operand d k (tail ts) more) refl
+
+  pub enclosed_whole : (ts us : List Lexeme) → us ≡ ts → enclosed (nested d) ts ≡ (expression (nested k) us >>= closed parenthesised)
+  unfolding enclosed
+  enclosed_whole ts us u = rw (u, nested_whole d k ts more) refl

@@ -1,9 +1,0 @@
-mod Words
-mod Steps
-mod Acts
-mod Sizes
-mod Trees
-mod Chains
-mod Calling
-mod Running
-mod Beginning

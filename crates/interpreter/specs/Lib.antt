@@ -1,3 +1,0 @@
-pub mod Views
-pub mod Came
-pub mod Parts

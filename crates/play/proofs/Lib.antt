@@ -1,0 +1,2 @@
+pub mod Optional
+pub mod Chains

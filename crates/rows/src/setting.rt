@@ -1,0 +1,117 @@
+//! What each row may say.
+
+use crate::error::RowError;
+use crate::streams::{Input, Output};
+use crate::written::{number_in, put_written};
+use std::alloc::Global;
+
+/// The fuel of a turn where a row names none.
+const FUEL: u32 = 1_000_000;
+
+/// A row's title and input, and under which conditions it is played.
+#[derive(Drop)]
+pub struct Setting {
+    /// The text behind `--`.
+    pub title: Vec<u8>,
+
+    /// The units of fuel of each turn: `fuel`.
+    pub fuel: u32,
+
+    /// How many turns are kept at most: `keep`.
+    pub keep: Option<u32>,
+
+    /// The lines, each with byte 10: `line`; and a last one without it: `last`.
+    pub input: Vec<u8>,
+
+    /// How many bytes of the input can be read: `reads`.
+    pub reads: usize,
+
+    /// How many bytes are read at most at a call: `part`.
+    pub part: usize,
+
+    /// How many bytes can be written: `room`, or `breaks` where the next write then fails.
+    pub room: Option<usize>,
+
+    /// Whether the next write then fails, and does not just take no byte.
+    pub breaks: bool,
+
+    /// How often what is written can be flushed: `flushes`.
+    pub flushes: usize,
+
+    /// Where bytes come from.
+    alloc: Global,
+}
+
+impl Setting {
+    /// A row that says nothing.
+    pub fn new(alloc: Global) -> Setting {
+        Setting {
+            title: Vec::new(alloc),
+            fuel: FUEL,
+            keep: None,
+            input: Vec::new(alloc),
+            reads: usize::MAX,
+            part: usize::MAX,
+            room: None,
+            breaks: false,
+            flushes: usize::MAX,
+            alloc,
+        }
+    }
+
+    /// Takes a line of a row, its first word and the text behind it.
+    ///
+    /// # Errors
+    ///
+    /// [`RowError::Word`] where the word is none of these, [`RowError::Number`] and [`RowError::Escape`] where the
+    /// text is not what the word wants, [`RowError::Memory`].
+    pub fn take(&mut self, word: &str, text: &str) -> Result<(), RowError> {
+        match word {
+            "--" => put_written(&mut self.title, self.alloc, text)?,
+            "fuel" => self.fuel = small(text)?,
+            "keep" => self.keep = Some(small(text)?),
+            "line" => {
+                put_written(&mut self.input, self.alloc, text)?;
+                self.input.push(b'\n')?;
+            }
+            "last" => put_written(&mut self.input, self.alloc, text)?,
+            "reads" => self.reads = number_in(text)?,
+            "part" => self.part = number_in(text)?,
+            "room" => self.room = Some(number_in(text)?),
+            "breaks" => {
+                self.room = Some(number_in(text)?);
+                self.breaks = true;
+            }
+            "flushes" => self.flushes = number_in(text)?,
+            _ => return Err(RowError::Word),
+        }
+        Ok(())
+    }
+
+    /// The input as a reader.
+    pub fn reader(&self) -> Input<'_> {
+        Input {
+            rest: &self.input,
+            left: self.reads,
+            part: self.part,
+        }
+    }
+
+    /// A writer that holds nothing yet.
+    pub fn writer(&self) -> Output {
+        Output {
+            bytes: Vec::new(self.alloc),
+            room: self.room,
+            fails: self.breaks,
+            flushes: self.flushes,
+        }
+    }
+}
+
+/// The number that a text is, of 32 bits.
+fn small(text: &str) -> Result<u32, RowError> {
+    match u32::try_from(number_in(text)?) {
+        Ok(number) => Ok(number),
+        Err(_) => Err(RowError::Number),
+    }
+}

@@ -1,0 +1,67 @@
+-- The lines of an input and the replies to them, computed.
+use Rattle.std.proofs.Common.{◌≡◌, ℕ, true, false, Some, List, [], ◌∷◌, ◌++◌, codes, refl, inl, inr}
+use Rattle.session.specs.Input.{lines_of, whole_lines}
+use Rattle.session.specs.Game.{Game, text_on}
+use Rattle.session.specs.Standing.{Standing}
+use Rattle.session.specs.Ran.{LinesRead}
+use Rattle.session.specs.Transcript.{answer_of, answer, note, transcript}
+
+-- lines
+
+no_input : lines_of [] ≡ []
+no_input = refl
+
+last_without_end : lines_of (97 ∷ 10 ∷ 98 ∷ []) ≡ codes "a" ∷ codes "b" ∷ []
+last_without_end = refl
+
+last_with_end : lines_of (97 ∷ 10 ∷ 98 ∷ 10 ∷ []) ≡ codes "a" ∷ codes "b" ∷ []
+last_with_end = refl
+
+empty_lines : lines_of (10 ∷ 10 ∷ 97 ∷ []) ≡ [] ∷ [] ∷ codes "a" ∷ []
+empty_lines = refl
+
+whole_only : whole_lines (97 ∷ 10 ∷ 98 ∷ []) ≡ codes "a" ∷ []
+whole_only = refl
+
+-- a carriage return is a byte of its line
+carriage_return : lines_of (97 ∷ 13 ∷ 10 ∷ []) ≡ (97 ∷ 13 ∷ []) ∷ []
+carriage_return = refl
+
+-- lines that were read
+
+before_the_end : LinesRead (Some (99 ∷ [])) (97 ∷ 10 ∷ 98 ∷ []) (codes "a" ∷ [])
+before_the_end = inl refl
+
+at_the_end : LinesRead (Some []) (97 ∷ 10 ∷ 98 ∷ []) (codes "a" ∷ codes "b" ∷ [])
+at_the_end = inr (refl, refl)
+
+no_line_before_its_end : LinesRead (Some (99 ∷ [])) (97 ∷ 10 ∷ 98 ∷ []) (codes "a" ∷ codes "b" ∷ []) → ⊥
+no_line_before_its_end (inl e) = cc
+no_line_before_its_end (inr h) = let e : 99 ∷ [] ≡ [] = h.0 in cc
+
+abbrev a : List ℕ
+a = codes "a"
+
+-- replies
+
+nothing_undone : (game : Game) → transcript game ((record { line = codes "/undo"; refused = false }) ∷ []) ≡ text_on game [] ++ note (codes "[Nothing to undo.]")
+unfolding answer_of
+nothing_undone game = refl
+
+nothing_redone : (game : Game) (s : Standing) → answer game (record { done = s.done; undone = []; kept = s.kept }) (record { line = codes "/redo"; refused = false })
+    ≡ record { reply = note (codes "[Nothing to redo.]"); standing = record { done = s.done; undone = []; kept = s.kept } }
+unfolding answer_of
+nothing_redone game s = refl
+
+redone_told : (game : Game) → answer game (record { done = []; undone = a ∷ []; kept = 0 }) (record { line = codes "/redo"; refused = false })
+    ≡ record { reply = note (codes "[Redone.]") ++ text_on game (a ∷ []); standing = record { done = a ∷ []; undone = []; kept = 1 } }
+unfolding answer_of
+redone_told game = refl
+
+line_refused : (game : Game) (s : Standing) → answer game s (record { line = 195 ∷ []; refused = true }) ≡ record { reply = note (codes "[Line refused.]"); standing = s }
+unfolding answer_of
+line_refused game s = refl
+
+command_with_a_space : (game : Game) (s : Standing) → (answer game s (record { line = codes "/undo\t"; refused = false })).reply ≡ note (codes "[Line refused.]")
+unfolding answer_of
+command_with_a_space game s = refl

@@ -1,0 +1,81 @@
+-- What a session's fields stand for.
+use Rattle.std.specs.Prelude.{◌≡◌, ◌≤◌, ℕ, List, [], ◌∷◌, length, map, slice_index_or, Option}
+use Rattle.std.specs.List.{All}
+use Rattle.journal.specs.Recording.{Recording, IsNothingKept}
+use Rattle.journal.specs.Swap.{back, forward, Fits, Swapped}
+use Rattle.zcore.specs.declared.header.Header.{Header}
+use Rattle.zcore.specs.declared.place.Place.{Place}
+use Rattle.zcore.specs.declared.place.Place.TheVariants as places
+use Rattle.frames.specs.Contents.{Contents, bound_of}
+use Rattle.frames.specs.Playing.{IsWaiting}
+use Rattle.frames.specs.States.{play_of, IsStoreOf}
+use Rattle.session.specs.declared.turns.Turn.{Turn}
+use Rattle.session.specs.Session.{Session, largest_record, all_cells}
+
+-- what the turns overwrote
+abbrev pub records_of : List Turn → List (List (ℕ × ℕ))
+records_of turns = map (λ t. t.overwritten) turns
+
+-- a store with other cells
+abbrev pub with_cells : Contents → List ℕ → Contents
+with_cells s cells = record { cells = cells; fixed = s.fixed }
+
+-- what a turn that is taken back, or done again, leaves of the store and of itself
+abbrev pub turn_back : Contents → Turn → Turn
+turn_back store turn = record turn { overwritten = (back store.cells turn.overwritten).entries }
+
+abbrev pub turn_forward : Contents → Turn → Turn
+turn_forward store turn = record turn { overwritten = (forward store.cells turn.overwritten).entries }
+
+abbrev pub store_back : Contents → Turn → Contents
+store_back store turn = with_cells store (back store.cells turn.overwritten).cells
+
+abbrev pub store_forward : Contents → Turn → Contents
+store_forward store turn = with_cells store (forward store.cells turn.overwritten).cells
+
+-- cells and record, as a swap exchanges them
+abbrev pub swapped : Contents → Turn → Swapped
+swapped store turn = record { cells = store.cells; entries = turn.overwritten }
+
+-- where the machine stood, from the first place on
+abbrev pub places_of : Place → List Turn → List Place
+places_of first turns = first ∷ map (λ t. t.place) turns
+
+abbrev pub place_at : Place → List Turn → ℕ → Place
+place_at first turns k = slice_index_or (places_of first turns) k places.Quit
+
+-- the cells of a store after so many of the turns, where `done` of them are done
+abbrev pub cells_at : Contents → List Turn → ℕ → ℕ → List ℕ
+cells_at store turns done k = slice_index_or (all_cells store.cells (records_of turns) done) k []
+
+unfoldable pub view_of : Option ℕ → ℕ → Header → List ℕ → Contents → Place → List Turn → ℕ → List ℕ → Session
+view_of keep fuel header opening store first turns done given_up = record {
+  keep = keep;
+  fuel = fuel;
+  static_base = header.static_base;
+  opening = opening;
+  states = map (λ cells. play_of (with_cells store cells)) (all_cells store.cells (records_of turns) done);
+  places = places_of first turns;
+  texts = map (λ t. t.text.items) turns;
+  lines = map (λ t. t.line.items) turns;
+  sizes = map (λ t. length t.overwritten) turns;
+  present = done;
+  given_up = given_up;
+}
+
+-- a store of this machine, which can take a line where it waits for one
+pub record IsReady (header : Header) (s : Contents) (place : Place) : Type 0 where
+  pub store : IsStoreOf header s
+  pub waits : place ≡ places.Waiting → IsWaiting s
+
+-- Nothing is recorded between turns, each record fits the store, and at all times that the records reach the store was
+-- one of this machine.
+pub record IsBetweenTurns (header : Header) (store : Recording Contents) (first : Place) (turns : List Turn)
+    (done : ℕ) : Type 0 where
+  pub within : done ≤ length turns
+  pub idle : IsNothingKept store
+  pub begun : store.beginning ≡ store.store.cells
+  pub fits : All (Fits (length store.store.cells) bound_of) (records_of turns)
+  pub small : All (λ r. length r ≤ largest_record header.static_base) (records_of turns)
+  pub ready : (k : ℕ) → k ≤ length turns
+      → IsReady header (with_cells store.store (cells_at store.store turns done k)) (place_at first turns k)

@@ -1,0 +1,60 @@
+-- What a session is: the play of a story on the lines that stand.
+use Rattle.std.specs.Prelude.{◌≡◌, ◌≤◌, ◌+◌, ℕ, List, [], ◌++◌, length, map, drop, Option, IfSome}
+use Rattle.std.specs.List.{All}
+use Rattle.zcore.specs.Header.{static_base_of}
+use Rattle.zcore.specs.declared.place.Place.{Place}
+use Rattle.zcore.specs.Turn.{Whole, plays, last_text, last_place}
+use Rattle.session.specs.Standing.{Standing, redo_of, reached}
+use Rattle.session.specs.Session.{Session, largest_record, stepped_forward}
+
+-- what the story prints last on these lines: its opening where there are none, else the turn of the last
+abbrev pub text_after : List ℕ → ℕ → List (List ℕ) → List ℕ
+text_after story fuel lines = last_text (plays story fuel lines)
+
+-- where it then stands
+abbrev pub place_after : List ℕ → ℕ → List (List ℕ) → Place
+place_after story fuel lines = last_place (plays story fuel lines)
+
+-- all lines that stand, in the order in which they are played
+abbrev pub all_lines : Standing → List (List ℕ)
+all_lines s = s.done ++ s.undone
+
+-- The session holds the whole states of the story on the lines that stand, from the oldest that it keeps on, and is at
+-- that after the lines done.
+pub record IsSession (story : List ℕ) (units : ℕ) (most : Option ℕ) (s : Standing) (v : Session) : Type 0 where
+  -- each line that stands was given to a waiting machine
+  pub whole : length (plays story units (all_lines s)) ≡ length s.done + length s.undone + 1
+  pub reach : s.kept ≤ length s.done
+  pub bound : IfSome most (λ n. s.kept + length s.undone ≤ n)
+  pub keep : v.keep ≡ most
+  pub fuel : v.fuel ≡ units
+  pub static_base : v.static_base ≡ static_base_of story
+  pub opening : v.opening ≡ last_text (plays story units [])
+  pub states : v.states ≡ map (λ (w : Whole). w.state) (reached s (plays story units (all_lines s)))
+  pub places : v.places ≡ map (λ (w : Whole). w.place) (reached s (plays story units (all_lines s)))
+  -- the oldest state has no turn before it
+  pub texts : v.texts ≡ map (λ (w : Whole). w.text) (drop 1 (reached s (plays story units (all_lines s))))
+  pub lines : v.lines ≡ reached s (all_lines s)
+  -- there are as many records as turns that can be undone or done again: under a bound, no more than it
+  pub records : length v.sizes ≡ s.kept + length s.undone
+  -- a record holds at most one cell for each byte of dynamic memory and 72,559 for stack, frames and registers
+  pub small : All (λ size. size ≤ largest_record (static_base_of story)) v.sizes
+  pub present : v.present ≡ s.kept
+
+-- P holds of each story, fuel, bound and lines that stand, of which this is the session
+abbrev pub InEach : Session → (List ℕ → ℕ → Option ℕ → Standing → Type 0) → Type 0
+InEach v P =
+    (story : List ℕ) (fuel : ℕ) (keep : Option ℕ) (s : Standing) → IsSession story fuel keep s v → P story fuel keep s
+
+-- what the record of the latest kept turn can hold: nothing where none is kept
+abbrev pub IsSize : List ℕ → Standing → ℕ → Type 0
+IsSize story s size = (s.kept ≡ 0 → size ≡ 0) × (size ≤ largest_record (static_base_of story))
+
+-- what stands goes over into what `f` makes of it
+abbrev pub Moves : (Standing → Standing) → Session → Session → Type 0
+Moves f old new = InEach old (λ story fuel keep s. IsSession story fuel keep (f s) new)
+
+-- the turn after the present is done again, where there is one, and nothing else changes
+pub record Redone (old new : Session) : Type 0 where
+  pub stepped : new ≡ stepped_forward old
+  pub stands : Moves redo_of old new

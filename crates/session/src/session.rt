@@ -1,0 +1,284 @@
+//! The session of a player.
+
+ghost use Rattle.std.specs.Prelude.{◌≡◌, ◌<◌, ◌≤◌, ◌+◌, ◌↔◌, []};
+ghost use Rattle.std.specs.Prelude.{length, slice_index_or, IsTrue, IsSome, IfSome, OnOk, OnErr};
+ghost use Rattle.std.specs.Borrow.{sem};
+ghost use Rattle.std.specs.Io.BufRead.{Rests};
+ghost use Rattle.zcore.specs.declared.place.Place.TheVariants as places;
+ghost use Rattle.session.specs.Standing.{undo_of, redo_of};
+ghost use Rattle.session.specs.Session.{largest_record, latest_text, latest_size};
+ghost use Rattle.session.specs.Session.{stepped_back, bounded, without_oldest};
+ghost use Rattle.session.specs.Turned.{Turned};
+ghost use Rattle.session.specs.Sessions.{InEach, IsSize, Moves, Redone, place_after, text_after};
+ghost use Rattle.session.specs.Replies.{After, Opens, Says};
+ghost use Rattle.session.specs.contracts.session.Session.{the_row};
+
+use crate::fault::OpenFault;
+use crate::reply::Reply;
+use crate::turns::{Turn, do_again, make_room, put_turn, take_back};
+use crate::typable::is_typable;
+use journal::{NoMemory, Recorded};
+use machine::{Machine, Store};
+use std::alloc::Global;
+use std::collections::VecDeque;
+use std::marker::Model;
+use zcore::Place;
+
+/// A story that is played line by line. The turns of its lines can be taken back one after another, and done again
+/// until another line is taken; the opening cannot be taken back.
+#[derive(Drop)]
+pub struct Session {
+    machine: Machine,
+
+    /// The store at the present; nothing is recorded between turns.
+    store: Recorded<Store>,
+
+    /// The text of the opening.
+    opening: Vec<u8>,
+
+    /// Where the machine stood before the first of the turns.
+    first: Place,
+
+    /// The turns that are kept, and then those that are undone.
+    turns: VecDeque<Turn>,
+
+    /// How many of the turns are not undone.
+    done: usize,
+
+    /// How many units of fuel each turn may spend.
+    fuel: u32,
+
+    /// How many turns are kept at most.
+    keep: Option<u32>,
+
+    /// The text of the turn that was given up last.
+    given_up: Vec<u8>,
+
+    /// Where lines, texts and turns come from.
+    alloc: Global,
+}
+
+impl Model for Session {
+    ghost use Rattle.session.specs.Session.{Session};
+
+    ghost Value = { Session };
+
+    ghost use Rattle.session.specs.Inside.{view_of, IsBetweenTurns};
+
+    ghost view = { λ s. view_of s.keep s.fuel s.machine.header s.opening.items s.store.store
+        s.first s.turns.items s.done s.given_up.items };
+
+    ghost invariant = { λ s. IsBetweenTurns s.machine.header s.store s.first s.turns.items s.done };
+}
+
+impl Session {
+    /// Opens a story with so many units of fuel for each turn, and plays its opening. All turns are kept.
+    ///
+    /// # Errors
+    ///
+    /// Those of `open_with`.
+    pub fn open(alloc: Global, story: Vec<u8>, fuel: u32) -> Result<Session, OpenFault>
+        ensures { Opens story.items fuel None result }
+    {
+        Session::open_with(alloc, story, fuel, None)
+    }
+
+    /// Opens a story with so many units of fuel for each turn, and plays its opening. At most `keep` turns are kept,
+    /// or all of them.
+    ///
+    /// # Errors
+    ///
+    /// `Load` where the story is not loaded: its header does not stand, or memory is refused while it is loaded.
+    /// `Memory` where memory is refused while the opening runs.
+    pub fn open_with(
+        alloc: Global,
+        story: Vec<u8>,
+        fuel: u32,
+        keep: Option<u32>,
+    ) -> Result<Session, OpenFault>
+        ensures { Opens story.items fuel keep result }
+    {
+        let (machine, store) = match Machine::load(alloc, story) {
+            Ok(loaded) => loaded,
+            Err(fault) => return Err(OpenFault::Load(fault)),
+        };
+        let mut store = Recorded::new(alloc, store);
+        let mut opening = Vec::new(alloc);
+        match machine.turn(None, fuel, &mut store, &mut opening) {
+            Ok(first) => {
+                store.close();
+                Ok(Session {
+                    machine,
+                    store,
+                    opening,
+                    first,
+                    turns: VecDeque::new(alloc),
+                    done: 0,
+                    fuel,
+                    keep,
+                    given_up: Vec::new(alloc),
+                    alloc,
+                })
+            }
+            Err(_) => Err(OpenFault::Memory),
+        }
+    }
+
+    /// What the opening printed.
+    pub fn opening(&self) -> &[u8]
+        ensures text { result.now ≡ self.now.opening }
+        ensures opening { InEach self.now (λ story fuel keep s. result.now ≡ text_after story fuel []) }
+    {
+        &self.opening
+    }
+
+    /// Where the latest turn that is done left the machine.
+    pub fn place(&self) -> Place
+        ensures present { result ≡ slice_index_or self.now.places self.now.present places.Quit }
+        ensures place { InEach self.now (λ story fuel keep s. result ≡ place_after story fuel s.done) }
+    {
+        if self.done == 0 {
+            self.first
+        } else {
+            self.turns[self.done - 1].place
+        }
+    }
+
+    /// Takes the latest turn back. It answers false, and changes nothing, exactly where no turn is kept. It takes no
+    /// memory.
+    pub fn undo(&mut self) -> bool
+        ensures found { InEach self.old (λ story fuel keep s. IsTrue result ↔ (0 < s.kept)) }
+        ensures undone { Moves undo_of self.old self.new }
+        ensures stepped { self.new ≡ stepped_back self.old }
+    {
+        if self.done == 0 {
+            return false;
+        }
+        self.done -= 1;
+        take_back(&mut self.store, &mut self.turns[self.done]);
+        true
+    }
+
+    /// Does the turn again that was taken back last, and lends its text. It answers `None`, and changes nothing,
+    /// exactly where no turn is undone. It takes no memory.
+    pub fn redo(&mut self) -> Option<&[u8]>
+        ensures* rests { sem 𝓛 (Rests the_row self.entry (Redone self.old)) }
+        ensures found { InEach self.old (λ story fuel keep s. IsSome result ↔ (0 < length s.undone)) }
+        ensures text { InEach self.old (λ story fuel keep s.
+            IfSome result (λ t. t.now ≡ text_after story fuel (redo_of s).done)) }
+    {
+        if self.done == self.turns.len() {
+            return None;
+        }
+        do_again(&mut self.store, &mut self.turns[self.done]);
+        self.done += 1;
+        Some(&self.turns[self.done - 1].text)
+    }
+
+    /// How many turns are kept, and how many are undone.
+    pub fn counts(&self) -> (usize, usize)
+        ensures { InEach self.now (λ story fuel keep s.
+            (result.0 ≡ s.kept) × (result.1 ≡ length s.undone)) }
+    {
+        (self.done, self.turns.len() - self.done)
+    }
+
+    /// How many cells the record of the latest kept turn holds, 0 where no turn is kept: at most one for each byte of
+    /// dynamic memory and 72,559 for stack, frames and registers.
+    pub fn last_cells(&self) -> usize
+        ensures cells { result ≡ latest_size self.now }
+        ensures most { result ≤ largest_record self.now.static_base }
+        ensures story { InEach self.now (λ story fuel keep s. IsSize story s result) }
+    {
+        if self.done == 0 {
+            0
+        } else {
+            self.turns[self.done - 1].overwritten.cells()
+        }
+    }
+
+    /// Replies to a line: plays its turn and lends what it prints. The turn is kept then, and those that were undone
+    /// are given up; where more are kept than may be, the oldest one is given up too.
+    ///
+    /// The line is refused where it has more than 1,000 bytes or one that is not from 32 to 126; then it is over where
+    /// the story does not wait for a line. Where memory is refused, the line is not taken. In these three cases the
+    /// session is as before. Only a line that the story is given takes memory.
+    pub fn reply(&mut self, line: &[u8]) -> Reply<'_>
+        ensures* rests { sem 𝓛 (Rests the_row self.entry (After line.now result self.old)) }
+        ensures says { InEach self.old (λ story fuel keep s. Says story fuel s line.now result) }
+    {
+        if !is_typable(line) {
+            return Reply::Refused;
+        }
+        if self.place() != Place::Waiting {
+            return Reply::Over;
+        }
+        match self.play(line) {
+            Ok(()) => {
+                self.give_up();
+                Reply::Taken(self.latest_text())
+            }
+            Err(NoMemory) => Reply::NoMemory,
+        }
+    }
+
+    /// Plays the turn of a line, which stands behind the present then, even where more turns are kept than may be.
+    /// At `Err` memory was refused, and the session is as before.
+    fn play(&mut self, line: &[u8]) -> Result<(), NoMemory>
+        requires { slice_index_or self.old.places self.old.present places.Quit ≡ places.Waiting }
+        ensures turned { OnOk result (Turned line.now self.old self.new) }
+        ensures same { OnErr result (self.new ≡ self.old) }
+    {
+        let copy = make_room(self.alloc, &mut self.turns, line)?;
+        let mut text = Vec::new(self.alloc);
+        let place = self
+            .machine
+            .turn(Some(line), self.fuel, &mut self.store, &mut text)?;
+        let turn = Turn {
+            line: copy,
+            text,
+            place,
+            overwritten: self.store.close(),
+        };
+        put_turn(&mut self.turns, self.done, turn);
+        self.done += 1;
+        Ok(())
+    }
+
+    /// Gives up the oldest turn where more are kept than may be. It takes no memory.
+    fn give_up(&mut self)
+        ensures { self.new ≡ bounded self.old }
+    {
+        match self.keep {
+            Some(most) => {
+                if self.done > most as usize {
+                    self.give_up_oldest();
+                }
+            }
+            None => {}
+        }
+    }
+
+    /// Gives up the oldest turn. It takes no memory.
+    fn give_up_oldest(&mut self)
+        requires { 0 < self.old.present }
+        ensures { self.new ≡ without_oldest self.old }
+    {
+        if let Some(oldest) = self.turns.pop_front() {
+            self.first = oldest.place;
+            self.given_up = oldest.into_text();
+            self.done -= 1;
+        }
+    }
+
+    /// What the latest turn printed that was taken, also where it is given up already.
+    fn latest_text(&self) -> &[u8]
+        ensures { result.now ≡ latest_text self.now }
+    {
+        if self.done == 0 {
+            &self.given_up
+        } else {
+            &self.turns[self.done - 1].text
+        }
+    }
+}

@@ -1,0 +1,100 @@
+//! Turns that a session keeps.
+
+ghost use Rattle.std.specs.Prelude.{◌≡◌, ◌<◌, ◌≤◌, ◌++◌, ◌∷◌, [], length, take, IfOk, OnOk};
+ghost use Rattle.std.specs.VecDeque.{deque_len, deque_capacity};
+ghost use Rattle.journal.specs.Recording.{IsNothingKept};
+ghost use Rattle.journal.specs.Swap.{back, forward, Fits};
+ghost use Rattle.frames.specs.Contents.{bound_of};
+ghost use Rattle.session.specs.Inside.{store_back, store_forward, swapped, turn_back, turn_forward};
+
+use journal::{NoMemory, Record, Recorded, swap_back, swap_forward};
+use machine::Store;
+use std::alloc::Global;
+use std::collections::VecDeque;
+use zcore::Place;
+
+/// A turn that a line led to.
+#[derive(Drop)]
+pub(crate) struct Turn {
+    /// The line.
+    pub(crate) line: Vec<u8>,
+
+    /// What the turn printed.
+    pub(crate) text: Vec<u8>,
+
+    /// Where it left the machine.
+    pub(crate) place: Place,
+
+    /// What it overwrote, or, once it is taken back, what it had written.
+    pub(crate) overwritten: Record,
+}
+
+impl Turn {
+    /// What the turn printed.
+    pub(crate) fn into_text(self) -> Vec<u8>
+        ensures { result ≡ self.text }
+    {
+        let Turn { text, .. } = self;
+        text
+    }
+}
+
+/// Takes a turn back: the store is as the turn found it. It takes no memory.
+pub(crate) fn take_back(store: &mut Recorded<Store>, turn: &mut Turn)
+    requires idle { IsNothingKept store.old }
+    requires fits { Fits (length store.old.store.cells) bound_of turn.old.overwritten }
+    ensures store { store.new.store ≡ store_back store.old.store turn.old }
+    ensures begun { store.new.beginning ≡ store.new.store.cells }
+    ensures idle { IsNothingKept store.new }
+    ensures turn { turn.new ≡ turn_back store.old.store turn.old }
+    ensures fits { Fits (length store.new.store.cells) bound_of turn.new.overwritten }
+    ensures length { length store.new.store.cells ≡ length store.old.store.cells }
+    ensures inverse { forward store.new.store.cells turn.new.overwritten ≡ swapped store.old.store turn.old }
+{
+    swap_back(store.store_mut(), &mut turn.overwritten);
+}
+
+/// Does a turn again that was taken back: the store is as the turn left it. It takes no memory.
+pub(crate) fn do_again(store: &mut Recorded<Store>, turn: &mut Turn)
+    requires idle { IsNothingKept store.old }
+    requires fits { Fits (length store.old.store.cells) bound_of turn.old.overwritten }
+    ensures store { store.new.store ≡ store_forward store.old.store turn.old }
+    ensures begun { store.new.beginning ≡ store.new.store.cells }
+    ensures idle { IsNothingKept store.new }
+    ensures turn { turn.new ≡ turn_forward store.old.store turn.old }
+    ensures fits { Fits (length store.new.store.cells) bound_of turn.new.overwritten }
+    ensures length { length store.new.store.cells ≡ length store.old.store.cells }
+    ensures inverse { back store.new.store.cells turn.new.overwritten ≡ swapped store.old.store turn.old }
+{
+    swap_forward(store.store_mut(), &mut turn.overwritten);
+}
+
+/// A copy of a line, and room for one more turn. At `Err` memory was refused.
+pub(crate) fn make_room(
+    alloc: Global,
+    turns: &mut VecDeque<Turn>,
+    line: &[u8],
+) -> Result<Vec<u8>, NoMemory>
+    ensures copy { IfOk result (λ copy. copy.items ≡ line.now) }
+    ensures room { OnOk result (deque_len turns.new < deque_capacity turns.new) }
+    ensures items { turns.new.items ≡ turns.old.items }
+{
+    let Ok(copy) = Vec::from_slice(alloc, line) else {
+        return Err(NoMemory);
+    };
+    if turns.reserve(1).is_err() {
+        return Err(NoMemory);
+    }
+    Ok(copy)
+}
+
+/// Puts a turn behind the first `done` turns, and gives up those after them. It takes no memory.
+pub(crate) fn put_turn(turns: &mut VecDeque<Turn>, done: usize, turn: Turn)
+    requires within { done ≤ length turns.old.items }
+    requires room { deque_len turns.old < deque_capacity turns.old }
+    ensures { turns.new.items ≡ take done turns.old.items ++ turn ∷ [] }
+{
+    turns.truncate(done);
+    let pushed = turns.push_back(turn).is_ok();
+    prove!(pushed);
+}
