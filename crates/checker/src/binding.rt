@@ -1,7 +1,7 @@
 //! What names stand for.
 
 /// What a name stands for in a routine.
-#[derive(Clone, Copy, Debug, PartialEq, Eq)]
+#[derive(Clone, Copy)]
 pub enum Binding {
     /// A value.
     Constant(u16),

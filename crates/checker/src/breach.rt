@@ -3,7 +3,7 @@
 use lexer::Position;
 
 /// A rule that is broken at a place.
-#[derive(Clone, Copy, Debug)]
+#[derive(Clone, Copy)]
 pub struct Breach {
     pub position: Position,
 

@@ -107,9 +107,6 @@ fn target_of(
     Variable::Local(0)
 }
 
-/// Drops a value that is not wanted: one of a broken rule, or of a statement for which memory is refused.
-pub fn discard(_value: Evaluation) {}
-
 /// The name that an expression is, parentheses apart.
 pub fn name_of<'a>(e: &Expression<'a>) -> Option<Name<'a>>
     ensures { option_map name_tree result ≡ names.name_of (expression_tree e.now) }
@@ -180,7 +177,9 @@ fn boxed(
 ) -> Result<Box<Evaluation>, AllocError>
     ensures { IfOk result (λ v. IsResolved (look_in scope.now) (expression_tree e.now) least.old least.new (value_of v.value)) }
 {
-    let found = expression(alloc, scope, e, least)?;
+    let Ok(found) = expression(alloc, scope, e, least) else {
+        return Err(AllocError);
+    };
     Ok(Box::new(alloc, found)?)
 }
 
@@ -195,7 +194,10 @@ fn all_expressions(
 {
     let mut found = Vec::new(alloc);
     for e in given {
-        found.push(expression(alloc, scope, e, least)?)?;
+        let Ok(resolved) = expression(alloc, scope, e, least) else {
+            return Err(AllocError);
+        };
+        found.push(resolved)?;
     }
     Ok(found)
 }
@@ -212,7 +214,9 @@ fn chain_links(
 {
     let mut found = Vec::new(alloc);
     for link in links {
-        let operand = expression(alloc, scope, &link.1, least)?;
+        let Ok(operand) = expression(alloc, scope, &link.1, least) else {
+            return Err(AllocError);
+        };
         found.push((link.0, operand))?;
     }
     Ok(found)
@@ -232,7 +236,7 @@ fn variable(
     match name_of(e) {
         Some(name) => Ok(target_of(name, operator, scope.look(name.text), least)),
         None => {
-            discard(expression(alloc, scope, e, least)?);
+            drop(expression(alloc, scope, e, least)?);
             note(least, NOT_ASSIGNABLE, operator);
             Ok(Variable::Local(0))
         }
@@ -250,7 +254,9 @@ fn call(
     ensures { IfOk result (λ v. IsResolved (look_in scope.now) (trees.call (name_tree name.entry) (trees_of (map expression_tree given.now))) least.old least.new (value_of v)) }
 {
     let number = routine(name, given.len(), scope.look(name.text), least);
-    let given = all_expressions(alloc, scope, given, least)?;
+    let Ok(given) = all_expressions(alloc, scope, given, least) else {
+        return Err(AllocError);
+    };
     Ok(Evaluation::Call(number, given))
 }
 
@@ -264,7 +270,9 @@ fn prefixed(
 ) -> Result<Evaluation, AllocError>
     ensures { IfOk result (λ v. IsResolved (look_in scope.now) (trees.prefixed prefix (expression_tree operand.now)) least.old least.new (value_of v)) }
 {
-    let operand = boxed(alloc, scope, operand, least)?;
+    let Ok(operand) = boxed(alloc, scope, operand, least) else {
+        return Err(AllocError);
+    };
     Ok(Evaluation::Prefixed(prefix, operand))
 }
 
@@ -279,7 +287,9 @@ fn step_before(
 ) -> Result<Evaluation, AllocError>
     ensures { IfOk result (λ v. IsResolved (look_in scope.now) (trees.step_before step position (expression_tree operand.now)) least.old least.new (value_of v)) }
 {
-    let variable = variable(alloc, scope, operand, position, least)?;
+    let Ok(variable) = variable(alloc, scope, operand, position, least) else {
+        return Err(AllocError);
+    };
     Ok(Evaluation::StepBefore(step, variable))
 }
 
@@ -294,7 +304,9 @@ fn step_after(
 ) -> Result<Evaluation, AllocError>
     ensures { IfOk result (λ v. IsResolved (look_in scope.now) (trees.step_after (expression_tree operand.now) step position) least.old least.new (value_of v)) }
 {
-    let variable = variable(alloc, scope, operand, position, least)?;
+    let Ok(variable) = variable(alloc, scope, operand, position, least) else {
+        return Err(AllocError);
+    };
     Ok(Evaluation::StepAfter(variable, step))
 }
 
@@ -310,9 +322,15 @@ fn chain(
 ) -> Result<Evaluation, AllocError>
     ensures { IfOk result (λ v. IsResolved (look_in scope.now) (trees.chained (trees.binary operator (expression_tree first.now) (expression_tree second.now)) (map link links.now)) least.old least.new (value_of v)) }
 {
-    let first = boxed(alloc, scope, first, least)?;
-    let second = boxed(alloc, scope, second, least)?;
-    let links = chain_links(alloc, scope, links, least)?;
+    let Ok(first) = boxed(alloc, scope, first, least) else {
+        return Err(AllocError);
+    };
+    let Ok(second) = boxed(alloc, scope, second, least) else {
+        return Err(AllocError);
+    };
+    let Ok(links) = chain_links(alloc, scope, links, least) else {
+        return Err(AllocError);
+    };
     Ok(Evaluation::Chain(first, operator, second, links))
 }
 
@@ -327,8 +345,12 @@ fn compare(
 ) -> Result<Evaluation, AllocError>
     ensures { IfOk result (λ v. IsResolved (look_in scope.now) (trees.compare comparison (expression_tree left.now) (expression_tree right.now)) least.old least.new (value_of v)) }
 {
-    let left = boxed(alloc, scope, left, least)?;
-    let right = boxed(alloc, scope, right, least)?;
+    let Ok(left) = boxed(alloc, scope, left, least) else {
+        return Err(AllocError);
+    };
+    let Ok(right) = boxed(alloc, scope, right, least) else {
+        return Err(AllocError);
+    };
     Ok(Evaluation::Compare(left, comparison, right))
 }
 
@@ -344,9 +366,15 @@ fn equal(
 ) -> Result<Evaluation, AllocError>
     ensures { IfOk result (λ v. IsResolved (look_in scope.now) (trees.equal equality (expression_tree left.now) (trees.more (expression_tree right.now) (trees_of (map expression_tree others.now)))) least.old least.new (value_of v)) }
 {
-    let left = boxed(alloc, scope, left, least)?;
-    let right = boxed(alloc, scope, right, least)?;
-    let others = all_expressions(alloc, scope, others, least)?;
+    let Ok(left) = boxed(alloc, scope, left, least) else {
+        return Err(AllocError);
+    };
+    let Ok(right) = boxed(alloc, scope, right, least) else {
+        return Err(AllocError);
+    };
+    let Ok(others) = all_expressions(alloc, scope, others, least) else {
+        return Err(AllocError);
+    };
     Ok(Evaluation::Equal(left, equality, right, others))
 }
 
@@ -361,7 +389,11 @@ fn assign(
 ) -> Result<Evaluation, AllocError>
     ensures { IfOk result (λ v. IsResolved (look_in scope.now) (trees.assign (expression_tree left.now) position (expression_tree right.now)) least.old least.new (value_of v)) }
 {
-    let variable = variable(alloc, scope, left, position, least)?;
-    let right = boxed(alloc, scope, right, least)?;
+    let Ok(variable) = variable(alloc, scope, left, position, least) else {
+        return Err(AllocError);
+    };
+    let Ok(right) = boxed(alloc, scope, right, least) else {
+        return Err(AllocError);
+    };
     Ok(Evaluation::Assign(variable, right))
 }

@@ -12,7 +12,7 @@ ghost use Rattle.checker.specs.Resolved.{value_of, printed_of, action_of};
 ghost use Rattle.checker.specs.Walk.{IsWhole, IsItem, AreItems, IsAction, AreActions};
 
 use crate::breach::Breach;
-use crate::expression_rules::{discard, expression};
+use crate::expression_rules::expression;
 use crate::note::note;
 use crate::resolved::{CheckedItem, CheckedStatement, Evaluation};
 use crate::table::Scope;
@@ -57,10 +57,16 @@ fn item<'a>(
     match printed {
         Item::Text(text) => Ok(CheckedItem::Text(text)),
         Item::Character(position, e) => {
-            Ok(CheckedItem::Character(whole(alloc, scope, *position, e, least)?))
+            let Ok(value) = whole(alloc, scope, *position, e, least) else {
+                return Err(AllocError);
+            };
+            Ok(CheckedItem::Character(value))
         }
         Item::Number(position, e) => {
-            Ok(CheckedItem::Number(whole(alloc, scope, *position, e, least)?))
+            let Ok(value) = whole(alloc, scope, *position, e, least) else {
+                return Err(AllocError);
+            };
+            Ok(CheckedItem::Number(value))
         }
     }
 }
@@ -75,7 +81,10 @@ fn items<'a>(
 {
     let mut found = Vec::new(alloc);
     for x in printed {
-        found.push(item(alloc, scope, x, least)?)?;
+        let Ok(resolved) = item(alloc, scope, x, least) else {
+            return Err(AllocError);
+        };
+        found.push(resolved)?;
     }
     Ok(found)
 }
@@ -88,7 +97,9 @@ fn print<'a>(
 ) -> Result<CheckedStatement<'a>, AllocError>
     ensures { IfOk result (λ x. IsAction (look_in scope.now) (trees.print (map item_tree printed.now)) least.old least.new (action_of x)) }
 {
-    let found = items(alloc, scope, printed, least)?;
+    let Ok(found) = items(alloc, scope, printed, least) else {
+        return Err(AllocError);
+    };
     Ok(CheckedStatement::Print(found))
 }
 
@@ -100,7 +111,9 @@ fn print_return<'a>(
 ) -> Result<CheckedStatement<'a>, AllocError>
     ensures { IfOk result (λ x. IsAction (look_in scope.now) (trees.print_return (map item_tree printed.now)) least.old least.new (action_of x)) }
 {
-    let found = items(alloc, scope, printed, least)?;
+    let Ok(found) = items(alloc, scope, printed, least) else {
+        return Err(AllocError);
+    };
     Ok(CheckedStatement::PrintReturn(found))
 }
 
@@ -113,7 +126,9 @@ fn return_value<'a>(
 ) -> Result<CheckedStatement<'a>, AllocError>
     ensures { IfOk result (λ x. IsAction (look_in scope.now) (trees.return_value position (expression_tree e.now)) least.old least.new (action_of x)) }
 {
-    let value = whole(alloc, scope, position, e, least)?;
+    let Ok(value) = whole(alloc, scope, position, e, least) else {
+        return Err(AllocError);
+    };
     Ok(CheckedStatement::ReturnValue(value))
 }
 
@@ -126,7 +141,9 @@ fn effect<'a>(
 ) -> Result<CheckedStatement<'a>, AllocError>
     ensures { IfOk result (λ x. IsAction (look_in scope.now) (trees.effect position (expression_tree e.now)) least.old least.new (action_of x)) }
 {
-    let value = whole(alloc, scope, position, e, least)?;
+    let Ok(value) = whole(alloc, scope, position, e, least) else {
+        return Err(AllocError);
+    };
     Ok(CheckedStatement::Effect(value))
 }
 
@@ -179,7 +196,9 @@ fn boxed<'a>(
 ) -> Result<Box<CheckedStatement<'a>>, AllocError>
     ensures { IfOk result (λ x. IsAction (look_in scope.now) (statement_tree s.now.value) least.old least.new (action_of x.value)) }
 {
-    let found = statement(alloc, scope, s, least)?;
+    let Ok(found) = statement(alloc, scope, s, least) else {
+        return Err(AllocError);
+    };
     Ok(Box::new(alloc, found)?)
 }
 
@@ -199,7 +218,10 @@ pub fn all_statements<'a>(
 {
     let mut found = Vec::new(alloc);
     for s in all {
-        found.push(statement(alloc, scope, s, least)?)?;
+        let Ok(resolved) = statement(alloc, scope, s, least) else {
+            return Err(AllocError);
+        };
+        found.push(resolved)?;
     }
     Ok(found)
 }
@@ -213,7 +235,9 @@ fn block<'a>(
 ) -> Result<CheckedStatement<'a>, AllocError>
     ensures { IfOk result (λ x. IsAction (look_in scope.now) (trees.block (trees_of (map statement_tree all.now))) least.old least.new (action_of x)) }
 {
-    let found = all_statements(alloc, scope, all, least)?;
+    let Ok(found) = all_statements(alloc, scope, all, least) else {
+        return Err(AllocError);
+    };
     Ok(CheckedStatement::Block(found))
 }
 
@@ -228,9 +252,11 @@ fn if_then<'a>(
 ) -> Result<CheckedStatement<'a>, AllocError>
     ensures { IfOk result (λ x. IsAction (look_in scope.now) (trees.if_then position (expression_tree condition.now) (statement_tree body.now.value)) least.old least.new (action_of x)) }
 {
-    let condition = whole(alloc, scope, position, condition, least)?;
+    let Ok(condition) = whole(alloc, scope, position, condition, least) else {
+        return Err(AllocError);
+    };
     let Ok(body) = boxed(alloc, scope, body, least) else {
-        discard(condition);
+        drop(condition);
         return Err(AllocError);
     };
     Ok(CheckedStatement::If(condition, body))
@@ -248,13 +274,15 @@ fn if_else<'a>(
 ) -> Result<CheckedStatement<'a>, AllocError>
     ensures { IfOk result (λ x. IsAction (look_in scope.now) (trees.if_else position (expression_tree condition.now) (statement_tree first.now.value) (statement_tree otherwise.now.value)) least.old least.new (action_of x)) }
 {
-    let condition = whole(alloc, scope, position, condition, least)?;
+    let Ok(condition) = whole(alloc, scope, position, condition, least) else {
+        return Err(AllocError);
+    };
     let Ok(first) = boxed(alloc, scope, first, least) else {
-        discard(condition);
+        drop(condition);
         return Err(AllocError);
     };
     let Ok(otherwise) = boxed(alloc, scope, otherwise, least) else {
-        discard(condition);
+        drop(condition);
         return Err(AllocError);
     };
     Ok(CheckedStatement::IfElse(condition, first, otherwise))
@@ -271,9 +299,11 @@ fn while_do<'a>(
 ) -> Result<CheckedStatement<'a>, AllocError>
     ensures { IfOk result (λ x. IsAction (look_in scope.now) (trees.while_do position (expression_tree condition.now) (statement_tree body.now.value)) least.old least.new (action_of x)) }
 {
-    let condition = whole(alloc, scope, position, condition, least)?;
+    let Ok(condition) = whole(alloc, scope, position, condition, least) else {
+        return Err(AllocError);
+    };
     let Ok(body) = boxed(alloc, scope, body, least) else {
-        discard(condition);
+        drop(condition);
         return Err(AllocError);
     };
     Ok(CheckedStatement::While(condition, body))

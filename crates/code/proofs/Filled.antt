@@ -142,7 +142,8 @@ printable (suc (suc k)) d h = absurd (omega (arith, h))
 accepted : IsAccepted program
 accepted = record {
   globals = leb-true _ _ refl;
-  routines = All-cons (IsRoutine program) main (sum_of_two ∷ []) main_accepted (All-cons (IsRoutine program) sum_of_two [] sum_accepted (All-nil (IsRoutine program)));
+  routines = All-cons (IsRoutine program) main (sum_of_two ∷ []) main_accepted
+      (All-cons (IsRoutine program) sum_of_two [] sum_accepted (All-nil (IsRoutine program)));
   main = ltb-true _ _ refl;
   alone = refl;
 }

@@ -1,33 +1,47 @@
 -- Each item of an accepted program that stands in a story is done where it stands, and so the story plays the program.
-use Rattle.std.proofs.Common.{◌≡◌, ℕ, zero, suc, ◌+◌, ◌<◌, List, [], ◌∷◌, length, slice_index, Some, ap, subst, arith}
+use Rattle.std.proofs.Common.{◌≡◌, ℕ, zero, suc, ◌+◌, ◌<◌, List, [], ◌∷◌, length, slice_index, Some, refl, subst, arith}
 use Rattle.std.specs.Prelude.{slice_get}
 use Rattle.std.specs.List.{All}
 use Rattle.std.proofs.lemmas.Option.{get_or_from_slice_get, slice_get_within}
 use Rattle.std.proofs.lemmas.List.Elements.{All-head, All-tail}
+use Rattle.zcore.specs.declared.instruction.Operation.TheVariants as operations
 use Rattle.zcore.specs.Header.{static_base_of}
 use Rattle.zcore.specs.Parts.{unpacked}
 use Rattle.zcore.specs.Text.{Holds}
 use Rattle.zcore.proofs.Holding.{holds_byte}
+use Rattle.expressions.specs.declared.tree.Binary.TheVariants as binaries
+use Rattle.expressions.specs.declared.tree.Prefix.TheVariants as prefixes
 use Rattle.checker.specs.Resolved.{RoutineOf, ProgramOf}
 use Rattle.checker.specs.Meaning.{routine_at}
 use Rattle.checker.specs.Accepted.{IsRoutine, IsAccepted}
-use Rattle.items.specs.Items.{Item}
+use Rattle.checker.specs.Printable.{HasPrintableTexts, ArePrintableActions}
+use Rattle.items.specs.Items.{Item, Operand, Destination}
 use Rattle.items.specs.Items as items
 use Rattle.items.specs.Laws.{IsItem, ItemsAreWithin, ItemsFollow}
 use Rattle.items.specs.Stack as stack
 use Rattle.code.specs.Addresses.{Addresses}
-use Rattle.code.specs.Bytes.{item_bytes, place_of, code_bytes}
+use Rattle.code.specs.Instructions.{plain}
+use Rattle.code.specs.Bytes.{item_bytes, place_of, offset_of, code_bytes}
 use Rattle.code.specs.Laws.{CodePlays}
-use Rattle.checker.specs.Printable.{HasPrintableTexts, ArePrintableActions}
 use Rattle.code.specs.Standing.{HoldsProgram}
-use Rattle.code.proofs.Play.{items_in, address, next_of, state_of, Good, Led}
+use Rattle.code.proofs.Play.{items_in, address, Good}
 use Rattle.code.proofs.Memory.{holds_on}
-use Rattle.code.proofs.Places.{next_place, ends_by, item_holds}
-use Rattle.code.proofs.Arriving.{Running, Stands}
-use Rattle.code.proofs.Straight.{HasPrintableText, straight_led}
-use Rattle.code.proofs.PrintedTexts.{texts_printable}
-use Rattle.code.proofs.Jumping.{jump_led, back_led, zero_led}
-use Rattle.code.proofs.Calling.{call_led, return_led}
+use Rattle.code.proofs.Places.{next_place, ends_by, starts, follow, item_holds}
+use Rattle.code.proofs.Ends.{quits}
+use Rattle.code.proofs.Arriving.{Running, around, here, LedFrom, Stands}
+use Rattle.code.proofs.Alone.{single}
+use Rattle.code.proofs.PrintedTexts.{HasPrintableText, texts_printable}
+use Rattle.code.proofs.Moving.{move_led, keep_led, drop_below_led}
+use Rattle.code.proofs.Stepping.{step_led}
+use Rattle.code.proofs.Operating.{operate_led}
+use Rattle.code.proofs.Arithmetic.{prefix_led}
+use Rattle.code.proofs.Equalities.{first_equal_led, also_equal_led}
+use Rattle.code.proofs.ItemsThatPrint.{new_line_led, print_number_led, print_text_led}
+use Rattle.code.proofs.Characters.{print_character_led}
+use Rattle.code.proofs.Branching.{branch_led}
+use Rattle.code.proofs.Jumping.{jump_led, back_led}
+use Rattle.code.proofs.Calling.{call_led}
+use Rattle.code.proofs.Returning.{return_led}
 use Rattle.code.proofs.Sim.{ItemsLead}
 use Rattle.code.proofs.Opening.{plays_it}
 
@@ -40,7 +54,8 @@ each_routine P [] n all h = absurd (omega (arith, h))
 each_routine P (r ∷ rs) zero all h = All-head P r rs all
 each_routine P (r ∷ rs) (suc n) all h = each_routine P rs n (All-tail P r rs all) (omega (arith, h))
 
-module _ (story : List ℕ) (a : Addresses) (p : ProgramOf) (accepted : IsAccepted p) (printable : HasPrintableTexts p) (holds : HoldsProgram story a p) (within : ItemsAreWithin) (full : ℕ) where
+module _ (story : List ℕ) (a : Addresses) (p : ProgramOf) (accepted : IsAccepted p) (printable : HasPrintableTexts p)
+    (holds : HoldsProgram story a p) (within : ItemsAreWithin) (full : ℕ) where
   abbrev running : (s : stack.State) (m : List ℕ) (count : ℕ) (counts : List ℕ) → Good story a p s m → Running
   running s m count counts good = record {
     story = story;
@@ -57,26 +72,37 @@ module _ (story : List ℕ) (a : Addresses) (p : ProgramOf) (accepted : IsAccept
     callers = s.callers;
     locals = s.situation.locals;
     world = s.situation.world;
-    good = record { known = good.known; locals = good.locals; room = omega arith; callers = good.callers; few = good.few; globals = good.globals; stored = good.stored };
+    good = record {
+      known = good.known;
+      locals = good.locals;
+      room = omega arith;
+      callers = good.callers;
+      few = good.few;
+      globals = good.globals;
+      stored = good.stored;
+    };
   }
 
   -- the item at the place of a good state stands there
-  stands : (s : stack.State) (m : List ℕ) (count : ℕ) (counts : List ℕ) (i : Item) (good : Good story a p s m) → slice_get (items_in story a p s.routine) s.place ≡ Some i → Stands (running s m count counts good) i
+  stands : (s : stack.State) (m : List ℕ) (count : ℕ) (counts : List ℕ) (i : Item) (good : Good story a p s m)
+      → slice_get (items_in story a p s.routine) s.place ≡ Some i → Stands (running s m count counts good) i
   stands s m count counts i good e =
       let r = s.routine in
       let h = holds.routines r good.known in
       let is = items_in story a p r in
-      let at = unpacked story (slice_index a.routines r) in
-      let code = (holds_byte story at (routine_at p.routines r).locals (code_bytes a is) h.bytes).rest in
-      let there = item_holds story a (place_of is) is (at + 1) 0 s.place i code e in
-      let zero_and : 0 + place_of is s.place ≡ place_of is s.place = omega arith in
-      let more : s.place + 1 ≡ suc s.place = omega arith in
-      let next = next_place is s.place i e in
-      let same = ap (place_of is) more in
+      let base = unpacked story (slice_index a.routines r) + 1 in
+      let code = (holds_byte story (unpacked story (slice_index a.routines r)) (routine_at p.routines r).locals
+      (code_bytes a is) h.bytes).rest in
+      let begin : base ≡ base + place_of is 0 = omega (arith, starts is) in
+      let there = item_holds story a (place_of is) base is 0 s.place i (follow a is)
+      (subst (λ q. Holds story q (code_bytes a is)) begin code) e in
+      let zero_and : 0 + s.place ≡ s.place = omega arith in
       record {
-        held = holds_on (static_base_of story) (address story a p r s.place) story m (item_bytes a (place_of is) (place_of is s.place) i) good.stored.kept (omega (arith, h.above))
-            (subst (λ x. Holds story (at + 1 + place_of is s.place) (item_bytes a (place_of is) x i)) zero_and there);
-        next = omega (arith, next, same);
+        held = holds_on (static_base_of story) (address story a p r s.place) story m
+            (item_bytes a (offset_of (place_of is) s.place i) i) good.stored.kept (omega (arith, h.above))
+            (subst (λ x. Holds story (base + place_of is x) (item_bytes a (offset_of (place_of is) x i) i)) zero_and
+            there);
+        next = omega (arith, next_place a is s.place i e);
         followed = omega (arith, h.followed, ends_by is (s.place + 1), good.stored.size);
       }
 
@@ -93,19 +119,49 @@ module _ (story : List ℕ) (a : Addresses) (p : ProgramOf) (accepted : IsAccept
       routine = routine_at p.routines s.routine
 
       is_item : IsItem p routine.locals (length is) i
-      is_item = each (IsItem p routine.locals (length is)) is s.place i (within p routine (each_routine (IsRoutine p) p.routines s.routine accepted.routines good.known)) e
+      is_item = each (IsItem p routine.locals (length is)) is s.place i
+          (within p routine (each_routine (IsRoutine p) p.routines s.routine accepted.routines good.known)) e
 
       has_text : HasPrintableText i
-      has_text = each HasPrintableText is s.place i (texts_printable routine (each_routine (λ (r : RoutineOf). ArePrintableActions r.body) p.routines s.routine printable good.known)) e
+      has_text = each HasPrintableText is s.place i
+          (texts_printable routine (each_routine (λ (r : RoutineOf). ArePrintableActions r.body) p.routines s.routine
+          printable good.known)) e
 
-      go : (i : Item) → slice_get is s.place ≡ Some i → Stands c i → IsItem p routine.locals (length is) i → HasPrintableText i
-          → Led story a p full (next_of story a p s) (state_of story a p s m count counts) s.situation.world (stack.act p (Some i) s)
-      go (items.if_zero target) f st within_it text = zero_led c target s.stack good.room st
-      go (items.jump target) f st within_it text = jump_led c target s.stack good.room st
-      go (items.back target) f st within_it text = back_led c target s.stack good.room st
-      go (items.call r n) f st within_it text = call_led c r n s.stack good.room within_it.0 within_it.1 f st
-      go items.return f st within_it text = return_led c s.stack st
-      go j f st within_it text = straight_led story a p accepted holds full s m count counts j (length is) good within_it text st.held st.next st.followed
+      words : List ℕ
+      words = s.stack
+
+      Done : Item → Type 0
+      Done i = LedFrom c words (stack.act p (Some i) s)
+
+      go : (i : Item) → slice_get is s.place ≡ Some i → Stands c i → IsItem p routine.locals (length is) i
+          → HasPrintableText i → Done i
+      go (items.move o d) f st is text = move_led c o d words is.0 is.1 good.room st
+      go (items.apply_prefix prefixes.Not o d) f st is text = absurd is
+      go (items.apply_prefix prefixes.Minus o d) f st is text =
+          prefix_led c prefixes.Minus o d words is.0 is.1 (λ e. absurd (cc)) good.room st
+      go (items.apply_prefix prefixes.Complement o d) f st is text =
+          prefix_led c prefixes.Complement o d words is.0 is.1 (λ e. absurd (cc)) good.room st
+      go (items.operate binaries.AndAlso x y d) f st is text = absurd is
+      go (items.operate binaries.OrElse x y d) f st is text = absurd is
+      go (items.operate op x y d) f st is text =
+          operate_led c op x y d words is.0 is.1 is.2 (λ e. absurd (cc)) (λ e. absurd (cc)) good.room st
+      go (items.step op x d) f st is text = step_led c op x d words is.0 is.1 good.room st
+      go (items.keep x) f st is text = keep_led c x words is st
+      go items.first_equal f st is text = first_equal_led c words good.room st
+      go items.also_equal f st is text = also_equal_led c words good.room st
+      go items.drop_below f st is text = drop_below_led c words st
+      go (items.print_text bytes) f st is text = print_text_led c bytes words text good.room st
+      go (items.print_character o) f st is text = print_character_led c o words is good.room st
+      go (items.print_number o) f st is text = print_number_led c o words is good.room st
+      go items.new_line f st is text = new_line_led c words good.room st
+      go items.quit f st is text = quits (around c) m s.situation.locals words s.situation.world.text full
+          (here c) s.situation.world.fuel s.situation.world
+          (single c items.quit (plain operations.Quit []) refl refl st).held
+      go (items.branch test os when target) f st is text = branch_led c test os when target words is.0 is.1 good.room st
+      go (items.jump target) f st is text = jump_led c target words good.room st
+      go (items.back target) f st is text = back_led c target words good.room st
+      go (items.call r os d) f st is text = call_led c r os d words is.0 is.1 is.4 is.2 good.room st
+      go (items.return o) f st is text = return_led c o words is st
 
 pub code_plays_by : ItemsFollow → ItemsAreWithin → CodePlays
 code_plays_by follows within story a p accepted printable holds full lines =

@@ -1,16 +1,275 @@
--- The operands of a call.
-use Rattle.std.proofs.Common.{◌≡◌, ℕ, zero, suc, ◌+◌, ◌≤◌, [], ◌∷◌, take, refl, arith}
-use Rattle.zcore.specs.declared.instruction.Operand.TheVariants.{Large, Variable}
-use Rattle.code.specs.Instructions.{arguments}
+-- How long the bytes of an item are: it depends on no address, and of its branch on the form alone.
+use Rattle.std.proofs.Common.{◌≡◌, ℕ, ◌+◌, ◌-◌, ◌%◌, ◌≤◌, List, [], ◌∷◌, ◌++◌, length, Option, Some, None, Bool, true, false, refl, sym, ap, ◌∙◌, arith, length-append, append_assoc, append-nil}
+use Rattle.std.specs.Prelude.{nat_lt, ◌==◌, if◌then◌else◌, not, take, slice_index}
+use Rattle.std.specs.List.{flat_map}
+use Rattle.std.proofs.lemmas.Bool.{ltb-true, ltb-false}
+use Rattle.zcore.specs.declared.instruction.Operand.{Operand}
+use Rattle.zcore.specs.declared.instruction.Operand.TheVariants.{Large}
+use Rattle.zcore.specs.declared.instruction.Operation.{Operation}
+use Rattle.zcore.specs.declared.instruction.Operation.TheVariants as operations
+use Rattle.zcore.specs.declared.operations.OperandCount.{OperandCount}
+use Rattle.zcore.specs.declared.operations.OperandCount.TheVariants.{Two, One, Zero, Several}
+use Rattle.zcore.specs.Operations.{count_of, number_of, has_more_types}
+use Rattle.zcore.specs.Instruction.{Instruction, opcode_bytes, operand_bytes, result_bytes, branch_bytes, bytes_of}
+use Rattle.forms.specs.declared.layout.Form.TheVariants as form
+use Rattle.forms.specs.Layout.{form_for, size_with, part_size, offset_over}
+use Rattle.expressions.specs.declared.tree.Binary.{Binary}
+use Rattle.expressions.specs.declared.tree.Binary.TheVariants as binaries
+use Rattle.checker.specs.Meaning.{is_character}
+use Rattle.items.specs.Items.{Item, Destination, Test}
+use Rattle.items.specs.Items as items
+use Rattle.code.specs.Addresses.{Addresses}
+use Rattle.code.specs.Instructions.{plain, branching, fail, labelled, takes, operands, test_operation, tested_code, asks_none, least_word, branch_code, calling, call_operation, call_result, call_code, divided, character_code, item_code, most_tested, most_arguments}
+use Rattle.code.specs.Bytes.{bytes_of_all, item_bytes, no_addresses, least_size, target_of, part_of}
 
--- the operands of a call, of a table of eight
-pub arguments_taken : (address n : ℕ) → n ≤ 7 → take (n + 1) (Large address ∷ Variable 248 ∷ Variable 249 ∷ Variable 250 ∷ Variable 251 ∷ Variable 252 ∷ Variable 253 ∷ Variable 254 ∷ []) ≡ Large address ∷ arguments n
-arguments_taken address zero h = refl
-arguments_taken address (suc zero) h = refl
-arguments_taken address (suc (suc zero)) h = refl
-arguments_taken address (suc (suc (suc zero))) h = refl
-arguments_taken address (suc (suc (suc (suc zero)))) h = refl
-arguments_taken address (suc (suc (suc (suc (suc zero))))) h = refl
-arguments_taken address (suc (suc (suc (suc (suc (suc zero)))))) h = refl
-arguments_taken address (suc (suc (suc (suc (suc (suc (suc zero))))))) h = refl
-arguments_taken address (suc (suc (suc (suc (suc (suc (suc (suc n)))))))) h = absurd (omega arith)
+-- Lists of instructions
+
+pub all_append : (xs ys : List Instruction) → bytes_of_all (xs ++ ys) ≡ bytes_of_all xs ++ bytes_of_all ys
+all_append [] ys = refl
+all_append (x ∷ xs) ys =
+    ap (λ z. bytes_of x ++ z) (all_append xs ys) ∙ sym (append_assoc (bytes_of x) (bytes_of_all xs) (bytes_of_all ys))
+
+pub all_length : (xs ys : List Instruction)
+    → length (bytes_of_all (xs ++ ys)) ≡ length (bytes_of_all xs) + length (bytes_of_all ys)
+all_length xs ys = ap length (all_append xs ys) ∙ length-append (bytes_of_all xs) (bytes_of_all ys)
+
+pub one_length : (i : Instruction) → length (bytes_of_all (i ∷ [])) ≡ length (bytes_of i)
+one_length i = ap length (append-nil (bytes_of i))
+
+-- Addresses are large constants
+
+same_opcode : (k : OperandCount) (n : ℕ) (more : Bool) (x y : ℕ) (os : List Operand)
+    → opcode_bytes k n more (Large x ∷ os) ≡ opcode_bytes k n more (Large y ∷ os)
+same_opcode Two n more x y [] = refl
+same_opcode Two n more x y (o ∷ []) = refl
+same_opcode Two n more x y (o ∷ p ∷ os) = refl
+same_opcode One n more x y [] = refl
+same_opcode One n more x y (o ∷ os) = refl
+same_opcode Zero n more x y os = refl
+same_opcode Several n true x y os = refl
+same_opcode Several n false x y os = refl
+
+-- the instruction with this first operand
+abbrev naming : Operation → List Operand → Option ℕ → ℕ → Instruction
+naming op os result x = record { operation = op; operands = Large x ∷ os; result = result; branch = None }
+
+same_call : (op : Operation) (os : List Operand) (result : Option ℕ) (x y : ℕ)
+    → length (bytes_of (naming op os result x)) ≡ length (bytes_of (naming op os result y))
+unfolding bytes_of
+same_call op os result x y =
+    let first = λ (a : ℕ). opcode_bytes (count_of op) (number_of op) (has_more_types op) (Large a ∷ os) in
+    let given = λ (a : ℕ). flat_map operand_bytes (Large a ∷ os) in
+    let e : length (first x) ≡ length (first y) =
+    ap length (same_opcode (count_of op) (number_of op) (has_more_types op) x y os) in
+    omega (
+      arith,
+      e,
+      length-append (first x ++ given x ++ result_bytes result) [],
+      length-append (first x ++ given x) (result_bytes result),
+      length-append (first x) (given x),
+      length-append (first y ++ given y ++ result_bytes result) [],
+      length-append (first y ++ given y) (result_bytes result),
+      length-append (first y) (given y),
+    )
+
+call_same : (os : List items.Operand) (d : Destination) (x y : ℕ)
+    → length (bytes_of_all (call_code x os d)) ≡ length (bytes_of_all (call_code y os d))
+call_same os d x y =
+    let e = same_call (call_operation (length os) d) (operands os) (call_result d) x y in
+    omega (
+      arith,
+      e,
+      all_length (takes os) (calling x os d ∷ []),
+      all_length (takes os) (calling y os d ∷ []),
+      one_length (calling x os d),
+      one_length (calling y os d),
+    )
+
+fail_same : (x y : ℕ) → length (bytes_of_all (fail x)) ≡ length (bytes_of_all (fail y))
+unfolding bytes_of
+fail_same x y = refl
+
+either_same : (b : Bool) (xs ys zs : List Instruction) → length (bytes_of_all xs) ≡ length (bytes_of_all ys)
+    → length (bytes_of_all (if b then xs else zs)) ≡ length (bytes_of_all (if b then ys else zs))
+either_same true xs ys zs e = e
+either_same false xs ys zs e = refl
+
+or_same : (b : Bool) (xs ys zs : List Instruction) → length (bytes_of_all xs) ≡ length (bytes_of_all ys)
+    → length (bytes_of_all (if b then zs else xs)) ≡ length (bytes_of_all (if b then zs else ys))
+or_same true xs ys zs e = refl
+or_same false xs ys zs e = e
+
+divided_same : (a b : Addresses) (op : Operation) (x y : items.Operand) (d : Destination)
+    → length (bytes_of_all (divided a op x y d)) ≡ length (bytes_of_all (divided b op x y d))
+unfolding bytes_of
+divided_same a b op x items.pushed d = refl
+divided_same a b op x (items.number n) d =
+    either_same (n == 0) (fail a.division_by_zero) (fail b.division_by_zero) _
+    (fail_same a.division_by_zero b.division_by_zero)
+divided_same a b op x (items.variable v) d = refl
+
+character_same : (a b : Addresses) (o : items.Operand)
+    → length (bytes_of_all (character_code a o)) ≡ length (bytes_of_all (character_code b o))
+unfolding bytes_of
+character_same a b items.pushed = refl
+character_same a b (items.number n) =
+    or_same (is_character n) (fail a.not_a_character) (fail b.not_a_character) _
+    (fail_same a.not_a_character b.not_a_character)
+character_same a b (items.variable x) = refl
+
+-- Labels
+
+-- the bytes of a branch beside its label
+abbrev pub beside : Operation → List Operand → ℕ
+beside op os = length (opcode_bytes (count_of op) (number_of op) (has_more_types op) os ++ flat_map operand_bytes os
+    ++ [])
+
+label_bytes : (b : Bool) (x y z : ℕ) → length (if b then x ∷ [] else y ∷ z ∷ []) ≡ (if b then 1 else 2)
+label_bytes true x y z = refl
+label_bytes false x y z = refl
+
+pub branching_length : (op : Operation) (os : List Operand) (when : Bool) (offset : ℕ)
+    → length (bytes_of (branching op os when offset)) ≡ beside op os + (if nat_lt offset 64 then 1 else 2)
+unfolding bytes_of
+branching_length op os when offset =
+    length-append (opcode_bytes (count_of op) (number_of op) (has_more_types op) os ++ flat_map operand_bytes os ++ [])
+    (branch_bytes (Some (record { when = when; offset = offset })))
+    ∙ ap (λ k. beside op os + k) (label_bytes (nat_lt offset 64) _ _ _)
+
+jump_length : (offset : ℕ) → length (bytes_of_all (plain operations.Jump (Large offset ∷ []) ∷ [])) ≡ 3
+unfolding bytes_of
+jump_length offset = refl
+
+pub labelled_length : (op : Operation) (os : List Operand) (when : Bool) (offset : ℕ)
+    → length (bytes_of_all (labelled op os when offset)) ≡ beside op os + size_with (form_for offset)
+labelled_length op os when offset = go (nat_lt offset 8192) (nat_lt offset 64) refl refl
+  where
+    i : Instruction
+    i = branching op os when offset
+
+    over : Instruction
+    over = branching op os (not when) 5
+
+    j : Instruction
+    j = plain operations.Jump (Large (offset % 65536) ∷ [])
+
+    short : (near : Bool) → nat_lt offset 64 ≡ near
+        → length (bytes_of_all (i ∷ [])) ≡ beside op os + (if near then 1 else 2)
+    short near f = one_length i ∙ branching_length op os when offset
+        ∙ ap (λ (b : Bool). beside op os + (if b then 1 else 2)) f
+
+    go : (far near : Bool) → nat_lt offset 8192 ≡ far → nat_lt offset 64 ≡ near
+        → length (bytes_of_all (if far then i ∷ [] else over ∷ j ∷ []))
+        ≡ beside op os + size_with (if near then form.One else (if far then form.Two else form.Far))
+    go true true e f = short true f
+    go true false e f = short false f
+    go false true e f = absurd (omega (arith, ltb-false _ _ e, ltb-true _ _ f))
+    go false false e f = omega (
+      arith,
+      length-append (bytes_of over) (bytes_of_all (j ∷ [])),
+      branching_length op os (not when) 5,
+      jump_length (offset % 65536),
+    )
+
+tested_length : (test : Test) (os : List items.Operand) (when : Bool) (offset : ℕ)
+    → length (bytes_of_all (tested_code test os when offset)) ≡ length (bytes_of_all (takes os))
+    + (beside (test_operation test) (operands os) + size_with (form_for offset))
+tested_length test os when offset =
+    all_length (takes os) (labelled (test_operation test) (operands os) when offset)
+    ∙ ap (λ k. length (bytes_of_all (takes os)) + k) (labelled_length (test_operation test) (operands os) when offset)
+
+-- beside its label a branch has as many bytes in each form
+branch_length : (test : Test) (os : List items.Operand) (when : Bool) (offset : ℕ)
+    → length (bytes_of_all (branch_code test os when offset)) + 1 ≡ length (bytes_of_all (branch_code test os when 2))
+    + size_with (form_for offset)
+branch_length test os when offset = go (asks_none test os)
+  where
+    code : Bool → ℕ → List Instruction
+    code b k = if b then tested_code items.less (os ++ items.number least_word ∷ []) when k
+        else tested_code test os when k
+
+    go : (b : Bool) → length (bytes_of_all (code b offset)) + 1 ≡ length (bytes_of_all (code b 2))
+        + size_with (form_for offset)
+    go true = let given = os ++ items.number least_word ∷ [] in
+        omega (arith, tested_length items.less given when offset, tested_length items.less given when 2)
+    go false = omega (arith, tested_length test os when offset, tested_length test os when 2)
+
+branch_some : (test : Test) (os : List items.Operand) (when : Bool)
+    → 1 ≤ length (bytes_of_all (branch_code test os when 2))
+branch_some test os when = go (asks_none test os)
+  where
+    go : (b : Bool) → 1 ≤ length (bytes_of_all (if b
+        then tested_code items.less (os ++ items.number least_word ∷ []) when 2 else tested_code test os when 2))
+    go true = omega (arith, tested_length items.less (os ++ items.number least_word ∷ []) when 2)
+    go false = omega (arith, tested_length test os when 2)
+
+-- Items
+
+operate_length : (a : Addresses) (offset : ℕ) (op : Binary) (x y : items.Operand) (d : Destination)
+    → length (item_bytes a offset (items.operate op x y d)) ≡ least_size (items.operate op x y d)
+operate_length a offset binaries.Divide x y d =
+    let e = divided_same a no_addresses operations.Div x y d in
+    omega (
+      arith,
+      e,
+      length-append (bytes_of_all (divided a operations.Div x y d)) [],
+      length-append (bytes_of_all (divided no_addresses operations.Div x y d)) [],
+    )
+operate_length a offset binaries.Remainder x y d =
+    let e = divided_same a no_addresses operations.Mod x y d in
+    omega (
+      arith,
+      e,
+      length-append (bytes_of_all (divided a operations.Mod x y d)) [],
+      length-append (bytes_of_all (divided no_addresses operations.Mod x y d)) [],
+    )
+operate_length a offset op x y d = refl
+
+-- an item that does not branch has as many bytes wherever all stands
+pub same_length : (a : Addresses) (offset : ℕ) (i : Item) → target_of i ≡ None
+    → length (item_bytes a offset i) ≡ least_size i
+unfolding bytes_of
+same_length a offset (items.operate op x y d) e = operate_length a offset op x y d
+same_length a offset (items.print_character o) e =
+    let same = character_same a no_addresses o in
+    omega (
+      arith,
+      same,
+      length-append (bytes_of_all (character_code a o)) [],
+      length-append (bytes_of_all (character_code no_addresses o)) [],
+    )
+same_length a offset (items.branch test os when target) e = absurd (cc)
+same_length a offset (items.jump target) e = refl
+same_length a offset (items.back target) e = refl
+same_length a offset (items.call r os d) e =
+    let same = call_same (take most_arguments os) d (slice_index a.routines r) (slice_index no_addresses.routines r) in
+    omega (
+      arith,
+      same,
+      length-append (bytes_of_all (item_code a offset (items.call r os d))) [],
+      length-append (bytes_of_all (item_code no_addresses 2 (items.call r os d))) [],
+    )
+same_length a offset i e = refl
+
+branch_size : (a : Addresses) (n : ℕ) (rest : List ℕ) (test : Test) (os : List items.Operand) (when : Bool) (target : ℕ)
+    → length (item_bytes a (offset_over (target - (n + 1)) rest) (items.branch test os when target))
+    ≡ part_size n (part_of (items.branch test os when target)) rest
+branch_size a n rest test os when target =
+    let given = take most_tested os in
+    let offset = offset_over (target - (n + 1)) rest in
+    omega (
+      arith,
+      branch_length test given when offset,
+      branch_some test given when,
+      length-append (bytes_of_all (branch_code test given when offset)) [],
+      length-append (bytes_of_all (branch_code test given when 2)) [],
+    )
+
+-- the bytes of an item are those of its part
+pub item_length : (a : Addresses) (n : ℕ) (rest : List ℕ) (offset : ℕ) (i : Item)
+    → ((target : ℕ) → target_of i ≡ Some target → offset ≡ offset_over (target - (n + 1)) rest)
+    → length (item_bytes a offset i) ≡ part_size n (part_of i) rest
+item_length a n rest offset (items.branch test os when target) is =
+    ap (λ (k : ℕ). length (item_bytes a k (items.branch test os when target))) (is target refl)
+    ∙ branch_size a n rest test os when target
+item_length a n rest offset i is = omega (arith, same_length a offset i refl)

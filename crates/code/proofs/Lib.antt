@@ -1,36 +1,58 @@
-pub mod Play
-pub mod Memory
-pub mod Behind
-pub mod Parts
-pub mod Steps
-pub mod Acts
-pub mod Ends
+pub mod Alone
+pub mod Arithmetic
 pub mod Arriving
-pub mod StraightWords
-pub mod StraightTests
-pub mod Texts
-pub mod StraightPrinting
-pub mod StraightOperations
-pub mod StraightCharacters
-pub mod Straight
-pub mod Places
-pub mod Keeps
-pub mod Sim
-pub mod Entering
-pub mod Jumping
+pub mod Behind
+pub mod Bounds
+pub mod Branching
 pub mod Calling
-pub mod Opening
-pub mod PrintedTexts
+pub mod Chains
+pub mod CharacterTests
+pub mod Characters
+pub mod Codes
+pub mod Delivering
+pub mod Ends
+pub mod Entering
+pub mod Equalities
+pub mod Filled
+pub mod Fitting
+pub mod Flags
+pub mod Givens
+pub mod ItemOperands
+pub mod ItemsThatPrint
+pub mod Jumping
+pub mod Keeps
+pub mod Labels
 pub mod Leading
-mod Samples
-mod Stories
-mod Filled
-mod Types
-mod Chains
-mod Lengths
-mod Starts
+pub mod Lengths
+pub mod Memory
+pub mod Most
+pub mod Moving
+pub mod Naming
+pub mod Opening
+pub mod Operating
+pub mod Parts
+pub mod Places
+pub mod Play
+pub mod PrintedTexts
+pub mod Resuming
+pub mod Returning
+pub mod Samples
+pub mod Sim
+pub mod SingleSteps
 pub mod Sizes
-pub mod SizesOfTrees
-pub mod SizesOfPrograms
 pub mod SizesOfChecked
-mod SizesSamples
+pub mod SizesOfExpressions
+pub mod SizesOfInstructions
+pub mod SizesOfPrograms
+pub mod SizesOfTexts
+pub mod SizesOfTrees
+pub mod SizesSamples
+pub mod Stepping
+pub mod Steps
+pub mod Stories
+pub mod Taking
+pub mod Temporaries
+pub mod Tests
+pub mod Texts
+pub mod Types
+pub mod Variables

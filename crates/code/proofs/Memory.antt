@@ -20,10 +20,12 @@ module _ (memory : List ℕ) (at word : ℕ) where
   length_with = length-set (slice_set memory at (word / 256)) (at + 1) (word % 256) ∙ length-set memory at (word / 256)
 
   pub drop_with : (n : ℕ) → at + 1 < n → drop n (with_word memory at word) ≡ drop n memory
-  drop_with n h = drop-set-lt n (slice_set memory at (word / 256)) (at + 1) (word % 256) h ∙ drop-set-lt n memory at (word / 256) (omega (arith, h))
+  drop_with n h = drop-set-lt n (slice_set memory at (word / 256)) (at + 1) (word % 256) h
+      ∙ drop-set-lt n memory at (word / 256) (omega (arith, h))
 
   pub byte_other : (q : ℕ) → q ≢ at → q ≢ (at + 1) → slice_index (with_word memory at word) q ≡ slice_index memory q
-  byte_other q a b = get_or-set_other (slice_set memory at (word / 256)) (at + 1) q (word % 256) 0 b ∙ get_or-set_other memory at q (word / 256) 0 a
+  byte_other q a b = get_or-set_other (slice_set memory at (word / 256)) (at + 1) q (word % 256) 0 b
+      ∙ get_or-set_other memory at q (word / 256) 0 a
 
   pub word_other : (q : ℕ) → (q + 1 < at) ⊎ (at + 1 < q) → word_at (with_word memory at word) q ≡ word_at memory q
   word_other q (inl h) =
@@ -37,18 +39,24 @@ module _ (memory : List ℕ) (at word : ℕ) where
 
   pub word_here : at + 1 < length memory → word_at (with_word memory at word) at ≡ word
   word_here h =
-      let high = get_or-set_other (slice_set memory at (word / 256)) (at + 1) at (word % 256) 0 (λ e. omega (arith, e)) ∙ get_or-set_same memory at (word / 256) 0 (omega (arith, h)) in
-      let low = get_or-set_same (slice_set memory at (word / 256)) (at + 1) (word % 256) 0 (omega (arith, h, length-set memory at (word / 256))) in
+      let high = get_or-set_other (slice_set memory at (word / 256)) (at + 1) at (word % 256) 0 (λ e. omega (arith, e))
+      ∙ get_or-set_same memory at (word / 256) 0 (omega (arith, h)) in
+      let low = get_or-set_same (slice_set memory at (word / 256)) (at + 1) (word % 256) 0
+      (omega (arith, h, length-set memory at (word / 256))) in
       let whole : word / 256 * 256 + word % 256 ≡ word = omega arith in
-      ap (λ x. x * 256 + slice_index (with_word memory at word) (at + 1)) high ∙ ap (λ x. word / 256 * 256 + x) low ∙ whole
+      ap (λ x. x * 256 + slice_index (with_word memory at word) (at + 1)) high ∙ ap (λ x. word / 256 * 256 + x) low
+      ∙ whole
 
 -- memory that is the same from an address on holds the same bytes there
-pub same_on : (base q : ℕ) (memory other : List ℕ) → drop base other ≡ drop base memory → base ≤ q → drop q other ≡ drop q memory
+pub same_on : (base q : ℕ) (memory other : List ℕ) → drop base other ≡ drop base memory → base ≤ q
+    → drop q other ≡ drop q memory
 same_on base q memory other kept high =
     let e : base + (q - base) ≡ q = omega (arith, high) in
-    subst (λ x. drop x other ≡ drop x memory) e (sym (drop-drop (q - base) base other) ∙ ap (drop (q - base)) kept ∙ drop-drop (q - base) base memory)
+    subst (λ x. drop x other ≡ drop x memory) e (sym (drop-drop (q - base) base other) ∙ ap (drop (q - base)) kept
+    ∙ drop-drop (q - base) base memory)
 
-pub holds_on : (base q : ℕ) (memory other bytes : List ℕ) → drop base other ≡ drop base memory → base ≤ q → Holds memory q bytes → Holds other q bytes
+pub holds_on : (base q : ℕ) (memory other bytes : List ℕ) → drop base other ≡ drop base memory → base ≤ q
+    → Holds memory q bytes → Holds other q bytes
 holds_on base q memory other bytes kept high h = ap (take (length bytes)) (same_on base q memory other kept high) ∙ h
 
 -- 240 words of globals behind the header and below static memory, which begins at `base`
@@ -78,7 +86,8 @@ apart a b ne = go (cases_lt a b)
         go2 (inl e) h = absurd (ne e)
         go2 (inr n) h = inr (omega (arith, h))
 
-pub writes_ground : (base : ℕ) (memory : List ℕ) (variable word : ℕ) → Ground base memory → 16 ≤ variable → variable < 256 → Written base memory variable word
+pub writes_ground : (base : ℕ) (memory : List ℕ) (variable word : ℕ) → Ground base memory → 16 ≤ variable
+    → variable < 256 → Written base memory variable word
 writes_ground base memory variable word ground low high =
     let at = global_address memory variable in
     let m1 = with_word memory at word in
@@ -86,23 +95,33 @@ writes_ground base memory variable word ground low high =
     let b : at + 1 < base = omega (arith, ground.below, low, high) in
     let g1 = byte_other memory at word 12 (λ e. omega (arith, a, e)) (λ e. omega (arith, a, e)) in
     let g2 = byte_other memory at word 13 (λ e. omega (arith, a, e)) (λ e. omega (arith, a, e)) in
-    let same : globals_of m1 ≡ globals_of memory = ap (λ x. x * 256 + slice_index m1 13) g1 ∙ ap (λ x. slice_index memory 12 * 256 + x) g2 in
+    let same : globals_of m1 ≡ globals_of memory =
+    ap (λ x. x * 256 + slice_index m1 13) g1 ∙ ap (λ x. slice_index memory 12 * 256 + x) g2 in
     record {
-      ground = record { above = omega (arith, same, ground.above); below = omega (arith, same, ground.below); long = omega (arith, length_with memory at word, ground.long) };
+      ground = record {
+        above = omega (arith, same, ground.above);
+        below = omega (arith, same, ground.below);
+        long = omega (arith, length_with memory at word, ground.long);
+      };
       kept = drop_with memory at word base b;
       size = length_with memory at word;
-      is = ap (λ g. word_at m1 (g + 2 * (variable - 16))) same ∙ word_here memory at word (omega (arith, b, ground.long));
-      other = λ v from ne. ap (λ g. word_at m1 (g + 2 * (v - 16))) same ∙ word_other memory at word (global_address memory v) (away v from (apart v variable ne));
+      is = ap (λ g. word_at m1 (g + 2 * (variable - 16))) same
+          ∙ word_here memory at word (omega (arith, b, ground.long));
+      other = λ v from ne. ap (λ g. word_at m1 (g + 2 * (v - 16))) same
+          ∙ word_other memory at word (global_address memory v) (away v from (apart v variable ne));
       globals = same;
     }
   where
-    away : (v : ℕ) → 16 ≤ v → (v < variable) ⊎ (variable < v) → (global_address memory v + 1 < global_address memory variable) ⊎ (global_address memory variable + 1 < global_address memory v)
+    away : (v : ℕ) → 16 ≤ v → (v < variable) ⊎ (variable < v)
+        → (global_address memory v + 1 < global_address memory variable) ⊎ (global_address memory variable + 1
+        < global_address memory v)
     away v from (inl h) = inl (omega (arith, h, from, low))
     away v from (inr h) = inr (omega (arith, h, from, low))
 
 -- The globals of the source
 
-module _ (story globals memory : List ℕ) (ground : Ground (static_base_of story) memory) (few : length globals ≤ 232) (stored : Stored story globals memory) where
+module _ (story globals memory : List ℕ) (ground : Ground (static_base_of story) memory) (few : length globals ≤ 232)
+    (stored : Stored story globals memory) where
   same_globals : globals_of memory ≡ globals_of story
   same_globals =
       let a = stored.header 12 (omega arith) in
@@ -115,25 +134,31 @@ module _ (story globals memory : List ℕ) (ground : Ground (static_base_of stor
       let e : globals_of memory + 2 * (16 + g - 16) ≡ globals_of story + 2 * g = omega (arith, same_globals) in
       ap (word_at memory) e ∙ stored.values g h
 
-  header_kept : (variable word : ℕ) (q : ℕ) → q < 64 → slice_index (with_variable memory variable word) q ≡ slice_index story q
+  header_kept : (variable word : ℕ) (q : ℕ) → q < 64
+      → slice_index (with_variable memory variable word) q ≡ slice_index story q
   header_kept variable word q h =
-      byte_other memory (global_address memory variable) word q (λ e. omega (arith, h, e, ground.above)) (λ e. omega (arith, h, e, ground.above)) ∙ stored.header q h
+      byte_other memory (global_address memory variable) word q (λ e. omega (arith, h, e, ground.above))
+      (λ e. omega (arith, h, e, ground.above)) ∙ stored.header q h
 
   -- a variable of the compiler is written
-  pub stored_temporary : (variable word : ℕ) → 248 ≤ variable → variable < 256 → Stored story globals (with_variable memory variable word)
+  pub stored_temporary : (variable word : ℕ) → 248 ≤ variable → variable < 256
+      → Stored story globals (with_variable memory variable word)
   stored_temporary variable word low high =
       let w = writes_ground (static_base_of story) memory variable word ground (omega (arith, low)) high in
       record {
         size = w.size ∙ stored.size;
         header = header_kept variable word;
         kept = w.kept ∙ stored.kept;
-        values = λ g h. word_other memory (global_address memory variable) word (globals_of story + 2 * g) (inl (omega (arith, h, few, low, same_globals))) ∙ stored.values g h;
+        values = λ g h. word_other memory (global_address memory variable) word (globals_of story + 2 * g)
+            (inl (omega (arith, h, few, low, same_globals))) ∙ stored.values g h;
       }
 
   -- a global of the source is written
-  pub stored_global : (g word : ℕ) → g < length globals → Stored story (slice_set globals g word) (with_variable memory (16 + g) word)
+  pub stored_global : (g word : ℕ) → g < length globals
+      → Stored story (slice_set globals g word) (with_variable memory (16 + g) word)
   stored_global g word within =
-      let w = writes_ground (static_base_of story) memory (16 + g) word ground (omega arith) (omega (arith, within, few)) in
+      let w = writes_ground (static_base_of story) memory (16 + g) word ground (omega arith)
+      (omega (arith, within, few)) in
       record {
         size = w.size ∙ stored.size;
         header = header_kept (16 + g) word;
@@ -141,16 +166,20 @@ module _ (story globals memory : List ℕ) (ground : Ground (static_base_of stor
         values = λ k h. value k (omega (arith, h, length-set globals g word)) (cases_eq k g);
       }
     where
-      value : (k : ℕ) → k < length globals → (k ≡ g) ⊎ (k ≡ g → ⊥) → word_at (with_variable memory (16 + g) word) (globals_of story + 2 * k) ≡ slice_index (slice_set globals g word) k
+      value : (k : ℕ) → k < length globals → (k ≡ g) ⊎ (k ≡ g → ⊥)
+          → word_at (with_variable memory (16 + g) word) (globals_of story + 2 * k)
+          ≡ slice_index (slice_set globals g word) k
       value k h (inl e) =
           let place : globals_of story + 2 * k ≡ global_address memory (16 + g) = omega (arith, e, same_globals) in
           ap (word_at (with_variable memory (16 + g) word)) place
-          ∙ word_here memory (global_address memory (16 + g)) word (omega (arith, within, few, ground.below, ground.long))
+          ∙ word_here memory (global_address memory (16 + g)) word
+          (omega (arith, within, few, ground.below, ground.long))
           ∙ sym (ap (slice_index (slice_set globals g word)) e ∙ get_or-set_same globals g word 0 within)
       value k h (inr ne) =
           word_other memory (global_address memory (16 + g)) word (globals_of story + 2 * k) (away (apart k g ne))
           ∙ stored.values k h ∙ sym (get_or-set_other globals g k word 0 ne)
         where
-          away : (k < g) ⊎ (g < k) → (globals_of story + 2 * k + 1 < global_address memory (16 + g)) ⊎ (global_address memory (16 + g) + 1 < globals_of story + 2 * k)
+          away : (k < g) ⊎ (g < k) → (globals_of story + 2 * k + 1 < global_address memory (16 + g)) ⊎
+              (global_address memory (16 + g) + 1 < globals_of story + 2 * k)
           away (inl h) = inl (omega (arith, h, same_globals))
           away (inr h) = inr (omega (arith, h, same_globals))

@@ -24,30 +24,45 @@ use Rattle.code.proofs.Keeps.{enter_keeps, from_no_fault, exec_no_fault}
 use Rattle.code.proofs.Sim.{ItemsLead, led_on, sim}
 use Rattle.code.proofs.Entering.{enter_led}
 
-module _ (story : List ℕ) (a : Addresses) (p : ProgramOf) (accepted : IsAccepted p) (holds : HoldsProgram story a p) (full : ℕ) (lines : List (List ℕ)) where
+module _ (story : List ℕ) (a : Addresses) (p : ProgramOf) (accepted : IsAccepted p) (holds : HoldsProgram story a p)
+    (full : ℕ) (lines : List (List ℕ)) where
   abbrev begins : Situation
   begins = record { locals = []; world = first_world p.globals full lines }
 
   -- the first instruction calls Main
-  calls_main : step (first_next story full) (first_state story) ≡ call_packed (first_next story full) (word_at story 6 + 3) None (slice_index a.routines p.main) [] (first_state story)
+  calls_main : step (first_next story full) (first_state story)
+      ≡ call_packed (first_next story full) (word_at story 6 + 3) None (slice_index a.routines p.main) []
+      (first_state story)
   unfolding perform bytes_of
   calls_main =
       let word = slice_index a.routines p.main in
       let i = plain Call1n (Large word ∷ []) in
       step_is (first_next story full) (first_state story) (first_state story) i (word ∷ [])
-      (record { least = omega arith; most = omega arith; operands_fit = fits_one (Large word) (holds.routines p.main accepted.main).word; result_fits = tt; branch_fits = tt })
-      (first_held story (word_at story 6) i (plain Quit [] ∷ []) (omega (arith, holds.start_above, holds.globals_above, holds.globals_below), holds.start))
+      (record {
+        least = omega arith;
+        most = omega arith;
+        operands_fit = fits_one (Large word) (holds.routines p.main accepted.main).word;
+        result_fits = tt;
+        branch_fits = tt;
+      })
+      (first_held story (word_at story 6) i (plain Quit [] ∷ []) (
+        omega (arith, holds.start_above, holds.globals_above, holds.globals_below),
+        holds.start,
+      ))
       (one_operand (first_state story) (first_state story) (Large word) word (large_value (first_state story) word))
 
   stored : Stored story p.globals story
   stored = record { size = refl; header = λ q h. refl; kept = refl; values = holds.globals }
 
   module _ (follows : ItemsFollow) (led : ItemsLead story a p full) where
-    does : Does full (first_next story full) (first_state story) (first_world p.globals full lines) (meaning p full lines)
+    does : Does full (first_next story full) (first_state story) (first_world p.globals full lines)
+        (meaning p full lines)
     does =
         let f = follows p accepted full lines in
-        led_on story a p full f.count (sim story a p full led f.count) (first_next story full) (first_state story) (first_world p.globals full lines) (stack.start p full lines) (meaning p full lines)
-        (enter_led story a p accepted holds full (word_at story 6) story [] p.main [] [] begins accepted.main stored refl (λ k d h. absurd (omega (arith, h))) (omega arith) calls_main)
+        led_on story a p full f.count (sim story a p full led f.count) (first_next story full) (first_state story)
+        (first_world p.globals full lines) (stack.start p full lines) (meaning p full lines)
+        (enter_led story a p accepted holds full (word_at story 6) (first_state story) story [] p.main [] [] begins
+        accepted.main stored refl (λ k d h. absurd (omega (arith, h))) (omega arith) calls_main)
         (enter_keeps p p.main [] [] begins) f.comes
 
     opened : opening story full ≡ Some does.whole
@@ -58,10 +73,13 @@ module _ (story : List ℕ) (a : Addresses) (p : ProgramOf) (accepted : IsAccept
 
     pub plays_it : Plays story p full lines
     plays_it = record {
-      texts = ap (λ (o : Option Whole). map (λ (w : Whole). w.text) (entries o (λ whole. plays_from full whole lines))) opened ∙ sym does.texts;
-      place = ap (λ (o : Option Whole). last_place (entries o (λ whole. plays_from full whole lines))) opened ∙ sym does.place;
+      texts = ap (λ (o : Option Whole). map (λ (w : Whole). w.text) (entries o (λ whole. plays_from full whole lines)))
+          opened ∙ sym does.texts;
+      place = ap (λ (o : Option Whole). last_place (entries o (λ whole. plays_from full whole lines))) opened
+          ∙ sym does.place;
       no_fault =
           let f = follows p accepted full lines in
-          from_no_fault (first_world p.globals full lines) (stack.start p full lines) (stack.exec p f.count) (meaning p full lines)
+          from_no_fault (first_world p.globals full lines) (stack.start p full lines) (stack.exec p f.count)
+          (meaning p full lines)
           (enter_keeps p p.main [] [] begins) (λ s e. exec_no_fault p f.count s (meaning p full lines) e) f.comes;
     }

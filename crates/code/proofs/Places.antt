@@ -1,203 +1,220 @@
--- Where items stand: their sizes, their places and their bytes.
-use Rattle.std.proofs.Common.{◌≡◌, ◌⊎◌, inl, inr, ℕ, zero, suc, ◌+◌, ◌<◌, ◌≤◌, List, [], ◌∷◌, ◌++◌, length, Some, Bool, true, false, refl, ap, subst, arith, length-append}
-use Rattle.std.specs.Prelude.{slice_get, slice_index, nat_lt, nat_le, if◌then◌else◌}
+-- Where items stand, and their bytes.
+use Rattle.std.proofs.Common.{◌≡◌, ◌⊎◌, inl, inr, ℕ, zero, suc, ◌+◌, ◌-◌, ◌<◌, ◌≤◌, List, [], ◌∷◌, length, Some, true, false, refl, sym, ap, ◌∙◌, subst, arith, length-append}
+use Rattle.std.specs.Prelude.{slice_get, slice_index, nat_lt}
 use Rattle.std.proofs.lemmas.Bool.{cases_lt, lt-ltb, le-ltb}
-use Rattle.zcore.specs.declared.instruction.Operand.{Operand}
-use Rattle.zcore.specs.declared.instruction.Operand.TheVariants.{Large}
-use Rattle.zcore.specs.declared.instruction.Operation.TheVariants.{CallVs, CallVs2}
-use Rattle.zcore.specs.Instruction.{Instruction, bytes_of}
 use Rattle.zcore.specs.Parts.{jump_target}
 use Rattle.zcore.specs.Text.{Holds}
 use Rattle.zcore.proofs.Holding.{holds_append}
-use Rattle.expressions.specs.declared.tree.Binary.{Binary}
-use Rattle.expressions.specs.declared.tree.Binary.TheVariants as binaries
-use Rattle.expressions.specs.declared.tree.Prefix.{Prefix}
-use Rattle.expressions.specs.declared.tree.Prefix.TheVariants as prefixes
-use Rattle.expressions.specs.declared.tree.Step.{Step}
-use Rattle.expressions.specs.declared.tree.Step.TheVariants as steps
+use Rattle.forms.specs.declared.layout.Part.{Part}
+use Rattle.forms.specs.Layout.{first, offset_over, part_size, lefts}
 use Rattle.items.specs.Items.{Item}
 use Rattle.items.specs.Items as items
 use Rattle.code.specs.Addresses.{Addresses}
-use Rattle.code.specs.Instructions.{giving, take_arguments, arguments, argument_count, call_operation, call_with, jump_offset}
-use Rattle.code.specs.Bytes.{bytes_of_all, item_bytes, item_size, nowhere, code_size, place_of, items_bytes}
+use Rattle.code.specs.Instructions.{jump_offset}
+use Rattle.code.specs.Bytes.{item_bytes, target_of, part_of, parts_of, lefts_of, code_size, place_of, offset_of, items_bytes, code_bytes}
+use Rattle.code.proofs.Lengths.{item_length}
 
--- Sizes
+-- How many bytes there are on to the end
 
--- two instructions of one size at the end of others
-same_end : (xs : List Instruction) (i j : Instruction) → length (bytes_of i) ≡ length (bytes_of j)
-    → length (bytes_of_all (xs ++ i ∷ [])) ≡ length (bytes_of_all (xs ++ j ∷ []))
-same_end [] i j e = omega (arith, e, length-append (bytes_of i) [], length-append (bytes_of j) [])
-same_end (x ∷ xs) i j e =
-    let more = same_end xs i j e in
-    omega (arith, more, length-append (bytes_of x) (bytes_of_all (xs ++ i ∷ [])), length-append (bytes_of x) (bytes_of_all (xs ++ j ∷ [])))
+first_is : (xs : List ℕ) → first xs ≡ slice_index xs 0
+first_is [] = refl
+first_is (x ∷ xs) = refl
 
--- the bytes of a call are as many, whatever it calls
-call_length : (several : Bool) (os : List Operand) (x y : ℕ)
-    → length (bytes_of (giving (if several then CallVs else CallVs2) (Large x ∷ os) 0)) ≡ length (bytes_of (giving (if several then CallVs else CallVs2) (Large y ∷ os) 0))
-unfolding bytes_of
-call_length true os x y = refl
-call_length false os x y = refl
+-- the part of a number, and what there is behind it
+record Split (k : ℕ) (ps : List Part) (n : ℕ) (x : Part) : Type 0 where
+  rest : List ℕ
+  here : slice_index (lefts k ps) n ≡ part_size (k + n) x rest + slice_index (lefts k ps) (suc n)
+  at : (j : ℕ) → slice_index rest j ≡ slice_index (lefts k ps) (suc n + j)
 
-module _ (a : Addresses) (places : ℕ → ℕ) (at : ℕ) where
-  prefix_length : (op : Prefix) → length (item_bytes a places at (items.apply_prefix op)) ≡ item_size (items.apply_prefix op)
-  unfolding bytes_of
-  prefix_length prefixes.Minus = refl
-  prefix_length prefixes.Complement = refl
-  prefix_length prefixes.Not = refl
+split : (k : ℕ) (ps : List Part) (n : ℕ) (x : Part) → slice_get ps n ≡ Some x → Split k ps n x
+split k [] n x e = absurd (cc)
+split k (y ∷ ps) zero x e =
+    let rest = lefts (k + 1) ps in
+    let same : y ≡ x = cc in
+    let number : k ≡ k + 0 = omega arith in
+    record {
+      rest = rest;
+      here = ap (λ p. part_size k p rest + first rest) same ∙ ap (λ n. part_size n x rest + first rest) number
+          ∙ ap (λ n. part_size (k + 0) x rest + n) (first_is rest);
+      at = λ j. let number : suc j ≡ suc zero + j = omega arith in ap (slice_index (lefts k (y ∷ ps))) number;
+    }
+split k (y ∷ ps) (suc n) x e =
+    let s = split (k + 1) ps n x e in
+    let number : k + 1 + n ≡ k + suc n = omega arith in
+    record {
+      rest = s.rest;
+      here = s.here ∙ ap (λ i. part_size i x s.rest + slice_index (lefts (k + 1) ps) (suc n)) number;
+      at = λ j. let number : suc (suc n + j) ≡ suc (suc n) + j = omega arith in
+          s.at j ∙ ap (slice_index (lefts k (y ∷ ps))) number;
+    }
 
-  binary_length : (op : Binary) → length (item_bytes a places at (items.operate op)) ≡ item_size (items.operate op)
-  unfolding bytes_of
-  binary_length binaries.AndAlso = refl
-  binary_length binaries.OrElse = refl
-  binary_length binaries.Add = refl
-  binary_length binaries.Subtract = refl
-  binary_length binaries.Multiply = refl
-  binary_length binaries.Divide = refl
-  binary_length binaries.Remainder = refl
-  binary_length binaries.And = refl
-  binary_length binaries.Or = refl
+falls : (k : ℕ) (ps : List Part) (m n : ℕ) → m ≤ n → slice_index (lefts k ps) n ≤ slice_index (lefts k ps) m
+falls k [] zero zero h = omega arith
+falls k [] zero (suc n) h = omega arith
+falls k [] (suc m) n h = omega (arith, empty m n h)
+  where
+    empty : (m n : ℕ) → suc m ≤ n → slice_index (lefts k []) n ≡ 0
+    empty m zero h = absurd (omega (arith, h))
+    empty m (suc n) h = refl
+falls k (y ∷ ps) zero zero h = omega arith
+falls k (y ∷ ps) zero (suc n) h = let more = falls (k + 1) ps zero n (omega arith) in
+    omega (arith, more, first_is (lefts (k + 1) ps))
+falls k (y ∷ ps) (suc m) zero h = absurd (omega (arith, h))
+falls k (y ∷ ps) (suc m) (suc n) h = falls (k + 1) ps m n (omega (arith, h))
 
-  called_length : (r count : ℕ) → length (item_bytes a places at (items.call r count)) ≡ item_size (items.call r count)
-  called_length r count =
-      let n = argument_count count in
-      let xs = take_arguments n in
-      let i = giving (call_operation n) (Large (slice_index a.routines r) ∷ arguments n) 0 in
-      let j = giving (call_operation n) (Large (slice_index nowhere.routines r) ∷ arguments n) 0 in
-      let e = same_end xs i j (call_length (nat_le n 3) (arguments n) (slice_index a.routines r) (slice_index nowhere.routines r)) in
-      omega (arith, e, length-append (bytes_of_all (xs ++ i ∷ [])) [], length-append (bytes_of_all (xs ++ j ∷ [])) [])
+at_end : (k : ℕ) (ps : List Part) (n : ℕ) → length ps ≤ n → slice_index (lefts k ps) n ≡ 0
+at_end k [] zero h = refl
+at_end k [] (suc n) h = refl
+at_end k (y ∷ ps) zero h = absurd (omega (arith, h))
+at_end k (y ∷ ps) (suc n) h = at_end (k + 1) ps n (omega (arith, h))
 
-  -- the size of an item depends on no address and no place
-  pub item_length : (i : Item) → length (item_bytes a places at i) ≡ item_size i
-  unfolding bytes_of
-  item_length (items.push_number n) = refl
-  item_length (items.push_variable x) = refl
-  item_length (items.keep x) = refl
-  item_length (items.step_before op x) = refl
-  item_length (items.step_after x op) = refl
-  item_length (items.apply_prefix op) = prefix_length op
-  item_length (items.operate op) = binary_length op
-  item_length (items.compare op) = refl
-  item_length (items.equal op) = refl
-  item_length items.first_equal = refl
-  item_length items.also_equal = refl
-  item_length items.drop_below = refl
-  item_length items.truth = refl
-  item_length items.drop = refl
-  item_length (items.print_text bytes) = refl
-  item_length items.print_character = refl
-  item_length items.print_number = refl
-  item_length items.new_line = refl
-  item_length items.quit = refl
-  item_length (items.if_zero target) = refl
-  item_length (items.jump target) = refl
-  item_length (items.back target) = refl
-  item_length (items.call r n) = called_length r n
-  item_length items.return = refl
-
--- an instruction has a byte
-call_some : (several : Bool) (os : List Operand) (x : ℕ) → 1 ≤ length (bytes_of (giving (if several then CallVs else CallVs2) (Large x ∷ os) 0))
-unfolding bytes_of
-call_some true os x = omega arith
-call_some false os x = omega arith
-
-call_with_some : (r n : ℕ) → 1 ≤ length (bytes_of_all (call_with nowhere r n) ++ [])
-unfolding bytes_of
-call_with_some r zero = omega arith
-call_with_some r (suc n) = omega arith
-
-called_some : (r count : ℕ) → 1 ≤ item_size (items.call r count)
-called_some r count = call_with_some r (argument_count count)
-
-prefix_some : (op : Prefix) → 1 ≤ item_size (items.apply_prefix op)
-unfolding bytes_of
-prefix_some prefixes.Minus = omega arith
-prefix_some prefixes.Complement = omega arith
-prefix_some prefixes.Not = omega arith
-
-step_some : (op : Step) (x : _) → 1 ≤ item_size (items.step_before op x)
-unfolding bytes_of
-step_some steps.Increment x = omega arith
-step_some steps.Decrement x = omega arith
-
--- and so has an item
-pub item_some : (i : Item) → 1 ≤ item_size i
-unfolding bytes_of
-item_some (items.push_number n) = omega arith
-item_some (items.push_variable x) = omega arith
-item_some (items.keep x) = omega arith
-item_some (items.step_before op x) = step_some op x
-item_some (items.step_after x op) = omega arith
-item_some (items.apply_prefix op) = prefix_some op
-item_some (items.operate op) = omega arith
-item_some (items.compare op) = omega arith
-item_some (items.equal op) = omega arith
-item_some items.first_equal = omega arith
-item_some items.also_equal = omega arith
-item_some items.drop_below = omega arith
-item_some items.truth = omega arith
-item_some items.drop = omega arith
-item_some (items.print_text bytes) = omega arith
-item_some items.print_character = omega arith
-item_some items.print_number = omega arith
-item_some items.new_line = omega arith
-item_some items.quit = omega arith
-item_some (items.if_zero target) = omega arith
-item_some (items.jump target) = omega arith
-item_some (items.back target) = omega arith
-item_some (items.call r n) = called_some r n
-item_some items.return = omega arith
+part_at : (is : List Item) (n : ℕ) (i : Item) → slice_get is n ≡ Some i → slice_get (parts_of is) n ≡ Some (part_of i)
+part_at [] n i e = absurd (cc)
+part_at (y ∷ is) zero i e = let same : y ≡ i = cc in ap (λ z. Some (part_of z)) same
+part_at (y ∷ is) (suc n) i e = part_at is n i e
 
 -- Places
 
-pub next_place : (is : List Item) (n : ℕ) (i : Item) → slice_get is n ≡ Some i → place_of is (suc n) ≡ place_of is n + item_size i
-next_place [] n i e = absurd (cc)
-next_place (y ∷ is) zero i e = let same : y ≡ i = cc in let size = ap item_size same in omega (arith, size)
-next_place (y ∷ is) (suc n) i e = let more = next_place is n i e in omega (arith, more)
-
-pub rises : (is : List Item) (m n : ℕ) → m ≤ n → place_of is m ≤ place_of is n
-rises [] zero zero h = omega arith
-rises [] zero (suc n) h = omega arith
-rises [] (suc m) zero h = omega arith
-rises [] (suc m) (suc n) h = omega arith
-rises (y ∷ is) zero n h = omega arith
-rises (y ∷ is) (suc m) zero h = absurd (omega (arith, h))
-rises (y ∷ is) (suc m) (suc n) h = let more = rises is m n (omega (arith, h)) in omega (arith, more)
-
-pub rises_strictly : (is : List Item) (m n : ℕ) → m < n → m < length is → place_of is m < place_of is n
-rises_strictly [] m n h within = absurd (omega (arith, within))
-rises_strictly (y ∷ is) zero zero h within = absurd (omega (arith, h))
-rises_strictly (y ∷ is) zero (suc n) h within = let some = item_some y in omega (arith, some)
-rises_strictly (y ∷ is) (suc m) zero h within = absurd (omega (arith, h))
-rises_strictly (y ∷ is) (suc m) (suc n) h within = let more = rises_strictly is m n (omega (arith, h)) (omega (arith, within)) in omega (arith, more)
+pub starts : (is : List Item) → place_of is 0 ≡ 0
+starts is = let e = first_is (lefts_of is) in omega (arith, e)
 
 pub ends_by : (is : List Item) (n : ℕ) → place_of is n ≤ code_size is
-ends_by [] zero = omega arith
-ends_by [] (suc n) = omega arith
-ends_by (y ∷ is) zero = omega arith
-ends_by (y ∷ is) (suc n) = let more = ends_by is n in omega (arith, more)
+ends_by is n = omega arith
+
+pub ends_at : (is : List Item) (n : ℕ) → length (parts_of is) ≤ n → place_of is n ≡ code_size is
+ends_at is n h = let e = at_end 0 (parts_of is) n h in omega (arith, e)
+
+pub rises : (is : List Item) (m n : ℕ) → m ≤ n → place_of is m ≤ place_of is n
+rises is m n h = let e = falls 0 (parts_of is) m n h in omega (arith, e)
+
+pub branch_offset : (is : List Item) (rest : List ℕ) (n target : ℕ)
+    → ((j : ℕ) → slice_index rest j ≡ slice_index (lefts_of is) (suc n + j))
+    → 2 + (place_of is target - place_of is (n + 1)) ≡ offset_over (target - (n + 1)) rest
+branch_offset is rest n target at = go (cases_lt n target)
+  where
+    next : n + 1 ≡ suc n + 0
+    next = omega arith
+
+    behind : first rest ≡ slice_index (lefts_of is) (n + 1)
+    behind = first_is rest ∙ at 0 ∙ sym (ap (slice_index (lefts_of is)) next)
+
+    go : (n < target) ⊎ (target ≤ n) → 2 + (place_of is target - place_of is (n + 1))
+        ≡ offset_over (target - (n + 1)) rest
+    go (inl h) =
+        let number : suc n + (target - (n + 1)) ≡ target = omega (arith, h) in
+        let there = at (target - (n + 1)) ∙ ap (slice_index (lefts_of is)) number in
+        let low = falls 0 (parts_of is) (n + 1) target (omega (arith, h)) in
+        let most = falls 0 (parts_of is) 0 (n + 1) (omega arith) in
+        omega (arith, behind, there, low, most, first_is (lefts_of is))
+    go (inr h) =
+        let none : target - (n + 1) ≡ 0 = omega (arith, h) in
+        let there = ap (slice_index rest) none ∙ sym (first_is rest) in
+        let low = rises is target (n + 1) (omega (arith, h)) in
+        omega (arith, there, low)
+
+-- the next item stands behind an item's bytes
+pub next_place : (a : Addresses) (is : List Item) (n : ℕ) (i : Item) → slice_get is n ≡ Some i
+    → place_of is (n + 1) ≡ place_of is n + length (item_bytes a (offset_of (place_of is) n i) i)
+next_place a is n i e =
+    let s = split 0 (parts_of is) n (part_of i) (part_at is n i e) in
+    let number : 0 + n ≡ n = omega arith in
+    let same = ap (λ k. part_size k (part_of i) s.rest) number in
+    let size = item_length a n s.rest (offset_of (place_of is) n i) i (λ target t. leads i target t s.rest s.at) in
+    let next : n + 1 ≡ suc n = omega arith in
+    let behind = ap (slice_index (lefts_of is)) next in
+    let low = falls 0 (parts_of is) 0 n (omega arith) in
+    omega (arith, s.here, same, size, behind, low, first_is (lefts_of is))
+  where
+    leads : (i : Item) (target : ℕ) → target_of i ≡ Some target → (rest : List ℕ)
+        → ((j : ℕ) → slice_index rest j ≡ slice_index (lefts_of is) (suc n + j))
+        → offset_of (place_of is) n i ≡ offset_over (target - (n + 1)) rest
+    leads (items.branch test os when t) target e rest at =
+        let same : t ≡ target = cc in
+        branch_offset is rest n t at ∙ ap (λ (x : ℕ). offset_over (x - (n + 1)) rest) same
+    leads i target e rest at = absurd (cc)
 
 -- Bytes
 
-moved : (memory : List ℕ) (a : Addresses) (places : ℕ → ℕ) (i : Item) (at at1 off off1 : ℕ) → at ≡ at1 → off ≡ off1 → Holds memory at (item_bytes a places off i) → Holds memory at1 (item_bytes a places off1 i)
-moved memory a places i at at1 off off1 e f h = subst (λ x. Holds memory x (item_bytes a places off1 i)) e (subst (λ x. Holds memory at (item_bytes a places x i)) f h)
+-- where a list of items ends
+abbrev pub Follow : Addresses → (ℕ → ℕ) → ℕ → List Item → Type 0
+Follow a places from is = (n : ℕ) (i : Item) → slice_get is n ≡ Some i
+    → places (from + n + 1) ≡ places (from + n) + length (item_bytes a (offset_of places (from + n) i) i)
+
+one_on : (a : Addresses) (places : ℕ → ℕ) (from : ℕ) (y : Item) (is : List Item) → Follow a places from (y ∷ is)
+    → Follow a places (from + 1) is
+one_on a places from y is f n i e =
+    let number : from + suc n ≡ from + 1 + n = omega arith in
+    subst (λ k. places (k + 1) ≡ places k + length (item_bytes a (offset_of places k i) i)) number (f (suc n) i e)
+
+first_on : (a : Addresses) (places : ℕ → ℕ) (from : ℕ) (y : Item) (is : List Item) → Follow a places from (y ∷ is)
+    → places (from + 1) ≡ places from + length (item_bytes a (offset_of places from y) y)
+first_on a places from y is f =
+    let number : from + 0 ≡ from = omega arith in
+    subst (λ k. places (k + 1) ≡ places k + length (item_bytes a (offset_of places k y) y)) number (f 0 y refl)
 
 -- the bytes of the item of a number
-pub item_holds : (memory : List ℕ) (a : Addresses) (places : ℕ → ℕ) (is : List Item) (at off n : ℕ) (i : Item)
-    → Holds memory at (items_bytes a places off is) → slice_get is n ≡ Some i → Holds memory (at + place_of is n) (item_bytes a places (off + place_of is n) i)
-item_holds memory a places [] at off n i h e = absurd (cc)
-item_holds memory a places (y ∷ is) at off zero i h e =
+pub item_holds : (memory : List ℕ) (a : Addresses) (places : ℕ → ℕ) (base : ℕ) (is : List Item) (from n : ℕ) (i : Item)
+    → Follow a places from is
+    → Holds memory (base + places from) (items_bytes a places from is) → slice_get is n ≡ Some i
+    → Holds memory (base + places (from + n)) (item_bytes a (offset_of places (from + n) i) i)
+item_holds memory a places base [] from n i f h e = absurd (cc)
+item_holds memory a places base (y ∷ is) from zero i f h e =
     let same : y ≡ i = cc in
-    let first = (holds_append memory at (item_bytes a places off y) (items_bytes a places (off + item_size y) is) h).0 in
-    moved memory a places i at (at + 0) off (off + 0) (omega arith) (omega arith) (subst (λ x. Holds memory at (item_bytes a places off x)) same first)
-item_holds memory a places (y ∷ is) at off (suc n) i h e =
-    let rest = (holds_append memory at (item_bytes a places off y) (items_bytes a places (off + item_size y) is) h).1 in
-    let there = subst (λ x. Holds memory (at + x) (items_bytes a places (off + item_size y) is)) (item_length a places off y) rest in
-    moved memory a places i (at + item_size y + place_of is n) (at + (item_size y + place_of is n)) (off + item_size y + place_of is n) (off + (item_size y + place_of is n))
-    (omega arith) (omega arith) (item_holds memory a places is (at + item_size y) (off + item_size y) n i there e)
+    let number : from ≡ from + 0 = omega arith in
+    let here = (holds_append memory (base + places from) (item_bytes a (offset_of places from y) y)
+    (items_bytes a places (from + 1) is) h).0 in
+    subst (λ k. Holds memory (base + places k) (item_bytes a (offset_of places k i) i)) number
+    (subst (λ z. Holds memory (base + places from) (item_bytes a (offset_of places from z) z)) same here)
+item_holds memory a places base (y ∷ is) from (suc n) i f h e =
+    let rest = (holds_append memory (base + places from) (item_bytes a (offset_of places from y) y)
+    (items_bytes a places (from + 1) is) h).1 in
+    let there : base + places from + length (item_bytes a (offset_of places from y) y) ≡ base + places (from + 1) =
+    omega (arith, first_on a places from y is f) in
+    let number : from + 1 + n ≡ from + suc n = omega arith in
+    subst (λ k. Holds memory (base + places k) (item_bytes a (offset_of places k i) i)) number
+    (item_holds memory a places base is (from + 1) n i (one_on a places from y is f)
+    (subst (λ q. Holds memory q (items_bytes a places (from + 1) is)) there rest) e)
+
+bytes_length : (a : Addresses) (places : ℕ → ℕ) (is : List Item) (from : ℕ) → Follow a places from is
+    → places from + length (items_bytes a places from is) ≡ places (from + length is)
+bytes_length a places [] from f =
+    let number : from + 0 ≡ from = omega arith in
+    let same = ap places number in
+    omega (arith, same)
+bytes_length a places (y ∷ is) from f =
+    let more = bytes_length a places is (from + 1) (one_on a places from y is f) in
+    let number : from + 1 + length is ≡ from + suc (length is) = omega arith in
+    let same = ap places number in
+    omega (
+      arith,
+      more,
+      same,
+      first_on a places from y is f,
+      length-append (item_bytes a (offset_of places from y) y) (items_bytes a places (from + 1) is),
+    )
+
+pub follow : (a : Addresses) (is : List Item) → Follow a (place_of is) 0 is
+follow a is n i e =
+    let number : n ≡ 0 + n = omega arith in
+    subst (λ k. place_of is (k + 1) ≡ place_of is k + length (item_bytes a (offset_of (place_of is) k i) i)) number
+    (next_place a is n i e)
+
+parts_length : (is : List Item) → length (parts_of is) ≡ length is
+parts_length [] = refl
+parts_length (i ∷ is) = ap suc (parts_length is)
+
+-- a routine's code has the bytes that its layout tells
+pub code_length : (a : Addresses) (is : List Item) → length (code_bytes a is) ≡ code_size is
+code_length a is =
+    let e = bytes_length a (place_of is) is 0 (follow a is) in
+    let number : 0 + length is ≡ length is = omega arith in
+    let last = ap (place_of is) number in
+    omega (arith, e, last, ends_at is (length is) (omega (arith, parts_length is)), starts is)
 
 -- Jumps
 
-leads_by : (base after target offset : ℕ) → (offset < 32768) ⊎ (32768 ≤ offset) → offset ≡ jump_offset after target → after < target + 32100 → target < after + 32100
+leads_by : (base after target offset : ℕ) → (offset < 32768) ⊎ (32768 ≤ offset) → offset ≡ jump_offset after target
+    → after < target + 32100 → target < after + 32100
     → jump_target (base + after) offset ≡ base + target
 leads_by base after target offset (inl h) e back ahead =
     let a : nat_lt offset 32768 ≡ true = lt-ltb _ _ h in
@@ -207,8 +224,10 @@ leads_by base after target offset (inr h) e back ahead =
     rw a (omega (arith, h, e, back, ahead))
 
 -- a jump's offset leads to its target, ahead or back
-pub offset_leads : (base after target : ℕ) → after < target + 32100 → target < after + 32100 → jump_target (base + after) (jump_offset after target) ≡ base + target
-offset_leads base after target back ahead = leads_by base after target (jump_offset after target) (cases_lt (jump_offset after target) 32768) refl back ahead
+pub offset_leads : (base after target : ℕ) → after < target + 32100 → target < after + 32100
+    → jump_target (base + after) (jump_offset after target) ≡ base + target
+offset_leads base after target back ahead =
+    leads_by base after target (jump_offset after target) (cases_lt (jump_offset after target) 32768) refl back ahead
 
 pub offset_small : (after target : ℕ) → jump_offset after target < 65536
 offset_small after target = omega arith

@@ -1,5 +1,5 @@
 -- Which state of the machine stands for a state of the machine of items.
-use Rattle.std.proofs.Common.{◌≡◌, ℕ, ◌+◌, ◌*◌, ◌<◌, ◌≤◌, List, [], ◌∷◌, ◌++◌, length, reverse, drop, slice_index, Option, Some, None}
+use Rattle.std.proofs.Common.{◌≡◌, ℕ, ◌+◌, ◌*◌, ◌<◌, ◌≤◌, List, [], ◌∷◌, ◌++◌, length, reverse, drop, slice_index, Option, None}
 use Rattle.std.specs.Prelude.{map}
 use Rattle.std.specs.List.{All}
 use Rattle.zcore.specs.declared.next.Next.{Next}
@@ -13,9 +13,11 @@ use Rattle.checker.specs.Resolved.{ProgramOf}
 use Rattle.checker.specs.World.{Outcome, World}
 use Rattle.checker.specs.Meaning.{routine_at}
 use Rattle.items.specs.Items.{Item, routine_items}
+use Rattle.items.specs.Laws.{IsDestination}
 use Rattle.items.specs.Stack.{Caller}
 use Rattle.items.specs.Stack as stack
 use Rattle.code.specs.Addresses.{Addresses}
+use Rattle.code.specs.Instructions.{call_result}
 use Rattle.code.specs.Bytes.{place_of}
 
 -- so many steps, one after another, lead from one point of a turn to another
@@ -30,7 +32,8 @@ pub record Does (full : ℕ) (here : Next) (s : State) (w : World) (outcome : Ou
   pub texts : outcome.texts ≡ w.texts ++ map (λ (v : Whole). v.text) (whole ∷ plays_from full whole w.lines)
   pub place : outcome.place ≡ last_place (whole ∷ plays_from full whole w.lines)
 
--- the memory of a story that runs: these are the globals of the source, and header, static and high memory are the story's
+-- the memory of a story that runs: these are the globals of the source, and header, static and high memory are the
+-- story's
 pub record Stored (story globals memory : List ℕ) : Type 0 where
   pub size : length memory ≡ length story
   pub header : (q : ℕ) → q < 64 → slice_index memory q ≡ slice_index story q
@@ -63,15 +66,21 @@ module _ (story : List ℕ) (a : Addresses) (p : ProgramOf) where
   back_of [] = word_at story 6 + 3
   back_of (c ∷ cs) = address c.routine c.place
 
-  -- the result of a call is pushed; that of Main goes nowhere
+  -- the result of a call goes where its caller wants it; that of Main goes nowhere
   abbrev pub result_of : List Caller → Option ℕ
   result_of [] = None
-  result_of (c ∷ cs) = Some 0
+  result_of (c ∷ cs) = call_result c.destination
 
   -- the frame of a routine with these locals and this stack, its newest word first, which was called by these
   abbrev pub frame_of : List ℕ → List ℕ → ℕ → List Caller → Frame
   frame_of locals stack count callers =
-      record { locals = locals; stack = reverse stack; arguments = count; return_address = back_of callers; result = result_of callers }
+      record {
+        locals = locals;
+        stack = reverse stack;
+        arguments = count;
+        return_address = back_of callers;
+        result = result_of callers;
+      }
 
   abbrev pub frames_of : List Caller → List ℕ → List Frame
   frames_of [] counts = first_environment ∷ []
@@ -97,7 +106,7 @@ module _ (story : List ℕ) (a : Addresses) (p : ProgramOf) where
     pub known : c.routine < length p.routines
     pub locals : length c.locals ≡ (routine_at p.routines c.routine).locals
     pub room : length c.stack ≤ 48
-    pub place : c.place < length (items_in c.routine)
+    pub destination : IsDestination p (routine_at p.routines c.routine).locals c.destination
 
   pub record Good (s : stack.State) (memory : List ℕ) : Type 0 where
     pub known : s.routine < length p.routines

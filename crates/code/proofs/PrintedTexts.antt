@@ -1,16 +1,27 @@
 -- The items of a routine print no texts but its own.
-use Rattle.std.proofs.Common.{ℕ, ◌+◌, List, [], ◌∷◌, ◌++◌}
+use Rattle.std.proofs.Common.{ℕ, ◌+◌, List, [], ◌∷◌, ◌++◌, Bool, true, false}
+use Rattle.std.specs.Prelude.{if◌then◌else◌, not}
 use Rattle.std.specs.List.{All}
 use Rattle.std.proofs.lemmas.List.Elements.{All-nil, All-cons, All-head, All-tail, All-append}
 use Rattle.expressions.specs.declared.tree.Binary.{Binary}
 use Rattle.expressions.specs.declared.tree.Binary.TheVariants as binaries
 use Rattle.expressions.specs.declared.tree.Equality.{Equality}
-use Rattle.expressions.specs.declared.tree.Equality.TheVariants as equalities
+use Rattle.expressions.specs.declared.tree.Prefix.{Prefix}
+use Rattle.expressions.specs.declared.tree.Prefix.TheVariants as prefixes
+use Rattle.expressions.specs.declared.tree.Step.{Step}
+use Rattle.checker.specs.declared.resolved.Variable.{Variable}
 use Rattle.checker.specs.Resolved.{Value, Values, none, more, Printed, Action, Actions, stop, next, RoutineOf}
 use Rattle.checker.specs.Resolved as source
-use Rattle.items.specs.Items.{Item, closing_items, value_count, printed_count, action_count, second_items, value_items, arguments_items, equal_items, or_items, also_items, printed_items, prints_items, return_true, action_items, actions_items, routine_items}
+use Rattle.checker.specs.Meaning.{is_true}
 use Rattle.checker.specs.Printable.{IsPrintableItem, IsPrintableAction, ArePrintableActions}
-use Rattle.code.proofs.Straight.{HasPrintableText}
+use Rattle.lexer.specs.Printable.{IsPrintable}
+use Rattle.items.specs.Items.{Item, Operand, pushed, number, variable, Destination, push, into, nowhere, operand_of, alone, left_of, if_pushed, is_few, agrees, value_count, operand_count, operands_count, branch_count, many_count, moved, truth_items, after_items, kept_items, value_items, operands_items, branch_items, many_items, also_items, printed_count, action_count, alone_items, printed_items, prints_items, action_items, actions_items, return_true, routine_items}
+use Rattle.items.specs.Items as items
+
+-- a text that an item prints has only bytes from 32 to 126
+abbrev pub HasPrintableText : Item → Type 0
+HasPrintableText (items.print_text bytes) = All IsPrintable bytes
+HasPrintableText _ = Unit {0}
 
 record Fine (xs : List Item) : Type 0 where
   all : All HasPrintableText xs
@@ -27,84 +38,221 @@ joined xs ys hx hy = record { all = All-append HasPrintableText xs ys hx.all hy.
 last : (xs : List Item) (i : Item) → Fine xs → HasPrintableText i → Fine (xs ++ i ∷ [])
 last xs i hx h = joined xs (i ∷ []) hx (first i [] h nothing)
 
-second_fine : (op : Binary) (at n : ℕ) (second : ℕ → List Item) → ((place : ℕ) → Fine (second place)) → Fine (second_items op at n second)
-second_fine binaries.AndAlso at n second h = first _ _ tt (joined (second (at + 1)) _ (h (at + 1)) (first _ _ tt (first _ _ tt (first _ _ tt nothing))))
-second_fine binaries.OrElse at n second h = first _ _ tt (first _ _ tt (first _ _ tt (last (second (at + 3)) _ (h (at + 3)) tt)))
-second_fine binaries.Add at n second h = last (second at) _ (h at) tt
-second_fine binaries.Subtract at n second h = last (second at) _ (h at) tt
-second_fine binaries.Multiply at n second h = last (second at) _ (h at) tt
-second_fine binaries.Divide at n second h = last (second at) _ (h at) tt
-second_fine binaries.Remainder at n second h = last (second at) _ (h at) tt
-second_fine binaries.And at n second h = last (second at) _ (h at) tt
-second_fine binaries.Or at n second h = last (second at) _ (h at) tt
+-- Lists that are put together
 
-closing_fine : (op : Equality) → Fine (closing_items op)
-closing_fine equalities.Equal = first _ _ tt nothing
-closing_fine equalities.NotEqual = first _ _ tt (first _ _ tt nothing)
+pushed_fine : (o : Operand) (xs : List Item) → Fine xs → Fine (if_pushed o xs [])
+pushed_fine pushed xs h = h
+pushed_fine (number n) xs h = nothing
+pushed_fine (variable x) xs h = nothing
+
+either_fine : (b : Bool) (xs ys : List Item) → Fine xs → Fine ys → Fine (if b then xs else ys)
+either_fine true xs ys h k = h
+either_fine false xs ys h k = k
+
+moved_fine : (o : Operand) (d : Destination) → Fine (moved o d)
+moved_fine o push = first _ _ tt nothing
+moved_fine o (into x) = first _ _ tt nothing
+moved_fine o nowhere = nothing
+
+truth_fine : (at count : ℕ) (d : Destination) (f : ℕ → List Item) → ((t : ℕ) → Fine (f t))
+    → Fine (truth_items at count d f)
+truth_fine at count push f h =
+    joined (f (at + count + 2)) _ (h (at + count + 2)) (first _ _ tt (first _ _ tt (first _ _ tt nothing)))
+truth_fine at count (into x) f h =
+    joined (f (at + count + 2)) _ (h (at + count + 2)) (first _ _ tt (first _ _ tt (first _ _ tt nothing)))
+truth_fine at count nowhere f h = h (at + count)
+
+after_fine : (x : Variable) (op : Step) (d : Destination) → Fine (after_items x op d)
+after_fine x op push = first _ _ tt (first _ _ tt nothing)
+after_fine x op (into y) = first _ _ tt (first _ _ tt (first _ _ tt nothing))
+after_fine x op nowhere = first _ _ tt nothing
+
+kept_fine : (x : Variable) (d : Destination) (xs ys : List Item) → Fine xs → Fine ys → Fine (kept_items x d xs ys)
+kept_fine x push xs ys h k = last ys _ k tt
+kept_fine x (into y) xs ys h k = joined ys _ k (first _ _ tt (first _ _ tt nothing))
+kept_fine x nowhere xs ys h k = h
+
+two_fine : (oa ob : Operand) (xs ys zs : List Item) → Fine xs → Fine ys → Fine zs
+    → Fine (if_pushed oa xs [] ++ (if_pushed ob ys [] ++ zs))
+two_fine oa ob xs ys zs h k l =
+    joined (if_pushed oa xs []) _ (pushed_fine oa xs h) (joined (if_pushed ob ys []) zs (pushed_fine ob ys k) l)
+
+-- Expressions
+
+record ValueFine (v : Value) : Type 0 where
+  value : (at : ℕ) (d : Destination) → Fine (value_items at v d)
+  branch : (at : ℕ) (when : Bool) (t : ℕ) → Fine (branch_items at v when t)
+
+record ValuesFine (vs : Values) : Type 0 where
+  all : (at : ℕ) → Fine (operands_items at vs)
+  also : (at : ℕ) (op : Equality) (when : Bool) (t : ℕ) → Fine (also_items at op vs when t)
+  many : (at : ℕ) (op : Equality) (when : Bool) (t : ℕ) → Fine (many_items at op vs when t)
+
+prefixed_fine : (op : Prefix) (v : Value) → ValueFine v → ValueFine (source.prefixed op v)
+prefixed_fine prefixes.Not v f = record {
+  value = λ at d. truth_fine at (branch_count v false) d (λ t. branch_items at v false t) (λ t. f.branch at false t);
+  branch = λ at when t. f.branch at (not when) t;
+}
+prefixed_fine op v f = record {
+  value = λ at d. last (if_pushed (alone v) (value_items at v push) []) _ (pushed_fine (alone v) _ (f.value at push))
+      tt;
+  branch = λ at when t. joined (if_pushed (alone v) (value_items at v push) []) _
+      (pushed_fine (alone v) _ (f.value at push)) (first _ _ tt (first _ _ tt nothing));
+}
+
+binary_fine : (op : Binary) (a b : Value) → ValueFine a → ValueFine b → ValueFine (source.binary op a b)
+binary_fine binaries.AndAlso a b f g = record {
+  value = λ at d. truth_fine at (branch_count a false + branch_count b true) d
+      (λ t. branch_items at (source.binary binaries.AndAlso a b) true t)
+      (λ t. joined (branch_items at a false _) _ (f.branch at false _) (g.branch (at + branch_count a false) true t));
+  branch = λ at when t. joined (branch_items at a false _) _ (f.branch at false _)
+      (g.branch (at + branch_count a false) when t);
+}
+binary_fine binaries.OrElse a b f g = record {
+  value = λ at d. truth_fine at (branch_count a true + branch_count b true) d
+      (λ t. branch_items at (source.binary binaries.OrElse a b) true t)
+      (λ t. joined (branch_items at a true _) _ (f.branch at true _) (g.branch (at + branch_count a true) true t));
+  branch = λ at when t. joined (branch_items at a true _) _ (f.branch at true _)
+      (g.branch (at + branch_count a true) when t);
+}
+binary_fine op a b f g = record {
+  value = λ at d. two_fine (left_of a b) (alone b) _ _ _ (f.value at push)
+      (g.value (at + operand_count a (left_of a b)) push) (first _ _ tt nothing);
+  branch = λ at when t. two_fine (left_of a b) (alone b) _ _ _ (f.value at push)
+      (g.value (at + operand_count a (left_of a b)) push) (first _ _ tt (first _ _ tt nothing));
+}
+
+compare_fine : (op : _) (a b : Value) → ValueFine a → ValueFine b → ValueFine (source.compare op a b)
+compare_fine op a b f g =
+    let branches : (at : ℕ) (when : Bool) (t : ℕ) → Fine (branch_items at (source.compare op a b) when t) =
+    λ at when t. two_fine (left_of a b) (alone b) _ _ _ (f.value at push)
+    (g.value (at + operand_count a (left_of a b)) push) (first _ _ tt nothing) in
+    record {
+      value = λ at d. truth_fine at (operand_count a (left_of a b) + operand_count b (alone b) + 1) d
+          (λ t. branch_items at (source.compare op a b) true t) (λ t. branches at true t);
+      branch = branches;
+    }
+
+equal_fine : (op : Equality) (a : Value) (bs : Values) → ValueFine a → ValuesFine bs → ValueFine (source.equal op a bs)
+equal_fine op a bs f g = record {
+  value = λ at d. either_fine (is_few bs) _ _
+      (truth_fine at (operand_count a (operand_of a bs) + operands_count bs + 1) d (few_items at true) (few at true))
+      (truth_fine at (value_count a push + many_count bs) d (several_items at true) (several at true));
+  branch = λ at when t. either_fine (is_few bs) _ _ (few at when t) (several at when t);
+}
+  where
+    few_items : ℕ → Bool → ℕ → List Item
+    few_items at when t = if_pushed (operand_of a bs) (value_items at a push) []
+        ++ (operands_items (at + operand_count a (operand_of a bs)) bs
+        ++ items.branch items.same (operand_of a bs ∷ items.operands_of bs) (items.equality_when op when) t ∷ [])
+
+    several_items : ℕ → Bool → ℕ → List Item
+    several_items at when t = value_items at a push ++ many_items (at + value_count a push) op bs when t
+
+    few : (at : ℕ) (when : Bool) (t : ℕ) → Fine (few_items at when t)
+    few at when t =
+        joined (if_pushed (operand_of a bs) (value_items at a push) []) _
+        (pushed_fine (operand_of a bs) _ (f.value at push))
+        (last (operands_items (at + operand_count a (operand_of a bs)) bs) _
+        (g.all (at + operand_count a (operand_of a bs))) tt)
+
+    several : (at : ℕ) (when : Bool) (t : ℕ) → Fine (several_items at when t)
+    several at when t = joined (value_items at a push) _ (f.value at push) (g.many (at + value_count a push) op when t)
+
+none_fine : ValuesFine none
+none_fine = record {
+  all = λ at. nothing;
+  also = λ at op when t. first _ _ tt (first _ _ tt nothing);
+  many = λ at op when t. first _ _ tt nothing;
+}
+
+more_fine : (v : Value) (vs : Values) → ValueFine v → ValuesFine vs → ValuesFine (more v vs)
+more_fine v vs f g = record {
+  all = λ at. joined (if_pushed (operand_of v vs) (value_items at v push) []) _
+      (pushed_fine (operand_of v vs) _ (f.value at push)) (g.all (at + operand_count v (operand_of v vs)));
+  also = λ at op when t. joined (value_items at v push) _ (f.value at push)
+      (first _ _ tt (g.also (at + value_count v push + 1) op when t));
+  many = λ at op when t. joined (value_items at v push) _ (f.value at push)
+      (first _ _ tt (g.also (at + value_count v push + 1) op when t));
+}
 
 mutual
-  value_fine : (v : Value) (at : ℕ) → Fine (value_items at v)
-  value_fine (source.number n) at = first _ _ tt nothing
-  value_fine (source.read x) at = first _ _ tt nothing
-  value_fine (source.call r vs) at = last (arguments_items at vs) _ (arguments_fine vs at) tt
-  value_fine (source.prefixed op v) at = last (value_items at v) _ (value_fine v at) tt
-  value_fine (source.step_before op x) at = first _ _ tt nothing
-  value_fine (source.step_after x op) at = first _ _ tt nothing
-  value_fine (source.binary op a b) at =
-      joined (value_items at a) _ (value_fine a at) (second_fine op (at + value_count a) (value_count b) (λ place. value_items place b) (λ place. value_fine b place))
-  value_fine (source.compare op a b) at = joined (value_items at a) _ (value_fine a at) (last (value_items (at + value_count a) b) _ (value_fine b (at + value_count a)) tt)
-  value_fine (source.equal op a bs) at = joined (value_items at a) _ (value_fine a at) (equal_fine bs op (at + value_count a))
-  value_fine (source.assign x v) at = last (value_items at v) _ (value_fine v at) tt
+  value_fine : (v : Value) → ValueFine v
+  value_fine (source.number n) = record {
+    value = λ at d. moved_fine (number n) d;
+    branch = λ at when t. either_fine (agrees (is_true n) when) _ _ (first _ _ tt nothing) nothing;
+  }
+  value_fine (source.read x) =
+      record { value = λ at d. moved_fine (variable x) d; branch = λ at when t. first _ _ tt nothing }
+  value_fine (source.call r vs) = record {
+    value = λ at d. last (operands_items at vs) _ ((values_fine vs).all at) tt;
+    branch = λ at when t. joined (operands_items at vs) _ ((values_fine vs).all at)
+        (first _ _ tt (first _ _ tt nothing));
+  }
+  value_fine (source.prefixed op v) = prefixed_fine op v (value_fine v)
+  value_fine (source.step_before op x) =
+      record { value = λ at d. first _ _ tt nothing; branch = λ at when t. first _ _ tt (first _ _ tt nothing) }
+  value_fine (source.step_after x op) =
+      record {
+        value = λ at d. after_fine x op d;
+        branch = λ at when t. first _ _ tt (first _ _ tt (first _ _ tt nothing));
+      }
+  value_fine (source.binary op a b) = binary_fine op a b (value_fine a) (value_fine b)
+  value_fine (source.compare op a b) = compare_fine op a b (value_fine a) (value_fine b)
+  value_fine (source.equal op a bs) = equal_fine op a bs (value_fine a) (values_fine bs)
+  value_fine (source.assign x v) = record {
+    value = λ at d. kept_fine x d _ _ ((value_fine v).value at (into x)) ((value_fine v).value at push);
+    branch = λ at when t. joined (value_items at v push) _ ((value_fine v).value at push)
+        (first _ _ tt (first _ _ tt nothing));
+  }
 
-  arguments_fine : (vs : Values) (at : ℕ) → Fine (arguments_items at vs)
-  arguments_fine none at = nothing
-  arguments_fine (more v vs) at = joined (value_items at v) _ (value_fine v at) (arguments_fine vs (at + value_count v))
+  values_fine : (vs : Values) → ValuesFine vs
+  values_fine none = none_fine
+  values_fine (more v vs) = more_fine v vs (value_fine v) (values_fine vs)
 
-  equal_fine : (vs : Values) (op : Equality) (at : ℕ) → Fine (equal_items at op vs)
-  equal_fine none op at = first _ _ tt (first _ _ tt nothing)
-  equal_fine (more v vs) op at = joined (value_items at v) _ (value_fine v at) (or_fine vs op (at + value_count v))
+-- Statements
 
-  or_fine : (vs : Values) (op : Equality) (at : ℕ) → Fine (or_items at op vs)
-  or_fine none op at = first _ _ tt nothing
-  or_fine (more v vs) op at = first _ _ tt (joined (value_items (at + 1) v) _ (value_fine v (at + 1)) (first _ _ tt (also_fine vs op (at + 1 + value_count v + 1))))
-
-  also_fine : (vs : Values) (op : Equality) (at : ℕ) → Fine (also_items at op vs)
-  also_fine none op at = closing_fine op
-  also_fine (more v vs) op at = joined (value_items at v) _ (value_fine v at) (first _ _ tt (also_fine vs op (at + value_count v + 1)))
+alone_fine : (v : Value) (at : ℕ) → Fine (alone_items at v)
+alone_fine v at = pushed_fine (alone v) _ ((value_fine v).value at push)
 
 printed_fine : (i : Printed) → IsPrintableItem i → (at : ℕ) → Fine (printed_items at i)
 printed_fine (source.text bytes) h at = first _ _ h nothing
-printed_fine (source.character_of v) h at = last (value_items at v) _ (value_fine v at) tt
-printed_fine (source.number_of v) h at = last (value_items at v) _ (value_fine v at) tt
+printed_fine (source.character_of v) h at = last (alone_items at v) _ (alone_fine v at) tt
+printed_fine (source.number_of v) h at = last (alone_items at v) _ (alone_fine v at) tt
 
 prints_fine : (is : List Printed) → All IsPrintableItem is → (at : ℕ) → Fine (prints_items at is)
 prints_fine [] h at = nothing
-prints_fine (i ∷ is) h at = joined (printed_items at i) _ (printed_fine i (All-head IsPrintableItem i is h) at) (prints_fine is (All-tail IsPrintableItem i is h) (at + printed_count i))
-
-true_fine : Fine return_true
-true_fine = first _ _ tt (first _ _ tt nothing)
+prints_fine (i ∷ is) h at = joined (printed_items at i) _ (printed_fine i (All-head IsPrintableItem i is h) at)
+    (prints_fine is (All-tail IsPrintableItem i is h) (at + printed_count i))
 
 mutual
   action_fine : (a : Action) → IsPrintableAction a → (at : ℕ) → Fine (action_items at a)
   action_fine source.empty h at = nothing
   action_fine (source.block xs) h at = actions_fine xs h at
-  action_fine (source.text_alone bytes) h at = first _ _ h (first _ _ tt true_fine)
+  action_fine (source.text_alone bytes) h at = first _ _ h (first _ _ tt (first _ _ tt nothing))
   action_fine (source.print is) h at = prints_fine is h at
-  action_fine (source.print_return is) h at = joined (prints_items at is) _ (prints_fine is h at) (first _ _ tt true_fine)
+  action_fine (source.print_return is) h at =
+      joined (prints_items at is) _ (prints_fine is h at) (first _ _ tt (first _ _ tt nothing))
   action_fine source.new_line h at = first _ _ tt nothing
-  action_fine (source.if_then v a) h at = joined (value_items at v) _ (value_fine v at) (first _ _ tt (action_fine a h (at + value_count v + 1)))
+  action_fine (source.if_then v a) h at =
+      joined (branch_items at v false _) _ ((value_fine v).branch at false _)
+      (action_fine a h (at + branch_count v false))
   action_fine (source.if_else v a b) h at =
-      joined (value_items at v) _ (value_fine v at) (first _ _ tt
-      (joined (action_items (at + value_count v + 1) a) _ (action_fine a h.0 (at + value_count v + 1)) (first _ _ tt (action_fine b h.1 (at + value_count v + 1 + action_count a + 1)))))
+      joined (branch_items at v false _) _ ((value_fine v).branch at false _)
+      (joined (action_items (at + branch_count v false) a) _ (action_fine a h.0 (at + branch_count v false))
+      (first _ _ tt (action_fine b h.1 (at + branch_count v false + action_count a + 1))))
   action_fine (source.while_do v a) h at =
-      joined (value_items at v) _ (value_fine v at) (first _ _ tt (last (action_items (at + value_count v + 1) a) _ (action_fine a h (at + value_count v + 1)) tt))
-  action_fine (source.return_value v) h at = last (value_items at v) _ (value_fine v at) tt
+      joined (branch_items at v false _) _ ((value_fine v).branch at false _)
+      (last (action_items (at + branch_count v false) a) _ (action_fine a h (at + branch_count v false)) tt)
+  action_fine (source.return_value v) h at = last (alone_items at v) _ (alone_fine v at) tt
   action_fine source.quit h at = first _ _ tt nothing
-  action_fine (source.effect v) h at = last (value_items at v) _ (value_fine v at) tt
+  action_fine (source.effect v) h at = (value_fine v).value at nowhere
 
   actions_fine : (xs : Actions) → ArePrintableActions xs → (at : ℕ) → Fine (actions_items at xs)
   actions_fine stop h at = nothing
-  actions_fine (next a rest) h at = joined (action_items at a) _ (action_fine a h.0 at) (actions_fine rest h.1 (at + action_count a))
+  actions_fine (next a rest) h at =
+      joined (action_items at a) _ (action_fine a h.0 at) (actions_fine rest h.1 (at + action_count a))
 
 pub texts_printable : (r : RoutineOf) → ArePrintableActions r.body → All HasPrintableText (routine_items r)
-texts_printable r h = (joined (actions_items 0 r.body) return_true (actions_fine r.body h 0) true_fine).all
+texts_printable r h =
+    (joined (actions_items 0 r.body) (return_true ∷ []) (actions_fine r.body h 0) (first _ _ tt nothing)).all

@@ -1,76 +1,144 @@
--- Bytes of items, computed.
-use Rattle.std.proofs.Common.{◌≡◌, ◌*◌, ℕ, List, [], ◌∷◌, refl}
+-- Bytes of items, computed, and the forms of branches.
+use Rattle.std.proofs.Common.{◌≡◌, ℕ, List, [], ◌∷◌, refl, true, false, Some, None}
+use Rattle.std.specs.Prelude.{codes, replicate}
 use Rattle.expressions.specs.declared.tree.Binary.TheVariants as binaries
-use Rattle.expressions.specs.declared.tree.Comparison.TheVariants as comparisons
 use Rattle.expressions.specs.declared.tree.Step.TheVariants as steps
+use Rattle.checker.specs.declared.resolved.Variable.{Variable}
 use Rattle.checker.specs.declared.resolved.Variable.TheVariants as variables
 use Rattle.zcore.specs.Instruction.{bytes_of}
 use Rattle.zcore.specs.Alphabets.{spelling_of}
 use Rattle.zcore.specs.Words.{packed}
 use Rattle.zcore.specs.Text.{encoded}
-use Rattle.items.specs.Items.{Item}
-use Rattle.items.specs.Items as items
+use Rattle.forms.specs.declared.layout.Form.TheVariants.{One, Two, Far}
+use Rattle.forms.specs.declared.layout.Part.{Part}
+use Rattle.forms.specs.declared.layout.BranchUse.{BranchUse}
+use Rattle.forms.specs.Layout.{uses}
+use Rattle.items.specs.Items.{Item, pushed, number, variable, push, into, nowhere, is_zero, same, move, operate, step, print_text, branch, call, return}
 use Rattle.code.specs.Addresses.{Addresses}
-use Rattle.code.specs.Bytes.{item_bytes}
+use Rattle.code.specs.Bytes.{item_bytes, parts_of}
 use Rattle.code.specs.Standing.{start_code}
 
 abbrev a : Addresses
 a = record { routines = 300 ∷ 400 ∷ []; division_by_zero = 515; not_a_character = 520 }
 
+abbrev x : Variable
+x = variables.Local 0
+
+abbrev y : Variable
+y = variables.Local 1
+
+abbrev g : Variable
+g = variables.Global 0
+
 abbrev written : Item → List ℕ
-written = item_bytes a (λ n. 10 * n) 0
+written = item_bytes a 0
 
--- small and large constants, locals and globals
-pushes_small : written (items.push_number 7) ≡ 232 ∷ 127 ∷ 7 ∷ []
-unfolding bytes_of
-pushes_small = refl
-
-pushes_large : written (items.push_number 1000) ≡ 232 ∷ 63 ∷ 3 ∷ 232 ∷ []
-unfolding bytes_of
-pushes_large = refl
-
-keeps_global : written (items.keep (variables.Global 2)) ≡ 158 ∷ 0 ∷ 18 ∷ []
-unfolding bytes_of
-keeps_global = refl
-
-steps_local : written (items.step_before steps.Increment (variables.Local 0)) ≡ 149 ∷ 1 ∷ 232 ∷ 191 ∷ 1 ∷ []
-unfolding bytes_of
-steps_local = refl
-
--- pull; add sp T -> sp
-adds : written (items.operate binaries.Add) ≡ 233 ∷ 127 ∷ 248 ∷ 116 ∷ 0 ∷ 248 ∷ 0 ∷ []
+-- add y 5 -> x
+adds : written (operate binaries.Add (variable y) (number 5) (into x)) ≡ 84 ∷ 2 ∷ 5 ∷ 1 ∷ []
 unfolding bytes_of
 adds = refl
 
--- pull; jz T over 4 bytes; print_paddr; quit; div
-divides : written (items.operate binaries.Divide)
-    ≡ 233 ∷ 127 ∷ 248 ∷ 160 ∷ 248 ∷ 70 ∷ 141 ∷ 2 ∷ 3 ∷ 186 ∷ 119 ∷ 0 ∷ 248 ∷ 0 ∷ []
+-- pull T; sub sp T -> sp
+subtracts : written (operate binaries.Subtract pushed pushed push) ≡ 233 ∷ 127 ∷ 248 ∷ 117 ∷ 0 ∷ 248 ∷ 0 ∷ []
+unfolding bytes_of
+subtracts = refl
+
+-- div x 2 -> sp
+halves : written (operate binaries.Divide (variable x) (number 2) push) ≡ 87 ∷ 1 ∷ 2 ∷ 0 ∷ []
+unfolding bytes_of
+halves = refl
+
+-- jz y over 4 bytes; print_paddr; quit; div x y -> sp
+divides : written (operate binaries.Divide (variable x) (variable y) push)
+    ≡ 160 ∷ 2 ∷ 70 ∷ 141 ∷ 2 ∷ 3 ∷ 186 ∷ 119 ∷ 1 ∷ 2 ∷ 0 ∷ []
 unfolding bytes_of
 divides = refl
 
--- pull; jg where it does not hold; push 0; jump; push 1
-compares : written (items.compare comparisons.LessOrEqual)
-    ≡ 233 ∷ 127 ∷ 248 ∷ 99 ∷ 0 ∷ 248 ∷ 72 ∷ 232 ∷ 127 ∷ 0 ∷ 140 ∷ 0 ∷ 5 ∷ 232 ∷ 127 ∷ 1 ∷ []
+-- inc x
+steps_up : written (step steps.Increment x nowhere) ≡ 149 ∷ 1 ∷ []
 unfolding bytes_of
-compares = refl
+steps_up = refl
 
-calls : written (items.call 1 2) ≡ 233 ∷ 127 ∷ 249 ∷ 233 ∷ 127 ∷ 248 ∷ 224 ∷ 43 ∷ 1 ∷ 144 ∷ 248 ∷ 249 ∷ 0 ∷ []
+-- store x 7
+stores : written (move (number 7) (into x)) ≡ 13 ∷ 1 ∷ 7 ∷ []
+unfolding bytes_of
+stores = refl
+
+-- pull x
+pulls : written (move pushed (into x)) ≡ 233 ∷ 127 ∷ 1 ∷ []
+unfolding bytes_of
+pulls = refl
+
+-- call_vs F x g -> x
+calls : written (call 0 (variable x ∷ variable g ∷ []) (into x)) ≡ 224 ∷ 43 ∷ 1 ∷ 44 ∷ 1 ∷ 16 ∷ 1 ∷ []
 unfolding bytes_of
 calls = refl
 
--- jz, over the jump; the jump from its end at 6 to 30
-skips : written (items.if_zero 3) ≡ 160 ∷ 0 ∷ 69 ∷ 140 ∷ 0 ∷ 26 ∷ []
+-- call_1n F
+calls_alone : written (call 1 [] nowhere) ≡ 143 ∷ 1 ∷ 144 ∷ []
 unfolding bytes_of
-skips = refl
+calls_alone = refl
 
-goes_back : item_bytes a (λ n. 10 * n) 40 (items.back 1) ≡ 140 ∷ 255 ∷ 225 ∷ []
+-- rtrue; rfalse; ret 7; ret x; ret_popped
+returns : written (return (number 1)) ∷ written (return (number 0)) ∷ written (return (number 7)) ∷ written
+    (return (variable x)) ∷ written (return pushed) ∷ []
+    ≡ (176 ∷ []) ∷ (177 ∷ []) ∷ (155 ∷ 7 ∷ []) ∷ (171 ∷ 1 ∷ []) ∷ (184 ∷ []) ∷ []
 unfolding bytes_of
-goes_back = refl
+returns = refl
 
-prints : written (items.print_text (104 ∷ 101 ∷ 108 ∷ 108 ∷ 111 ∷ [])) ≡ 178 ∷ 53 ∷ 81 ∷ 198 ∷ 133 ∷ []
+-- je x 1 2 3 ?L, one byte of branch data
+compares : item_bytes a 10 (branch same (variable x ∷ number 1 ∷ number 2 ∷ number 3 ∷ []) true 9)
+    ≡ 193 ∷ 149 ∷ 1 ∷ 1 ∷ 2 ∷ 3 ∷ 202 ∷ []
+unfolding bytes_of
+compares = refl
+
+-- jz g ?~L in two bytes
+two_bytes : item_bytes a 65 (branch is_zero (variable g ∷ []) false 9) ≡ 160 ∷ 16 ∷ 0 ∷ 65 ∷ []
+unfolding bytes_of
+two_bytes = refl
+
+-- jz g over the jump; the jump
+far_form : item_bytes a 8193 (branch is_zero (variable g ∷ []) false 9) ≡ 160 ∷ 16 ∷ 197 ∷ 140 ∷ 32 ∷ 1 ∷ []
+unfolding bytes_of
+far_form = refl
+
+prints : written (print_text (codes "hello")) ≡ 178 ∷ 53 ∷ 81 ∷ 198 ∷ 133 ∷ []
 unfolding bytes_of encoded packed spelling_of
 prints = refl
 
 starts : start_code 300 ≡ 143 ∷ 1 ∷ 44 ∷ 186 ∷ []
 unfolding bytes_of
 starts = refl
+
+-- Global x; [ Main; if (x) print "$..$"; print "end"; ];  with so many signs
+abbrev asking : ℕ → List Item
+asking n = branch is_zero (variable g ∷ []) true 2 ∷ print_text (replicate n 36) ∷ print_text (codes "end") ∷ return
+    (number 1) ∷ []
+
+abbrev one_use : BranchUse → List BranchUse
+one_use u = u ∷ []
+
+signs_1 : uses 0 (parts_of (asking 1)) ≡ one_use (record { form = One; offset = 7 })
+unfolding bytes_of encoded packed spelling_of
+signs_1 = refl
+
+signs_22 : uses 0 (parts_of (asking 22)) ≡ one_use (record { form = One; offset = 63 })
+unfolding bytes_of encoded packed spelling_of
+signs_22 = refl
+
+signs_23 : uses 0 (parts_of (asking 23)) ≡ one_use (record { form = Two; offset = 65 })
+unfolding bytes_of encoded packed spelling_of
+signs_23 = refl
+
+-- the same with 3,070 signs and with 3,071, where the text has 8,189 bytes and 8,191
+abbrev over_text : ℕ → List Part
+over_text size = record {
+  size = 2;
+  target = Some 2;
+} ∷ record { size = size; target = None } ∷ record { size = 3; target = None } ∷ record { size = 1; target = None } ∷ []
+
+signs_3070 : uses 0 (over_text 8189) ≡ one_use (record { form = Two; offset = 8191 })
+signs_3070 = refl
+
+signs_3071 : uses 0 (over_text 8191) ≡ one_use (record { form = Far; offset = 8193 })
+signs_3071 = refl

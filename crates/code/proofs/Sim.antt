@@ -14,7 +14,8 @@ use Rattle.code.proofs.Ends.{does_after}
 use Rattle.code.proofs.Keeps.{Same, Keeps, act_keeps}
 
 -- a turn goes on in the same way for worlds with the same lines and texts
-pub does_same : (full : ℕ) (here : Next) (t : State) (w v : World) (o : Outcome) → Same w v → Does full here t v o → Does full here t w o
+pub does_same : (full : ℕ) (here : Next) (t : State) (w v : World) (o : Outcome) → Same w v → Does full here t v o
+    → Does full here t w o
 does_same full here t w v o same d = record {
   whole = d.whole;
   turns = d.turns;
@@ -27,31 +28,39 @@ module _ (story : List ℕ) (a : Addresses) (p : ProgramOf) (full : ℕ) where
   -- each item is done where it stands
   abbrev pub ItemsLead : Type 0
   ItemsLead =
-      (s : stack.State) (memory : List ℕ) (count : ℕ) (counts : List ℕ) (i : Item) → Good story a p s memory → slice_get (items_in story a p s.routine) s.place ≡ Some i
-      → Led story a p full (next_of story a p s) (state_of story a p s memory count counts) s.situation.world (stack.act p (Some i) s)
+      (s : stack.State) (memory : List ℕ) (count : ℕ) (counts : List ℕ) (i : Item) → Good story a p s memory
+      → slice_get (items_in story a p s.routine) s.place ≡ Some i
+      → Led story a p full (next_of story a p s) (state_of story a p s memory count counts) s.situation.world
+      (stack.act p (Some i) s)
 
   -- so many items from any good state on are done
   abbrev pub Simulated : ℕ → Type 0
   Simulated n =
-      (s : stack.State) (memory : List ℕ) (count : ℕ) (counts : List ℕ) (o : Outcome) → Good story a p s memory → stack.exec p n s ≡ Some o
+      (s : stack.State) (memory : List ℕ) (count : ℕ) (counts : List ℕ) (o : Outcome) → Good story a p s memory
+      → stack.exec p n s ≡ Some o
       → Does full (next_of story a p s) (state_of story a p s memory count counts) s.situation.world o
 
   -- what an item leads to, and the items after it
-  pub led_on : (n : ℕ) → Simulated n → (here : Next) (t : State) (w : World) (next : stack.Next) (o : Outcome) → Led story a p full here t w next → Keeps w next → stack.from next (stack.exec p n) ≡ Some o
+  pub led_on : (n : ℕ) → Simulated n → (here : Next) (t : State) (w : World) (next : stack.Next) (o : Outcome)
+      → Led story a p full here t w next → Keeps w next → stack.from next (stack.exec p n) ≡ Some o
       → Does full here t w o
   led_on n later here t w (stack.goes s) o l keeps e =
       does_after full w o here (next_of story a p s) t (state_of story a p s l.memory l.count l.counts) l.leads
-      (does_same full (next_of story a p s) (state_of story a p s l.memory l.count l.counts) w s.situation.world o keeps (later s l.memory l.count l.counts o l.good e))
+      (does_same full (next_of story a p s) (state_of story a p s l.memory l.count l.counts) w s.situation.world o keeps
+      (later s l.memory l.count l.counts o l.good e))
   led_on n later here t w (stack.ends x) o l keeps e = let is : x ≡ o = cc in subst (λ y. Does full here t w y) is l
   led_on n later here t w stack.stuck o l keeps e = absurd (cc)
 
   pub sim : ItemsLead → (n : ℕ) → Simulated n
   sim led zero s memory count counts o good e = absurd (cc)
-  sim led (suc n) s memory count counts o good e = go (slice_get (items_in story a p s.routine) s.place) refl (sim led n) e
+  sim led (suc n) s memory count counts o good e =
+      go (slice_get (items_in story a p s.routine) s.place) refl (sim led n) e
     where
-      go : (i : Option Item) → slice_get (items_in story a p s.routine) s.place ≡ i → Simulated n → stack.from (stack.act p i s) (stack.exec p n) ≡ Some o
+      go : (i : Option Item) → slice_get (items_in story a p s.routine) s.place ≡ i → Simulated n
+          → stack.from (stack.act p i s) (stack.exec p n) ≡ Some o
           → Does full (next_of story a p s) (state_of story a p s memory count counts) s.situation.world o
       go None h later f = absurd (cc)
       go (Some i) h later f =
-          led_on n later (next_of story a p s) (state_of story a p s memory count counts) s.situation.world (stack.act p (Some i) s) o
+          led_on n later (next_of story a p s) (state_of story a p s memory count counts) s.situation.world
+          (stack.act p (Some i) s) o
           (led s memory count counts i good h) (act_keeps p i s) f

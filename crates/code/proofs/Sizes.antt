@@ -1,175 +1,298 @@
 -- How many bytes items have.
-use Rattle.std.proofs.Common.{◌≡◌, ◌≤◌, ◌+◌, ◌-◌, ◌*◌, ◌%◌, ◌==◌, ℕ, zero, suc, Bool, true, false, List, [], ◌∷◌, ◌++◌, length, map, Option, Some, None, refl, arith, length-append}
-use Rattle.std.specs.Prelude.{nat_le, if◌then◌else◌, replicate, slice_index}
+use Rattle.std.proofs.Common.{◌≡◌, ◌≤◌, ◌+◌, ◌-◌, ◌*◌, ◌==◌, ℕ, Bool, true, false, List, [], ◌∷◌, ◌++◌, length, take, refl, ap, arith, length-append, append-nil}
+use Rattle.std.specs.Prelude.{nat_lt, if◌then◌else◌, slice_index}
 use Rattle.std.specs.List.{flat_map}
-use Rattle.std.proofs.lemmas.Bool.{leb-false}
-use Rattle.std.proofs.lemmas.List.{append-nil, length-map, length-replicate}
-use Rattle.std.proofs.lemmas.List.Concat.{flat_map-append}
+use Rattle.std.proofs.lemmas.List.{length-take}
 use Rattle.zcore.specs.declared.instruction.Operand.{Operand}
-use Rattle.zcore.specs.declared.instruction.Operand.TheVariants.{Large, Small, Variable}
-use Rattle.zcore.specs.declared.instruction.Operation.TheVariants.{CallVs, CallVs2}
-use Rattle.zcore.specs.Instruction.{operand_bytes, bytes_of}
-use Rattle.zcore.specs.Alphabets.{punctuation, upper_letters, lower_letters, place_in, spelling_in_punctuation, spelling_in_upper, spelling_in_lower, spelling_of, spelled}
-use Rattle.zcore.specs.Words.{packed, missing, padded}
-use Rattle.zcore.specs.Text.{encoded}
+use Rattle.zcore.specs.declared.instruction.Operand.TheVariants.{Small, Variable}
+use Rattle.zcore.specs.declared.instruction.Operation.{Operation}
+use Rattle.zcore.specs.declared.instruction.Operation.TheVariants as operations
+use Rattle.zcore.specs.Operations.{count_of, number_of, has_more_types}
+use Rattle.zcore.specs.Instruction.{Instruction, opcode_bytes, operand_bytes, result_bytes, bytes_of}
+use Rattle.forms.specs.declared.layout.Form.TheVariants as form
+use Rattle.forms.specs.declared.layout.Form.{Form}
+use Rattle.forms.specs.Layout.{first, form_for, size_with, offset_over, part_size, lefts}
 use Rattle.expressions.specs.declared.tree.Binary.{Binary}
 use Rattle.expressions.specs.declared.tree.Binary.TheVariants as binaries
-use Rattle.expressions.specs.declared.tree.Comparison.{Comparison}
-use Rattle.expressions.specs.declared.tree.Comparison.TheVariants as comparisons
-use Rattle.expressions.specs.declared.tree.Equality.{Equality}
-use Rattle.expressions.specs.declared.tree.Equality.TheVariants as equalities
 use Rattle.expressions.specs.declared.tree.Prefix.{Prefix}
 use Rattle.expressions.specs.declared.tree.Prefix.TheVariants as prefixes
 use Rattle.expressions.specs.declared.tree.Step.{Step}
 use Rattle.expressions.specs.declared.tree.Step.TheVariants as steps
 use Rattle.checker.specs.declared.resolved.Variable as source
-use Rattle.items.specs.Items.{Item}
+use Rattle.checker.specs.Meaning.{is_character}
+use Rattle.items.specs.Items.{Item, Destination, Test}
 use Rattle.items.specs.Items as items
-use Rattle.code.specs.Instructions.{giving, push, constant, take_arguments, arguments, argument_count, call_operation, call_with}
-use Rattle.code.specs.Bytes.{bytes_of_all, character_of, nowhere, item_size, code_size}
+use Rattle.code.specs.Instructions as spec
+use Rattle.code.specs.Instructions.{plain, giving, in_place, constant, pushed_count, named_from, operands, takes, result_in, fail, arithmetic, divided, divided_by, binary_code, prefix_code, move_code, step_code, character_code, tested_character, labelled, test_operation, tested_code, asks_none, least_word, branch_code, call_operation, call_result, calling, call_code, return_code, most_tested, most_arguments}
+use Rattle.code.specs.Bytes.{bytes_of_all, no_addresses, part_of, parts_of, code_size}
+use Rattle.code.proofs.Most.{most, most_of}
+use Rattle.code.proofs.Lengths.{all_length, one_length, labelled_length, beside}
+use Rattle.code.proofs.SizesOfInstructions.{opcode_few, opcode_most, operand_count, parts_length, few_bytes, constant_few, operand_few, one_count, two_count, taken_few}
+use Rattle.code.proofs.SizesOfTexts.{text_few}
 
--- Lists of items
+-- Items
 
-pub size_append : (xs ys : List Item) → code_size (xs ++ ys) ≡ code_size xs + code_size ys
-size_append [] ys = omega arith
-size_append (x ∷ xs) ys = omega (arith, size_append xs ys)
+giving_few : (op : Operation) (a b : Operand) (d : Destination) → has_more_types op ≡ false
+    → length (operand_bytes a) ≤ 2 → length (operand_bytes b) ≤ 2
+    → length (bytes_of (giving op (a ∷ b ∷ []) (result_in d))) ≤ 3 + length (operand_bytes a) + length (operand_bytes b)
+giving_few op a b d e h k = omega (arith, few_bytes (giving op (a ∷ b ∷ []) (result_in d)) e, two_count a b)
 
--- Constants
+arithmetic_few : (op : Operation) (x y : items.Operand) (d : Destination) → has_more_types op ≡ false
+    → length (bytes_of_all (arithmetic op x y d)) ≤ 11
+arithmetic_few op x y d e =
+    let i = giving op (operands (x ∷ y ∷ [])) (result_in d) in
+    omega (arith, all_length (takes (x ∷ y ∷ [])) (i ∷ []), one_length i, few_bytes i e, taken_few (x ∷ y ∷ []))
 
-push_size : (o : Operand) → length (bytes_of_all (push o ∷ []) ++ []) ≤ 4
+fail_size : (n : ℕ) → length (bytes_of_all (fail n)) ≡ 4
 unfolding bytes_of
-push_size (Large n) = omega arith
-push_size (Small n) = omega arith
-push_size (Variable n) = omega arith
+fail_size n = refl
 
-pub number_size : (n : ℕ) → item_size (items.push_number n) ≤ 4
-number_size n = push_size (constant n)
+either_all : (b : Bool) (xs ys : List Instruction) (n : ℕ) → length (bytes_of_all xs) ≤ n → length (bytes_of_all ys) ≤ n
+    → length (bytes_of_all (if b then xs else ys)) ≤ n
+either_all true xs ys n h k = h
+either_all false xs ys n h k = k
 
--- Operators
-
-pub prefix_size : (op : Prefix) → item_size (items.apply_prefix op) ≤ 12
+divided_few : (op : Operation) (x y : items.Operand) (d : Destination) → has_more_types op ≡ false
+    → length (bytes_of_all (divided no_addresses op x y d)) ≤ 16
 unfolding bytes_of
-prefix_size prefixes.Minus = omega arith
-prefix_size prefixes.Complement = omega arith
-prefix_size prefixes.Not = omega arith
+divided_few op x items.pushed d e =
+    let i = giving op (in_place x ∷ Variable 248 ∷ []) (result_in d) in
+    omega (
+      arith,
+      giving_few op (in_place x) (Variable 248) d e (operand_few x) (omega arith),
+      operand_few x,
+      one_length i,
+    )
+divided_few op x (items.number n) d e =
+    let i = giving op (in_place x ∷ constant n ∷ []) (result_in d) in
+    either_all (n == 0) (fail 0) (i ∷ []) 16 (omega (arith, fail_size 0))
+    (omega (
+      arith,
+      giving_few op (in_place x) (constant n) d e (operand_few x) (constant_few (nat_lt n 256) n),
+      operand_few x,
+      constant_few (nat_lt n 256) n,
+      one_length i,
+    ))
+divided_few op x (items.variable v) d e =
+    let i = giving op (in_place x ∷ in_place (items.variable v) ∷ []) (result_in d) in
+    omega (
+      arith,
+      giving_few op (in_place x) (in_place (items.variable v)) d e (operand_few x) (omega arith),
+      operand_few x,
+      one_length i,
+    )
 
-pub operate_size : (op : Binary) → item_size (items.operate op) ≤ 14
+binary_few : (op : Binary) (x y : items.Operand) (d : Destination)
+    → length (bytes_of_all (binary_code no_addresses op x y d)) ≤ 16
+binary_few binaries.AndAlso x y d = omega arith
+binary_few binaries.OrElse x y d = omega arith
+binary_few binaries.Add x y d = omega (arith, arithmetic_few operations.Add x y d refl)
+binary_few binaries.Subtract x y d = omega (arith, arithmetic_few operations.Sub x y d refl)
+binary_few binaries.Multiply x y d = omega (arith, arithmetic_few operations.Mul x y d refl)
+binary_few binaries.Divide x y d = divided_few operations.Div x y d refl
+binary_few binaries.Remainder x y d = divided_few operations.Mod x y d refl
+binary_few binaries.And x y d = omega (arith, arithmetic_few operations.And x y d refl)
+binary_few binaries.Or x y d = omega (arith, arithmetic_few operations.Or x y d refl)
+
+prefix_few : (op : Prefix) (o : items.Operand) (d : Destination) → length (bytes_of_all (prefix_code op o d)) ≤ 6
+prefix_few prefixes.Minus o d =
+    let i = giving operations.Sub (Small 0 ∷ in_place o ∷ []) (result_in d) in
+    omega (
+      arith,
+      giving_few operations.Sub (Small 0) (in_place o) d refl (omega arith) (operand_few o),
+      operand_few o,
+      one_length i,
+    )
+prefix_few prefixes.Complement o d =
+    let i = giving operations.Not (in_place o ∷ []) (result_in d) in
+    omega (arith, few_bytes i refl, one_count (in_place o), operand_few o, one_length i)
+prefix_few prefixes.Not o d = omega arith
+
+-- one operand
+plain_few : (op : Operation) (o : Operand) → has_more_types op ≡ false
+    → length (bytes_of (plain op (o ∷ []))) ≤ 2 + length (operand_bytes o)
+plain_few op o e = omega (arith, few_bytes (plain op (o ∷ [])) e, one_count o)
+
+store_few : (v : ℕ) (o : Operand) → length (operand_bytes o) ≤ 2
+    → length (bytes_of (plain operations.Store (Small v ∷ o ∷ []))) ≤ 5
+store_few v o h = omega (arith, few_bytes (plain operations.Store (Small v ∷ o ∷ [])) refl, two_count (Small v) o)
+
+move_few : (o : items.Operand) (d : Destination) → length (bytes_of (move_code o d)) ≤ 5
+move_few o items.push = omega (arith, plain_few operations.Push (in_place o) refl, operand_few o)
+move_few items.pushed (items.into x) = omega (arith, plain_few operations.Pull (Small (spec.number_of x)) refl)
+move_few (items.number n) (items.into x) = store_few _ (constant n) (constant_few (nat_lt n 256) n)
+move_few (items.variable y) (items.into x) = store_few _ (Variable _) (omega arith)
+move_few items.pushed items.nowhere = store_few 248 (Variable 0) (omega arith)
+move_few (items.number n) items.nowhere = store_few 248 (constant n) (constant_few (nat_lt n 256) n)
+move_few (items.variable y) items.nowhere = store_few 248 (Variable _) (omega arith)
+
+step_few : (op : Step) (x : source.Variable) (d : Destination) → length (bytes_of_all (step_code op x d)) ≤ 5
 unfolding bytes_of
-operate_size binaries.AndAlso = omega arith
-operate_size binaries.OrElse = omega arith
-operate_size binaries.Add = omega arith
-operate_size binaries.Subtract = omega arith
-operate_size binaries.Multiply = omega arith
-operate_size binaries.Divide = omega arith
-operate_size binaries.Remainder = omega arith
-operate_size binaries.And = omega arith
-operate_size binaries.Or = omega arith
+step_few steps.Increment x items.push = omega arith
+step_few steps.Increment x (items.into y) = omega arith
+step_few steps.Increment x items.nowhere = omega arith
+step_few steps.Decrement x items.push = omega arith
+step_few steps.Decrement x (items.into y) = omega arith
+step_few steps.Decrement x items.nowhere = omega arith
 
-pub compare_size : (op : Comparison) → item_size (items.compare op) ≤ 16
+character_few : (o : items.Operand) → length (bytes_of_all (character_code no_addresses o)) ≤ 24
 unfolding bytes_of
-compare_size comparisons.Less = omega arith
-compare_size comparisons.Greater = omega arith
-compare_size comparisons.LessOrEqual = omega arith
-compare_size comparisons.GreaterOrEqual = omega arith
+character_few items.pushed = omega arith
+character_few (items.number n) =
+    let i = plain operations.PrintCharacter (constant n ∷ []) in
+    either_all (is_character n) (i ∷ []) (fail 0) 24
+    (omega (arith, plain_few operations.PrintCharacter (constant n) refl, constant_few (nat_lt n 256) n, one_length i))
+    (omega (arith, fail_size 0))
+character_few (items.variable x) = omega arith
 
-pub equal_size : (op : Equality) → item_size (items.equal op) ≤ 16
+either_return : (b c : Bool) (i : Instruction) → length (bytes_of i) ≤ 4
+    → length (bytes_of (if b then plain operations.ReturnTrue []
+    else (if c then plain operations.ReturnFalse [] else i))) ≤ 4
 unfolding bytes_of
-equal_size equalities.Equal = omega arith
-equal_size equalities.NotEqual = omega arith
+either_return true c i h = omega arith
+either_return false true i h = omega arith
+either_return false false i h = h
 
-pub closing_size : (op : Equality) → code_size (items.closing_items op) ≤ 15
+return_few : (o : items.Operand) → length (bytes_of (return_code o)) ≤ 4
+return_few items.pushed = omega (arith, few_bytes (plain operations.ReturnPopped []) refl)
+return_few (items.number n) = either_return (n == 1) (n == 0) (plain operations.Return (constant n ∷ []))
+    (omega (arith, plain_few operations.Return (constant n) refl, constant_few (nat_lt n 256) n))
+return_few (items.variable x) = omega (arith, plain_few operations.Return (Variable (spec.number_of x)) refl)
+
+result_few : (d : Destination) → length (result_bytes (call_result d)) ≤ 1
+result_few items.push = omega arith
+result_few (items.into x) = omega arith
+result_few items.nowhere = omega arith
+
+taken_length : (n : ℕ) (os : List items.Operand) → length (take n os) ≤ length os
+taken_length n os = omega (arith, length-take n os)
+
+call_few : (r : ℕ) (os : List items.Operand) (d : Destination)
+    → length (bytes_of_all (call_code r os d)) ≤ 9 + 4 * length os
+call_few r os d =
+    let i = calling r os d in
+    omega (
+      arith,
+      all_length (takes os) (i ∷ []),
+      one_length i,
+      parts_length i,
+      opcode_most (count_of i.operation) (number_of i.operation) (has_more_types i.operation) i.operands,
+      taken_few os,
+      result_few d,
+    )
+
+label_few : (f : Form) → size_with f ≤ 4
+label_few form.One = omega arith
+label_few form.Two = omega arith
+label_few form.Far = omega arith
+
+test_more : (test : Test) → has_more_types (test_operation test) ≡ false
+test_more items.is_zero = refl
+test_more items.less = refl
+test_more items.greater = refl
+test_more items.same = refl
+
+beside_few : (test : Test) (os : List Operand) → beside (test_operation test) os ≤ 2 + operand_count os
+beside_few test os =
+    let op = test_operation test in
+    let code = opcode_bytes (count_of op) (number_of op) (has_more_types op) os in
+    let given = flat_map operand_bytes os in
+    let e : length code ≡ length (opcode_bytes (count_of op) (number_of op) false os) =
+    ap (λ b. length (opcode_bytes (count_of op) (number_of op) b os)) (test_more test) in
+    omega (
+      arith,
+      e,
+      opcode_few (count_of op) (number_of op) os,
+      length-append code given,
+      length-append (code ++ given) [],
+    )
+
+tested_few : (test : Test) (os : List items.Operand) (when : Bool) (n : ℕ)
+    → operand_count (operands os) + length (bytes_of_all (takes os)) ≤ n
+    → length (bytes_of_all (tested_code test os when 2)) ≤ 3 + n
+tested_few test os when n h =
+    omega (
+      arith,
+      all_length (takes os) (labelled (test_operation test) (operands os) when 2),
+      labelled_length (test_operation test) (operands os) when 2,
+      beside_few test (operands os),
+      h,
+    )
+
+-- one operand, and the least word
+never_few : (o : items.Operand) → operand_count (operands (o ∷ items.number least_word ∷ []))
+    + length (bytes_of_all (takes (o ∷ items.number least_word ∷ []))) ≤ 4
+never_few items.pushed = omega arith
+never_few (items.number k) = omega (
+  arith,
+  length-append (operand_bytes (constant k)) (flat_map operand_bytes (constant least_word ∷ [])),
+  constant_few (nat_lt k 256) k,
+)
+never_few (items.variable x) = omega arith
+
+shortest_few : (test : Test) (os : List items.Operand) (when : Bool)
+    → length (bytes_of_all (branch_code test os when 2)) ≤ 3 + 4 * length os
+shortest_few items.is_zero os when = tested_few items.is_zero os when (4 * length os) (taken_few os)
+shortest_few items.less os when = tested_few items.less os when (4 * length os) (taken_few os)
+shortest_few items.greater os when = tested_few items.greater os when (4 * length os) (taken_few os)
+shortest_few items.same [] when = tested_few items.same [] when 0 (taken_few [])
+shortest_few items.same (o ∷ []) when = tested_few items.less (o ∷ items.number least_word ∷ []) when 4 (never_few o)
+shortest_few items.same (o ∷ p ∷ os) when =
+    tested_few items.same (o ∷ p ∷ os) when (4 * length (o ∷ p ∷ os)) (taken_few (o ∷ p ∷ os))
+
+branch_few : (test : Test) (os : List items.Operand) (when : Bool) (target n : ℕ) (rest : List ℕ)
+    → part_size n (part_of (items.branch test os when target)) rest ≤ 6 + 4 * length os
+branch_few test os when target n rest =
+    let given = take most_tested os in
+    let offset = offset_over (target - (n + 1)) rest in
+    omega (
+      arith,
+      shortest_few test given when,
+      length-append (bytes_of_all (branch_code test given when 2)) [],
+      taken_length most_tested os,
+      label_few (form_for offset),
+    )
+
+-- an item without a text
+no_text : (is : List Instruction) → length (bytes_of_all is ++ []) ≡ length (bytes_of_all is)
+no_text is = ap length (append-nil (bytes_of_all is))
+
+pub part_few : (i : Item) (n : ℕ) (rest : List ℕ) → part_size n (part_of i) rest ≤ most i
 unfolding bytes_of
-closing_size equalities.Equal = omega arith
-closing_size equalities.NotEqual = omega arith
+part_few (items.move o d) n rest = omega (arith, no_text (move_code o d ∷ []), one_length (move_code o d), move_few o d)
+part_few (items.apply_prefix op o d) n rest = omega (arith, no_text (prefix_code op o d), prefix_few op o d)
+part_few (items.operate op x y d) n rest =
+    omega (arith, no_text (binary_code no_addresses op x y d), binary_few op x y d)
+part_few (items.step op x d) n rest = omega (arith, no_text (step_code op x d), step_few op x d)
+part_few (items.keep x) n rest = omega arith
+part_few items.first_equal n rest = omega arith
+part_few items.also_equal n rest = omega arith
+part_few items.drop_below n rest = omega arith
+part_few (items.print_text bytes) n rest = omega (arith, text_few bytes)
+part_few (items.print_character o) n rest = omega (arith, no_text (character_code no_addresses o), character_few o)
+part_few (items.print_number o) n rest =
+    let i = plain operations.PrintNumber (in_place o ∷ []) in
+    omega (arith, no_text (i ∷ []), one_length i, plain_few operations.PrintNumber (in_place o) refl, operand_few o)
+part_few items.new_line n rest = omega arith
+part_few items.quit n rest = omega arith
+part_few (items.branch test os when target) n rest = branch_few test os when target n rest
+part_few (items.jump target) n rest = omega arith
+part_few (items.back target) n rest = omega arith
+part_few (items.call r os d) n rest =
+    let given = take most_arguments os in
+    omega (
+      arith,
+      no_text (call_code (slice_index no_addresses.routines r) given d),
+      call_few (slice_index no_addresses.routines r) given d,
+      taken_length most_arguments os,
+    )
+part_few (items.return o) n rest = omega (arith, no_text (return_code o ∷ []), one_length (return_code o), return_few o)
 
-pub step_before_size : (op : Step) (x : source.Variable) → item_size (items.step_before op x) ≤ 5
-unfolding bytes_of
-step_before_size steps.Increment x = omega arith
-step_before_size steps.Decrement x = omega arith
+lefts_few : (at : ℕ) (is : List Item) → first (lefts at (parts_of is)) ≤ most_of is
+lefts_few at [] = omega arith
+lefts_few at (i ∷ is) = let more = lefts_few (at + 1) is in
+    omega (arith, more, part_few i at (lefts (at + 1) (parts_of is)))
 
-pub step_after_size : (x : source.Variable) (op : Step) → item_size (items.step_after x op) ≤ 5
-unfolding bytes_of
-step_after_size x steps.Increment = omega arith
-step_after_size x steps.Decrement = omega arith
-
--- Calls
-
-taken_size : (n : ℕ) → length (bytes_of_all (take_arguments n)) ≡ 3 * n
-unfolding bytes_of
-taken_size zero = refl
-taken_size (suc n) = omega (arith, taken_size n)
-
-arguments_size : (n : ℕ) → length (flat_map operand_bytes (arguments n)) ≡ n
-arguments_size zero = refl
-arguments_size (suc n) =
-    simp (flat_map-append, length-append) (omega (arith, arguments_size n))
-
-given_size : (vs : Bool) (routine : ℕ) (os : List Operand) → length (bytes_of (giving (if vs then CallVs else CallVs2) (Large routine ∷ os) 0)) ≤ length (flat_map operand_bytes os) + 6
-unfolding bytes_of
-given_size true routine os = simp length-append (omega arith)
-given_size false routine os = simp length-append (omega arith)
-
-call_with_size : (r n : ℕ) → length (bytes_of_all (call_with nowhere r n) ++ []) ≤ 4 * n + 6
-call_with_size r n =
-    let last = giving (call_operation n) (Large (slice_index nowhere.routines r) ∷ arguments n) 0 in
-    let size : length (bytes_of last) ≤ n + 6 = omega (arith, given_size (nat_le n 3) (slice_index nowhere.routines r) (arguments n), arguments_size n) in
-    simp (flat_map-append, length-append, append-nil) (omega (arith, taken_size n, size))
-
-count_by : (b : Bool) (n : ℕ) → nat_le n 7 ≡ b → (if b then n else 7) ≤ n
-count_by true n e = omega arith
-count_by false n e = omega (arith, leb-false n 7 e)
-
-pub call_size : (r n : ℕ) → item_size (items.call r n) ≤ 4 * n + 6
-call_size r n = omega (arith, call_with_size r (argument_count n), count_by (nat_le n 7) n refl)
-
--- Texts
-
-chosen_length : (test : Bool) (xs ys : List ℕ) → length xs ≤ 4 → length ys ≤ 4 → length (if test then xs else ys) ≤ 4
-chosen_length true xs ys h k = h
-chosen_length false xs ys h k = k
-
-punctuation_length : (place : Option ℕ) (c : ℕ) → length (spelling_in_punctuation place c) ≤ 4
-punctuation_length (Some n) c = omega arith
-punctuation_length None c = omega arith
-
-upper_length : (place : Option ℕ) (c : ℕ) → length (spelling_in_upper place c) ≤ 4
-upper_length (Some n) c = omega arith
-upper_length None c = chosen_length (c == 13) (5 ∷ 7 ∷ []) _ (omega arith) (punctuation_length (place_in punctuation c) c)
-
-lower_length : (place : Option ℕ) (c : ℕ) → length (spelling_in_lower place c) ≤ 4
-lower_length (Some n) c = omega arith
-lower_length None c = upper_length (place_in upper_letters c) c
-
--- each character has at most four Z-characters
-spelling_length : (c : ℕ) → length (spelling_of c) ≤ 4
-unfolding spelling_of
-spelling_length c = chosen_length (c == 32) (0 ∷ []) _ (omega arith) (lower_length (place_in lower_letters c) c)
-
-spelled_length : (text : List ℕ) → length (spelled text) ≤ 4 * length text
-spelled_length [] = omega arith
-spelled_length (c ∷ cs) = omega (arith, length-append (spelling_of c) (spelled cs), spelling_length c, spelled_length cs)
-
-packed_length : (zs : List ℕ) → 3 * length (packed zs) ≤ 2 * length zs
-unfolding packed
-packed_length [] = omega arith
-packed_length (a ∷ []) = omega arith
-packed_length (a ∷ b ∷ []) = omega arith
-packed_length (a ∷ b ∷ c ∷ zs) = omega (arith, packed_length zs)
-
--- at most a word of fives
-few : (none : Bool) (n : ℕ) → (if none then 3 else n % 3) ≤ 3
-few true n = omega arith
-few false n = omega arith
-
-missing_few : (n : ℕ) → missing n ≤ 3
-missing_few n = few (n == 0) (3 - n % 3)
-
-pub encoded_length : (text : List ℕ) → length (encoded text) ≤ 3 * length text + 2
-unfolding encoded
-encoded_length text =
-    let zs = spelled text in
-    omega (arith, packed_length (padded zs), length-append zs (replicate (missing (length zs)) 5), missing_few (length zs), length-replicate {A = ℕ} (missing (length zs)) 5, spelled_length text)
-
-pub text_size : (bytes : List ℕ) → item_size (items.print_text bytes) ≤ 3 * length bytes + 3
-unfolding bytes_of
-text_size bytes = omega (arith, encoded_length (map character_of bytes), length-map bytes character_of)
+-- the code of items is no longer than they can be
+pub code_few : (is : List Item) → code_size is ≤ most_of is
+code_few is = lefts_few 0 is

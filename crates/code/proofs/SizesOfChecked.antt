@@ -21,7 +21,8 @@ use Rattle.code.proofs.SizesOfPrograms.{IsRoutineShort, code_is_short}
 
 -- the tests of sizes
 
-light_first : (heavy : Bool) (p : Position) (rest : Option Position) → (if heavy then Some p else rest) ≡ None → (heavy ≡ false) × (rest ≡ None)
+light_first : (heavy : Bool) (p : Position) (rest : Option Position) → (if heavy then Some p else rest) ≡ None
+    → (heavy ≡ false) × (rest ≡ None)
 light_first true p rest e = absurd cc
 light_first false p rest e = (refl, e)
 
@@ -35,7 +36,8 @@ record Tests (c : CheckedProgram) (version : Version) : Type 0 where
   weight : c.weight ≤ greatest_weight version
   light : All (λ (r : CheckedRoutine). r.weight ≤ 32000) c.routines
 
-small_first : (large : Bool) (f : SourceFault) (rest : Option SourceFault) → (if large then Some f else rest) ≡ None → (large ≡ false) × (rest ≡ None)
+small_first : (large : Bool) (f : SourceFault) (rest : Option SourceFault) → (if large then Some f else rest) ≡ None
+    → (large ≡ false) × (rest ≡ None)
 small_first true f rest e = absurd cc
 small_first false f rest e = (refl, e)
 
@@ -47,9 +49,13 @@ tests : (c : CheckedProgram) (version : Version) → size_fault c version ≡ No
 tests c version e =
     let heavy = heavy_fault (first_heavy c.routines) in
     let large = nat_lt (greatest_weight version) c.weight in
-    let parts = small_first (nat_lt 65535 (sum_of_parts c)) (fault 30 0) (if large then Some (fault 31 0) else heavy) e in
+    let parts = small_first (nat_lt 65535 (sum_of_parts c)) (fault 30 0) (if large then Some (fault 31 0)
+    else heavy) e in
     let whole = small_first large (fault 31 0) heavy parts.1 in
-    record { weight = ltb-false (greatest_weight version) c.weight whole.0; light = light c.routines (no_heavy (first_heavy c.routines) whole.1) }
+    record {
+      weight = ltb-false (greatest_weight version) c.weight whole.0;
+      light = light c.routines (no_heavy (first_heavy c.routines) whole.1);
+    }
 
 -- the routines of a checked program
 
@@ -60,14 +66,17 @@ module _ (whole : Table) where
   resolved_trees (trees.constant n v ∷ ds) = resolved_trees ds
   resolved_trees (trees.routine r ∷ ds) = ap (λ rs. resolve_routine whole r ∷ rs) (resolved_trees ds)
 
-  one_small : (c : CheckedRoutine) (r : RoutineTree) → routine_of c ≡ resolve_routine whole r → title_of c ≡ title r → IsRoutineShort whole r → c.weight ≤ 32000 → routine_size (routine_of c) + 7 ≤ 32000
+  one_small : (c : CheckedRoutine) (r : RoutineTree) → routine_of c ≡ resolve_routine whole r → title_of c ≡ title r
+      → IsRoutineShort whole r → c.weight ≤ 32000 → routine_size (routine_of c) + 7 ≤ 32000
   one_small c r e t h k =
       let size : routine_size (routine_of c) ≡ routine_size (resolve_routine whole r) = ap routine_size e in
       let weight : c.weight ≡ r.weight = ap (λ (x : NameTree × ℕ). x.1) t in
       omega arith
 
-  all_small : (cs : List CheckedRoutine) (rs : List RoutineTree) → map routine_of cs ≡ map (resolve_routine whole) rs → map title_of cs ≡ map title rs
-      → All (IsRoutineShort whole) rs → All (λ (c : CheckedRoutine). c.weight ≤ 32000) cs → All (λ (r : RoutineOf). routine_size r + 7 ≤ 32000) (map routine_of cs)
+  all_small : (cs : List CheckedRoutine) (rs : List RoutineTree) → map routine_of cs ≡ map (resolve_routine whole) rs
+      → map title_of cs ≡ map title rs
+      → All (IsRoutineShort whole) rs → All (λ (c : CheckedRoutine). c.weight ≤ 32000) cs
+      → All (λ (r : RoutineOf). routine_size r + 7 ≤ 32000) (map routine_of cs)
   all_small [] rs e t h k = All-nil (λ (r : RoutineOf). routine_size r + 7 ≤ 32000)
   all_small (c ∷ cs) [] e t h k = absurd cc
   all_small (c ∷ cs) (r ∷ rs) e t h k =
@@ -80,7 +89,8 @@ module _ (whole : Table) where
       (one_small c r first name (All-head (IsRoutineShort whole) r rs h) (All-head P c cs k))
       (all_small cs rs more names (All-tail (IsRoutineShort whole) r rs h) (All-tail P c cs k))
 
-routines_are : (p : ProgramTree) (c : CheckedProgram) → IsCheckedOf p c → map routine_of c.routines ≡ routines_of (table_of p.directives) p.directives
+routines_are : (p : ProgramTree) (c : CheckedProgram) → IsCheckedOf p c
+    → map routine_of c.routines ≡ routines_of (table_of p.directives) p.directives
 unfolding resolve_program
 routines_are p c h = ap (λ (x : ProgramOf). x.routines) h.program
 
@@ -93,6 +103,7 @@ small_sources_have_small_code tokens p c version g h e =
     let size = ap routines_size is in
     let weight = h.weight in
     record {
-      each = all_small whole c.routines (routine_trees p.directives) (is ∙ resolved_trees whole p.directives) h.titles short.each t.light;
+      each = all_small whole c.routines (routine_trees p.directives) (is
+          ∙ resolved_trees whole p.directives) h.titles short.each t.light;
       all = omega (arith, short.all, t.weight, size, weight);
     }

@@ -1,5 +1,5 @@
 -- The code of a program is no longer than its source weighs.
-use Rattle.std.proofs.Common.{◌≡◌, ◌≤◌, ◌+◌, ◌-◌, ℕ, List, ◌∷◌, arith}
+use Rattle.std.proofs.Common.{◌≡◌, ◌≤◌, ◌+◌, ◌-◌, ℕ, List, [], ◌∷◌, ◌++◌, arith}
 use Rattle.std.specs.List.{All}
 use Rattle.std.proofs.lemmas.List.Elements.{All-nil, All-cons}
 use Rattle.lexer.specs.declared.token.Position.{Position}
@@ -14,11 +14,11 @@ use Rattle.syntax.proofs.Spelled.{weight_Ss, spelled_Names, weighs}
 use Rattle.checker.specs.Names.{Table, look_up}
 use Rattle.checker.specs.Programs.{resolve_routine, routines_of, routine_trees}
 use Rattle.checker.specs.Statements.{resolve_statements}
-use Rattle.zcore.specs.Instruction.{bytes_of}
 use Rattle.items.specs.Items.{return_true, actions_items}
 use Rattle.code.specs.Sizes.{routine_size, routines_size}
 use Rattle.code.specs.Laws.{IsShort, CodeIsShort}
-use Rattle.code.proofs.Sizes.{size_append}
+use Rattle.code.proofs.Most.{most_append}
+use Rattle.code.proofs.Sizes.{code_few}
 use Rattle.code.proofs.SizesOfTrees.{fits_Ss}
 
 value_weight : {ts r : List Lexeme} {k : ValueTree} → IsK ts k r → weight_of r ≤ weight_of ts
@@ -45,25 +45,41 @@ module _ (whole : Table) where
 
   routine_short : {m k r : List Lexeme} {p q o l j : Position} {n : List ℕ} {ns : List NameTree} {xs : StatementTrees}
       → IsNames m ns (sign s.Semicolon o ∷ k) → IsSs k xs (sign s.CloseBracket l ∷ sign s.Semicolon j ∷ r)
-      → Weighed (sign s.OpenBracket p ∷ name n q ∷ m) (record { name = record { text = n; position = q }; locals = ns; body = xs; weight = weight_of (sign s.OpenBracket p ∷ name n q ∷ m) - weight_of r }) r
-  unfolding bytes_of
+      → Weighed (sign s.OpenBracket p ∷ name n q ∷ m)
+      (record {
+        name = record { text = n; position = q };
+        locals = ns;
+        body = xs;
+        weight = weight_of (sign s.OpenBracket p ∷ name n q ∷ m) - weight_of r;
+      }) r
   routine_short {m} {r = r} {ns = ns} {xs = xs} a b =
       let look = look_up whole ns in
       let code = (fits_Ss look b).within 0 in
       let body = weight_Ss b in
       let locals = weighs (spelled_Names a) in
       record {
-        short = omega (arith, size_append (actions_items 0 (resolve_statements look xs)) return_true, code, body, locals);
+        short = omega (
+          arith,
+          code_few (actions_items 0 (resolve_statements look xs) ++ return_true ∷ []),
+          most_append (actions_items 0 (resolve_statements look xs)) (return_true ∷ []),
+          code,
+          body,
+          locals,
+        );
         weight = omega (arith, body, locals);
       }
 
-  first_short : {ts m r : List Lexeme} {d : DirectiveTree} {ds : List DirectiveTree} → IsDirective ts d m → AreShort m ds r → AreShort ts (d ∷ ds) r
+  first_short : {ts m r : List Lexeme} {d : DirectiveTree} {ds : List DirectiveTree} → IsDirective ts d m
+      → AreShort m ds r → AreShort ts (d ∷ ds) r
   first_short d_global b = record { each = b.each; all = omega (arith, b.all) }
   first_short (d_global_value k) b = record { each = b.each; all = omega (arith, b.all, value_weight k) }
   first_short (d_constant k) b = record { each = b.each; all = omega (arith, b.all, value_weight k) }
   first_short {ds = ds} (d_routine {p = p} {q = q} {n = n} ns xs) b =
       let f = routine_short {p = p} {q = q} {n = n} ns xs in
-      record { each = All-cons IsRoutineShort _ (routine_trees ds) f.short b.each; all = omega (arith, b.all, f.short, f.weight) }
+      record {
+        each = All-cons IsRoutineShort _ (routine_trees ds) f.short b.each;
+        all = omega (arith, b.all, f.short, f.weight);
+      }
 
   are_short : {ts r : List Lexeme} {ds : List DirectiveTree} → IsDirectives ts ds r → AreShort ts ds r
   are_short directives_stop = record { each = All-nil IsRoutineShort; all = omega arith }

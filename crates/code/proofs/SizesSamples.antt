@@ -19,39 +19,44 @@ use Rattle.zcore.specs.Alphabets.{spelling_of}
 use Rattle.zcore.specs.Words.{packed}
 use Rattle.zcore.specs.Text.{encoded}
 use Rattle.items.specs.Items as items
-use Rattle.code.specs.Bytes.{item_size}
+use Rattle.code.specs.Bytes.{least_size}
 use Rattle.code.specs.Sizes.{routine_size, routines_size}
 
 -- the longest items of a fixed size
 
-character_has : item_size items.print_character ≡ 24
+character_has : least_size (items.print_character items.pushed) ≡ 24
 unfolding bytes_of
 character_has = refl
 
-first_equal_has : item_size items.first_equal ≡ 19
+first_equal_has : least_size items.first_equal ≡ 19
 unfolding bytes_of
 first_equal_has = refl
 
-also_equal_has : item_size items.also_equal ≡ 25
+also_equal_has : least_size items.also_equal ≡ 25
 unfolding bytes_of
 also_equal_has = refl
 
-remainder_has : item_size (items.operate binaries.Remainder) ≡ 14
+-- a number and the top: pull, test, fault, div
+remainder_has : least_size (items.operate binaries.Remainder (items.number 300) items.pushed items.push) ≡ 16
 unfolding bytes_of
 remainder_has = refl
 
 -- `print` and one word of fives
-no_text_has : item_size (items.print_text []) ≡ 3
+no_text_has : least_size (items.print_text []) ≡ 3
 unfolding bytes_of encoded packed
 no_text_has = refl
 
--- call_vs, and call_vs2 with its second byte of types
-calls_have : item_size (items.call 300 3) ∷ item_size (items.call 300 4) ∷ item_size (items.call 300 7) ∷ [] ≡ 17 ∷ 22 ∷ 34 ∷ []
+-- call_1s, call_vs, and call_vs2 with its second byte of types
+calls_have : least_size (items.call 300 [] items.push)
+    ∷ least_size (items.call 300 (items.pushed ∷ items.pushed ∷ items.pushed ∷ []) items.push)
+    ∷ least_size (items.call 300 (items.pushed ∷ items.pushed ∷ items.pushed ∷ items.pushed ∷ []) items.push)
+    ∷ []
+    ≡ 4 ∷ 14 ∷ 19 ∷ []
 unfolding bytes_of
 calls_have = refl
 
 -- [ Main; ];
-empty_has : routine_size (record { locals = 0; body = source.stop }) ≡ 5
+empty_has : routine_size (record { locals = 0; body = source.stop }) ≡ 2
 unfolding bytes_of
 empty_has = refl
 
@@ -64,22 +69,29 @@ abbrev after : List Lexeme
 after = sign s.Semicolon (p 8) ∷ sign s.CloseBracket (p 9) ∷ sign s.Semicolon (p 10) ∷ end (p 11) ∷ []
 
 abbrev body : List Lexeme
-body = reserved w.Print (p 3) ∷ text (codes "a") (p 4) ∷ sign s.Comma (p 4) ∷ number 6 (p 5) ∷ sign s.Slash (p 6) ∷ number 2 (p 7) ∷ after
+body = reserved w.Print (p 3) ∷ text (codes "a") (p 4) ∷ sign s.Comma (p 4) ∷ number 6 (p 5) ∷ sign s.Slash
+    (p 6) ∷ number 2 (p 7) ∷ after
 
 abbrev tokens : List Lexeme
 tokens = sign s.OpenBracket (p 0) ∷ name (codes "Main") (p 1) ∷ sign s.Semicolon (p 2) ∷ body
 
 -- 6 / 2, and the tokens after it
-abbrev divided : IsE (number 6 (p 5) ∷ sign s.Slash (p 6) ∷ number 2 (p 7) ∷ after) (trees.binary binaries.Divide (trees.constant 6) (trees.constant 2)) after
-divided = e_plain (e1_plain (n1_plain (e2_plain (e3_plain (e4_scale (e4_plain (n4_plain (u_plain p_number))) refl (n4_plain (u_plain p_number)))))))
+abbrev divided : IsE (number 6 (p 5) ∷ sign s.Slash (p 6) ∷ number 2 (p 7) ∷ after)
+    (trees.binary binaries.Divide (trees.constant 6) (trees.constant 2)) after
+divided = e_plain (e1_plain (n1_plain
+    (e2_plain (e3_plain (e4_scale (e4_plain (n4_plain (u_plain p_number))) refl (n4_plain (u_plain p_number)))))))
 
 abbrev sample : (t : ProgramTree) × IsProgram tokens t
-sample = (_, program (directives_next (d_routine names_stop (ss_next (s_print (items_comma item_text (items_last (item_number divided)))) ss_stop)) directives_stop))
+sample = (
+  _,
+  program (directives_next (d_routine names_stop
+      (ss_next (s_print (items_comma item_text (items_last (item_number divided)))) ss_stop)) directives_stop),
+)
 
 sample_weighs : sample.0.weight ≡ 387
 sample_weighs = refl
 
--- a text of 5 bytes, two numbers of 3, a division of 14, the printing of a number of 3, and 4 at the end
-sample_has : routines_size (routines_of first_table sample.0.directives) ≡ 1 + (3 + 3 + 3 + 14 + 3 + 4) + 7
+-- a text of 3 bytes, a division of 4, the printing of its word of 3, and 1 at the end
+sample_has : routines_size (routines_of first_table sample.0.directives) ≡ 1 + (3 + 4 + 3 + 1) + 7
 unfolding bytes_of encoded packed spelling_of look_up
 sample_has = refl

@@ -10,7 +10,7 @@ use Rattle.zcore.specs.declared.place.Place.TheVariants as places
 use Rattle.zcore.specs.declared.place.Limit.TheVariants as limits
 use Rattle.zcore.specs.Instruction.{decode, bytes_of, opcode, operands, operand, byte, large, result_variable, branch}
 use Rattle.zcore.specs.Turn.{Whole, opening, plays, last_place, turn_from, weight}
-use Rattle.zcore.specs.Step.{step, perform, give_result, divide, load, increment, decrement, push_word, pull, jump, call_packed, return_popped, print_characters, print_inline, print_packed, print_character, text_at}
+use Rattle.zcore.specs.Step.{step, perform, give_result, divide, load, increment, decrement, push_word, pull, store, jump, call_packed, return_popped, print_characters, print_inline, print_packed, print_character, text_at}
 use Rattle.zcore.specs.Parts.{read_in_place, write_in_place, push, pop, read_local, write_local, read_global, write_global, read_variable, write_variable, test_variable, test_pull, operand_value, operand_values, test_result, store_result, test_target, spend, go, test_routine, test_calls, enter, call, test_return, leave, give_back, take_branch, branch_on, print}
 use Rattle.zcore.specs.Text.{decoded, abbreviation, encoded}
 use Rattle.zcore.specs.Reading.{reads}
@@ -33,7 +33,8 @@ slot size bytes = take size (bytes ++ replicate size 0)
 abbrev routine_bytes : Addresses → RoutineOf → List ℕ
 routine_bytes a r = r.locals ∷ code_bytes a (routine_items r)
 
--- Version 5; globals at 64, static memory and the texts of faults from 544 on, code from 672 on, Main at 680, another routine at 840.
+-- Version 5; globals at 64, static memory and the texts of faults from 544 on, code from 672 on, Main at 680, another
+-- routine at 840.
 abbrev pub a : Addresses
 a = record { routines = 170 ∷ 210 ∷ []; division_by_zero = 136; not_a_character = 152 }
 
@@ -60,7 +61,8 @@ global g = source.read (variables.Global g)
 
 abbrev pub greeting : List source.Printed
 greeting =
-    source.text (codes "Hi^") ∷ source.number_of (source.call 1 (source.more (source.number 20) (source.more (source.number 22) source.none)))
+    source.text (codes "Hi^") ∷ source.number_of
+    (source.call 1 (source.more (source.number 20) (source.more (source.number 22) source.none)))
     ∷ source.character_of (source.number 65) ∷ []
 
 abbrev pub count_down : List source.Printed
@@ -69,7 +71,8 @@ count_down = source.number_of (global 0) ∷ []
 abbrev pub quotient_of_seven : List source.Printed
 quotient_of_seven = source.number_of (source.binary binaries.Divide (source.number 7) (global 0)) ∷ []
 
--- [ Main; print "Hi^", f(20, 22), (char) 65; g = 3; while (g > 0) { print g; g--; } print 7 / g; ];  [ f a b; return a + b; ];
+-- [ Main; print "Hi^", f(20, 22), (char) 65; g = 3; while (g > 0) { print g; g--; } print 7 / g; ]; [ f a b; return a +
+-- b; ];
 abbrev pub main : RoutineOf
 main = record {
   locals = 0;
@@ -85,7 +88,10 @@ main = record {
 }
 
 abbrev pub sum_of_two : RoutineOf
-sum_of_two = record { locals = 2; body = list (source.return_value (source.binary binaries.Add (local 0) (local 1)) ∷ []) }
+sum_of_two = record {
+  locals = 2;
+  body = list (source.return_value (source.binary binaries.Add (local 0) (local 1)) ∷ []);
+}
 
 abbrev pub program : ProgramOf
 program = record { globals = 9 ∷ []; routines = main ∷ sum_of_two ∷ []; main = 0 }
@@ -96,43 +102,59 @@ story = story_of (0 ∷ 9 ∷ []) main sum_of_two
 abbrev texts : List Whole → List (List ℕ)
 texts wholes = map (λ (w : Whole). w.text) wholes
 
-means : (meaning program 1000 []).texts ≡ (codes "Hi" ++ 10 ∷ codes "42A321" ++ 10 ∷ codes "[Fault: division by zero]" ++ 10 ∷ []) ∷ []
+means : (meaning program 1000 []).texts ≡ (codes "Hi" ++ 10 ∷ codes "42A321" ++ 10 ∷ codes "[Fault: division by zero]"
+    ++ 10 ∷ []) ∷ []
 unfolding meaning signed_text decimal
 means = refl
 
-played : texts (plays story 1000 []) ≡ (codes "Hi" ++ 10 ∷ codes "42A321" ++ 10 ∷ codes "[Fault: division by zero]" ++ 10 ∷ []) ∷ []
-unfolding bytes_of encoded packed spelling_of opening turn_from weight step perform give_result divide load increment decrement push_word pull jump call_packed return_popped print_characters print_inline print_packed print_character text_at read_in_place write_in_place push pop read_local write_local read_global write_global read_variable write_variable test_variable test_pull operand_value operand_values test_result store_result test_target spend go test_routine test_calls enter call test_return leave give_back take_branch branch_on print decoded abbreviation reads unpacked_text decode opcode operands operand byte large result_variable branch signed_text decimal quotient
+played : texts (plays story 1000 []) ≡ (codes "Hi" ++ 10 ∷ codes "42A321" ++ 10 ∷ codes "[Fault: division by zero]"
+    ++ 10 ∷ []) ∷ []
+unfolding bytes_of encoded packed spelling_of opening turn_from weight step perform give_result divide load increment decrement push_word pull store jump call_packed return_popped print_characters print_inline print_packed print_character text_at read_in_place write_in_place push pop read_local write_local read_global write_global read_variable write_variable test_variable test_pull operand_value operand_values test_result store_result test_target spend go test_routine test_calls enter call test_return leave give_back take_branch branch_on print decoded abbreviation reads unpacked_text decode opcode operands operand byte large result_variable branch signed_text decimal quotient
 played = refl
 
 ends : last_place (plays story 1000 []) ≡ places.Quit
-unfolding bytes_of encoded packed spelling_of opening turn_from weight step perform give_result divide load increment decrement push_word pull jump call_packed return_popped print_characters print_inline print_packed print_character text_at read_in_place write_in_place push pop read_local write_local read_global write_global read_variable write_variable test_variable test_pull operand_value operand_values test_result store_result test_target spend go test_routine test_calls enter call test_return leave give_back take_branch branch_on print decoded abbreviation reads unpacked_text decode opcode operands operand byte large result_variable branch signed_text decimal quotient
+unfolding bytes_of encoded packed spelling_of opening turn_from weight step perform give_result divide load increment decrement push_word pull store jump call_packed return_popped print_characters print_inline print_packed print_character text_at read_in_place write_in_place push pop read_local write_local read_global write_global read_variable write_variable test_variable test_pull operand_value operand_values test_result store_result test_target spend go test_routine test_calls enter call test_return leave give_back take_branch branch_on print decoded abbreviation reads unpacked_text decode opcode operands operand byte large result_variable branch signed_text decimal quotient
 ends = refl
 
 -- with 4 units the call of Main, that of the other routine and two rounds of the loop are paid, and no third
-means_stopped : meaning program 4 [] ≡ record { texts = (codes "Hi" ++ 10 ∷ codes "42A321" ++ 10 ∷ codes "[Limit: turn too long]" ++ 10 ∷ []) ∷ []; place = places.Limit limits.Fuel }
+means_stopped : meaning program 4 [] ≡ record {
+  texts = (codes "Hi" ++ 10 ∷ codes "42A321" ++ 10 ∷ codes "[Limit: turn too long]" ++ 10 ∷ []) ∷ [];
+  place = places.Limit limits.Fuel;
+}
 unfolding meaning signed_text decimal
 means_stopped = refl
 
-stopped : texts (plays story 4 []) ≡ (codes "Hi" ++ 10 ∷ codes "42A321" ++ 10 ∷ codes "[Limit: turn too long]" ++ 10 ∷ []) ∷ []
-unfolding bytes_of encoded packed spelling_of opening turn_from weight step perform give_result divide load increment decrement push_word pull jump call_packed return_popped print_characters print_inline print_packed print_character text_at read_in_place write_in_place push pop read_local write_local read_global write_global read_variable write_variable test_variable test_pull operand_value operand_values test_result store_result test_target spend go test_routine test_calls enter call test_return leave give_back take_branch branch_on print decoded abbreviation reads unpacked_text decode opcode operands operand byte large result_variable branch signed_text decimal quotient
+stopped : texts (plays story 4 []) ≡ (codes "Hi" ++ 10 ∷ codes "42A321" ++ 10 ∷ codes "[Limit: turn too long]"
+    ++ 10 ∷ []) ∷ []
+unfolding bytes_of encoded packed spelling_of opening turn_from weight step perform give_result divide load increment decrement push_word pull store jump call_packed return_popped print_characters print_inline print_packed print_character text_at read_in_place write_in_place push pop read_local write_local read_global write_global read_variable write_variable test_variable test_pull operand_value operand_values test_result store_result test_target spend go test_routine test_calls enter call test_return leave give_back take_branch branch_on print decoded abbreviation reads unpacked_text decode opcode operands operand byte large result_variable branch signed_text decimal quotient
 stopped = refl
 
 -- [ Main; f(1); ];  [ f a; return f(a); ];
 abbrev calls_itself : ProgramOf
 calls_itself = record {
   globals = 0 ∷ [];
-  routines = record { locals = 0; body = list (source.effect (source.call 1 (source.more (source.number 1) source.none)) ∷ []) }
-      ∷ record { locals = 1; body = list (source.return_value (source.call 1 (source.more (local 0) source.none)) ∷ []) }
+  routines = record {
+    locals = 0;
+    body = list (source.effect (source.call 1 (source.more (source.number 1) source.none)) ∷ []);
+  }
+      ∷ record {
+        locals = 1;
+        body = list (source.return_value (source.call 1 (source.more (local 0) source.none)) ∷ []);
+      }
       ∷ [];
   main = 0;
 }
 
-means_endless : meaning calls_itself 12 [] ≡ record { texts = (10 ∷ codes "[Limit: turn too long]" ++ 10 ∷ []) ∷ []; place = places.Limit limits.Fuel }
+means_endless : meaning calls_itself 12 [] ≡ record {
+  texts = (10 ∷ codes "[Limit: turn too long]" ++ 10 ∷ []) ∷ [];
+  place = places.Limit limits.Fuel;
+}
 unfolding meaning
 means_endless = refl
 
-endless : texts (plays (story_of [] (routine_at calls_itself.routines 0) (routine_at calls_itself.routines 1)) 12 []) ≡ (10 ∷ codes "[Limit: turn too long]" ++ 10 ∷ []) ∷ []
-unfolding bytes_of encoded packed spelling_of opening turn_from weight step perform give_result divide load increment decrement push_word pull jump call_packed return_popped print_characters print_inline print_packed print_character text_at read_in_place write_in_place push pop read_local write_local read_global write_global read_variable write_variable test_variable test_pull operand_value operand_values test_result store_result test_target spend go test_routine test_calls enter call test_return leave give_back take_branch branch_on print decoded abbreviation reads unpacked_text decode opcode operands operand byte large result_variable branch signed_text decimal quotient
+endless : texts (plays (story_of [] (routine_at calls_itself.routines 0) (routine_at calls_itself.routines 1)) 12 [])
+    ≡ (10 ∷ codes "[Limit: turn too long]" ++ 10 ∷ []) ∷ []
+unfolding bytes_of encoded packed spelling_of opening turn_from weight step perform give_result divide load increment decrement push_word pull store jump call_packed return_popped print_characters print_inline print_packed print_character text_at read_in_place write_in_place push pop read_local write_local read_global write_global read_variable write_variable test_variable test_pull operand_value operand_values test_result store_result test_target spend go test_routine test_calls enter call test_return leave give_back take_branch branch_on print decoded abbreviation reads unpacked_text decode opcode operands operand byte large result_variable branch signed_text decimal quotient
 endless = refl
 
 -- [ Main; if (g == 3 or 9 && ~~0) print "yes~"; else print "no"; print -5, (char) 5; ];  with 9 in g
@@ -140,20 +162,26 @@ abbrev asks : RoutineOf
 asks = record {
   locals = 0;
   body = list (
-      source.if_else (source.binary binaries.AndAlso (source.equal equalities.Equal (global 0) (source.more (source.number 3) (source.more (source.number 9) source.none))) (source.prefixed prefixes.Not (source.number 0)))
+      source.if_else (source.binary binaries.AndAlso
+      (source.equal equalities.Equal (global 0)
+      (source.more (source.number 3) (source.more (source.number 9) source.none)))
+      (source.prefixed prefixes.Not (source.number 0)))
       (source.print (source.text (codes "yes~") ∷ []))
       (source.print (source.text (codes "no") ∷ []))
-      ∷ source.print (source.number_of (source.prefixed prefixes.Minus (source.number 5)) ∷ source.character_of (source.number 5) ∷ [])
+      ∷ source.print (source.number_of (source.prefixed prefixes.Minus (source.number 5)) ∷ source.character_of
+      (source.number 5) ∷ [])
       ∷ []);
 }
 
 abbrev asking : ProgramOf
 asking = record { globals = 9 ∷ []; routines = asks ∷ sum_of_two ∷ []; main = 0 }
 
-means_asked : (meaning asking 100 []).texts ≡ (codes "yes" ++ 34 ∷ codes "-5" ++ 10 ∷ codes "[Fault: not a character]" ++ 10 ∷ []) ∷ []
+means_asked : (meaning asking 100 []).texts ≡ (codes "yes" ++ 34 ∷ codes "-5" ++ 10 ∷ codes "[Fault: not a character]"
+    ++ 10 ∷ []) ∷ []
 unfolding meaning signed_text decimal
 means_asked = refl
 
-asked : texts (plays (story_of (0 ∷ 9 ∷ []) asks sum_of_two) 100 []) ≡ (codes "yes" ++ 34 ∷ codes "-5" ++ 10 ∷ codes "[Fault: not a character]" ++ 10 ∷ []) ∷ []
-unfolding bytes_of encoded packed spelling_of opening turn_from weight step perform give_result divide load increment decrement push_word pull jump call_packed return_popped print_characters print_inline print_packed print_character text_at read_in_place write_in_place push pop read_local write_local read_global write_global read_variable write_variable test_variable test_pull operand_value operand_values test_result store_result test_target spend go test_routine test_calls enter call test_return leave give_back take_branch branch_on print decoded abbreviation reads unpacked_text decode opcode operands operand byte large result_variable branch signed_text decimal quotient
+asked : texts (plays (story_of (0 ∷ 9 ∷ []) asks sum_of_two) 100 [])
+    ≡ (codes "yes" ++ 34 ∷ codes "-5" ++ 10 ∷ codes "[Fault: not a character]" ++ 10 ∷ []) ∷ []
+unfolding bytes_of encoded packed spelling_of opening turn_from weight step perform give_result divide load increment decrement push_word pull store jump call_packed return_popped print_characters print_inline print_packed print_character text_at read_in_place write_in_place push pop read_local write_local read_global write_global read_variable write_variable test_variable test_pull operand_value operand_values test_result store_result test_target spend go test_routine test_calls enter call test_return leave give_back take_branch branch_on print decoded abbreviation reads unpacked_text decode opcode operands operand byte large result_variable branch signed_text decimal quotient
 asked = refl

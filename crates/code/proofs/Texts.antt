@@ -1,14 +1,14 @@
 -- What characters print, and texts that stand in a story.
 use Rattle.std.proofs.Common.{◌≡◌, ℕ, suc, ◌+◌, ◌-◌, ◌^◌, ◌<◌, ◌≤◌, List, [], ◌∷◌, ◌++◌, codes, length, Bool, true, false, Ok, refl, ap, ◌∙◌, arith}
 use Rattle.std.specs.Prelude.{nat_lt, nat_le, nat_eq, if◌then◌else◌, map, ◌&&◌, ◌||◌}
-use Rattle.std.specs.List.{All, flat_map, list_all}
+use Rattle.std.specs.List.{All, flat_map, filter, list_all}
 use Rattle.std.proofs.lemmas.Bool.{le-leb, ne_eqb, ltb-true, leb-true, and_parts}
 use Rattle.zcore.specs.Alphabets.{is_printable, spelling_of}
 use Rattle.zcore.specs.Words.{packed}
 use Rattle.zcore.specs.Arithmetic.{digit, decimal, signed_text}
 use Rattle.zcore.specs.Parts.{transcribed}
 use Rattle.zcore.specs.Text.{Holds, decoded, encoded}
-use Rattle.zcore.proofs.Spelling.{AreBytes, printable_below}
+use Rattle.zcore.proofs.Spelling.{AreBytes}
 use Rattle.zcore.proofs.RoundTrip.{round_trip}
 use Rattle.checker.specs.World.{shown}
 use Rattle.code.specs.Bytes.{character_of}
@@ -46,64 +46,90 @@ plain_decimal n =
     let three = plain_digit n 100 _ two in
     let four = plain_digit n 1000 _ three in
     let five = plain_digit n 10000 _ four in
-    plain_either (nat_lt n 10) _ _ one (plain_either (nat_lt n 100) _ _ two (plain_either (nat_lt n 1000) _ _ three (plain_either (nat_lt n 10000) _ _ four five)))
+    plain_either (nat_lt n 10) _ _ one (plain_either (nat_lt n 100) _ _ two
+    (plain_either (nat_lt n 1000) _ _ three (plain_either (nat_lt n 10000) _ _ four five)))
 
 -- a signed word in decimal prints itself
 pub number_prints : (word : ℕ) → flat_map transcribed (signed_text word) ≡ signed_text word
 unfolding signed_text
-number_prints word = plain_either (nat_le 32768 word) _ _ (plain_more 45 (decimal (65536 - word)) (omega arith) (plain_decimal (65536 - word))) (plain_decimal word)
+number_prints word = plain_either (nat_le 32768 word) _ _
+    (plain_more 45 (decimal (65536 - word)) (omega arith) (plain_decimal (65536 - word))) (plain_decimal word)
 
 -- Texts between quotes
 
--- a character between quotes
-abbrev chosen : Bool → Bool → Bool → ℕ → ℕ
-chosen caret tilde printable c = if caret then 13 else (if tilde then 34 else (if printable then c else 63))
-
-shown_by : (b d : Bool) (c : ℕ) → 14 ≤ c → transcribed (chosen b d true c) ≡ (if b then 10 else (if d then 34 else c)) ∷ []
+shown_by : (b d : Bool) (c : ℕ) → 14 ≤ c
+    → transcribed (if b then 13 else (if d then 34 else c)) ≡ (if b then 10 else (if d then 34 else c)) ∷ []
 shown_by true d c from = refl
 shown_by false true c from = refl
 shown_by false false c from = prints_itself c from
+
+pub text_prints : (bytes : List ℕ) → All IsPrintable bytes
+    → flat_map transcribed (map character_of bytes) ≡ map shown bytes
+text_prints [] h = refl
+text_prints (c ∷ cs) h =
+    let here : (32 ≤ c) × (c ≤ 126) = h 0 c (omega arith) in
+    ap (λ x. x ++ flat_map transcribed (map character_of cs))
+    (shown_by (nat_eq c 94) (nat_eq c 126) c (omega (arith, here.0)))
+    ∙ ap (λ xs. shown c ∷ xs) (text_prints cs (λ k d l. h (suc k) d (omega (arith, l))))
+
+small_by : (b d : Bool) (c : ℕ) → c ≤ 126 → (if b then 13 else (if d then 34 else c)) < 256
+small_by true d c h = omega arith
+small_by false true c h = omega arith
+small_by false false c h = omega (arith, h)
 
 printable_or : (b x : Bool) → x ≡ true → (b || x) ≡ true
 printable_or true x h = refl
 printable_or false x h = h
 
-printable_at : (c : ℕ) → 32 ≤ c → c ≤ 126 → is_printable c ≡ true
-printable_at c low high = printable_or (nat_eq c 13) (nat_le 32 c && nat_le c 126) (rw (le-leb 32 c low, le-leb c 126 high) refl)
+printable_by : (b d : Bool) (c : ℕ) → 32 ≤ c → c ≤ 126 → is_printable (if b then 13 else (if d then 34 else c)) ≡ true
+printable_by true d c h k = refl
+printable_by false true c h k = refl
+printable_by false false c h k =
+    let low : nat_le 32 c ≡ true = le-leb 32 c h in
+    let high : nat_le c 126 ≡ true = le-leb c 126 k in
+    printable_or (nat_eq c 13) (nat_le 32 c && nat_le c 126) (rw (low, high) refl)
 
-pub text_prints : (bytes : List ℕ) → All IsPrintable bytes → flat_map transcribed (map character_of bytes) ≡ map shown bytes
-text_prints [] h = refl
-text_prints (c ∷ cs) h =
+text_bytes : (bytes : List ℕ) → All IsPrintable bytes → AreBytes (map character_of bytes)
+text_bytes [] h = tt
+text_bytes (c ∷ cs) h =
     let here : (32 ≤ c) × (c ≤ 126) = h 0 c (omega arith) in
-    ap (λ b. transcribed (chosen (nat_eq c 94) (nat_eq c 126) b c) ++ flat_map transcribed (map character_of cs)) (printable_at c here.0 here.1)
-    ∙ ap (λ x. x ++ flat_map transcribed (map character_of cs)) (shown_by (nat_eq c 94) (nat_eq c 126) c (omega (arith, here.0)))
-    ∙ ap (λ xs. shown c ∷ xs) (text_prints cs (λ k d l. h (suc k) d (omega (arith, l))))
+    (small_by (nat_eq c 94) (nat_eq c 126) c here.1, text_bytes cs (λ k d l. h (suc k) d (omega (arith, l))))
 
--- each of them is printable, whatever stands between the quotes
-chosen_printable : (b d e : Bool) (c : ℕ) → is_printable c ≡ e → is_printable (chosen b d e c) ≡ true
-chosen_printable true d e c h = refl
-chosen_printable false true e c h = refl
-chosen_printable false false true c h = h
-chosen_printable false false false c h = refl
+text_printable : (bytes : List ℕ) → All IsPrintable bytes → list_all is_printable (map character_of bytes) ≡ true
+text_printable [] h = refl
+text_printable (c ∷ cs) h =
+    let here : (32 ≤ c) × (c ≤ 126) = h 0 c (omega arith) in
+    let one = printable_by (nat_eq c 94) (nat_eq c 126) c here.0 here.1 in
+    let more = text_printable cs (λ k d l. h (suc k) d (omega (arith, l))) in
+    rw (one, more) refl
 
-pub all_printable : (bytes : List ℕ) → list_all is_printable (map character_of bytes) ≡ true
-all_printable [] = refl
-all_printable (c ∷ cs) =
-    ap (λ b. b && list_all is_printable (map character_of cs)) (chosen_printable (nat_eq c 94) (nat_eq c 126) (is_printable c) c refl) ∙ all_printable cs
+-- nothing of it is left out
+kept_by : (cs : List ℕ) → list_all is_printable cs ≡ true → filter is_printable cs ≡ cs
+kept_by [] e = refl
+kept_by (c ∷ cs) e = let parts = and_parts (is_printable c) (list_all is_printable cs) e in
+    rw parts.0 (ap (λ xs. c ∷ xs) (kept_by cs parts.1))
 
-bytes_of_printable : (text : List ℕ) → list_all is_printable text ≡ true → AreBytes text
-bytes_of_printable [] h = tt
-bytes_of_printable (c ∷ cs) h =
-    let parts = and_parts (is_printable c) (list_all is_printable cs) h in
-    let small : c < 127 = printable_below c parts.0 in
-    (omega (arith, small), bytes_of_printable cs parts.1)
+pub printable_kept : (bytes : List ℕ) → All IsPrintable bytes
+    → filter is_printable (map character_of bytes) ≡ map character_of bytes
+printable_kept bytes printable = kept_by (map character_of bytes) (text_printable bytes printable)
+
+-- what is kept can be printed
+pub only_printable : (cs : List ℕ) → list_all is_printable (filter is_printable cs) ≡ true
+only_printable [] = refl
+only_printable (c ∷ cs) = go (only_printable cs) (is_printable c) refl
+  where
+    go : list_all is_printable (filter is_printable cs) ≡ true → (b : Bool) → is_printable c ≡ b
+        → list_all is_printable (if b then c ∷ filter is_printable cs else filter is_printable cs) ≡ true
+    go more true e = rw e more
+    go more false e = more
 
 -- the text of an item is read back
-pub text_read : (bytes story : List ℕ) (q : ℕ) → Holds story q (encoded (map character_of bytes)) → q + length (encoded (map character_of bytes)) < 2 ^ 32
+pub text_read : (bytes story : List ℕ) (q : ℕ) → All IsPrintable bytes
+    → Holds story q (encoded (map character_of bytes)) → q + length (encoded (map character_of bytes)) < 2 ^ 32
     → decoded story q ≡ Ok (map character_of bytes, q + length (encoded (map character_of bytes)))
-text_read bytes story q h low =
-    let printable = all_printable bytes in
-    round_trip (map character_of bytes) (encoded (map character_of bytes)) story q (bytes_of_printable (map character_of bytes) printable) printable refl h low
+text_read bytes story q printable h low =
+    round_trip (map character_of bytes) (encoded (map character_of bytes)) story q (text_bytes bytes printable)
+    (text_printable bytes printable) refl h low
 
 -- Faults
 
@@ -122,13 +148,25 @@ bytes_below (c ∷ cs) e =
 
 pub division_line : IsLine (codes "division by zero")
 unfolding encoded packed spelling_of
-division_line = record { bytes = bytes_below (fault_line (codes "division by zero")) refl; printable = refl; prints = refl; short = refl }
+division_line = record {
+  bytes = bytes_below (fault_line (codes "division by zero")) refl;
+  printable = refl;
+  prints = refl;
+  short = refl;
+}
 
 pub character_line : IsLine (codes "not a character")
 unfolding encoded packed spelling_of
-character_line = record { bytes = bytes_below (fault_line (codes "not a character")) refl; printable = refl; prints = refl; short = refl }
+character_line = record {
+  bytes = bytes_below (fault_line (codes "not a character")) refl;
+  printable = refl;
+  prints = refl;
+  short = refl;
+}
 
 -- the line of a fault is read back
-pub line_read : (words story : List ℕ) (q : ℕ) → IsLine words → Holds story q (encoded (fault_line words)) → q < 524288 → decoded story q ≡ Ok (fault_line words, q + length (encoded (fault_line words)))
+pub line_read : (words story : List ℕ) (q : ℕ) → IsLine words → Holds story q (encoded (fault_line words)) → q < 524288
+    → decoded story q ≡ Ok (fault_line words, q + length (encoded (fault_line words)))
 line_read words story q line h low =
-    round_trip (fault_line words) (encoded (fault_line words)) story q line.bytes line.printable refl h (omega (arith, low, leb-true (length (encoded (fault_line words))) 1000 line.short))
+    round_trip (fault_line words) (encoded (fault_line words)) story q line.bytes line.printable refl h
+    (omega (arith, low, leb-true (length (encoded (fault_line words))) 1000 line.short))

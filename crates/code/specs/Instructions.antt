@@ -1,24 +1,22 @@
--- How items are written: the instructions that do them (Z-Machine Standards Document 1.1, sections 4 and 15). The words on which
--- an item works are on the stack of the routine's frame. Variables from 248 on are the compiler's; none keeps its value beyond an item.
-use Rattle.std.specs.Prelude.{◌+◌, ◌-◌, ◌%◌, ℕ, zero, suc, nat_le, nat_lt, Bool, true, false, if◌then◌else◌, List, [], ◌∷◌, ◌++◌, slice_index, Some, None}
+-- How items are written: the instructions that do them (Z-Machine Standards Document 1.1, sections 4 and 15). Numbers
+-- and variables stand in place in an instruction; the other operands are on the stack of the routine's frame. Variables
+-- from 248 on are the compiler's; none keeps its value beyond an item.
+use Rattle.std.specs.Prelude.{◌+◌, ◌-◌, ◌%◌, ◌==◌, not, ℕ, zero, suc, nat_le, nat_lt, Bool, true, false, if◌then◌else◌, List, [], ◌∷◌, ◌++◌, take, length, slice_index, Option, Some, None}
 use Rattle.zcore.specs.declared.instruction.Operand.{Operand}
 use Rattle.zcore.specs.declared.instruction.Operand.TheVariants.{Large, Small, Variable}
 use Rattle.zcore.specs.declared.instruction.Operation.{Operation}
-use Rattle.zcore.specs.declared.instruction.Operation.TheVariants.{JumpIfEqual, JumpIfLess, JumpIfGreater, Or, And, Add, Sub, Mul, Div, Mod, JumpIfZero, Increment, Decrement, Jump, PrintPacked, Load, Print, ReturnPopped, Quit, NewLine, CallVs, PrintCharacter, PrintNumber, Push, Pull, CallVs2, Not}
+use Rattle.zcore.specs.declared.instruction.Operation.TheVariants.{JumpIfEqual, JumpIfLess, JumpIfGreater, Or, And, Store, Add, Sub, Mul, Div, Mod, JumpIfZero, Increment, Decrement, Call1s, Return, Jump, PrintPacked, Load, Call1n, ReturnTrue, ReturnFalse, Print, ReturnPopped, Quit, NewLine, CallVs, PrintCharacter, PrintNumber, Push, Pull, CallVs2, Not, CallVn, CallVn2}
 use Rattle.zcore.specs.Instruction.{Instruction}
 use Rattle.expressions.specs.declared.tree.Binary.{Binary}
 use Rattle.expressions.specs.declared.tree.Binary.TheVariants as binaries
-use Rattle.expressions.specs.declared.tree.Comparison.{Comparison}
-use Rattle.expressions.specs.declared.tree.Comparison.TheVariants as comparisons
-use Rattle.expressions.specs.declared.tree.Equality.{Equality}
-use Rattle.expressions.specs.declared.tree.Equality.TheVariants as equalities
 use Rattle.expressions.specs.declared.tree.Prefix.{Prefix}
 use Rattle.expressions.specs.declared.tree.Prefix.TheVariants as prefixes
 use Rattle.expressions.specs.declared.tree.Step.{Step}
 use Rattle.expressions.specs.declared.tree.Step.TheVariants as steps
 use Rattle.checker.specs.declared.resolved.Variable as source
 use Rattle.checker.specs.declared.resolved.Variable.TheVariants as variables
-use Rattle.items.specs.Items.{Item}
+use Rattle.checker.specs.Meaning.{is_character}
+use Rattle.items.specs.Items.{Item, Destination, Test}
 use Rattle.items.specs.Items as items
 use Rattle.code.specs.Addresses.{Addresses}
 
@@ -30,13 +28,20 @@ plain operation operands = record { operation = operation; operands = operands; 
 
 -- one that stores its result in a variable
 abbrev pub giving : Operation → List Operand → ℕ → Instruction
-giving operation operands variable = record { operation = operation; operands = operands; result = Some variable; branch = None }
+giving operation operands variable =
+    record { operation = operation; operands = operands; result = Some variable; branch = None }
 
 -- one that branches where its condition is as asked
 abbrev pub branching : Operation → List Operand → Bool → ℕ → Instruction
-branching operation operands when offset = record { operation = operation; operands = operands; result = None; branch = Some (record { when = when; offset = offset }) }
+branching operation operands when offset =
+    record {
+      operation = operation;
+      operands = operands;
+      result = None;
+      branch = Some (record { when = when; offset = offset });
+    }
 
--- the number of a variable of the source, one byte: locals from 1 on, globals from 16 on (4.2.2)
+-- the number of a variable of the source: locals from 1 on, globals from 16 on (4.2.2), in a byte
 abbrev pub number_of : source.Variable → ℕ
 number_of (variables.Local i) = (1 + i) % 256
 number_of (variables.Global g) = (16 + g) % 256
@@ -63,6 +68,9 @@ pull variable = plain Pull (Small variable ∷ [])
 abbrev pub copy : ℕ → Instruction
 copy variable = giving Load (Small 0 ∷ []) variable
 
+abbrev pub store : ℕ → Operand → Instruction
+store variable operand = plain Store (Small variable ∷ operand ∷ [])
+
 -- 1 is pushed where a branch leads to the last of these, by 8 from the one before them, and else 0
 abbrev pub flag : List Instruction
 flag = push (Small 0) ∷ plain Jump (Large 5 ∷ []) ∷ push (Small 1) ∷ []
@@ -75,54 +83,111 @@ fail text = plain PrintPacked (Large text ∷ []) ∷ plain Quit [] ∷ []
 abbrev pub jump_offset : ℕ → ℕ → ℕ
 jump_offset after target = (target + 65538 - after) % 65536
 
--- Items
+-- Operands
 
--- the word is on the top of the stack
-abbrev pub prefix_code : Prefix → List Instruction
-prefix_code prefixes.Minus = giving Sub (Small 0 ∷ top ∷ []) 0 ∷ []
-prefix_code prefixes.Complement = giving Not (top ∷ []) 0 ∷ []
-prefix_code prefixes.Not = branching JumpIfZero (top ∷ []) true 8 ∷ flag
+-- an operand that is pushed is on the top of the stack
+abbrev pub in_place : items.Operand → Operand
+in_place items.pushed = top
+in_place (items.number n) = constant n
+in_place (items.variable x) = Variable (number_of x)
 
--- the right operand is in the first temporary
-abbrev pub arithmetic : Operation → Instruction
-arithmetic operation = giving operation (top ∷ Variable (temporary 0) ∷ []) 0
+-- Of several operands that are pushed all but the first are pulled into temporaries, the last first. How many are
+-- pushed
+abbrev pub pushed_count : List items.Operand → ℕ
+pushed_count [] = 0
+pushed_count (items.pushed ∷ os) = 1 + pushed_count os
+pushed_count (items.number n ∷ os) = pushed_count os
+pushed_count (items.variable x ∷ os) = pushed_count os
 
--- a division tests its right operand first
-abbrev pub divided : Addresses → Operation → List Instruction
-divided a operation = branching JumpIfZero (Variable (temporary 0) ∷ []) false 6 ∷ (fail a.division_by_zero ++ arithmetic operation ∷ [])
+-- `pull` into the temporaries from n - 1 down to 0
+abbrev pub take_words : ℕ → List Instruction
+take_words zero = []
+take_words (suc n) = pull (temporary n) ∷ take_words n
 
--- `&&` and `||` are jumps, and no item
-abbrev pub binary_code : Addresses → Binary → List Instruction
-binary_code a binaries.AndAlso = []
-binary_code a binaries.OrElse = []
-binary_code a binaries.Add = arithmetic Add ∷ []
-binary_code a binaries.Subtract = arithmetic Sub ∷ []
-binary_code a binaries.Multiply = arithmetic Mul ∷ []
-binary_code a binaries.Divide = divided a Div
-binary_code a binaries.Remainder = divided a Mod
-binary_code a binaries.And = arithmetic And ∷ []
-binary_code a binaries.Or = arithmetic Or ∷ []
+abbrev pub takes : List items.Operand → List Instruction
+takes os = take_words (pushed_count os - 1)
 
--- the top of the stack against the first temporary
-abbrev pub test : Operation → Bool → List Instruction
-test operation when = branching operation (top ∷ Variable (temporary 0) ∷ []) when 8 ∷ flag
+-- operands behind the first that is pushed, whose words are in the temporaries from one on
+abbrev pub named_from : ℕ → List items.Operand → List Operand
+named_from n [] = []
+named_from n (items.pushed ∷ os) = Variable (temporary n) ∷ named_from (n + 1) os
+named_from n (items.number k ∷ os) = constant k ∷ named_from n os
+named_from n (items.variable x ∷ os) = Variable (number_of x) ∷ named_from n os
 
-abbrev pub comparison_code : Comparison → List Instruction
-comparison_code comparisons.Less = test JumpIfLess true
-comparison_code comparisons.Greater = test JumpIfGreater true
-comparison_code comparisons.LessOrEqual = test JumpIfGreater false
-comparison_code comparisons.GreaterOrEqual = test JumpIfLess false
+abbrev pub operands : List items.Operand → List Operand
+operands [] = []
+operands (items.pushed ∷ os) = top ∷ named_from 0 os
+operands (items.number k ∷ os) = constant k ∷ operands os
+operands (items.variable x ∷ os) = Variable (number_of x) ∷ operands os
 
-abbrev pub equality_code : Equality → List Instruction
-equality_code equalities.Equal = test JumpIfEqual true
-equality_code equalities.NotEqual = test JumpIfEqual false
+-- the most operands of an instruction that branches, and of a call beside its routine; an accepted program has no more
+abbrev pub most_tested : ℕ
+most_tested = 4
+
+abbrev pub most_arguments : ℕ
+most_arguments = 7
+
+-- Where a word goes: the result of an instruction. One that goes nowhere goes to a temporary.
+abbrev pub result_in : Destination → ℕ
+result_in items.push = 0
+result_in (items.into x) = number_of x
+result_in items.nowhere = temporary 0
+
+-- Words
+
+abbrev pub move_code : items.Operand → Destination → Instruction
+move_code o items.push = push (in_place o)
+move_code items.pushed (items.into x) = pull (number_of x)
+move_code (items.number n) (items.into x) = store (number_of x) (constant n)
+move_code (items.variable y) (items.into x) = store (number_of x) (Variable (number_of y))
+move_code o items.nowhere = store (temporary 0) (in_place o)
+
+-- `~~` is a branch, and no item
+abbrev pub prefix_code : Prefix → items.Operand → Destination → List Instruction
+prefix_code prefixes.Minus o d = giving Sub (Small 0 ∷ in_place o ∷ []) (result_in d) ∷ []
+prefix_code prefixes.Complement o d = giving Not (in_place o ∷ []) (result_in d) ∷ []
+prefix_code prefixes.Not o d = []
+
+abbrev pub arithmetic : Operation → items.Operand → items.Operand → Destination → List Instruction
+arithmetic operation a b d = takes (a ∷ b ∷ []) ++ giving operation (operands (a ∷ b ∷ [])) (result_in d) ∷ []
+
+-- a division by the word of a variable, which is tested first
+abbrev pub divided_by : Addresses → Operation → items.Operand → ℕ → Destination → List Instruction
+divided_by a operation x variable d =
+    branching JumpIfZero (Variable variable ∷ []) false 6 ∷ (fail a.division_by_zero
+    ++ giving operation (in_place x ∷ Variable variable ∷ []) (result_in d) ∷ [])
+
+-- a number as divisor is not tested
+abbrev pub divided : Addresses → Operation → items.Operand → items.Operand → Destination → List Instruction
+divided a operation x items.pushed d = pull (temporary 0) ∷ divided_by a operation x (temporary 0) d
+divided a operation x (items.number n) d =
+    if n == 0 then fail a.division_by_zero else giving operation (in_place x ∷ constant n ∷ []) (result_in d) ∷ []
+divided a operation x (items.variable y) d = divided_by a operation x (number_of y) d
+
+-- `&&` and `||` are branches, and no item
+abbrev pub binary_code : Addresses → Binary → items.Operand → items.Operand → Destination → List Instruction
+binary_code a binaries.AndAlso x y d = []
+binary_code a binaries.OrElse x y d = []
+binary_code a binaries.Add x y d = arithmetic Add x y d
+binary_code a binaries.Subtract x y d = arithmetic Sub x y d
+binary_code a binaries.Multiply x y d = arithmetic Mul x y d
+binary_code a binaries.Divide x y d = divided a Div x y d
+binary_code a binaries.Remainder x y d = divided a Mod x y d
+binary_code a binaries.And x y d = arithmetic And x y d
+binary_code a binaries.Or x y d = arithmetic Or x y d
 
 abbrev pub step_operation : Step → Operation
 step_operation steps.Increment = Increment
 step_operation steps.Decrement = Decrement
 
-abbrev pub step_code : Step → source.Variable → Instruction
-step_code op x = plain (step_operation op) (Small (number_of x) ∷ [])
+abbrev pub stepping : Step → source.Variable → Instruction
+stepping op x = plain (step_operation op) (Small (number_of x) ∷ [])
+
+-- the new word is read from the variable
+abbrev pub step_code : Step → source.Variable → Destination → List Instruction
+step_code op x items.push = stepping op x ∷ push (Variable (number_of x)) ∷ []
+step_code op x (items.into y) = stepping op x ∷ store (number_of y) (Variable (number_of x)) ∷ []
+step_code op x items.nowhere = stepping op x ∷ []
 
 -- the left side stays below; it is compared with the right side that is taken
 abbrev pub first_equal_code : List Instruction
@@ -142,62 +207,100 @@ also_equal_code =
     ∷ branching JumpIfZero (Variable (temporary 1) ∷ []) false 8
     ∷ flag
 
+-- Printing
+
 -- a character is 0, 13 or from 32 to 126, and else the fault's text is printed
-abbrev pub character_code : Addresses → List Instruction
-character_code a =
-    pull (temporary 0)
-    ∷ branching JumpIfEqual (Variable (temporary 0) ∷ Small 0 ∷ Small 13 ∷ []) true 14
-    ∷ branching JumpIfLess (Variable (temporary 0) ∷ Small 32 ∷ []) true 6
-    ∷ branching JumpIfGreater (Variable (temporary 0) ∷ Small 126 ∷ []) false 6
-    ∷ (fail a.not_a_character ++ plain PrintCharacter (Variable (temporary 0) ∷ []) ∷ [])
+abbrev pub tested_character : Addresses → ℕ → List Instruction
+tested_character a variable =
+    branching JumpIfEqual (Variable variable ∷ Small 0 ∷ Small 13 ∷ []) true 14
+    ∷ branching JumpIfLess (Variable variable ∷ Small 32 ∷ []) true 6
+    ∷ branching JumpIfGreater (Variable variable ∷ Small 126 ∷ []) false 6
+    ∷ (fail a.not_a_character ++ plain PrintCharacter (Variable variable ∷ []) ∷ [])
 
--- the arguments go to temporaries, the last first
-abbrev pub take_arguments : ℕ → List Instruction
-take_arguments zero = []
-take_arguments (suc n) = pull (temporary n) ∷ take_arguments n
+abbrev pub character_code : Addresses → items.Operand → List Instruction
+character_code a items.pushed = pull (temporary 0) ∷ tested_character a (temporary 0)
+character_code a (items.number n) =
+    if is_character n then plain PrintCharacter (constant n ∷ []) ∷ [] else fail a.not_a_character
+character_code a (items.variable x) = tested_character a (number_of x)
 
-abbrev pub arguments : ℕ → List Operand
-arguments zero = []
-arguments (suc n) = arguments n ++ Variable (temporary n) ∷ []
+-- Branches to labels
 
--- up to three arguments have one byte of types, more have two (section 15, `call_vs`, `call_vs2`)
-abbrev pub call_operation : ℕ → Operation
-call_operation n = if nat_le n 3 then CallVs else CallVs2
+abbrev pub test_operation : Test → Operation
+test_operation items.is_zero = JumpIfZero
+test_operation items.less = JumpIfLess
+test_operation items.greater = JumpIfGreater
+test_operation items.same = JumpIfEqual
 
--- a call has at most seven arguments (section 15, `call_vs2`)
-abbrev pub argument_count : ℕ → ℕ
-argument_count n = if nat_le n 7 then n else 7
+-- to 8,191 the branch itself, and else the opposite branch over a jump
+abbrev pub labelled : Operation → List Operand → Bool → ℕ → List Instruction
+labelled operation os when offset =
+    if nat_lt offset 8192 then branching operation os when offset ∷ []
+    else branching operation os (not when) 5 ∷ plain Jump (Large (offset % 65536) ∷ []) ∷ []
 
-abbrev pub call_with : Addresses → ℕ → ℕ → List Instruction
-call_with a r n = take_arguments n ++ giving (call_operation n) (Large (slice_index a.routines r) ∷ arguments n) 0 ∷ []
+abbrev pub tested_code : Test → List items.Operand → Bool → ℕ → List Instruction
+tested_code test os when offset = takes os ++ labelled (test_operation test) (operands os) when offset
 
-abbrev pub call_code : Addresses → ℕ → ℕ → List Instruction
-call_code a r n = call_with a r (argument_count n)
+-- the test that a word equals one of none is never so
+abbrev pub asks_none : Test → List items.Operand → Bool
+asks_none items.same (o ∷ []) = true
+asks_none test os = false
 
--- The instructions of an item that stands at a place of its routine's code, where items stand at these places
-abbrev pub item_code : Addresses → (ℕ → ℕ) → ℕ → Item → List Instruction
-item_code a places at (items.push_number n) = push (constant n) ∷ []
-item_code a places at (items.push_variable x) = push (Variable (number_of x)) ∷ []
-item_code a places at (items.keep x) = copy (number_of x) ∷ []
-item_code a places at (items.step_before op x) = step_code op x ∷ push (Variable (number_of x)) ∷ []
-item_code a places at (items.step_after x op) = push (Variable (number_of x)) ∷ step_code op x ∷ []
-item_code a places at (items.apply_prefix op) = prefix_code op
-item_code a places at (items.operate op) = pull (temporary 0) ∷ binary_code a op
-item_code a places at (items.compare op) = pull (temporary 0) ∷ comparison_code op
-item_code a places at (items.equal op) = pull (temporary 0) ∷ equality_code op
-item_code a places at items.first_equal = first_equal_code
-item_code a places at items.also_equal = also_equal_code
-item_code a places at items.drop_below = pull 0 ∷ []
-item_code a places at items.truth = branching JumpIfZero (top ∷ []) false 8 ∷ flag
-item_code a places at items.drop = pull (temporary 0) ∷ []
-item_code a places at (items.print_text bytes) = plain Print [] ∷ []
-item_code a places at items.print_character = character_code a
-item_code a places at items.print_number = plain PrintNumber (top ∷ []) ∷ []
-item_code a places at items.new_line = plain NewLine [] ∷ []
-item_code a places at items.quit = plain Quit [] ∷ []
-item_code a places at (items.if_zero target) =
-    branching JumpIfZero (top ∷ []) false 5 ∷ plain Jump (Large (jump_offset (at + 6) (places target)) ∷ []) ∷ []
-item_code a places at (items.jump target) = plain Jump (Large (jump_offset (at + 3) (places target)) ∷ []) ∷ []
-item_code a places at (items.back target) = plain Jump (Large (jump_offset (at + 3) (places target)) ∷ []) ∷ []
-item_code a places at (items.call r n) = call_code a r n
-item_code a places at items.return = plain ReturnPopped [] ∷ []
+-- the signed word that no word is less than
+abbrev pub least_word : ℕ
+least_word = 32768
+
+abbrev pub branch_code : Test → List items.Operand → Bool → ℕ → List Instruction
+branch_code test os when offset =
+    if asks_none test os then tested_code items.less (os ++ items.number least_word ∷ []) when offset
+    else tested_code test os when offset
+
+-- Calls and returns
+
+-- Up to three arguments have one byte of types, more have two; no argument has none (section 15, `call_1s` and others).
+-- Beside a routine, whose address is a large constant, one argument would have a byte of types in each form.
+abbrev pub call_operation : ℕ → Destination → Operation
+call_operation n items.nowhere = if n == 0 then Call1n else (if nat_le n 3 then CallVn else CallVn2)
+call_operation n d = if n == 0 then Call1s else (if nat_le n 3 then CallVs else CallVs2)
+
+abbrev pub call_result : Destination → Option ℕ
+call_result items.push = Some 0
+call_result (items.into x) = Some (number_of x)
+call_result items.nowhere = None
+
+abbrev pub calling : ℕ → List items.Operand → Destination → Instruction
+calling routine os d = record {
+  operation = call_operation (length os) d;
+  operands = Large routine ∷ operands os;
+  result = call_result d;
+  branch = None;
+}
+
+abbrev pub call_code : ℕ → List items.Operand → Destination → List Instruction
+call_code routine os d = takes os ++ calling routine os d ∷ []
+
+abbrev pub return_code : items.Operand → Instruction
+return_code items.pushed = plain ReturnPopped []
+return_code (items.number n) =
+    if n == 1 then plain ReturnTrue [] else (if n == 0 then plain ReturnFalse [] else plain Return (constant n ∷ []))
+return_code (items.variable x) = plain Return (Variable (number_of x) ∷ [])
+
+-- The instructions of an item, where its branch or its jump has this offset
+abbrev pub item_code : Addresses → ℕ → Item → List Instruction
+item_code a offset (items.move o d) = move_code o d ∷ []
+item_code a offset (items.apply_prefix op o d) = prefix_code op o d
+item_code a offset (items.operate op x y d) = binary_code a op x y d
+item_code a offset (items.step op x d) = step_code op x d
+item_code a offset (items.keep x) = copy (number_of x) ∷ []
+item_code a offset items.first_equal = first_equal_code
+item_code a offset items.also_equal = also_equal_code
+item_code a offset items.drop_below = pull 0 ∷ []
+item_code a offset (items.print_text bytes) = plain Print [] ∷ []
+item_code a offset (items.print_character o) = character_code a o
+item_code a offset (items.print_number o) = plain PrintNumber (in_place o ∷ []) ∷ []
+item_code a offset items.new_line = plain NewLine [] ∷ []
+item_code a offset items.quit = plain Quit [] ∷ []
+item_code a offset (items.branch test os when target) = branch_code test (take most_tested os) when offset
+item_code a offset (items.jump target) = plain Jump (Large (offset % 65536) ∷ []) ∷ []
+item_code a offset (items.back target) = plain Jump (Large (offset % 65536) ∷ []) ∷ []
+item_code a offset (items.call r os d) = call_code (slice_index a.routines r) (take most_arguments os) d
+item_code a offset (items.return o) = return_code o ∷ []

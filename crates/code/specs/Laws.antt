@@ -28,18 +28,22 @@ pub record Plays (story : List ℕ) (p : ProgramOf) (full : ℕ) (lines : List (
 -- a story that holds an accepted program plays it, with any fuel and on any lines
 abbrev pub CodePlays : Type 0
 CodePlays =
-    (story : List ℕ) (a : Addresses) (p : ProgramOf) → IsAccepted p → HasPrintableTexts p → HoldsProgram story a p → (full : ℕ) (lines : List (List ℕ)) → Plays story p full lines
+    (story : List ℕ) (a : Addresses) (p : ProgramOf) → IsAccepted p → HasPrintableTexts p → HoldsProgram story a p
+    → (full : ℕ) (lines : List (List ℕ)) → Plays story p full lines
 
--- where names stand for what a table tells: the code of each routine, and that of all of them, is no longer than the source weighs
+-- where names stand for what a table tells: the code of each routine, and that of all of them, is no longer than the
+-- source weighs
 pub record IsShort (p : ProgramTree) (whole : Table) : Type 0 where
-  pub each : All (λ (r : RoutineTree). routine_size (resolve_routine whole r) + 7 ≤ r.weight) (routine_trees p.directives)
+  pub each : All (λ (r : RoutineTree). routine_size (resolve_routine whole r) + 7 ≤ r.weight)
+      (routine_trees p.directives)
   pub all : routines_size (routines_of whole p.directives) ≤ p.weight
 
 -- the code of the program that some tokens are is short, whatever its names stand for
 abbrev pub CodeIsShort : Type 0
 CodeIsShort = (tokens : List Lexeme) (p : ProgramTree) → IsProgram tokens p → (whole : Table) → IsShort p whole
 
--- the code of a checked program is within the limits of a source's weight: 32,000 for a routine, and the version's for all
+-- the code of a checked program is within the limits of a source's weight: 32,000 for a routine, and the version's for
+-- all
 pub record IsSmall (c : CheckedProgram) (version : Version) : Type 0 where
   pub each : All (λ (r : RoutineOf). routine_size r + 7 ≤ 32000) (program_of c).routines
   pub all : routines_size (program_of c).routines ≤ greatest_weight version
@@ -47,4 +51,5 @@ pub record IsSmall (c : CheckedProgram) (version : Version) : Type 0 where
 -- so is that of each source that is not too large for a version
 abbrev pub SmallSourcesHaveSmallCode : Type 0
 SmallSourcesHaveSmallCode =
-    (tokens : List Lexeme) (p : ProgramTree) (c : CheckedProgram) (version : Version) → IsProgram tokens p → IsCheckedOf p c → size_fault c version ≡ None → IsSmall c version
+    (tokens : List Lexeme) (p : ProgramTree) (c : CheckedProgram) (version : Version) → IsProgram tokens p
+    → IsCheckedOf p c → size_fault c version ≡ None → IsSmall c version

@@ -18,7 +18,8 @@ use Rattle.code.specs.Bytes.{bytes_of_all, code_size, code_bytes}
 abbrev pub start_code : ℕ → List ℕ
 start_code main = bytes_of_all (plain Call1n (Large main ∷ []) ∷ plain Quit [] ∷ [])
 
--- a routine at a packed address: how many locals it has, and its code (5.2). Bytes follow it, and it stands in static memory or behind.
+-- a routine at a packed address: how many locals it has, and its code (5.2). Bytes follow it, and it stands in static
+-- memory or behind.
 pub record HoldsRoutine (story : List ℕ) (a : Addresses) (packed : ℕ) (r : RoutineOf) : Type 0 where
   pub bytes : Holds story (unpacked story packed) (r.locals ∷ code_bytes a (routine_items r))
   pub followed : unpacked story packed + 1 + code_size (routine_items r) < length story
@@ -40,7 +41,8 @@ fault_line words = 13 ∷ codes "[Fault: " ++ words ++ codes "]" ++ 13 ∷ []
 -- A story that holds a program
 pub record HoldsProgram (story : List ℕ) (a : Addresses) (p : ProgramOf) : Type 0 where
   pub byte_each : All (λ b. b < 256) story
-  pub routines : (r : ℕ) → r < length p.routines → HoldsRoutine story a (slice_index a.routines r) (routine_at p.routines r)
+  pub routines : (r : ℕ) → r < length p.routines
+      → HoldsRoutine story a (slice_index a.routines r) (routine_at p.routines r)
   pub division_by_zero : HoldsText story a.division_by_zero (fault_line (codes "division by zero"))
   pub not_a_character : HoldsText story a.not_a_character (fault_line (codes "not a character"))
   -- the code that begins the story

@@ -99,7 +99,8 @@ pub fn put_instruction(
     branch: Option<Branch>,
 ) -> Result<(), AllocError>
     requires { IfSome branch (λ b. b.offset < 16384) }
-    ensures { OnOk result (bytes.new.items ≡ bytes.old.items ++ bytes_of (record { operation = operation; operands = operands.now; result = variable; branch = branch })) }
+    ensures { OnOk result (bytes.new.items ≡ bytes.old.items
+        ++ bytes_of (record { operation = operation; operands = operands.now; result = variable; branch = branch })) }
 {
     put_opcode(bytes, operation, operands)?;
     put_operands(bytes, operands)?;
@@ -198,6 +199,16 @@ pub fn pull(variable: u8) -> Instruction
     ensures { instruction_of result ≡ spec.pull variable }
 {
     plain(Operation::Pull, Operands::One(Operand::Small(variable)))
+}
+
+/// A word goes to a variable.
+pub fn store(variable: u8, operand: Operand) -> Instruction
+    ensures { instruction_of result ≡ spec.store variable operand }
+{
+    plain(
+        Operation::Store,
+        Operands::Two(Operand::Small(variable), operand),
+    )
 }
 
 /// The word on the top of the stack goes to a variable too.

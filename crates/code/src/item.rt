@@ -1,22 +1,20 @@
 //! The instructions of an item.
 
-ghost use Rattle.std.specs.Prelude.{◌≡◌, ◌++◌, [], ◌∷◌, false, OnOk};
-ghost use Rattle.zcore.specs.declared.instruction.Operation.TheVariants.{JumpIfZero, PrintNumber};
-ghost use Rattle.items.specs.Code.{item_of};
-ghost use Rattle.code.specs.Instructions.{top, flag};
+ghost use Rattle.std.specs.Prelude.{◌≡◌, ◌++◌, ◌%◌, [], ◌∷◌, OnOk};
+ghost use Rattle.zcore.specs.declared.instruction.Operation.TheVariants.{PrintNumber};
+ghost use Rattle.items.specs.Code.{item_of, as_operand};
 ghost use Rattle.code.specs.Instructions as spec;
 ghost use Rattle.code.specs.Bytes.{bytes_of_all, item_bytes};
-ghost use Rattle.code.specs.Written.{addresses_of, places_in};
+ghost use Rattle.code.specs.Written.{addresses_of};
 
-use crate::addresses::Layout;
-use crate::calls::put_call;
-use crate::instruction::{FIRST, Operands, TOP, branching, plain, pull, put_all};
-use crate::jumps::{put_if_zero, put_jump};
-use crate::operators::{
-    put_also_equal, put_binary, put_comparison, put_equality, put_first_equal, put_flag, put_prefix,
-};
+use crate::addresses::{Addresses, routine_address};
+use crate::calls::{put_call, put_return};
+use crate::instruction::{Operands, plain, pull, put_all};
+use crate::jumps::{put_branch, put_jump};
+use crate::operands::in_place;
+use crate::operators::{put_also_equal, put_binary, put_first_equal, put_prefix};
 use crate::printing::{put_character, put_text};
-use crate::words::{put_keep, put_number, put_step_after, put_step_before, put_variable};
+use crate::words::{put_keep, put_move, put_step};
 use items::Item;
 use std::alloc::{AllocError, Global};
 use zcore::Operation;
@@ -28,66 +26,67 @@ fn put_bare(bytes: &mut Vec<u8>, operation: Operation) -> Result<(), AllocError>
     put_all(bytes, &[plain(operation, Operands::Zero)])
 }
 
-/// The topmost word goes to a variable, 0 for the word below it.
-fn put_pull(bytes: &mut Vec<u8>, variable: u8) -> Result<(), AllocError>
-    ensures { OnOk result (bytes.new.items ≡ bytes.old.items ++ bytes_of_all (spec.pull variable ∷ [])) }
+/// The word below the topmost one goes.
+fn put_drop_below(bytes: &mut Vec<u8>) -> Result<(), AllocError>
+    ensures { OnOk result (bytes.new.items ≡ bytes.old.items ++ bytes_of_all (spec.pull 0 ∷ [])) }
 {
-    put_all(bytes, &[pull(variable)])
+    put_all(bytes, &[pull(0)])
 }
 
-/// 1 for a topmost word that is true, 0 for one that is not.
-fn put_truth(bytes: &mut Vec<u8>) -> Result<(), AllocError>
-    ensures { OnOk result (bytes.new.items ≡ bytes.old.items ++ bytes_of_all (spec.branching JumpIfZero (top ∷ []) false 8 ∷ flag)) }
+/// A word is printed as a signed number.
+fn put_print_number(bytes: &mut Vec<u8>, operand: items::Operand) -> Result<(), AllocError>
+    ensures { OnOk result (bytes.new.items ≡ bytes.old.items
+        ++ bytes_of_all (spec.plain PrintNumber (spec.in_place (as_operand operand) ∷ []) ∷ [])) }
 {
-    put_flag(
-        bytes,
-        branching(Operation::JumpIfZero, Operands::One(TOP), false, 8),
-    )
+    let operands = Operands::One(in_place(operand));
+    put_all(bytes, &[plain(Operation::PrintNumber, operands)])
 }
 
-/// The topmost word is printed as a signed number.
-fn put_print_number(bytes: &mut Vec<u8>) -> Result<(), AllocError>
-    ensures { OnOk result (bytes.new.items ≡ bytes.old.items ++ bytes_of_all (spec.plain PrintNumber (top ∷ []) ∷ [])) }
-{
-    put_all(bytes, &[plain(Operation::PrintNumber, Operands::One(TOP))])
-}
-
-/// The bytes of an item that stands at a place of its routine's code.
+/// The bytes of an item whose branch or jump has this offset.
 #[tactic(auto, using(crate::proofs::Chains::no_text))]
 pub fn put_item(
     bytes: &mut Vec<u8>,
     alloc: Global,
-    layout: &Layout<'_>,
-    at: usize,
-    item: Item<'_>,
+    addresses: &Addresses<'_>,
+    offset: usize,
+    item: &Item<'_>,
 ) -> Result<(), AllocError>
-    ensures { OnOk result (bytes.new.items ≡ bytes.old.items ++ item_bytes (addresses_of layout.now.addresses) (places_in layout.now) at (item_of item.entry)) }
+    ensures { OnOk result (bytes.new.items ≡ bytes.old.items
+        ++ item_bytes (addresses_of addresses.now) offset (item_of item.now)) }
 {
     match item {
-        Item::PushNumber(number) => put_number(bytes, number)?,
-        Item::PushVariable(variable) => put_variable(bytes, variable)?,
-        Item::Keep(variable) => put_keep(bytes, variable)?,
-        Item::StepBefore(step, variable) => put_step_before(bytes, step, variable)?,
-        Item::StepAfter(variable, step) => put_step_after(bytes, variable, step)?,
-        Item::Prefix(operator) => put_prefix(bytes, operator)?,
-        Item::Operate(operator) => put_binary(bytes, &layout.addresses, operator)?,
-        Item::Compare(operator) => put_comparison(bytes, operator)?,
-        Item::Equal(operator) => put_equality(bytes, operator)?,
+        Item::Move(operand, destination) => put_move(bytes, *operand, *destination)?,
+        Item::Prefix(operator, operand, destination) => {
+            put_prefix(bytes, *operator, *operand, *destination)?
+        }
+        Item::Operate(operator, left, right, destination) => put_binary(
+            bytes,
+            alloc,
+            addresses,
+            *operator,
+            *left,
+            *right,
+            *destination,
+        )?,
+        Item::Step(step, variable, destination) => put_step(bytes, *step, *variable, *destination)?,
+        Item::Keep(variable) => put_keep(bytes, *variable)?,
         Item::FirstEqual => put_first_equal(bytes)?,
         Item::AlsoEqual => put_also_equal(bytes)?,
-        Item::DropBelow => put_pull(bytes, 0)?,
-        Item::Truth => put_truth(bytes)?,
-        Item::Drop => put_pull(bytes, FIRST)?,
+        Item::DropBelow => put_drop_below(bytes)?,
         Item::PrintText(text) => put_text(bytes, alloc, text)?,
-        Item::PrintCharacter => put_character(bytes, &layout.addresses)?,
-        Item::PrintNumber => put_print_number(bytes)?,
+        Item::PrintCharacter(operand) => put_character(bytes, addresses, *operand)?,
+        Item::PrintNumber(operand) => put_print_number(bytes, *operand)?,
         Item::NewLine => put_bare(bytes, Operation::NewLine)?,
         Item::Quit => put_bare(bytes, Operation::Quit)?,
-        Item::IfZero(target) => put_if_zero(bytes, layout, at, target)?,
-        Item::Jump(target) => put_jump(bytes, layout, at, target)?,
-        Item::Back(target) => put_jump(bytes, layout, at, target)?,
-        Item::Call(routine, count) => put_call(bytes, &layout.addresses, routine, count)?,
-        Item::Return => put_bare(bytes, Operation::ReturnPopped)?,
+        Item::Branch(test, operands, when, _) => {
+            put_branch(bytes, alloc, *test, operands, *when, offset)?
+        }
+        Item::Jump(_) | Item::Back(_) => put_jump(bytes, (offset % 65536) as u16)?,
+        Item::Call(routine, operands, destination) => {
+            let address = routine_address(addresses, *routine);
+            put_call(bytes, alloc, address, operands, *destination)?
+        }
+        Item::Return(operand) => put_return(bytes, *operand)?,
     }
     Ok(())
 }

@@ -1,53 +1,156 @@
-//! Jumps to other items.
+//! Branches and jumps to other items.
 
-ghost use Rattle.std.specs.Prelude.{◌≡◌, ◌+◌, ◌++◌, [], ◌∷◌, false, OnOk};
+ghost use Rattle.std.specs.Prelude.{◌≡◌, ◌≤◌, ◌+◌, ◌++◌, [], ◌∷◌, length, take, not, OnOk};
+ghost use Rattle.zcore.specs.declared.instruction.Operation.TheVariants.{Jump};
 ghost use Rattle.zcore.specs.declared.instruction.Operand.TheVariants.{Large};
-ghost use Rattle.zcore.specs.declared.instruction.Operation.TheVariants.{Jump, JumpIfZero};
-ghost use Rattle.code.specs.Instructions.{branching, plain, top};
+ghost use Rattle.items.specs.Items as source_items;
+ghost use Rattle.items.specs.Code.{as_operands, as_test};
+ghost use Rattle.code.specs.Instructions.{plain, labelled, tested_code, branch_code, test_operation};
 ghost use Rattle.code.specs.Instructions as spec;
 ghost use Rattle.code.specs.Bytes.{bytes_of_all};
-ghost use Rattle.code.specs.Written.{places_in};
 
-use crate::addresses::{Layout, place_of};
-use crate::instruction::{Operands, TOP, branching, plain, put_all};
-use std::alloc::AllocError;
-use zcore::{Operand, Operation};
+use crate::instruction::{Operands, plain, put_all, put_instruction};
+use crate::operands::{put_named, put_takes};
+use items::Test;
+use std::alloc::{AllocError, Global};
+use zcore::{Branch, Operand, Operation};
 
-/// The offset of a jump that leads from the address after it to another: `size` bytes from `at` on end with the jump.
-fn jump_offset(at: usize, size: u8, target: usize) -> u16
-    ensures { result ≡ spec.jump_offset (at + size) target }
+/// The most operands of an instruction that branches.
+const MOST_TESTED: usize = 4;
+
+/// The signed word that no word is less than.
+const LEAST_WORD: u16 = 0x8000;
+
+/// The branch by a label that leads over the opposite branch and a jump.
+const OVER_JUMP: u16 = 5;
+
+/// Offsets from here on have the far form.
+const TWO_BYTE_LIMIT: usize = 8192;
+
+/// The offset of a jump that leads from the address after it to another.
+pub fn jump_offset(after: usize, target: usize) -> u16
+    ensures { result ≡ spec.jump_offset after target }
 {
-    let after = at as u128 + size as u128;
-    ((target as u128 + 65538).saturating_sub(after) % 65536) as u16
+    ((target as u128 + 65538).saturating_sub(after as u128) % 65536) as u16
 }
 
-/// A jump to the item of a number; the jump stands at a place of the code.
-pub fn put_jump(
-    bytes: &mut Vec<u8>,
-    layout: &Layout<'_>,
-    at: usize,
-    target: usize,
-) -> Result<(), AllocError>
-    ensures { OnOk result (bytes.new.items ≡ bytes.old.items ++ bytes_of_all (plain Jump (Large (spec.jump_offset (at + 3) (places_in layout.now target)) ∷ []) ∷ [])) }
+/// A jump by an offset.
+pub fn put_jump(bytes: &mut Vec<u8>, offset: u16) -> Result<(), AllocError>
+    ensures { OnOk result (bytes.new.items ≡ bytes.old.items ++ bytes_of_all (plain Jump (Large offset ∷ []) ∷ [])) }
 {
-    let offset = jump_offset(at, 3, place_of(layout, target));
     put_all(
         bytes,
         &[plain(Operation::Jump, Operands::One(Operand::Large(offset)))],
     )
 }
 
-/// A jump to the item of a number where the topmost word is 0; it stands at a place of the code.
-pub fn put_if_zero(
+/// A branch by an offset of two bytes, or the opposite branch over a jump where it does not reach.
+#[tactic(auto, using(crate::proofs::Chains::one_there, crate::proofs::Chains::two_there))]
+fn put_labelled(
     bytes: &mut Vec<u8>,
-    layout: &Layout<'_>,
-    at: usize,
-    target: usize,
+    operation: Operation,
+    operands: &[Operand],
+    when: bool,
+    offset: usize,
 ) -> Result<(), AllocError>
-    ensures { OnOk result (bytes.new.items ≡ bytes.old.items ++ bytes_of_all (branching JumpIfZero (top ∷ []) false 5 ∷ plain Jump (Large (spec.jump_offset (at + 6) (places_in layout.now target)) ∷ []) ∷ [])) }
+    ensures { OnOk result (bytes.new.items ≡ bytes.old.items ++ bytes_of_all (labelled operation operands.now when offset)) }
 {
-    let offset = jump_offset(at, 6, place_of(layout, target));
-    let over = branching(Operation::JumpIfZero, Operands::One(TOP), false, 5);
-    let jump = plain(Operation::Jump, Operands::One(Operand::Large(offset)));
-    put_all(bytes, &[over, jump])
+    if offset < TWO_BYTE_LIMIT {
+        let branch = Branch {
+            when,
+            offset: offset as u16,
+        };
+        put_instruction(bytes, operation, operands, None, Some(branch))?;
+    } else {
+        let over = Branch {
+            when: !when,
+            offset: OVER_JUMP,
+        };
+        put_instruction(bytes, operation, operands, None, Some(over))?;
+        put_jump(bytes, (offset % 65536) as u16)?;
+    }
+    Ok(())
+}
+
+/// The instruction of a test.
+fn operation_of(test: Test) -> Operation
+    ensures { result ≡ test_operation (as_test test) }
+{
+    match test {
+        Test::IsZero => Operation::JumpIfZero,
+        Test::Less => Operation::JumpIfLess,
+        Test::Greater => Operation::JumpIfGreater,
+        Test::Same => Operation::JumpIfEqual,
+    }
+}
+
+/// Whether a test asks that a word equals one of none.
+#[tactic(auto, using(crate::proofs::Givens::asks_one))]
+fn asks_none(test: Test, operands: &[items::Operand]) -> bool
+    ensures { result ≡ spec.asks_none (as_test test) (as_operands operands.now) }
+{
+    match test {
+        Test::Same => operands.len() == 1,
+        _ => false,
+    }
+}
+
+/// A branch by a test of its operands.
+#[tactic(auto, using(crate::proofs::Givens::tested_joined))]
+fn put_tested(
+    bytes: &mut Vec<u8>,
+    alloc: Global,
+    test: Test,
+    operands: &[items::Operand],
+    when: bool,
+    offset: usize,
+) -> Result<(), AllocError>
+    requires { length operands.now ≤ spec.most_arguments }
+    ensures { OnOk result (bytes.new.items ≡ bytes.old.items
+        ++ bytes_of_all (tested_code (as_test test) (as_operands operands.now) when offset)) }
+{
+    put_takes(bytes, operands)?;
+    let mut named = Vec::new(alloc);
+    put_named(&mut named, operands)?;
+    put_labelled(bytes, operation_of(test), &named, when, offset)?;
+    Ok(())
+}
+
+/// A branch by the test that a word equals one of none, which is never so: no word is less than the least one.
+fn put_never(
+    bytes: &mut Vec<u8>,
+    alloc: Global,
+    operands: &[items::Operand],
+    when: bool,
+    offset: usize,
+) -> Result<(), AllocError>
+    requires { length operands.now ≤ spec.most_tested }
+    ensures { OnOk result (bytes.new.items ≡ bytes.old.items
+        ++ bytes_of_all (tested_code source_items.less (as_operands operands.now
+        ++ source_items.number spec.least_word ∷ []) when offset)) }
+{
+    let mut asked = Vec::from_slice(alloc, operands)?;
+    asked.push(items::Operand::Number(LEAST_WORD))?;
+    put_tested(bytes, alloc, Test::Less, &asked, when, offset)?;
+    Ok(())
+}
+
+/// A branch by a test of at most four operands.
+pub fn put_branch(
+    bytes: &mut Vec<u8>,
+    alloc: Global,
+    test: Test,
+    operands: &[items::Operand],
+    when: bool,
+    offset: usize,
+) -> Result<(), AllocError>
+    ensures { OnOk result (bytes.new.items ≡ bytes.old.items
+        ++ bytes_of_all (branch_code (as_test test) (take spec.most_tested (as_operands operands.now)) when offset)) }
+{
+    let operands = &operands[..operands.len().min(MOST_TESTED)];
+    if asks_none(test, operands) {
+        put_never(bytes, alloc, operands, when, offset)
+    } else {
+        put_tested(bytes, alloc, test, operands, when, offset)
+    }
 }

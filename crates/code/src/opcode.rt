@@ -1,112 +1,13 @@
-//! The opcodes of operations, and how operands are counted in them (Z-Machine Standards Document 1.1, sections 4 and 14).
+//! The opcodes of operations, and how operands are counted in them (Z-Machine Standards Document 1.1, sections 4
+//! and 14).
 
 ghost use Rattle.std.specs.Prelude.{◌≡◌, ◌<◌, ◌≤◌, ◌+◌, ◌++◌, drop, slice_index, OnOk};
 ghost use Rattle.zcore.specs.Instruction as definitions;
-ghost use Rattle.zcore.specs.Operations as table;
-ghost use Rattle.zcore.specs.Operations.{count_of, number_of};
+ghost use Rattle.zcore.specs.Operations.{count_of, number_of, has_more_types};
 ghost use Rattle.zcore.specs.Instruction.{types_to_write, two_bytes, one_bytes, opcode_bytes, variable_bytes};
-ghost use Rattle.code.specs.Written.{opcode_count};
 
 use std::alloc::AllocError;
-use zcore::{Operand, Operation};
-
-/// The counts of operands by which opcodes are numbered.
-#[derive(Clone, Copy)]
-pub enum Count {
-    Two,
-    One,
-    Zero,
-    Several,
-}
-
-/// The count by which an operation's opcode is numbered.
-fn operand_count(operation: Operation) -> Count
-    ensures { opcode_count result ≡ count_of operation }
-{
-    match operation {
-        Operation::JumpIfEqual
-        | Operation::JumpIfLess
-        | Operation::JumpIfGreater
-        | Operation::DecrementCheck
-        | Operation::IncrementCheck
-        | Operation::TestBits
-        | Operation::Or
-        | Operation::And
-        | Operation::Store
-        | Operation::LoadWord
-        | Operation::LoadByte
-        | Operation::Add
-        | Operation::Sub
-        | Operation::Mul
-        | Operation::Div
-        | Operation::Mod
-        | Operation::Call2s
-        | Operation::Call2n => Count::Two,
-        Operation::JumpIfZero
-        | Operation::Increment
-        | Operation::Decrement
-        | Operation::PrintAddress
-        | Operation::Call1s
-        | Operation::Return
-        | Operation::Jump
-        | Operation::PrintPacked
-        | Operation::Load
-        | Operation::Call1n => Count::One,
-        Operation::ReturnTrue
-        | Operation::ReturnFalse
-        | Operation::Print
-        | Operation::PrintReturn
-        | Operation::DoNothing
-        | Operation::ReturnPopped
-        | Operation::Quit
-        | Operation::NewLine => Count::Zero,
-        _ => Count::Several,
-    }
-}
-
-/// The number of an operation's opcode, among those of its count.
-fn opcode_number(operation: Operation) -> u8
-    ensures number { result ≡ number_of operation }
-    ensures small { result < 32 }
-{
-    match operation {
-        Operation::JumpIfZero | Operation::ReturnTrue | Operation::CallVs => 0,
-        Operation::JumpIfEqual | Operation::ReturnFalse | Operation::StoreWord => 1,
-        Operation::JumpIfLess | Operation::Print | Operation::StoreByte => 2,
-        Operation::JumpIfGreater | Operation::PrintReturn => 3,
-        Operation::DecrementCheck | Operation::DoNothing | Operation::Read => 4,
-        Operation::IncrementCheck | Operation::Increment | Operation::PrintCharacter => 5,
-        Operation::Decrement | Operation::PrintNumber => 6,
-        Operation::TestBits | Operation::PrintAddress => 7,
-        Operation::Or | Operation::Call1s | Operation::ReturnPopped | Operation::Push => 8,
-        Operation::And | Operation::Pull => 9,
-        Operation::Quit => 10,
-        Operation::Return | Operation::NewLine => 11,
-        Operation::Jump | Operation::CallVs2 => 12,
-        Operation::Store | Operation::PrintPacked => 13,
-        Operation::Load => 14,
-        Operation::LoadWord | Operation::Call1n => 15,
-        Operation::LoadByte => 16,
-        Operation::Add => 20,
-        Operation::Sub => 21,
-        Operation::Mul => 22,
-        Operation::Div => 23,
-        Operation::Mod | Operation::Not => 24,
-        Operation::Call2s | Operation::CallVn => 25,
-        Operation::Call2n | Operation::CallVn2 => 26,
-        Operation::CheckArgumentCount => 31,
-    }
-}
-
-/// Whether an operation has a second byte of operand types.
-fn has_more_types(operation: Operation) -> bool
-    ensures { result ≡ table.has_more_types operation }
-{
-    match operation {
-        Operation::CallVs2 | Operation::CallVn2 => true,
-        _ => false,
-    }
-}
+use zcore::{Operand, OperandCount, Operation};
 
 /// The type of an operand.
 fn type_of(operand: Operand) -> u8
@@ -194,15 +95,16 @@ pub fn put_opcode(
     operation: Operation,
     operands: &[Operand],
 ) -> Result<(), AllocError>
-    ensures { OnOk result (bytes.new.items ≡ bytes.old.items ++ opcode_bytes (count_of operation) (number_of operation) (table.has_more_types operation) operands.now) }
+    ensures { OnOk result (bytes.new.items ≡ bytes.old.items ++ opcode_bytes (count_of operation) (number_of operation)
+        (has_more_types operation) operands.now) }
 {
-    let number = opcode_number(operation);
-    match operand_count(operation) {
-        Count::Two => put_two(bytes, number, operands)?,
-        Count::One => put_one(bytes, number, operands)?,
-        Count::Zero => bytes.push(176 + number)?,
-        Count::Several => {
-            let more = has_more_types(operation);
+    let number = operation.number();
+    match operation.operand_count() {
+        OperandCount::Two => put_two(bytes, number, operands)?,
+        OperandCount::One => put_one(bytes, number, operands)?,
+        OperandCount::Zero => bytes.push(176 + number)?,
+        OperandCount::Several => {
+            let more = operation.has_more_types();
             put_variable_form(bytes, 224 + number, more, operands)?;
         }
     }

@@ -1,120 +1,193 @@
-//! Operators on the words of the stack.
+//! Operators on words.
 
 ghost use Rattle.std.specs.Prelude.{◌≡◌, ◌++◌, [], ◌∷◌, OnOk};
-ghost use Rattle.code.specs.Instructions.{arithmetic, flag, test, prefix_code, binary_code, divided, comparison_code, equality_code, first_equal_code, also_equal_code};
+ghost use Rattle.zcore.specs.declared.instruction.Operation.TheVariants.{Div};
+ghost use Rattle.items.specs.Items as source_items;
+ghost use Rattle.items.specs.Code.{as_operand, as_destination};
+ghost use Rattle.code.specs.Instructions.{prefix_code, arithmetic, divided, divided_by, binary_code, first_equal_code, also_equal_code, flag};
 ghost use Rattle.code.specs.Instructions as spec;
 ghost use Rattle.code.specs.Bytes.{bytes_of_all};
-ghost use Rattle.code.specs.Written.{instruction_of, addresses_of};
+ghost use Rattle.code.specs.Written.{addresses_of, instruction_of};
 
 use crate::addresses::Addresses;
 use crate::instruction::{
-    FIRST, Instruction, Operands, SECOND, THIRD, TOP, branching, copy, giving, plain, print_fault,
-    pull, push, put_all, quit,
+    FIRST, Instruction, Operands, SECOND, THIRD, branching, copy, giving, plain, print_fault, pull,
+    push, put_all, put_instruction, quit,
 };
-use expressions::{Binary, Comparison, Equality, Prefix};
-use std::alloc::AllocError;
+use crate::operands::{constant, in_place, put_named, put_takes, result_in, variable_number};
+use expressions::{Binary, Prefix};
+use items::Destination;
+use std::alloc::{AllocError, Global};
 use zcore::{Operand, Operation};
 
-/// A test: 1 is pushed where the instruction branches, and else 0.
-pub fn put_flag(bytes: &mut Vec<u8>, branch: Instruction) -> Result<(), AllocError>
-    ensures { OnOk result (bytes.new.items ≡ bytes.old.items ++ bytes_of_all (instruction_of branch ∷ flag)) }
+/// An operator before a word; `~~`, which turns a branch, is none.
+pub fn put_prefix(
+    bytes: &mut Vec<u8>,
+    operator: Prefix,
+    operand: items::Operand,
+    destination: Destination,
+) -> Result<(), AllocError>
+    ensures { OnOk result (bytes.new.items ≡ bytes.old.items
+        ++ bytes_of_all (prefix_code operator (as_operand operand) (as_destination destination))) }
 {
-    let zero = push(Operand::Small(0));
-    let over = plain(Operation::Jump, Operands::One(Operand::Large(5)));
-    let one = push(Operand::Small(1));
-    put_all(bytes, &[branch, zero, over, one])
-}
-
-/// An operator on the topmost word.
-pub fn put_prefix(bytes: &mut Vec<u8>, operator: Prefix) -> Result<(), AllocError>
-    ensures { OnOk result (bytes.new.items ≡ bytes.old.items ++ bytes_of_all (prefix_code operator)) }
-{
+    let word = in_place(operand);
+    let result = result_in(destination);
     match operator {
         Prefix::Minus => {
-            let operands = Operands::Two(Operand::Small(0), TOP);
-            put_all(bytes, &[giving(Operation::Sub, operands, 0)])
+            let operands = Operands::Two(Operand::Small(0), word);
+            put_all(bytes, &[giving(Operation::Sub, operands, result)])
         }
-        Prefix::Complement => { put_all(bytes, &[giving(Operation::Not, Operands::One(TOP), 0)]) }
-        Prefix::Not => put_flag(
-            bytes,
-            branching(Operation::JumpIfZero, Operands::One(TOP), true, 8),
-        ),
+        Prefix::Complement => {
+            put_all(
+                bytes,
+                &[giving(Operation::Not, Operands::One(word), result)],
+            )
+        }
+        Prefix::Not => Ok(()),
     }
 }
 
-/// An operator that one instruction does: the right operand goes to a variable first.
-fn put_arithmetic(bytes: &mut Vec<u8>, operation: Operation) -> Result<(), AllocError>
-    ensures { OnOk result (bytes.new.items ≡ bytes.old.items ++ bytes_of_all (spec.pull (spec.temporary 0) ∷ arithmetic operation ∷ [])) }
+/// An operation on two words that has no test.
+#[tactic(auto, using(crate::proofs::Chains::one_joined))]
+fn put_arithmetic(
+    bytes: &mut Vec<u8>,
+    alloc: Global,
+    operation: Operation,
+    left: items::Operand,
+    right: items::Operand,
+    destination: Destination,
+) -> Result<(), AllocError>
+    ensures { OnOk result (bytes.new.items ≡ bytes.old.items
+        ++ bytes_of_all (arithmetic operation (as_operand left) (as_operand right) (as_destination destination))) }
 {
-    let operands = Operands::Two(TOP, Operand::Variable(FIRST));
-    put_all(bytes, &[pull(FIRST), giving(operation, operands, 0)])
+    let operands = [left, right];
+    put_takes(bytes, &operands)?;
+    let mut named = Vec::new(alloc);
+    put_named(&mut named, &operands)?;
+    put_instruction(bytes, operation, &named, Some(result_in(destination)), None)?;
+    Ok(())
 }
 
-/// A division: where its right operand is 0, the text of the fault at a packed address is printed, and the story ends.
+/// A division by the word of a variable, or the text of the fault that it is 0, and the story ends.
+fn put_divided_by(
+    bytes: &mut Vec<u8>,
+    addresses: &Addresses<'_>,
+    operation: Operation,
+    left: items::Operand,
+    variable: u8,
+    destination: Destination,
+) -> Result<(), AllocError>
+    ensures { OnOk result (bytes.new.items ≡ bytes.old.items
+        ++ bytes_of_all (divided_by (addresses_of addresses.now) operation (as_operand left) variable
+        (as_destination destination))) }
+{
+    let right = Operand::Variable(variable);
+    let over = branching(Operation::JumpIfZero, Operands::One(right), false, 6);
+    let text = print_fault(addresses.division_by_zero);
+    let operands = Operands::Two(in_place(left), right);
+    let quotient = giving(operation, operands, result_in(destination));
+    put_all(bytes, &[over, text, quit(), quotient])
+}
+
+/// A division by a number, which is not tested; by 0 it is the fault.
+fn put_divided_by_number(
+    bytes: &mut Vec<u8>,
+    addresses: &Addresses<'_>,
+    operation: Operation,
+    left: items::Operand,
+    number: u16,
+    destination: Destination,
+) -> Result<(), AllocError>
+    ensures { OnOk result (bytes.new.items ≡ bytes.old.items
+        ++ bytes_of_all (divided (addresses_of addresses.now) operation (as_operand left)
+        (source_items.number number) (as_destination destination))) }
+{
+    if number == 0 {
+        put_all(bytes, &[print_fault(addresses.division_by_zero), quit()])
+    } else {
+        let operands = Operands::Two(in_place(left), constant(number));
+        put_all(
+            bytes,
+            &[giving(operation, operands, result_in(destination))],
+        )
+    }
+}
+
+/// A division.
+#[tactic(auto, using(crate::proofs::Chains::all_joined))]
 fn put_division(
     bytes: &mut Vec<u8>,
     addresses: &Addresses<'_>,
     operation: Operation,
+    left: items::Operand,
+    right: items::Operand,
+    destination: Destination,
 ) -> Result<(), AllocError>
-    ensures { OnOk result (bytes.new.items ≡ bytes.old.items ++ bytes_of_all (spec.pull (spec.temporary 0) ∷ divided (addresses_of addresses.now) operation)) }
+    ensures { OnOk result (bytes.new.items ≡ bytes.old.items
+        ++ bytes_of_all (divided (addresses_of addresses.now) operation (as_operand left) (as_operand right)
+        (as_destination destination))) }
 {
-    let right = Operand::Variable(FIRST);
-    let over = branching(Operation::JumpIfZero, Operands::One(right), false, 6);
-    let text = print_fault(addresses.division_by_zero);
-    let quotient = giving(operation, Operands::Two(TOP, right), 0);
-    put_all(bytes, &[pull(FIRST), over, text, quit(), quotient])
+    match right {
+        items::Operand::Pushed => {
+            put_all(bytes, &[pull(FIRST)])?;
+            put_divided_by(bytes, addresses, operation, left, FIRST, destination)
+        }
+        items::Operand::Number(number) => {
+            put_divided_by_number(bytes, addresses, operation, left, number, destination)
+        }
+        items::Operand::Variable(variable) => {
+            let number = variable_number(variable);
+            put_divided_by(bytes, addresses, operation, left, number, destination)
+        }
+    }
 }
 
-/// An operator on the two topmost words; `&&` and `||`, which are jumps, are none.
+/// An operator between two words; `&&` and `||`, which are branches, are none.
 pub fn put_binary(
     bytes: &mut Vec<u8>,
+    alloc: Global,
     addresses: &Addresses<'_>,
     operator: Binary,
+    left: items::Operand,
+    right: items::Operand,
+    destination: Destination,
 ) -> Result<(), AllocError>
-    ensures { OnOk result (bytes.new.items ≡ bytes.old.items ++ bytes_of_all (spec.pull (spec.temporary 0) ∷ binary_code (addresses_of addresses.now) operator)) }
+    ensures { OnOk result (bytes.new.items ≡ bytes.old.items
+        ++ bytes_of_all (binary_code (addresses_of addresses.now) operator (as_operand left) (as_operand right)
+        (as_destination destination))) }
 {
-    match operator {
-        Binary::AndAlso | Binary::OrElse => put_all(bytes, &[pull(FIRST)]),
-        Binary::Add => put_arithmetic(bytes, Operation::Add),
-        Binary::Subtract => put_arithmetic(bytes, Operation::Sub),
-        Binary::Multiply => put_arithmetic(bytes, Operation::Mul),
-        Binary::Divide => put_division(bytes, addresses, Operation::Div),
-        Binary::Remainder => put_division(bytes, addresses, Operation::Mod),
-        Binary::And => put_arithmetic(bytes, Operation::And),
-        Binary::Or => put_arithmetic(bytes, Operation::Or),
-    }
+    let operation = match operator {
+        Binary::AndAlso | Binary::OrElse => return Ok(()),
+        Binary::Divide => {
+            return put_division(bytes, addresses, Operation::Div, left, right, destination);
+        }
+        Binary::Remainder => {
+            return put_division(bytes, addresses, Operation::Mod, left, right, destination);
+        }
+        Binary::Add => Operation::Add,
+        Binary::Subtract => Operation::Sub,
+        Binary::Multiply => Operation::Mul,
+        Binary::And => Operation::And,
+        Binary::Or => Operation::Or,
+    };
+    put_arithmetic(bytes, alloc, operation, left, right, destination)
 }
 
-/// A comparison of the two topmost words by an instruction that branches.
+/// A branch over 6 bytes, and 1 or 0 that is pushed.
 #[tactic(auto, using(crate::proofs::Chains::all_joined))]
-fn put_test(bytes: &mut Vec<u8>, operation: Operation, when: bool) -> Result<(), AllocError>
-    ensures { OnOk result (bytes.new.items ≡ bytes.old.items ++ bytes_of_all (spec.pull (spec.temporary 0) ∷ test operation when)) }
+fn put_flag(bytes: &mut Vec<u8>, branch: Instruction) -> Result<(), AllocError>
+    ensures { OnOk result (bytes.new.items ≡ bytes.old.items ++ bytes_of_all (instruction_of branch ∷ flag)) }
 {
-    put_all(bytes, &[pull(FIRST)])?;
-    let operands = Operands::Two(TOP, Operand::Variable(FIRST));
-    put_flag(bytes, branching(operation, operands, when, 8))
-}
-
-/// A comparison of the two topmost words as signed numbers.
-pub fn put_comparison(bytes: &mut Vec<u8>, operator: Comparison) -> Result<(), AllocError>
-    ensures { OnOk result (bytes.new.items ≡ bytes.old.items ++ bytes_of_all (spec.pull (spec.temporary 0) ∷ comparison_code operator)) }
-{
-    match operator {
-        Comparison::Less => put_test(bytes, Operation::JumpIfLess, true),
-        Comparison::Greater => put_test(bytes, Operation::JumpIfGreater, true),
-        Comparison::LessOrEqual => put_test(bytes, Operation::JumpIfGreater, false),
-        Comparison::GreaterOrEqual => put_test(bytes, Operation::JumpIfLess, false),
-    }
-}
-
-/// Whether the two topmost words are equal.
-pub fn put_equality(bytes: &mut Vec<u8>, operator: Equality) -> Result<(), AllocError>
-    ensures { OnOk result (bytes.new.items ≡ bytes.old.items ++ bytes_of_all (spec.pull (spec.temporary 0) ∷ equality_code operator)) }
-{
-    match operator {
-        Equality::Equal => put_test(bytes, Operation::JumpIfEqual, true),
-        Equality::NotEqual => put_test(bytes, Operation::JumpIfEqual, false),
-    }
+    let jump = plain(Operation::Jump, Operands::One(Operand::Large(5)));
+    put_all(
+        bytes,
+        &[
+            branch,
+            push(Operand::Small(0)),
+            jump,
+            push(Operand::Small(1)),
+        ],
+    )
 }
 
 /// Of several right sides, the first: the left side stays below.

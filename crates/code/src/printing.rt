@@ -1,11 +1,14 @@
 //! What is printed.
 
-ghost use Rattle.std.specs.Prelude.{◌≡◌, ◌++◌, [], ◌∷◌, true, map, IfOk, OnOk};
-ghost use Rattle.std.specs.List.{list_all};
+ghost use Rattle.std.specs.Prelude.{◌≡◌, ◌++◌, [], ◌∷◌, map, true, IfOk, OnOk};
+ghost use Rattle.std.specs.List.{filter, list_all};
 ghost use Rattle.zcore.specs.declared.instruction.Operation.TheVariants.{Print};
 ghost use Rattle.zcore.specs.Alphabets.{is_printable};
 ghost use Rattle.zcore.specs.Text.{encoded};
-ghost use Rattle.code.specs.Instructions.{character_code};
+ghost use Rattle.checker.specs.Meaning as meaning;
+ghost use Rattle.items.specs.Items as source_items;
+ghost use Rattle.items.specs.Code.{as_operand};
+ghost use Rattle.code.specs.Instructions.{character_code, tested_character};
 ghost use Rattle.code.specs.Instructions as spec;
 ghost use Rattle.code.specs.Bytes.{bytes_of_all};
 ghost use Rattle.code.specs.Bytes as definitions;
@@ -13,68 +16,82 @@ ghost use Rattle.code.specs.Written.{addresses_of};
 
 use crate::addresses::Addresses;
 use crate::instruction::{FIRST, Operands, branching, plain, print_fault, pull, put_all, quit};
+use crate::operands::{constant, variable_number};
 use std::alloc::{AllocError, Global};
 use zcore::{Operand, Operation, TextFault, encode_text};
 
-/// A character between the quotes of a text: `^` is a new line, `~` a double quote, and what is not printable a question
-/// mark.
+/// A character between the quotes of a text: `^` is a new line, `~` a double quote.
 fn character_of(byte: u8) -> u8
     ensures { result ≡ definitions.character_of byte }
 {
     match byte {
         b'^' => 13,
         b'~' => 34,
-        13 | 32..=126 => byte,
-        _ => b'?',
+        _ => byte,
     }
 }
 
-/// The characters of what stands between the quotes of a text.
+fn is_printable(character: u8) -> bool
+    ensures { result ≡ is_printable character }
+{
+    character == 13 || (character >= 32 && character <= 126)
+}
+
+/// The characters of what stands between the quotes of a text; what cannot be printed is left out.
 fn characters(alloc: Global, text: &[u8]) -> Result<Vec<u8>, AllocError>
-    ensures { IfOk result (λ v. v.items ≡ map definitions.character_of text.now) }
+    ensures { IfOk result (λ v. v.items ≡ filter is_printable (map definitions.character_of text.now)) }
 {
     let mut characters = Vec::new(alloc);
     for byte in text {
-        characters.push(character_of(*byte))?;
+        let character = character_of(*byte);
+        if is_printable(character) {
+            characters.push(character)?;
+        }
     }
     Ok(characters)
 }
 
-/// The Z-text of characters.
+/// The Z-text of printable characters.
 fn z_text(alloc: Global, characters: &[u8]) -> Result<Vec<u8>, AllocError>
     requires { list_all is_printable characters.now ≡ true }
     ensures { IfOk result (λ v. v.items ≡ encoded characters.now) }
 {
     match encode_text(alloc, characters) {
         Ok(text) => Ok(text),
-        Err(TextFault::Memory) => Err(AllocError),
-        Err(_) => unreachable!(),
+        Err(TextFault::Character) => unreachable!(),
+        Err(_) => Err(AllocError),
     }
 }
 
 /// The text between quotes is printed.
-#[tactic(auto, using(crate::proofs::Texts::all_printable))]
 pub fn put_text(bytes: &mut Vec<u8>, alloc: Global, text: &[u8]) -> Result<(), AllocError>
-    ensures { OnOk result (bytes.new.items ≡ bytes.old.items ++ (bytes_of_all (spec.plain Print [] ∷ []) ++ encoded (map definitions.character_of text.now))) }
+    ensures { OnOk result (bytes.new.items ≡ bytes.old.items
+        ++ (bytes_of_all (spec.plain Print [] ∷ [])
+        ++ encoded (filter is_printable (map definitions.character_of text.now)))) }
 {
     put_all(bytes, &[plain(Operation::Print, Operands::Zero)])?;
     let characters = characters(alloc, text)?;
     let text = z_text(alloc, &characters)?;
-    bytes.extend_from_slice(&text)
+    bytes.extend_from_slice(&text)?;
+    Ok(())
 }
 
-/// The topmost word is printed as a character, or the text of the fault that it is none, and the story ends.
-pub fn put_character(bytes: &mut Vec<u8>, addresses: &Addresses<'_>) -> Result<(), AllocError>
-    ensures { OnOk result (bytes.new.items ≡ bytes.old.items ++ bytes_of_all (character_code (addresses_of addresses.now))) }
+/// The word of a variable is printed as a character, or the text of the fault that it is none, and the story ends.
+fn put_tested(
+    bytes: &mut Vec<u8>,
+    addresses: &Addresses<'_>,
+    variable: u8,
+) -> Result<(), AllocError>
+    ensures { OnOk result (bytes.new.items ≡ bytes.old.items
+        ++ bytes_of_all (tested_character (addresses_of addresses.now) variable)) }
 {
-    let word = Operand::Variable(FIRST);
+    let word = Operand::Variable(variable);
     let ends = Operands::Three(word, Operand::Small(0), Operand::Small(13));
     let below = Operands::Two(word, Operand::Small(32));
     let above = Operands::Two(word, Operand::Small(126));
     put_all(
         bytes,
         &[
-            pull(FIRST),
             branching(Operation::JumpIfEqual, ends, true, 14),
             branching(Operation::JumpIfLess, below, true, 6),
             branching(Operation::JumpIfGreater, above, false, 6),
@@ -83,4 +100,49 @@ pub fn put_character(bytes: &mut Vec<u8>, addresses: &Addresses<'_>) -> Result<(
             plain(Operation::PrintCharacter, Operands::One(word)),
         ],
     )
+}
+
+fn is_character(number: u16) -> bool
+    ensures { result ≡ meaning.is_character number }
+{
+    number == 0 || number == 13 || (number >= 32 && number <= 126)
+}
+
+/// A number is printed as a character without a test, or is the fault that it is none.
+fn put_character_number(
+    bytes: &mut Vec<u8>,
+    addresses: &Addresses<'_>,
+    number: u16,
+) -> Result<(), AllocError>
+    ensures { OnOk result (bytes.new.items ≡ bytes.old.items
+        ++ bytes_of_all (character_code (addresses_of addresses.now) (source_items.number number))) }
+{
+    if is_character(number) {
+        let operands = Operands::One(constant(number));
+        put_all(bytes, &[plain(Operation::PrintCharacter, operands)])
+    } else {
+        put_all(bytes, &[print_fault(addresses.not_a_character), quit()])
+    }
+}
+
+/// A word is printed as a character, or the text of the fault that it is none, and the story ends.
+#[tactic(auto, using(crate::proofs::Chains::all_joined))]
+pub fn put_character(
+    bytes: &mut Vec<u8>,
+    addresses: &Addresses<'_>,
+    operand: items::Operand,
+) -> Result<(), AllocError>
+    ensures { OnOk result (bytes.new.items ≡ bytes.old.items
+        ++ bytes_of_all (character_code (addresses_of addresses.now) (as_operand operand))) }
+{
+    match operand {
+        items::Operand::Pushed => {
+            put_all(bytes, &[pull(FIRST)])?;
+            put_tested(bytes, addresses, FIRST)
+        }
+        items::Operand::Number(number) => put_character_number(bytes, addresses, number),
+        items::Operand::Variable(variable) => {
+            put_tested(bytes, addresses, variable_number(variable))
+        }
+    }
 }

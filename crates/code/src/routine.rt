@@ -1,17 +1,21 @@
 //! The code of a routine.
 
-ghost use Rattle.std.specs.Prelude.{◌≡◌, ◌<◌, ◌+◌, ◌++◌, length, IfOk, OnOk};
+ghost use Rattle.std.specs.Prelude.{◌≡◌, ◌<◌, ◌≤◌, ◌+◌, ◌++◌, reverse, length, slice_index, IfOk, OnOk};
+ghost use Rattle.forms.specs.Layout.{first, bytes_limit};
 ghost use Rattle.checker.specs.Meaning.{routine_at};
 ghost use Rattle.checker.specs.Resolved.{program_of};
-ghost use Rattle.items.specs.Code.{items_of};
+ghost use Rattle.items.specs.Code.{item_of, items_of};
 ghost use Rattle.items.specs.Items as definitions;
-ghost use Rattle.code.specs.Bytes.{code_size, items_bytes};
-ghost use Rattle.code.specs.Written.{starts_of, addresses_of, places_in};
+ghost use Rattle.code.specs.Bytes.{lefts_of, place_of, items_bytes};
+ghost use Rattle.code.specs.Bytes as spec;
+ghost use Rattle.code.specs.Written.{addresses_of, place_in};
 
-use crate::addresses::{Addresses, Layout};
+use crate::addresses::Addresses;
 use crate::fault::CodeFault;
 use crate::item::put_item;
+use crate::jumps::jump_offset;
 use checker::Checked;
+use forms::{BranchUse, Part, branches, lay_out};
 use items::{Item, routine_items};
 use std::alloc::{AllocError, Global};
 use std::marker::Model;
@@ -23,81 +27,148 @@ pub struct Code<'a> {
     locals: usize,
     items: Vec<Item<'a>>,
 
-    /// Where each item begins.
-    places: Vec<usize>,
+    /// How many bytes there are from each item on to the end, the end's first.
+    left: Vec<usize>,
+
+    /// The branches to other items, in order of place.
+    branches: Vec<BranchUse>,
 
     /// How many bytes are written: one for the number of locals, and those of the items.
     length: usize,
 }
 
 impl<'a> Model for Code<'a> {
-    ghost use Rattle.std.specs.Prelude.{◌≡◌, ◌+◌};
+    ghost use Rattle.std.specs.Prelude.{◌≡◌, ◌<◌, ◌+◌, reverse};
+    ghost use Rattle.forms.specs.Layout.{bytes_limit, uses};
     ghost use Rattle.items.specs.Code.{items_of};
-    ghost use Rattle.code.specs.Bytes.{code_size};
-    ghost use Rattle.code.specs.Written.{CodeOf, starts_of};
+    ghost use Rattle.code.specs.Bytes.{parts_of, lefts_of, code_size};
+    ghost use Rattle.code.specs.Written.{CodeOf};
 
     ghost Value = { CodeOf };
 
     ghost view = { λ c. record { locals = c.locals; items = items_of c.items.items } };
 
-    ghost invariant = { λ c. (c.places.items ≡ starts_of 0 (items_of c.items.items)) × (c.length ≡ 1 + code_size (items_of c.items.items)) };
+    ghost invariant = { λ c. (c.left.items ≡ reverse (lefts_of (items_of c.items.items)))
+        × (c.branches.items ≡ uses 0 (parts_of (items_of c.items.items)))
+        × (c.length ≡ 1 + code_size (items_of c.items.items)) × (code_size (items_of c.items.items) < bytes_limit) };
+}
+
+/// The item to which one branches.
+fn target_of(item: &Item<'_>) -> Option<usize>
+    ensures { result ≡ spec.target_of (item_of item.now) }
+{
+    match item {
+        Item::Branch(_, _, _, target) => Some(*target),
+        _ => None,
+    }
+}
+
+/// How many bytes of the shortest label an item has.
+fn label_size(target: Option<usize>) -> usize
+    ensures { result ≡ spec.label_size target }
+{
+    match target {
+        None => 0,
+        Some(_) => 1,
+    }
+}
+
+/// The items as parts that are laid out. They are written once, with no addresses and the shortest branches, and their
+/// bytes are thrown away: an item has as many bytes wherever all stands, but for the form of its branch.
+fn parts_of(alloc: Global, items: &[Item<'_>]) -> Result<Vec<Part>, AllocError>
+    ensures parts { IfOk result (λ v. v.items ≡ spec.parts_of (items_of items.now)) }
+    ensures fits { IfOk result (λ v. spec.code_size (items_of items.now) < bytes_limit) }
+{
+    let addresses = Addresses {
+        routines: &[],
+        division_by_zero: 0,
+        not_a_character: 0,
+    };
+    let mut bytes = Vec::new(alloc);
+    let mut parts = Vec::new(alloc);
+    for item in items {
+        let before = bytes.len();
+        put_item(&mut bytes, alloc, &addresses, 2, item)?;
+        let target = target_of(item);
+        let size = (bytes.len() - before).saturating_sub(label_size(target));
+        parts.push(Part { size, target })?;
+    }
+    Ok(parts)
+}
+
+/// How many bytes there are from the item of a number on to the end, where `left` tells it of each, the end's first.
+#[tactic(auto, using(forms::proofs::Offsets::turned, forms::proofs::Offsets::turned_past))]
+fn left_from(left: &[usize], number: usize) -> usize
+    ensures { result ≡ slice_index (reverse left.now) number }
+{
+    if number < left.len() {
+        left[left.len() - 1 - number]
+    } else {
+        0
+    }
+}
+
+/// Where the item of a number stands, the end of the code where there is none.
+#[tactic(auto, using(forms::proofs::Offsets::first_is))]
+fn place(left: &[usize], number: usize) -> usize
+    ensures value { result ≡ place_in (reverse left.now) number }
+    ensures within { result ≤ first (reverse left.now) }
+{
+    left_from(left, 0).saturating_sub(left_from(left, number))
+}
+
+/// The offset of the branch or the jump of the item of a number.
+fn offset_of(left: &[usize], number: usize, item: &Item<'_>) -> usize
+    requires few { number < length left.now }
+    requires small { first (reverse left.now) < bytes_limit }
+    ensures { result ≡ spec.offset_of (place_in (reverse left.now)) number (item_of item.now) }
+{
+    match item {
+        Item::Branch(_, _, _, target) => {
+            2 + place(left, *target).saturating_sub(place(left, number + 1))
+        }
+        Item::Jump(target) | Item::Back(target) => {
+            jump_offset(place(left, number + 1), place(left, *target)) as usize
+        }
+        _ => 0,
+    }
 }
 
 /// The bytes of items, one after another, of which the first begins the code.
 fn put_items(
     bytes: &mut Vec<u8>,
     alloc: Global,
-    layout: &Layout<'_>,
+    addresses: &Addresses<'_>,
     items: &[Item<'_>],
+    left: &[usize],
 ) -> Result<(), AllocError>
-    ensures { OnOk result (bytes.new.items ≡ bytes.old.items ++ items_bytes (addresses_of layout.now.addresses) (places_in layout.now) 0 (items_of items.now)) }
+    requires left { left.now ≡ reverse (lefts_of (items_of items.now)) }
+    requires small { spec.code_size (items_of items.now) < bytes_limit }
+    ensures { OnOk result (bytes.new.items ≡ bytes.old.items
+        ++ items_bytes (addresses_of addresses.now) (place_of (items_of items.now)) 0 (items_of items.now)) }
 {
-    let start = bytes.len();
-    for item in items {
-        let at = bytes.len() - start;
-        put_item(bytes, alloc, layout, at, *item)?;
+    for number in 0..items.len() {
+        let item = &items[number];
+        let offset = offset_of(left, number, item);
+        put_item(bytes, alloc, addresses, offset, item)?;
     }
     Ok(())
 }
 
-/// Where each item begins, and how many bytes a routine has, with one for the number of its locals. The items are written
-/// once, with no addresses, and their bytes are thrown away: an item has as many bytes wherever all stands.
-fn measured(alloc: Global, items: &[Item<'_>]) -> Result<(Vec<usize>, usize), AllocError>
-    ensures places { IfOk result (λ m. m.0.items ≡ starts_of 0 (items_of items.now)) }
-    ensures length { IfOk result (λ m. m.1 ≡ 1 + code_size (items_of items.now)) }
-{
-    let layout = Layout {
-        addresses: Addresses {
-            routines: &[],
-            division_by_zero: 0,
-            not_a_character: 0,
-        },
-        places: &[],
-        length: 0,
-    };
-    let mut bytes = Vec::new(alloc);
-    let mut places = Vec::new(alloc);
-    for item in items {
-        let at = bytes.len();
-        places.push(at)?;
-        put_item(&mut bytes, alloc, &layout, at, *item)?;
-    }
-    bytes.push(0)?;
-    let length = bytes.len();
-    Ok((places, length))
-}
-
 /// The code of items of a routine with so many locals.
 fn code_of<'a>(alloc: Global, locals: usize, items: Vec<Item<'a>>) -> Result<Code<'a>, AllocError>
-    ensures locals { IfOk result (λ c. c.locals ≡ locals) }
-    ensures items { IfOk result (λ c. c.items ≡ items_of items.entry.items) }
+    ensures { IfOk result (λ c. c ≡ record { locals = locals; items = items_of items.entry.items }) }
 {
-    let (places, length) = measured(alloc, &items)?;
+    let parts = parts_of(alloc, &items)?;
+    let left = lay_out(alloc, &parts)?;
+    let branches = branches(alloc, &parts, &left)?;
+    let length = 1 + place(&left, items.len());
     Ok(Code {
         alloc,
         locals,
         items,
-        places,
+        left,
+        branches,
         length,
     })
 }
@@ -122,15 +193,29 @@ pub fn routine_code<'a>(
 }
 
 impl Code<'_> {
-    ghost use Rattle.std.specs.Prelude.{◌≡◌, ◌+◌, ◌%◌, ◌∷◌, ◌++◌, OnOk, OnErr};
-    ghost use Rattle.code.specs.Bytes.{code_size, code_bytes};
-    ghost use Rattle.code.specs.Written.{addresses_of};
+    ghost use Rattle.std.specs.Prelude.{◌≡◌, ◌+◌, ◌%◌, ◌∷◌, ◌++◌, map, OnOk, OnErr};
+    ghost use Rattle.std.specs.List.{All};
+    ghost use Rattle.forms.specs.Layout.{IsShortest};
+    ghost use Rattle.forms.specs.declared.layout.BranchUse.{BranchUse};
+    ghost use Rattle.code.specs.Bytes.{code_size, code_bytes, place_of};
+    ghost use Rattle.code.specs.Written.{addresses_of, branch_offsets};
 
     /// How many bytes `put` writes: one for the number of locals, and those of the items.
     pub fn length(&self) -> usize
         ensures { result ≡ 1 + code_size self.now.items }
     {
         self.length
+    }
+
+    /// The branches to labels, in order of place, each with its form and its offset; of a far one the offset that two
+    /// bytes of branch data would need. A branch leads from the place of the item after it to its target, which gives
+    /// its offset. It has one byte of branch data exactly where the offset is 2 to 63, two exactly where it is another
+    /// to 8,191, and the far form exactly where two bytes, all else as it is, would not reach.
+    pub fn branches(&self) -> &[BranchUse]
+        ensures offsets { map (λ (u : BranchUse). u.offset) result.now ≡ branch_offsets (place_of self.now.items) 0 self.now.items }
+        ensures shortest { All IsShortest result.now }
+    {
+        &self.branches
     }
 
     /// Writes the routine behind what is written of a story: how many locals it has, and its code (Z-Machine Standards
@@ -140,17 +225,13 @@ impl Code<'_> {
     ///
     /// `Memory` where a growth of memory was refused: then nothing is written.
     pub fn put(&self, addresses: &Addresses<'_>, story: &mut Vec<u8>) -> Result<(), CodeFault>
-        ensures written { OnOk result (story.new.items ≡ story.old.items ++ (self.now.locals % 256) ∷ code_bytes (addresses_of addresses.now) self.now.items) }
+        ensures written { OnOk result (story.new.items ≡ story.old.items
+            ++ (self.now.locals % 256) ∷ code_bytes (addresses_of addresses.now) self.now.items) }
         ensures kept { OnErr result (story.new.items ≡ story.old.items) }
     {
-        let layout = Layout {
-            addresses: *addresses,
-            places: &self.places,
-            length: self.length - 1,
-        };
         let mut bytes = Vec::new(self.alloc);
         bytes.push((self.locals % 256) as u8)?;
-        put_items(&mut bytes, self.alloc, &layout, &self.items)?;
+        put_items(&mut bytes, self.alloc, addresses, &self.items, &self.left)?;
         story.extend_from_slice(&bytes)?;
         Ok(())
     }

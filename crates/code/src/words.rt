@@ -1,60 +1,53 @@
-//! Words that are pushed, kept and stepped.
+//! Words that are moved, kept and stepped.
 
 ghost use Rattle.std.specs.Prelude.{◌≡◌, ◌++◌, [], ◌∷◌, OnOk};
-ghost use Rattle.code.specs.Instructions.{number_of, step_code, step_operation};
+ghost use Rattle.items.specs.Items as source_items;
+ghost use Rattle.items.specs.Code.{as_operand, as_destination};
+ghost use Rattle.code.specs.Instructions.{number_of, move_code, step_code, stepping, step_operation};
 ghost use Rattle.code.specs.Instructions as spec;
 ghost use Rattle.code.specs.Bytes.{bytes_of_all};
-ghost use Rattle.zcore.specs.declared.instruction.Operand.TheVariants as forms;
+ghost use Rattle.code.specs.Written.{instruction_of};
 
-use crate::instruction::{Operands, copy, plain, push, put_all};
+use crate::instruction::{FIRST, Instruction, Operands, copy, plain, pull, push, put_all, store};
+use crate::operands::{in_place, variable_number};
 use checker::Variable;
 use expressions::Step;
+use items::Destination;
 use std::alloc::AllocError;
 use zcore::{Operand, Operation};
 
-/// A number as an operand, in one byte where it fits.
-fn constant(number: u16) -> Operand
-    ensures { result ≡ spec.constant number }
-{
-    if number < 256 {
-        Operand::Small(number as u8)
-    } else {
-        Operand::Large(number)
-    }
-}
-
-/// The number of a variable in instructions, one byte: locals from 1 on, globals from 16 on (Z-Machine Standards Document
-/// 1.1, section 4.2.2).
-fn variable_number(variable: Variable) -> u8
-    ensures { result ≡ number_of variable }
-{
-    match variable {
-        Variable::Local(index) => ((1 + index as u128) % 256) as u8,
-        Variable::Global(index) => ((16 + index as u128) % 256) as u8,
-    }
-}
-
-/// A number is pushed.
-pub fn put_number(bytes: &mut Vec<u8>, number: u16) -> Result<(), AllocError>
-    ensures { OnOk result (bytes.new.items ≡ bytes.old.items ++ bytes_of_all (spec.push (spec.constant number) ∷ [])) }
-{
-    put_all(bytes, &[push(constant(number))])
-}
-
-/// The word in a variable is pushed.
-pub fn put_variable(bytes: &mut Vec<u8>, variable: Variable) -> Result<(), AllocError>
-    ensures { OnOk result (bytes.new.items ≡ bytes.old.items ++ bytes_of_all (spec.push (forms.Variable (number_of variable)) ∷ [])) }
+/// A word goes to a variable.
+fn moved_into(operand: items::Operand, variable: Variable) -> Instruction
+    ensures { instruction_of result ≡ move_code (as_operand operand) (source_items.into variable) }
 {
     let number = variable_number(variable);
-    put_all(bytes, &[push(Operand::Variable(number))])
+    match operand {
+        items::Operand::Pushed => pull(number),
+        _ => store(number, in_place(operand)),
+    }
+}
+
+/// A word goes to a destination.
+pub fn put_move(
+    bytes: &mut Vec<u8>,
+    operand: items::Operand,
+    destination: Destination,
+) -> Result<(), AllocError>
+    ensures { OnOk result (bytes.new.items ≡ bytes.old.items
+        ++ bytes_of_all (move_code (as_operand operand) (as_destination destination) ∷ [])) }
+{
+    match destination {
+        Destination::Push => put_all(bytes, &[push(in_place(operand))]),
+        Destination::Into(variable) => put_all(bytes, &[moved_into(operand, variable)]),
+        Destination::Nowhere => put_all(bytes, &[store(FIRST, in_place(operand))]),
+    }
 }
 
 /// The topmost word goes to a variable, and stays.
 pub fn put_keep(bytes: &mut Vec<u8>, variable: Variable) -> Result<(), AllocError>
     ensures { OnOk result (bytes.new.items ≡ bytes.old.items ++ bytes_of_all (spec.copy (number_of variable) ∷ [])) }
 {
-    let number = variable_number(variable);
-    put_all(bytes, &[copy(number)])
+    put_all(bytes, &[copy(variable_number(variable))])
 }
 
 /// The instruction that steps a variable.
@@ -67,24 +60,24 @@ fn operation_of(step: Step) -> Operation
     }
 }
 
-/// A variable is stepped, and its new word is pushed.
-pub fn put_step_before(
+/// A variable is stepped, and its new word goes to a destination.
+pub fn put_step(
     bytes: &mut Vec<u8>,
     step: Step,
     variable: Variable,
+    destination: Destination,
 ) -> Result<(), AllocError>
-    ensures { OnOk result (bytes.new.items ≡ bytes.old.items ++ bytes_of_all (step_code step variable ∷ spec.push (forms.Variable (number_of variable)) ∷ [])) }
+    ensures { OnOk result (bytes.new.items ≡ bytes.old.items
+        ++ bytes_of_all (step_code step variable (as_destination destination))) }
 {
     let number = variable_number(variable);
     let stepped = plain(operation_of(step), Operands::One(Operand::Small(number)));
-    put_all(bytes, &[stepped, push(Operand::Variable(number))])
-}
-
-/// A variable is stepped, and its old word is pushed.
-pub fn put_step_after(bytes: &mut Vec<u8>, variable: Variable, step: Step) -> Result<(), AllocError>
-    ensures { OnOk result (bytes.new.items ≡ bytes.old.items ++ bytes_of_all (spec.push (forms.Variable (number_of variable)) ∷ step_code step variable ∷ [])) }
-{
-    let number = variable_number(variable);
-    let stepped = plain(operation_of(step), Operands::One(Operand::Small(number)));
-    put_all(bytes, &[push(Operand::Variable(number)), stepped])
+    let word = Operand::Variable(number);
+    match destination {
+        Destination::Push => put_all(bytes, &[stepped, push(word)]),
+        Destination::Into(other) => {
+            put_all(bytes, &[stepped, store(variable_number(other), word)])
+        }
+        Destination::Nowhere => put_all(bytes, &[stepped]),
+    }
 }

@@ -1,17 +1,21 @@
 -- What a level reads, by the case that the code is in: each as reading a part, and a function of what that gives.
-use Rattle.std.proofs.Common.{◌≡◌, ℕ, ◌+◌, true, false, List, Option, Some, None, Ok, Result, refl, sym, ap, ◌∙◌}
+use Rattle.std.proofs.Common.{◌≡◌, ℕ, ◌+◌, true, false, List, Some, None, Ok, refl}
 use Rattle.lexer.specs.declared.token.Position.{Position}
 use Rattle.lexer.specs.declared.token.Sign.TheVariants as s
 use Rattle.lexer.specs.declared.token.Word.TheVariants as w
 use Rattle.lexer.specs.Token.{Lexeme, position_of}
+use Rattle.expressions.specs.declared.error.Fault.TheVariants.{Deep}
+use Rattle.expressions.specs.declared.error.ParseError.{ParseError}
+use Rattle.expressions.specs.declared.error.ParseError.TheVariants as errors
 use Rattle.expressions.specs.declared.tree.Comparison.{Comparison}
 use Rattle.expressions.specs.declared.tree.Equality.{Equality}
 use Rattle.expressions.specs.declared.tree.Prefix.TheVariants as op
 use Rattle.expressions.specs.declared.tree.Step.{Step}
 use Rattle.expressions.specs.Operators.{comparing, equating, stepping}
 use Rattle.expressions.specs.Tree.{NameTree, ExpressionTree, assign, call, compare, equal, parenthesised, prefixed, step_before, trees_of}
-use Rattle.expressions.specs.Parse.{◌>>=◌, Level, Parse, head, tail, is_sign, is_word, list, closed, step_on, nested, enclosed, primary, stepped, unary, complemented, sum, equated, comparison, negated, condition, assigned, expression, called}
-use Rattle.expressions.proofs.Nested.{nested_whole, nested_negation, nested_complement, nested_prefix, nested_operand}
+use Rattle.expressions.specs.Nesting.{begins_expression}
+use Rattle.expressions.specs.Parse.{◌>>=◌, Fails, whole, negation, complement, prefix, operand, arguments, after_name, head, tail, is_sign, is_word, list, closed, step_on, nested, enclosed, primary, stepped, unary, complemented, sum, equated, comparison, negated, condition, assigned, expression, called}
+use Rattle.expressions.proofs.Nested.{nested_zero, nested_arguments, nested_whole, nested_negation, nested_complement, nested_prefix, nested_operand}
 
 module _ (d : ℕ) where
   pub expression_assigns : (ts r us : List Lexeme) (a : ExpressionTree) (p : Position) → condition (nested d) ts ≡ Ok (a, r) → is_sign s.Assign (head r) ≡ true → us ≡ tail r → p ≡ position_of (head r)
@@ -37,6 +41,24 @@ module _ (d : ℕ) where
   unfolding called
   called_with n ts e = rw e refl
 
+  pub expression_fails : (e : ParseError) (ts : List Lexeme) → Fails e (condition (nested d) ts) → Fails e (expression (nested d) ts)
+  unfolding expression
+  expression_fails errors.Memory ts h = tt
+  expression_fails (errors.Fault f line) ts h = rw h refl
+
+  pub expression_alone : (ts r : List Lexeme) (a : ExpressionTree) → condition (nested d) ts ≡ Ok (a, r) → is_sign s.Assign (head r) ≡ false → expression (nested d) ts ≡ Ok (a, r)
+  unfolding expression
+  expression_alone ts r a h e = rw (h, e) refl
+
+  pub comparison_fails : (e : ParseError) (ts : List Lexeme) → Fails e (sum (nested d) ts) → Fails e (comparison (nested d) ts)
+  unfolding comparison
+  comparison_fails errors.Memory ts h = tt
+  comparison_fails (errors.Fault f line) ts h = rw h refl
+
+  pub comparison_alone : (ts r : List Lexeme) (a : ExpressionTree) → sum (nested d) ts ≡ Ok (a, r) → comparing (head r) ≡ None → equating (head r) ≡ None → comparison (nested d) ts ≡ Ok (a, r)
+  unfolding comparison
+  comparison_alone ts r a h n e = rw (h, n, e) refl
+
 -- with one nesting more opened
 module _ (d k : ℕ) (more : d ≡ k + 1) where
   pub negated_not : (ts us : List Lexeme) → is_sign s.Not (head ts) ≡ true → us ≡ tail ts → negated (nested d) ts ≡ (negated (nested k) us >>= λ x. Ok (prefixed op.Not x.0, x.1))
@@ -59,3 +81,41 @@ module _ (d k : ℕ) (more : d ≡ k + 1) where
   pub enclosed_whole : (ts us : List Lexeme) → us ≡ ts → enclosed (nested d) ts ≡ (expression (nested k) us >>= closed parenthesised)
   unfolding enclosed
   enclosed_whole ts us u = rw (u, nested_whole d k ts more) refl
+
+  pub assigned_whole : (ts : List Lexeme) → begins_expression (head ts) ≡ true → assigned (nested d) ts ≡ expression (nested k) ts
+  unfolding assigned
+  assigned_whole ts e = rw (e, nested_whole d k ts more) refl
+
+  pub after_name_called : (n : NameTree) (ts us : List Lexeme) → is_sign s.OpenParenthesis (head ts) ≡ true → us ≡ tail ts → after_name (nested d) n ts ≡ called (nested k) n us
+  unfolding after_name
+  after_name_called n ts us e u = rw (e, u, nested_arguments d k n (tail ts) more) refl
+
+-- with no nesting left
+module _ (e : ParseError) (d n : ℕ) (deep : (d ≡ 0) × (e ≡ errors.Fault Deep n)) where
+  pub assigned_deep : (ts : List Lexeme) → begins_expression (head ts) ≡ true → Fails e (assigned (nested d) ts)
+  unfolding assigned
+  assigned_deep ts is = rw deep.1 (rw (is, nested_zero d whole ts deep.0) refl)
+
+  pub after_name_deep : (name : NameTree) (ts : List Lexeme) → is_sign s.OpenParenthesis (head ts) ≡ true → Fails e (after_name (nested d) name ts)
+  unfolding after_name
+  after_name_deep name ts is = rw deep.1 (rw (is, nested_zero d (arguments name) (tail ts) deep.0) refl)
+
+  pub enclosed_deep : (ts : List Lexeme) → Fails e (enclosed (nested d) ts)
+  unfolding enclosed
+  enclosed_deep ts = rw deep.1 (rw (nested_zero d whole ts deep.0) refl)
+
+  pub negated_deep : (ts : List Lexeme) → is_sign s.Not (head ts) ≡ true → Fails e (negated (nested d) ts)
+  unfolding negated
+  negated_deep ts is = rw deep.1 (rw (is, nested_zero d negation (tail ts) deep.0) refl)
+
+  pub complemented_deep : (ts : List Lexeme) → is_sign s.Tilde (head ts) ≡ true → Fails e (complemented (nested d) ts)
+  unfolding complemented
+  complemented_deep ts is = rw deep.1 (rw (is, nested_zero d complement (tail ts) deep.0) refl)
+
+  pub unary_deep : (ts : List Lexeme) → is_sign s.Minus (head ts) ≡ true → Fails e (unary (nested d) ts)
+  unfolding unary
+  unary_deep ts is = rw deep.1 (rw (is, nested_zero d prefix (tail ts) deep.0) refl)
+
+  pub unary_step_deep : (ts : List Lexeme) (o : Step) → is_sign s.Minus (head ts) ≡ false → stepping (head ts) ≡ Some o → Fails e (unary (nested d) ts)
+  unfolding unary
+  unary_step_deep ts o is step = rw deep.1 (rw (is, step, nested_zero d operand (tail ts) deep.0) refl)

@@ -14,7 +14,8 @@ use Rattle.expressions.specs.Nesting.{begins_expression}
 use Rattle.expressions.specs.Parse.{◌>>=◌, head, is_sign, is_word, expect, list, whole, negation, complement, prefix, operand, arguments, nested, after_name, enclosed, primary, step_on, stepped, unary, complemented, product, sum, equated, comparison, negated, condition, assigned, expression, called}
 use Rattle.expressions.specs.Grammar.{IsE, e_plain, e_assign, IsE1, e1_plain, e1_logical, IsN1, n1_plain, n1_not, IsE2, e2_plain, e2_compare, e2_equal, IsChoice, choice_last, choice_or, IsE3, e3_plain, e3_add, IsE4, e4_plain, e4_scale, IsN4, n4_plain, n4_complement, IsU, u_plain, u_minus, u_before, u_after, IsP, p_number, p_character, p_true, p_false, p_nothing, p_name, p_call, p_call_with, p_parenthesised, IsArguments, arguments_last, arguments_comma, nesting, nestings}
 use Rattle.expressions.proofs.Limited.{Limited, bound, then, at_once, same, in_whole, in_negation, in_complement, in_prefix, in_operand, in_arguments, Chained, begins, goes_on, stops, Listed, listed_last, listed_next, listed_all}
-use Rattle.expressions.proofs.Follow.{short_E, short_N1, short_E3, short_E4, short_N4, Stops, logical_binds, comparing_binds, equating_binds, equating_only, adding_binds, scaling_binds, stepping_binds, stepping_only, logical_stops, comparing_stops, equating_stops, or_stops, adding_stops, scaling_stops, stepping_stops, assign_stops, parenthesis_stops, begins_not, begins_tilde, begins_minus, begins_step, begins_close, begin_P, begin_U, begin_E2, begin_Arguments, first_E}
+use Rattle.expressions.proofs.Follow.{Stops, logical_binds, comparing_binds, equating_binds, equating_only, adding_binds, scaling_binds, stepping_binds, stepping_only, logical_stops, comparing_stops, equating_stops, or_stops, adding_stops, scaling_stops, stepping_stops, assign_stops, parenthesis_stops, begins_not, begins_tilde, begins_minus, begins_step, begins_close, begin_P, begin_U, begin_E2, begin_Arguments, first_E}
+use Rattle.expressions.proofs.Short.{short_E, short_N1, short_E3, short_E4, short_N4}
 
 -- the trees of a list of trees, as a list
 abbrev list_of : ExpressionTrees → List ExpressionTree

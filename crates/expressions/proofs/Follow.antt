@@ -1,5 +1,5 @@
 -- Tokens at the two ends of an expression: with which it begins, and which goes on with it.
-use Rattle.std.proofs.Common.{◌≡◌, ℕ, ◌<◌, true, false, List, length, Some, None, refl, arith}
+use Rattle.std.proofs.Common.{◌≡◌, ℕ, ◌<◌, true, false, List, Some, None, refl, arith}
 use Rattle.lexer.specs.declared.token.Sign.TheVariants as s
 use Rattle.lexer.specs.declared.token.Word.TheVariants as w
 use Rattle.lexer.specs.Token.{Lexeme, name, number, character, reserved, sign}
@@ -11,64 +11,7 @@ use Rattle.expressions.specs.Tree.{ExpressionTree, ExpressionTrees}
 use Rattle.expressions.specs.Operators.{logical, comparing, equating, adding, scaling, stepping}
 use Rattle.expressions.specs.Nesting.{begins_expression}
 use Rattle.expressions.specs.Parse.{head, is_sign, is_word}
-use Rattle.expressions.specs.Grammar.{IsE, e_plain, e_assign, IsE1, e1_plain, e1_logical, IsN1, n1_plain, n1_not, IsE2, e2_plain, e2_compare, e2_equal, IsChoice, choice_last, choice_or, IsE3, e3_plain, e3_add, IsE4, e4_plain, e4_scale, IsN4, n4_plain, n4_complement, IsU, u_plain, u_minus, u_before, u_after, IsP, p_number, p_character, p_true, p_false, p_nothing, p_name, p_call, p_call_with, p_parenthesised, IsArguments, arguments_last, arguments_comma}
-
--- ---- each derivation takes a token
-
-mutual
-  pub short_E : {ts r : List Lexeme} {e : ExpressionTree} → IsE ts e r → length r < length ts
-  short_E (e_plain a) = short_E1 a
-  short_E (e_assign a b) = omega (arith, short_E1 a, short_E b)
-
-  pub short_E1 : {ts r : List Lexeme} {e : ExpressionTree} → IsE1 ts e r → length r < length ts
-  short_E1 (e1_plain a) = short_N1 a
-  short_E1 (e1_logical a o b) = omega (arith, short_E1 a, short_N1 b)
-
-  pub short_N1 : {ts r : List Lexeme} {e : ExpressionTree} → IsN1 ts e r → length r < length ts
-  short_N1 (n1_plain a) = short_E2 a
-  short_N1 (n1_not a) = omega (arith, short_N1 a)
-
-  pub short_E2 : {ts r : List Lexeme} {e : ExpressionTree} → IsE2 ts e r → length r < length ts
-  short_E2 (e2_plain a) = short_E3 a
-  short_E2 (e2_compare a o b) = omega (arith, short_E3 a, short_E3 b)
-  short_E2 (e2_equal a o b) = omega (arith, short_E3 a, short_Choice b)
-
-  pub short_Choice : {ts r : List Lexeme} {es : ExpressionTrees} → IsChoice ts es r → length r < length ts
-  short_Choice (choice_last a) = short_E3 a
-  short_Choice (choice_or a b) = omega (arith, short_E3 a, short_Choice b)
-
-  pub short_E3 : {ts r : List Lexeme} {e : ExpressionTree} → IsE3 ts e r → length r < length ts
-  short_E3 (e3_plain a) = short_E4 a
-  short_E3 (e3_add a o b) = omega (arith, short_E3 a, short_E4 b)
-
-  pub short_E4 : {ts r : List Lexeme} {e : ExpressionTree} → IsE4 ts e r → length r < length ts
-  short_E4 (e4_plain a) = short_N4 a
-  short_E4 (e4_scale a o b) = omega (arith, short_E4 a, short_N4 b)
-
-  pub short_N4 : {ts r : List Lexeme} {e : ExpressionTree} → IsN4 ts e r → length r < length ts
-  short_N4 (n4_plain a) = short_U a
-  short_N4 (n4_complement a) = omega (arith, short_N4 a)
-
-  pub short_U : {ts r : List Lexeme} {e : ExpressionTree} → IsU ts e r → length r < length ts
-  short_U (u_plain a) = short_P a
-  short_U (u_minus a) = omega (arith, short_U a)
-  short_U (u_before o a) = omega (arith, short_P a)
-  short_U (u_after a o) = omega (arith, short_P a)
-
-  pub short_P : {ts r : List Lexeme} {e : ExpressionTree} → IsP ts e r → length r < length ts
-  short_P p_number = omega arith
-  short_P p_character = omega arith
-  short_P p_true = omega arith
-  short_P p_false = omega arith
-  short_P p_nothing = omega arith
-  short_P p_name = omega arith
-  short_P p_call = omega arith
-  short_P (p_call_with a) = omega (arith, short_Arguments a)
-  short_P (p_parenthesised a) = omega (arith, short_E a)
-
-  pub short_Arguments : {ts r : List Lexeme} {es : ExpressionTrees} → IsArguments ts es r → length r < length ts
-  short_Arguments (arguments_last a) = short_E a
-  short_Arguments (arguments_comma a b) = omega (arith, short_E a, short_Arguments b)
+use Rattle.expressions.specs.Grammar.{IsE, e_plain, e_assign, IsE1, e1_plain, e1_logical, IsN1, n1_plain, n1_not, IsE2, e2_plain, e2_compare, e2_equal, IsE3, e3_plain, e3_add, IsE4, e4_plain, e4_scale, IsN4, n4_plain, n4_complement, IsU, u_plain, u_minus, u_before, u_after, IsP, p_number, p_character, p_true, p_false, p_nothing, p_name, p_call, p_call_with, p_parenthesised, IsArguments, arguments_last, arguments_comma}
 
 -- ---- the token that follows
 

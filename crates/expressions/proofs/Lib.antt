@@ -7,6 +7,7 @@ pub mod Cases
 pub mod Limited
 pub mod Repeated
 pub mod Sound
+pub mod Short
 pub mod Follow
 pub mod Complete
 pub mod Given

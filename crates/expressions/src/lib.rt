@@ -1,7 +1,6 @@
 //! Expressions: their trees, and the parser that reads them.
 #![tactic(auto)]
 
-mod build;
 mod error;
 mod laws;
 mod operators;

@@ -12,9 +12,9 @@ ghost use Rattle.expressions.specs.Levels.{operand_of, chain_of};
 
 use crate::error::{Fault, ParseError};
 use crate::operators::{Operators, begins_expression, comparing, equating, operator, stepping};
+use crate::parts;
 use crate::reading::{fault_at, is_sign, is_word, open, peek, position, skip};
 use crate::tree::{Expression, Name, Prefix};
-use crate::{build, parts};
 use lexer::{Kind, Sign, Token, Word};
 use std::alloc::Global;
 
@@ -33,8 +33,8 @@ pub fn expression<'t, 'a>(
     alloc: Global,
     depth: usize,
     tokens: &'t [Token<'a>],
-) -> Result<(Expression<'a>, &'t [Token<'a>]), ParseError>
-    ensures { Gives (λ x. (expression_tree x.0, lexemes x.1.now)) result
+) -> Result<(Box<Expression<'a>>, &'t [Token<'a>]), ParseError>
+    ensures { Gives (λ x. (expression_tree x.0.value, lexemes x.1.now)) result
         (spec.expression (spec.nested depth) (lexemes tokens.now)) }
 {
     let (left, rest) = chain(alloc, depth, Operators::Logical, tokens)?;
@@ -52,8 +52,8 @@ fn assigned<'t, 'a>(
     alloc: Global,
     depth: usize,
     tokens: &'t [Token<'a>],
-) -> Result<(Expression<'a>, &'t [Token<'a>]), ParseError>
-    ensures { Gives (λ x. (expression_tree x.0, lexemes x.1.now)) result
+) -> Result<(Box<Expression<'a>>, &'t [Token<'a>]), ParseError>
+    ensures { Gives (λ x. (expression_tree x.0.value, lexemes x.1.now)) result
         (spec.assigned (spec.nested depth) (lexemes tokens.now)) }
 {
     if !begins_expression(peek(tokens)) {
@@ -71,8 +71,8 @@ fn chain<'t, 'a>(
     depth: usize,
     operators: Operators,
     tokens: &'t [Token<'a>],
-) -> Result<(Expression<'a>, &'t [Token<'a>]), ParseError>
-    ensures { Gives (λ x. (expression_tree x.0, lexemes x.1.now))
+) -> Result<(Box<Expression<'a>>, &'t [Token<'a>]), ParseError>
+    ensures { Gives (λ x. (expression_tree x.0.value, lexemes x.1.now))
         result (chain_of (spec.nested depth) operators (lexemes tokens.now)) }
 {
     let (first, at_operator) = operand(alloc, depth, operators, tokens)?;
@@ -80,18 +80,17 @@ fn chain<'t, 'a>(
         return Ok((first, at_operator));
     };
     let turns = at_operator.len();
-    let second = operand(alloc, depth, operators, skip(at_operator));
-    let (first, second, mut rest) = parts::both(alloc, first, second)?;
+    let (second, mut rest) = operand(alloc, depth, operators, skip(at_operator))?;
     let mut links = Vec::new(alloc);
     for _turn in 1..turns {
         let Some(next) = operator(operators, peek(rest)) else {
             break;
         };
         let (right, after) = operand(alloc, depth, operators, skip(rest))?;
-        links.push((next, right))?;
+        parts::add_link(&mut links, next, right)?;
         rest = after;
     }
-    Ok((build::chain(first, joining, second, links), rest))
+    parts::chain(alloc, first, joining, second, links, rest)
 }
 
 /// An operand of a level.
@@ -101,8 +100,8 @@ fn operand<'t, 'a>(
     depth: usize,
     operators: Operators,
     tokens: &'t [Token<'a>],
-) -> Result<(Expression<'a>, &'t [Token<'a>]), ParseError>
-    ensures { Gives (λ x. (expression_tree x.0, lexemes x.1.now))
+) -> Result<(Box<Expression<'a>>, &'t [Token<'a>]), ParseError>
+    ensures { Gives (λ x. (expression_tree x.0.value, lexemes x.1.now))
         result (operand_of (spec.nested depth) operators (lexemes tokens.now)) }
 {
     match operators {
@@ -119,8 +118,8 @@ fn negated<'t, 'a>(
     alloc: Global,
     depth: usize,
     tokens: &'t [Token<'a>],
-) -> Result<(Expression<'a>, &'t [Token<'a>]), ParseError>
-    ensures { Gives (λ x. (expression_tree x.0, lexemes x.1.now)) result
+) -> Result<(Box<Expression<'a>>, &'t [Token<'a>]), ParseError>
+    ensures { Gives (λ x. (expression_tree x.0.value, lexemes x.1.now)) result
         (spec.negated (spec.nested depth) (lexemes tokens.now)) }
 {
     if !is_sign(peek(tokens), Sign::Not) {
@@ -138,8 +137,8 @@ fn comparison<'t, 'a>(
     alloc: Global,
     depth: usize,
     tokens: &'t [Token<'a>],
-) -> Result<(Expression<'a>, &'t [Token<'a>]), ParseError>
-    ensures { Gives (λ x. (expression_tree x.0, lexemes x.1.now)) result
+) -> Result<(Box<Expression<'a>>, &'t [Token<'a>]), ParseError>
+    ensures { Gives (λ x. (expression_tree x.0.value, lexemes x.1.now)) result
         (spec.comparison (spec.nested depth) (lexemes tokens.now)) }
 {
     let (left, rest) = chain(alloc, depth, Operators::Adding, tokens)?;
@@ -165,15 +164,14 @@ fn values<'t, 'a>(
     ensures { Gives (λ x. (expression_tree x.0.value ∷ map expression_tree x.1.items, lexemes x.2.now)) result
         (spec.list (spec.is_word Word.Or) (spec.sum (spec.nested depth)) (lexemes tokens.now)) }
 {
-    let first = chain(alloc, depth, Operators::Adding, tokens);
-    let (first, mut rest) = parts::boxed(alloc, first)?;
+    let (first, mut rest) = chain(alloc, depth, Operators::Adding, tokens)?;
     let mut others = Vec::new(alloc);
     for _turn in 0..rest.len() {
         if !is_word(peek(rest), Word::Or) {
             break;
         }
         let (value, after) = chain(alloc, depth, Operators::Adding, skip(rest))?;
-        others.push(value)?;
+        parts::add(&mut others, value)?;
         rest = after;
     }
     Ok((first, others, rest))
@@ -186,8 +184,8 @@ fn complemented<'t, 'a>(
     alloc: Global,
     depth: usize,
     tokens: &'t [Token<'a>],
-) -> Result<(Expression<'a>, &'t [Token<'a>]), ParseError>
-    ensures { Gives (λ x. (expression_tree x.0, lexemes x.1.now)) result
+) -> Result<(Box<Expression<'a>>, &'t [Token<'a>]), ParseError>
+    ensures { Gives (λ x. (expression_tree x.0.value, lexemes x.1.now)) result
         (spec.complemented (spec.nested depth) (lexemes tokens.now)) }
 {
     if !is_sign(peek(tokens), Sign::Tilde) {
@@ -205,8 +203,8 @@ fn unary<'t, 'a>(
     alloc: Global,
     depth: usize,
     tokens: &'t [Token<'a>],
-) -> Result<(Expression<'a>, &'t [Token<'a>]), ParseError>
-    ensures { Gives (λ x. (expression_tree x.0, lexemes x.1.now)) result
+) -> Result<(Box<Expression<'a>>, &'t [Token<'a>]), ParseError>
+    ensures { Gives (λ x. (expression_tree x.0.value, lexemes x.1.now)) result
         (spec.unary (spec.nested depth) (lexemes tokens.now)) }
 {
     let after = skip(tokens);
@@ -230,18 +228,18 @@ fn primary<'t, 'a>(
     alloc: Global,
     depth: usize,
     tokens: &'t [Token<'a>],
-) -> Result<(Expression<'a>, &'t [Token<'a>]), ParseError>
-    ensures { Gives (λ x. (expression_tree x.0, lexemes x.1.now)) result
+) -> Result<(Box<Expression<'a>>, &'t [Token<'a>]), ParseError>
+    ensures { Gives (λ x. (expression_tree x.0.value, lexemes x.1.now)) result
         (spec.primary (spec.nested depth) (lexemes tokens.now)) }
 {
     let token = peek(tokens);
     let rest = skip(tokens);
     match token.kind {
-        Kind::Number(number) => Ok((Expression::Constant(number), rest)),
-        Kind::Character(code) => Ok((Expression::Constant(code as u16), rest)),
-        Kind::Reserved(Word::True) => Ok((Expression::Constant(1), rest)),
-        Kind::Reserved(Word::False) => Ok((Expression::Constant(0), rest)),
-        Kind::Reserved(Word::Nothing) => Ok((Expression::Constant(0), rest)),
+        Kind::Number(number) => parts::constant(alloc, number, rest),
+        Kind::Character(code) => parts::constant(alloc, code as u16, rest),
+        Kind::Reserved(Word::True) => parts::constant(alloc, 1, rest),
+        Kind::Reserved(Word::False) => parts::constant(alloc, 0, rest),
+        Kind::Reserved(Word::Nothing) => parts::constant(alloc, 0, rest),
         Kind::Name(text) => {
             let name = Name {
                 text,
@@ -262,12 +260,12 @@ fn after_name<'t, 'a>(
     depth: usize,
     name: Name<'a>,
     tokens: &'t [Token<'a>],
-) -> Result<(Expression<'a>, &'t [Token<'a>]), ParseError>
-    ensures { Gives (λ x. (expression_tree x.0, lexemes x.1.now)) result
+) -> Result<(Box<Expression<'a>>, &'t [Token<'a>]), ParseError>
+    ensures { Gives (λ x. (expression_tree x.0.value, lexemes x.1.now)) result
         (spec.after_name (spec.nested depth) (name_tree name.entry) (lexemes tokens.now)) }
 {
     if !is_sign(peek(tokens), Sign::OpenParenthesis) {
-        return Ok((Expression::Named(name), tokens));
+        return parts::named(alloc, name, tokens);
     }
     let inside = open(depth, tokens)?;
     called(alloc, inside, name, skip(tokens))
@@ -280,8 +278,8 @@ fn enclosed<'t, 'a>(
     alloc: Global,
     depth: usize,
     tokens: &'t [Token<'a>],
-) -> Result<(Expression<'a>, &'t [Token<'a>]), ParseError>
-    ensures { Gives (λ x. (expression_tree x.0, lexemes x.1.now)) result
+) -> Result<(Box<Expression<'a>>, &'t [Token<'a>]), ParseError>
+    ensures { Gives (λ x. (expression_tree x.0.value, lexemes x.1.now)) result
         (spec.enclosed (spec.nested depth) (tail (lexemes tokens.now))) }
 {
     let inside = open(depth, tokens)?;
@@ -297,14 +295,14 @@ fn called<'t, 'a>(
     depth: usize,
     name: Name<'a>,
     tokens: &'t [Token<'a>],
-) -> Result<(Expression<'a>, &'t [Token<'a>]), ParseError>
-    ensures { Gives (λ x. (expression_tree x.0, lexemes x.1.now)) result
+) -> Result<(Box<Expression<'a>>, &'t [Token<'a>]), ParseError>
+    ensures { Gives (λ x. (expression_tree x.0.value, lexemes x.1.now)) result
         (spec.called (spec.nested depth) (name_tree name.entry) (lexemes tokens.now)) }
 {
     if is_sign(peek(tokens), Sign::CloseParenthesis) {
-        return Ok((build::call(name, Vec::new(alloc)), skip(tokens)));
+        return parts::call_alone(alloc, name, skip(tokens));
     }
-    parts::call(name, arguments(alloc, depth, tokens))
+    parts::call(alloc, name, arguments(alloc, depth, tokens))
 }
 
 /// Arguments, at least one.
@@ -320,13 +318,13 @@ fn arguments<'t, 'a>(
 {
     let mut arguments = Vec::new(alloc);
     let (first, mut rest) = expression(alloc, depth, tokens)?;
-    arguments.push(first)?;
+    parts::add(&mut arguments, first)?;
     for _turn in 0..rest.len() {
         if !is_sign(peek(rest), Sign::Comma) {
             break;
         }
         let (argument, after) = expression(alloc, depth, skip(rest))?;
-        arguments.push(argument)?;
+        parts::add(&mut arguments, argument)?;
         rest = after;
     }
     Ok((arguments, rest))

@@ -1,93 +1,251 @@
--- How many items there are.
-use Rattle.std.proofs.Common.{◌≡◌, ℕ, ◌+◌, List, [], ◌∷◌, ◌++◌, length, refl, arith, length-append}
+-- How many items the forms of expressions have.
+use Rattle.std.proofs.Common.{◌≡◌, ℕ, ◌+◌, List, [], ◌∷◌, ◌++◌, length, Bool, true, false, refl, arith, length-append}
+use Rattle.std.specs.Prelude.{if◌then◌else◌, not}
 use Rattle.expressions.specs.declared.tree.Binary.{Binary}
 use Rattle.expressions.specs.declared.tree.Binary.TheVariants as binaries
+use Rattle.expressions.specs.declared.tree.Prefix.{Prefix}
+use Rattle.expressions.specs.declared.tree.Prefix.TheVariants as prefixes
+use Rattle.expressions.specs.declared.tree.Step.{Step}
 use Rattle.expressions.specs.declared.tree.Equality.{Equality}
-use Rattle.expressions.specs.declared.tree.Equality.TheVariants as equalities
+use Rattle.checker.specs.declared.resolved.Variable.{Variable}
 use Rattle.checker.specs.Resolved.{Value, Values, none, more, Printed, Action, Actions, stop, next}
 use Rattle.checker.specs.Resolved as source
-use Rattle.items.specs.Items.{Item, operation_count, closing_items, closing_count, value_count, arguments_count, equal_count, or_count, also_count, printed_count, prints_count, action_count, actions_count, second_items, value_items, arguments_items, equal_items, or_items, also_items, printed_items, prints_items, return_true, action_items, actions_items}
+use Rattle.checker.specs.Meaning.{is_true}
+use Rattle.items.specs.Items.{Item, Operand, pushed, number, variable, Destination, push, into, nowhere, operand_of}
+use Rattle.items.specs.Items.{operands_of, alone, left_of, if_pushed, branch_true, agrees, is_few, comparison_test}
+use Rattle.items.specs.Items.{comparison_when, equality_when, moved_count, truth_count, after_count, kept_count}
+use Rattle.items.specs.Items.{value_count, operand_count, operands_count, branch_count, many_count, also_count, moved}
+use Rattle.items.specs.Items.{truth_items, after_items, kept_items, and_items, or_items, value_items, operands_items}
+use Rattle.items.specs.Items.{branch_items, many_items, also_items, printed_count, prints_count, action_count}
+use Rattle.items.specs.Items.{actions_count, alone_items, printed_items, prints_items, action_items, actions_items}
 use Rattle.items.specs.Items as items
 
-joined : {A : Type 0} (xs ys : List A) (m n : ℕ) → length xs ≡ m → length ys ≡ n → length (xs ++ ys) ≡ m + n
-joined xs ys m n e f = omega (arith, length-append xs ys, e, f)
+pub joined : (xs ys : List Item) (n m : ℕ) → length xs ≡ n → length ys ≡ m → length (xs ++ ys) ≡ n + m
+joined xs ys n m ex ey = omega (arith, length-append xs ys, ex, ey)
 
-pub second_length : (op : Binary) (at count : ℕ) (second : ℕ → List Item) → ((place : ℕ) → length (second place) ≡ count) → length (second_items op at count second) ≡ count + operation_count op
-second_length binaries.AndAlso at count second e = omega (arith, length-append (second (at + 1)) (items.truth ∷ items.jump (at + count + 4) ∷ items.push_number 0 ∷ []), e (at + 1))
-second_length binaries.OrElse at count second e = omega (arith, length-append (second (at + 3)) (items.truth ∷ []), e (at + 3))
-second_length op at count second e = joined (second at) (items.operate op ∷ []) count 1 (e at) refl
+pub if_length : (o : Operand) (xs : List Item) (n : ℕ) → length xs ≡ n → length (if_pushed o xs []) ≡ if_pushed o n 0
+if_length pushed xs n e = e
+if_length (number k) xs n e = refl
+if_length (variable x) xs n e = refl
 
-closing_length : (op : Equality) → length (closing_items op) ≡ closing_count op
-closing_length equalities.Equal = refl
-closing_length equalities.NotEqual = refl
+moved_length : (o : Operand) (d : Destination) → length (moved o d) ≡ moved_count d
+moved_length o push = refl
+moved_length o (into x) = refl
+moved_length o nowhere = refl
+
+after_length : (x : Variable) (op : Step) (d : Destination) → length (after_items x op d) ≡ after_count d
+after_length x op push = refl
+after_length x op (into y) = refl
+after_length x op nowhere = refl
+
+truth_length : (at n : ℕ) (d : Destination) (f : ℕ → List Item) → ((t : ℕ) → length (f t) ≡ n)
+    → length (truth_items at n d f) ≡ n + truth_count d
+truth_length at n push f e =
+    omega (
+      arith,
+      e (at + n + 2),
+      length-append (f (at + n + 2))
+          (items.move (number 0) push ∷ items.jump (at + n + 3) ∷ items.move (number 1) push ∷ []),
+    )
+truth_length at n (into x) f e =
+    omega (
+      arith,
+      e (at + n + 2),
+      length-append (f (at + n + 2))
+          (items.move (number 0) (into x) ∷ items.jump (at + n + 3) ∷ items.move (number 1) (into x) ∷ []),
+    )
+truth_length at n nowhere f e = omega (arith, e (at + n))
+
+two_length : (oa ob : Operand) (xa xb tail : List Item) (na nb k : ℕ) → length xa ≡ na → length xb ≡ nb → length tail
+    ≡ k
+    → length (if_pushed oa xa [] ++ (if_pushed ob xb [] ++ tail)) ≡ if_pushed oa na 0 + if_pushed ob nb 0 + k
+two_length oa ob xa xb tail na nb k ea eb et =
+    omega (
+      arith,
+      et,
+      if_length oa xa na ea,
+      if_length ob xb nb eb,
+      length-append (if_pushed oa xa [])
+          (if_pushed ob xb [] ++ tail),
+      length-append (if_pushed ob xb []) tail,
+    )
+
+kept_length : (x : Variable) (d : Destination) (xs ys : List Item) (n m : ℕ) → length xs ≡ n → length ys
+    ≡ m → length (kept_items x d xs ys) ≡ kept_count d n m
+kept_length x nowhere xs ys n m ex ey = ex
+kept_length x push xs ys n m ex ey = joined ys _ m 1 ey refl
+kept_length x (into y) xs ys n m ex ey = joined ys _ m 2 ey refl
+
+known_length : (b : Bool) (t : ℕ) → length (if b then items.jump t ∷ [] else []) ≡ (if b then 1 else 0)
+known_length true t = refl
+known_length false t = refl
+
+either_length : (b : Bool) (xs ys : List Item) (n m : ℕ) → length xs ≡ n → length ys
+    ≡ m → length (if b then xs else ys) ≡ (if b then n else m)
+either_length true xs ys n m ex ey = ex
+either_length false xs ys n m ex ey = ey
+
+either_and : (b : Bool) (xs ys : List Item) (n m k : ℕ) → length xs ≡ n + k → length ys
+    ≡ m + k → length (if b then xs else ys) ≡ (if b then n else m) + k
+either_and true xs ys n m k ex ey = ex
+either_and false xs ys n m k ex ey = ey
+
+-- what is known of a value's items
+record Counted (v : Value) : Type 0 where
+  value : (d : Destination) (at : ℕ) → length (value_items at v d) ≡ value_count v d
+  branch : (when : Bool) (at t : ℕ) → length (branch_items at v when t) ≡ branch_count v when
+
+prefixed_counted : (op : Prefix) (v : Value) → Counted v → Counted (source.prefixed op v)
+prefixed_counted prefixes.Not v c = record {
+  value = λ d at. truth_length at (branch_count v false) d (λ t. branch_items at v false t) (λ t. c.branch false at t);
+  branch = λ when at t. c.branch (not when) at t;
+}
+prefixed_counted op v c = record {
+  value = λ d at. joined (if_pushed (alone v) (value_items at v push) []) _ _ 1
+      (if_length (alone v) _ _ (c.value push at)) refl;
+  branch = λ when at t. omega (
+    arith,
+    joined (if_pushed (alone v) (value_items at v push) [])
+        (items.apply_prefix op (alone v) push ∷ branch_true pushed when t ∷ []) _ 2
+        (if_length (alone v) _ _ (c.value push at)) refl,
+  );
+}
+
+binary_counted : (op : Binary) (a b : Value) → Counted a → Counted b → Counted (source.binary op a b)
+binary_counted binaries.AndAlso a b ca cb = record {
+  value = λ d at. truth_length at (branch_count a false + branch_count b true) d
+      (λ t. and_items at (branch_count a false) (branch_count b true) true t (λ at when t. branch_items at a when t)
+      (λ at when t. branch_items at b when t))
+      (λ t. joined _ _ _ _ (ca.branch false at (at + branch_count a false + branch_count b true))
+      (cb.branch true (at + branch_count a false) t));
+  branch = λ when at t. joined _ _ _ _
+      (ca.branch false at (if when then at + branch_count a false + branch_count b when else t))
+      (cb.branch when (at + branch_count a false) t);
+}
+binary_counted binaries.OrElse a b ca cb = record {
+  value = λ d at. truth_length at (branch_count a true + branch_count b true) d
+      (λ t. or_items at (branch_count a true) (branch_count b true) true t (λ at when t. branch_items at a when t)
+      (λ at when t. branch_items at b when t))
+      (λ t. joined _ _ _ _ (ca.branch true at t) (cb.branch true (at + branch_count a true) t));
+  branch = λ when at t. joined _ _ _ _
+      (ca.branch true at (if when then t else at + branch_count a true + branch_count b when))
+      (cb.branch when (at + branch_count a true) t);
+}
+binary_counted op a b ca cb = record {
+  value = λ d at. two_length (left_of a b) (alone b) _ _ (items.operate op (left_of a b) (alone b) d ∷ []) _ _ 1
+      (ca.value push at) (cb.value push (at + operand_count a (left_of a b))) refl;
+  branch = λ when at t. omega (
+    arith,
+    two_length (left_of a b) (alone b) _ _
+        (items.operate op (left_of a b) (alone b) push ∷ branch_true pushed when t ∷ []) _ _ 2 (ca.value push at)
+        (cb.value push (at + operand_count a (left_of a b))) refl,
+  );
+}
+
+few_length : (op : Equality) (a : Value) (bs : Values) → Counted a
+    → ((at : ℕ) → length (operands_items at bs) ≡ operands_count bs) → (when : Bool) (at t : ℕ)
+    → length (if_pushed (operand_of a bs) (value_items at a push) []
+    ++ (operands_items (at + operand_count a (operand_of a bs)) bs ++ items.branch items.same
+    (operand_of a bs ∷ operands_of bs) (equality_when op when) t ∷ []))
+    ≡ operand_count a (operand_of a bs) + operands_count bs + 1
+few_length op a bs c cs when at t =
+    omega (
+      arith,
+      joined (if_pushed (operand_of a bs) (value_items at a push) []) _ _ _
+          (if_length (operand_of a bs) _ _ (c.value push at))
+          (joined (operands_items (at + operand_count a (operand_of a bs)) bs)
+          (items.branch items.same (operand_of a bs ∷ operands_of bs) (equality_when op when) t ∷ []) _ 1
+          (cs (at + operand_count a (operand_of a bs))) refl),
+    )
+
+one_more : (i : Item) (xs : List Item) (n : ℕ) → length xs ≡ n → length (i ∷ xs) ≡ 1 + n
+one_more i xs n e = omega (arith, e)
 
 mutual
-  pub value_length : (v : Value) (at : ℕ) → length (value_items at v) ≡ value_count v
-  value_length (source.number n) at = refl
-  value_length (source.read x) at = refl
-  value_length (source.call r vs) at = joined (arguments_items at vs) _ (arguments_count vs) 1 (arguments_length vs at) refl
-  value_length (source.prefixed op v) at = joined (value_items at v) _ (value_count v) 1 (value_length v at) refl
-  value_length (source.step_before op x) at = refl
-  value_length (source.step_after x op) at = refl
-  value_length (source.binary op a b) at =
-      let second = second_length op (at + value_count a) (value_count b) (λ place. value_items place b) (value_length b) in
-      omega (arith, length-append (value_items at a) (second_items op (at + value_count a) (value_count b) (λ place. value_items place b)), value_length a at, second)
-  value_length (source.compare op a b) at =
-      let second = joined (value_items (at + value_count a) b) (items.compare op ∷ []) (value_count b) 1 (value_length b (at + value_count a)) refl in
-      omega (arith, length-append (value_items at a) (value_items (at + value_count a) b ++ items.compare op ∷ []), value_length a at, second)
-  value_length (source.equal op a bs) at = joined (value_items at a) _ (value_count a) (equal_count op bs) (value_length a at) (equal_length bs op (at + value_count a))
-  value_length (source.assign x v) at = joined (value_items at v) _ (value_count v) 1 (value_length v at) refl
+  counted : (v : Value) → Counted v
+  counted (source.number n) =
+      record {
+        value = λ d at. moved_length (number n) d;
+        branch =
+            λ when at t. known_length (agrees (is_true n) when) t;
+      }
+  counted (source.read x) = record { value = λ d at. moved_length (variable x) d; branch = λ when at t. refl }
+  counted (source.call r vs) = record {
+    value = λ d at. joined (operands_items at vs) _ _ 1 (operands_length vs at) refl;
+    branch = λ when at t. omega (
+      arith,
+      joined (operands_items at vs) (items.call r (operands_of vs) push ∷ branch_true pushed when t ∷ []) _
+          2 (operands_length vs at) refl,
+    );
+  }
+  counted (source.prefixed op v) = prefixed_counted op v (counted v)
+  counted (source.step_before op x) = record { value = λ d at. refl; branch = λ when at t. refl }
+  counted (source.step_after x op) = record { value = λ d at. after_length x op d; branch = λ when at t. refl }
+  counted (source.binary op a b) = binary_counted op a b (counted a) (counted b)
+  counted (source.compare op a b) = record {
+    value = λ d at. truth_length at _ d _
+        (λ t. two_length (left_of a b) (alone b) _ _
+        (items.branch (comparison_test op) (left_of a b ∷ alone b ∷ []) (comparison_when op true) t ∷ []) _ _ 1
+        ((counted a).value push at) ((counted b).value push (at + operand_count a (left_of a b))) refl);
+    branch = λ when at t. two_length (left_of a b) (alone b) _ _
+        (items.branch (comparison_test op) (left_of a b ∷ alone b ∷ []) (comparison_when op when) t ∷ []) _ _ 1
+        ((counted a).value push at) ((counted b).value push (at + operand_count a (left_of a b))) refl;
+  }
+  counted (source.equal op a bs) = record {
+    value = λ d at.
+        either_and (is_few bs) _ _ _ _ (truth_count d)
+        (truth_length at _ d _ (λ t. few_length op a bs (counted a) (operands_length bs) true at t))
+        (truth_length at _ d _
+        (λ t. joined (value_items at a push) _ _ _ ((counted a).value push at)
+        (many_length bs op true (at + value_count a push) t)));
+    branch = λ when at t.
+        either_length (is_few bs) _ _ _ _ (few_length op a bs (counted a) (operands_length bs) when at t)
+        (joined (value_items at a push) _ _ _ ((counted a).value push at)
+        (many_length bs op when (at + value_count a push) t));
+  }
+  counted (source.assign x v) = record {
+    value = λ d at. kept_length x d (value_items at v (into x)) (value_items at v push) (value_count v (into x))
+        (value_count v push) ((counted v).value (into x) at) ((counted v).value push at);
+    branch = λ when at t. joined (value_items at v push) _ _ 2 ((counted v).value push at) refl;
+  }
 
-  pub arguments_length : (vs : Values) (at : ℕ) → length (arguments_items at vs) ≡ arguments_count vs
-  arguments_length none at = refl
-  arguments_length (more v vs) at = joined (value_items at v) _ (value_count v) (arguments_count vs) (value_length v at) (arguments_length vs (at + value_count v))
+  pub operands_length : (vs : Values) (at : ℕ) → length (operands_items at vs) ≡ operands_count vs
+  operands_length none at = refl
+  operands_length (more v vs) at = joined (if_pushed (operand_of v vs) (value_items at v push) []) _ _ _
+      (if_length (operand_of v vs) _ _ ((counted v).value push at))
+      (operands_length vs (at + operand_count v (operand_of v vs)))
 
-  pub equal_length : (vs : Values) (op : Equality) (at : ℕ) → length (equal_items at op vs) ≡ equal_count op vs
-  equal_length none op at = refl
-  equal_length (more v vs) op at = joined (value_items at v) _ (value_count v) (or_count op vs) (value_length v at) (or_length vs op (at + value_count v))
+  pub many_length : (vs : Values) (op : Equality) (when : Bool) (at t : ℕ) → length (many_items at op vs when t)
+      ≡ many_count vs
+  many_length none op when at t = refl
+  many_length (more v vs) op when at t =
+      omega (
+        arith,
+        joined (value_items at v push)
+            (items.first_equal ∷ also_items (at + value_count v push + 1) op vs when t) (value_count v push)
+            (1 + also_count vs) ((counted v).value push at)
+            (one_more items.first_equal (also_items (at + value_count v push + 1) op vs when t) (also_count vs)
+            (also_length vs op when (at + value_count v push + 1) t)),
+      )
 
-  pub or_length : (vs : Values) (op : Equality) (at : ℕ) → length (or_items at op vs) ≡ or_count op vs
-  or_length none op at = refl
-  or_length (more v vs) op at =
-      let rest = also_items (at + 1 + value_count v + 1) op vs in
-      omega (arith, length-append (value_items (at + 1) v) (items.also_equal ∷ rest), value_length v (at + 1), also_length vs op (at + 1 + value_count v + 1))
+  pub also_length : (vs : Values) (op : Equality) (when : Bool) (at t : ℕ) → length (also_items at op vs when t)
+      ≡ also_count vs
+  also_length none op when at t = refl
+  also_length (more v vs) op when at t =
+      omega (
+        arith,
+        joined (value_items at v push)
+            (items.also_equal ∷ also_items (at + value_count v push + 1) op vs when t) (value_count v push)
+            (1 + also_count vs) ((counted v).value push at)
+            (one_more items.also_equal (also_items (at + value_count v push + 1) op vs when t) (also_count vs)
+            (also_length vs op when (at + value_count v push + 1) t)),
+      )
 
-  pub also_length : (vs : Values) (op : Equality) (at : ℕ) → length (also_items at op vs) ≡ also_count op vs
-  also_length none op at = closing_length op
-  also_length (more v vs) op at =
-      let rest = also_items (at + value_count v + 1) op vs in
-      omega (arith, length-append (value_items at v) (items.also_equal ∷ rest), value_length v at, also_length vs op (at + value_count v + 1))
+pub value_length : (v : Value) (d : Destination) (at : ℕ) → length (value_items at v d) ≡ value_count v d
+value_length v d at = (counted v).value d at
 
-pub printed_length : (i : Printed) (at : ℕ) → length (printed_items at i) ≡ printed_count i
-printed_length (source.text bytes) at = refl
-printed_length (source.character_of v) at = joined (value_items at v) _ (value_count v) 1 (value_length v at) refl
-printed_length (source.number_of v) at = joined (value_items at v) _ (value_count v) 1 (value_length v at) refl
+pub branch_length : (v : Value) (when : Bool) (at t : ℕ) → length (branch_items at v when t) ≡ branch_count v when
+branch_length v when at t = (counted v).branch when at t
 
-pub prints_length : (is : List Printed) (at : ℕ) → length (prints_items at is) ≡ prints_count is
-prints_length [] at = refl
-prints_length (i ∷ is) at = joined (printed_items at i) _ (printed_count i) (prints_count is) (printed_length i at) (prints_length is (at + printed_count i))
-
-mutual
-  pub action_length : (a : Action) (at : ℕ) → length (action_items at a) ≡ action_count a
-  action_length source.empty at = refl
-  action_length (source.block xs) at = actions_length xs at
-  action_length (source.text_alone bytes) at = refl
-  action_length (source.print is) at = prints_length is at
-  action_length (source.print_return is) at = joined (prints_items at is) _ (prints_count is) 3 (prints_length is at) refl
-  action_length source.new_line at = refl
-  action_length (source.if_then v a) at =
-      omega (arith, length-append (value_items at v) (items.if_zero (at + value_count v + 1 + action_count a) ∷ action_items (at + value_count v + 1) a), value_length v at, action_length a (at + value_count v + 1))
-  action_length (source.if_else v a b) at =
-      let second = items.jump (at + value_count v + 1 + action_count a + 1 + action_count b) ∷ action_items (at + value_count v + 1 + action_count a + 1) b in
-      let first = action_items (at + value_count v + 1) a in
-      omega (arith, length-append (value_items at v) (items.if_zero (at + value_count v + 1 + action_count a + 1) ∷ (first ++ second)), length-append first second, value_length v at, action_length a (at + value_count v + 1), action_length b (at + value_count v + 1 + action_count a + 1))
-  action_length (source.while_do v a) at =
-      let body = action_items (at + value_count v + 1) a in
-      omega (arith, length-append (value_items at v) (items.if_zero (at + value_count v + 1 + action_count a + 1) ∷ (body ++ items.back at ∷ [])), length-append body (items.back at ∷ []), value_length v at, action_length a (at + value_count v + 1))
-  action_length (source.return_value v) at = joined (value_items at v) _ (value_count v) 1 (value_length v at) refl
-  action_length source.quit at = refl
-  action_length (source.effect v) at = joined (value_items at v) _ (value_count v) 1 (value_length v at) refl
-
-  pub actions_length : (xs : Actions) (at : ℕ) → length (actions_items at xs) ≡ actions_count xs
-  actions_length stop at = refl
-  actions_length (next a rest) at = joined (action_items at a) _ (action_count a) (actions_count rest) (action_length a at) (actions_length rest (at + action_count a))
+pub alone_length : (v : Value) (at : ℕ) → length (alone_items at v) ≡ operand_count v (alone v)
+alone_length v at = if_length (alone v) _ _ (value_length v push at)

@@ -1,7 +1,36 @@
-mod Samples
-mod Counts
 mod Acts
+mod Counts
+mod StatementCounts
+mod Unchanged
+mod Standing
+mod Needs
+mod Conditions
+mod Held
+mod Running
+mod Leads
+mod Steps
+mod Truths
+mod Evaluated
+mod Operations
+mod Equalities
+mod Logical
+mod Assignments
+mod EachValue
+mod Statements
+mod Conditionals
+mod Routines
 mod Follows
-mod Targets
-mod Chains
+mod Fine
+mod FineValues
 mod Within
+mod Samples
+mod Runs
+pub mod Trees
+pub mod Drafts
+pub mod Operands
+pub mod Written
+pub mod Reductions
+pub mod Values
+pub mod Assigned
+pub mod Alternatives
+pub mod Actions

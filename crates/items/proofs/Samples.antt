@@ -1,139 +1,173 @@
--- Programs as items, and what these do, computed.
-use Rattle.std.proofs.Common.{◌≡◌, ℕ, List, [], ◌∷◌, ◌++◌, Option, Some, None, refl}
+-- What stands for some statements.
+use Rattle.std.proofs.Common.{◌≡◌, [], ◌∷◌, true, false, refl}
 use Rattle.std.specs.Prelude.{codes}
-use Rattle.lexer.specs.declared.token.Position.{Position}
-use Rattle.expressions.specs.Tree.{NameTree, ExpressionTree, constant, named, call, prefixed, step_after, binary, compare, equal, assign, none, more}
-use Rattle.expressions.specs.declared.tree.Binary.TheVariants as op
-use Rattle.expressions.specs.declared.tree.Comparison.TheVariants as comparison
-use Rattle.expressions.specs.declared.tree.Equality.TheVariants as equality
-use Rattle.expressions.specs.declared.tree.Prefix.TheVariants as prefix
+use Rattle.expressions.specs.declared.tree.Binary.TheVariants as binaries
+use Rattle.expressions.specs.declared.tree.Comparison.TheVariants as comparisons
+use Rattle.expressions.specs.declared.tree.Equality.TheVariants as equalities
+use Rattle.expressions.specs.declared.tree.Prefix.TheVariants as prefixes
 use Rattle.expressions.specs.declared.tree.Step.TheVariants as steps
-use Rattle.statements.specs.Tree as s
-use Rattle.statements.specs.Tree.{StatementTree, StatementTrees}
-use Rattle.syntax.specs.Tree as d
-use Rattle.syntax.specs.Tree.{DirectiveTree, ProgramTree}
-use Rattle.zcore.specs.Arithmetic.{signed_text, decimal, quotient, remainder}
-use Rattle.zcore.specs.declared.place.Place.TheVariants as places
-use Rattle.zcore.specs.declared.place.Limit.TheVariants as limits
-use Rattle.checker.specs.Programs.{resolve_program}
-use Rattle.checker.specs.Names.{table_of, key_of, look_up}
+use Rattle.checker.specs.declared.resolved.Variable.{Variable}
+use Rattle.checker.specs.declared.resolved.Variable.TheVariants.{Local, Global}
+use Rattle.checker.specs.Resolved.{Value, none, more, read, number, call, compare, equal, binary, prefixed, assign}
+use Rattle.checker.specs.Resolved.{step_before, step_after, effect, if_then, if_else, while_do, return_value, text_alone}
+use Rattle.checker.specs.Resolved.{print, print_return, text, character_of, number_of}
 use Rattle.checker.specs.Resolved as source
-use Rattle.checker.specs.World.{Outcome}
+use Rattle.items.specs.Items.{Item, pushed, push, into, nowhere, less, same, is_zero, move, operate, step, branch, jump}
+use Rattle.items.specs.Items.{back, print_text, print_character, print_number, new_line, quit, action_items}
+use Rattle.items.specs.Items.{apply_prefix, keep, first_equal, also_equal, drop_below, return_true}
 use Rattle.items.specs.Items as items
-use Rattle.items.specs.Items.{Item, routine_items, value_items}
-use Rattle.items.specs.Stack.{from, exec, start}
 
--- the position of a token, by its number
-abbrev p : ℕ → Position
-p n = record { offset = n; line = 1 }
+abbrev x : Variable
+x = Local 0
 
-abbrev the : ℕ → List ℕ → NameTree
-the n text = record { text = text; position = p n }
+abbrev y : Variable
+y = Local 1
 
-abbrev item : ExpressionTree → s.ItemTree
-item e = s.number_item (p 0) e
+abbrev g : Variable
+g = Global 0
 
-abbrev words : List ℕ → s.ItemTree
-words text = s.text_item text
+-- F();
+abbrev called : Value
+called = call 7 none
 
-abbrev body : List StatementTree → StatementTrees
-body xs = s.trees_of xs
+-- Expressions
 
-abbrev routine : List ℕ → List NameTree → List StatementTree → DirectiveTree
-routine name locals xs = d.routine (record { name = the 0 name; locals = locals; body = body xs; weight = 0 })
+-- x = y + 5;
+sum_assigned : action_items 0 (effect (assign x (binary binaries.Add (read y) (number 5))))
+    ≡ operate binaries.Add (items.variable y) (items.number 5) (into x) ∷ []
+sum_assigned = refl
 
-abbrev program : List DirectiveTree → ProgramTree
-program ds = record { directives = ds; end = p 999; weight = 0 }
+-- x = -y;
+negated : action_items 0 (effect (assign x (prefixed prefixes.Minus (read y))))
+    ≡ apply_prefix prefixes.Minus (items.variable y) (into x) ∷ []
+negated = refl
 
--- the transcript of one turn
-abbrev says : List ℕ → Outcome
-says text = record { texts = text ∷ []; place = places.Quit }
+-- ++x;
+stepped : action_items 0 (effect (step_before steps.Increment x)) ≡ step steps.Increment x nowhere ∷ []
+stepped = refl
 
--- so many items with so much fuel
-abbrev runs : ℕ → ℕ → source.ProgramOf → Option Outcome
-runs count full program = from (start program full []) (exec program count)
+-- x = x++; leaves x as it was
+own_step : action_items 0 (effect (assign x (step_after x steps.Increment)))
+    ≡ move (items.variable x) push ∷ step steps.Increment x nowhere ∷ move pushed (into x) ∷ []
+own_step = refl
 
--- [ Main; print 32767 + 1, " ", -13 % 5, "^"; ];
-abbrev sums : ProgramTree
-sums = program (routine (codes "Main") [] (s.print (item (binary op.Add (constant 32767) (constant 1)) ∷ words (codes " ") ∷ item (binary op.Remainder (prefixed prefix.Minus (constant 13)) (constant 5)) ∷ words (codes "^") ∷ []) ∷ []) ∷ [])
+-- x = y = 3;
+assigned_twice : action_items 0 (effect (assign x (assign y (number 3))))
+    ≡ move (items.number 3) push ∷ keep y ∷ move pushed (into x) ∷ []
+assigned_twice = refl
 
-sums_do : runs 20 1000 (resolve_program sums) ≡ Some (says (codes "-32768 -3" ++ 10 ∷ []))
-unfolding resolve_program table_of key_of look_up signed_text decimal quotient remainder
-sums_do = refl
+-- F(x, 1);
+called_alone : action_items 0 (effect (call 7 (more (read x) (more (number 1) none))))
+    ≡ items.call 7 (items.variable x ∷ items.number 1 ∷ []) nowhere ∷ []
+called_alone = refl
 
--- [ F x; print 1 / x; ]; [ Main; print "a"; F(); ];
-abbrev divides : ProgramTree
-divides = program
-    (routine (codes "F") (the 1 (codes "x") ∷ []) (s.print (item (binary op.Divide (constant 1) (named (the 2 (codes "x")))) ∷ []) ∷ [])
-    ∷ routine (codes "Main") [] (s.print (words (codes "a") ∷ []) ∷ s.effect (p 3) (call (the 3 (codes "F")) none) ∷ [])
-    ∷ [])
+-- print x - F(); where the call cannot change x
+kept_later : action_items 0 (print (number_of (binary binaries.Subtract (read x) called) ∷ []))
+    ≡ items.call 7 [] push
+    ∷ operate binaries.Subtract (items.variable x) pushed push
+    ∷ print_number pushed
+    ∷ []
+kept_later = refl
 
-divides_do : runs 20 1000 (resolve_program divides) ≡ Some (says (codes "a" ++ 10 ∷ codes "[Fault: division by zero]" ++ 10 ∷ []))
-unfolding resolve_program table_of key_of look_up signed_text decimal quotient remainder
-divides_do = refl
+-- print g - F(); where it may change g
+changed_later : action_items 0 (print (number_of (binary binaries.Subtract (read g) called) ∷ []))
+    ≡ move (items.variable g) push
+    ∷ items.call 7 [] push
+    ∷ operate binaries.Subtract pushed pushed push
+    ∷ print_number pushed
+    ∷ []
+changed_later = refl
 
--- [ F; F(); ]; [ Main; F(); ];
-abbrev deep : ProgramTree
-deep = program
-    (routine (codes "F") [] (s.effect (p 1) (call (the 1 (codes "F")) none) ∷ [])
-    ∷ routine (codes "Main") [] (s.effect (p 2) (call (the 2 (codes "F")) none) ∷ [])
-    ∷ [])
+-- Conditions
 
-deep_does : runs 1001 1000000 (resolve_program deep) ≡ Some (record { texts = (10 ∷ codes "[Limit: calls too deep]" ++ 10 ∷ []) ∷ []; place = places.Limit limits.Calls })
-unfolding resolve_program table_of key_of look_up
-deep_does = refl
+-- if (x < y && g) y++;
+both_tested : action_items 0
+    (if_then (binary binaries.AndAlso (compare comparisons.Less (read x) (read y)) (read g))
+    (effect (step_after y steps.Increment)))
+    ≡ branch less (items.variable x ∷ items.variable y ∷ []) false 3
+    ∷ branch is_zero (items.variable g ∷ []) true 3
+    ∷ step steps.Increment y nowhere
+    ∷ []
+both_tested = refl
 
-deep_in_short : runs 1001 10 (resolve_program deep) ≡ Some (record { texts = (10 ∷ codes "[Limit: turn too long]" ++ 10 ∷ []) ∷ []; place = places.Limit limits.Fuel })
-unfolding resolve_program table_of key_of look_up
-deep_in_short = refl
+-- if (x >= y || ~~g) quit;
+one_tested : action_items 0
+    (if_then (binary binaries.OrElse (compare comparisons.GreaterOrEqual (read x) (read y))
+    (prefixed prefixes.Not (read g))) source.quit)
+    ≡ branch less (items.variable x ∷ items.variable y ∷ []) false 2
+    ∷ branch is_zero (items.variable g ∷ []) false 3
+    ∷ quit
+    ∷ []
+one_tested = refl
 
--- Global i; [ Main; while (i < 2) { print i; i++; } ]; going back is charged before the test
-abbrev counts : ProgramTree
-counts = program
-    (d.global (the 0 (codes "i")) None
-    ∷ routine (codes "Main") [] (s.while_do (p 1) (compare comparison.Less (named (the 1 (codes "i"))) (constant 2)) (s.block (body (s.print (item (named (the 2 (codes "i"))) ∷ []) ∷ s.effect (p 3) (step_after (named (the 3 (codes "I"))) steps.Increment (p 4)) ∷ []))) ∷ [])
-    ∷ [])
+-- if (x) print "a"; else print "b";
+either_printed : action_items 0
+    (if_else (read x) (print (text (codes "a") ∷ [])) (print (text (codes "b") ∷ [])))
+    ≡ branch is_zero (items.variable x ∷ []) true 3
+    ∷ print_text (codes "a")
+    ∷ jump 4
+    ∷ print_text (codes "b")
+    ∷ []
+either_printed = refl
 
-counts_do : runs 40 3 (resolve_program counts) ≡ Some (says (codes "01"))
-unfolding resolve_program table_of key_of look_up signed_text decimal quotient remainder
-counts_do = refl
+-- while (x ~= 1 or 2) x = F(x, g);
+called_again : action_items 0
+    (while_do (equal equalities.NotEqual (read x) (more (number 1) (more (number 2) none)))
+    (effect (assign x (call 7 (more (read x) (more (read g) none))))))
+    ≡ branch same (items.variable x ∷ items.number 1 ∷ items.number 2 ∷ []) true 3
+    ∷ items.call 7 (items.variable x ∷ items.variable g ∷ []) (into x)
+    ∷ back 0
+    ∷ []
+called_again = refl
 
-counts_in_short : runs 40 2 (resolve_program counts) ≡ Some (record { texts = (codes "01" ++ 10 ∷ codes "[Limit: turn too long]" ++ 10 ∷ []) ∷ []; place = places.Limit limits.Fuel })
-unfolding resolve_program table_of key_of look_up signed_text decimal quotient remainder
-counts_in_short = refl
+-- while (true) F();
+called_forever : action_items 0 (while_do (number 1) (effect called)) ≡ items.call 7 [] nowhere ∷ back 0 ∷ []
+called_forever = refl
 
--- Global g; [ F; g = g + 1; return g; ]; [ Main; print F() - F() * 10, "^"; ];
-abbrev in_order : ProgramTree
-in_order = program
-    (d.global (the 0 (codes "g")) None
-    ∷ routine (codes "F") [] (s.effect (p 1) (assign (named (the 1 (codes "g"))) (p 2) (binary op.Add (named (the 3 (codes "g"))) (constant 1))) ∷ s.return_value (p 4) (named (the 4 (codes "g"))) ∷ [])
-    ∷ routine (codes "Main") [] (s.print (item (binary op.Subtract (call (the 5 (codes "F")) none) (binary op.Multiply (call (the 6 (codes "F")) none) (constant 10))) ∷ words (codes "^") ∷ []) ∷ [])
-    ∷ [])
+-- x = y == 1;
+truth_assigned : action_items 0 (effect (assign x (equal equalities.Equal (read y) (more (number 1) none))))
+    ≡ branch same (items.variable y ∷ items.number 1 ∷ []) true 3
+    ∷ move (items.number 0) (into x)
+    ∷ jump 4
+    ∷ move (items.number 1) (into x)
+    ∷ []
+truth_assigned = refl
 
-in_order_does : runs 60 1000 (resolve_program in_order) ≡ Some (says (codes "-19" ++ 10 ∷ []))
-unfolding resolve_program table_of key_of look_up signed_text decimal quotient remainder
-in_order_does = refl
+-- if (x == 1 or 2 or 3 or 4) F();
+many_compared : action_items 0
+    (if_then (equal equalities.Equal (read x)
+    (more (number 1) (more (number 2) (more (number 3) (more (number 4) none))))) (effect called))
+    ≡ move (items.variable x) push
+    ∷ move (items.number 1) push
+    ∷ first_equal
+    ∷ move (items.number 2) push
+    ∷ also_equal
+    ∷ move (items.number 3) push
+    ∷ also_equal
+    ∷ move (items.number 4) push
+    ∷ also_equal
+    ∷ drop_below
+    ∷ branch is_zero (pushed ∷ []) true 12
+    ∷ items.call 7 [] nowhere
+    ∷ []
+many_compared = refl
 
--- [ F a b; return a - b; ]; [ Main; print F(5, 2), 2 == 1 or 2 or 3, 2 ~= 1 or 2, 0 && 1, 7 || 0, 3 && 4; ];
-abbrev choices : ProgramTree
-choices = program
-    (routine (codes "F") (the 1 (codes "a") ∷ the 2 (codes "b") ∷ []) (s.return_value (p 3) (binary op.Subtract (named (the 3 (codes "a"))) (named (the 4 (codes "b")))) ∷ [])
-    ∷ routine (codes "Main") [] (s.print
-    (item (call (the 5 (codes "F")) (more (constant 5) (more (constant 2) none)))
-    ∷ item (equal equality.Equal (constant 2) (more (constant 1) (more (constant 2) (more (constant 3) none))))
-    ∷ item (equal equality.NotEqual (constant 2) (more (constant 1) (more (constant 2) none)))
-    ∷ item (binary op.AndAlso (constant 0) (constant 1))
-    ∷ item (binary op.OrElse (constant 7) (constant 0))
-    ∷ item (binary op.AndAlso (constant 3) (constant 4))
-    ∷ []) ∷ [])
-    ∷ [])
+-- Other statements
 
-choices_do : runs 60 1000 (resolve_program choices) ≡ Some (says (codes "310011"))
-unfolding resolve_program table_of key_of look_up signed_text decimal quotient remainder
-choices_do = refl
+-- print (char) x, y;
+printed : action_items 0 (print (character_of (read x) ∷ number_of (read y) ∷ []))
+    ≡ print_character (items.variable x) ∷ print_number (items.variable y) ∷ []
+printed = refl
 
--- 1 && 2 || 3 as items, the first of them number 10
-and_or : value_items 10 (source.binary op.OrElse (source.binary op.AndAlso (source.number 1) (source.number 2)) (source.number 3)) ≡
-    items.push_number 1 ∷ items.if_zero 15 ∷ items.push_number 2 ∷ items.truth ∷ items.jump 16 ∷ items.push_number 0
-    ∷ items.if_zero 19 ∷ items.push_number 1 ∷ items.jump 21 ∷ items.push_number 3 ∷ items.truth ∷ []
-and_or = refl
+-- "a";
+printed_alone : action_items 0 (text_alone (codes "a")) ≡ print_text (codes "a") ∷ new_line ∷ return_true ∷ []
+printed_alone = refl
+
+-- print_ret x;
+printed_last : action_items 0 (print_return (number_of (read x) ∷ []))
+    ≡ print_number (items.variable x) ∷ new_line ∷ return_true ∷ []
+printed_last = refl
+
+-- return x;
+returned : action_items 0 (return_value (read x)) ≡ items.return (items.variable x) ∷ []
+returned = refl

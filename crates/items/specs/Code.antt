@@ -1,54 +1,62 @@
--- What the code's items stand for, and how items follow others.
-use Rattle.std.specs.Prelude.{◌+◌, ℕ, List, [], ◌∷◌, ◌++◌, length, map}
-use Rattle.expressions.specs.declared.tree.Binary.{Binary}
-use Rattle.checker.specs.declared.resolved.Evaluation.{Evaluation}
-use Rattle.checker.specs.Resolved.{Value, value_of}
-use Rattle.items.specs.Items.{Item, operation_count, value_count, second_items, value_items}
+-- What the code's items stand for.
+use Rattle.std.specs.Prelude.{List, map}
+use Rattle.items.specs.Items.{Operand, Destination, Test, Item}
 use Rattle.items.specs.Items as items
+use Rattle.items.specs.declared.item.Operand as code_operand
+use Rattle.items.specs.declared.item.Operand.TheVariants as operands
+use Rattle.items.specs.declared.item.Destination as code_destination
+use Rattle.items.specs.declared.item.Destination.TheVariants as destinations
+use Rattle.items.specs.declared.item.Test as code_test
+use Rattle.items.specs.declared.item.Test.TheVariants as tests
 use Rattle.items.specs.declared.item.Item as code
 use Rattle.items.specs.declared.item.Item.TheVariants as variants
 
+-- an operand of the code
+abbrev pub as_operand : code_operand.Operand → Operand
+as_operand operands.Pushed = items.pushed
+as_operand (operands.Number n) = items.number n
+as_operand (operands.Variable x) = items.variable x
+
+-- several of them
+abbrev pub as_operands : List code_operand.Operand → List Operand
+as_operands os = map as_operand os
+
+-- where the code says that a word goes
+abbrev pub as_destination : code_destination.Destination → Destination
+as_destination destinations.Push = items.push
+as_destination (destinations.Into x) = items.into x
+as_destination destinations.Nowhere = items.nowhere
+
+-- a test of the code
+abbrev pub as_test : code_test.Test → Test
+as_test tests.IsZero = items.is_zero
+as_test tests.Less = items.less
+as_test tests.Greater = items.greater
+as_test tests.Same = items.same
+
+-- an item of the code
 abbrev pub item_of : code.Item → Item
-item_of (variants.PushNumber n) = items.push_number n
-item_of (variants.PushVariable x) = items.push_variable x
+item_of (variants.Move o d) = items.move (as_operand o) (as_destination d)
+item_of (variants.Prefix op o d) = items.apply_prefix op (as_operand o) (as_destination d)
+item_of (variants.Operate op a b d) =
+    items.operate op (as_operand a) (as_operand b) (as_destination d)
+item_of (variants.Step op x d) = items.step op x (as_destination d)
 item_of (variants.Keep x) = items.keep x
-item_of (variants.StepBefore op x) = items.step_before op x
-item_of (variants.StepAfter x op) = items.step_after x op
-item_of (variants.Prefix op) = items.apply_prefix op
-item_of (variants.Operate op) = items.operate op
-item_of (variants.Compare op) = items.compare op
-item_of (variants.Equal op) = items.equal op
 item_of variants.FirstEqual = items.first_equal
 item_of variants.AlsoEqual = items.also_equal
 item_of variants.DropBelow = items.drop_below
-item_of variants.Truth = items.truth
-item_of variants.Drop = items.drop
 item_of (variants.PrintText bytes) = items.print_text bytes.now
-item_of variants.PrintCharacter = items.print_character
-item_of variants.PrintNumber = items.print_number
+item_of (variants.PrintCharacter o) = items.print_character (as_operand o)
+item_of (variants.PrintNumber o) = items.print_number (as_operand o)
 item_of variants.NewLine = items.new_line
 item_of variants.Quit = items.quit
-item_of (variants.IfZero target) = items.if_zero target
+item_of (variants.Branch test os when target) =
+    items.branch (as_test test) (as_operands os.items) when target
 item_of (variants.Jump target) = items.jump target
 item_of (variants.Back target) = items.back target
-item_of (variants.Call r count) = items.call r count
-item_of variants.Return = items.return
+item_of (variants.Call r os d) = items.call r (as_operands os.items) (as_destination d)
+item_of (variants.Return o) = items.return (as_operand o)
 
+-- a routine of the code
 abbrev pub items_of : List code.Item → List Item
 items_of xs = map item_of xs
-
--- The items of a list, and then more, which depend on the number of the first of them
-abbrev pub followed : List Item → (ℕ → List Item) → List Item
-followed code more = code ++ more (length code)
-
--- Operations that group to the left
-
-abbrev pub link_of : Binary × Evaluation → Binary × Value
-link_of l = (l.0, value_of l.1)
-
--- what follows the first operand of all; `at` is the number of the first item
-abbrev pub links_items : ℕ → List (Binary × Value) → List Item
-links_items at [] = []
-links_items at (l ∷ ls) =
-    second_items l.0 at (value_count l.1) (λ place. value_items place l.1)
-    ++ links_items (at + (value_count l.1 + operation_count l.0)) ls

@@ -1,218 +1,479 @@
--- The items of a routine: one for each act of the language, with its tests and its fault inside.
-use Rattle.std.specs.Prelude.{◌+◌, ℕ, List, [], ◌∷◌, ◌++◌}
+-- The items of a routine: one for each act of the language, with its operands, where its word goes, its tests and its
+-- fault inside.
+use Rattle.std.specs.Prelude.{◌||◌, ◌+◌, ◌==◌, not, ℕ, nat_le, Bool, true, false, if◌then◌else◌, List, [], ◌∷◌, ◌++◌}
 use Rattle.expressions.specs.declared.tree.Binary.{Binary}
 use Rattle.expressions.specs.declared.tree.Binary.TheVariants as binaries
 use Rattle.expressions.specs.declared.tree.Comparison.{Comparison}
+use Rattle.expressions.specs.declared.tree.Comparison.TheVariants as comparisons
 use Rattle.expressions.specs.declared.tree.Equality.{Equality}
 use Rattle.expressions.specs.declared.tree.Equality.TheVariants as equalities
 use Rattle.expressions.specs.declared.tree.Prefix.{Prefix}
 use Rattle.expressions.specs.declared.tree.Prefix.TheVariants as prefixes
 use Rattle.expressions.specs.declared.tree.Step.{Step}
 use Rattle.checker.specs.declared.resolved.Variable.{Variable}
+use Rattle.checker.specs.declared.resolved.Variable.TheVariants as variables
 use Rattle.checker.specs.Resolved.{Value, Values, none, more, Printed, Action, Actions, stop, next, RoutineOf}
 use Rattle.checker.specs.Resolved as source
-use Rattle.checker.specs.Meaning.{equated}
-use Rattle.checker.specs.Meaning as meaning
+use Rattle.checker.specs.Meaning.{is_true}
 use Rattle.checker.specs.Accepted.{count_of}
 
--- The items of a routine are numbered from 0, and jumps name the item that they lead to.
+-- a word that an item takes: from the top of the stack, or one that stands in the instruction. A variable is read when
+-- the item is done.
+pub data Operand : Type 0 where
+  pushed : Operand
+  number : ℕ → Operand
+  variable : Variable → Operand
+
+-- where a word goes
+pub data Destination : Type 0 where
+  push : Destination
+  into : Variable → Destination
+  nowhere : Destination
+
+-- what a branch asks of its operands: that the first is 0, is less or greater than the second, or equals one of the
+-- others
+pub data Test : Type 0 where
+  is_zero : Test
+  less : Test
+  greater : Test
+  same : Test
+
+-- The items of a routine are numbered from 0, and jumps name the item that they lead to. Of the operands that are
+-- pushed the last is on top.
 pub data Item : Type 0 where
-  push_number : ℕ → Item
-  push_variable : Variable → Item
+  move : Operand → Destination → Item
+  -- none of `~~`
+  apply_prefix : Prefix → Operand → Destination → Item
+  -- none of `&&` and `||`
+  operate : Binary → Operand → Operand → Destination → Item
+  -- a variable is stepped, and its new word goes on
+  step : Step → Variable → Destination → Item
   -- the topmost word goes to a variable, and stays
   keep : Variable → Item
-  -- a variable is stepped, and its new word is pushed, or its old one
-  step_before : Step → Variable → Item
-  step_after : Variable → Step → Item
-  apply_prefix : Prefix → Item
-  -- of the two topmost words, the right one on top; none of `&&` and `||`
-  operate : Binary → Item
-  compare : Comparison → Item
-  equal : Equality → Item
-  -- `==` of several: from left and right to left and flag; from left, flag and right to left and flag; and to the flag alone
+  -- `==` of more than three: from left and right to left and flag; from left, flag and right to left and flag; and to
+  -- the flag alone
   first_equal : Item
   also_equal : Item
   drop_below : Item
-  -- 1 for a word that is true, 0 for one that is not
-  truth : Item
-  drop : Item
   -- what stands between the quotes
   print_text : List ℕ → Item
-  print_character : Item
-  print_number : Item
+  print_character : Operand → Item
+  print_number : Operand → Item
   new_line : Item
   quit : Item
-  -- forward, where the topmost word is 0
-  if_zero : ℕ → Item
+  -- forward, where the test holds, or where it does not
+  branch : Test → List Operand → Bool → ℕ → Item
   -- forward
   jump : ℕ → Item
   -- back, which costs a unit
   back : ℕ → Item
-  -- a routine, and how many words are its arguments, the last on top
-  call : ℕ → ℕ → Item
-  -- with the topmost word
-  return : Item
+  call : ℕ → List Operand → Destination → Item
+  return : Operand → Item
+
+-- Operands in place
+
+-- two names of one variable
+abbrev pub is_same : Variable → Variable → Bool
+is_same (variables.Local i) (variables.Local j) = i == j
+is_same (variables.Local i) (variables.Global j) = false
+is_same (variables.Global i) (variables.Local j) = false
+is_same (variables.Global i) (variables.Global j) = i == j
+
+-- a variable that every routine may change
+abbrev pub is_global : Variable → Bool
+is_global (variables.Local i) = false
+is_global (variables.Global i) = true
+
+-- evaluation may change the variable: it steps or assigns it, or calls a routine, which may change any global
+abbrev mutual
+  pub changes : Variable → Value → Bool
+  changes x (source.number n) = false
+  changes x (source.read y) = false
+  changes x (source.call r vs) = is_global x || change x vs
+  changes x (source.prefixed op v) = changes x v
+  changes x (source.step_before op y) = is_same x y
+  changes x (source.step_after y op) = is_same x y
+  changes x (source.binary op a b) = changes x a || changes x b
+  changes x (source.compare op a b) = changes x a || changes x b
+  changes x (source.equal op a bs) = changes x a || change x bs
+  changes x (source.assign y v) = is_same x y || changes x v
+
+  -- evaluation of one of several may
+  pub change : Variable → Values → Bool
+  change x none = false
+  change x (more v vs) = changes x v || change x vs
+
+-- the operand for a value that is evaluated before others: a number and a variable stand in place, if those others do
+-- not change it
+abbrev pub operand_of : Value → Values → Operand
+operand_of (source.number n) later = number n
+operand_of (source.read x) later = if change x later then pushed else variable x
+operand_of v later = pushed
+
+-- the operands for values that are evaluated one after another
+abbrev pub operands_of : Values → List Operand
+operands_of none = []
+operands_of (more v vs) = operand_of v vs ∷ operands_of vs
+
+-- the operand for a value after which none is evaluated
+abbrev pub alone : Value → Operand
+alone v = operand_of v none
+
+-- the operand for the left one of two values
+abbrev pub left_of : Value → Value → Operand
+left_of a b = operand_of a (more b none)
+
+-- the first where an operand is pushed, the second where it stands in place
+abbrev pub if_pushed : {A : Type 0} → Operand → A → A → A
+if_pushed pushed a b = a
+if_pushed (number n) a b = b
+if_pushed (variable x) a b = b
+
+-- Branches
+
+-- the test that decides a comparison
+abbrev pub comparison_test : Comparison → Test
+comparison_test comparisons.Less = less
+comparison_test comparisons.Greater = greater
+comparison_test comparisons.LessOrEqual = greater
+comparison_test comparisons.GreaterOrEqual = less
+
+-- whether that test is to hold, for a comparison that is to hold, or is not
+abbrev pub comparison_when : Comparison → Bool → Bool
+comparison_when comparisons.Less when = when
+comparison_when comparisons.Greater when = when
+comparison_when comparisons.LessOrEqual when = not when
+comparison_when comparisons.GreaterOrEqual when = not when
+
+-- whether one right side is to equal the left side, for `==` or `~=` that is to hold, or is not
+abbrev pub equality_when : Equality → Bool → Bool
+equality_when equalities.Equal when = when
+equality_when equalities.NotEqual when = not when
+
+-- a branch where a word is true, or where it is not
+abbrev pub branch_true : Operand → Bool → ℕ → Item
+branch_true o when target = branch is_zero (o ∷ []) (not when) target
+
+-- whether a condition that is known leads to the target
+abbrev pub agrees : Bool → Bool → Bool
+agrees true when = when
+agrees false when = not when
+
+-- one instruction compares with at most three
+abbrev pub is_few : Values → Bool
+is_few vs = nat_le (count_of vs) 3
 
 -- How many items
 
--- an operation, beside its operands
-abbrev pub operation_count : Binary → ℕ
-operation_count binaries.AndAlso = 4
-operation_count binaries.OrElse = 4
-operation_count op = 1
+-- an operand in place goes to a destination
+abbrev pub moved_count : Destination → ℕ
+moved_count nowhere = 0
+moved_count push = 1
+moved_count (into x) = 1
 
--- the end of `==` and `~=` of several
-abbrev pub closing_items : Equality → List Item
-closing_items equalities.Equal = drop_below ∷ []
-closing_items equalities.NotEqual = drop_below ∷ apply_prefix prefixes.Not ∷ []
+-- a condition as a word: beside its branch, 0, a jump and 1
+abbrev pub truth_count : Destination → ℕ
+truth_count nowhere = 0
+truth_count push = 3
+truth_count (into x) = 3
 
-abbrev pub closing_count : Equality → ℕ
-closing_count equalities.Equal = 1
-closing_count equalities.NotEqual = 2
+-- a variable is assigned: beside what puts the word there, or what pushes it
+abbrev pub kept_count : Destination → ℕ → ℕ → ℕ
+kept_count nowhere stored topmost = stored
+kept_count push stored topmost = topmost + 1
+kept_count (into y) stored topmost = topmost + 2
+
+-- a variable is stepped, and its old word goes to a destination
+abbrev pub after_count : Destination → ℕ
+after_count nowhere = 1
+after_count push = 2
+after_count (into x) = 3
 
 abbrev mutual
-  pub value_count : Value → ℕ
-  value_count (source.number n) = 1
-  value_count (source.read x) = 1
-  value_count (source.call r vs) = arguments_count vs + 1
-  value_count (source.prefixed op v) = value_count v + 1
-  value_count (source.step_before op x) = 1
-  value_count (source.step_after x op) = 1
-  value_count (source.binary op a b) = value_count a + value_count b + operation_count op
-  value_count (source.compare op a b) = value_count a + value_count b + 1
-  value_count (source.equal op a bs) = value_count a + equal_count op bs
-  value_count (source.assign x v) = value_count v + 1
+  -- an expression, whose word goes to a destination
+  pub value_count : Value → Destination → ℕ
+  value_count (source.number n) d = moved_count d
+  value_count (source.read x) d = moved_count d
+  value_count (source.call r vs) d = operands_count vs + 1
+  value_count (source.prefixed prefixes.Not v) d = branch_count v false + truth_count d
+  value_count (source.prefixed op v) d = if_pushed (alone v) (value_count v push) 0 + 1
+  value_count (source.step_before op x) d = 1
+  value_count (source.step_after x op) d = after_count d
+  value_count (source.binary binaries.AndAlso a b) d =
+      branch_count a false + branch_count b true + truth_count d
+  value_count (source.binary binaries.OrElse a b) d =
+      branch_count a true + branch_count b true + truth_count d
+  value_count (source.binary op a b) d =
+      if_pushed (left_of a b) (value_count a push) 0 + if_pushed (alone b) (value_count b push) 0 + 1
+  value_count (source.compare op a b) d =
+      if_pushed (left_of a b) (value_count a push) 0 + if_pushed (alone b) (value_count b push) 0 + 1
+      + truth_count d
+  value_count (source.equal op a bs) d =
+      (if is_few bs then if_pushed (operand_of a bs) (value_count a push) 0 + operands_count bs + 1
+      else value_count a push + many_count bs)
+      + truth_count d
+  value_count (source.assign x v) d = kept_count d (value_count v (into x)) (value_count v push)
 
-  pub arguments_count : Values → ℕ
-  arguments_count none = 0
-  arguments_count (more v vs) = value_count v + arguments_count vs
+  -- what pushes the operands of a list
+  pub operands_count : Values → ℕ
+  operands_count none = 0
+  operands_count (more v vs) = if_pushed (operand_of v vs) (value_count v push) 0 + operands_count vs
 
-  -- what follows the left side of `==` and `~=`
-  pub equal_count : Equality → Values → ℕ
-  equal_count op none = 2
-  equal_count op (more v vs) = value_count v + or_count op vs
+  -- a branch by the value
+  pub branch_count : Value → Bool → ℕ
+  branch_count (source.number n) when = if agrees (is_true n) when then 1 else 0
+  branch_count (source.read x) when = 1
+  branch_count (source.call r vs) when = operands_count vs + 1 + 1
+  branch_count (source.prefixed prefixes.Not v) when = branch_count v (not when)
+  branch_count (source.prefixed op v) when = if_pushed (alone v) (value_count v push) 0 + 1 + 1
+  branch_count (source.step_before op x) when = 2
+  branch_count (source.step_after x op) when = 3
+  branch_count (source.binary binaries.AndAlso a b) when = branch_count a false + branch_count b when
+  branch_count (source.binary binaries.OrElse a b) when = branch_count a true + branch_count b when
+  branch_count (source.binary op a b) when =
+      if_pushed (left_of a b) (value_count a push) 0 + if_pushed (alone b) (value_count b push) 0 + 1 + 1
+  branch_count (source.compare op a b) when =
+      if_pushed (left_of a b) (value_count a push) 0 + if_pushed (alone b) (value_count b push) 0 + 1
+  branch_count (source.equal op a bs) when =
+      if is_few bs then if_pushed (operand_of a bs) (value_count a push) 0 + operands_count bs + 1
+      else value_count a push + many_count bs
+  branch_count (source.assign x v) when = value_count v push + 2
 
-  pub or_count : Equality → Values → ℕ
-  or_count op none = 1
-  or_count op (more v vs) = 1 + value_count v + 1 + also_count op vs
+  -- `==` of more than three, where the left side is pushed, and a branch by its flag
+  pub many_count : Values → ℕ
+  many_count none = 1
+  many_count (more v vs) = value_count v push + 1 + also_count vs
 
-  pub also_count : Equality → Values → ℕ
-  also_count op none = closing_count op
-  also_count op (more v vs) = value_count v + 1 + also_count op vs
+  -- its right sides behind the first, and the branch
+  pub also_count : Values → ℕ
+  also_count none = 2
+  also_count (more v vs) = value_count v push + 1 + also_count vs
 
+-- what pushes an operand
+abbrev pub operand_count : Value → Operand → ℕ
+operand_count v o = if_pushed o (value_count v push) 0
+
+-- The items; `at` is the number of the first
+
+-- an operand in place goes to a destination
+abbrev pub moved : Operand → Destination → List Item
+moved o nowhere = []
+moved o push = move o push ∷ []
+moved o (into x) = move o (into x) ∷ []
+
+-- A condition as a word, where `count` items branch if it is true: 0, or 1. Only what it does is wanted where the word
+-- goes nowhere.
+abbrev pub truth_items : ℕ → ℕ → Destination → (ℕ → List Item) → List Item
+truth_items at count nowhere branch_to = branch_to (at + count)
+truth_items at count d branch_to =
+    branch_to (at + count + 2) ++ move (number 0) d ∷ jump (at + count + 3) ∷ move (number 1) d ∷ []
+
+-- a variable is stepped, and its old word goes on
+abbrev pub after_items : Variable → Step → Destination → List Item
+after_items x op nowhere = step op x nowhere ∷ []
+after_items x op push = move (variable x) push ∷ step op x nowhere ∷ []
+after_items x op (into y) = move (variable x) push ∷ step op x nowhere ∷ move pushed (into y) ∷ []
+
+-- a variable is assigned, and its word goes on
+abbrev pub kept_items : Variable → Destination → List Item → List Item → List Item
+kept_items x nowhere stored topmost = stored
+kept_items x push stored topmost = topmost ++ keep x ∷ []
+kept_items x (into y) stored topmost = topmost ++ keep x ∷ move pushed (into y) ∷ []
+
+-- items from a number on that branch, if a condition is so, to a target
+abbrev pub Branching : Type 0
+Branching = ℕ → Bool → ℕ → List Item
+
+-- `&&`, where n items branch by its first operand and m by its second: a first one that is false decides
+abbrev pub and_items : ℕ → ℕ → ℕ → Bool → ℕ → Branching → Branching → List Item
+and_items at n m when target first second =
+    first at false (if when then at + n + m else target) ++ second (at + n) when target
+
+-- `||`: a first operand that is true decides
+abbrev pub or_items : ℕ → ℕ → ℕ → Bool → ℕ → Branching → Branching → List Item
+or_items at n m when target first second =
+    first at true (if when then target else at + n + m) ++ second (at + n) when target
+
+abbrev mutual
+  -- an expression, whose word goes to a destination
+  pub value_items : ℕ → Value → Destination → List Item
+  value_items at (source.number n) d = moved (number n) d
+  value_items at (source.read x) d = moved (variable x) d
+  value_items at (source.call r vs) d = operands_items at vs ++ call r (operands_of vs) d ∷ []
+  value_items at (source.prefixed prefixes.Not v) d =
+      truth_items at (branch_count v false) d (λ target. branch_items at v false target)
+  value_items at (source.prefixed op v) d =
+      if_pushed (alone v) (value_items at v push) [] ++ apply_prefix op (alone v) d ∷ []
+  value_items at (source.step_before op x) d = step op x d ∷ []
+  value_items at (source.step_after x op) d = after_items x op d
+  value_items at (source.binary binaries.AndAlso a b) d =
+      truth_items at (branch_count a false + branch_count b true) d (λ target.
+      and_items at (branch_count a false) (branch_count b true) true target
+      (λ at when target. branch_items at a when target) (λ at when target. branch_items at b when target))
+  value_items at (source.binary binaries.OrElse a b) d =
+      truth_items at (branch_count a true + branch_count b true) d (λ target.
+      or_items at (branch_count a true) (branch_count b true) true target
+      (λ at when target. branch_items at a when target) (λ at when target. branch_items at b when target))
+  value_items at (source.binary op a b) d =
+      if_pushed (left_of a b) (value_items at a push) []
+      ++ (if_pushed (alone b) (value_items (at + operand_count a (left_of a b)) b push) []
+      ++ operate op (left_of a b) (alone b) d ∷ [])
+  value_items at (source.compare op a b) d =
+      truth_items at (operand_count a (left_of a b) + operand_count b (alone b) + 1) d (λ target.
+      if_pushed (left_of a b) (value_items at a push) []
+      ++ (if_pushed (alone b) (value_items (at + operand_count a (left_of a b)) b push) []
+      ++ branch (comparison_test op) (left_of a b ∷ alone b ∷ []) (comparison_when op true) target ∷ []))
+  value_items at (source.equal op a bs) d =
+      if is_few bs then
+      truth_items at (operand_count a (operand_of a bs) + operands_count bs + 1) d (λ target.
+      if_pushed (operand_of a bs) (value_items at a push) []
+      ++ (operands_items (at + operand_count a (operand_of a bs)) bs
+      ++ branch same (operand_of a bs ∷ operands_of bs) (equality_when op true) target ∷ []))
+      else truth_items at (value_count a push + many_count bs) d
+      (λ target. value_items at a push ++ many_items (at + value_count a push) op bs true target)
+  value_items at (source.assign x v) d =
+      kept_items x d (value_items at v (into x)) (value_items at v push)
+
+  -- what pushes the operands of a list
+  pub operands_items : ℕ → Values → List Item
+  operands_items at none = []
+  operands_items at (more v vs) =
+      if_pushed (operand_of v vs) (value_items at v push) []
+      ++ operands_items (at + operand_count v (operand_of v vs)) vs
+
+  -- forward to the target if the value is true, or if it is not
+  pub branch_items : ℕ → Value → Bool → ℕ → List Item
+  branch_items at (source.number n) when target =
+      if agrees (is_true n) when then jump target ∷ [] else []
+  branch_items at (source.read x) when target = branch_true (variable x) when target ∷ []
+  branch_items at (source.call r vs) when target =
+      operands_items at vs ++ call r (operands_of vs) push ∷ branch_true pushed when target ∷ []
+  branch_items at (source.prefixed prefixes.Not v) when target = branch_items at v (not when) target
+  branch_items at (source.prefixed op v) when target =
+      if_pushed (alone v) (value_items at v push) []
+      ++ apply_prefix op (alone v) push ∷ branch_true pushed when target ∷ []
+  branch_items at (source.step_before op x) when target =
+      step op x push ∷ branch_true pushed when target ∷ []
+  branch_items at (source.step_after x op) when target =
+      move (variable x) push ∷ step op x nowhere ∷ branch_true pushed when target ∷ []
+  branch_items at (source.binary binaries.AndAlso a b) when target =
+      and_items at (branch_count a false) (branch_count b when) when target
+      (λ at when target. branch_items at a when target) (λ at when target. branch_items at b when target)
+  branch_items at (source.binary binaries.OrElse a b) when target =
+      or_items at (branch_count a true) (branch_count b when) when target
+      (λ at when target. branch_items at a when target) (λ at when target. branch_items at b when target)
+  branch_items at (source.binary op a b) when target =
+      if_pushed (left_of a b) (value_items at a push) []
+      ++ (if_pushed (alone b) (value_items (at + operand_count a (left_of a b)) b push) []
+      ++ operate op (left_of a b) (alone b) push ∷ branch_true pushed when target ∷ [])
+  branch_items at (source.compare op a b) when target =
+      if_pushed (left_of a b) (value_items at a push) []
+      ++ (if_pushed (alone b) (value_items (at + operand_count a (left_of a b)) b push) []
+      ++ branch (comparison_test op) (left_of a b ∷ alone b ∷ []) (comparison_when op when) target ∷ [])
+  branch_items at (source.equal op a bs) when target =
+      if is_few bs then
+      if_pushed (operand_of a bs) (value_items at a push) []
+      ++ (operands_items (at + operand_count a (operand_of a bs)) bs
+      ++ branch same (operand_of a bs ∷ operands_of bs) (equality_when op when) target ∷ [])
+      else value_items at a push ++ many_items (at + value_count a push) op bs when target
+  branch_items at (source.assign x v) when target =
+      value_items at v push ++ keep x ∷ branch_true pushed when target ∷ []
+
+  -- `==` of more than three, where the left side is pushed
+  pub many_items : ℕ → Equality → Values → Bool → ℕ → List Item
+  many_items at op none when target = branch_true pushed when target ∷ []
+  many_items at op (more v vs) when target =
+      value_items at v push ++ first_equal ∷ also_items (at + value_count v push + 1) op vs when target
+
+  -- its right sides behind the first, each folded into the flag, and the branch by that
+  pub also_items : ℕ → Equality → Values → Bool → ℕ → List Item
+  also_items at op none when target =
+      drop_below ∷ branch_true pushed (equality_when op when) target ∷ []
+  also_items at op (more v vs) when target =
+      value_items at v push ++ also_equal ∷ also_items (at + value_count v push + 1) op vs when target
+
+-- Statements
+
+-- one thing that is printed
 abbrev pub printed_count : Printed → ℕ
 printed_count (source.text bytes) = 1
-printed_count (source.character_of v) = value_count v + 1
-printed_count (source.number_of v) = value_count v + 1
+printed_count (source.character_of v) = operand_count v (alone v) + 1
+printed_count (source.number_of v) = operand_count v (alone v) + 1
 
+-- all that a statement prints
 abbrev pub prints_count : List Printed → ℕ
 prints_count [] = 0
 prints_count (i ∷ is) = printed_count i + prints_count is
 
 abbrev mutual
+  -- a statement
   pub action_count : Action → ℕ
   action_count source.empty = 0
   action_count (source.block xs) = actions_count xs
-  action_count (source.text_alone bytes) = 4
+  action_count (source.text_alone bytes) = 3
   action_count (source.print is) = prints_count is
-  action_count (source.print_return is) = prints_count is + 3
+  action_count (source.print_return is) = prints_count is + 2
   action_count source.new_line = 1
-  action_count (source.if_then v a) = value_count v + 1 + action_count a
-  action_count (source.if_else v a b) = value_count v + 1 + action_count a + 1 + action_count b
-  action_count (source.while_do v a) = value_count v + 1 + action_count a + 1
-  action_count (source.return_value v) = value_count v + 1
+  action_count (source.if_then v a) = branch_count v false + action_count a
+  action_count (source.if_else v a b) = branch_count v false + action_count a + 1 + action_count b
+  action_count (source.while_do v a) = branch_count v false + action_count a + 1
+  action_count (source.return_value v) = operand_count v (alone v) + 1
   action_count source.quit = 1
-  action_count (source.effect v) = value_count v + 1
+  action_count (source.effect v) = value_count v nowhere
 
+  -- statements, one after another
   pub actions_count : Actions → ℕ
   actions_count stop = 0
   actions_count (next a rest) = action_count a + actions_count rest
 
--- The items; `at` is the number of the first
+-- the items that push an operand which stands alone
+abbrev pub alone_items : ℕ → Value → List Item
+alone_items at v = if_pushed (alone v) (value_items at v push) []
 
--- What follows the first operand: the number of the first item, how many items the second operand has, and which from a number
--- on. `&&` and `||` pass over the second operand where the first decides.
-abbrev pub second_items : Binary → ℕ → ℕ → (ℕ → List Item) → List Item
-second_items binaries.AndAlso at count second =
-    if_zero (at + count + 3) ∷ (second (at + 1) ++ truth ∷ jump (at + count + 4) ∷ push_number 0 ∷ [])
-second_items binaries.OrElse at count second =
-    if_zero (at + 3) ∷ push_number 1 ∷ jump (at + count + 4) ∷ (second (at + 3) ++ truth ∷ [])
-second_items op at count second = second at ++ operate op ∷ []
-
-abbrev mutual
-  pub value_items : ℕ → Value → List Item
-  value_items at (source.number n) = push_number n ∷ []
-  value_items at (source.read x) = push_variable x ∷ []
-  value_items at (source.call r vs) = arguments_items at vs ++ call r (count_of vs) ∷ []
-  value_items at (source.prefixed op v) = value_items at v ++ apply_prefix op ∷ []
-  value_items at (source.step_before op x) = step_before op x ∷ []
-  value_items at (source.step_after x op) = step_after x op ∷ []
-  value_items at (source.binary op a b) =
-      value_items at a ++ second_items op (at + value_count a) (value_count b) (λ place. value_items place b)
-  value_items at (source.compare op a b) = value_items at a ++ (value_items (at + value_count a) b ++ compare op ∷ [])
-  value_items at (source.equal op a bs) = value_items at a ++ equal_items (at + value_count a) op bs
-  value_items at (source.assign x v) = value_items at v ++ keep x ∷ []
-
-  pub arguments_items : ℕ → Values → List Item
-  arguments_items at none = []
-  arguments_items at (more v vs) = value_items at v ++ arguments_items (at + value_count v) vs
-
-  -- what follows the left side of `==` and `~=`; of no right side the answer is known
-  pub equal_items : ℕ → Equality → Values → List Item
-  equal_items at op none = drop ∷ push_number (meaning.truth (equated op 0 [])) ∷ []
-  equal_items at op (more v vs) = value_items at v ++ or_items (at + value_count v) op vs
-
-  -- what follows the first right side
-  pub or_items : ℕ → Equality → Values → List Item
-  or_items at op none = equal op ∷ []
-  or_items at op (more v vs) = first_equal ∷ (value_items (at + 1) v ++ also_equal ∷ also_items (at + 1 + value_count v + 1) op vs)
-
-  pub also_items : ℕ → Equality → Values → List Item
-  also_items at op none = closing_items op
-  also_items at op (more v vs) = value_items at v ++ also_equal ∷ also_items (at + value_count v + 1) op vs
-
+-- one thing that is printed
 abbrev pub printed_items : ℕ → Printed → List Item
 printed_items at (source.text bytes) = print_text bytes ∷ []
-printed_items at (source.character_of v) = value_items at v ++ print_character ∷ []
-printed_items at (source.number_of v) = value_items at v ++ print_number ∷ []
+printed_items at (source.character_of v) = alone_items at v ++ print_character (alone v) ∷ []
+printed_items at (source.number_of v) = alone_items at v ++ print_number (alone v) ∷ []
 
+-- all that a statement prints, from left to right
 abbrev pub prints_items : ℕ → List Printed → List Item
 prints_items at [] = []
 prints_items at (i ∷ is) = printed_items at i ++ prints_items (at + printed_count i) is
 
-abbrev pub return_true : List Item
-return_true = push_number 1 ∷ return ∷ []
+-- `rtrue`
+abbrev pub return_true : Item
+return_true = return (number 1)
 
 abbrev mutual
+  -- a statement
   pub action_items : ℕ → Action → List Item
   action_items at source.empty = []
   action_items at (source.block xs) = actions_items at xs
-  action_items at (source.text_alone bytes) = print_text bytes ∷ new_line ∷ return_true
+  action_items at (source.text_alone bytes) = print_text bytes ∷ new_line ∷ return_true ∷ []
   action_items at (source.print is) = prints_items at is
-  action_items at (source.print_return is) = prints_items at is ++ new_line ∷ return_true
+  action_items at (source.print_return is) = prints_items at is ++ new_line ∷ return_true ∷ []
   action_items at source.new_line = new_line ∷ []
   action_items at (source.if_then v a) =
-      value_items at v
-      ++ if_zero (at + value_count v + 1 + action_count a)
-      ∷ action_items (at + value_count v + 1) a
+      branch_items at v false (at + branch_count v false + action_count a)
+      ++ action_items (at + branch_count v false) a
   action_items at (source.if_else v a b) =
-      value_items at v
-      ++ if_zero (at + value_count v + 1 + action_count a + 1)
-      ∷ (action_items (at + value_count v + 1) a
-      ++ jump (at + value_count v + 1 + action_count a + 1 + action_count b)
-      ∷ action_items (at + value_count v + 1 + action_count a + 1) b)
+      branch_items at v false (at + branch_count v false + action_count a + 1)
+      ++ (action_items (at + branch_count v false) a
+      ++ jump (at + branch_count v false + action_count a + 1 + action_count b)
+      ∷ action_items (at + branch_count v false + action_count a + 1) b)
   action_items at (source.while_do v a) =
-      value_items at v
-      ++ if_zero (at + value_count v + 1 + action_count a + 1)
-      ∷ (action_items (at + value_count v + 1) a ++ back at ∷ [])
-  action_items at (source.return_value v) = value_items at v ++ return ∷ []
+      branch_items at v false (at + branch_count v false + action_count a + 1)
+      ++ (action_items (at + branch_count v false) a ++ back at ∷ [])
+  action_items at (source.return_value v) = alone_items at v ++ return (alone v) ∷ []
   action_items at source.quit = quit ∷ []
-  action_items at (source.effect v) = value_items at v ++ drop ∷ []
+  action_items at (source.effect v) = value_items at v nowhere
 
+  -- statements, one after another
   pub actions_items : ℕ → Actions → List Item
   actions_items at stop = []
   actions_items at (next a rest) = action_items at a ++ actions_items (at + action_count a) rest
 
 -- a routine that runs off its end returns true
 abbrev pub routine_items : RoutineOf → List Item
-routine_items r = actions_items 0 r.body ++ return_true
+routine_items r = actions_items 0 r.body ++ return_true ∷ []

@@ -2,10 +2,13 @@
 use Rattle.std.specs.Prelude.{◌≡◌, ◌<◌, ◌≤◌, ℕ, List, length, Some}
 use Rattle.std.specs.List.{All}
 use Rattle.expressions.specs.declared.tree.Binary.TheVariants as binaries
+use Rattle.expressions.specs.declared.tree.Prefix.TheVariants as prefixes
 use Rattle.checker.specs.Resolved.{RoutineOf, ProgramOf}
 use Rattle.checker.specs.Accepted.{IsVariable, IsRoutine, IsAccepted}
 use Rattle.checker.specs.Meaning.{routine_at, meaning}
-use Rattle.items.specs.Items.{Item, push_variable, keep, step_before, step_after, operate, if_zero, jump, back, call, routine_items}
+use Rattle.items.specs.Items.{Operand, variable, Destination, into, Test, is_zero, less, greater, same, Item, move}
+use Rattle.items.specs.Items.{apply_prefix, operate, step, keep, print_character, print_number, branch, jump, back}
+use Rattle.items.specs.Items.{call, return, routine_items}
 use Rattle.items.specs.Stack.{from, exec, start}
 
 -- in so many items the run comes to what the program means
@@ -17,20 +20,46 @@ pub record Follows (p : ProgramOf) (full : ℕ) (lines : List (List ℕ)) : Type
 abbrev pub ItemsFollow : Type 0
 ItemsFollow = (p : ProgramOf) → IsAccepted p → (full : ℕ) (lines : List (List ℕ)) → Follows p full lines
 
--- an item of a routine of this program, with so many locals and so many items: what it names is there
-module _ (p : ProgramOf) (locals count : ℕ) where
-  abbrev pub IsItem : Item → Type 0
-  IsItem (push_variable x) = IsVariable p locals x
-  IsItem (keep x) = IsVariable p locals x
-  IsItem (step_before op x) = IsVariable p locals x
-  IsItem (step_after x op) = IsVariable p locals x
-  IsItem (operate binaries.AndAlso) = ⊥
-  IsItem (operate binaries.OrElse) = ⊥
-  IsItem (if_zero target) = target < count
-  IsItem (jump target) = target < count
-  IsItem (back target) = target < count
-  IsItem (call r n) = (r < length p.routines) × (n ≤ 7) × (n ≤ (routine_at p.routines r).locals)
-  IsItem _ = Unit {0}
+-- how many operands a test has
+abbrev pub IsTested : Test → ℕ → Type 0
+IsTested is_zero n = n ≡ 1
+IsTested less n = n ≡ 2
+IsTested greater n = n ≡ 2
+IsTested same n = (1 ≤ n) × (n ≤ 4)
 
+-- an item of a routine of this program, with so many locals and so many items: what it names is there
+module _ (p : ProgramOf) (locals : ℕ) where
+  -- a variable that stands in place is there
+  abbrev pub IsOperand : Operand → Type 0
+  IsOperand (variable x) = IsVariable p locals x
+  IsOperand _ = Unit {0}
+
+  -- a variable that a word goes to is there
+  abbrev pub IsDestination : Destination → Type 0
+  IsDestination (into x) = IsVariable p locals x
+  IsDestination _ = Unit {0}
+
+  -- what an item names is there, where the routine has so many items
+  abbrev pub IsItem : ℕ → Item → Type 0
+  IsItem count (move o d) = IsOperand o × IsDestination d
+  IsItem count (apply_prefix prefixes.Not o d) = ⊥
+  IsItem count (apply_prefix op o d) = IsOperand o × IsDestination d
+  IsItem count (operate binaries.AndAlso a b d) = ⊥
+  IsItem count (operate binaries.OrElse a b d) = ⊥
+  IsItem count (operate op a b d) = IsOperand a × IsOperand b × IsDestination d
+  IsItem count (step op x d) = IsVariable p locals x × IsDestination d
+  IsItem count (keep x) = IsVariable p locals x
+  IsItem count (print_character o) = IsOperand o
+  IsItem count (print_number o) = IsOperand o
+  IsItem count (branch test os when target) = All IsOperand os × IsTested test (length os) × (target < count)
+  IsItem count (jump target) = target < count
+  IsItem count (back target) = target < count
+  IsItem count (call r os d) = (r < length p.routines) × All IsOperand os × (length os ≤ 7)
+      × (length os ≤ (routine_at p.routines r).locals) × IsDestination d
+  IsItem count (return o) = IsOperand o
+  IsItem count _ = Unit {0}
+
+-- each item of a routine that keeps the rules names only what is there
 abbrev pub ItemsAreWithin : Type 0
-ItemsAreWithin = (p : ProgramOf) (r : RoutineOf) → IsRoutine p r → All (IsItem p r.locals (length (routine_items r))) (routine_items r)
+ItemsAreWithin = (p : ProgramOf) (r : RoutineOf) → IsRoutine p r → All (IsItem p r.locals (length (routine_items r)))
+    (routine_items r)

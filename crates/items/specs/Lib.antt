@@ -2,3 +2,4 @@ pub mod Items
 pub mod Stack
 pub mod Code
 pub mod Laws
+pub mod Writing

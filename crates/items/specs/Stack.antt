@@ -1,23 +1,30 @@
 -- The machine of items: a place in a routine, a stack of words, and the world of the source.
-use Rattle.std.specs.Prelude.{◌||◌, ◌+◌, ◌==◌, ℕ, zero, suc, nat_le, nat_lt, if◌then◌else◌, List, [], ◌∷◌, length, map, reverse, take, drop, Option, Some, None, slice_get}
-use Rattle.zcore.specs.Arithmetic.{signed_text}
+use Rattle.std.specs.Prelude.{◌||◌, ◌+◌, ◌==◌, ℕ, zero, suc, nat_le, nat_lt, Bool, true, false, if◌then◌else◌, List, []}
+use Rattle.std.specs.Prelude.{◌∷◌, length, map, Option, Some, None, slice_get}
+use Rattle.std.specs.List.{list_any}
+use Rattle.zcore.specs.Arithmetic.{signed_less, signed_text}
 use Rattle.zcore.specs.declared.place.Place.TheVariants as places
 use Rattle.zcore.specs.declared.place.Limit.TheVariants as limits
+use Rattle.checker.specs.declared.resolved.Variable.{Variable}
 use Rattle.checker.specs.Resolved.{ProgramOf}
-use Rattle.checker.specs.World.{Outcome, World, Situation, Comes, to, over, Part, ◌>>=◌, give, ended, stop, put, shown, spend, read_variable, write_variable}
-use Rattle.checker.specs.Meaning.{truth, is_true, compared, equated, with_prefix, stepped, put_character, put_line, locals_of, routine_at, first_world}
+use Rattle.checker.specs.World.{Outcome, World, Situation, Comes, to, over, Part, ended, put, shown, spend, value_in}
+use Rattle.checker.specs.World.{with_value}
+use Rattle.checker.specs.Meaning.{truth, is_true, with_prefix, stepped, put_character, put_line, locals_of, routine_at}
+use Rattle.checker.specs.Meaning.{first_world}
 use Rattle.checker.specs.Meaning as meaning
-use Rattle.items.specs.Items.{Item, routine_items}
+use Rattle.items.specs.Items.{Item, Operand, pushed, number, variable, Destination, push, into, nowhere, Test, is_zero}
+use Rattle.items.specs.Items.{less, greater, same, agrees, routine_items}
 use Rattle.items.specs.Items as items
 
--- a call that waits for another: its routine, the item to go on with, its stack and its locals
+-- a call that waits for another: its routine, the item to go on with, where the word goes, its stack and its locals
 pub record Caller : Type 0 where
   pub routine : ℕ
   pub place : ℕ
+  pub destination : Destination
   pub stack : List ℕ
   pub locals : List ℕ
 
--- `callers` has the newest call first
+-- a place in a routine, its stack, the calls that wait, the newest first, and the locals with the world
 pub record State : Type 0 where
   pub routine : ℕ
   pub place : ℕ
@@ -25,68 +32,102 @@ pub record State : Type 0 where
   pub callers : List Caller
   pub situation : Situation
 
--- what one item leads to; it is stuck where an operand lacks, a stack would pass its limit, or a jump leads the wrong way
+-- what one item leads to; it is stuck where an operand lacks, a stack would pass its limit, or a jump leads the wrong
+-- way
 pub data Next : Type 0 where
   goes : State → Next
   ends : Outcome → Next
   stuck : Next
 
--- Items that go on with the item after them: the stack that they make of a stack
+-- Operands, of which the last pushed is on top
 
-abbrev pub straight : Item → List ℕ → Option (Part (List ℕ))
-straight (items.push_number n) s = Some (give (n ∷ s))
-straight (items.push_variable x) s = Some (read_variable x >>= λ v. give (v ∷ s))
-straight (items.keep x) (v ∷ s) = Some (write_variable x v >>= λ _. give (v ∷ s))
-straight (items.step_before op x) s = Some (do
-  v ← read_variable x
-  _ ← write_variable x (stepped op v)
-  give (stepped op v ∷ s))
-straight (items.step_after x op) s = Some (do
-  v ← read_variable x
-  _ ← write_variable x (stepped op v)
-  give (v ∷ s))
-straight (items.apply_prefix op) (v ∷ s) = Some (give (with_prefix op v ∷ s))
-straight (items.operate op) (y ∷ x ∷ s) = Some (meaning.operate op x y >>= λ v. give (v ∷ s))
-straight (items.compare op) (y ∷ x ∷ s) = Some (give (truth (compared op x y) ∷ s))
-straight (items.equal op) (y ∷ x ∷ s) = Some (give (truth (equated op x (y ∷ [])) ∷ s))
-straight items.first_equal (y ∷ x ∷ s) = Some (give (truth (x == y) ∷ x ∷ s))
-straight items.also_equal (y ∷ flag ∷ x ∷ s) = Some (give (truth (is_true flag || x == y) ∷ x ∷ s))
-straight items.drop_below (flag ∷ x ∷ s) = Some (give (flag ∷ s))
-straight items.truth (v ∷ s) = Some (give (truth (is_true v) ∷ s))
-straight items.drop (v ∷ s) = Some (give s)
-straight (items.print_text bytes) s = Some (put (map shown bytes) >>= λ _. give s)
-straight items.print_character (v ∷ s) = Some (put_character v >>= λ _. give s)
-straight items.print_number (v ∷ s) = Some (put (signed_text v) >>= λ _. give s)
-straight items.new_line s = Some (put_line >>= λ _. give s)
-straight items.quit s = Some (stop places.Quit)
-straight _ s = None
+-- what follows gets the word of an operand, and what is left of the stack
+abbrev pub with_operand : Operand → Situation → List ℕ → (ℕ → List ℕ → Next) → Next
+with_operand pushed s [] k = stuck
+with_operand pushed s (v ∷ stack) k = k v stack
+with_operand (number n) s stack k = k n stack
+with_operand (variable x) s stack k = k (value_in x s) stack
+
+-- the words of several operands
+abbrev pub with_operands : List Operand → Situation → List ℕ → (List ℕ → List ℕ → Next) → Next
+with_operands [] s stack k = k [] stack
+with_operands (o ∷ os) s stack k =
+    with_operands os s stack (λ vs rest. with_operand o s rest (λ v left. k (v ∷ vs) left))
+
+-- Words
 
 -- the stack of a call has at most 48 words
 abbrev pub within : State → Next
 within s = if nat_le (length s.stack) 48 then goes s else stuck
 
+-- a word goes to its destination
+abbrev pub delivered : Destination → ℕ → State → Next
+delivered push v s = within (record s { stack = v ∷ s.stack })
+delivered (into x) v s = goes (record s { situation = with_value x v s.situation })
+delivered nowhere v s = goes s
+
+-- a part of the meaning is done, and then what follows it, if it does not end the run
 abbrev pub after_part : {A : Type 0} → Comes A → (A → Situation → Next) → Next
 after_part (to a s) k = k a s
 after_part (over outcome) k = ends outcome
 
-abbrev pub go_straight : Option (Part (List ℕ)) → State → Next
-go_straight None s = stuck
-go_straight (Some part) s = after_part (part s.situation) (λ stack situation. within (record s { place = s.place + 1; stack = stack; situation = situation }))
+-- with the item after this one, where this is left of the stack
+abbrev pub after : State → List ℕ → Situation → State
+after s stack situation = record s { place = s.place + 1; stack = stack; situation = situation }
+
+-- a part gives a word, which goes to its destination
+abbrev pub gives : Part ℕ → Destination → List ℕ → State → Next
+gives f d stack s = after_part (f s.situation) (λ v situation. delivered d v (after s stack situation))
+
+-- a part prints
+abbrev pub prints : Part (Unit {0}) → List ℕ → State → Next
+prints f stack s = after_part (f s.situation) (λ _ situation. goes (after s stack situation))
+
+-- the topmost word goes to a variable, and stays
+abbrev pub keep : Variable → List ℕ → State → Next
+keep x [] s = stuck
+keep x (v ∷ stack) s = within (after s (v ∷ stack) (with_value x v s.situation))
+
+-- from left and right to left and flag
+abbrev pub first_equal : List ℕ → State → Next
+first_equal (y ∷ x ∷ stack) s = within (after s (truth (x == y) ∷ x ∷ stack) s.situation)
+first_equal _ s = stuck
+
+-- from left, flag and right to left and flag
+abbrev pub also_equal : List ℕ → State → Next
+also_equal (y ∷ flag ∷ x ∷ stack) s =
+    within (after s (truth (is_true flag || x == y) ∷ x ∷ stack) s.situation)
+also_equal _ s = stuck
+
+-- from left and flag to the flag alone
+abbrev pub drop_below : List ℕ → State → Next
+drop_below (flag ∷ x ∷ stack) s = within (after s (flag ∷ stack) s.situation)
+drop_below _ s = stuck
 
 -- Jumps
 
+-- a jump leads ahead
 abbrev pub jump_forward : ℕ → State → Next
 jump_forward target s = if nat_lt s.place target then goes (record s { place = target }) else stuck
 
-abbrev pub if_zero : ℕ → List ℕ → State → Next
-if_zero target [] s = stuck
-if_zero target (v ∷ stack) s =
-    if is_true v then goes (record s { place = s.place + 1; stack = stack })
-    else jump_forward target (record s { stack = stack })
+-- what a test says of the words of its operands
+abbrev pub holds : Test → List ℕ → Bool
+holds is_zero (x ∷ []) = x == 0
+holds less (x ∷ y ∷ []) = signed_less x y
+holds greater (x ∷ y ∷ []) = signed_less y x
+holds same (x ∷ ys) = list_any (λ y. x == y) ys
+holds _ _ = false
 
+-- to the target, or to the next item
+abbrev pub branch : Bool → ℕ → List ℕ → State → Next
+branch true target stack s = jump_forward target (record s { stack = stack })
+branch false target stack s = goes (after s stack s.situation)
+
+-- going back costs a unit
 abbrev pub go_back : ℕ → State → Next
 go_back target s =
-    if nat_le target s.place then after_part (spend s.situation) (λ _ situation. goes (record s { place = target; situation = situation }))
+    if nat_le target s.place then
+    after_part (spend s.situation) (λ _ situation. goes (record s { place = target; situation = situation }))
     else stuck
 
 -- Calls
@@ -107,40 +148,59 @@ enter p r arguments callers situation =
 -- when the call of Main returns, the story quits
 abbrev pub return_to : List Caller → ℕ → World → Next
 return_to [] v w = ends (ended places.Quit w)
-return_to (c ∷ callers) v w = within (record {
+return_to (c ∷ callers) v w = delivered c.destination v (record {
   routine = c.routine;
   place = c.place;
-  stack = v ∷ c.stack;
+  stack = c.stack;
   callers = callers;
   situation = record { locals = c.locals; world = w };
 })
 
-abbrev pub call : ProgramOf → ℕ → ℕ → State → Next
-call p r count s =
-    if nat_le count (length s.stack) then
-    enter p r (reverse (take count s.stack))
-    (record { routine = s.routine; place = s.place + 1; stack = drop count s.stack; locals = s.situation.locals } ∷ s.callers)
-    s.situation
-    else stuck
-
-abbrev pub return_top : List ℕ → State → Next
-return_top [] s = stuck
-return_top (v ∷ stack) s = return_to s.callers v s.situation.world
+-- the call that waits for the one that it makes
+abbrev pub caller : Destination → List ℕ → State → Caller
+caller d stack s =
+    record { routine = s.routine; place = s.place + 1; destination = d; stack = stack; locals = s.situation.locals }
 
 -- Runs
 
+-- one item, where there is one
 abbrev pub act : ProgramOf → Option Item → State → Next
 act p None s = stuck
-act p (Some (items.if_zero target)) s = if_zero target s.stack s
+act p (Some (items.move o d)) s =
+    with_operand o s.situation s.stack (λ v stack. delivered d v (after s stack s.situation))
+act p (Some (items.apply_prefix op o d)) s =
+    with_operand o s.situation s.stack (λ v stack. delivered d (with_prefix op v) (after s stack s.situation))
+act p (Some (items.operate op a b d)) s =
+    with_operand b s.situation s.stack
+    (λ y rest. with_operand a s.situation rest (λ x stack. gives (meaning.operate op x y) d stack s))
+act p (Some (items.step op x d)) s =
+    delivered d (stepped op (value_in x s.situation))
+    (after s s.stack (with_value x (stepped op (value_in x s.situation)) s.situation))
+act p (Some (items.keep x)) s = keep x s.stack s
+act p (Some items.first_equal) s = first_equal s.stack s
+act p (Some items.also_equal) s = also_equal s.stack s
+act p (Some items.drop_below) s = drop_below s.stack s
+act p (Some (items.print_text bytes)) s = prints (put (map shown bytes)) s.stack s
+act p (Some (items.print_character o)) s =
+    with_operand o s.situation s.stack (λ v stack. prints (put_character v) stack s)
+act p (Some (items.print_number o)) s =
+    with_operand o s.situation s.stack (λ v stack. prints (put (signed_text v)) stack s)
+act p (Some items.new_line) s = prints put_line s.stack s
+act p (Some items.quit) s = ends (ended places.Quit s.situation.world)
+act p (Some (items.branch test os when target)) s =
+    with_operands os s.situation s.stack (λ vs stack. branch (agrees (holds test vs) when) target stack s)
 act p (Some (items.jump target)) s = jump_forward target s
 act p (Some (items.back target)) s = go_back target s
-act p (Some (items.call r count)) s = call p r count s
-act p (Some items.return) s = return_top s.stack s
-act p (Some item) s = go_straight (straight item s.stack) s
+act p (Some (items.call r os d)) s =
+    with_operands os s.situation s.stack (λ vs stack. enter p r vs (caller d stack s ∷ s.callers) s.situation)
+act p (Some (items.return o)) s =
+    with_operand o s.situation s.stack (λ v stack. return_to s.callers v s.situation.world)
 
+-- the item at the place
 abbrev pub step : ProgramOf → State → Next
 step p s = act p (slice_get (routine_items (routine_at p.routines s.routine)) s.place) s
 
+-- what follows a state that goes on
 abbrev pub from : Next → (State → Option Outcome) → Option Outcome
 from (goes s) k = k s
 from (ends outcome) k = Some outcome

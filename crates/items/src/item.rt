@@ -1,70 +1,89 @@
 //! The items of a routine.
 
 use checker::Variable;
-use expressions::{Binary, Comparison, Equality, Prefix, Step};
+use expressions::{Binary, Prefix, Step};
+
+/// A word that an item takes. Of the operands of an item that are pushed the last is on top.
+#[derive(Clone, Copy, Debug, PartialEq, Eq)]
+pub enum Operand {
+    /// The topmost word of the stack, which goes.
+    Pushed,
+
+    Number(u16),
+
+    /// A variable, which is read when the item is done.
+    Variable(Variable),
+}
+
+/// Where a word goes.
+#[derive(Clone, Copy, Debug, PartialEq, Eq)]
+pub enum Destination {
+    /// To the top of the stack.
+    Push,
+
+    Into(Variable),
+    Nowhere,
+}
+
+/// What a branch asks of its operands.
+#[derive(Clone, Copy, Debug, PartialEq, Eq)]
+pub enum Test {
+    /// Of one operand, that it is 0.
+    IsZero,
+
+    /// Of two, that the first is less than the second, as signed numbers.
+    Less,
+
+    /// Of two, that the first is greater than the second, as signed numbers.
+    Greater,
+
+    /// Of two to four, that the first equals one of the others.
+    Same,
+}
 
 /// One act of a routine, with its tests and its fault inside. The items of a routine are numbered from 0, and jumps name
-/// the item that they lead to. Operands are words on a stack, the right one on top.
-#[derive(Clone, Copy, Drop)]
+/// the item that they lead to.
+#[derive(Drop)]
 pub enum Item<'a> {
-    /// A number is pushed.
-    PushNumber(u16),
+    Move(Operand, Destination),
 
-    /// The word in a variable is pushed.
-    PushVariable(Variable),
+    /// None of `~~`, which turns a branch.
+    Prefix(Prefix, Operand, Destination),
+
+    /// None of `&&` and `||`, which are branches.
+    Operate(Binary, Operand, Operand, Destination),
+
+    /// A variable is stepped, and its new word goes on.
+    Step(Step, Variable, Destination),
 
     /// The topmost word goes to a variable, and stays.
     Keep(Variable),
 
-    /// A variable is stepped, and its new word is pushed.
-    StepBefore(Step, Variable),
-
-    /// A variable is stepped, and its old word is pushed.
-    StepAfter(Variable, Step),
-
-    /// An operator on the topmost word.
-    Prefix(Prefix),
-
-    /// On the two topmost words, any operator but `&&` and `||`, which are jumps.
-    Operate(Binary),
-
-    /// 1 or 0 for the two topmost words, as signed numbers.
-    Compare(Comparison),
-
-    /// 1 or 0 for the two topmost words.
-    Equal(Equality),
-
-    /// Of several right sides, the first: from left and right to left and flag.
+    /// Of more than three right sides of `==`, the first: from left and right to left and flag.
     FirstEqual,
 
-    /// Of several right sides, a later one: from left, flag and right to left and flag.
+    /// A later one: from left, flag and right to left and flag.
     AlsoEqual,
 
     /// The word below the topmost one goes.
     DropBelow,
 
-    /// 1 for a word that is true, 0 for one that is not.
-    Truth,
-
-    /// The topmost word goes.
-    Drop,
-
     /// The bytes between the quotes of a text.
     PrintText(&'a [u8]),
 
-    /// The topmost word as a character, or the fault that it is none.
-    PrintCharacter,
+    /// A word as a character, or the fault that it is none.
+    PrintCharacter(Operand),
 
-    /// The topmost word as a signed number.
-    PrintNumber,
+    /// A word as a signed number.
+    PrintNumber(Operand),
 
     NewLine,
 
     /// The story ends.
     Quit,
 
-    /// Forward, where the topmost word is 0.
-    IfZero(usize),
+    /// Forward, where the test holds, or where it does not.
+    Branch(Test, Vec<Operand>, bool, usize),
 
     /// Forward.
     Jump(usize),
@@ -72,9 +91,8 @@ pub enum Item<'a> {
     /// Back, which costs a unit of fuel.
     Back(usize),
 
-    /// A routine, and how many words are its arguments, the last on top.
-    Call(usize, usize),
+    /// A routine, its arguments, and where the word goes that it returns.
+    Call(usize, Vec<Operand>, Destination),
 
-    /// With the topmost word.
-    Return,
+    Return(Operand),
 }

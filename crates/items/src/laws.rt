@@ -9,7 +9,8 @@ pub fn items_follow()
 {}
 
 /// What the items of a routine of an accepted program name is there: variables, routines that are called with no more
-/// arguments than they take, and the items that jumps lead to. `&&` and `||` are never operated.
+/// arguments than they take, and the items that jumps lead to. Each test has as many operands as it takes; `~~`, `&&`
+/// and `||` are branches.
 pub fn items_are_within()
     ensures { ItemsAreWithin }
 {}

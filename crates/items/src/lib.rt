@@ -1,13 +1,16 @@
-//! A routine as items: the acts of its statements, one after another, on a stack of words.
+//! A routine as items: the acts of its statements, one after another, with operands in place and branches by conditions.
 #![tactic(auto)]
 
+mod draft;
 mod item;
 mod laws;
+mod operand;
+mod parts;
 mod routine;
 mod statement;
 mod value;
-mod writing;
+mod wanted;
 
-pub use item::Item;
+pub use item::{Destination, Item, Operand, Test};
 pub use laws::{items_are_within, items_follow};
 pub use routine::routine_items;

@@ -5,8 +5,9 @@ ghost use Rattle.checker.specs.Resolved.{routine_of};
 ghost use Rattle.items.specs.Items as items;
 ghost use Rattle.items.specs.Code.{items_of};
 
-use crate::item::Item;
-use crate::statement::{put_return_true, put_statements};
+use crate::draft::{Draft, in_order, put};
+use crate::item::{Item, Operand};
+use crate::statement::put_statements;
 use checker::CheckedRoutine;
 use std::alloc::{AllocError, Global};
 
@@ -14,16 +15,16 @@ use std::alloc::{AllocError, Global};
 ///
 /// # Errors
 ///
-/// `AllocError` where a growth of memory was refused.
-#[tactic(auto, using(crate::proofs::Chains::routine_more))]
+/// `AllocError` where memory is refused.
 pub fn routine_items<'a>(
     alloc: Global,
     routine: &CheckedRoutine<'a>,
 ) -> Result<Vec<Item<'a>>, AllocError>
     ensures { IfOk result (λ code. items_of code.items ≡ items.routine_items (routine_of routine.now)) }
 {
-    let mut code = Vec::new(alloc);
-    put_statements(&mut code, &routine.body)?;
-    put_return_true(&mut code)?;
-    Ok(code)
+    let items = Vec::new(alloc);
+    let mut draft = Draft { alloc, items };
+    put(&mut draft, Item::Return(Operand::Number(1)))?;
+    put_statements(&mut draft, &routine.body)?;
+    in_order(draft)
 }

@@ -1,167 +1,291 @@
 //! Expressions as items.
 
-ghost use Rattle.std.specs.Prelude.{◌≡◌, map, OnOk};
-ghost use Rattle.expressions.specs.declared.tree.Binary.TheVariants.{AndAlso, OrElse};
-ghost use Rattle.checker.specs.Resolved.{value_of, values_of};
-ghost use Rattle.items.specs.Items.{value_count, closing_items, second_items, value_items, arguments_items, or_items};
-ghost use Rattle.items.specs.Code.{items_of, followed, link_of, links_items};
+ghost use Rattle.std.specs.Prelude.{IfOk, OnOk};
+ghost use Rattle.checker.specs.Resolved.{call, prefixed, assign, value_of};
+ghost use Rattle.items.specs.Writing.{values_in, WritesValue, WritesOperand, WritesOperands, WritesFolded};
+ghost use Rattle.items.specs.Writing.{WritesLink, WritesLinks, WritesComparison, WritesEquality, WritesFirst};
 
-use crate::item::Item;
-use crate::writing::{lead_if_zero, lead_jump, next_number, put};
-use checker::Evaluation;
-use expressions::{Binary, Equality, Prefix};
+use crate::draft::{Draft, put, put_branch, written};
+use crate::item::{Destination, Item, Operand, Test};
+use crate::operand::{alone, are_few, before, left_of, push_operands, side_operands};
+use crate::parts::{
+    comparison_test, comparison_when, equality_when, first_of_and, first_of_or, is_logical,
+    put_number, put_read, put_step_after, put_step_before, put_truth, put_word,
+};
+use crate::wanted::Wanted;
+use checker::{Evaluation, Variable};
+use expressions::{Binary, Comparison, Equality, Prefix};
 use std::alloc::AllocError;
 
-/// The items of an expression.
+/// The items of an expression, which do what is wanted of it.
 #[cycle(values)]
-pub fn put_value<'a>(code: &mut Vec<Item<'a>>, value: &Evaluation) -> Result<(), AllocError>
-    ensures { OnOk result (items_of code.new.items ≡ followed (items_of code.old.items) (λ at. value_items at (value_of value.now))) }
+pub fn put_value<'a>(
+    draft: &mut Draft<'a>,
+    value: &Evaluation,
+    wanted: Wanted,
+) -> Result<(), AllocError>
+    ensures { OnOk result (WritesValue draft.old draft.new wanted (value_of value.now)) }
 {
     match value {
-        Evaluation::Number(number) => put(code, Item::PushNumber(*number))?,
-        Evaluation::Read(variable) => put(code, Item::PushVariable(*variable))?,
-        Evaluation::Call(routine, arguments) => {
-            put_arguments(code, arguments)?;
-            put(code, Item::Call(*routine, arguments.len()))?;
+        Evaluation::Number(number) => put_number(draft, *number, wanted)?,
+        Evaluation::Read(variable) => put_read(draft, *variable, wanted)?,
+        Evaluation::Call(routine, arguments) => put_call(draft, arguments, *routine, wanted)?,
+        Evaluation::Prefixed(prefix, operand) => put_prefixed(draft, operand, *prefix, wanted)?,
+        Evaluation::StepBefore(step, variable) => {
+            put_step_before(draft, *variable, *step, wanted)?;
         }
-        Evaluation::Prefixed(prefix, operand) => {
-            put_value(code, operand)?;
-            put(code, Item::Prefix(*prefix))?;
-        }
-        Evaluation::StepBefore(step, variable) => put(code, Item::StepBefore(*step, *variable))?,
-        Evaluation::StepAfter(variable, step) => put(code, Item::StepAfter(*variable, *step))?,
+        Evaluation::StepAfter(variable, step) => put_step_after(draft, *variable, *step, wanted)?,
         Evaluation::Chain(first, operator, second, links) => {
-            put_value(code, first)?;
-            put_second(code, *operator, second)?;
-            put_links(code, links)?;
+            let wanted = put_links(draft, links, wanted)?;
+            let left = left_of(first, second);
+            let wanted = put_link(draft, second, *operator, left, wanted)?;
+            put_first(draft, first, *operator, left, wanted)?;
         }
         Evaluation::Compare(left, comparison, right) => {
-            put_value(code, left)?;
-            put_value(code, right)?;
-            put(code, Item::Compare(*comparison))?;
+            let operand = left_of(left, right);
+            put_comparison(draft, right, *comparison, operand, wanted)?;
+            put_operand(draft, left, operand)?;
         }
         Evaluation::Equal(left, equality, right, others) => {
-            put_value(code, left)?;
-            put_value(code, right)?;
-            put_others(code, *equality, others)?;
+            let (first, second) = side_operands(left, right, others);
+            put_others(draft, others, *equality, (first, second), wanted)?;
+            put_operand(draft, right, second)?;
+            put_operand(draft, left, first)?;
         }
-        Evaluation::Assign(variable, value) => {
-            put_value(code, value)?;
-            put(code, Item::Keep(*variable))?;
-        }
+        Evaluation::Assign(variable, value) => put_assigned(draft, value, *variable, wanted)?,
     }
     Ok(())
 }
 
-/// The items of arguments, from left to right.
+/// What pushes the word of an operand; none where it stands in place.
 #[cycle(values)]
-fn put_arguments<'a>(code: &mut Vec<Item<'a>>, arguments: &[Evaluation]) -> Result<(), AllocError>
-    ensures { OnOk result (items_of code.new.items ≡ followed (items_of code.old.items) (λ at. arguments_items at (values_of (map value_of arguments.now)))) }
-{
-    for argument in arguments {
-        put_value(code, argument)?;
-    }
-    Ok(())
-}
-
-/// The items of operations that group to the left, where those of the first operand stand.
-#[cycle(values)]
-fn put_links<'a>(code: &mut Vec<Item<'a>>, links: &[(Binary, Evaluation)]) -> Result<(), AllocError>
-    ensures { OnOk result (items_of code.new.items ≡ followed (items_of code.old.items) (λ at. links_items at (map link_of links.now))) }
-{
-    for (operator, operand) in links {
-        put_second(code, *operator, operand)?;
-    }
-    Ok(())
-}
-
-/// What follows the first operand of an operation.
-#[cycle(values)]
-#[tactic(auto, using(crate::proofs::Chains::operate_more))]
-fn put_second<'a>(
-    code: &mut Vec<Item<'a>>,
-    operator: Binary,
-    second: &Evaluation,
+pub fn put_operand<'a>(
+    draft: &mut Draft<'a>,
+    value: &Evaluation,
+    operand: Operand,
 ) -> Result<(), AllocError>
-    ensures { OnOk result (items_of code.new.items ≡ followed (items_of code.old.items) (λ at. second_items operator at (value_count (value_of second.now)) (λ place. value_items place (value_of second.now)))) }
+    ensures { OnOk result (WritesOperand draft.old draft.new operand value.now) }
+{
+    match operand {
+        Operand::Pushed => put_value(draft, value, Wanted::Word(Destination::Push))?,
+        Operand::Number(_) | Operand::Variable(_) => {}
+    }
+    Ok(())
+}
+
+/// What pushes the operands of a list, from left to right.
+#[cycle(values)]
+fn put_operands<'a>(draft: &mut Draft<'a>, values: &[Evaluation]) -> Result<(), AllocError>
+    ensures { OnOk result (WritesOperands draft.old draft.new values.now) }
+{
+    for done in 0..values.len() {
+        let number = values.len() - 1 - done;
+        let value = &values[number];
+        let operand = before(value, &values[number + 1..]);
+        put_operand(draft, value, operand)?;
+    }
+    Ok(())
+}
+
+#[cycle(values)]
+fn put_call<'a>(
+    draft: &mut Draft<'a>,
+    arguments: &[Evaluation],
+    routine: usize,
+    wanted: Wanted,
+) -> Result<(), AllocError>
+    ensures { OnOk result (WritesValue draft.old draft.new wanted (call routine (values_in arguments.now))) }
+{
+    let destination = put_word(draft, wanted)?;
+    let mut operands = Vec::new(draft.alloc);
+    push_operands(&mut operands, arguments)?;
+    put(draft, Item::Call(routine, operands, destination))?;
+    put_operands(draft, arguments)?;
+    Ok(())
+}
+
+#[cycle(values)]
+fn put_prefixed<'a>(
+    draft: &mut Draft<'a>,
+    value: &Evaluation,
+    prefix: Prefix,
+    wanted: Wanted,
+) -> Result<(), AllocError>
+    ensures { OnOk result (WritesValue draft.old draft.new wanted (prefixed prefix (value_of value.now))) }
+{
+    match prefix {
+        Prefix::Not => {
+            let (when, left) = put_truth(draft, wanted)?;
+            put_value(draft, value, Wanted::Branch(!when, left))?;
+        }
+        _ => {
+            let destination = put_word(draft, wanted)?;
+            let operand = alone(value);
+            put(draft, Item::Prefix(prefix, operand, destination))?;
+            put_operand(draft, value, operand)?;
+        }
+    }
+    Ok(())
+}
+
+#[cycle(values)]
+fn put_assigned<'a>(
+    draft: &mut Draft<'a>,
+    value: &Evaluation,
+    variable: Variable,
+    wanted: Wanted,
+) -> Result<(), AllocError>
+    ensures { OnOk result (WritesValue draft.old draft.new wanted (assign variable (value_of value.now))) }
+{
+    match put_word(draft, wanted)? {
+        Destination::Nowhere => {
+            put_value(draft, value, Wanted::Word(Destination::Into(variable)))?;
+        }
+        Destination::Push => {
+            put(draft, Item::Keep(variable))?;
+            put_value(draft, value, Wanted::Word(Destination::Push))?;
+        }
+        Destination::Into(other) => {
+            put(draft, Item::Move(Operand::Pushed, Destination::Into(other)))?;
+            put(draft, Item::Keep(variable))?;
+            put_value(draft, value, Wanted::Word(Destination::Push))?;
+        }
+    }
+    Ok(())
+}
+
+/// Operations that group to the left, from the last one on: what is then wanted of what stands before them.
+#[cycle(values)]
+fn put_links<'a>(
+    draft: &mut Draft<'a>,
+    links: &[(Binary, Evaluation)],
+    wanted: Wanted,
+) -> Result<Wanted, AllocError>
+    ensures { IfOk result (λ rest. WritesLinks draft.old draft.new wanted rest links.now) }
+{
+    let mut wanted = wanted;
+    for done in 0..links.len() {
+        let (operator, operand) = &links[links.len() - 1 - done];
+        wanted = put_link(draft, operand, *operator, Operand::Pushed, wanted)?;
+    }
+    Ok(wanted)
+}
+
+/// An operator and its second operand, where the operand for the first one is known: what is then wanted of the
+/// first.
+#[cycle(values)]
+fn put_link<'a>(
+    draft: &mut Draft<'a>,
+    second: &Evaluation,
+    operator: Binary,
+    left: Operand,
+    wanted: Wanted,
+) -> Result<Wanted, AllocError>
+    ensures { IfOk result (λ rest. WritesLink draft.old draft.new wanted rest operator left second.now) }
 {
     match operator {
-        Binary::AndAlso => put_and(code, second)?,
-        Binary::OrElse => put_or(code, second)?,
+        Binary::AndAlso => {
+            let (when, target) = put_truth(draft, wanted)?;
+            let end = written(draft);
+            put_value(draft, second, Wanted::Branch(when, target))?;
+            Ok(first_of_and(when, target, end))
+        }
+        Binary::OrElse => {
+            let (when, target) = put_truth(draft, wanted)?;
+            let end = written(draft);
+            put_value(draft, second, Wanted::Branch(when, target))?;
+            Ok(first_of_or(when, target, end))
+        }
         _ => {
-            put_value(code, second)?;
-            put(code, Item::Operate(operator))?;
+            let destination = put_word(draft, wanted)?;
+            let right = alone(second);
+            put(draft, Item::Operate(operator, left, right, destination))?;
+            put_operand(draft, second, right)?;
+            Ok(Wanted::Word(Destination::Push))
+        }
+    }
+}
+
+/// The first operand of an operation.
+#[cycle(values)]
+fn put_first<'a>(
+    draft: &mut Draft<'a>,
+    first: &Evaluation,
+    operator: Binary,
+    left: Operand,
+    wanted: Wanted,
+) -> Result<(), AllocError>
+    ensures { OnOk result (WritesFirst draft.old draft.new operator left wanted first.now) }
+{
+    match left {
+        Operand::Pushed => put_value(draft, first, wanted)?,
+        Operand::Number(_) | Operand::Variable(_) => {
+            if is_logical(operator) {
+                put_value(draft, first, wanted)?;
+            }
         }
     }
     Ok(())
 }
 
-/// What follows the first operand of `&&`: where it is 0 the second is passed over.
+/// A comparison and its right side, where the operand for the left one is known.
 #[cycle(values)]
-#[tactic(auto, using(crate::proofs::Chains::and_more))]
-fn put_and<'a>(code: &mut Vec<Item<'a>>, second: &Evaluation) -> Result<(), AllocError>
-    ensures { OnOk result (items_of code.new.items ≡ followed (items_of code.old.items) (λ at. second_items AndAlso at (value_count (value_of second.now)) (λ place. value_items place (value_of second.now)))) }
+fn put_comparison<'a>(
+    draft: &mut Draft<'a>,
+    right: &Evaluation,
+    comparison: Comparison,
+    left: Operand,
+    wanted: Wanted,
+) -> Result<(), AllocError>
+    ensures { OnOk result (WritesComparison draft.old draft.new wanted comparison left right.now) }
 {
-    let test = next_number(code);
-    put(code, Item::IfZero(0))?;
-    put_value(code, second)?;
-    put(code, Item::Truth)?;
-    let over = next_number(code);
-    put(code, Item::Jump(0))?;
-    lead_if_zero(code, test);
-    put(code, Item::PushNumber(0))?;
-    lead_jump(code, over);
+    let (when, target) = put_truth(draft, wanted)?;
+    let operand = alone(right);
+    let operands = vec![in draft.alloc; left, operand]?;
+    let test = comparison_test(comparison);
+    let when = comparison_when(comparison, when);
+    put(draft, Item::Branch(test, operands, when, target))?;
+    put_operand(draft, right, operand)?;
     Ok(())
 }
 
-/// What follows the first operand of `||`: where it is not 0 the second is passed over.
-#[cycle(values)]
-#[tactic(auto, using(crate::proofs::Chains::or_more))]
-fn put_or<'a>(code: &mut Vec<Item<'a>>, second: &Evaluation) -> Result<(), AllocError>
-    ensures { OnOk result (items_of code.new.items ≡ followed (items_of code.old.items) (λ at. second_items OrElse at (value_count (value_of second.now)) (λ place. value_items place (value_of second.now)))) }
-{
-    let test = next_number(code);
-    put(code, Item::IfZero(0))?;
-    put(code, Item::PushNumber(1))?;
-    let over = next_number(code);
-    put(code, Item::Jump(0))?;
-    lead_if_zero(code, test);
-    put_value(code, second)?;
-    put(code, Item::Truth)?;
-    lead_jump(code, over);
-    Ok(())
-}
-
-/// What follows the first right side of `==` and `~=`: others are folded into a flag.
+/// `==` or `~=` with the right sides behind the first, where the operands for the left side and the first right side
+/// are known.
 #[cycle(values)]
 fn put_others<'a>(
-    code: &mut Vec<Item<'a>>,
-    equality: Equality,
+    draft: &mut Draft<'a>,
     others: &[Evaluation],
+    equality: Equality,
+    sides: (Operand, Operand),
+    wanted: Wanted,
 ) -> Result<(), AllocError>
-    ensures { OnOk result (items_of code.new.items ≡ followed (items_of code.old.items) (λ at. or_items at equality (values_of (map value_of others.now)))) }
+    ensures { OnOk result (WritesEquality draft.old draft.new wanted equality sides.0 sides.1 others.now) }
 {
-    if others.is_empty() {
-        put(code, Item::Equal(equality))?;
-        return Ok(());
+    let (when, target) = put_truth(draft, wanted)?;
+    let when = equality_when(equality, when);
+    if are_few(others) {
+        let mut operands = vec![in draft.alloc; sides.0, sides.1]?;
+        push_operands(&mut operands, others)?;
+        put(draft, Item::Branch(Test::Same, operands, when, target))?;
+        put_operands(draft, others)?;
+    } else {
+        put_branch(draft, Operand::Pushed, when, target)?;
+        put(draft, Item::DropBelow)?;
+        put_folded(draft, others)?;
+        put(draft, Item::FirstEqual)?;
     }
-    put(code, Item::FirstEqual)?;
-    for other in others {
-        put_value(code, other)?;
-        put(code, Item::AlsoEqual)?;
-    }
-    put_closing(code, equality)?;
     Ok(())
 }
 
-/// The flag alone is left.
-#[tactic(auto, using(crate::proofs::Chains::two_items))]
-fn put_closing<'a>(code: &mut Vec<Item<'a>>, equality: Equality) -> Result<(), AllocError>
-    ensures { OnOk result (items_of code.new.items ≡ followed (items_of code.old.items) (λ at. closing_items equality)) }
+/// Right sides that are folded into a flag one after another.
+#[cycle(values)]
+fn put_folded<'a>(draft: &mut Draft<'a>, values: &[Evaluation]) -> Result<(), AllocError>
+    ensures { OnOk result (WritesFolded draft.old draft.new values.now) }
 {
-    put(code, Item::DropBelow)?;
-    if equality == Equality::NotEqual {
-        put(code, Item::Prefix(Prefix::Not))?;
+    for done in 0..values.len() {
+        put(draft, Item::AlsoEqual)?;
+        let value = &values[values.len() - 1 - done];
+        put_value(draft, value, Wanted::Word(Destination::Push))?;
     }
     Ok(())
 }

@@ -3,7 +3,7 @@
 ghost use Rattle.std.specs.Prelude.{◌≡◌, ℕ, List, [], length};
 
 use crate::names::{Cells, Recorded, swap_back, swap_forward};
-use rows::{RowError, number_in, put_written};
+use rows::{RowError, Shown, number_in, written_bytes};
 use std::alloc::{AllocError, Global};
 
 /// A store has more cells than are shown where it has more than so many.
@@ -42,17 +42,25 @@ impl Cells for Words {
 
 /// The words that a text writes, of which nothing is recorded yet.
 pub fn recorded(alloc: Global, text: &str) -> Result<Recorded<Words>, RowError> {
-    let mut written = Vec::new(alloc);
-    put_written(&mut written, alloc, text)?;
-    let mut values = Vec::new(alloc);
-    for number in written.split(|byte| *byte == b' ') {
-        let mut value = 0u16;
-        for digit in number {
-            value = value.wrapping_mul(10).wrapping_add(u16::from(*digit & 15));
-        }
-        values.push(value)?;
-    }
+    let written = written_bytes(alloc, text)?;
+    let values = values_in(alloc, &written)?;
     Ok(Recorded::new(alloc, Words { values }))
+}
+
+/// The numbers that bytes write, with spaces between them.
+fn values_in(alloc: Global, written: &[u8]) -> Result<Vec<u16>, AllocError> {
+    let mut values = Vec::new(alloc);
+    let mut value = 0u16;
+    for byte in written {
+        if *byte == b' ' {
+            values.push(value)?;
+            value = 0;
+        } else {
+            value = value.wrapping_mul(10).wrapping_add(u16::from(*byte & 15));
+        }
+    }
+    values.push(value)?;
+    Ok(values)
 }
 
 /// Writes a value into a cell, which a text names.
@@ -65,55 +73,42 @@ pub fn write(turn: &mut Recorded<Words>, text: &str) -> Result<(), RowError> {
     if cell >= turn.store().len() {
         return Err(RowError::Number);
     }
-    turn.put(cell, value).map_err(|_| RowError::Memory)
+    match turn.put(cell, value) {
+        Ok(()) => Ok(()),
+        Err(_) => Err(RowError::Memory),
+    }
 }
 
 /// Ends the turn, and adds how many cells its record holds and what the cells hold; then with the turn taken back,
 /// and with it done again.
-pub fn put_closed(
-    shown: &mut Vec<u8>,
-    alloc: Global,
-    turn: &mut Recorded<Words>,
-) -> Result<(), AllocError> {
+pub fn put_closed(shown: &mut Shown, turn: &mut Recorded<Words>) {
     let mut record = turn.close();
-    shown.extend_from_slice(format!(in alloc; "{} cells", record.cells())?.as_bytes())?;
-    put_values(shown, alloc, ": ", turn.store())?;
+    shown.display(&record.cells());
+    shown.text(" cells");
+    put_values(shown, ": ", turn.store());
     swap_back(turn.store_mut(), &mut record);
-    put_values(shown, alloc, "; back: ", turn.store())?;
+    put_values(shown, "; back: ", turn.store());
     swap_forward(turn.store_mut(), &mut record);
-    put_values(shown, alloc, "; forward: ", turn.store())?;
-    shown.push(b'\n')?;
-    Ok(())
+    put_values(shown, "; forward: ", turn.store());
+    shown.text("\n");
 }
 
 /// Gives the turn up, and adds what the cells hold.
-pub fn put_abandoned(
-    shown: &mut Vec<u8>,
-    alloc: Global,
-    turn: &mut Recorded<Words>,
-) -> Result<(), AllocError> {
+pub fn put_abandoned(shown: &mut Shown, turn: &mut Recorded<Words>) {
     turn.abandon();
-    put_values(shown, alloc, "abandoned: ", turn.store())?;
-    shown.push(b'\n')?;
-    Ok(())
+    put_values(shown, "abandoned: ", turn.store());
+    shown.text("\n");
 }
 
 /// Adds what the cells hold, where they are few.
-fn put_values(
-    shown: &mut Vec<u8>,
-    alloc: Global,
-    front: &str,
-    words: &Words,
-) -> Result<(), AllocError> {
+fn put_values(shown: &mut Shown, front: &str, words: &Words) {
     if words.values.len() > SHOWN {
-        return Ok(());
+        return;
     }
-    shown.extend_from_slice(front.as_bytes())?;
-    for (number, value) in words.values.iter().enumerate() {
-        if number > 0 {
-            shown.push(b' ')?;
-        }
-        shown.extend_from_slice(format!(in alloc; "{value}")?.as_bytes())?;
+    let mut front = front;
+    for value in words.values.iter() {
+        shown.text(front);
+        shown.display(value);
+        front = " ";
     }
-    Ok(())
 }

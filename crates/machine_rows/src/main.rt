@@ -7,33 +7,18 @@ mod hexadecimal;
 mod journals;
 mod memory;
 mod names;
+mod program;
 mod row;
 mod sessions;
 mod stories;
 mod texts;
 
-use crate::row::Row;
-use crate::stories::Definition;
-use anyhow::{Context, Result};
-use std::io::{self, BufRead, BufReader, Write};
+use crate::program::Program;
+use anyhow::Result;
+use std::io::{self, BufReader};
 
 fn main(rt: HostRuntime) -> Result<()> {
     let alloc = rt.alloc();
-    let mut output = io::writer(&rt);
-    let mut definitions: Vec<Definition> = Vec::new(alloc);
-    let mut row = Row::new(alloc);
-    let mut number = 0u64;
-    for line in BufReader::new(alloc, rt.stdin())?.lines(alloc) {
-        let line = line?;
-        number = number.wrapping_add(1);
-        if line.is_empty() {
-            output.write_all(row.outcome()?)?;
-            row = Row::new(alloc);
-        } else {
-            row.take(&mut definitions, &line)
-                .context(format_args!("line {number}"))?;
-        }
-    }
-    output.write_all(row.outcome()?)?;
-    Ok(())
+    let reader = BufReader::new(alloc, rt.stdin())?;
+    Program::new(alloc).play(reader, &mut io::writer(&rt))
 }

@@ -8,8 +8,8 @@ use crate::names::{Recorded, Session};
 use crate::sessions::{put_cells, put_redo, put_reply, put_run, put_undo};
 use crate::stories::{Definition, mend, put_at, put_text_at};
 use crate::texts::{put_decoded, put_encoded, put_key};
-use rows::{RowError, Setting, number_in};
-use std::alloc::{AllocError, Global};
+use rows::{RowError, Setting, Shown, number_in};
+use std::alloc::Global;
 
 /// A row whose lines are being read.
 #[derive(Drop)]
@@ -26,7 +26,7 @@ pub struct Row {
     words: Option<Recorded<Words>>,
 
     /// What is shown of the row: its title, and what came of it.
-    shown: Vec<u8>,
+    shown: Shown,
 
     /// Whether something came of it already.
     has_outcome: bool,
@@ -41,7 +41,7 @@ impl Row {
             story: Vec::new(alloc),
             session: None,
             words: None,
-            shown: Vec::new(alloc),
+            shown: Shown::new(alloc),
             has_outcome: false,
             alloc,
         }
@@ -52,7 +52,10 @@ impl Row {
         let (word, text) = line.split_once(' ').unwrap_or((line, ""));
         match word {
             "#" => Ok(()),
-            "--" => self.entitle(text),
+            "--" => {
+                self.entitle(text);
+                Ok(())
+            }
             "put" => put_text_at(&mut self.story, self.alloc, text),
             "cut" => {
                 self.story.truncate(number_in(text)?);
@@ -62,34 +65,28 @@ impl Row {
             "define" => self.define(definitions, text),
             "fuel" | "keep" | "line" | "last" | "reads" | "part" | "room" | "breaks" | "flushes" =>
                 { self.setting.take(word, text) }
-            _ => {
-                for definition in definitions.iter() {
-                    if definition.name.as_str() == word {
-                        return self.begin(definition, text);
-                    }
+            _ => match definitions.iter().find(|known| known.name.as_str() == word) {
+                Some(definition) => self.begin(definition, text),
+                None => {
+                    self.has_outcome = true;
+                    self.act(word, text)
                 }
-                self.has_outcome = true;
-                self.act(word, text)
-            }
+            },
         }
     }
 
-    /// Shows the title, and begins with no story.
-    fn entitle(&mut self, text: &str) -> Result<(), RowError> {
-        self.shown.extend_from_slice(b"-- ")?;
-        self.shown.extend_from_slice(text.as_bytes())?;
-        self.shown.push(b'\n')?;
-        Ok(())
+    /// Shows the title.
+    fn entitle(&mut self, text: &str) {
+        self.shown.text("-- ");
+        self.shown.text(text);
+        self.shown.text("\n");
     }
 
     /// Gives the story a name, with the place where rows put their bytes.
     fn define(&mut self, definitions: &mut Vec<Definition>, text: &str) -> Result<(), RowError> {
         let (name, place) = text.split_once(' ').ok_or(RowError::Number)?;
-        definitions.push(Definition {
-            name: String::from_str(self.alloc, name)?,
-            place: number_in(place)?,
-            story: self.story.as_slice().to_vec(self.alloc)?,
-        })?;
+        let place = number_in(place)?;
+        definitions.push(Definition::new(self.alloc, name, place, &self.story)?)?;
         self.has_outcome = true;
         Ok(())
     }
@@ -98,37 +95,33 @@ impl Row {
     fn begin(&mut self, definition: &Definition, text: &str) -> Result<(), RowError> {
         self.story.clear();
         self.story.extend_from_slice(&definition.story)?;
-        put_at(
-            &mut self.story,
-            definition.place,
-            &bytes_in(self.alloc, text)?,
-        )?;
+        let bytes = bytes_in(self.alloc, text)?;
+        put_at(&mut self.story, definition.place, &bytes)?;
         mend(&mut self.story)
     }
 
     /// Does what a word says, and shows what comes of it.
     fn act(&mut self, word: &str, text: &str) -> Result<(), RowError> {
-        let Row {
-            setting,
-            story,
-            shown,
-            alloc,
-            ..
-        } = self;
+        let shown = &mut self.shown;
+        let alloc = self.alloc;
         match word {
-            "encode" => put_encoded(shown, *alloc, text),
-            "decode" => put_decoded(shown, *alloc, story, text),
-            "key" => put_key(shown, *alloc, text),
-            "memory" => put_memory(shown, *alloc, setting, story, text),
-            "damage" => put_damaged(shown, *alloc, setting, story),
-            "words" => {
-                self.words = Some(recorded(self.alloc, text)?);
-                Ok(())
-            }
+            "encode" => put_encoded(shown, alloc, text),
+            "decode" => put_decoded(shown, alloc, &self.story, text),
+            "key" => put_key(shown, alloc, text),
+            "memory" => put_memory(shown, alloc, &self.setting, &self.story, text),
+            "damage" => put_damaged(shown, alloc, &self.setting, &self.story),
+            "words" => self.begin_words(text),
             "write" | "close" | "abandon" => self.act_on_words(word, text),
             "reply" | "undo" | "redo" | "cells" => self.act_on_session(word, text),
             _ => Err(RowError::Word),
         }
+    }
+
+    /// Begins with the cells that a text writes.
+    fn begin_words(&mut self, text: &str) -> Result<(), RowError> {
+        let words = recorded(self.alloc, text)?;
+        self.words = Some(words);
+        Ok(())
     }
 
     /// Writes to the cells, or ends the turn.
@@ -137,43 +130,64 @@ impl Row {
             return Err(RowError::Word);
         };
         match word {
-            "write" => write(turn, text),
-            "close" => Ok(put_closed(&mut self.shown, self.alloc, turn)?),
-            _ => Ok(put_abandoned(&mut self.shown, self.alloc, turn)?),
+            "write" => return write(turn, text),
+            "close" => put_closed(&mut self.shown, turn),
+            _ => put_abandoned(&mut self.shown, turn),
         }
+        Ok(())
     }
 
     /// Calls the session, which is opened by the first call.
     fn act_on_session(&mut self, word: &str, text: &str) -> Result<(), RowError> {
         if self.session.is_none() {
-            let story = self.story.as_slice().to_vec(self.alloc)?;
-            let Setting { fuel, keep, .. } = self.setting;
-            match Session::open_with(self.alloc, story, fuel, keep) {
-                Ok(session) => self.session = Some(session),
-                Err(_) => return Err(RowError::Story),
-            }
+            self.open()?;
         }
-        let Some(session) = &mut self.session else {
-            return Err(RowError::Story);
-        };
-        match word {
-            "reply" => put_reply(&mut self.shown, self.alloc, session, text),
-            "undo" => Ok(put_undo(&mut self.shown, self.alloc, session)?),
-            "redo" => Ok(put_redo(&mut self.shown, self.alloc, session)?),
-            _ => Ok(put_cells(&mut self.shown, self.alloc, session, number_in(text)?)?),
+        match &mut self.session {
+            Some(session) => call(&mut self.shown, self.alloc, session, (word, text)),
+            None => Err(RowError::Story),
         }
+    }
+
+    /// Opens the session.
+    fn open(&mut self) -> Result<(), RowError> {
+        let story = self.story.as_slice().to_vec(self.alloc)?;
+        match Session::open_with(self.alloc, story, self.setting.fuel, self.setting.keep) {
+            Ok(session) => self.session = Some(session),
+            Err(_) => return Err(RowError::Story),
+        }
+        Ok(())
     }
 
     /// What is shown of the row, once all its lines are read. A row that has a story, of which nothing came yet, is
     /// played.
-    pub fn outcome(&mut self) -> Result<&[u8], AllocError> {
+    ///
+    /// # Errors
+    ///
+    /// [`RowError::Memory`] where memory was refused.
+    pub fn outcome(&mut self) -> Result<&[u8], RowError> {
         if !self.story.is_empty() && !self.has_outcome {
             put_run(&mut self.shown, self.alloc, &self.setting, &self.story)?;
             self.has_outcome = true;
         }
         if !self.shown.is_empty() {
-            self.shown.push(b'\n')?;
+            self.shown.text("\n");
         }
-        Ok(&self.shown)
+        self.shown.taken()
     }
+}
+
+/// Makes the call of a session that a word says, and adds what comes of it.
+fn call(
+    shown: &mut Shown,
+    alloc: Global,
+    session: &mut Session,
+    (word, text): (&str, &str),
+) -> Result<(), RowError> {
+    match word {
+        "reply" => return put_reply(shown, alloc, session, text),
+        "undo" => put_undo(shown, session),
+        "redo" => put_redo(shown, session),
+        _ => put_cells(shown, session, number_in(text)?),
+    }
+    Ok(())
 }

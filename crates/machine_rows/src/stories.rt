@@ -26,6 +26,20 @@ pub struct Definition {
     pub story: Vec<u8>,
 }
 
+impl Definition {
+    /// A copy of a story, under a name.
+    pub fn new(
+        alloc: Global,
+        name: &str,
+        place: usize,
+        story: &[u8],
+    ) -> Result<Definition, RowError> {
+        let story = story.to_vec(alloc)?;
+        let name = String::from_str(alloc, name)?;
+        Ok(Definition { name, place, story })
+    }
+}
+
 /// Puts bytes at a place. The story grows by zeros where it ends before them.
 pub fn put_at(story: &mut Vec<u8>, place: usize, bytes: &[u8]) -> Result<(), RowError> {
     let end = place.checked_add(bytes.len()).ok_or(RowError::Number)?;
@@ -41,7 +55,8 @@ pub fn put_at(story: &mut Vec<u8>, place: usize, bytes: &[u8]) -> Result<(), Row
 /// Puts the bytes that a text names at the place that it names first.
 pub fn put_text_at(story: &mut Vec<u8>, alloc: Global, text: &str) -> Result<(), RowError> {
     let (place, digits) = text.split_once(' ').ok_or(RowError::Number)?;
-    put_at(story, number_in(place)?, &bytes_in(alloc, digits)?)
+    let place = number_in(place)?;
+    put_at(story, place, &bytes_in(alloc, digits)?)
 }
 
 /// Fills a story up to a multiple of the scale of its version, and writes its length and its sum.

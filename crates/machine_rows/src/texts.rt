@@ -1,24 +1,22 @@
 //! Texts in Z-characters.
 
-use crate::hexadecimal::put_bytes_line;
 use crate::names::{decode_text, encode_text, word_key};
-use rows::{RowError, number_in, put_shown, put_written};
+use rows::{RowError, Shown, number_in, written_bytes};
 use std::alloc::Global;
 
 /// Adds the Z-text of a written text, or the fault.
-pub fn put_encoded(shown: &mut Vec<u8>, alloc: Global, text: &str) -> Result<(), RowError> {
-    let mut characters = Vec::new(alloc);
-    put_written(&mut characters, alloc, text)?;
+pub fn put_encoded(shown: &mut Shown, alloc: Global, text: &str) -> Result<(), RowError> {
+    let characters = written_bytes(alloc, text)?;
     match encode_text(alloc, &characters) {
-        Ok(bytes) => put_bytes_line(shown, alloc, &bytes)?,
-        Err(fault) => shown.extend_from_slice(format!(in alloc; "{fault}\n")?.as_bytes())?,
+        Ok(bytes) => shown.hexadecimal_line(&bytes),
+        Err(fault) => shown.display_line(&fault),
     }
     Ok(())
 }
 
 /// Adds the text at the address that is named and the address after it, or the fault.
 pub fn put_decoded(
-    shown: &mut Vec<u8>,
+    shown: &mut Shown,
     alloc: Global,
     story: &[u8],
     address: &str,
@@ -26,21 +24,20 @@ pub fn put_decoded(
     let Ok(address) = u32::try_from(number_in(address)?) else {
         return Err(RowError::Number);
     };
-    let end = match decode_text(alloc, story, address) {
+    match decode_text(alloc, story, address) {
         Ok((text, after)) => {
-            put_shown(shown, alloc, &text)?;
-            format!(in alloc; "up to {after}\n")?
+            shown.lines(&text);
+            shown.text("up to ");
+            shown.display_line(&after);
         }
-        Err(fault) => format!(in alloc; "{fault}\n")?,
-    };
-    shown.extend_from_slice(end.as_bytes())?;
+        Err(fault) => shown.display_line(&fault),
+    }
     Ok(())
 }
 
 /// Adds the key of a written word.
-pub fn put_key(shown: &mut Vec<u8>, alloc: Global, word: &str) -> Result<(), RowError> {
-    let mut letters = Vec::new(alloc);
-    put_written(&mut letters, alloc, word)?;
-    put_bytes_line(shown, alloc, &word_key(&letters))?;
+pub fn put_key(shown: &mut Shown, alloc: Global, word: &str) -> Result<(), RowError> {
+    let letters = written_bytes(alloc, word)?;
+    shown.hexadecimal_line(&word_key(&letters));
     Ok(())
 }

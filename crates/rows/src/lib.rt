@@ -10,6 +10,6 @@ mod written;
 
 pub use error::RowError;
 pub use setting::Setting;
-pub use shown::put_shown;
+pub use shown::Shown;
 pub use streams::{Input, Output};
-pub use written::{number_in, put_written};
+pub use written::{number_in, put_written, written_bytes};

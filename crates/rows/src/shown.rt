@@ -1,6 +1,10 @@
-//! Bytes as rows show them.
+//! What a row shows.
 
-use std::alloc::{AllocError, Global};
+ghost use Rattle.std.specs.Prelude.{◌<◌};
+
+use crate::error::RowError;
+use std::alloc::Global;
+use std::fmt::Display;
 
 /// A part that is repeated is shown once, with its count, where the repetitions have so many bytes.
 const LONG: usize = 64;
@@ -8,73 +12,165 @@ const LONG: usize = 64;
 /// How many bytes such a part has at most.
 const LONGEST_PART: usize = 3;
 
-/// Adds the lines of a text as rows show them: each behind `| `, with `\n` at its end where it ends in byte 10. A `\`
-/// and bytes outside 32 to 126 are shown as rows write them, and so is a part of at most three bytes that comes again
-/// and again.
-pub fn put_shown(shown: &mut Vec<u8>, alloc: Global, text: &[u8]) -> Result<(), AllocError> {
-    for line in text.split_inclusive(|byte| *byte == b'\n') {
-        shown.extend_from_slice(b"| ")?;
-        put_line(shown, alloc, line)?;
-        shown.push(b'\n')?;
-    }
-    Ok(())
-}
+/// The digits of hexadecimal numbers.
+const DIGITS: [u8; 16] = *b"0123456789ABCDEF";
 
-/// Adds the bytes of a line.
-fn put_line(shown: &mut Vec<u8>, alloc: Global, line: &[u8]) -> Result<(), AllocError> {
-    let mut rest = line;
-    for _ in 0..line.len() {
-        rest = put_front(shown, alloc, rest)?;
-    }
-    Ok(())
-}
+/// Bytes to show. Memory that is refused is noted, and answered once, when they are taken.
+#[derive(Drop)]
+pub struct Shown {
+    bytes: Vec<u8>,
 
-/// Adds the first byte or the part that is repeated at the front of the bytes, and lends what stands behind it.
-fn put_front<'a>(
-    shown: &mut Vec<u8>,
+    /// Whether memory was refused, so that bytes are missing.
+    is_refused: bool,
     alloc: Global,
-    bytes: &'a [u8],
-) -> Result<&'a [u8], AllocError> {
-    for size in 1..=LONGEST_PART {
-        let Some((part, _)) = bytes.split_at_checked(size) else {
-            break;
-        };
-        let count = bytes
-            .chunks(size)
-            .take_while(|other| *other == part)
-            .count();
-        if let Some((repetitions, rest)) = bytes.split_at_checked(count.wrapping_mul(size)) {
-            if repetitions.len() >= LONG {
-                shown.extend_from_slice(format!(in alloc; "\\{count}{{")?.as_bytes())?;
-                put_bytes(shown, alloc, part)?;
-                shown.push(b'}')?;
-                return Ok(rest);
+}
+
+impl Shown {
+    /// Nothing to show yet.
+    pub fn new(alloc: Global) -> Shown {
+        Shown {
+            bytes: Vec::new(alloc),
+            is_refused: false,
+            alloc,
+        }
+    }
+
+    /// Adds bytes.
+    pub fn bytes(&mut self, bytes: &[u8]) {
+        if self.bytes.extend_from_slice(bytes).is_err() {
+            self.is_refused = true;
+        }
+    }
+
+    /// Adds a text.
+    pub fn text(&mut self, text: &str) {
+        self.bytes(text.as_bytes());
+    }
+
+    /// Adds a number or a fault, as it is displayed.
+    pub fn display<T: Display>(&mut self, value: &T) {
+        match value.to_string(self.alloc) {
+            Ok(text) => self.bytes(text.as_bytes()),
+            Err(_) => self.is_refused = true,
+        }
+    }
+
+    /// Adds a number or a fault as a line.
+    pub fn display_line<T: Display>(&mut self, value: &T) {
+        self.display(value);
+        self.bytes(b"\n");
+    }
+
+    /// Adds a byte as two hexadecimal digits.
+    pub fn hexadecimal(&mut self, byte: u8) {
+        for digit in [byte >> 4, byte & 15] {
+            let digit = DIGITS.get(usize::from(digit)).copied();
+            self.bytes(&[digit.unwrap_or(b'0')]);
+        }
+    }
+
+    /// Adds bytes in hexadecimal, with spaces between them, as a line.
+    pub fn hexadecimal_line(&mut self, bytes: &[u8]) {
+        let mut front: &[u8] = b"";
+        for byte in bytes {
+            self.bytes(front);
+            self.hexadecimal(*byte);
+            front = b" ";
+        }
+        self.bytes(b"\n");
+    }
+
+    /// Adds the lines of a text as rows show them: each behind `| `, with `\n` at its end where it ends in byte 10. A
+    /// `\` and bytes outside 32 to 126 are shown as rows write them, and so is a part of at most three bytes that comes
+    /// again and again.
+    pub fn lines(&mut self, text: &[u8]) {
+        for line in text.split_inclusive(|byte| *byte == b'\n') {
+            self.bytes(b"| ");
+            self.line(line);
+            self.bytes(b"\n");
+        }
+    }
+
+    /// Adds the bytes of a line.
+    fn line(&mut self, line: &[u8]) {
+        let mut rest = line;
+        for _ in 0..line.len() {
+            rest = self.front(rest);
+        }
+    }
+
+    /// Adds the first byte or the part that is repeated at the front of the bytes, and lends what stands behind it.
+    fn front<'a>(&mut self, bytes: &'a [u8]) -> &'a [u8] {
+        for size in 1..=LONGEST_PART {
+            let count = repetitions(bytes, size);
+            let end = count.wrapping_mul(size);
+            if let Some((repeated, rest)) = bytes.split_at_checked(end) {
+                if repeated.len() >= LONG {
+                    self.repeated(count, repeated, size);
+                    return rest;
+                }
+            }
+        }
+        match bytes.split_first() {
+            Some((byte, rest)) => {
+                self.byte(*byte);
+                rest
+            }
+            None => bytes,
+        }
+    }
+
+    /// Adds a part, of so many of the first bytes, with how often it comes.
+    fn repeated(&mut self, count: usize, bytes: &[u8], size: usize) {
+        self.bytes(b"\\");
+        self.display(&count);
+        self.bytes(b"{");
+        for byte in bytes.iter().take(size) {
+            self.byte(*byte);
+        }
+        self.bytes(b"}");
+    }
+
+    /// Adds a byte as rows write it.
+    fn byte(&mut self, byte: u8) {
+        match byte {
+            b'\n' => self.bytes(b"\\n"),
+            b'\\' => self.bytes(b"\\\\"),
+            32..=126 => self.bytes(&[byte]),
+            _ => {
+                self.bytes(b"\\x");
+                self.hexadecimal(byte);
             }
         }
     }
-    match bytes.split_first() {
-        Some((byte, rest)) => {
-            put_byte(shown, alloc, *byte)?;
-            Ok(rest)
+
+    /// Whether nothing is shown yet.
+    pub fn is_empty(&self) -> bool {
+        self.bytes.is_empty()
+    }
+
+    /// The bytes.
+    ///
+    /// # Errors
+    ///
+    /// [`RowError::Memory`] where memory was refused to any of them.
+    pub fn taken(&self) -> Result<&[u8], RowError> {
+        if self.is_refused {
+            return Err(RowError::Memory);
         }
-        None => Ok(bytes),
+        Ok(&self.bytes)
     }
 }
 
-/// Adds bytes one by one.
-fn put_bytes(shown: &mut Vec<u8>, alloc: Global, bytes: &[u8]) -> Result<(), AllocError> {
-    for byte in bytes {
-        put_byte(shown, alloc, *byte)?;
-    }
-    Ok(())
-}
-
-/// Adds a byte.
-fn put_byte(shown: &mut Vec<u8>, alloc: Global, byte: u8) -> Result<(), AllocError> {
-    match byte {
-        b'\n' => shown.extend_from_slice(b"\\n"),
-        b'\\' => shown.extend_from_slice(b"\\\\"),
-        32..=126 => Ok(shown.push(byte)?),
-        _ => shown.extend_from_slice(format!(in alloc; "\\x{byte:02X}")?.as_bytes()),
+/// How often the first so many bytes come, one behind the other.
+fn repetitions(bytes: &[u8], size: usize) -> usize
+    requires { 0 < size }
+{
+    match bytes.split_at_checked(size) {
+        Some((part, _)) => bytes
+            .chunks(size)
+            .take_while(|other| *other == part)
+            .count(),
+        None => 0,
     }
 }

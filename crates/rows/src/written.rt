@@ -15,6 +15,17 @@ pub fn number_in(text: &str) -> Result<usize, RowError> {
     }
 }
 
+/// The bytes of a written text.
+///
+/// # Errors
+///
+/// Those of [`put_written`].
+pub fn written_bytes(alloc: Global, text: &str) -> Result<Vec<u8>, RowError> {
+    let mut bytes = Vec::new(alloc);
+    put_written(&mut bytes, alloc, text)?;
+    Ok(bytes)
+}
+
 /// Adds the bytes of a written text. A `\` begins what stands for other bytes: `\n` for byte 10, `\\` for itself,
 /// `\xC3` for the byte of that number, and `\40{text}` for a text forty times, in which `\#` is the number of the
 /// repetition, from 0.
@@ -77,7 +88,7 @@ fn put_escape<'a>(
     match letters.next() {
         Some('n') => bytes.push(b'\n')?,
         Some('\\') => bytes.push(b'\\')?,
-        Some('#') => bytes.extend_from_slice(format!(in alloc; "{number}")?.as_bytes())?,
+        Some('#') => put_number(bytes, alloc, number)?,
         Some('x') => {
             let high = hexadecimal(letters.next())?;
             let low = hexadecimal(letters.next())?;
@@ -86,6 +97,13 @@ fn put_escape<'a>(
         _ => return Err(RowError::Escape),
     }
     Ok(letters.as_str())
+}
+
+/// Adds a number in decimal.
+fn put_number(bytes: &mut Vec<u8>, alloc: Global, number: usize) -> Result<(), RowError> {
+    let digits = number.to_string(alloc)?;
+    bytes.extend_from_slice(digits.as_bytes())?;
+    Ok(())
 }
 
 /// The value of a hexadecimal digit.

@@ -2,8 +2,8 @@
 #![tactic(auto)]
 
 use anyhow::{Context, Result};
-use rows::{RowError, Setting, put_shown, put_written};
-use std::alloc::{AllocError, Global};
+use rows::{RowError, Setting, Shown, put_written};
+use std::alloc::Global;
 use std::io::{self, BufRead, BufReader, Write};
 use tools::{compile_and_run, status};
 
@@ -41,32 +41,37 @@ impl Row {
     }
 
     /// What came of it: the title, the transcript, and the status or the fault; nothing where no row was begun.
-    fn outcome(&self) -> Result<Vec<u8>, AllocError> {
-        let alloc = self.alloc;
-        if self.setting.title.is_empty() {
-            return Ok(Vec::new(alloc));
+    fn outcome(&self) -> Shown {
+        let mut shown = Shown::new(self.alloc);
+        if !self.setting.title.is_empty() {
+            self.play(&mut shown);
         }
-        let Setting { fuel, keep, .. } = self.setting;
+        shown
+    }
+
+    /// Plays the row, and adds what came of it.
+    fn play(&self, shown: &mut Shown) {
         let mut writer = self.setting.writer();
         let answer = compile_and_run(
-            alloc,
+            self.alloc,
             &self.source,
-            fuel,
-            keep,
+            self.setting.fuel,
+            self.setting.keep,
             &mut self.setting.reader(),
             &mut writer,
         );
-        let mut shown = Vec::new(alloc);
-        shown.extend_from_slice(b"-- ")?;
-        shown.extend_from_slice(&self.setting.title)?;
-        shown.push(b'\n')?;
-        put_shown(&mut shown, alloc, &writer.bytes)?;
-        let end = match answer {
-            Ok(session) => format!(in alloc; "status {}\n\n", status(&session.place()))?,
-            Err(fault) => format!(in alloc; "{fault}\n\n")?,
-        };
-        shown.extend_from_slice(end.as_bytes())?;
-        Ok(shown)
+        shown.text("-- ");
+        shown.bytes(&self.setting.title);
+        shown.text("\n");
+        shown.lines(&writer.bytes);
+        match answer {
+            Ok(session) => {
+                shown.text("status ");
+                shown.display_line(&status(&session.place()));
+            }
+            Err(fault) => shown.display_line(&fault),
+        }
+        shown.text("\n");
     }
 }
 
@@ -79,12 +84,12 @@ fn main(rt: HostRuntime) -> Result<()> {
         let line = line?;
         number = number.wrapping_add(1);
         if line.is_empty() {
-            output.write_all(&row.outcome()?)?;
+            output.write_all(row.outcome().taken()?)?;
             row = Row::new(alloc);
         } else {
             row.take(&line).context(format_args!("line {number}"))?;
         }
     }
-    output.write_all(&row.outcome()?)?;
+    output.write_all(row.outcome().taken()?)?;
     Ok(())
 }

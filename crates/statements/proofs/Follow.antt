@@ -9,7 +9,8 @@ use Rattle.expressions.specs.Tree.{ExpressionTree}
 use Rattle.expressions.specs.Grammar.{IsE, e_plain, e_assign, IsE1, e1_plain, e1_logical, IsN1, n1_plain, n1_not, IsE2, e2_plain, e2_compare, e2_equal, IsE3, e3_plain, e3_add, IsE4, e4_plain, e4_scale, IsN4, n4_plain, n4_complement, IsU, u_plain, u_minus, u_before, u_after, IsP, p_number, p_character, p_true, p_false, p_nothing, p_name, p_call, p_call_with, p_parenthesised}
 use Rattle.expressions.specs.Nesting.{begins_expression}
 use Rattle.expressions.specs.Parse.{head, tail, is_sign, is_word, expression}
-use Rattle.expressions.proofs.Follow.{short_E, first_E}
+use Rattle.expressions.proofs.Follow.{first_E}
+use Rattle.expressions.proofs.Short.{short_E}
 use Rattle.statements.specs.Tree.{ItemTree, StatementTree, StatementTrees}
 use Rattle.statements.specs.Grammar.{IsItem, item_text, item_character, item_number, IsItems, items_last, items_comma, IsS, s_empty, s_block, s_text, s_print, s_print_ret, s_new_line, s_if, s_if_else, s_while, s_return, s_return_value, s_rtrue, s_rfalse, s_quit, s_effect, IsSs, ss_stop, ss_next}
 

@@ -12,7 +12,7 @@ use Rattle.expressions.specs.Parse.{Parse, head, tail, is_sign, is_word, expect}
 use Rattle.expressions.proofs.Judged.{Judged, judged_read, judged_grammar, judged_deep, judged_then, judged_after, judged_by, judged_as}
 use Rattle.expressions.proofs.Tokens.{at_sign, at_word, is_that_sign, expect_ok, expect_not_deep}
 use Rattle.expressions.proofs.Repeated.{list_judged}
-use Rattle.expressions.proofs.Follow.{short_E}
+use Rattle.expressions.proofs.Short.{short_E}
 use Rattle.expressions.proofs.Sound.{judged_E, judged_whole}
 use Rattle.statements.specs.Tree.{ItemTree, text_item, character_item, number_item, StatementTree, trees_of, empty, block, text_alone, print, print_return, new_line, if_then, if_else, while_do, return_alone, return_value, return_true, return_false, quit, effect}
 use Rattle.statements.specs.Grammar.{has_effect, else_follows, IsItem, item_text, item_character, item_number, IsItems, items_last, items_comma, IsS, s_empty, s_block, s_text, s_print, s_print_ret, s_new_line, s_if, s_if_else, s_while, s_return, s_return_value, s_rtrue, s_rfalse, s_quit, s_effect, IsSs, ss_stop, ss_next, item_nesting, items_nesting, statement_nesting, inside_nesting, body_nesting}

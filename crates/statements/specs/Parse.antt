@@ -76,6 +76,19 @@ module _ (d : ℕ) where
     if has_effect x.0 then ended (effect (position_of (head ts)) x.0) x.1
         else Err Grammar
 
+  -- a statement that no other stands in
+  abbrev pub plain_on : Lexeme → List Lexeme → Result (StatementTree × List Lexeme) Fault
+  plain_on (sign s.Semicolon p) ts = Ok (empty, tail ts)
+  plain_on (text bytes p) ts = ended (text_alone bytes) (tail ts)
+  plain_on (reserved w.Print p) ts = printed print (tail ts)
+  plain_on (reserved w.PrintRet p) ts = printed print_return (tail ts)
+  plain_on (reserved w.NewLine p) ts = ended new_line (tail ts)
+  plain_on (reserved w.Return p) ts = returned p (tail ts)
+  plain_on (reserved w.Rtrue p) ts = ended return_true (tail ts)
+  plain_on (reserved w.Rfalse p) ts = ended return_false (tail ts)
+  plain_on (reserved w.Quit p) ts = ended quit (tail ts)
+  plain_on _ ts = alone ts
+
   -- over a statement one nesting further in
   module _ (inside : Parse StatementTree) where
     unfoldable pub choice : Position → Parse StatementTree
@@ -100,19 +113,10 @@ module _ (d : ℕ) where
       Ok (block (trees_of x.0), r)
 
     abbrev pub statement_on : Lexeme → List Lexeme → Result (StatementTree × List Lexeme) Fault
-    statement_on (sign s.Semicolon p) ts = Ok (empty, tail ts)
     statement_on (sign s.OpenBrace p) ts = braced (tail ts)
-    statement_on (text bytes p) ts = ended (text_alone bytes) (tail ts)
-    statement_on (reserved w.Print p) ts = printed print (tail ts)
-    statement_on (reserved w.PrintRet p) ts = printed print_return (tail ts)
-    statement_on (reserved w.NewLine p) ts = ended new_line (tail ts)
     statement_on (reserved w.If p) ts = choice inside p (tail ts)
     statement_on (reserved w.While p) ts = repetition inside p (tail ts)
-    statement_on (reserved w.Return p) ts = returned p (tail ts)
-    statement_on (reserved w.Rtrue p) ts = ended return_true (tail ts)
-    statement_on (reserved w.Rfalse p) ts = ended return_false (tail ts)
-    statement_on (reserved w.Quit p) ts = ended quit (tail ts)
-    statement_on _ ts = alone ts
+    statement_on t ts = plain_on t ts
 
     unfoldable pub statement_over : Parse StatementTree
     statement_over ts = statement_on (head ts) ts

@@ -23,7 +23,10 @@ fn character<'t, 'a>(
     open(depth, tokens)?;
     let begin = expect(Sign::CloseParenthesis, skip(skip(tokens)))?;
     match expression(alloc, depth, begin) {
-        Ok((value, rest)) => Ok((Item::Character(position(begin), value), rest)),
+        Ok((value, rest)) => {
+            let value = Box::into_inner(value);
+            Ok((Item::Character(position(begin), value), rest))
+        }
         Err(e) => Err(e),
     }
 }
@@ -44,7 +47,7 @@ fn item<'t, 'a>(
         return character(alloc, depth, tokens);
     }
     match expression(alloc, depth, tokens) {
-        Ok((value, rest)) => Ok((Item::Number(first.position, value), rest)),
+        Ok((value, rest)) => Ok((Item::Number(first.position, Box::into_inner(value)), rest)),
         Err(e) => Err(e),
     }
 }

@@ -9,7 +9,7 @@ ghost use Rattle.statements.specs.Tree.{statement_tree};
 ghost use Rattle.statements.specs.Parse as spec;
 
 use crate::parts;
-use crate::simple::{alone, enclosed_condition, ended, print, print_return, returned};
+use crate::simple::{enclosed_condition, plain};
 use crate::tree::Statement;
 use expressions::{ParseError, begins_expression, is_word, open, peek, skip};
 use lexer::{Kind, Position, Sign, Token, Word};
@@ -79,7 +79,7 @@ pub fn statements<'t, 'a>(
             break;
         }
         let (next, after) = statement(alloc, depth, rest)?;
-        found.push(next)?;
+        parts::add(&mut found, next)?;
         rest = same(after);
     }
     Ok((found, rest))
@@ -110,13 +110,13 @@ fn block<'t, 'a>(
     alloc: Global,
     depth: usize,
     tokens: &'t [Token<'a>],
-) -> Result<(Statement<'a>, &'t [Token<'a>]), ParseError>
-    ensures { Gives (λ x. (statement_tree x.0, lexemes x.1.now)) result (spec.braced depth (spec.inside depth) (spec.braces depth) (tail (lexemes tokens.now))) }
+) -> Result<(Box<Statement<'a>>, &'t [Token<'a>]), ParseError>
+    ensures { Gives (λ x. (statement_tree x.0.value, lexemes x.1.now)) result (spec.braced depth (spec.inside depth) (spec.braces depth) (tail (lexemes tokens.now))) }
 {
-    parts::block(braces(alloc, depth, tokens))
+    parts::block(alloc, braces(alloc, depth, tokens))
 }
 
-// A statement one nesting further in than where `depth` may be opened, in its box.
+// A statement one nesting further in than where `depth` may be opened.
 #[cycle(statement)]
 #[tactic(auto, using(crate::proofs::Inside::inside_below))]
 fn further_in<'t, 'a>(
@@ -127,7 +127,7 @@ fn further_in<'t, 'a>(
     requires { 0 < depth }
     ensures { Gives (λ x. (statement_tree x.0.value, lexemes x.1.now)) result (spec.inside depth (lexemes tokens.now)) }
 {
-    parts::boxed(alloc, statement(alloc, depth - 1, tokens))
+    statement(alloc, depth - 1, tokens)
 }
 
 // What follows `if`, which stands at `position`.
@@ -138,24 +138,16 @@ fn choice<'t, 'a>(
     depth: usize,
     position: Position,
     tokens: &'t [Token<'a>],
-) -> Result<(Statement<'a>, &'t [Token<'a>]), ParseError>
-    ensures { Gives (λ x. (statement_tree x.0, lexemes x.1.now)) result (spec.choice depth (spec.inside depth) position (lexemes tokens.now)) }
+) -> Result<(Box<Statement<'a>>, &'t [Token<'a>]), ParseError>
+    ensures { Gives (λ x. (statement_tree x.0.value, lexemes x.1.now)) result (spec.choice depth (spec.inside depth) position (lexemes tokens.now)) }
 {
     let (condition, rest) = enclosed_condition(alloc, depth, tokens)?;
-    match further_in(alloc, depth, rest) {
-        Ok((first, rest)) => {
-            if !else_follows(rest) {
-                return Ok((parts::if_then(position, condition, first), rest));
-            }
-            let second = further_in(alloc, depth, skip(rest));
-            parts::if_else(position, condition, first, second)
-        }
-        Err(e) => {
-            // By a call, so that the proof here does not go through each kind of expression.
-            drop(condition);
-            Err(e)
-        }
+    let (first, rest) = further_in(alloc, depth, rest)?;
+    if !else_follows(rest) {
+        return parts::if_then(alloc, position, condition, first, rest);
     }
+    let second = further_in(alloc, depth, skip(rest));
+    parts::if_else(alloc, position, condition, first, second)
 }
 
 // What follows `while`, which stands at `position`.
@@ -166,12 +158,12 @@ fn repetition<'t, 'a>(
     depth: usize,
     position: Position,
     tokens: &'t [Token<'a>],
-) -> Result<(Statement<'a>, &'t [Token<'a>]), ParseError>
-    ensures { Gives (λ x. (statement_tree x.0, lexemes x.1.now)) result (spec.repetition depth (spec.inside depth) position (lexemes tokens.now)) }
+) -> Result<(Box<Statement<'a>>, &'t [Token<'a>]), ParseError>
+    ensures { Gives (λ x. (statement_tree x.0.value, lexemes x.1.now)) result (spec.repetition depth (spec.inside depth) position (lexemes tokens.now)) }
 {
     let (condition, rest) = enclosed_condition(alloc, depth, tokens)?;
     let body = further_in(alloc, depth, rest);
-    parts::while_do(position, condition, body)
+    parts::while_do(alloc, position, condition, body)
 }
 
 // A statement in which `depth` nestings more may be opened, and the tokens after it.
@@ -181,24 +173,15 @@ fn statement<'t, 'a>(
     alloc: Global,
     depth: usize,
     tokens: &'t [Token<'a>],
-) -> Result<(Statement<'a>, &'t [Token<'a>]), ParseError>
-    ensures { Gives (λ x. (statement_tree x.0, lexemes x.1.now)) result (spec.statement depth (lexemes tokens.now)) }
+) -> Result<(Box<Statement<'a>>, &'t [Token<'a>]), ParseError>
+    ensures { Gives (λ x. (statement_tree x.0.value, lexemes x.1.now)) result (spec.statement depth (lexemes tokens.now)) }
 {
     let first = peek(tokens);
     let rest = skip(tokens);
     match first.kind {
-        Kind::Sign(Sign::Semicolon) => Ok((Statement::Empty, rest)),
         Kind::Sign(Sign::OpenBrace) => block(alloc, depth, tokens),
-        Kind::Text(bytes) => ended(Statement::Text(bytes), rest),
-        Kind::Reserved(Word::Print) => print(alloc, depth, rest),
-        Kind::Reserved(Word::PrintRet) => print_return(alloc, depth, rest),
-        Kind::Reserved(Word::NewLine) => ended(Statement::NewLine, rest),
         Kind::Reserved(Word::If) => choice(alloc, depth, first.position, rest),
         Kind::Reserved(Word::While) => repetition(alloc, depth, first.position, rest),
-        Kind::Reserved(Word::Return) => returned(alloc, depth, first.position, rest),
-        Kind::Reserved(Word::Rtrue) => ended(Statement::ReturnTrue, rest),
-        Kind::Reserved(Word::Rfalse) => ended(Statement::ReturnFalse, rest),
-        Kind::Reserved(Word::Quit) => ended(Statement::Quit, rest),
-        _ => alone(alloc, depth, tokens),
+        _ => plain(alloc, depth, tokens),
     }
 }

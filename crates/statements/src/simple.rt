@@ -12,12 +12,13 @@ ghost use Rattle.statements.specs.Tree.{statement_tree};
 ghost use Rattle.statements.specs.Parse as spec;
 
 use crate::items::items;
+use crate::parts::in_box;
 use crate::tree::Statement;
 use expressions::{
     Expression, Fault, ParseError, expect, expression, fault_at, is_sign, open, peek, position,
     skip,
 };
-use lexer::{Position, Sign, Token};
+use lexer::{Kind, Position, Sign, Token, Word};
 use std::alloc::Global;
 
 /// The statement, behind its `;`.
@@ -27,13 +28,14 @@ use std::alloc::Global;
 /// `Fault::Grammar` at the next token: it is no `;`.
 #[tactic(auto, unfolding(crate::specs::Parse::ended))]
 pub fn ended<'t, 'a>(
+    alloc: Global,
     statement: Statement<'a>,
     tokens: &'t [Token<'a>],
-) -> Result<(Statement<'a>, &'t [Token<'a>]), ParseError>
-    ensures { Gives (λ x. (statement_tree x.0, lexemes x.1.now)) result (spec.ended (statement_tree statement.entry) (lexemes tokens.now)) }
+) -> Result<(Box<Statement<'a>>, &'t [Token<'a>]), ParseError>
+    ensures { Gives (λ x. (statement_tree x.0.value, lexemes x.1.now)) result (spec.ended (statement_tree statement.entry) (lexemes tokens.now)) }
 {
     match expect(Sign::Semicolon, tokens) {
-        Ok(rest) => Ok((statement, rest)),
+        Ok(rest) => in_box(alloc, statement, rest),
         Err(e) => {
             // By a call, so that the proof here does not go through each kind of statement.
             drop(statement);
@@ -43,19 +45,16 @@ pub fn ended<'t, 'a>(
 }
 
 // An expression, with the parenthesis after it.
-#[tactic(auto, using(expressions::proofs::GoesOn::part_fails, expressions::proofs::GoesOn::part_read))]
+#[tactic(auto, using(expressions::proofs::GoesOn::part_fails, expressions::proofs::GoesOn::part_made))]
 fn closed<'t, 'a>(
-    enclosed: Result<(Expression<'a>, &'t [Token<'a>]), ParseError>,
-) -> Result<(Expression<'a>, &'t [Token<'a>]), ParseError>
-    ensures { GoesOn {A = ReadOne} {B = ReadOne} (λ x. (expression_tree x.0, lexemes x.1.now)) enclosed.entry (λ x. (expression_tree x.0, lexemes x.1.now)) result (reading.closed (λ e. e)) }
+    enclosed: Result<(Box<Expression<'a>>, &'t [Token<'a>]), ParseError>,
+) -> Result<(Box<Expression<'a>>, &'t [Token<'a>]), ParseError>
+    ensures { GoesOn {A = ReadOne} {B = ReadOne} (λ x. (expression_tree x.0.value, lexemes x.1.now)) enclosed.entry (λ x. (expression_tree x.0.value, lexemes x.1.now)) result (reading.closed (λ e. e)) }
 {
     match enclosed {
         Ok((found, rest)) => match expect(Sign::CloseParenthesis, rest) {
             Ok(rest) => Ok((found, rest)),
-            Err(e) => {
-                drop(found);
-                Err(e)
-            }
+            Err(e) => Err(e),
         },
         Err(e) => Err(e),
     }
@@ -71,8 +70,8 @@ pub fn enclosed_condition<'t, 'a>(
     alloc: Global,
     depth: usize,
     tokens: &'t [Token<'a>],
-) -> Result<(Expression<'a>, &'t [Token<'a>]), ParseError>
-    ensures gives { Gives (λ x. (expression_tree x.0, lexemes x.1.now)) result (spec.enclosed_condition depth (lexemes tokens.now)) }
+) -> Result<(Box<Expression<'a>>, &'t [Token<'a>]), ParseError>
+    ensures gives { Gives (λ x. (expression_tree x.0.value, lexemes x.1.now)) result (spec.enclosed_condition depth (lexemes tokens.now)) }
     ensures open { IfOk result (λ x. 0 < depth) }
 {
     let rest = expect(Sign::OpenParenthesis, tokens)?;
@@ -86,15 +85,15 @@ pub fn enclosed_condition<'t, 'a>(
 ///
 /// Those of `items`, and `Fault::Grammar` where the `;` is missing.
 #[tactic(auto, unfolding(crate::specs::Parse::printed))]
-pub fn print<'t, 'a>(
+fn print<'t, 'a>(
     alloc: Global,
     depth: usize,
     tokens: &'t [Token<'a>],
-) -> Result<(Statement<'a>, &'t [Token<'a>]), ParseError>
-    ensures { Gives (λ x. (statement_tree x.0, lexemes x.1.now)) result (spec.printed depth tree.print (lexemes tokens.now)) }
+) -> Result<(Box<Statement<'a>>, &'t [Token<'a>]), ParseError>
+    ensures { Gives (λ x. (statement_tree x.0.value, lexemes x.1.now)) result (spec.printed depth tree.print (lexemes tokens.now)) }
 {
     match items(alloc, depth, tokens) {
-        Ok((found, rest)) => ended(Statement::Print(found), rest),
+        Ok((found, rest)) => ended(alloc, Statement::Print(found), rest),
         Err(e) => Err(e),
     }
 }
@@ -105,15 +104,15 @@ pub fn print<'t, 'a>(
 ///
 /// Those of `items`, and `Fault::Grammar` where the `;` is missing.
 #[tactic(auto, unfolding(crate::specs::Parse::printed))]
-pub fn print_return<'t, 'a>(
+fn print_return<'t, 'a>(
     alloc: Global,
     depth: usize,
     tokens: &'t [Token<'a>],
-) -> Result<(Statement<'a>, &'t [Token<'a>]), ParseError>
-    ensures { Gives (λ x. (statement_tree x.0, lexemes x.1.now)) result (spec.printed depth tree.print_return (lexemes tokens.now)) }
+) -> Result<(Box<Statement<'a>>, &'t [Token<'a>]), ParseError>
+    ensures { Gives (λ x. (statement_tree x.0.value, lexemes x.1.now)) result (spec.printed depth tree.print_return (lexemes tokens.now)) }
 {
     match items(alloc, depth, tokens) {
-        Ok((found, rest)) => ended(Statement::PrintReturn(found), rest),
+        Ok((found, rest)) => ended(alloc, Statement::PrintReturn(found), rest),
         Err(e) => Err(e),
     }
 }
@@ -124,19 +123,22 @@ pub fn print_return<'t, 'a>(
 ///
 /// Those of `expression`, and `Fault::Grammar` where the `;` is missing.
 #[tactic(auto, unfolding(crate::specs::Parse::returned))]
-pub fn returned<'t, 'a>(
+fn returned<'t, 'a>(
     alloc: Global,
     depth: usize,
     position: Position,
     tokens: &'t [Token<'a>],
-) -> Result<(Statement<'a>, &'t [Token<'a>]), ParseError>
-    ensures { Gives (λ x. (statement_tree x.0, lexemes x.1.now)) result (spec.returned depth position (lexemes tokens.now)) }
+) -> Result<(Box<Statement<'a>>, &'t [Token<'a>]), ParseError>
+    ensures { Gives (λ x. (statement_tree x.0.value, lexemes x.1.now)) result (spec.returned depth position (lexemes tokens.now)) }
 {
     if is_sign(peek(tokens), Sign::Semicolon) {
-        return Ok((Statement::Return, skip(tokens)));
+        return in_box(alloc, Statement::Return, skip(tokens));
     }
     match expression(alloc, depth, tokens) {
-        Ok((value, rest)) => ended(Statement::ReturnValue(position, value), rest),
+        Ok((value, rest)) => {
+            let value = Box::into_inner(value);
+            ended(alloc, Statement::ReturnValue(position, value), rest)
+        },
         Err(e) => Err(e),
     }
 }
@@ -166,22 +168,53 @@ fn has_effect(e: &Expression<'_>) -> bool
 ///
 /// Those of `expression`; `Fault::Grammar` at the token after the expression where it has no effect, or no `;` follows.
 #[tactic(auto, unfolding(crate::specs::Parse::alone))]
-pub fn alone<'t, 'a>(
+fn alone<'t, 'a>(
     alloc: Global,
     depth: usize,
     tokens: &'t [Token<'a>],
-) -> Result<(Statement<'a>, &'t [Token<'a>]), ParseError>
-    ensures { Gives (λ x. (statement_tree x.0, lexemes x.1.now)) result (spec.alone depth (lexemes tokens.now)) }
+) -> Result<(Box<Statement<'a>>, &'t [Token<'a>]), ParseError>
+    ensures { Gives (λ x. (statement_tree x.0.value, lexemes x.1.now)) result (spec.alone depth (lexemes tokens.now)) }
 {
     let begin = position(tokens);
     match expression(alloc, depth, tokens) {
         Ok((value, rest)) => {
             if !has_effect(&value) {
-                drop(value);
                 return Err(fault_at(Fault::Grammar, rest));
             }
-            ended(Statement::Effect(begin, value), rest)
+            ended(
+                alloc,
+                Statement::Effect(begin, Box::into_inner(value)),
+                rest,
+            )
         }
         Err(e) => Err(e),
+    }
+}
+
+/// A statement that no other statement stands in.
+///
+/// # Errors
+///
+/// Those of `expression` and of `items`, and `Fault::Grammar` at the first token with which no such statement goes on.
+pub fn plain<'t, 'a>(
+    alloc: Global,
+    depth: usize,
+    tokens: &'t [Token<'a>],
+) -> Result<(Box<Statement<'a>>, &'t [Token<'a>]), ParseError>
+    ensures { Gives (λ x. (statement_tree x.0.value, lexemes x.1.now)) result (spec.plain_on depth (reading.head (lexemes tokens.now)) (lexemes tokens.now)) }
+{
+    let first = peek(tokens);
+    let rest = skip(tokens);
+    match first.kind {
+        Kind::Sign(Sign::Semicolon) => in_box(alloc, Statement::Empty, rest),
+        Kind::Text(bytes) => ended(alloc, Statement::Text(bytes), rest),
+        Kind::Reserved(Word::Print) => print(alloc, depth, rest),
+        Kind::Reserved(Word::PrintRet) => print_return(alloc, depth, rest),
+        Kind::Reserved(Word::NewLine) => ended(alloc, Statement::NewLine, rest),
+        Kind::Reserved(Word::Return) => returned(alloc, depth, first.position, rest),
+        Kind::Reserved(Word::Rtrue) => ended(alloc, Statement::ReturnTrue, rest),
+        Kind::Reserved(Word::Rfalse) => ended(alloc, Statement::ReturnFalse, rest),
+        Kind::Reserved(Word::Quit) => ended(alloc, Statement::Quit, rest),
+        _ => alone(alloc, depth, tokens),
     }
 }

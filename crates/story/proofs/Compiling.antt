@@ -35,7 +35,8 @@ use Rattle.story.proofs.Sizes.{stories_are_short, is_story}
 
 -- Faults
 
-pub answered : (version : Version) (source : List ℕ) (r : Result (List ℕ) SourceFault) (f : SourceFault) → IsErr r × IsErrAnd r (λ e. e ≡ f) → Refuses version source f → Compiles version source r
+pub answered : (version : Version) (source : List ℕ) (r : Result (List ℕ) SourceFault) (f : SourceFault)
+    → IsErr r × IsErrAnd r (λ e. e ≡ f) → Refuses version source f → Compiles version source r
 answered version source (Ok bytes) f h refused = absurd h.1
 answered version source (Err e) f h refused = subst (Refuses version source) (sym h.1) refused
 
@@ -53,20 +54,24 @@ module _ (source : List ℕ) (ts : List Token) (lexed : Lexes 0 1 source (Ok (so
   program_of_tokens p parsed = subst (λ ls. IsProgram ls p) (same_lexemes ts) parsed
 
   pub is_tree : (p : ProgramTree) → IsProgram (lexemes ts) p → program_nesting p ≤ 100 → IsTreeOf source p
-  is_tree p parsed nested = record { tokens = source_tokens ts; lexed = lexed; parsed = program_of_lexemes p parsed; nested = nested }
+  is_tree p parsed nested =
+      record { tokens = source_tokens ts; lexed = lexed; parsed = program_of_lexemes p parsed; nested = nested }
 
   -- what is not parsed
   pub unparsed : (version : Version) (f : SourceFault)
       → (f.number ≡ 10 → ((p : ProgramTree) → IsProgram (lexemes ts) p → ⊥))
-      → (f.number ≡ 5 → (DeepProgram 101 (lexemes ts) × ((p : ProgramTree) → IsProgram (lexemes ts) p → 100 < program_nesting p)))
+      → (f.number ≡ 5 → (DeepProgram 101 (lexemes ts) × ((p : ProgramTree) → IsProgram (lexemes ts) p
+      → 100 < program_nesting p)))
       → (f.number ≡ 5) ⊎ (f.number ≡ 10) ⊎ (f ≡ no_memory)
       → Refuses version source f
   unparsed version f grammar deep number = elim number [
     | inl five ↦
         let here = deep five in
-        spec.too_deep (source_tokens ts) lexed (subst (DeepProgram 101) (sym (same_lexemes ts)) here.0) (λ p parsed. here.1 p (program_of_tokens p parsed)) five
+        spec.too_deep (source_tokens ts) lexed (subst (DeepProgram 101) (sym (same_lexemes ts)) here.0)
+        (λ p parsed. here.1 p (program_of_tokens p parsed)) five
     | inr others ↦ elim others [
-      | inl ten ↦ spec.not_in_grammar (source_tokens ts) lexed (λ p parsed. grammar ten p (program_of_tokens p parsed)) ten
+      | inl ten ↦ spec.not_in_grammar (source_tokens ts) lexed (λ p parsed. grammar ten p (program_of_tokens p parsed))
+          ten
       | inr refused ↦ spec.no_memory refused
     ]
   ]
@@ -74,23 +79,27 @@ module _ (source : List ℕ) (ts : List Token) (lexed : Lexes 0 1 source (Ok (so
 -- Rules and sizes
 
 pub unchecked : (version : Version) (source : List ℕ) (p : ProgramTree) (f : SourceFault) → IsTreeOf source p
-    → (f ≡ no_memory) ⊎ ((b : Breach) × IsAmong b (program_breaches p) × IsFirst b (program_breaches p) × (f.number ≡ b.number) × (f.line ≡ b.position.line))
+    → (f ≡ no_memory) ⊎ ((b : Breach) × IsAmong b (program_breaches p) × IsFirst b (program_breaches p)
+    × (f.number ≡ b.number) × (f.line ≡ b.position.line))
     → Refuses version source f
 unchecked version source p f tree answer = elim answer [
   | inl refused ↦ spec.no_memory refused
   | inr broken ↦ spec.rule_broken p tree broken.0 broken.1 broken.2 broken.3 broken.4
 ]
 
-pub too_large : (version : Version) (source : List ℕ) (p : ProgramTree) (c : CheckedProgram) (f : SourceFault) → IsTreeOf source p → program_breaches p ≡ [] → IsCheckedOf p c
+pub too_large : (version : Version) (source : List ℕ) (p : ProgramTree) (c : CheckedProgram) (f : SourceFault)
+    → IsTreeOf source p → program_breaches p ≡ [] → IsCheckedOf p c
     → Some f ≡ checked.size_fault c version → Refuses version source f
 too_large version source p c f tree lawful is e = spec.too_large p tree lawful (sym (e ∙ size_faults version p c is))
 
 -- Stories
 
-module _ (accepted_programs : AcceptedPrograms) (printable_tokens : PrintableTokens) (printable_trees : PrintableTrees) (printable_programs : PrintablePrograms)
+module _ (accepted_programs : AcceptedPrograms) (printable_tokens : PrintableTokens) (printable_trees : PrintableTrees)
+    (printable_programs : PrintablePrograms)
     (small_sources : SmallSourcesHaveSmallCode)
     (version : Version) (source : List ℕ) (ts : List Token) (p : ProgramTree) (c : CheckedProgram)
-    (lexed : Lexes 0 1 source (Ok (source_tokens ts))) (parsed : IsProgram (lexemes ts) p) (lawful : program_breaches p ≡ []) (is : IsCheckedOf p c)
+    (lexed : Lexes 0 1 source (Ok (source_tokens ts))) (parsed : IsProgram (lexemes ts) p) (lawful : program_breaches p
+    ≡ []) (is : IsCheckedOf p c)
     (sized : checked.size_fault c version ≡ None) where
   small : IsSmall c version
   small = small_sources (lexemes ts) p c version parsed is sized
@@ -99,17 +108,20 @@ module _ (accepted_programs : AcceptedPrograms) (printable_tokens : PrintableTok
   accepted = subst IsAccepted (sym is.program) (accepted_programs p lawful)
 
   printable : HasPrintableTexts (program_of c)
-  printable = subst HasPrintableTexts (sym is.program) (printable_programs p (printable_trees (lexemes ts) p parsed (printable_tokens source ts lexed)))
+  printable = subst HasPrintableTexts (sym is.program)
+      (printable_programs p (printable_trees (lexemes ts) p parsed (printable_tokens source ts lexed)))
 
   pub fits : Fits version (program_of c)
   fits = record { accepted = accepted; within = stories_are_short version (program_of c) small.all }
 
-  pub compiled : StoriesHold → CodePlays → (bytes : List ℕ) → All (λ b. b < 256) bytes → bytes ≡ story_of version (program_of c) → program_nesting p ≤ 100 → IsStoryOf version source bytes
+  pub compiled : StoriesHold → CodePlays → (bytes : List ℕ) → All (λ b. b < 256) bytes
+      → bytes ≡ story_of version (program_of c) → program_nesting p ≤ 100 → IsStoryOf version source bytes
   compiled stories_hold code_plays bytes are_bytes laid nested =
       let q = program_of c in
       let all : All (λ b. b < 256) (story_of version q) = subst (All (λ b. b < 256)) laid are_bytes in
       let held = stories_hold version q (is_story version q accepted small.each small.all all) in
-      let plays : (full : ℕ) (lines : List (List ℕ)) → Plays (story_of version q) q full lines = code_plays (story_of version q) (addresses_in (scale_of version) q) q accepted printable held.1 in
+      let plays : (full : ℕ) (lines : List (List ℕ)) → Plays (story_of version q) q full lines =
+      code_plays (story_of version q) (addresses_in (scale_of version) q) q accepted printable held.1 in
       record {
         tree = p;
         is_tree = is_tree source ts lexed p parsed nested;
@@ -117,5 +129,6 @@ module _ (accepted_programs : AcceptedPrograms) (printable_tokens : PrintableTok
         fits = sym (size_faults version p c is) ∙ sized;
         laid_out = laid ∙ ap (story_of version) is.program;
         reads = subst (λ b. (header : Header) × Reads b (Ok header)) (sym laid) held.0;
-        plays = λ full lines. subst (λ r. Plays bytes r full lines) is.program (subst (λ b. Plays b q full lines) (sym laid) (plays full lines));
+        plays = λ full lines. subst (λ r. Plays bytes r full lines) is.program
+            (subst (λ b. Plays b q full lines) (sym laid) (plays full lines));
       }

@@ -11,7 +11,8 @@ use Rattle.checker.specs.Sizes.{greatest_weight}
 use Rattle.checker.specs.Sizes as checked
 use Rattle.story.specs.Compiled.{first_heavy, heavy_fault, size_fault}
 
-heavy_same : (rs : List RoutineTree) (cs : List CheckedRoutine) → map title_of cs ≡ map title rs → checked.first_heavy cs ≡ first_heavy rs
+heavy_same : (rs : List RoutineTree) (cs : List CheckedRoutine) → map title_of cs ≡ map title rs
+    → checked.first_heavy cs ≡ first_heavy rs
 heavy_same [] [] e = refl
 heavy_same [] (c ∷ cs) e = let h : length (map title_of (c ∷ cs)) ≡ 0 = ap length e in absurd (omega (arith, h))
 heavy_same (r ∷ rs) [] e = let h : 0 ≡ length (map title (r ∷ rs)) = ap length e in absurd (omega (arith, h))
@@ -27,8 +28,11 @@ heavy_faults : (q : Option Position) → checked.heavy_fault q ≡ heavy_fault q
 heavy_faults None = refl
 heavy_faults (Some q) = refl
 
-pub size_faults : (version : Version) (p : ProgramTree) (c : CheckedProgram) → IsCheckedOf p c → checked.size_fault c version ≡ size_fault version p
+pub size_faults : (version : Version) (p : ProgramTree) (c : CheckedProgram) → IsCheckedOf p c
+    → checked.size_fault c version ≡ size_fault version p
 size_faults version p c is =
-    ap (λ w. if nat_lt (greatest_weight version) w then Some (checked.fault 31 0) else checked.heavy_fault (checked.first_heavy c.routines)) is.weight
+    ap (λ w. if nat_lt (greatest_weight version) w then Some (checked.fault 31 0)
+    else checked.heavy_fault (checked.first_heavy c.routines)) is.weight
     ∙ ap (λ q. if nat_lt (greatest_weight version) p.weight then Some (checked.fault 31 0) else q)
-    (heavy_faults (checked.first_heavy c.routines) ∙ ap heavy_fault (heavy_same (routine_trees p.directives) c.routines is.titles))
+    (heavy_faults (checked.first_heavy c.routines)
+    ∙ ap heavy_fault (heavy_same (routine_trees p.directives) c.routines is.titles))

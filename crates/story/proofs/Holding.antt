@@ -34,7 +34,8 @@ packed_is version [] k within = absurd (omega (arith, within))
 packed_is version (address ∷ addresses) zero within = refl
 packed_is version (address ∷ addresses) (suc k) within = packed_is version addresses k (omega (arith, within))
 
-scale_is : (version : Version) (story : List ℕ) → slice_index story 0 ≡ version_number version → scale_in story ≡ scale_of version
+scale_is : (version : Version) (story : List ℕ) → slice_index story 0 ≡ version_number version
+    → scale_in story ≡ scale_of version
 scale_is V5 story e = ap (λ n. if n == 8 then 8 else 4) e
 scale_is V8 story e = ap (λ n. if n == 8 then 8 else 4) e
 
@@ -44,7 +45,8 @@ pub record IsPacked (version : Version) (address : ℕ) : Type 0 where
   pub named : 0 < address / scale_of version
   pub word : address / scale_of version < 65536
 
-is_packed : (version : Version) (address end : ℕ) → whole version address → 875 ≤ address → address ≤ end → end ≤ 65535 * scale_of version → IsPacked version address
+is_packed : (version : Version) (address end : ℕ) → whole version address → 875 ≤ address → address ≤ end
+    → end ≤ 65535 * scale_of version → IsPacked version address
 is_packed V5 address end multiple low below within =
     record { back = omega (arith, multiple); named = omega (arith, low); word = omega (arith, below, within) }
 is_packed V8 address end multiple low below within =
@@ -52,7 +54,8 @@ is_packed V8 address end multiple low below within =
 
 -- Parts by their numbers
 
-size_at : (parts : List (List ℕ)) (k : ℕ) → k < length parts → slice_index (map length parts) k ≡ length (slice_index_or parts k [])
+size_at : (parts : List (List ℕ)) (k : ℕ) → k < length parts
+    → slice_index (map length parts) k ≡ length (slice_index_or parts k [])
 size_at [] k within = absurd (omega (arith, within))
 size_at (part ∷ parts) zero within = refl
 size_at (part ∷ parts) (suc k) within = size_at parts k (omega (arith, within))
@@ -75,12 +78,14 @@ module _ (a : Addresses) where
       let b : length (map (routine_bytes a) rs) ≡ length rs = length-map rs (routine_bytes a) in
       omega (arith, length-append (map (routine_bytes a) rs) fault_texts, b)
 
-  routine_part : (rs : List RoutineOf) (k : ℕ) → k < length rs → slice_index_or (parts_of rs) k [] ≡ routine_bytes a (routine_at rs k)
+  routine_part : (rs : List RoutineOf) (k : ℕ) → k < length rs
+      → slice_index_or (parts_of rs) k [] ≡ routine_bytes a (routine_at rs k)
   routine_part [] k within = absurd (omega (arith, within))
   routine_part (r ∷ rs) zero within = refl
   routine_part (r ∷ rs) (suc k) within = routine_part rs k (omega (arith, within))
 
-  text_part : (rs : List RoutineOf) (n : ℕ) → slice_index_or (parts_of rs) (length rs + n) [] ≡ slice_index_or fault_texts n []
+  text_part : (rs : List RoutineOf) (n : ℕ)
+      → slice_index_or (parts_of rs) (length rs + n) [] ≡ slice_index_or fault_texts n []
   text_part rs n =
       ap (λ k. slice_index_or (parts_of rs) (k + n) []) (sym (length-map rs (routine_bytes a)))
       ∙ get_or-append-add (map (routine_bytes a) rs) fault_texts n []
@@ -96,7 +101,8 @@ module _ (a : Addresses) where
 -- Programs
 
 abbrev addresses_at : Version → ProgramOf → List ℕ
-addresses_at version p = addresses_from (scale_of version) first_address (map routine_size p.routines ++ map length fault_texts)
+addresses_at version p =
+    addresses_from (scale_of version) first_address (map routine_size p.routines ++ map length fault_texts)
 
 abbrev parts_in : Version → ProgramOf → List (List ℕ)
 parts_in version p = parts_of (addresses_in (scale_of version) p) p.routines
@@ -119,9 +125,12 @@ module _ (version : Version) (p : ProgramOf) (story : List ℕ)
   sizes_same = sizes_are (addresses_in (scale_of version) p) p.routines
 
   part_stands : (k : ℕ) → k < length (parts_in version p)
-      → HasPartAt version story first_address (slice_index (addresses_at version p) k) (slice_index_or (parts_in version p) k [])
+      → HasPartAt version story first_address (slice_index (addresses_at version p) k)
+      (slice_index_or (parts_in version p) k [])
   part_stands k within =
-      subst (λ sizes. HasPartAt version story first_address (slice_index (addresses_from (scale_of version) first_address sizes) k) (slice_index_or (parts_in version p) k []))
+      subst (λ sizes. HasPartAt version story first_address
+      (slice_index (addresses_from (scale_of version) first_address sizes) k)
+      (slice_index_or (parts_in version p) k []))
       sizes_same (parts_stand version story first_address (parts_in version p) long high k within)
 
   count_is : length (addresses_at version p) ≡ length (parts_in version p)
@@ -129,21 +138,26 @@ module _ (version : Version) (p : ProgramOf) (story : List ℕ)
       addresses_count version first_address (map routine_size p.routines ++ map length fault_texts)
       ∙ ap length (sym sizes_same) ∙ length-map (parts_in version p) length
 
-  unpacked_is : (k : ℕ) → k < length (parts_in version p) → unpacked story (slice_index (packed_in version p) k) ≡ slice_index (addresses_at version p) k
+  unpacked_is : (k : ℕ) → k < length (parts_in version p)
+      → unpacked story (slice_index (packed_in version p) k) ≡ slice_index (addresses_at version p) k
   unpacked_is k within =
       let stands = part_stands k within in
-      let fits = is_packed version (slice_index (addresses_at version p) k) (length story) stands.multiple stands.above (omega (arith, stands.within)) short in
+      let fits = is_packed version (slice_index (addresses_at version p) k) (length story) stands.multiple stands.above
+      (omega (arith, stands.within)) short in
       ap (λ n. n * slice_index (packed_in version p) k) (scale_is version story said.version_byte)
       ∙ ap (λ n. scale_of version * n) (packed_is version (addresses_at version p) k (omega (arith, within, count_is)))
       ∙ fits.back
 
-  part_lies : (k : ℕ) → k < length (parts_in version p) → Lies version story (slice_index (packed_in version p) k) (slice_index_or (parts_in version p) k [])
+  part_lies : (k : ℕ) → k < length (parts_in version p)
+      → Lies version story (slice_index (packed_in version p) k) (slice_index_or (parts_in version p) k [])
   part_lies k within =
       let stands = part_stands k within in
-      let e : unpacked story (slice_index (packed_in version p) k) ≡ slice_index (addresses_at version p) k = unpacked_is k within in
+      let e : unpacked story (slice_index (packed_in version p) k) ≡ slice_index (addresses_at version p) k =
+      unpacked_is k within in
       let f : slice_index (packed_in version p) k ≡ slice_index (addresses_at version p) k / scale_of version =
       packed_is version (addresses_at version p) k (omega (arith, within, count_is)) in
-      let fits = is_packed version (slice_index (addresses_at version p) k) (length story) stands.multiple stands.above (omega (arith, stands.within)) short in
+      let fits = is_packed version (slice_index (addresses_at version p) k) (length story) stands.multiple stands.above
+      (omega (arith, stands.within)) short in
       record {
         bytes = subst (λ at. Holds story at (slice_index_or (parts_in version p) k [])) (sym e) stands.bytes;
         within = omega (arith, stands.within, e);
@@ -154,37 +168,50 @@ module _ (version : Version) (p : ProgramOf) (story : List ℕ)
 
   -- bytes of another part follow
   followed : (k : ℕ) → suc k < length (parts_in version p)
-      → unpacked story (slice_index (packed_in version p) k) + length (slice_index_or (parts_in version p) k []) < length story
+      → unpacked story (slice_index (packed_in version p) k) + length (slice_index_or (parts_in version p) k [])
+      < length story
   followed k within =
       let here : k < length (parts_in version p) = omega (arith, within) in
       let next = part_stands (suc k) within in
-      let rises : slice_index (addresses_at version p) k + slice_index (map length (parts_in version p)) k ≤ slice_index (addresses_at version p) (suc k) =
-      subst (λ sizes. slice_index (addresses_from (scale_of version) first_address sizes) k + slice_index (map length (parts_in version p)) k ≤ slice_index (addresses_from (scale_of version) first_address sizes) (suc k))
-      sizes_same (parts_rise version first_address (map length (parts_in version p)) k (omega (arith, within, length-map (parts_in version p) length))) in
-      let size : slice_index (map length (parts_in version p)) k ≡ length (slice_index_or (parts_in version p) k []) = size_at (parts_in version p) k here in
-      let size_next : slice_index (map length (parts_in version p)) (suc k) ≡ length (slice_index_or (parts_in version p) (suc k) []) = size_at (parts_in version p) (suc k) within in
-      let full : 0 < slice_index (map length (parts_in version p)) (suc k) = part_long (addresses_in (scale_of version) p) p.routines (suc k) within in
+      let rises : slice_index (addresses_at version p) k + slice_index (map length (parts_in version p)) k
+      ≤ slice_index (addresses_at version p) (suc k) =
+      subst (λ sizes. slice_index (addresses_from (scale_of version) first_address sizes) k
+      + slice_index (map length (parts_in version p)) k
+      ≤ slice_index (addresses_from (scale_of version) first_address sizes) (suc k))
+      sizes_same (parts_rise version first_address (map length (parts_in version p)) k
+      (omega (arith, within, length-map (parts_in version p) length))) in
+      let size : slice_index (map length (parts_in version p)) k ≡ length (slice_index_or (parts_in version p) k []) =
+      size_at (parts_in version p) k here in
+      let size_next : slice_index (map length (parts_in version p)) (suc k)
+      ≡ length (slice_index_or (parts_in version p) (suc k) []) = size_at (parts_in version p) (suc k) within in
+      let full : 0 < slice_index (map length (parts_in version p)) (suc k) =
+      part_long (addresses_in (scale_of version) p) p.routines (suc k) within in
       omega (arith, next.within, rises, size, size_next, full, unpacked_is k here)
 
   text_lies : (n : ℕ) (text : List ℕ) → n < 2 → slice_index_or fault_texts n [] ≡ encoded text
       → HoldsText story (slice_index (packed_in version p) (length p.routines + n)) text
   text_lies n text few e =
-      let count : length (parts_in version p) ≡ length p.routines + 2 = parts_count (addresses_in (scale_of version) p) p.routines in
+      let count : length (parts_in version p) ≡ length p.routines + 2 =
+      parts_count (addresses_in (scale_of version) p) p.routines in
       let lies = part_lies (length p.routines + n) (omega (arith, few, count)) in
       let part : slice_index_or (parts_in version p) (length p.routines + n) [] ≡ encoded text =
       text_part (addresses_in (scale_of version) p) p.routines n ∙ e in
       record {
-        bytes = subst (Holds story (unpacked story (slice_index (packed_in version p) (length p.routines + n)))) part lies.bytes;
+        bytes = subst (Holds story (unpacked story (slice_index (packed_in version p) (length p.routines + n)))) part
+            lies.bytes;
         word = lies.word;
         above = omega (arith, lies.above, said.static_base);
       }
 
   routine_lies : (k : ℕ) → k < length p.routines → code_size (routine_items (routine_at p.routines k)) ≤ 32000
-      → HoldsRoutine story (addresses_in (scale_of version) p) (slice_index (packed_in version p) k) (routine_at p.routines k)
+      → HoldsRoutine story (addresses_in (scale_of version) p) (slice_index (packed_in version p) k)
+      (routine_at p.routines k)
   routine_lies k within small =
-      let count : length (parts_in version p) ≡ length p.routines + 2 = parts_count (addresses_in (scale_of version) p) p.routines in
+      let count : length (parts_in version p) ≡ length p.routines + 2 =
+      parts_count (addresses_in (scale_of version) p) p.routines in
       let lies = part_lies k (omega (arith, within, count)) in
-      let part : slice_index_or (parts_in version p) k [] ≡ routine_bytes (addresses_in (scale_of version) p) (routine_at p.routines k) =
+      let part : slice_index_or (parts_in version p) k [] ≡ routine_bytes (addresses_in (scale_of version) p)
+      (routine_at p.routines k) =
       routine_part (addresses_in (scale_of version) p) p.routines k within in
       let size : length (slice_index_or (parts_in version p) k []) ≡ routine_size (routine_at p.routines k) =
       ap length part ∙ routine_length (addresses_in (scale_of version) p) (routine_at p.routines k) in
@@ -219,29 +246,38 @@ module _ (version : Version) (p : ProgramOf) where
   long : 875 ≤ length story
   long = omega (arith, laid_length version p.globals main (parts_in version p))
 
-  holds : IsAccepted p → All IsShort p.routines → length story ≤ 65535 * scale_of version → All (λ b. b < 256) story → HoldsProgram story a p
+  holds : IsAccepted p → All IsShort p.routines → length story ≤ 65535 * scale_of version → All (λ b. b < 256) story
+      → HoldsProgram story a p
   holds accepted small short bytes =
       let high_is : drop 875 story ≡ high = high_stands story p.globals high main body_stands in
       let e0 : length p.routines + 0 ≡ length p.routines = omega arith in
       record {
         byte_each = bytes;
         routines = λ r within. routine_lies version p story said long short high_is r within
-            (subst IsShort (routine_is p.routines r (routine_at p.routines r) within) (small r (routine_at p.routines r) within));
-        division_by_zero = subst (λ n. HoldsText story (slice_index (packed_in version p) n) (fault_line (codes "division by zero"))) e0
-            (text_lies version p story said long short high_is 0 (fault_line (codes "division by zero")) (omega arith) refl);
-        not_a_character = text_lies version p story said long short high_is 1 (fault_line (codes "not a character")) (omega arith) refl;
+            (subst IsShort (routine_is p.routines r (routine_at p.routines r) within)
+            (small r (routine_at p.routines r) within));
+        division_by_zero = subst (λ n. HoldsText story (slice_index (packed_in version p) n)
+            (fault_line (codes "division by zero"))) e0
+            (text_lies version p story said long short high_is 0 (fault_line (codes "division by zero"))
+            (omega arith) refl);
+        not_a_character = text_lies version p story said long short high_is 1 (fault_line (codes "not a character"))
+            (omega arith) refl;
         start = subst (λ at. Holds story at (start_code main)) (sym said.first_instruction)
             (holds_first 871 story (start_code main) high (start_stands story p.globals high main body_stands));
         start_above = omega (arith, said.first_instruction, said.static_base);
         globals_above = omega (arith, said.globals);
         globals_below = omega (arith, said.globals, said.static_base);
         static_below = omega (arith, said.static_base, long);
-        globals = λ g within. ap (λ at. word_at story (at + 2 * g)) said.globals ∙ global_stands story p.globals high main body_stands g within (omega (arith, accepted.globals));
+        globals = λ g within. ap (λ at. word_at story (at + 2 * g)) said.globals
+            ∙ global_stands story p.globals high main body_stands g within (omega (arith, accepted.globals));
       }
 
 pub stories_hold : StoriesHold
 unfolding story_of
 stories_hold version p is = (
-  (header_read version, laid_read version p.globals (slice_index (packed_addresses (scale_of version) p) p.main) (parts_in version p)),
+  (
+    header_read version,
+    laid_read version p.globals (slice_index (packed_addresses (scale_of version) p) p.main) (parts_in version p),
+  ),
   holds version p is.accepted is.short is.within is.bytes,
 )

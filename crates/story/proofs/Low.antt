@@ -35,7 +35,8 @@ words_at (w ∷ ws) rest (suc k) within =
     here ∙ next ∙ words_at ws rest k (omega (arith, within))
 
 -- a word behind an address
-pub byte_behind : (at k : ℕ) (story rest : List ℕ) → drop at story ≡ rest → slice_index story (at + k) ≡ slice_index rest k
+pub byte_behind : (at k : ℕ) (story rest : List ℕ) → drop at story ≡ rest
+    → slice_index story (at + k) ≡ slice_index rest k
 byte_behind at k story rest e = sym (get_or-drop at story k 0) ∙ ap (λ x. slice_index x k) e
 
 pub word_behind : (at k : ℕ) (story rest : List ℕ) → drop at story ≡ rest → word_at story (at + k) ≡ word_at rest k
@@ -59,8 +60,10 @@ first_length = refl
 
 globals_length : (globals : List ℕ) → length (global_bytes globals) ≡ 480
 globals_length globals =
-    let enough : 240 ≤ length (globals ++ replicate 240 0) = omega (arith, length-append globals (replicate 240 0), length-replicate {A = ℕ} 240 0) in
-    let count : length (take 240 (globals ++ replicate 240 0)) ≡ 240 = length-take-le 240 (globals ++ replicate 240 0) enough in
+    let enough : 240 ≤ length (globals ++ replicate 240 0) =
+    omega (arith, length-append globals (replicate 240 0), length-replicate {A = ℕ} 240 0) in
+    let count : length (take 240 (globals ++ replicate 240 0)) ≡ 240 =
+    length-take-le 240 (globals ++ replicate 240 0) enough in
     omega (arith, words_length (take 240 (globals ++ replicate 240 0)), count)
 
 start_length : (main : ℕ) → length (start_code main) ≡ 4
@@ -80,19 +83,25 @@ low_length globals main =
 
 regrouped : (a b c d e f : List ℕ) → a ++ b ++ c ++ d ++ e ++ f ≡ a ++ (b ++ (c ++ (d ++ (e ++ f))))
 regrouped a b c d e f =
-    append_assoc (a ++ b ++ c ++ d) e f ∙ append_assoc (a ++ b ++ c) d (e ++ f) ∙ append_assoc (a ++ b) c (d ++ (e ++ f)) ∙ append_assoc a b (c ++ (d ++ (e ++ f)))
+    append_assoc (a ++ b ++ c ++ d) e f ∙ append_assoc (a ++ b ++ c) d (e ++ f)
+    ∙ append_assoc (a ++ b) c (d ++ (e ++ f)) ∙ append_assoc a b (c ++ (d ++ (e ++ f)))
 
 module _ (story globals high : List ℕ) (main : ℕ) (stands : drop 64 story ≡ low_bytes globals main ++ high) where
-  globals_stand : drop 258 story ≡ global_bytes globals ++ (replicate 126 0 ++ (dictionary_bytes ++ (start_code main ++ high)))
+  globals_stand : drop 258 story ≡ global_bytes globals
+      ++ (replicate 126 0 ++ (dictionary_bytes ++ (start_code main ++ high)))
   globals_stand =
-      behind_at 64 194 story first_bytes (global_bytes globals ++ (replicate 126 0 ++ (dictionary_bytes ++ (start_code main ++ high))))
-      (stands ∙ regrouped first_bytes (global_bytes globals) (replicate 126 0) dictionary_bytes (start_code main) high) first_length
+      behind_at 64 194 story first_bytes (global_bytes globals
+      ++ (replicate 126 0 ++ (dictionary_bytes ++ (start_code main ++ high))))
+      (stands ∙ regrouped first_bytes (global_bytes globals) (replicate 126 0) dictionary_bytes (start_code main) high)
+      first_length
 
   defaults_stand : drop 738 story ≡ replicate 126 0 ++ (dictionary_bytes ++ (start_code main ++ high))
-  defaults_stand = behind_at 258 480 story (global_bytes globals) (replicate 126 0 ++ (dictionary_bytes ++ (start_code main ++ high))) globals_stand (globals_length globals)
+  defaults_stand = behind_at 258 480 story (global_bytes globals)
+      (replicate 126 0 ++ (dictionary_bytes ++ (start_code main ++ high))) globals_stand (globals_length globals)
 
   pub dictionary_stands : drop 864 story ≡ dictionary_bytes ++ (start_code main ++ high)
-  dictionary_stands = behind_at 738 126 story (replicate 126 0) (dictionary_bytes ++ (start_code main ++ high)) defaults_stand (length-replicate {A = ℕ} 126 0)
+  dictionary_stands = behind_at 738 126 story (replicate 126 0) (dictionary_bytes ++ (start_code main ++ high))
+      defaults_stand (length-replicate {A = ℕ} 126 0)
 
   pub start_stands : drop 871 story ≡ start_code main ++ high
   start_stands = behind_at 864 7 story dictionary_bytes (start_code main ++ high) dictionary_stands refl
@@ -101,11 +110,15 @@ module _ (story globals high : List ℕ) (main : ℕ) (stands : drop 64 story �
   high_stands = behind_at 871 4 story (start_code main) high start_stands (start_length main)
 
   -- the word of a global
-  pub global_stands : (g : ℕ) → g < length globals → length globals ≤ 240 → word_at story (258 + 2 * g) ≡ slice_index globals g
+  pub global_stands : (g : ℕ) → g < length globals → length globals ≤ 240
+      → word_at story (258 + 2 * g) ≡ slice_index globals g
   global_stands g within few =
       let all : List ℕ = globals ++ replicate 240 0 in
-      let enough : 240 ≤ length all = omega (arith, length-append globals (replicate 240 0), length-replicate {A = ℕ} 240 0) in
-      word_behind 258 (2 * g) story (global_bytes globals ++ (replicate 126 0 ++ (dictionary_bytes ++ (start_code main ++ high)))) globals_stand
-      ∙ words_at (take 240 all) (replicate 126 0 ++ (dictionary_bytes ++ (start_code main ++ high))) g (omega (arith, length-take-le 240 all enough, within, few))
+      let enough : 240 ≤ length all =
+      omega (arith, length-append globals (replicate 240 0), length-replicate {A = ℕ} 240 0) in
+      word_behind 258 (2 * g) story (global_bytes globals
+      ++ (replicate 126 0 ++ (dictionary_bytes ++ (start_code main ++ high)))) globals_stand
+      ∙ words_at (take 240 all) (replicate 126 0 ++ (dictionary_bytes ++ (start_code main ++ high))) g
+      (omega (arith, length-take-le 240 all enough, within, few))
       ∙ get_or-take 240 all g 0 (omega (arith, within, few))
       ∙ get_or_append_left globals (replicate 240 0) 0 g within

@@ -52,10 +52,12 @@ module _ (story rest : List ℕ) (long : 871 ≤ length story) (stands : drop 86
   separators_are = byte_behind 864 0 story (dictionary_bytes ++ rest) stands
 
   entry_length_is : entry_length_of story 864 ≡ 9
-  entry_length_is = ap (λ n. slice_index story (864 + 1 + n)) separators_are ∙ byte_behind 864 4 story (dictionary_bytes ++ rest) stands
+  entry_length_is = ap (λ n. slice_index story (864 + 1 + n)) separators_are
+      ∙ byte_behind 864 4 story (dictionary_bytes ++ rest) stands
 
   no_entries : entry_count story 864 ≡ 0
-  no_entries = ap (λ n. word_at story (864 + 2 + n)) separators_are ∙ word_behind 864 5 story (dictionary_bytes ++ rest) stands
+  no_entries = ap (λ n. word_at story (864 + 2 + n)) separators_are
+      ∙ word_behind 864 5 story (dictionary_bytes ++ rest) stands
 
   is_dictionary : IsDictionary story 864
   is_dictionary =
@@ -82,7 +84,8 @@ header_read version = record {
   dictionary = record { address = 864; separators = 3; entry_length = 9; entries = 0 };
 }
 
-module _ (version : Version) (story rest : List ℕ) (said : Says version story) (multiple : whole version (length story)) (long : 875 ≤ length story) (stands : drop 864 story ≡ dictionary_bytes ++ rest) where
+module _ (version : Version) (story rest : List ℕ) (said : Says version story) (multiple : whole version (length story))
+    (long : 875 ≤ length story) (stands : drop 864 story ≡ dictionary_bytes ++ rest) where
   is_placed : IsPlaced story
   is_placed = record {
     static_base = (omega (arith, said.static_base), omega (arith, said.static_base, long));
@@ -117,7 +120,8 @@ module _ (version : Version) (story rest : List ℕ) (said : Says version story)
       abbreviations = sym said.abbreviations;
       high_memory = sym said.high_memory;
       first_instruction = sym said.first_instruction;
-      dictionary = subst (λ at. IsDictionaryOf story at (header_read version).dictionary) (sym said.dictionary) is_dictionary_read;
+      dictionary = subst (λ at. IsDictionaryOf story at (header_read version).dictionary) (sym said.dictionary)
+          is_dictionary_read;
     },
   )
 
@@ -131,12 +135,18 @@ module _ (version : Version) (globals : List ℕ) (main : ℕ) (parts : List (Li
   laid_out = header_of version (low_bytes globals main ++ high) ++ (low_bytes globals main ++ high)
 
   pub laid_length : length laid_out ≡ 875 + length high
-  laid_length = omega (arith, whole_length version (low_bytes globals main ++ high), length-append (low_bytes globals main) high, low_length globals main)
+  laid_length = omega (
+    arith,
+    whole_length version (low_bytes globals main ++ high),
+    length-append (low_bytes globals main) high,
+    low_length globals main,
+  )
 
   pub laid_multiple : whole version (length laid_out)
   laid_multiple = subst (whole version) (sym laid_length) (parts_end version first_address parts)
 
   pub laid_read : Reads laid_out (Ok (header_read version))
   laid_read =
-      is_read version laid_out (start_code main ++ high) (says version (low_bytes globals main ++ high)) laid_multiple (omega (arith, laid_length))
+      is_read version laid_out (start_code main ++ high) (says version (low_bytes globals main ++ high)) laid_multiple
+      (omega (arith, laid_length))
       (dictionary_stands laid_out globals high main (behind_header version (low_bytes globals main ++ high)))

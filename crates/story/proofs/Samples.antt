@@ -28,18 +28,20 @@ unfolding bytes_of encoded packed
 low = refl
 
 texts : fault_texts
-    ≡ (20 ∷ 229 ∷ 24 ∷ 91 ∷ 17 ∷ 102 ∷ 106 ∷ 57 ∷ 23 ∷ 160 ∷ 37 ∷ 219 ∷ 59 ∷ 14 ∷ 82 ∷ 96 ∷ 31 ∷ 192 ∷ 125 ∷ 87 ∷ 80 ∷ 166 ∷ 11 ∷ 165 ∷ 156 ∷ 165 ∷ [])
-    ∷ (20 ∷ 229 ∷ 24 ∷ 91 ∷ 17 ∷ 102 ∷ 106 ∷ 57 ∷ 23 ∷ 160 ∷ 78 ∷ 153 ∷ 0 ∷ 192 ∷ 33 ∷ 166 ∷ 92 ∷ 200 ∷ 101 ∷ 87 ∷ 20 ∷ 194 ∷ 244 ∷ 167 ∷ [])
+    ≡ (20 ∷ 229 ∷ 24 ∷ 91 ∷ 17 ∷ 102 ∷ 106 ∷ 57 ∷ 23 ∷ 160 ∷ 37 ∷ 219 ∷ 59 ∷ 14 ∷ 82 ∷ 96 ∷ 31 ∷ 192 ∷ 125 ∷ 87 ∷ 80
+    ∷ 166 ∷ 11 ∷ 165 ∷ 156 ∷ 165 ∷ [])
+    ∷ (20 ∷ 229 ∷ 24 ∷ 91 ∷ 17 ∷ 102 ∷ 106 ∷ 57 ∷ 23 ∷ 160 ∷ 78 ∷ 153 ∷ 0 ∷ 192 ∷ 33 ∷ 166 ∷ 92 ∷ 200 ∷ 101 ∷ 87 ∷ 20
+    ∷ 194 ∷ 244 ∷ 167 ∷ [])
     ∷ []
 unfolding encoded packed spelling_of
 texts = refl
 
--- `[ Main; ];`: one routine that does nothing, of 5 bytes
+-- `[ Main; ];`: one routine that does nothing, of 2 bytes: no locals, rtrue
 abbrev nothing : ProgramOf
 nothing = record { globals = []; routines = record { locals = 0; body = stop } ∷ []; main = 0 }
 
--- the routine at 876 and the texts at 884 and 912 in version 5, and at 880, 888 and 920 in version 8
-addresses_of_5 : packed_addresses 4 nothing ≡ 219 ∷ 221 ∷ 228 ∷ []
+-- the routine at 876 and the texts at 880 and 908 in version 5, and at 880, 888 and 920 in version 8
+addresses_of_5 : packed_addresses 4 nothing ≡ 219 ∷ 220 ∷ 227 ∷ []
 unfolding bytes_of encoded packed spelling_of
 addresses_of_5 = refl
 
@@ -47,18 +49,21 @@ addresses_of_8 : packed_addresses 8 nothing ≡ 110 ∷ 111 ∷ 115 ∷ []
 unfolding bytes_of encoded packed spelling_of
 addresses_of_8 = refl
 
--- the whole story in version 5: 936 bytes, whose sum is 18,899
+-- the whole story in version 5: 932 bytes, whose sum is 18,531
 nothing_laid_out : story_of V5 nothing
-    ≡ (5 ∷ 0 ∷ 0 ∷ 1 ∷ 3 ∷ 103 ∷ 3 ∷ 103 ∷ 3 ∷ 96 ∷ 2 ∷ 226 ∷ 1 ∷ 2 ∷ 3 ∷ 96 ∷ 0 ∷ 0 ∷ 48 ∷ 48 ∷ 48 ∷ 48 ∷ 48 ∷ 48 ∷ 0 ∷ 64 ∷ 0 ∷ 234 ∷ 73 ∷ 211 ∷ [])
+    ≡ (5 ∷ 0 ∷ 0 ∷ 1 ∷ 3 ∷ 103 ∷ 3 ∷ 103 ∷ 3 ∷ 96 ∷ 2 ∷ 226 ∷ 1 ∷ 2 ∷ 3 ∷ 96 ∷ 0 ∷ 0 ∷ 48 ∷ 48 ∷ 48 ∷ 48 ∷ 48 ∷ 48 ∷ 0
+    ∷ 64 ∷ 0 ∷ 233 ∷ 72 ∷ 99 ∷ [])
     ++ replicate 34 0
     ++ flat_map (λ (n : ℕ). 0 ∷ n ∷ []) (replicate 96 128)
     ++ (148 ∷ 165 ∷ [])
     ++ replicate 606 0
     ++ (3 ∷ 46 ∷ 44 ∷ 34 ∷ 9 ∷ 0 ∷ 0 ∷ [])
     ++ (143 ∷ 0 ∷ 219 ∷ 186 ∷ 0 ∷ [])
-    ++ (0 ∷ 232 ∷ 127 ∷ 1 ∷ 184 ∷ 0 ∷ 0 ∷ 0 ∷ [])
-    ++ (20 ∷ 229 ∷ 24 ∷ 91 ∷ 17 ∷ 102 ∷ 106 ∷ 57 ∷ 23 ∷ 160 ∷ 37 ∷ 219 ∷ 59 ∷ 14 ∷ 82 ∷ 96 ∷ 31 ∷ 192 ∷ 125 ∷ 87 ∷ 80 ∷ 166 ∷ 11 ∷ 165 ∷ 156 ∷ 165 ∷ 0 ∷ 0 ∷ [])
-    ++ (20 ∷ 229 ∷ 24 ∷ 91 ∷ 17 ∷ 102 ∷ 106 ∷ 57 ∷ 23 ∷ 160 ∷ 78 ∷ 153 ∷ 0 ∷ 192 ∷ 33 ∷ 166 ∷ 92 ∷ 200 ∷ 101 ∷ 87 ∷ 20 ∷ 194 ∷ 244 ∷ 167 ∷ [])
+    ++ (0 ∷ 176 ∷ 0 ∷ 0 ∷ [])
+    ++ (20 ∷ 229 ∷ 24 ∷ 91 ∷ 17 ∷ 102 ∷ 106 ∷ 57 ∷ 23 ∷ 160 ∷ 37 ∷ 219 ∷ 59 ∷ 14 ∷ 82 ∷ 96 ∷ 31 ∷ 192 ∷ 125 ∷ 87 ∷ 80
+    ∷ 166 ∷ 11 ∷ 165 ∷ 156 ∷ 165 ∷ 0 ∷ 0 ∷ [])
+    ++ (20 ∷ 229 ∷ 24 ∷ 91 ∷ 17 ∷ 102 ∷ 106 ∷ 57 ∷ 23 ∷ 160 ∷ 78 ∷ 153 ∷ 0 ∷ 192 ∷ 33 ∷ 166 ∷ 92 ∷ 200 ∷ 101 ∷ 87 ∷ 20
+    ∷ 194 ∷ 244 ∷ 167 ∷ [])
 unfolding story_of bytes_of encoded packed spelling_of
 nothing_laid_out = refl
 
@@ -67,11 +72,11 @@ abbrev shown : Whole → Place × List ℕ
 shown whole = (whole.place, whole.text)
 
 nothing_played : option_map shown (opening (story_of V5 nothing) 1000000) ≡ Some (places.Quit, [])
-unfolding story_of bytes_of encoded packed spelling_of opening turn_from weight step perform call_packed push_word return_popped decode opcode operands operand byte large result_variable branch operand_values operand_value read_in_place read_variable pop push test_routine test_calls enter call test_return leave give_back spend go store_result
+unfolding story_of bytes_of encoded packed spelling_of opening turn_from weight step perform call_packed decode opcode operands operand byte large result_variable branch operand_values operand_value read_in_place read_variable pop push test_routine test_calls enter call test_return leave give_back spend go store_result
 nothing_played = refl
 
 nothing_played_8 : option_map shown (opening (story_of V8 nothing) 1000000) ≡ Some (places.Quit, [])
-unfolding story_of bytes_of encoded packed spelling_of opening turn_from weight step perform call_packed push_word return_popped decode opcode operands operand byte large result_variable branch operand_values operand_value read_in_place read_variable pop push test_routine test_calls enter call test_return leave give_back spend go store_result
+unfolding story_of bytes_of encoded packed spelling_of opening turn_from weight step perform call_packed decode opcode operands operand byte large result_variable branch operand_values operand_value read_in_place read_variable pop push test_routine test_calls enter call test_return leave give_back spend go store_result
 nothing_played_8 = refl
 
 nothing_meant : (meaning nothing 1000000 []).texts ≡ [] ∷ []
@@ -86,13 +91,16 @@ nothing_ends = refl
 abbrev division : ProgramOf
 division = record {
   globals = 7 ∷ 1000 ∷ [];
-  routines = record { locals = 0; body = next (prints (number_of (binary binaries.Divide (number 1) (number 0)) ∷ [])) stop } ∷ [];
+  routines = record {
+    locals = 0;
+    body = next (prints (number_of (binary binaries.Divide (number 1) (number 0)) ∷ [])) stop;
+  } ∷ [];
   main = 0;
 }
 
--- Main at 876: push 1; push 0; pull T; jz T over the fault's 4 bytes; div; print_num; push 1; ret_popped
-division_code : take 28 (drop 876 (story_of V5 division))
-    ≡ 0 ∷ 232 ∷ 127 ∷ 1 ∷ 232 ∷ 127 ∷ 0 ∷ 233 ∷ 127 ∷ 248 ∷ 160 ∷ 248 ∷ 70 ∷ 141 ∷ 0 ∷ 226 ∷ 186 ∷ 119 ∷ 0 ∷ 248 ∷ 0 ∷ 230 ∷ 191 ∷ 0 ∷ 232 ∷ 127 ∷ 1 ∷ 184 ∷ []
+-- Main at 876: the fault's 4 bytes, for a number is no divisor that is tested; print_num sp; rtrue
+division_code : take 12 (drop 876 (story_of V5 division))
+    ≡ 0 ∷ 141 ∷ 0 ∷ 222 ∷ 186 ∷ 230 ∷ 191 ∷ 0 ∷ 176 ∷ 0 ∷ 0 ∷ 0 ∷ []
 unfolding story_of bytes_of encoded packed spelling_of
 division_code = refl
 
@@ -100,12 +108,13 @@ division_globals : take 6 (drop 258 (story_of V5 division)) ≡ 0 ∷ 7 ∷ 3 �
 unfolding story_of bytes_of encoded packed spelling_of
 division_globals = refl
 
--- 956 bytes, whose sum is 22,045 and that of the globals' bytes, 242
-division_header : take 6 (drop 24 (story_of V5 division)) ≡ 0 ∷ 64 ∷ 0 ∷ 239 ∷ 87 ∷ 15 ∷ []
+-- 940 bytes, whose sum is 19,501 and that of the globals' bytes, 242
+division_header : take 6 (drop 24 (story_of V5 division)) ≡ 0 ∷ 64 ∷ 0 ∷ 235 ∷ 77 ∷ 31 ∷ []
 unfolding story_of bytes_of encoded packed spelling_of
 division_header = refl
 
-division_played : option_map shown (opening (story_of V5 division) 1000000) ≡ Some (places.Quit, 10 ∷ codes "[Fault: division by zero]" ++ 10 ∷ [])
+division_played : option_map shown (opening (story_of V5 division) 1000000)
+    ≡ Some (places.Quit, 10 ∷ codes "[Fault: division by zero]" ++ 10 ∷ [])
 unfolding story_of bytes_of encoded packed spelling_of opening turn_from weight step perform call_packed push_word pull print_packed print_characters text_at decoded abbreviation reads unpacked_text decode opcode operands operand byte large result_variable branch operand_values operand_value read_in_place write_in_place read_variable write_variable read_global write_global pop push test_variable test_pull test_routine test_calls enter call test_return leave give_back spend go take_branch branch_on test_target print
 division_played = refl
 
@@ -127,14 +136,15 @@ calling = record {
   main = 0;
 }
 
--- Main has 20 bytes at 880 in version 8, and f 16 at 904
-calling_addresses : packed_addresses 8 calling ≡ 110 ∷ 113 ∷ 115 ∷ 119 ∷ []
+-- Main has 7 bytes at 880 in version 8, and f 10 at 888
+calling_addresses : packed_addresses 8 calling ≡ 110 ∷ 111 ∷ 113 ∷ 117 ∷ []
 unfolding bytes_of encoded packed spelling_of
 calling_addresses = refl
 
-calling_code : take 38 (drop 880 (story_of V8 calling))
-    ≡ 0 ∷ 232 ∷ 127 ∷ 3 ∷ 233 ∷ 127 ∷ 248 ∷ 224 ∷ 47 ∷ 0 ∷ 113 ∷ 248 ∷ 0 ∷ 233 ∷ 127 ∷ 248 ∷ 232 ∷ 127 ∷ 1 ∷ 184 ∷ 0 ∷ 0 ∷ 0 ∷ 0
-    ∷ 1 ∷ 232 ∷ 191 ∷ 1 ∷ 230 ∷ 191 ∷ 0 ∷ 178 ∷ 22 ∷ 133 ∷ 156 ∷ 165 ∷ 232 ∷ 127 ∷ []
+-- call_vn f 3; rtrue, and then print_num x; print; rtrue
+calling_code : take 18 (drop 880 (story_of V8 calling))
+    ≡ 0 ∷ 249 ∷ 31 ∷ 0 ∷ 111 ∷ 3 ∷ 176 ∷ 0
+    ∷ 1 ∷ 230 ∷ 191 ∷ 1 ∷ 178 ∷ 22 ∷ 133 ∷ 156 ∷ 165 ∷ 176 ∷ []
 unfolding story_of bytes_of encoded packed spelling_of
 calling_code = refl
 
@@ -149,7 +159,12 @@ calling_meant = refl
 -- sources that are too large: of this weight, with a routine of that weight whose name stands in line 3
 abbrev weighing : ℕ → ℕ → ProgramTree
 weighing source one = record {
-  directives = routine (record { name = record { text = codes "main"; position = record { offset = 9; line = 3 } }; locals = []; body = trees.stop; weight = one }) ∷ [];
+  directives = routine (record {
+    name = record { text = codes "main"; position = record { offset = 9; line = 3 } };
+    locals = [];
+    body = trees.stop;
+    weight = one;
+  }) ∷ [];
   end = record { offset = 20; line = 4 };
   weight = source;
 }

@@ -23,7 +23,8 @@ room_is (r ∷ rs) =
     let more : room_for (map routine_size rs ++ map length fault_texts) ≡ routines_size rs + 71 = room_is rs in
     omega (arith, more)
 
-fits : (version : Version) (weight : ℕ) → weight ≤ greatest_weight version → 875 + (weight + 71) ≤ 65535 * scale_of version
+fits : (version : Version) (weight : ℕ) → weight ≤ greatest_weight version
+    → 875 + (weight + 71) ≤ 65535 * scale_of version
 fits V5 weight light = omega (arith, light)
 fits V8 weight light = omega (arith, light)
 
@@ -32,17 +33,26 @@ unfolding story_of
 stories_are_short version p light =
     let a = addresses_in (scale_of version) p in
     let long = laid_length version p.globals (slice_index a.routines p.main) (parts_of a p.routines) in
-    let parts : length (parts_from (scale_of version) first_address (parts_of a p.routines)) ≤ room_for (map length (parts_of a p.routines)) =
+    let parts : length (parts_from (scale_of version) first_address (parts_of a p.routines))
+    ≤ room_for (map length (parts_of a p.routines)) =
     parts_short version first_address (parts_of a p.routines) in
-    let room : room_for (map length (parts_of a p.routines)) ≡ routines_size p.routines + 71 = ap room_for (sizes_are a p.routines) ∙ room_is p.routines in
+    let room : room_for (map length (parts_of a p.routines)) ≡ routines_size p.routines + 71 =
+    ap room_for (sizes_are a p.routines) ∙ room_is p.routines in
     omega (arith, long, parts, room, fits version (routines_size p.routines) light)
 
 -- routines that weigh at most 32,000 have code that jumps reach
 pub all_short : (rs : List RoutineOf) → All (λ (r : RoutineOf). routine_size r + 7 ≤ 32000) rs → All IsShort rs
-all_short rs small k d within = let h : routine_size (slice_index_or rs k d) + 7 ≤ 32000 = small k d within in omega (arith, h)
+all_short rs small k d within = let h : routine_size (slice_index_or rs k d) + 7 ≤ 32000 = small k d within in
+    omega (arith, h)
 
 -- what the law of stories asks for, from the limits of a source's weight
-pub is_story : (version : Version) (p : ProgramOf) → IsAccepted p → All (λ (r : RoutineOf). routine_size r + 7 ≤ 32000) p.routines
+pub is_story : (version : Version) (p : ProgramOf) → IsAccepted p
+    → All (λ (r : RoutineOf). routine_size r + 7 ≤ 32000) p.routines
     → routines_size p.routines ≤ greatest_weight version → All (λ b. b < 256) (story_of version p) → IsStory version p
 is_story version p accepted small light bytes =
-    record { accepted = accepted; short = all_short p.routines small; within = stories_are_short version p light; bytes = bytes }
+    record {
+      accepted = accepted;
+      short = all_short p.routines small;
+      within = stories_are_short version p light;
+      bytes = bytes;
+    }

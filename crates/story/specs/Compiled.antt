@@ -75,14 +75,18 @@ pub record IsStoryOf (version : Version) (source bytes : List ℕ) : Type 0 wher
 pub data Refuses (version : Version) (source : List ℕ) (f : SourceFault) : Type 0 where
   no_memory : f ≡ faults.no_memory → Refuses version source f
   in_tokens : Lexes 0 1 source (Err f) → Refuses version source f
-  not_in_grammar : (tokens : List SourceToken) → Lexes 0 1 source (Ok tokens) → ((p : ProgramTree) → IsProgram (lexemes_of tokens) p → ⊥)
+  not_in_grammar : (tokens : List SourceToken) → Lexes 0 1 source (Ok tokens)
+      → ((p : ProgramTree) → IsProgram (lexemes_of tokens) p → ⊥)
       → f.number ≡ NOT_IN_GRAMMAR → Refuses version source f
-  too_deep : (tokens : List SourceToken) → Lexes 0 1 source (Ok tokens) → DeepProgram (greatest_nesting + 1) (lexemes_of tokens)
+  too_deep : (tokens : List SourceToken) → Lexes 0 1 source (Ok tokens)
+      → DeepProgram (greatest_nesting + 1) (lexemes_of tokens)
       → ((p : ProgramTree) → IsProgram (lexemes_of tokens) p → greatest_nesting < program_nesting p)
       → f.number ≡ NESTED_TOO_DEEP → Refuses version source f
-  rule_broken : (p : ProgramTree) → IsTreeOf source p → (b : Breach) → IsAmong b (program_breaches p) → IsFirst b (program_breaches p)
+  rule_broken : (p : ProgramTree) → IsTreeOf source p → (b : Breach) → IsAmong b (program_breaches p)
+      → IsFirst b (program_breaches p)
       → f.number ≡ b.number → f.line ≡ b.position.line → Refuses version source f
-  too_large : (p : ProgramTree) → IsTreeOf source p → program_breaches p ≡ [] → size_fault version p ≡ Some f → Refuses version source f
+  too_large : (p : ProgramTree) → IsTreeOf source p → program_breaches p ≡ [] → size_fault version p ≡ Some f
+      → Refuses version source f
 
 -- what the compiler answers
 abbrev pub Compiles : Version → List ℕ → Result (List ℕ) SourceFault → Type 0

@@ -28,7 +28,8 @@ pub record IsStory (version : Version) (p : ProgramOf) : Type 0 where
 abbrev pub StoriesHold : Type 0
 StoriesHold =
     (version : Version) (p : ProgramOf) → IsStory version p
-    → ((header : Header) × Reads (story_of version p) (Ok header)) × HoldsProgram (story_of version p) (addresses_in (scale_of version) p) p
+    → ((header : Header) × Reads (story_of version p) (Ok header))
+    × HoldsProgram (story_of version p) (addresses_in (scale_of version) p) p
 
 -- the packed addresses of a story are words where its code weighs no more than a source may
 abbrev pub StoriesAreShort : Type 0

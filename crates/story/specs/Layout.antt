@@ -83,7 +83,8 @@ dictionary_bytes = 3 ∷ codes ".,\"" ++ 9 ∷ word 0
 
 abbrev pub low_bytes : List ℕ → ℕ → List ℕ
 low_bytes globals main =
-    abbreviation_bytes ++ encoded [] ++ global_bytes globals ++ replicate (2 * default_count) 0 ++ dictionary_bytes ++ start_code main
+    abbreviation_bytes ++ encoded [] ++ global_bytes globals ++ replicate (2 * default_count) 0 ++ dictionary_bytes
+    ++ start_code main
 
 -- Parts at packed addresses
 
@@ -112,7 +113,8 @@ routine_bytes a r = r.locals ∷ code_bytes a (routine_items r)
 
 abbrev pub packed_addresses : ℕ → ProgramOf → List ℕ
 packed_addresses scale p =
-    map (λ address. address / scale) (addresses_from scale first_address (map routine_size p.routines ++ map length fault_texts))
+    map (λ address. address / scale) (addresses_from scale first_address (map routine_size p.routines
+    ++ map length fault_texts))
 
 abbrev pub addresses_in : ℕ → ProgramOf → Addresses
 addresses_in scale p = record {
@@ -135,7 +137,8 @@ abbrev pub header_of : Version → List ℕ → List ℕ
 header_of version body =
     version_number version ∷ 0 ∷ word 1 ++ word start_address ++ word start_address ++ word dictionary_address
     ++ word defaults_address ++ word globals_address ++ word dictionary_address ++ word 0 ++ codes "000000"
-    ++ word header_length ++ word ((header_length + length body) / scale_of version) ++ word (sum body % 65536) ++ replicate 34 0
+    ++ word header_length ++ word ((header_length + length body) / scale_of version) ++ word (sum body % 65536)
+    ++ replicate 34 0
 
 abbrev pub body_of : Version → ProgramOf → List ℕ
 body_of version p = body_with (scale_of version) (addresses_in (scale_of version) p) p

@@ -32,7 +32,8 @@ pub fn z_text(alloc: Global, characters: &[u8]) -> Result<Vec<u8>, AllocError>
 
 /// Zero bytes up to an address to which a packed address leads.
 pub fn put_filling(body: &mut Vec<u8>, version: Version) -> Result<(), AllocError>
-    ensures { OnOk result (let at = layout.header_length + length body.old.items in body.new.items ≡ body.old.items ++ replicate (layout.aligned (scale_of version) at - at) 0) }
+    ensures { OnOk result (let at = layout.header_length + length body.old.items in
+        body.new.items ≡ body.old.items ++ replicate (layout.aligned (scale_of version) at - at) 0) }
 {
     let at = HEADER + body.len();
     put_zeros(body, aligned(version, at) - at)
@@ -61,7 +62,11 @@ pub fn put_routines(
     addresses: &Addresses<'_>,
 ) -> Result<(), AllocError>
     requires { All IsReady codes.now }
-    ensures { OnOk result ((parts : List (List ℕ)) → body.new.items ++ layout.parts_from (scale_of version) (layout.header_length + length body.new.items) parts ≡ body.old.items ++ layout.parts_from (scale_of version) (layout.header_length + length body.old.items) (map (code_part (addresses_of addresses.now)) codes.now ++ parts)) }
+    ensures { OnOk result ((parts : List (List ℕ))
+        → body.new.items ++ layout.parts_from (scale_of version) (layout.header_length + length body.new.items)
+        parts ≡ body.old.items ++ layout.parts_from (scale_of version)
+        (layout.header_length + length body.old.items) (map (code_part (addresses_of addresses.now)) codes.now
+        ++ parts)) }
 {
     for code in codes {
         put_filling(body, version)?;
@@ -72,7 +77,10 @@ pub fn put_routines(
 
 /// A text at a packed address.
 fn put_text(body: &mut Vec<u8>, version: Version, text: &[u8]) -> Result<(), AllocError>
-    ensures { OnOk result ((parts : List (List ℕ)) → body.new.items ++ layout.parts_from (scale_of version) (layout.header_length + length body.new.items) parts ≡ body.old.items ++ layout.parts_from (scale_of version) (layout.header_length + length body.old.items) (text.now ∷ parts)) }
+    ensures { OnOk result ((parts : List (List ℕ))
+        → body.new.items ++ layout.parts_from (scale_of version) (layout.header_length + length body.new.items)
+        parts ≡ body.old.items ++ layout.parts_from (scale_of version)
+        (layout.header_length + length body.old.items) (text.now ∷ parts)) }
 {
     put_filling(body, version)?;
     body.extend_from_slice(text)
@@ -85,7 +93,8 @@ pub fn put_texts(
     first: &[u8],
     second: &[u8],
 ) -> Result<(), AllocError>
-    ensures { OnOk result (body.new.items ≡ body.old.items ++ layout.parts_from (scale_of version) (layout.header_length + length body.old.items) (first.now ∷ second.now ∷ [])) }
+    ensures { OnOk result (body.new.items ≡ body.old.items ++ layout.parts_from (scale_of version)
+        (layout.header_length + length body.old.items) (first.now ∷ second.now ∷ [])) }
 {
     put_text(body, version, first)?;
     put_text(body, version, second)?;

@@ -2,8 +2,8 @@
 
 ghost use Rattle.story.specs.Laws.{StoriesAreShort, StoriesHold};
 
-/// The story of an accepted program is read, and holds the program at the packed addresses that its calls name, where its
-/// code is short enough for jumps, its packed addresses are words and its bytes are bytes.
+/// The story of an accepted program is read, and holds the program at the packed addresses that its calls name, where
+/// its code is short enough for jumps, its packed addresses are words and its bytes are bytes.
 pub fn stories_hold()
     ensures { StoriesHold }
 {}

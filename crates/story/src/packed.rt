@@ -29,7 +29,8 @@ fn add_address(
     size: usize,
 ) -> Result<usize, AllocError>
     requires { layout.aligned (scale_of version) at + size ≤ layout.greatest_length version }
-    ensures addresses { OnOk result (addresses.new.items ≡ addresses.old.items ++ (layout.aligned (scale_of version) at / scale_of version) ∷ []) }
+    ensures addresses { OnOk result (addresses.new.items ≡ addresses.old.items
+        ++ (layout.aligned (scale_of version) at / scale_of version) ∷ []) }
     ensures end { IfOk result (λ end. end ≡ layout.aligned (scale_of version) at + size) }
 {
     let address = aligned(version, at);
@@ -45,8 +46,10 @@ pub fn packed_addresses(
     first: usize,
     second: usize,
 ) -> Result<Vec<u16>, AllocError>
-    requires { end_from (scale_of version) layout.first_address (map part_size codes.now ++ first ∷ second ∷ []) ≤ layout.greatest_length version }
-    ensures { IfOk result (λ v. v.items ≡ packed_from (scale_of version) layout.first_address (map part_size codes.now ++ first ∷ second ∷ [])) }
+    requires { end_from (scale_of version) layout.first_address (map part_size codes.now ++ first ∷ second ∷ [])
+        ≤ layout.greatest_length version }
+    ensures { IfOk result (λ v. v.items ≡ packed_from (scale_of version) layout.first_address (map part_size codes.now
+        ++ first ∷ second ∷ [])) }
 {
     let mut addresses = Vec::new(alloc);
     let mut at = FIRST_ADDRESS;

@@ -61,9 +61,9 @@ impl Story {
 /// # Errors
 ///
 /// The fault by which the source is refused, that of the earliest part that finds one, with its line: E01 to E04 where
-/// the bytes are no tokens, E10 where the tokens are no program, E05 where the program is nested more than 100 deep, E20
-/// to E29 where it breaks a rule, and E30 to E32 where it is too large; E30 and E31 with line 0. E99, with line 0, where
-/// a growth of memory was refused.
+/// the bytes are no tokens, E10 where the tokens are no program, E05 where the program is nested more than 100 deep,
+/// E20 to E29 where it breaks a rule, and E30 to E32 where it is too large; E30 and E31 with line 0. E99, with line 0,
+/// where a growth of memory was refused.
 pub fn compile(alloc: Global, source: &[u8]) -> Result<Story, SourceFault>
     ensures { Compiles V5 source.now result }
 {

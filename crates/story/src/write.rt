@@ -39,7 +39,12 @@ fn fault_texts(alloc: Global) -> Result<FaultTexts, AllocError>
 /// Where the routines and the texts of faults stand, by the packed addresses of all parts.
 fn addresses_in<'a>(packed: &'a [u16], routines: usize) -> Addresses<'a>
     requires { routines + 1 < length packed.now }
-    ensures { addresses_of result ≡ record { routines = packed.now; division_by_zero = slice_index packed.now routines; not_a_character = slice_index packed.now (routines + 1) } }
+    ensures { addresses_of result ≡ record {
+      routines = packed.now;
+      division_by_zero = slice_index packed.now routines;
+      not_a_character =
+          slice_index packed.now (routines + 1);
+    } }
 {
     Addresses {
         routines: packed,

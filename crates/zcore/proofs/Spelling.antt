@@ -1,15 +1,11 @@
 -- The spelling of characters.
-use Rattle.std.proofs.Common.{◌≡◌, ℕ, zero, suc, ◌+◌, ◌/◌, ◌%◌, ◌<◌, ◌≤◌, ◌&&◌, Bool, true, false, cond, eqb, leb, ltb, List, [], ◌∷◌, ◌++◌, Some, None, Option, refl, sym, ap, subst, ◌∙◌, arith, inl, inr}
+use Rattle.std.proofs.Common.{◌≡◌, ℕ, zero, suc, ◌+◌, ◌-◌, ◌/◌, ◌%◌, ◌<◌, ◌≤◌, ◌&&◌, ◌||◌, not, Bool, true, false, cond, eqb, leb, ltb, List, [], ◌∷◌, ◌++◌, Some, None, Option, refl, eqb-true, sym, ap, subst, ◌∙◌, arith, ◌⊎◌, inl, inr}
 use Rattle.std.specs.Prelude.{replicate}
 use Rattle.std.proofs.lemmas.Bool.{leb-true, cases_lt, ne_eqb, and_parts}
 use Rattle.std.proofs.lemmas.Bool.Decides.{nat_tests}
-use Rattle.zcore.specs.Alphabets.{is_printable, lower_letters, upper_letters, punctuation, place_in, spelling_of, spelled}
+use Rattle.zcore.specs.Alphabets.{is_printable, lower_letters, upper_letters, punctuation, place_in, spelling_in_punctuation, spelling_of, spelled}
 use Rattle.zcore.specs.TextParts.{AreSmall}
 use Rattle.zcore.proofs.Packing.{small_append}
-
-pub spelling_none : (c : ℕ) → (c ≡ 32 → ⊥) → place_in lower_letters c ≡ None → place_in upper_letters c ≡ None → (c ≡ 13 → ⊥) → place_in punctuation c ≡ None → spelling_of c ≡ 5 ∷ 6 ∷ (c / 32) ∷ (c % 32) ∷ []
-unfolding spelling_of
-spelling_none c space lower upper line other = rw (ne_eqb c 32 space, lower, upper, ne_eqb c 13 line, other) refl
 
 -- ---- finite facts, by computing at each character
 
@@ -30,6 +26,74 @@ all_small (z ∷ zs) = leb (suc z) 32 && all_small zs
 small_from : (zs : List ℕ) → all_small zs ≡ true → AreSmall zs
 small_from [] e = tt
 small_from (z ∷ zs) e = let p = and_parts (leb (suc z) 32) (all_small zs) e in (leb-true (suc z) 32 p.0, small_from zs p.1)
+
+-- ---- letters by arithmetic
+
+abbrev same : List ℕ → List ℕ → Bool
+same [] [] = true
+same (x ∷ xs) (y ∷ ys) = eqb x y && same xs ys
+same _ _ = false
+
+same_is : (xs ys : List ℕ) → same xs ys ≡ true → xs ≡ ys
+same_is [] [] e = refl
+same_is [] (y ∷ ys) e = cc
+same_is (x ∷ xs) [] e = cc
+same_is (x ∷ xs) (y ∷ ys) e =
+    let p = and_parts (eqb x y) (same xs ys) e in
+    rw (eqb-true x y p.0, same_is xs ys p.1) refl
+
+-- two spellings agree at each character from a first to a last
+abbrev agree_from : (ℕ → List ℕ) → ℕ → ℕ → Bool
+agree_from f first last = each_below (λ n. same (f (first + n)) (spelling_of (first + n))) (suc last - first)
+
+agree_at : (f : ℕ → List ℕ) (first last c : ℕ) → agree_from f first last ≡ true → first ≤ c → c ≤ last → f c ≡ spelling_of c
+agree_at f first last c e low high =
+    let there : first + (c - first) ≡ c = omega arith in
+    subst (λ n. f n ≡ spelling_of n) there
+    (same_is _ _ (below_at (λ n. same (f (first + n)) (spelling_of (first + n))) (suc last - first) (c - first) e (omega arith)))
+
+lower_agree : agree_from (λ c. (c - 97 + 6) ∷ []) 97 122 ≡ true
+unfolding spelling_of
+lower_agree = refl
+
+upper_agree : agree_from (λ c. 4 ∷ (c - 65 + 6) ∷ []) 65 90 ≡ true
+unfolding spelling_of
+upper_agree = refl
+
+pub lower_spelling : (c : ℕ) → 97 ≤ c → c ≤ 122 → (c - 97 + 6) ∷ [] ≡ spelling_of c
+lower_spelling c low high = agree_at (λ c. (c - 97 + 6) ∷ []) 97 122 c lower_agree low high
+
+pub upper_spelling : (c : ℕ) → 65 ≤ c → c ≤ 90 → 4 ∷ (c - 65 + 6) ∷ [] ≡ spelling_of c
+upper_spelling c low high = agree_at (λ c. 4 ∷ (c - 65 + 6) ∷ []) 65 90 c upper_agree low high
+
+pub space_spelling : 0 ∷ [] ≡ spelling_of 32
+unfolding spelling_of
+space_spelling = refl
+
+pub line_spelling : 5 ∷ 7 ∷ [] ≡ spelling_of 13
+unfolding spelling_of
+line_spelling = refl
+
+abbrev is_sign : ℕ → Bool
+is_sign c = not ((leb 97 c && leb c 122) || (leb 65 c && leb c 90) || eqb c 32 || eqb c 13)
+
+signs_agree : each_below (λ c. not (is_sign c) || same (spelling_in_punctuation (place_in punctuation c) c) (spelling_of c)) 256 ≡ true
+unfolding spelling_of
+signs_agree = refl
+
+sign_same : (b s : Bool) → not b || s ≡ true → b ≡ true → s ≡ true
+sign_same true s e h = e
+sign_same false s e h = cc
+
+pub is_sign_by : (c : ℕ) → ((97 ≤ c) × (122 < c)) ⊎ (c < 97) →
+    ((65 ≤ c) × (90 < c)) ⊎ (c < 65) → (c ≡ 32 → ⊥) → (c ≡ 13 → ⊥) → is_sign c ≡ true
+is_sign_by c (inl a) (inl b) s l = let x = a.1 in let y = b.1 in grind (arith, nat_tests)
+is_sign_by c (inl a) (inr b) s l = let x = a.1 in grind (arith, nat_tests)
+is_sign_by c (inr a) (inl b) s l = let y = b.1 in grind (arith, nat_tests)
+is_sign_by c (inr a) (inr b) s l = grind (arith, nat_tests)
+
+pub sign_spelling : (c : ℕ) → c < 256 → is_sign c ≡ true → spelling_in_punctuation (place_in punctuation c) c ≡ spelling_of c
+sign_spelling c lt is = same_is _ _ (sign_same (is_sign c) _ (below_at (λ c. not (is_sign c) || same (spelling_in_punctuation (place_in punctuation c) c) (spelling_of c)) 256 c signs_agree lt) is)
 
 all_spelled_small : each_below (λ c. all_small (spelling_of c)) 256 ≡ true
 unfolding spelling_of

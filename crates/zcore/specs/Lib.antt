@@ -13,5 +13,9 @@ pub mod State
 pub mod Parts
 pub mod Step
 pub mod Turn
+pub mod Cutting
+pub mod Dictionary
+pub mod Entries
+pub mod Properties
 pub mod Laws
 pub mod TextParts

@@ -1,6 +1,6 @@
 //! Characters, and how they are spelled in Z-characters.
 
-ghost use Rattle.std.specs.Prelude.{◌≡◌, ◌<◌, ◌≤◌, length, take, IfOk, MatchOption, ⊤};
+ghost use Rattle.std.specs.Prelude.{◌≡◌, ◌<◌, ◌≤◌, ◌++◌, length, take, IfOk, OnOk, MatchOption, ⊤};
 ghost use Rattle.std.specs.List.{list_all};
 ghost use Rattle.zcore.specs.Alphabets as spec;
 
@@ -51,45 +51,62 @@ fn place_in(letters: &[u8], c: u8) -> Option<usize>
     letters.iter().position(|letter| *letter == c)
 }
 
+/// How a character in neither alphabet of letters, no space and no new line, is spelled.
+fn sign_spelling(c: u8) -> ZCharacters
+    ensures { take result.length result.characters ≡ spec.spelling_in_punctuation (spec.place_in spec.punctuation c) c }
+{
+    match place_in(&PUNCTUATION, c) {
+        Some(place) => ZCharacters {
+            characters: [5, place as u8 + 8, 5, 5],
+            length: 2,
+        },
+        None => ZCharacters {
+            characters: [5, 6, c / 32, c % 32],
+            length: 4,
+        },
+    }
+}
+
 /// How a character is spelled, which is in the first alphabet that has it, or else as an escape.
-#[tactic(auto, unfolding(crate::specs::Alphabets::spelling_of))]
+#[tactic(auto, using(crate::proofs::Spelling::space_spelling, crate::proofs::Spelling::lower_spelling, crate::proofs::Spelling::upper_spelling, crate::proofs::Spelling::line_spelling, crate::proofs::Spelling::sign_spelling))]
 pub(crate) fn spelling(c: u8) -> ZCharacters
     ensures { take result.length result.characters ≡ spec.spelling_of c }
 {
-    if c == 32 {
+    if c >= b'a' && c <= b'z' {
+        return ZCharacters {
+            characters: [c - b'a' + 6, 5, 5, 5],
+            length: 1,
+        };
+    }
+    if c == b' ' {
         return ZCharacters {
             characters: [0, 5, 5, 5],
             length: 1,
         };
     }
-    if let Some(place) = place_in(&LOWER_LETTERS, c) {
+    if c >= b'A' && c <= b'Z' {
         return ZCharacters {
-            characters: [place as u8 + 6, 5, 5, 5],
-            length: 1,
-        };
-    }
-    if let Some(place) = place_in(&UPPER_LETTERS, c) {
-        return ZCharacters {
-            characters: [4, place as u8 + 6, 5, 5],
+            characters: [4, c - b'A' + 6, 5, 5],
             length: 2,
         };
     }
-    if c == 13 {
+    if c == b'\r' {
         return ZCharacters {
             characters: [5, 7, 5, 5],
             length: 2,
         };
     }
-    if let Some(place) = place_in(&PUNCTUATION, c) {
-        return ZCharacters {
-            characters: [5, place as u8 + 8, 5, 5],
-            length: 2,
-        };
+    sign_spelling(c)
+}
+
+/// Adds the Z-characters of a character.
+fn put_spelled(characters: &mut Vec<u8>, c: u8) -> Result<(), AllocError>
+    ensures { OnOk result (characters.new.items ≡ characters.old.items ++ spec.spelling_of c) }
+{
+    for z in spelling(c).as_slice() {
+        characters.push(*z)?;
     }
-    ZCharacters {
-        characters: [5, 6, c / 32, c % 32],
-        length: 4,
-    }
+    Ok(())
 }
 
 /// The Z-characters of a text.
@@ -98,7 +115,7 @@ pub(crate) fn spelled(alloc: Global, text: &[u8]) -> Result<Vec<u8>, AllocError>
 {
     let mut characters = Vec::new(alloc);
     for c in text {
-        characters.extend_from_slice(spelling(*c).as_slice())?;
+        put_spelled(&mut characters, *c)?;
     }
     Ok(characters)
 }

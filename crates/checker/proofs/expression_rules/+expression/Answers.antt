@@ -7,15 +7,16 @@ use Rattle.expressions.specs.Tree as trees
 use Rattle.expressions.specs.Tree.{expression_tree, name_tree}
 use Rattle.checker.specs.Names.{name_of}
 use Rattle.checker.specs.Breaches.{at}
+use Rattle.checker.specs.Noted.{noted}
 use Rattle.checker.specs.Resolved as values
 use Rattle.checker.specs.Resolved.{Value, value_of}
 use Rattle.checker.specs.Scope.{look_in}
-use Rattle.checker.specs.Expressions.{breaches}
+use Rattle.checker.specs.Expressions.{breaches, value_breaches, value_of_binding}
 use Rattle.checker.specs.Walk.{value_link, own_breaches, resolved, link_breaches, resolved_link}
 use Rattle.checker.proofs.Noted.{noted_none, noted_two}
 use Rattle.checker.proofs.Each.{each_next, each_end, value_next, value_end}
-use Rattle.checker.proofs.Shapes.{is_constant, is_chain}
-use Rattle.checker.proofs.Walks.{two, made_number, made_call, made_chain, made_compare, made_equal, made_assign}
+use Rattle.checker.proofs.Shapes.{is_constant, is_named, is_call, is_parenthesised, is_prefixed, is_step_before, is_step_after, is_chain, is_compare, is_equal, is_assign}
+use Rattle.checker.proofs.Walks.{one, two, made_number, made_call, made_prefixed, made_step_before, made_step_after, made_chain, made_compare, made_equal, made_assign}
 use Rattle.checker.proofs.Forms.{all_walked, chain_walked, call_walked}
 use Rattle.checker.proofs.expression_rules.+expression.Goals as goal
 
@@ -24,8 +25,8 @@ all_expressions-loop-e-preserved t c =
     let f = λ (x : Expression). own_breaches (look_in c.args.scope.now) x in
     let g = λ (x : Expression). resolved (look_in c.args.scope.now) x in
     record {
-      value = rw c.in_ok-push.ensures.items (value_next f g value_of c.loop-e.found.items c.in_ok-expression.field-0 c.args.given.now c.loop-e.e-index c.e-item.result c.loop-e-test.true c.e-item.is c.loop-e.invariant.value c.in_ok-expression.ensures.value);
-      least = rw c.in_ok-expression.ensures.breaches (sym (each_next f g value_of c.loop-e.least c.args.given.now c.loop-e.e-index c.e-item.result c.loop-e-test.true c.e-item.is) ∙ c.loop-e.invariant.least);
+      value = rw c.in_ok-push.ensures.items (value_next f g value_of c.loop-e.found.items c.in-Ok.resolved c.args.given.now c.loop-e.e-index c.e-item.result c.loop-e-test.true c.e-item.is c.loop-e.invariant.value c.in-Ok.ensures.value);
+      least = rw c.in-Ok.ensures.breaches (sym (each_next f g value_of c.loop-e.least c.args.given.now c.loop-e.e-index c.e-item.result c.loop-e-test.true c.e-item.is) ∙ c.loop-e.invariant.least);
     }
 
 pub all_expressions-returns : goal.all_expressions-returns
@@ -42,8 +43,8 @@ chain_links-loop-link-preserved t c =
     let f = λ (x : Binary × Expression). link_breaches (look_in c.args.scope.now) x in
     let g = λ (x : Binary × Expression). resolved_link (look_in c.args.scope.now) x in
     record {
-      value = rw c.in_ok-push.ensures.items (value_next f g value_link c.loop-link.found.items (c.link-item.result.0, c.in_ok-operand.operand) c.args.links.now c.loop-link.link-index c.link-item.result c.loop-link-test.true c.link-item.is c.loop-link.invariant.value (ap (λ (v : Value). (c.link-item.result.0, v)) c.in_ok-operand.ensures.value));
-      least = rw c.in_ok-operand.ensures.breaches (sym (each_next f g value_link c.loop-link.least c.args.links.now c.loop-link.link-index c.link-item.result c.loop-link-test.true c.link-item.is) ∙ c.loop-link.invariant.least);
+      value = rw c.in_ok-push.ensures.items (value_next f g value_link c.loop-link.found.items (c.link-item.result.0, c.in-Ok.operand) c.args.links.now c.loop-link.link-index c.link-item.result c.loop-link-test.true c.link-item.is c.loop-link.invariant.value (ap (λ (v : Value). (c.link-item.result.0, v)) c.in-Ok.ensures.value));
+      least = rw c.in-Ok.ensures.breaches (sym (each_next f g value_link c.loop-link.least c.args.links.now c.loop-link.link-index c.link-item.result c.loop-link-test.true c.link-item.is) ∙ c.loop-link.invariant.least);
     }
 
 pub chain_links-returns : goal.chain_links-returns
@@ -64,6 +65,63 @@ expression-returns-in-Chain t c =
     let v = c.in-Chain in
     rw (is_chain c.args.e.now v.first v.operator v.second v.links v.is, ← c.deref-in-Chain.ensures.value, ← c.deref-in-Chain-2.ensures, ← c.deref-in-Chain-3.ensures) c.chain.ensures
 
+pub expression-returns-in-Named : goal.expression-returns-in-Named
+expression-returns-in-Named t c =
+    let v = c.in-Named in
+    rw (is_named c.args.e.now v.name v.is) (record {
+      value = c.value.ensures.value ∙ ap value_of_binding c.look.ensures;
+      breaches = c.value.ensures.breaches ∙ ap (λ f. noted c.args.least.now (value_breaches v.name.position f)) c.look.ensures;
+    })
+
+pub expression-returns-in-Call : goal.expression-returns-in-Call
+expression-returns-in-Call t c =
+    let v = c.in-Call in
+    rw (is_call c.args.e.now v.name v.given v.is, ← c.deref.ensures.value) c.call.ensures
+
+pub expression-returns-in-Parenthesised : goal.expression-returns-in-Parenthesised
+expression-returns-in-Parenthesised t c =
+    let v = c.in-Parenthesised in
+    rw (is_parenthesised c.args.e.now v.inside v.is, ← c.deref-in-Parenthesised.ensures) c.expression.ensures
+
+pub expression-returns-in-Prefixed : goal.expression-returns-in-Prefixed
+expression-returns-in-Prefixed t c =
+    let v = c.in-Prefixed in
+    rw (is_prefixed c.args.e.now v.prefix v.operand v.is, ← c.deref-in-Prefixed.ensures) c.prefixed.ensures
+
+pub expression-returns-in-StepBefore : goal.expression-returns-in-StepBefore
+expression-returns-in-StepBefore t c =
+    let v = c.in-StepBefore in
+    rw (is_step_before c.args.e.now v.step v.position v.operand v.is, ← c.deref-in-StepBefore.ensures) c.step_before.ensures
+
+pub expression-returns-in-StepAfter : goal.expression-returns-in-StepAfter
+expression-returns-in-StepAfter t c =
+    let v = c.in-StepAfter in
+    rw (is_step_after c.args.e.now v.operand v.step v.position v.is, ← c.deref-in-StepAfter.ensures) c.step_after.ensures
+
+pub expression-returns-in-Compare : goal.expression-returns-in-Compare
+expression-returns-in-Compare t c =
+    let v = c.in-Compare in
+    rw (is_compare c.args.e.now v.left v.comparison v.right v.is, ← c.deref-in-Compare.ensures, ← c.deref-in-Compare-2.ensures) c.compare.ensures
+
+pub expression-returns-in-Equal : goal.expression-returns-in-Equal
+expression-returns-in-Equal t c =
+    let v = c.in-Equal in
+    rw (is_equal c.args.e.now v.left v.equality v.right v.others v.is, ← c.deref-in-Equal.ensures.value, ← c.deref-in-Equal-2.ensures, ← c.deref-in-Equal-3.ensures) c.equal.ensures
+
+pub expression-returns-in-Assign : goal.expression-returns-in-Assign
+expression-returns-in-Assign t c =
+    let v = c.in-Assign in
+    rw (is_assign c.args.e.now v.left v.position v.right v.is, ← c.deref-in-Assign.ensures, ← c.deref-in-Assign-2.ensures) c.assign.ensures
+
+pub prefixed-returns : goal.prefixed-returns
+prefixed-returns t c = rw (made_prefixed c.args.prefix c.in-Ok.operand) (one (values.prefixed c.args.prefix) c.in-Ok.ensures)
+
+pub step_before-returns : goal.step_before-returns
+step_before-returns t c = rw (made_step_before c.args.step c.in-Ok.variable) (one (values.step_before c.args.step) c.in-Ok.ensures)
+
+pub step_after-returns : goal.step_after-returns
+step_after-returns t c = rw (made_step_after c.in-Ok.variable c.args.step) (one (λ x. values.step_after x c.args.step) c.in-Ok.ensures)
+
 pub variable-returns-in_ok-expression-in-None : goal.variable-returns-in_ok-expression-in-None
 variable-returns-in_ok-expression-in-None t c =
     let is : name_of (expression_tree c.args.e.now) ≡ None = sym c.name_of.ensures ∙ ap (option_map name_tree) c.in-None.is in
@@ -74,26 +132,26 @@ variable-returns-in_ok-expression-in-None t c =
 
 pub call-returns : goal.call-returns
 call-returns t c =
-    rw (made_call c.routine-number.result c.in_ok-given.given)
-    (call_walked (look_in c.args.scope.now) (name_tree c.args.name) c.routine-number.result (length c.args.given.now) c.look.result c.args.given.now (map value_of c.in_ok-given.given.items)
-    c.look.ensures refl c.routine-number.ensures.value c.routine-number.ensures.breaches c.in_ok-given.ensures)
+    rw (made_call c.routine-number.result c.in-Ok.given)
+    (call_walked (look_in c.args.scope.now) (name_tree c.args.name) c.routine-number.result (length c.args.given.now) c.look.result c.args.given.now (map value_of c.in-Ok.given.items)
+    c.look.ensures refl c.routine-number.ensures.value c.routine-number.ensures.breaches c.in-Ok.ensures)
 
 pub chain-returns : goal.chain-returns
 chain-returns t c =
-    rw (made_chain c.in_ok-first.first c.args.operator c.in_ok-second.second c.in_ok-links.links)
+    rw (made_chain c.in-Ok.first c.args.operator c.in-Ok-boxed.second c.in-Ok-chain_links.links)
     (chain_walked (look_in c.args.scope.now) (trees.binary c.args.operator (expression_tree c.args.first.now) (expression_tree c.args.second.now)) c.args.links.now
-    (values.binary c.args.operator (value_of c.in_ok-first.first.value) (value_of c.in_ok-second.second.value)) (map value_link c.in_ok-links.links.items)
-    (two (values.binary c.args.operator) c.in_ok-first.ensures c.in_ok-second.ensures) c.in_ok-links.ensures)
+    (values.binary c.args.operator (value_of c.in-Ok.first.value) (value_of c.in-Ok-boxed.second.value)) (map value_link c.in-Ok-chain_links.links.items)
+    (two (values.binary c.args.operator) c.in-Ok.ensures c.in-Ok-boxed.ensures) c.in-Ok-chain_links.ensures)
 
 pub compare-returns : goal.compare-returns
 compare-returns t c =
-    rw (made_compare c.in_ok-left.left c.args.comparison c.in_ok-right.right) (two (values.compare c.args.comparison) c.in_ok-left.ensures c.in_ok-right.ensures)
+    rw (made_compare c.in-Ok.left c.args.comparison c.in-Ok-boxed.right) (two (values.compare c.args.comparison) c.in-Ok.ensures c.in-Ok-boxed.ensures)
 
 pub equal-returns : goal.equal-returns
 equal-returns t c =
-    rw (made_equal c.in_ok-left.left c.args.equality c.in_ok-right.right c.in_ok-others.others)
-    (two (values.equal c.args.equality) c.in_ok-left.ensures
-    (two values.more c.in_ok-right.ensures (all_walked (look_in c.args.scope.now) c.args.others.now (map value_of c.in_ok-others.others.items) c.in_ok-others.ensures)))
+    rw (made_equal c.in-Ok.left c.args.equality c.in-Ok-boxed.right c.in-Ok-all_expressions.others)
+    (two (values.equal c.args.equality) c.in-Ok.ensures
+    (two values.more c.in-Ok-boxed.ensures (all_walked (look_in c.args.scope.now) c.args.others.now (map value_of c.in-Ok-all_expressions.others.items) c.in-Ok-all_expressions.ensures)))
 
 pub assign-returns : goal.assign-returns
-assign-returns t c = rw (made_assign c.in_ok-variable.variable c.in_ok-right.right) (two values.assign c.in_ok-variable.ensures c.in_ok-right.ensures)
+assign-returns t c = rw (made_assign c.in-Ok.variable c.in-Ok-boxed.right) (two values.assign c.in-Ok.ensures c.in-Ok-boxed.ensures)

@@ -7,7 +7,7 @@ use Rattle.checker.specs.Resolved.{Action, action_of}
 use Rattle.checker.specs.Scope.{look_in}
 use Rattle.checker.specs.Walk.{resolved_statement, own_statement_breaches}
 use Rattle.checker.proofs.Each.{each_next, each_end, value_next, value_end}
-use Rattle.checker.proofs.Shapes.{is_empty_statement, is_text_statement, is_new_line_statement, is_quit_statement, is_return_statement, is_return_true_statement, is_return_false_statement}
+use Rattle.checker.proofs.Shapes.{is_empty_statement, is_text_statement, is_new_line_statement, is_quit_statement, is_block_statement, is_print_statement, is_print_return_statement, is_if_statement, is_if_else_statement, is_while_statement, is_return_value_statement, is_effect_statement, is_return_statement, is_return_true_statement, is_return_false_statement}
 use Rattle.checker.proofs.Walks.{leaf, one, two, made_number, made_empty, made_text, made_new_line, made_quit, made_return_value, made_block, made_if_then, made_if_else, made_while_do}
 use Rattle.checker.proofs.Forms.{statements_walked}
 use Rattle.checker.proofs.statement_rules.+statement.Goals as goal
@@ -20,8 +20,8 @@ all_statements-loop-s-preserved t c =
     let f = λ (x : Statement). own_statement_breaches (look_in c.args.scope.now) x in
     let g = λ (x : Statement). resolved_statement (look_in c.args.scope.now) x in
     record {
-      value = rw c.in_ok-push.ensures.items (value_next f g action_of c.loop-s.found.items c.in_ok-statement.field-0 c.args.all.now c.loop-s.s-index c.s-item.result c.loop-s-test.true c.s-item.is c.loop-s.invariant.value c.in_ok-statement.ensures.value);
-      least = rw c.in_ok-statement.ensures.breaches (sym (each_next f g action_of c.loop-s.least c.args.all.now c.loop-s.s-index c.s-item.result c.loop-s-test.true c.s-item.is) ∙ c.loop-s.invariant.least);
+      value = rw c.in_ok-push.ensures.items (value_next f g action_of c.loop-s.found.items c.in-Ok.resolved c.args.all.now c.loop-s.s-index c.s-item.result c.loop-s-test.true c.s-item.is c.loop-s.invariant.value c.in-Ok.ensures.value);
+      least = rw c.in-Ok.ensures.breaches (sym (each_next f g action_of c.loop-s.least c.args.all.now c.loop-s.s-index c.s-item.result c.loop-s-test.true c.s-item.is) ∙ c.loop-s.invariant.least);
     }
 
 pub all_statements-returns : goal.all_statements-returns
@@ -35,18 +35,42 @@ all_statements-returns t c =
 
 pub block-returns : goal.block-returns
 block-returns t c =
-    rw (made_block c.in_ok-found.found) (one values.block (statements_walked (look_in c.args.scope.now) c.args.all.now (map action_of c.in_ok-found.found.items) c.in_ok-found.ensures))
+    rw (made_block c.in-Ok.found) (one values.block (statements_walked (look_in c.args.scope.now) c.args.all.now (map action_of c.in-Ok.found.items) c.in-Ok.ensures))
 
 pub if_then-returns : goal.if_then-returns
-if_then-returns t c = rw (made_if_then c.in_ok-condition.condition c.in-Ok.body) (two values.if_then c.in_ok-condition.ensures c.in-Ok.ensures)
+if_then-returns t c = rw (made_if_then c.in-Ok.condition c.in-Ok-boxed.body) (two values.if_then c.in-Ok.ensures c.in-Ok-boxed.ensures)
 
 pub while_do-returns : goal.while_do-returns
-while_do-returns t c = rw (made_while_do c.in_ok-condition.condition c.in-Ok.body) (two values.while_do c.in_ok-condition.ensures c.in-Ok.ensures)
+while_do-returns t c = rw (made_while_do c.in-Ok.condition c.in-Ok-boxed.body) (two values.while_do c.in-Ok.ensures c.in-Ok-boxed.ensures)
 
 pub if_else-returns : goal.if_else-returns
 if_else-returns t c =
-    rw (made_if_else c.in_ok-condition.condition c.in-Ok.first c.in-Ok-boxed.otherwise)
-    (two (λ v (ab : Action × Action). values.if_else v ab.0 ab.1) c.in_ok-condition.ensures (two pair c.in-Ok.ensures c.in-Ok-boxed.ensures))
+    rw (made_if_else c.in-Ok.condition c.in-Ok-boxed.first c.in-Ok-boxed-2.otherwise)
+    (two (λ v (ab : Action × Action). values.if_else v ab.0 ab.1) c.in-Ok.ensures (two pair c.in-Ok-boxed.ensures c.in-Ok-boxed-2.ensures))
+
+pub statement-returns-in-Block : goal.statement-returns-in-Block
+statement-returns-in-Block t c = let v = c.in-Block in rw (is_block_statement c.args.s.now v.all v.is, ← c.deref.ensures.value) c.block.ensures
+
+pub statement-returns-in-Print : goal.statement-returns-in-Print
+statement-returns-in-Print t c = let v = c.in-Print in rw (is_print_statement c.args.s.now v.all v.is, ← c.deref-in-Print.ensures.value) c.print.ensures
+
+pub statement-returns-in-PrintReturn : goal.statement-returns-in-PrintReturn
+statement-returns-in-PrintReturn t c = let v = c.in-PrintReturn in rw (is_print_return_statement c.args.s.now v.all v.is, ← c.deref-in-PrintReturn.ensures.value) c.print_return.ensures
+
+pub statement-returns-in-If : goal.statement-returns-in-If
+statement-returns-in-If t c = let v = c.in-If in rw (is_if_statement c.args.s.now v.position v.condition v.then v.is) c.if_then.ensures
+
+pub statement-returns-in-IfElse : goal.statement-returns-in-IfElse
+statement-returns-in-IfElse t c = let v = c.in-IfElse in rw (is_if_else_statement c.args.s.now v.position v.condition v.then v.otherwise v.is) c.if_else.ensures
+
+pub statement-returns-in-While : goal.statement-returns-in-While
+statement-returns-in-While t c = let v = c.in-While in rw (is_while_statement c.args.s.now v.position v.condition v.body v.is) c.while_do.ensures
+
+pub statement-returns-in-ReturnValue : goal.statement-returns-in-ReturnValue
+statement-returns-in-ReturnValue t c = let v = c.in-ReturnValue in rw (is_return_value_statement c.args.s.now v.position v.e v.is) c.return_value.ensures
+
+pub statement-returns-in-Effect : goal.statement-returns-in-Effect
+statement-returns-in-Effect t c = let v = c.in-Effect in rw (is_effect_statement c.args.s.now v.position v.e v.is) c.effect.ensures
 
 pub statement-returns-in-Empty : goal.statement-returns-in-Empty
 statement-returns-in-Empty t c = rw (is_empty_statement c.args.s.now c.in-Empty.is, made_empty) (leaf c.args.least.now values.empty)

@@ -11,8 +11,8 @@ loop-x-preserved c =
     let f = λ (x : Item). own_item_breaches (look_in c.args.scope.now) x in
     let g = λ (x : Item). resolved_item (look_in c.args.scope.now) x in
     record {
-      value = rw c.in_ok-push.ensures.items (value_next f g printed_of c.loop-x.found.items c.in_ok-item.field-0 c.args.printed.now c.loop-x.x-index c.x-item.result c.loop-x-test.true c.x-item.is c.loop-x.invariant.value c.in_ok-item.ensures.value);
-      least = rw c.in_ok-item.ensures.breaches (sym (each_next f g printed_of c.loop-x.least c.args.printed.now c.loop-x.x-index c.x-item.result c.loop-x-test.true c.x-item.is) ∙ c.loop-x.invariant.least);
+      value = rw c.in_ok-push.ensures.items (value_next f g printed_of c.loop-x.found.items c.in-Ok.resolved c.args.printed.now c.loop-x.x-index c.x-item.result c.loop-x-test.true c.x-item.is c.loop-x.invariant.value c.in-Ok.ensures.value);
+      least = rw c.in-Ok.ensures.breaches (sym (each_next f g printed_of c.loop-x.least c.args.printed.now c.loop-x.x-index c.x-item.result c.loop-x-test.true c.x-item.is) ∙ c.loop-x.invariant.least);
     }
 
 pub returns : goal.returns

@@ -7,4 +7,4 @@ use Rattle.checker.proofs.Forms.{items_walked}
 use Rattle.checker.proofs.statement_rules.print.Goals as goal
 
 pub returns : goal.returns
-returns c = rw (made_print c.in_ok-found.found) (one values.print (items_walked (look_in c.args.scope.now) c.args.printed.now (map printed_of c.in_ok-found.found.items) c.in_ok-found.ensures))
+returns c = rw (made_print c.in-Ok.found) (one values.print (items_walked (look_in c.args.scope.now) c.args.printed.now (map printed_of c.in-Ok.found.items) c.in-Ok.ensures))

@@ -5,8 +5,8 @@ use Rattle.expressions.specs.Tree as trees
 use Rattle.expressions.specs.Tree.{expression_tree, name_tree}
 use Rattle.checker.specs.Names.{name_of}
 use Rattle.checker.specs.Temporaries.{need}
-use Rattle.checker.proofs.Shapes.{is_prefixed, is_step_before, is_step_after, is_chain}
-use Rattle.checker.proofs.Needs.{need_one, one_need, both_next, chain_next, chain_bad, named_fits, operands_full, operands_bad}
+use Rattle.checker.proofs.Shapes.{is_call, is_parenthesised, is_prefixed, is_step_before, is_step_after, is_chain, is_compare, is_assign}
+use Rattle.checker.proofs.Needs.{need_one, one_need, both_next, both_bad, chain_next, chain_bad, named_fits, operands_full, operands_bad}
 use Rattle.checker.proofs.temporaries.+fits.Goals as goal
 use Rattle.checker.proofs.temporaries.+fits.Goals.{operands_fit-then-left-eq0-via-then-left-eq0, operands_fit-then-left-eq0-via-else-left-eq0+then-not-fits}
 
@@ -23,6 +23,30 @@ both_fit-returns-then-fits t c =
     let second = expression_tree c.args.second.now in
     c.fits-then-fits.ensures ∙ ap (λ r. nat_le (need second) r) c.saturating_sub.ensures
     ∙ both_next (need first) (need second) c.args.room (need_one first) (need_one second) (sym c.fits.ensures ∙ c.if-fits.true)
+
+pub both_fit-returns-else-fits : goal.both_fit-returns-else-fits
+both_fit-returns-else-fits t c =
+    c.if-fits.false ∙ both_bad (need (expression_tree c.args.first.now)) (need (expression_tree c.args.second.now)) c.args.room (sym c.fits.ensures ∙ c.if-fits.false)
+
+pub fits-returns-in-Call : goal.fits-returns-in-Call
+fits-returns-in-Call t c =
+    let v = c.in-Call in
+    rw (is_call c.args.expression.now v.field-0 v.arguments v.is, ← c.deref.ensures.value) c.operands_fit.ensures
+
+pub fits-returns-in-Parenthesised : goal.fits-returns-in-Parenthesised
+fits-returns-in-Parenthesised t c =
+    let v = c.in-Parenthesised in
+    rw (is_parenthesised c.args.expression.now v.inside v.is, ← c.deref-in-Parenthesised.ensures) c.fits.ensures
+
+pub fits-returns-in-Compare : goal.fits-returns-in-Compare
+fits-returns-in-Compare t c =
+    let v = c.in-Compare in
+    rw (is_compare c.args.expression.now v.left v.field-1 v.right v.is, ← c.deref-in-Compare.ensures, ← c.deref-in-Compare-2.ensures) c.both_fit-in-Compare.ensures
+
+pub fits-returns-in-Assign : goal.fits-returns-in-Assign
+fits-returns-in-Assign t c =
+    let v = c.in-Assign in
+    rw (is_assign c.args.expression.now v.left v.field-1 v.right v.is, ← c.deref-in-Assign.ensures, ← c.deref-in-Assign-2.ensures) c.assignment_fits.ensures
 
 pub fits-returns-in-Prefixed : goal.fits-returns-in-Prefixed
 fits-returns-in-Prefixed t c =

@@ -1,13 +1,20 @@
-use Rattle.std.proofs.Common.{◌≡◌, ◌-◌, length, ap, ◌∙◌}
-use Rattle.items.specs.declared.item.Item.TheVariants.{PushNumber}
-use Rattle.code.specs.Written.{addresses_of, places_in}
-use Rattle.code.proofs.Starts.{items_next}
+use Rattle.std.proofs.Common.{ap, ◌∙◌, arith}
+use Rattle.items.specs.Code.{item_of, items_of}
+use Rattle.code.specs.Bytes.{place_of}
+use Rattle.code.specs.Written.{addresses_of}
+use Rattle.code.proofs.Codes.{left_count, bytes_next, offset_is}
 use Rattle.code.proofs.routine.put_items.Goals as goal
 
-pub loop-item-preserved : goal.loop-item-preserved
-loop-item-preserved c =
-    let at : c.len.result - c.len-start.result ≡ length c.loop-item.bytes.items - c.len-start.result =
-    ap (λ n. n - c.len-start.result) (c.len.ensures ∙ c.loop-item.bytes.ok.0) in
-    let next = items_next (addresses_of c.args.layout.now.addresses) (places_in c.args.layout.now) c.loop-item.bytes.items c.put_item.new.bytes.items c.args.items.now c.loop-item.item-index (PushNumber 0)
-    c.len-start.result (c.len.result - c.len-start.result) c.loop-item-test.true c.loop-item.invariant.0 at c.in_ok-put_item.ensures in
-    (next.0, next.1 ∙ c.loop-item.invariant.1)
+pub offset_of-offset-requires-clause-few : goal.offset_of-offset-requires-clause-few
+offset_of-offset-requires-clause-few c = let n = left_count c.args.left.now c.args.items.now c.requires.left in
+    omega (arith, n, c.loop-number-test.true)
+
+pub loop-number-preserved : goal.loop-number-preserved
+loop-number-preserved c =
+    let x = c.index-items-number.result in
+    let xs = c.args.items.now in
+    bytes_next (addresses_of c.args.addresses.now) (place_of (items_of xs)) c.loop-number.bytes.items
+    c.put_item.new.bytes.items xs c.loop-number.number x (item_of x) c.offset_of-offset.result _
+    c.loop-number-test.true (ap item_of c.index-items-number.is) c.loop-number.invariant
+    (c.offset_of-offset.ensures ∙ offset_is c.args.left.now (items_of xs) c.loop-number.number
+    (item_of x) c.requires.left) c.in_ok-put_item.ensures

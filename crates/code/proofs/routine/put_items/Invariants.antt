@@ -1,11 +1,11 @@
-use Rattle.std.proofs.Common.{◌≡◌, ◌-◌, ◌≤◌, ◌++◌, length, drop}
+use Rattle.std.proofs.Common.{◌≡◌, ◌++◌, drop}
 use Rattle.items.specs.Code.{items_of}
-use Rattle.code.specs.Bytes.{items_bytes}
-use Rattle.code.specs.Written.{addresses_of, places_in}
+use Rattle.code.specs.Bytes.{place_of, items_bytes}
+use Rattle.code.specs.Written.{addresses_of}
 use Rattle.code.proofs.routine.put_items.Given as goal
 
-abbrev pub invariant-loop-item : goal.invariant-loop-item
-invariant-loop-item l =
-    (l.start ≤ length l.bytes.items)
-    × (l.bytes.items ++ items_bytes (addresses_of l.layout.addresses) (places_in l.layout) (length l.bytes.items - l.start) (items_of (drop l.item-index l.items))
-    ≡ l.initial.bytes.items ++ items_bytes (addresses_of l.layout.addresses) (places_in l.layout) 0 (items_of l.items))
+abbrev pub invariant-loop-number : goal.invariant-loop-number
+invariant-loop-number l =
+    l.bytes.items ++ items_bytes (addresses_of l.addresses) (place_of (items_of l.items)) l.number
+    (items_of (drop l.number l.items))
+    ≡ l.initial.bytes.items ++ items_bytes (addresses_of l.addresses) (place_of (items_of l.items)) 0 (items_of l.items)

@@ -1,46 +1,70 @@
-use Rattle.std.proofs.Common.{◌≡◌, List, sym, ap, ◌∙◌}
-use Rattle.std.specs.Prelude.{map}
+use Rattle.std.proofs.Common.{◌≡◌, ℕ, ◌+◌, ◌-◌, ◌<◌, List, length, map, drop, sym, subst, arith}
 use Rattle.checker.specs.declared.resolved.CheckedItem.{CheckedItem}
-use Rattle.checker.specs.declared.resolved.CheckedStatement.TheVariants.{rolls-PrintReturn, rolls-If, rolls-IfElse, rolls-While}
-use Rattle.checker.specs.declared.resolved.CheckedStatement.TheFolds.{fold-roll-CheckedStatement}
-use Rattle.checker.specs.Resolved.{Action, value_of, printed_of, action_of, action_layer}
-use Rattle.checker.specs.Resolved as source
-use Rattle.items.specs.Code.{items_of, followed}
-use Rattle.items.specs.Items.{prints_items}
-use Rattle.items.proofs.Chains.{as_action, same_action, if_more, else_more, while_more, print_return_more, action_next}
+use Rattle.checker.specs.declared.resolved.CheckedStatement.{CheckedStatement}
+use Rattle.checker.specs.Resolved.{Action, value_of, printed_of, action_of, actions_of}
+use Rattle.items.specs.Items.{action_items, actions_items, prints_items}
+use Rattle.items.specs.Writing.{written_in, Written}
+use Rattle.items.proofs.Trees.{text_is, print_return_is, if_else_is}
+use Rattle.items.proofs.Actions.{if_more, else_more, while_more, text_more, print_return_more, action_next}
 use Rattle.items.proofs.statement.+statements.Goals as goal
 
-pub put_statements-loop-statement-preserved : goal.put_statements-loop-statement-preserved
-put_statements-loop-statement-preserved t c =
-    action_next (items_of c.loop-statement.code.items) (items_of c.put_statement.new.code.items) c.args.statements.now c.loop-statement.statement-index c.statement-item.result c.loop-statement-test.true c.statement-item.is c.in_ok-put_statement.ensures
-    ∙ c.loop-statement.invariant
+pub put_statements-loop-done-preserved : goal.put_statements-loop-done-preserved
+put_statements-loop-done-preserved t c =
+    let xs = c.args.statements.now in
+    let i = length xs - 1 - c.loop-done.done in
+    let lt : c.loop-done.done < length xs = c.loop-done-test.true in
+    let P : ℕ → Type 0 = λ k. Written (written_in c.args.draft.now) (written_in c.loop-done.draft)
+    (λ n at. actions_items at (actions_of (map action_of (drop k xs)))) in
+    let Q : ℕ → Type 0 = λ k. Written (written_in c.args.draft.now) (written_in c.put_statement.new.draft)
+    (λ n at. actions_items at (actions_of (map action_of (drop k xs)))) in
+    let before : length xs - c.loop-done.done ≡ i + 1 = omega (arith, lt) in
+    let after : i ≡ length xs - (c.loop-done.done + 1) = omega arith in
+    subst Q after (action_next _ _ _ xs i _ (omega (arith, lt)) c.index-statements-statements.is
+    (subst P before c.loop-done.invariant) c.in_ok-put_statement.ensures)
 
-pub put_statement-returns-in_ok-put_statement-in-If : goal.put_statement-returns-in_ok-put_statement-in-If
-put_statement-returns-in_ok-put_statement-in-If t c =
-    let x = c.in-If in
-    let v : action_of c.args.statement.now ≡ source.if_then (value_of x.test) (action_of x.then.value) = rw x.is (ap action_of (sym (rolls-If x.test x.then)) ∙ fold-roll-CheckedStatement Action action_layer _) in
-    as_action _ _ _ _ v (if_more (items_of c.args.code.now.items) (items_of c.put_test.new.code.items) (items_of c.put_statement.new.code.items) (items_of c.lead_if_zero.new.code.items) (value_of x.test) (action_of x.then.value) c.in_ok-guard-in-If.guard
-    c.in_ok-guard-in-If.ensures.number c.in_ok-guard-in-If.ensures.items (same_action _ _ _ _ c.in_ok-put_statement-in-If.ensures c.deref-in-If.ensures) c.lead_if_zero.ensures)
+pub put_if-returns : goal.put_if-returns
+put_if-returns t c = if_more _ _ _ (value_of c.args.test.now)
+    (action_of c.args.then.now) c.written-end.result c.written-end.ensures c.in_ok-put_statement.ensures
+    c.in_ok-put_value.ensures
 
-pub put_statement-returns-in_ok-put_end_of_line-in-PrintReturn : goal.put_statement-returns-in_ok-put_end_of_line-in-PrintReturn
-put_statement-returns-in_ok-put_end_of_line-in-PrintReturn t c =
-    let xs = c.in-PrintReturn.items in
-    let v : action_of c.args.statement.now ≡ source.print_return (map printed_of xs.items) = rw c.in-PrintReturn.is (ap action_of (sym (rolls-PrintReturn xs)) ∙ fold-roll-CheckedStatement Action action_layer _) in
-    as_action _ _ _ _ v (print_return_more (items_of c.args.code.now.items) (items_of c.put_prints-in-PrintReturn.new.code.items) (items_of c.put_end_of_line.new.code.items) (map printed_of xs.items)
-    (c.in_ok-put_prints-in-PrintReturn.ensures ∙ ap (λ (ys : List CheckedItem). followed (items_of c.args.code.now.items) (λ at. prints_items at (map printed_of ys))) c.deref-in-PrintReturn.ensures.value) c.in_ok-put_end_of_line-in-PrintReturn.ensures)
+pub put_while-returns : goal.put_while-returns
+put_while-returns t c =
+    while_more _ _ _ _ _ (value_of c.args.test.now)
+    (action_of c.args.body.now) c.written-end.result c.written-end.ensures c.in_ok-put.ensures
+    c.in_ok-put_statement.ensures c.in_ok-put_value.ensures c.lead_back.ensures
 
-pub put_statement-returns-in_ok-put_statement-in-IfElse-2 : goal.put_statement-returns-in_ok-put_statement-in-IfElse-2
-put_statement-returns-in_ok-put_statement-in-IfElse-2 t c =
+pub put_statement-returns-in_ok-put-in-Text : goal.put_statement-returns-in_ok-put-in-Text
+put_statement-returns-in_ok-put-in-Text t c =
+    let P : Action → Type 0 = λ a. Written (written_in c.args.draft.now) (written_in c.put.new.draft)
+    (λ n at. action_items at a) in
+    subst P (sym (text_is _ _ c.in-Text.is))
+    (text_more _ _ _ c.in-Text.text.now c.in_ok-put_end_of_line-in-Text.ensures c.in_ok-put-in-Text.ensures)
+
+pub put_statement-returns-in_ok-put_prints-in-PrintReturn : goal.put_statement-returns-in_ok-put_prints-in-PrintReturn
+put_statement-returns-in_ok-put_prints-in-PrintReturn t c =
+    let P : Action → Type 0 =
+    λ a. Written (written_in c.args.draft.now) (written_in c.put_prints-in-PrintReturn.new.draft)
+    (λ n at. action_items at a) in
+    let Q : List CheckedItem → Type 0 = λ l. Written (written_in c.put_end_of_line-in-PrintReturn.new.draft)
+    (written_in c.put_prints-in-PrintReturn.new.draft) (λ n at. prints_items at (map printed_of l)) in
+    subst P (sym (print_return_is _ _ c.in-PrintReturn.is))
+    (print_return_more _ _ _
+    (map printed_of c.in-PrintReturn.items.items) c.in_ok-put_end_of_line-in-PrintReturn.ensures
+    (subst Q c.deref-in-PrintReturn.ensures.value c.in_ok-put_prints-in-PrintReturn.ensures))
+
+pub put_statement-returns-in_ok-put_value-in-IfElse : goal.put_statement-returns-in_ok-put_value-in-IfElse
+put_statement-returns-in_ok-put_value-in-IfElse t c =
     let x = c.in-IfElse in
-    let v : action_of c.args.statement.now ≡ source.if_else (value_of x.test) (action_of x.then.value) (action_of x.otherwise.value) = rw x.is (ap action_of (sym (rolls-IfElse x.test x.then x.otherwise)) ∙ fold-roll-CheckedStatement Action action_layer _) in
-    as_action _ _ _ _ v (else_more (items_of c.args.code.now.items) (items_of c.put_test-in-IfElse.new.code.items) (items_of c.put_statement-in-IfElse.new.code.items) (items_of c.put_else.new.code.items) (items_of c.put_statement-in-IfElse-2.new.code.items) (items_of c.lead_jump.new.code.items)
-    (value_of x.test) (action_of x.then.value) (action_of x.otherwise.value) c.in_ok-guard-in-IfElse.guard c.in_ok-over-in-IfElse.over
-    c.in_ok-guard-in-IfElse.ensures.number c.in_ok-guard-in-IfElse.ensures.items (same_action _ _ _ _ c.in_ok-put_statement-in-IfElse.ensures c.deref-in-IfElse.ensures) c.in_ok-over-in-IfElse.ensures.number c.in_ok-over-in-IfElse.ensures.items
-    (same_action _ _ _ _ c.in_ok-put_statement-in-IfElse-2.ensures c.deref-in-IfElse-2.ensures) c.lead_jump.ensures)
-
-pub put_statement-returns-in_ok-put-in-While : goal.put_statement-returns-in_ok-put-in-While
-put_statement-returns-in_ok-put-in-While t c =
-    let x = c.in-While in
-    let v : action_of c.args.statement.now ≡ source.while_do (value_of x.test) (action_of x.body.value) = rw x.is (ap action_of (sym (rolls-While x.test x.body)) ∙ fold-roll-CheckedStatement Action action_layer _) in
-    as_action _ _ _ _ v (while_more (items_of c.args.code.now.items) (items_of c.put_test-in-While.new.code.items) (items_of c.put_statement-in-While.new.code.items) (items_of c.put-in-While.new.code.items) (items_of c.lead_if_zero-in-While.new.code.items) (value_of x.test) (action_of x.body.value) c.next_number-start.result c.in_ok-guard-in-While.guard
-    c.next_number-start.ensures c.in_ok-guard-in-While.ensures.number c.in_ok-guard-in-While.ensures.items (same_action _ _ _ _ c.in_ok-put_statement-in-While.ensures c.deref-in-While.ensures) c.in_ok-put-in-While.ensures c.lead_if_zero-in-While.ensures)
+    let P : Action → Type 0 = λ a. Written (written_in c.args.draft.now) (written_in c.put_value.new.draft)
+    (λ n at. action_items at a) in
+    let Q : CheckedStatement → Type 0 =
+    λ s. Written (written_in c.args.draft.now) (written_in c.put_statement.new.draft)
+    (λ n at. action_items at (action_of s)) in
+    let R : CheckedStatement → Type 0 = λ s. Written (written_in c.put-in-IfElse.new.draft)
+    (written_in c.put_statement-in-IfElse.new.draft) (λ n at. action_items at (action_of s)) in
+    subst P (sym (if_else_is _ _ _ _ x.is))
+    (else_more _ _ _ _ _ (value_of x.test) (action_of x.then.value)
+    (action_of x.otherwise.value) c.written-end.result c.written-next.result
+    c.written-end.ensures (subst Q c.deref-in-IfElse.ensures c.in_ok-put_statement-in-IfElse.ensures)
+    c.written-next.ensures c.in_ok-put-in-IfElse.ensures
+    (subst R c.deref-in-IfElse-2.ensures c.in_ok-put_statement-in-IfElse-2.ensures) c.in_ok-put_value-in-IfElse.ensures)

@@ -1,11 +1,9 @@
-use Rattle.std.proofs.Common.{◌≡◌, drop}
-use Rattle.std.specs.Prelude.{map}
+use Rattle.std.proofs.Common.{◌-◌, length, map, drop}
 use Rattle.checker.specs.Resolved.{action_of, actions_of}
 use Rattle.items.specs.Items.{actions_items}
-use Rattle.items.specs.Code.{items_of, followed}
+use Rattle.items.specs.Writing.{written_in, Written}
 use Rattle.items.proofs.statement.+statements.Given as goal
 
-abbrev pub invariant-put_statements-loop-statement : goal.invariant-put_statements-loop-statement
-invariant-put_statements-loop-statement l =
-    followed (items_of l.code.items) (λ at. actions_items at (actions_of (map action_of (drop l.statement-index l.statements))))
-    ≡ followed (items_of l.initial.code.items) (λ at. actions_items at (actions_of (map action_of l.statements)))
+abbrev pub invariant-put_statements-loop-done : goal.invariant-put_statements-loop-done
+invariant-put_statements-loop-done l = Written (written_in l.initial.draft) (written_in l.draft)
+    (λ n at. actions_items at (actions_of (map action_of (drop (length l.statements - l.done) l.statements))))

@@ -1,9 +1,20 @@
-use Rattle.std.proofs.Common.{◌∙◌}
-use Rattle.items.specs.Code.{items_of}
-use Rattle.items.proofs.Chains.{printed_next}
+use Rattle.std.proofs.Common.{◌≡◌, ℕ, ◌+◌, ◌-◌, ◌<◌, length, map, drop, subst, arith}
+use Rattle.checker.specs.Resolved.{printed_of}
+use Rattle.items.specs.Items.{prints_items}
+use Rattle.items.specs.Writing.{written_in, Written}
+use Rattle.items.proofs.Actions.{printed_next}
 use Rattle.items.proofs.statement.put_prints.Goals as goal
 
-pub loop-item-preserved : goal.loop-item-preserved
-loop-item-preserved c =
-    printed_next (items_of c.loop-item.code.items) (items_of c.put_printed.new.code.items) c.args.items.now c.loop-item.item-index c.item-item.result c.loop-item-test.true c.item-item.is c.in_ok-put_printed.ensures
-    ∙ c.loop-item.invariant
+pub loop-done-preserved : goal.loop-done-preserved
+loop-done-preserved c =
+    let xs = c.args.items.now in
+    let i = length xs - 1 - c.loop-done.done in
+    let lt : c.loop-done.done < length xs = c.loop-done-test.true in
+    let P : ℕ → Type 0 = λ k. Written (written_in c.args.draft.now) (written_in c.loop-done.draft)
+    (λ n at. prints_items at (map printed_of (drop k xs))) in
+    let Q : ℕ → Type 0 = λ k. Written (written_in c.args.draft.now) (written_in c.put_printed.new.draft)
+    (λ n at. prints_items at (map printed_of (drop k xs))) in
+    let before : length xs - c.loop-done.done ≡ i + 1 = omega (arith, lt) in
+    let after : i ≡ length xs - (c.loop-done.done + 1) = omega arith in
+    subst Q after (printed_next _ _ _ xs i _ (omega (arith, lt)) c.index-items-items.is
+    (subst P before c.loop-done.invariant) c.in_ok-put_printed.ensures)

@@ -1,83 +1,252 @@
-use Rattle.std.proofs.Common.{◌≡◌, ◌<◌, List, length, sym, ap, ◌∙◌, arith}
-use Rattle.std.specs.Prelude.{map}
-use Rattle.std.proofs.lemmas.List.{length-map}
-use Rattle.std.proofs.lemmas.Grind.{common_steps}
+use Rattle.std.proofs.Common.{◌≡◌, ℕ, ◌+◌, ◌-◌, ◌<◌, List, [], ◌∷◌, ◌++◌, length, map, drop, ap, sym, subst, ◌∙◌, arith}
+use Rattle.std.proofs.Common.{refl}
+use Rattle.std.proofs.lemmas.List.{take_rest}
 use Rattle.expressions.specs.declared.tree.Binary.{Binary}
 use Rattle.checker.specs.declared.resolved.Evaluation.{Evaluation}
-use Rattle.checker.specs.declared.resolved.Evaluation.TheVariants.{rolls-Call, rolls-Prefixed, rolls-Chain, rolls-Compare, rolls-Equal, rolls-Assign}
-use Rattle.checker.specs.declared.resolved.Evaluation.TheFolds.{fold-roll-Evaluation}
-use Rattle.checker.specs.Resolved.{Value, value_of, value_layer, values_of, chained, more}
-use Rattle.checker.specs.Resolved as source
-use Rattle.items.specs.Items.{value_count, second_items, value_items, arguments_items, or_items}
-use Rattle.items.specs.Code.{items_of, followed, link_of, links_items}
-use Rattle.items.proofs.Chains.{same_value, as_value, prefixed_more, assign_more, compare_more, chain_more, equal_more, call_more, or_some, argument_next, link_next, also_next, also_end}
+use Rattle.checker.specs.Resolved.{Value, value_of, values_of}
+use Rattle.items.specs.Items.{pushed, branch_true, left_of, operand_of, operands_of, operands_items}
+use Rattle.items.specs.Items as items
+use Rattle.items.specs.Code.{as_operand, as_operands, as_destination}
+use Rattle.items.specs.declared.item.Destination as code
+use Rattle.items.specs.declared.item.Operand as code_operand
+use Rattle.items.specs.declared.wanted.Wanted.{Wanted}
+use Rattle.items.specs.Writing.{written_in, link_of, folded_items, first_items, pushes, first_operand, second_operand}
+use Rattle.items.specs.Writing.{wanted_items, Written, ReducesWord, ReducesLink, ReducesLinks, ReducesEquality}
+use Rattle.items.proofs.Trees.{chain_is, equal_is, step_before_is}
+use Rattle.items.proofs.Values.{call_more, prefix_more, not_more_at, and_link_at, or_link_at}
+use Rattle.items.proofs.Values.{not_logical, operate_link, chain_more, compare_link}
+use Rattle.items.proofs.Assigned.{assign_nowhere, assign_pushed, assign_kept}
+use Rattle.items.proofs.Alternatives.{few_link, many_link, equal_more, operand_next, folded_next, link_next}
 use Rattle.items.proofs.value.+values.Goals as goal
 
-pub put_arguments-loop-argument-preserved : goal.put_arguments-loop-argument-preserved
-put_arguments-loop-argument-preserved t c =
-    argument_next (items_of c.loop-argument.code.items) (items_of c.put_value.new.code.items) c.args.arguments.now c.loop-argument.argument-index c.argument-item.result c.loop-argument-test.true c.argument-item.is c.in_ok-put_value.ensures
-    ∙ c.loop-argument.invariant
+pub put_assigned-returns-in_ok-put_value-in-Nowhere : goal.put_assigned-returns-in_ok-put_value-in-Nowhere
+put_assigned-returns-in_ok-put_value-in-Nowhere t c =
+    let P : code.Destination → Type 0 = λ d. ReducesWord (written_in c.args.draft.now)
+    (written_in c.put_word.new.draft) c.args.wanted (as_destination d) in
+    assign_nowhere _ _ _ c.args.wanted c.args.variable _
+    (subst P c.in-Nowhere.is c.in_ok-put_word.ensures) c.in_ok-put_value-in-Nowhere.ensures
 
-pub put_links-loop-operator-preserved : goal.put_links-loop-operator-preserved
-put_links-loop-operator-preserved t c =
-    link_next (items_of c.loop-operator.code.items) (items_of c.put_second.new.code.items) c.args.links.now c.loop-operator.operator-index c.loop-operator-item.result c.loop-operator-test.true c.loop-operator-item.is c.in_ok-put_second.ensures
-    ∙ c.loop-operator.invariant
+pub put_assigned-returns-in_ok-put_value-in-Push : goal.put_assigned-returns-in_ok-put_value-in-Push
+put_assigned-returns-in_ok-put_value-in-Push t c =
+    let P : code.Destination → Type 0 = λ d. ReducesWord (written_in c.args.draft.now)
+    (written_in c.put_word.new.draft) c.args.wanted (as_destination d) in
+    assign_pushed _ _ _ _ c.args.wanted c.args.variable _
+    (subst P c.in-Push.is c.in_ok-put_word.ensures) c.in_ok-put-in-Push.ensures c.in_ok-put_value-in-Push.ensures
 
-pub put_others-loop-other-preserved : goal.put_others-loop-other-preserved
-put_others-loop-other-preserved t c =
-    also_next (items_of c.loop-other.code.items) (items_of c.put_value.new.code.items) (items_of c.put-in-loop-other.new.code.items) c.args.equality c.args.others.now c.loop-other.other-index c.other-item.result c.loop-other-test.true c.other-item.is c.in_ok-put_value.ensures c.in_ok-put-3.ensures
-    ∙ c.loop-other.invariant
+pub put_assigned-returns-in_ok-put_value-in-Into : goal.put_assigned-returns-in_ok-put_value-in-Into
+put_assigned-returns-in_ok-put_value-in-Into t c =
+    let P : code.Destination → Type 0 = λ d. ReducesWord (written_in c.args.draft.now)
+    (written_in c.put_word.new.draft) c.args.wanted (as_destination d) in
+    assign_kept _ _ _ _ _ c.args.wanted c.args.variable c.in-Into.other _
+    (subst P c.in-Into.is c.in_ok-put_word.ensures) c.in_ok-put-in-Into.ensures c.in_ok-put-in-Into-2.ensures
+    c.in_ok-put_value-in-Into.ensures
 
-pub put_others-returns : goal.put_others-returns
-put_others-returns t c =
-    let some : 0 < length c.args.others.now = grind (arith, common_steps) in
-    or_some (items_of c.args.code.now.items) (items_of c.put-2.new.code.items) (items_of c.loop-other.code.items) (items_of c.put_closing.new.code.items) c.args.equality (map value_of c.args.others.now)
-    (omega (arith, some, length-map c.args.others.now value_of)) c.in_ok-put-2.ensures
-    (sym (also_end (items_of c.loop-other.code.items) c.args.equality c.args.others.now c.loop-other.other-index c.loop-other-test.false) ∙ c.loop-other.invariant)
-    c.in_ok-put_closing.ensures
+pub put_call-returns : goal.put_call-returns
+put_call-returns t c =
+    let vs = values_of (map value_of c.args.arguments.now) in
+    let d = as_destination c.in_ok-destination.destination in
+    let os = c.in_ok-push_operands.ensures
+    ∙ ap (λ (l : List code_operand.Operand). as_operands l ++ operands_of vs) c.new-operands.ensures.items in
+    call_more _ _ _ _ c.args.wanted d c.args.routine vs c.in_ok-destination.ensures
+    (c.in_ok-put.ensures ∙ ap (λ l. written_in c.put_word.new.draft ++ items.call c.args.routine l d ∷ []) os)
+    c.in_ok-put_operands.ensures
 
-pub put_value-returns-in_ok-put-in-Call : goal.put_value-returns-in_ok-put-in-Call
-put_value-returns-in_ok-put-in-Call t c =
-    let xs = c.in-Call.arguments in
-    let v : value_of c.args.value.now ≡ source.call c.in-Call.routine (values_of (map value_of xs.items)) = rw c.in-Call.is (ap value_of (sym (rolls-Call c.in-Call.routine xs)) ∙ fold-roll-Evaluation Value value_layer _) in
-    as_value _ _ _ _ v (call_more (items_of c.args.code.now.items) (items_of c.put_arguments.new.code.items) (items_of c.put-in-Call.new.code.items) c.in-Call.routine c.len.result (map value_of xs.items)
-    (c.in_ok-put_arguments-in-Call.ensures ∙ ap (λ (ys : List Evaluation). followed (items_of c.args.code.now.items) (λ at. arguments_items at (values_of (map value_of ys)))) c.deref.ensures.value)
-    (c.len.ensures ∙ xs.ok.0 ∙ sym (length-map xs.items value_of)) c.in_ok-put-in-Call.ensures)
+pub put_prefixed-returns-in_ok-put_value-in-Not : goal.put_prefixed-returns-in_ok-put_value-in-Not
+put_prefixed-returns-in_ok-put_value-in-Not t c =
+    not_more_at _ _ _ c.args.wanted c.in_ok-when-in-Not.when c.in_ok-when-in-Not.left c.args.prefix _ c.in-Not.is
+    c.in_ok-when-in-Not.ensures c.in_ok-put_value-in-Not.ensures
 
-pub put_value-returns-in_ok-put-in-Prefixed : goal.put_value-returns-in_ok-put-in-Prefixed
-put_value-returns-in_ok-put-in-Prefixed t c =
-    let x = c.in-Prefixed.operand in
-    let v : value_of c.args.value.now ≡ source.prefixed c.in-Prefixed.prefix (value_of x.value) = rw c.in-Prefixed.is (ap value_of (sym (rolls-Prefixed c.in-Prefixed.prefix x)) ∙ fold-roll-Evaluation Value value_layer _) in
-    as_value _ _ _ _ v (prefixed_more (items_of c.args.code.now.items) (items_of c.put_value.new.code.items) (items_of c.put-in-Prefixed.new.code.items) c.in-Prefixed.prefix (value_of x.value)
-    (same_value _ _ _ _ c.in_ok-put_value-in-Prefixed.ensures c.deref-in-Prefixed.ensures) c.in_ok-put-in-Prefixed.ensures)
+pub put_prefixed-returns-in_ok-put_operand-in_default : goal.put_prefixed-returns-in_ok-put_operand-in_default
+put_prefixed-returns-in_ok-put_operand-in_default t c =
+    prefix_more _ _ _ _ c.args.wanted _ c.args.prefix _ _ c.in_default.not-Not c.in_ok-destination-in_default.ensures
+    c.alone-operand.ensures c.in_ok-put-in_default.ensures c.in_ok-put_operand-in_default.ensures
 
-pub put_value-returns-in_ok-put_links-in-Chain : goal.put_value-returns-in_ok-put_links-in-Chain
-put_value-returns-in_ok-put_links-in-Chain t c =
+pub put_comparison-returns : goal.put_comparison-returns
+put_comparison-returns t c =
+    let op = c.args.comparison in
+    let c1 = written_in c.put_truth.new.draft in
+    let target = c.in_ok-when.target in
+    let os : as_operands c.in_ok-operands.operands.items
+    ≡ as_operand c.args.left ∷ as_operand c.alone-operand.result ∷ [] =
+    ap as_operands c.in_ok-operands.ensures.items in
+    compare_link _ _ _ _ c.args.wanted c.in_ok-when.when target op _ _ _ c.in_ok-when.ensures c.alone-operand.ensures
+    (c.in_ok-put.ensures ∙ ap
+    (λ x. c1 ++ items.branch x (as_operands c.in_ok-operands.operands.items) c.comparison_when-when.result
+    target ∷ []) c.comparison_test-test.ensures
+    ∙ ap (λ l. c1 ++ items.branch (items.comparison_test op) l c.comparison_when-when.result target ∷ []) os
+    ∙ ap (λ w. c1 ++ items.branch (items.comparison_test op)
+    (as_operand c.args.left ∷ as_operand c.alone-operand.result ∷ []) w target ∷ []) c.comparison_when-when.ensures)
+    c.in_ok-put_operand.ensures
+
+pub put_link-returns-in_ok-put_value-in-AndAlso : goal.put_link-returns-in_ok-put_value-in-AndAlso
+put_link-returns-in_ok-put_value-in-AndAlso t c =
+    let when = c.in_ok-when-in-AndAlso.when in
+    let target = c.in_ok-when-in-AndAlso.target in
+    let end = c.written-end.result in
+    let P : Wanted → Type 0 = λ w. ReducesLink (written_in c.args.draft.now) (written_in c.put_value.new.draft)
+    c.args.wanted w c.args.operator (as_operand c.args.left) (value_of c.args.second.now) in
+    subst P (sym c.first_of_and.ensures)
+    (and_link_at _ _ _ c.args.wanted when target end _ c.args.operator _ _ c.in-AndAlso.is
+    c.in_ok-when-in-AndAlso.ensures c.written-end.ensures c.in_ok-put_value-in-AndAlso.ensures refl)
+
+pub put_link-returns-in_ok-put_value-in-OrElse : goal.put_link-returns-in_ok-put_value-in-OrElse
+put_link-returns-in_ok-put_value-in-OrElse t c =
+    let when = c.in_ok-when-in-OrElse.when in
+    let target = c.in_ok-when-in-OrElse.target in
+    let end = c.written-end-in-OrElse.result in
+    let P : Wanted → Type 0 = λ w. ReducesLink (written_in c.args.draft.now) (written_in c.put_value-in-OrElse.new.draft)
+    c.args.wanted w c.args.operator (as_operand c.args.left) (value_of c.args.second.now) in
+    subst P (sym c.first_of_or.ensures)
+    (or_link_at _ _ _ c.args.wanted when target end _ c.args.operator _ _ c.in-OrElse.is c.in_ok-when-in-OrElse.ensures
+    c.written-end-in-OrElse.ensures c.in_ok-put_value-in-OrElse.ensures refl)
+
+pub put_link-returns-in_ok-put_operand-in_default : goal.put_link-returns-in_ok-put_operand-in_default
+put_link-returns-in_ok-put_operand-in_default t c =
+    operate_link _ _ _ _ c.args.wanted _ c.args.operator _ _ _
+    (not_logical c.args.operator c.in_default.not-AndAlso c.in_default.not-OrElse)
+    c.in_ok-destination-in_default.ensures c.alone-right.ensures c.in_ok-put-in_default.ensures
+    c.in_ok-put_operand-in_default.ensures
+
+pub put_others-returns-in_ok-put_operands : goal.put_others-returns-in_ok-put_operands
+put_others-returns-in_ok-put_operands t c =
+    let op = c.args.equality in
+    let vs = values_of (map value_of c.args.others.now) in
+    let c1 = written_in c.put_truth.new.draft in
+    let target = c.in_ok-when.target in
+    let os : as_operands c.push_operands.new.operands.items
+    ≡ as_operand c.args.sides.0 ∷ as_operand c.args.sides.1 ∷ operands_of vs =
+    c.in_ok-push_operands.ensures
+    ∙ ap (λ (l : List code_operand.Operand). as_operands l ++ operands_of vs) c.in_ok-operands.ensures.items in
+    few_link _ _ _ _ c.args.wanted c.in_ok-when.when target op _ _ vs
+    (sym c.are_few.ensures ∙ c.if-are_few.true) c.in_ok-when.ensures
+    (c.in_ok-put.ensures ∙ ap (λ l. c1 ++ items.branch items.same l c.equality_when-when.result target ∷ []) os
+    ∙ ap (λ w. c1 ++ items.branch items.same (as_operand c.args.sides.0 ∷ as_operand c.args.sides.1 ∷ operands_of vs)
+    w target ∷ []) c.equality_when-when.ensures)
+    c.in_ok-put_operands.ensures
+
+pub put_others-returns-in_ok-put-3 : goal.put_others-returns-in_ok-put-3
+put_others-returns-in_ok-put-3 t c =
+    let vs = values_of (map value_of c.args.others.now) in
+    let c1 = written_in c.put_truth.new.draft in
+    let target = c.in_ok-when.target in
+    many_link _ _ _ _ _ _ c.args.wanted c.in_ok-when.when target c.args.equality _ _ vs
+    (sym c.are_few.ensures ∙ c.if-are_few.false) c.in_ok-when.ensures
+    (c.in_ok-put_branch.ensures ∙ ap (λ w. c1 ++ branch_true pushed w target ∷ []) c.equality_when-when.ensures)
+    c.in_ok-put-2.ensures c.in_ok-put_folded.ensures c.in_ok-put-3.ensures
+
+pub put_value-returns-in_ok-put_step_before-in-StepBefore : goal.put_value-returns-in_ok-put_step_before-in-StepBefore
+put_value-returns-in_ok-put_step_before-in-StepBefore t c =
+    let P : Value → Type 0 = λ v. Written (written_in c.args.draft.now) (written_in c.put_step_before.new.draft)
+    (wanted_items c.args.wanted v) in
+    subst P (sym (step_before_is _ _ _ c.in-StepBefore.is)) c.in_ok-put_step_before-in-StepBefore.ensures
+
+pub put_value-returns-in_ok-put_first-in-Chain : goal.put_value-returns-in_ok-put_first-in-Chain
+put_value-returns-in_ok-put_first-in-Chain t c =
     let x = c.in-Chain in
-    let v : value_of c.args.value.now ≡ chained (source.binary x.operator (value_of x.first.value) (value_of x.second.value)) (map link_of x.links.items) = rw x.is (ap value_of (sym (rolls-Chain x.first x.operator x.second x.links)) ∙ fold-roll-Evaluation Value value_layer _) in
-    as_value _ _ _ _ v (chain_more (items_of c.args.code.now.items) (items_of c.put_value-in-Chain.new.code.items) (items_of c.put_second.new.code.items) (items_of c.put_links.new.code.items) x.operator (value_of x.first.value) (value_of x.second.value) (map link_of x.links.items)
-    (same_value _ _ _ _ c.in_ok-put_value-in-Chain.ensures c.deref-in-Chain.ensures)
-    (c.in_ok-put_second-in-Chain.ensures ∙ ap (λ (y : Evaluation). followed (items_of c.put_value-in-Chain.new.code.items) (λ at. second_items x.operator at (value_count (value_of y)) (λ place. value_items place (value_of y)))) c.deref-in-Chain-2.ensures)
-    (c.in_ok-put_links-in-Chain.ensures ∙ ap (λ (ys : List (Binary × Evaluation)). followed (items_of c.put_second.new.code.items) (λ at. links_items at (map link_of ys))) c.deref-in-Chain-3.ensures.value))
+    let c0 = written_in c.args.draft.now in
+    let c1 = written_in c.put_links.new.draft in
+    let c2 = written_in c.put_link.new.draft in
+    let c3 = written_in c.put_first.new.draft in
+    let w1 = c.in_ok-wanted-in-Chain.wanted in
+    let w2 = c.in_ok-wanted-in-Chain-2.wanted in
+    let o = as_operand c.left_of-left.result in
+    let P : Value → Type 0 = λ v. Written c0 c3 (wanted_items c.args.wanted v) in
+    let Q : List (Binary × Evaluation) → Type 0 = λ l. ReducesLinks c0 c1 c.args.wanted w1 (map link_of l) in
+    let R : Evaluation → Type 0 = λ e. ReducesLink c1 c2 w1 w2 x.operator o (value_of e) in
+    let S : Evaluation → Type 0 = λ e. Written c2 c3 (first_items x.operator o w2 (value_of e)) in
+    let left = c.left_of-left.ensures
+    ∙ ap (λ (e : Evaluation). left_of (value_of e) (value_of c.deref-in-Chain-3.result.now))
+    c.deref-in-Chain-2.ensures
+    ∙ ap (λ (e : Evaluation). left_of (value_of x.first.value) (value_of e)) c.deref-in-Chain-3.ensures in
+    subst P (sym (chain_is _ _ _ _ _ x.is))
+    (chain_more c0 c1 c2 c3 c.args.wanted w1 w2 x.operator o (value_of x.first.value) (value_of x.second.value)
+    (map link_of x.links.items)
+    (subst Q c.deref-in-Chain.ensures.value c.in_ok-wanted-in-Chain.ensures) left
+    (subst R c.deref-in-Chain-4.ensures c.in_ok-wanted-in-Chain-2.ensures)
+    (subst S c.deref-in-Chain-5.ensures c.in_ok-put_first-in-Chain.ensures))
 
-pub put_value-returns-in_ok-put-in-Compare : goal.put_value-returns-in_ok-put-in-Compare
-put_value-returns-in_ok-put-in-Compare t c =
-    let x = c.in-Compare in
-    let v : value_of c.args.value.now ≡ source.compare x.comparison (value_of x.left.value) (value_of x.right.value) = rw x.is (ap value_of (sym (rolls-Compare x.left x.comparison x.right)) ∙ fold-roll-Evaluation Value value_layer _) in
-    as_value _ _ _ _ v (compare_more (items_of c.args.code.now.items) (items_of c.put_value-in-Compare.new.code.items) (items_of c.put_value-in-Compare-2.new.code.items) (items_of c.put-in-Compare.new.code.items) x.comparison (value_of x.left.value) (value_of x.right.value)
-    (same_value _ _ _ _ c.in_ok-put_value-in-Compare.ensures c.deref-in-Compare.ensures) (same_value _ _ _ _ c.in_ok-put_value-in-Compare-2.ensures c.deref-in-Compare-2.ensures) c.in_ok-put-in-Compare.ensures)
-
-pub put_value-returns-in_ok-put_others-in-Equal : goal.put_value-returns-in_ok-put_others-in-Equal
-put_value-returns-in_ok-put_others-in-Equal t c =
+pub put_value-returns-in_ok-put_operand-in-Equal-2 : goal.put_value-returns-in_ok-put_operand-in-Equal-2
+put_value-returns-in_ok-put_operand-in-Equal-2 t c =
     let x = c.in-Equal in
-    let v : value_of c.args.value.now ≡ source.equal x.equality (value_of x.left.value) (more (value_of x.right.value) (values_of (map value_of x.others.items))) = rw x.is (ap value_of (sym (rolls-Equal x.left x.equality x.right x.others)) ∙ fold-roll-Evaluation Value value_layer _) in
-    as_value _ _ _ _ v (equal_more (items_of c.args.code.now.items) (items_of c.put_value-in-Equal.new.code.items) (items_of c.put_value-in-Equal-2.new.code.items) (items_of c.put_others.new.code.items) x.equality (value_of x.left.value) (value_of x.right.value) (values_of (map value_of x.others.items))
-    (same_value _ _ _ _ c.in_ok-put_value-in-Equal.ensures c.deref-in-Equal.ensures) (same_value _ _ _ _ c.in_ok-put_value-in-Equal-2.ensures c.deref-in-Equal-2.ensures)
-    (c.in_ok-put_others-in-Equal.ensures ∙ ap (λ (ys : List Evaluation). followed (items_of c.put_value-in-Equal-2.new.code.items) (λ at. or_items at x.equality (values_of (map value_of ys)))) c.deref-in-Equal-3.ensures.value))
+    let c0 = written_in c.args.draft.now in
+    let c1 = written_in c.put_others.new.draft in
+    let c2 = written_in c.put_operand-in-Equal.new.draft in
+    let c3 = written_in c.put_operand-in-Equal-2.new.draft in
+    let a = value_of x.left.value in
+    let b = value_of x.right.value in
+    let vs = values_of (map value_of x.others.items) in
+    let oa = as_operand c.side_operands-first.result.0 in
+    let ob = as_operand c.side_operands-first.result.1 in
+    let P : Value → Type 0 = λ v. Written c0 c3 (wanted_items c.args.wanted v) in
+    let Q : List Evaluation → Type 0 = λ l. ReducesEquality c0 c1 c.args.wanted x.equality oa ob
+    (values_of (map value_of l)) in
+    let R : Evaluation → Type 0 = λ e. Written c1 c2 (pushes ob (value_of e)) in
+    let S : Evaluation → Type 0 = λ e. Written c2 c3 (pushes oa (value_of e)) in
+    let ea = c.side_operands-first.ensures.left
+    ∙ ap (λ (e : Evaluation). first_operand (value_of e) (value_of c.deref-in-Equal-2.result.now)
+    (values_of (map value_of c.deref-in-Equal-3.result.now))) c.deref-in-Equal.ensures
+    ∙ ap (λ (e : Evaluation). first_operand a (value_of e) (values_of (map value_of c.deref-in-Equal-3.result.now)))
+    c.deref-in-Equal-2.ensures
+    ∙ ap (λ (l : List Evaluation). first_operand a b (values_of (map value_of l))) c.deref-in-Equal-3.ensures.value in
+    let eb = c.side_operands-first.ensures.right
+    ∙ ap (λ (e : Evaluation). second_operand (value_of e)
+    (values_of (map value_of c.deref-in-Equal-3.result.now))) c.deref-in-Equal-2.ensures
+    ∙ ap (λ (l : List Evaluation). second_operand b (values_of (map value_of l))) c.deref-in-Equal-3.ensures.value in
+    subst P (sym (equal_is _ _ _ _ _ x.is))
+    (equal_more c0 c1 c2 c3 c.args.wanted x.equality oa ob a b vs ea eb
+    (subst Q c.deref-in-Equal-4.ensures.value c.in_ok-put_others-in-Equal.ensures)
+    (subst R c.deref-in-Equal-5.ensures c.in_ok-put_operand-in-Equal.ensures)
+    (subst S c.deref-in-Equal-6.ensures c.in_ok-put_operand-in-Equal-2.ensures))
 
-pub put_value-returns-in_ok-put-in-Assign : goal.put_value-returns-in_ok-put-in-Assign
-put_value-returns-in_ok-put-in-Assign t c =
-    let x = c.in-Assign in
-    let v : value_of c.args.value.now ≡ source.assign x.variable (value_of x.value.value) = rw x.is (ap value_of (sym (rolls-Assign x.variable x.value)) ∙ fold-roll-Evaluation Value value_layer _) in
-    as_value _ _ _ _ v (assign_more (items_of c.args.code.now.items) (items_of c.put_value-in-Assign.new.code.items) (items_of c.put-in-Assign.new.code.items) x.variable (value_of x.value.value)
-    (same_value _ _ _ _ c.in_ok-put_value-in-Assign.ensures c.deref-in-Assign.ensures) c.in_ok-put-in-Assign.ensures)
+pub put_folded-loop-done-preserved : goal.put_folded-loop-done-preserved
+put_folded-loop-done-preserved t c =
+    let xs = c.args.values.now in
+    let i = length xs - 1 - c.loop-done.done in
+    let lt : c.loop-done.done < length xs = c.loop-done-test.true in
+    let P : ℕ → Type 0 = λ k. Written (written_in c.args.draft.now) (written_in c.loop-done.draft)
+    (λ n at. folded_items at (values_of (map value_of (drop k xs)))) in
+    let Q : ℕ → Type 0 = λ k. Written (written_in c.args.draft.now) (written_in c.put_value.new.draft)
+    (λ n at. folded_items at (values_of (map value_of (drop k xs)))) in
+    let before : length xs - c.loop-done.done ≡ i + 1 = omega (arith, lt) in
+    let after : i ≡ length xs - (c.loop-done.done + 1) = omega arith in
+    subst Q after (folded_next _ _ _ _ xs i _ (omega (arith, lt)) c.index-values-values.is
+    (subst P before c.loop-done.invariant) c.in_ok-put.ensures c.in_ok-put_value.ensures)
+
+pub put_operands-loop-done-preserved : goal.put_operands-loop-done-preserved
+put_operands-loop-done-preserved t c =
+    let xs = c.args.values.now in
+    let i = length xs - 1 - c.loop-done.done in
+    let lt : c.loop-done.done < length xs = c.loop-done-test.true in
+    let P : ℕ → Type 0 = λ k. Written (written_in c.args.draft.now) (written_in c.loop-done.draft)
+    (λ n at. operands_items at (values_of (map value_of (drop k xs)))) in
+    let Q : ℕ → Type 0 = λ k. Written (written_in c.args.draft.now) (written_in c.put_operand.new.draft)
+    (λ n at. operands_items at (values_of (map value_of (drop k xs)))) in
+    let before : length xs - c.loop-done.done ≡ i + 1 = omega (arith, lt) in
+    let after : i ≡ length xs - (c.loop-done.done + 1) = omega arith in
+    let later = c.before-operand.ensures
+    ∙ ap (λ (l : List Evaluation). operand_of (value_of c.index-values-number.result)
+    (values_of (map value_of l))) (take_rest xs (i + 1)) in
+    subst Q after (operand_next _ _ _ xs i _ _ (omega (arith, lt)) c.index-values-number.is later
+    (subst P before c.loop-done.invariant) c.in_ok-put_operand.ensures)
+
+pub put_links-loop-done-preserved : goal.put_links-loop-done-preserved
+put_links-loop-done-preserved t c =
+    let xs = c.args.links.now in
+    let i = length xs - 1 - c.loop-done.done in
+    let lt : c.loop-done.done < length xs = c.loop-done-test.true in
+    let P : ℕ → Type 0 = λ k. ReducesLinks (written_in c.args.draft.now)
+    (written_in c.loop-done.draft) c.args.wanted c.loop-done.wanted (map link_of (drop k xs)) in
+    let Q : ℕ → Type 0 = λ k. ReducesLinks (written_in c.args.draft.now)
+    (written_in c.put_link.new.draft) c.args.wanted c.in_ok-wanted.wanted (map link_of (drop k xs)) in
+    let before : length xs - c.loop-done.done ≡ i + 1 = omega (arith, lt) in
+    let after : i ≡ length xs - (c.loop-done.done + 1) = omega arith in
+    subst Q after (link_next _ _ _ c.args.wanted _ _ xs i _ (omega (arith, lt)) c.index-links-links.is
+    (subst P before c.loop-done.invariant) c.in_ok-wanted.ensures)
+
+pub put_links-returns : goal.put_links-returns
+put_links-returns t c =
+    let xs = c.args.links.now in
+    let P : ℕ → Type 0 = λ k. ReducesLinks (written_in c.args.draft.now)
+    (written_in c.loop-done.draft) c.args.wanted c.loop-done.wanted (map link_of (drop k xs)) in
+    let none : length xs - c.loop-done.done ≡ 0 = omega (arith, c.loop-done-test.false) in
+    subst P none c.loop-done.invariant

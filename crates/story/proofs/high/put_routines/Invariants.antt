@@ -8,5 +8,7 @@ use Rattle.story.proofs.high.put_routines.Given as goal
 abbrev pub invariant-loop-code : goal.invariant-loop-code
 invariant-loop-code l =
     (parts : List (List ℕ))
-    → l.body.items ++ parts_from (scale_of l.version) (64 + length l.body.items) (map (code_part (addresses_of l.addresses)) (drop l.code-index l.codes) ++ parts)
-    ≡ l.initial.body.items ++ parts_from (scale_of l.version) (64 + length l.initial.body.items) (map (code_part (addresses_of l.addresses)) l.codes ++ parts)
+    → l.body.items ++ parts_from (scale_of l.version) (64 + length l.body.items)
+    (map (code_part (addresses_of l.addresses)) (drop l.code-index l.codes) ++ parts)
+    ≡ l.initial.body.items ++ parts_from (scale_of l.version) (64 + length l.initial.body.items)
+    (map (code_part (addresses_of l.addresses)) l.codes ++ parts)

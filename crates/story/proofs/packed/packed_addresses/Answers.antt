@@ -9,5 +9,6 @@ pub add_address-requires : goal.add_address-requires
 add_address-requires c =
     let x = c.code-item.result in
     let within : aligned (scale_of c.args.version) c.loop-code.at + part_size x ≤ 65535 * scale_of c.args.version =
-    size_within c.args.version c.loop-code.at _ c.args.codes.now c.loop-code.code-index x (c.args.first ∷ c.args.second ∷ []) c.loop-code-test.true c.code-item.is c.loop-code.invariant.1 c.requires in
+    size_within c.args.version c.loop-code.at _ c.args.codes.now c.loop-code.code-index x
+    (c.args.first ∷ c.args.second ∷ []) c.loop-code-test.true c.code-item.is c.loop-code.invariant.1 c.requires in
     omega (arith, within, c.length.ensures)

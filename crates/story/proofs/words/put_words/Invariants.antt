@@ -4,4 +4,5 @@ use Rattle.story.specs.Layout as layout
 use Rattle.story.proofs.words.put_words.Given as goal
 
 abbrev pub invariant-loop-word : goal.invariant-loop-word
-invariant-loop-word l = l.bytes.items ++ flat_map layout.word (drop l.word-index l.words) ≡ l.initial.bytes.items ++ flat_map layout.word l.words
+invariant-loop-word l = l.bytes.items ++ flat_map layout.word (drop l.word-index l.words) ≡ l.initial.bytes.items
+    ++ flat_map layout.word l.words

@@ -6,12 +6,15 @@ use Rattle.story.proofs.write.write_story.Goals as goal
 
 pub put_header-requires : goal.put_header-requires
 put_header-requires c =
-    body_within c.args.version (program_of c.args.checked.now) c.deref.result.now c.requires (c.deref.ensures.value ∙ c.in_ok-body.ensures)
+    body_within c.args.version (program_of c.args.checked.now) c.deref.result.now c.requires (c.deref.ensures.value
+    ∙ c.in_ok-body.ensures)
 
 pub returns : goal.returns
 returns c =
-    let body : c.deref.result.now ≡ body_of c.args.version (program_of c.args.checked.now) = c.deref.ensures.value ∙ c.in_ok-body.ensures in
+    let body : c.deref.result.now ≡ body_of c.args.version (program_of c.args.checked.now) =
+    c.deref.ensures.value ∙ c.in_ok-body.ensures in
     let again : c.deref-2.result.now ≡ c.deref.result.now = cc in
-    story_laid c.args.version (program_of c.args.checked.now) c.deref.result.now c.new-story.result.items c.put_header.new.story.items c.extend_from_slice.new.self.items
+    story_laid c.args.version (program_of c.args.checked.now) c.deref.result.now c.new-story.result.items
+    c.put_header.new.story.items c.extend_from_slice.new.self.items
     body c.new-story.ensures.items c.in_ok-put_header.ensures
     (c.in_ok-extend_from_slice.ensures.items ∙ ap (λ z. c.put_header.new.story.items ++ z) again)

@@ -1,6 +1,7 @@
-use Rattle.std.proofs.Common.{◌∙◌, sym}
-use Rattle.zcore.proofs.Spelling.{spelling_none}
+use Rattle.std.proofs.Common.{◌∙◌}
+use Rattle.zcore.proofs.Spelling.{is_sign_by, sign_spelling}
 use Rattle.zcore.proofs.alphabets.spelling.Goals as goal
 
 pub returns : goal.returns
-returns c = sym (spelling_none c.args.c c.if-c-eq32.false (sym c.place_in.ensures.found ∙ c.in_default.is) (sym c.place_in-2.ensures.found ∙ c.in_default-place_in.is) c.if-c-eq13.false (sym c.place_in-3.ensures.found ∙ c.in_default-place_in-2.is))
+returns c = c.sign_spelling.ensures ∙ sign_spelling c.args.c c.ranges.c.fits
+    (is_sign_by c.args.c c.else-c-ge97.either c.else-c-ge65.either c.if-c-eq32.false c.if-c-eq13.false)

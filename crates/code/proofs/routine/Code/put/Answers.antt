@@ -1,16 +1,20 @@
-use Rattle.std.proofs.Common.{◌≡◌, ◌-◌, ◌%◌, [], ◌∷◌, ◌++◌, ap, ◌∙◌, arith}
+use Rattle.std.proofs.Common.{◌≡◌, ◌%◌, List, [], ◌∷◌, ◌++◌, ap, ◌∙◌}
+use Rattle.items.specs.Items.{Item}
 use Rattle.items.specs.Code.{items_of}
-use Rattle.code.specs.Bytes.{code_size}
+use Rattle.code.specs.Bytes.{place_of, items_bytes}
 use Rattle.code.specs.Written.{addresses_of}
-use Rattle.code.proofs.Starts.{code_written}
+use Rattle.code.proofs.Codes.{code_written}
 use Rattle.code.proofs.routine.Code.put.Goals as goal
 
 pub returns-clause-written : goal.returns-clause-written
 returns-clause-written c =
     let x = c.self.inside in
-    let first : c.push.new.self.items ≡ (x.locals % 256) ∷ [] = c.in_ok-push.ensures.items ∙ ap (λ z. z ++ (x.locals % 256) ∷ []) c.new-bytes.ensures.items in
-    let size : x.length - 1 ≡ code_size (items_of x.items.items) = omega (arith, c.self.invariant.1) in
-    code_written (addresses_of c.args.addresses.now) c.args.self.now x.items.items c.deref-2.result.now x.locals (x.length - 1) c.deref.result.now
-    c.args.story.now.items c.extend_from_slice.new.self.items c.push.new.self.items c.put_items.new.bytes.items c.deref-3.result.now
-    c.self.view_is c.deref-2.ensures.value (c.deref.ensures.value ∙ c.self.invariant.0) size first
-    c.in_ok-put_items.ensures c.deref-3.ensures.value c.in_ok-extend_from_slice.ensures.items
+    let a = addresses_of c.args.addresses.now in
+    let first : c.push.new.self.items ≡ (x.locals % 256) ∷ [] =
+    c.in_ok-push.ensures.items ∙ ap (λ z. z ++ (x.locals % 256) ∷ []) c.new-bytes.ensures.items in
+    let same = ap items_of c.deref.ensures.value in
+    code_written a c.args.self.now (items_of x.items.items) x.locals c.args.story.now.items
+    c.extend_from_slice.new.self.items c.push.new.self.items c.put_items.new.bytes.items c.deref-3.result.now
+    c.self.view_is first (c.in_ok-put_items.ensures
+    ∙ ap (λ (is : List Item). c.push.new.self.items ++ items_bytes a (place_of is) 0 is) same) c.deref-3.ensures.value
+    c.in_ok-extend_from_slice.ensures.items

@@ -1,0 +1,185 @@
+-- The branches of a routine.
+use Rattle.std.proofs.Common.{◌≡◌, ℕ, ◌+◌, ◌-◌, ◌<◌, ◌≤◌, List, [], length, Bool, true, false, refl, sym, ap, ◌∙◌, subst, arith}
+use Rattle.std.specs.Prelude.{nat_lt, if◌then◌else◌}
+use Rattle.std.specs.List.{All, flat_map}
+use Rattle.std.proofs.lemmas.Bool.{ltb-true}
+use Rattle.std.proofs.lemmas.List.{take_all}
+use Rattle.zcore.specs.declared.instruction.Operation.{Operation}
+use Rattle.zcore.specs.Instruction.{bytes_of, FitsOperand}
+use Rattle.checker.specs.Meaning.{routine_at}
+use Rattle.items.specs.Items.{Item, Test, agrees}
+use Rattle.items.specs.Items as items
+use Rattle.items.specs.Laws.{IsTested}
+use Rattle.items.specs.Stack as stack
+use Rattle.code.proofs.Behind.{Holds}
+use Rattle.code.specs.Instructions.{operands, labelled, test_operation, tested_code, branch_code, most_tested}
+use Rattle.code.specs.Bytes.{text_bytes, place_of}
+use Rattle.code.proofs.Play.{Leads, address}
+use Rattle.code.proofs.Parts.{machine as at_words}
+use Rattle.code.proofs.Steps.{point, leads_then, landing}
+use Rattle.code.proofs.Fitting.{held_bytes}
+use Rattle.code.proofs.ItemOperands.{Gives, with_first, by_operands, gives_count, gives_length, few_pushed, operands_length}
+use Rattle.code.proofs.Labels.{Branching, label_leads}
+use Rattle.code.proofs.Places.{rises, ends_by}
+use Rattle.code.proofs.Arriving.{Running, at, around, here, high, above, kept, LedFrom, Stands, code_here, code_held, arrives_on, situation_here}
+use Rattle.code.proofs.Temporaries.{held_in}
+use Rattle.code.proofs.Taking.{after_takes, Taken, taken, Apart, apart}
+use Rattle.code.proofs.Alone.{IsOperandHere, next_place, plain_length}
+use Rattle.code.proofs.Jumping.{is_in, short}
+use Rattle.code.proofs.Tests.{labelled_fit, branching_some, TestOf, Counted, few_tested, few_given, asked, test_of}
+
+module _ (c : Running) where
+  open c use {story, a, p, accepted, holds, full, m, count, counts, routine, place, callers, locals, world, good}
+
+  -- how far a branch of this item leads
+  abbrev over : ℕ → ℕ
+  over target = place_of (is_in c) target - place_of (is_in c) (place + 1)
+
+  branches_led : (item : Item) (test : Test) (os : List items.Operand) (when : Bool) (target : ℕ)
+      (words vs rest : List ℕ) → All (IsOperandHere c) os → Counted test (length os) → length words ≤ 48
+      → Stands c item → text_bytes item ≡ [] → code_here c item ≡ tested_code test os when (2 + over target)
+      → Gives os (situation_here c) words vs rest
+      → LedFrom c words (stack.branch (agrees (stack.holds test vs) when) target rest (at c words))
+  branches_led item test os when target words vs rest all is room stands none code g =
+      go when (stack.holds test vs) there
+    where
+      op : Operation
+      op = test_operation test
+
+      d : ℕ
+      d = over target
+
+      few : length os ≤ 4
+      few = few_tested test (length os) is
+
+      parts : Apart c os (labelled op (operands os) when (2 + d))
+      parts = apart c os (labelled op (operands os) when (2 + d))
+          (subst (λ is. Holds m (here c) (flat_map bytes_of is)) code (code_held c item stands))
+
+      t : Taken c os words vs rest
+      t = taken c os words vs rest all (omega (arith, few, few_pushed os)) g parts.takes_held
+
+      left : length rest ≤ 48
+      left = omega (arith, room, gives_count os (situation_here c) words vs rest g)
+
+      kinds : TestOf test (operands os) vs
+      kinds = test_of test (operands os) vs (gives_length os (situation_here c) words vs rest g
+          ∙ sym (operands_length os)) (subst (Counted test) (sym (operands_length os)) is)
+
+      q : ℕ
+      q = after_takes c os
+
+      fit : All FitsOperand (operands os)
+      fit = labelled_fit op (operands os) when (2 + d)
+          (held_bytes _ q story m (flat_map bytes_of (labelled op (operands os) when (2 + d))) holds.byte_each (kept c)
+          (omega (arith, high c)) parts.others)
+
+      branching_is : Branching (around c) t.memory locals (with_first os vs rest) rest world.text op (operands os)
+          (stack.holds test vs)
+      branching_is = record {
+        values = vs;
+        fits = λ when offset small. record {
+          least = kinds.least;
+          most = kinds.most;
+          operands_fit = fit;
+          result_fits = kinds.result;
+          branch_fits = kinds.branch when offset small;
+        };
+        some = branching_some op (operands os);
+        taken = t.values world.text;
+        branches = kinds.does;
+      }
+
+      next : next_place c ≡ q + length (flat_map bytes_of (labelled op (operands os) when (2 + d)))
+      next = omega (
+        arith,
+        stands.next,
+        plain_length c item none,
+        ap (λ is. length (flat_map bytes_of is)) code,
+        parts.sizes,
+      )
+
+      within : next_place c + d < length t.memory
+      within = omega (
+        arith,
+        (holds.routines routine good.known).followed,
+        ends_by (is_in c) target,
+        ends_by (is_in c) (place + 1),
+        good.stored.size,
+        t.scratch.stored.size,
+      )
+
+      there : Leads (point (here c) world.fuel) (at_words (around c) m locals words world.text)
+          (point (landing when (stack.holds test vs) (next_place c) d) world.fuel)
+          (at_words (around c) t.memory locals rest world.text)
+      there =
+          leads_then (point (here c) world.fuel) (point q world.fuel)
+          (point (landing when (stack.holds test vs) (next_place c) d) world.fuel)
+          (at_words (around c) m locals words world.text)
+          (at_words (around c) t.memory locals (with_first os vs rest) world.text)
+          (at_words (around c) t.memory locals rest world.text) t.leads
+          (label_leads (around c) world.fuel t.memory locals (with_first os vs rest) rest world.text q d op
+          (operands os) when (stack.holds test vs) branching_is (omega (arith, above c))
+          (omega (arith, short c, ends_by (is_in c) target)) (next_place c) next within
+          (held_in c t.memory (flat_map bytes_of (labelled op (operands os) when (2 + d))) q t.scratch
+          (omega arith) parts.others))
+
+      -- it goes on with the next item, or leads to the target
+      passes : Leads (point (here c) world.fuel) (at_words (around c) m locals words world.text)
+          (point (next_place c) world.fuel) (at_words (around c) t.memory locals rest world.text)
+          → LedFrom c words (stack.goes (stack.after (at c words) rest (situation_here c)))
+      passes l = arrives_on c words rest t.memory (situation_here c) (next_place c) refl left t.scratch.stored refl refl
+          l
+
+      jumps : (b : Bool) → nat_lt place target ≡ b
+          → Leads (point (here c) world.fuel) (at_words (around c) m locals words world.text)
+          (point (next_place c + d) world.fuel) (at_words (around c) t.memory locals rest world.text)
+          → LedFrom c words (if b then stack.goes (record (at c words) { stack = rest; place = target })
+          else stack.stuck)
+      jumps false e l = tt
+      jumps true e l =
+          let before : place < target = ltb-true _ _ e in
+          let up = rises (is_in c) (place + 1) target (omega (arith, before)) in
+          let to : next_place c + d ≡ address story a p routine target = omega (arith, up) in
+          record {
+            memory = t.memory;
+            count = count;
+            counts = counts;
+            good = record {
+              known = good.known;
+              locals = good.locals;
+              room = left;
+              callers = good.callers;
+              few = good.few;
+              globals = good.globals;
+              stored = t.scratch.stored;
+            };
+            leads = subst (λ k. Leads (point (here c) world.fuel) (at_words (around c) m locals words world.text)
+                (point k world.fuel) (at_words (around c) t.memory locals rest world.text)) to l;
+          }
+
+      go : (w h : Bool) → Leads (point (here c) world.fuel) (at_words (around c) m locals words world.text)
+          (point (landing w h (next_place c) d) world.fuel) (at_words (around c) t.memory locals rest world.text)
+          → LedFrom c words (stack.branch (agrees h w) target rest (at c words))
+      go true true l = jumps (nat_lt place target) refl l
+      go true false l = passes l
+      go false true l = passes l
+      go false false l = jumps (nat_lt place target) refl l
+
+  pub branch_led : (test : Test) (os : List items.Operand) (when : Bool) (target : ℕ) (words : List ℕ)
+      → All (IsOperandHere c) os → IsTested test (length os) → length words ≤ 48
+      → Stands c (items.branch test os when target)
+      → LedFrom c words (stack.with_operands os (situation_here c) words
+      (λ vs rest. stack.branch (agrees (stack.holds test vs) when) target rest (at c words)))
+  branch_led test os when target words all is room stands =
+      by_operands os (situation_here c) words (LedFrom c words)
+      (λ vs rest. stack.branch (agrees (stack.holds test vs) when) target rest (at c words)) tt
+      (λ vs rest g.
+      let few = few_given test (length os) is in
+      let k = asked p (routine_at p.routines routine).locals (situation_here c) test os words vs rest is all g in
+      let item = items.branch test os when target in
+      let code : code_here c item ≡ tested_code k.test1 k.os1 when (2 + over target) =
+      ap (λ os. branch_code test os when (2 + over target)) (take_all most_tested os few)
+      ∙ k.code when (2 + over target) in
+      subst (λ b. LedFrom c words (stack.branch (agrees b when) target rest (at c words))) k.holds
+      (branches_led item k.test1 k.os1 when target words k.vs1 rest k.all k.counted room stands refl code k.gives))

@@ -1,0 +1,206 @@
+-- Items that move, keep and drop words.
+use Rattle.std.proofs.Common.{◌≡◌, ℕ, ◌+◌, ◌≤◌, List, [], ◌∷◌, length, Bool, true, false, refl, sym, ◌∙◌, subst, arith}
+use Rattle.std.specs.Prelude.{nat_le, if◌then◌else◌}
+use Rattle.std.proofs.lemmas.Bool.{leb-true}
+use Rattle.zcore.specs.declared.instruction.Operand.TheVariants.{Small}
+use Rattle.zcore.specs.Instruction.{bytes_of}
+use Rattle.zcore.specs.Step.{perform, push_word}
+use Rattle.checker.specs.declared.resolved.Variable as source
+use Rattle.checker.specs.declared.resolved.Variable.TheVariants as variables
+use Rattle.checker.specs.World.{Situation, with_value}
+use Rattle.checker.specs.Meaning.{routine_at}
+use Rattle.checker.specs.Accepted.{IsVariable}
+use Rattle.items.specs.Items.{Item, Destination}
+use Rattle.items.specs.Items as items
+use Rattle.items.specs.Stack as stack
+use Rattle.code.specs.Instructions.{number_of, in_place, result_in, push, pull, copy, store}
+use Rattle.code.proofs.Play.{Leads, Stored}
+use Rattle.code.proofs.Parts.{machine as at_words, pushes, Writes, global_writes}
+use Rattle.code.proofs.Steps.{point, one_step, one_operand, two_operands, small_value}
+use Rattle.code.proofs.SingleSteps.{pull_step, pull_below_step, copy_step}
+use Rattle.code.proofs.Fitting.{Shaped}
+use Rattle.code.proofs.Arriving.{Running, at, around, here, LedFrom, Stands, room_for, code_here, arrives, arrives_on, situation_here}
+use Rattle.code.proofs.Variables.{memory_with, variable_held}
+use Rattle.code.proofs.Temporaries.{scratch_here, made}
+use Rattle.code.proofs.Delivering.{memory_after, locals_after, stack_after, delivered_led, stored_step}
+use Rattle.code.proofs.Alone.{by_operand, alone_count, alone_value, IsOperandHere, IsHere, next_place, single}
+
+pub fuel_same : (x : source.Variable) (word : ℕ) (s : Situation) → (with_value x word s).world.fuel ≡ s.world.fuel
+fuel_same (variables.Local i) word s = refl
+fuel_same (variables.Global g) word s = refl
+
+pub text_same : (x : source.Variable) (word : ℕ) (s : Situation) → (with_value x word s).world.text ≡ s.world.text
+text_same (variables.Local i) word s = refl
+text_same (variables.Global g) word s = refl
+
+module _ (c : Running) where
+  open c use {story, a, p, accepted, holds, full, m, count, counts, routine, place, callers, locals, world, good}
+
+  -- Moves
+
+  abbrev Moved : items.Operand → Destination → List ℕ → Type 0
+  Moved o d s = LedFrom c s (stack.with_operand o (situation_here c) s
+      (λ v rest. stack.delivered d v (stack.after (at c s) rest (situation_here c))))
+
+  push_led : (o : items.Operand) (s : List ℕ) → IsOperandHere c o → length s ≤ 48 → Stands c (items.move o items.push)
+      → Moved o items.push s
+  unfolding perform push_word
+  push_led o s is short stands =
+      by_operand o (situation_here c) s (LedFrom c s)
+      (λ v rest. stack.delivered items.push v (stack.after (at c s) rest (situation_here c))) tt (λ v rest h.
+      let st = at_words (around c) m locals s world.text in
+      let st1 = at_words (around c) m locals rest world.text in
+      let i = push (in_place o) in
+      let there = single c (items.move o items.push) i refl refl stands in
+      let shaped : Shaped i = record { least = omega arith; most = omega arith; result_fits = tt; branch_fits = tt } in
+      let end = here c + length (bytes_of i) in
+      let few : length rest ≤ 48 = omega (arith, short, alone_count o (situation_here c) s v rest h) in
+      let makes = made c m s rest world.text (here c) i (v ∷ []) (scratch_here c) (omega arith) shaped there.held
+      (one_operand st st1 (in_place o) v (alone_value c o m world.text s v rest (scratch_here c) is h)) in
+      delivered_led c items.push v end s rest m tt (scratch_here c) few there.end
+      (one_step (point (here c) world.fuel) (point end world.fuel) st
+      (at_words (around c) m locals (v ∷ rest) world.text)
+      (makes ∙ rw (pushes (around c) m locals world.text rest v (room_for c rest (omega (arith, few)))) refl)))
+
+  store_led : (o : items.Operand) (d : Destination) (s : List ℕ) → IsOperandHere c o → IsHere c d → length s ≤ 48
+      → code_here c (items.move o d) ≡ store (result_in d) (in_place o) ∷ [] → Stands c (items.move o d)
+      → ((word : ℕ) → Writes (around c) m locals (result_in d) word (memory_after c d word m) (locals_after c d word))
+      → ((word : ℕ) (rest : List ℕ) → stack_after c d word rest ≡ rest) → Moved o d s
+  unfolding perform
+  store_led o d s is is_d short code stands writes same =
+      by_operand o (situation_here c) s (LedFrom c s)
+      (λ v rest. stack.delivered d v (stack.after (at c s) rest (situation_here c))) tt (λ v rest h.
+      let st = at_words (around c) m locals s world.text in
+      let st1 = at_words (around c) m locals rest world.text in
+      let i = store (result_in d) (in_place o) in
+      let there = single c (items.move o d) i code refl stands in
+      let shaped : Shaped i = record { least = omega arith; most = omega arith; result_fits = tt; branch_fits = tt } in
+      let end = here c + length (bytes_of i) in
+      let few : length rest ≤ 48 = omega (arith, short, alone_count o (situation_here c) s v rest h) in
+      let makes = made c m s rest world.text (here c) i (result_in d ∷ v ∷ []) (scratch_here c) (omega arith) shaped
+      there.held
+      (two_operands st st st1 (Small (result_in d)) (in_place o) (result_in d) v (small_value st (result_in d))
+      (alone_value c o m world.text s v rest (scratch_here c) is h)) in
+      let to = at_words (around c) (memory_after c d v m) (locals_after c d v) rest world.text in
+      delivered_led c d v end s rest m is_d (scratch_here c) few there.end
+      (subst (λ ws. Leads (point (here c) world.fuel) st (point end world.fuel)
+      (at_words (around c) (memory_after c d v m) (locals_after c d v) ws world.text)) (sym (same v rest))
+      (one_step (point (here c) world.fuel) (point end world.fuel) st to
+      (makes ∙ stored_step c (point (here c) world.fuel) end (result_in d) v rest world.text m (memory_after c d v m)
+      (locals_after c d v) (writes v)))))
+
+  store_into : (o : items.Operand) (x : source.Variable) (s : List ℕ) → IsOperandHere c o → IsHere c (items.into x)
+      → length s ≤ 48 → code_here c (items.move o (items.into x)) ≡ store (number_of x) (in_place o) ∷ []
+      → Stands c (items.move o (items.into x)) → Moved o (items.into x) s
+  store_into o x s is is_d short code stands =
+      store_led o (items.into x) s is is_d short code stands
+      (λ word. (variable_held c m x (scratch_here c) is_d).writes word) (λ word rest. refl)
+
+  pub move_led : (o : items.Operand) (d : Destination) (s : List ℕ) → IsOperandHere c o → IsHere c d → length s ≤ 48
+      → Stands c (items.move o d) → Moved o d s
+  move_led o items.push s is is_d short stands = push_led o s is short stands
+  move_led items.pushed (items.into x) [] is is_d short stands = tt
+  move_led items.pushed (items.into x) (v ∷ rest) is is_d short stands =
+      let i = pull (number_of x) in
+      let there = single c (items.move items.pushed (items.into x)) i refl refl stands in
+      let end = here c + length (bytes_of i) in
+      let to = at_words (around c) (memory_with c m x v) (with_value x v (situation_here c)).locals rest world.text in
+      delivered_led c (items.into x) v end (v ∷ rest) rest m is_d (scratch_here c) (omega (arith, short)) there.end
+      (one_step (point (here c) world.fuel) (point end world.fuel) (at_words (around c) m locals (v ∷ rest) world.text)
+      to
+      (pull_step (around c) world.fuel m locals rest world.text (memory_with c m x v)
+      (with_value x v (situation_here c)).locals (here c) (number_of x) v
+      ((variable_held c m x (scratch_here c) is_d).writes v) there.held))
+  move_led (items.number n) (items.into x) s is is_d short stands =
+      store_into (items.number n) x s is is_d short refl stands
+  move_led (items.variable y) (items.into x) s is is_d short stands =
+      store_into (items.variable y) x s is is_d short refl stands
+  move_led items.pushed items.nowhere s is is_d short stands =
+      store_led items.pushed items.nowhere s is is_d short refl stands
+      (λ word. global_writes (around c) m locals 248 word (omega arith) (omega arith)) (λ word rest. refl)
+  move_led (items.number n) items.nowhere s is is_d short stands =
+      store_led (items.number n) items.nowhere s is is_d short refl stands
+      (λ word. global_writes (around c) m locals 248 word (omega arith) (omega arith)) (λ word rest. refl)
+  move_led (items.variable y) items.nowhere s is is_d short stands =
+      store_led (items.variable y) items.nowhere s is is_d short refl stands
+      (λ word. global_writes (around c) m locals 248 word (omega arith) (omega arith)) (λ word rest. refl)
+
+  -- Variables that are written
+
+  abbrev pub IsVariableHere : source.Variable → Type 0
+  IsVariableHere x = IsVariable p (routine_at p.routines routine).locals x
+
+  -- the machine comes to the next item, where a variable has changed
+  pub written_led : (before after m1 : List ℕ) (situation : Situation) (end : ℕ) → end ≡ next_place c
+      → length after ≤ 48
+      → Stored story situation.world.globals m1
+      → length situation.locals ≡ length locals → length situation.world.globals ≡ length world.globals
+      → situation.world.fuel ≡ world.fuel → situation.world.text ≡ world.text
+      → Leads (point (here c) world.fuel) (at_words (around c) m locals before world.text) (point end world.fuel)
+      (at_words (around c) m1 situation.locals after world.text)
+      → LedFrom c before (stack.goes (record {
+        routine = routine;
+        place = place + 1;
+        stack = after;
+        callers = callers;
+        situation = situation;
+      }))
+  written_led before after m1 situation end is room stored locals_same globals_same fuel text leads =
+      let one = subst (λ f. Leads (point (here c) world.fuel) (at_words (around c) m locals before world.text)
+      (point end f) (at_words (around c) m1 situation.locals after world.text)) (sym fuel) leads in
+      let two = subst (λ t. Leads (point (here c) world.fuel) (at_words (around c) m locals before world.text)
+      (point end situation.world.fuel) (at_words (around c) m1 situation.locals after t)) (sym text) one in
+      arrives_on c before after m1 situation end is room stored locals_same globals_same two
+
+  pub within_led : (before after m1 : List ℕ) (situation : Situation) (end : ℕ) → end ≡ next_place c
+      → Stored story situation.world.globals m1
+      → length situation.locals ≡ length locals → length situation.world.globals ≡ length world.globals
+      → situation.world.fuel ≡ world.fuel → situation.world.text ≡ world.text
+      → Leads (point (here c) world.fuel) (at_words (around c) m locals before world.text) (point end world.fuel)
+      (at_words (around c) m1 situation.locals after world.text)
+      → LedFrom c before (stack.within (record {
+        routine = routine;
+        place = place + 1;
+        stack = after;
+        callers = callers;
+        situation = situation;
+      }))
+  within_led before after m1 situation end is stored locals_same globals_same fuel text leads =
+      go (nat_le (length after) 48) refl
+    where
+      go : (b : Bool) → nat_le (length after) 48 ≡ b
+          → LedFrom c before (if b then stack.goes
+          (record { routine = routine; place = place + 1; stack = after; callers = callers; situation = situation })
+          else stack.stuck)
+      go true e = written_led before after m1 situation end is (leb-true _ _ e) stored locals_same globals_same fuel
+          text leads
+      go false e = tt
+
+  pub keep_led : (x : source.Variable) (s : List ℕ) → IsVariableHere x → Stands c (items.keep x)
+      → LedFrom c s (stack.keep x s (at c s))
+  keep_led x [] is stands = tt
+  keep_led x (v ∷ s) is stands =
+      let held = variable_held c m x (scratch_here c) is in
+      let i = copy (number_of x) in
+      let there = single c (items.keep x) i refl refl stands in
+      let l1 = (with_value x v (situation_here c)).locals in
+      let end = here c + length (bytes_of i) in
+      within_led (v ∷ s) (v ∷ s) (memory_with c m x v) (with_value x v (situation_here c)) end there.end (held.stored v)
+      (held.locals_same v) (held.globals_same v)
+      (fuel_same x v (situation_here c)) (text_same x v (situation_here c))
+      (one_step (point (here c) world.fuel) (point end world.fuel) (at_words (around c) m locals (v ∷ s) world.text)
+      (at_words (around c) (memory_with c m x v) l1 (v ∷ s) world.text)
+      (copy_step (around c) world.fuel m locals s world.text (memory_with c m x v) l1 (here c) (number_of x) v
+      (held.writes v) there.held))
+
+  pub drop_below_led : (s : List ℕ) → Stands c items.drop_below → LedFrom c s (stack.drop_below s (at c s))
+  drop_below_led [] stands = tt
+  drop_below_led (v ∷ []) stands = tt
+  drop_below_led (v ∷ x ∷ s) stands =
+      let i = pull 0 in
+      let there = single c items.drop_below i refl refl stands in
+      let end = here c + length (bytes_of i) in
+      arrives c (v ∷ x ∷ s) (v ∷ s) m (situation_here c) end there.end good.stored refl refl
+      (one_step (point (here c) world.fuel) (point end world.fuel) (at_words (around c) m locals (v ∷ x ∷ s) world.text)
+      (at_words (around c) m locals (v ∷ s) world.text)
+      (pull_below_step (around c) world.fuel m locals s world.text (here c) x v there.held))

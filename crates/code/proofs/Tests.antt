@@ -1,0 +1,213 @@
+-- What a branch tests, and the instruction that tests it.
+use Rattle.std.proofs.Common.{◌≡◌, ℕ, ◌%◌, ◌<◌, ◌≤◌, List, [], ◌∷◌, length, Some, None, Bool, true, false, refl, arith}
+use Rattle.std.specs.Prelude.{nat_lt, nat_le, if◌then◌else◌, not}
+use Rattle.std.specs.List.{All, flat_map}
+use Rattle.std.proofs.lemmas.Bool.{le-ltb, leb-true}
+use Rattle.std.proofs.lemmas.List.Elements.{All-nil, All-cons}
+use Rattle.zcore.specs.declared.instruction.Operand.{Operand}
+use Rattle.zcore.specs.declared.instruction.Operand.TheVariants.{Large}
+use Rattle.zcore.specs.declared.instruction.Operation.{Operation}
+use Rattle.zcore.specs.declared.instruction.Operation.TheVariants as operations
+use Rattle.zcore.specs.declared.next.Next.{Next}
+use Rattle.zcore.specs.Operations.{least_operands, most_operands, has_result, has_branch}
+use Rattle.zcore.specs.Instruction.{bytes_of, FitsOperand, FitsResult, FitsBranch}
+use Rattle.zcore.specs.State.{State}
+use Rattle.zcore.specs.Parts.{branch_on}
+use Rattle.zcore.specs.Step.{perform}
+use Rattle.zcore.specs.Arithmetic.{signed_less}
+use Rattle.checker.specs.Resolved.{ProgramOf}
+use Rattle.checker.specs.World.{Situation}
+use Rattle.items.specs.Items.{Item, Test, agrees}
+use Rattle.items.specs.Items as items
+use Rattle.items.specs.Laws.{IsOperand, IsTested}
+use Rattle.items.specs.Stack as stack
+use Rattle.code.specs.Instructions.{plain, branching, labelled, test_operation, tested_code, least_word, branch_code}
+use Rattle.code.proofs.Fitting.{AreBytes, first_part, all_fit}
+use Rattle.code.proofs.ItemOperands.{Gives, gives_length}
+use Rattle.code.proofs.Lengths.{branching_length}
+
+-- the operands of a branch with a label
+pub labelled_fit : (op : Operation) (os : List Operand) (when : Bool) (offset : ℕ)
+    → AreBytes (flat_map bytes_of (labelled op os when offset)) → All FitsOperand os
+labelled_fit op os when offset h = go (nat_lt offset 8192) h
+  where
+    go : (b : Bool) → AreBytes (flat_map bytes_of (if b then branching op os when offset ∷ []
+        else branching op os (not when) 5 ∷ plain operations.Jump (Large (offset % 65536) ∷ []) ∷ []))
+        → All FitsOperand os
+    go true h = all_fit (branching op os when offset) (first_part (bytes_of (branching op os when offset)) [] h)
+    go false h = all_fit (branching op os (not when) 5)
+        (first_part (bytes_of (branching op os (not when) 5))
+        (flat_map bytes_of (plain operations.Jump (Large (offset % 65536) ∷ []) ∷ [])) h)
+
+some_byte : (b : Bool) → 1 ≤ (if b then 1 else 2)
+some_byte true = omega arith
+some_byte false = omega arith
+
+pub branching_some : (op : Operation) (os : List Operand) (when : Bool) (offset : ℕ)
+    → 0 < length (bytes_of (branching op os when offset))
+branching_some op os when offset = omega (arith, branching_length op os when offset, some_byte (nat_lt offset 64))
+
+-- a test with as many operands as it takes, and whether it holds
+pub record TestOf (test : Test) (os : List Operand) (vs : List ℕ) : Type 0 where
+  pub least : least_operands (test_operation test) ≤ length os
+  pub most : length os ≤ most_operands (test_operation test)
+  pub result : FitsResult (has_result (test_operation test)) None
+  pub branch : (when : Bool) (offset : ℕ) → offset < 16384
+      → FitsBranch (has_branch (test_operation test)) (Some (record { when = when; offset = offset }))
+  pub does : (when : Bool) (offset : ℕ) (here : Next) (after : ℕ) (st : State)
+      → perform (test_operation test) here after None (Some (record { when = when; offset = offset })) vs st
+      ≡ branch_on here after (Some (record { when = when; offset = offset })) (stack.holds test vs) st
+
+-- how many operands the instruction of a test has
+abbrev pub Counted : Test → ℕ → Type 0
+Counted items.is_zero n = n ≡ 1
+Counted items.less n = n ≡ 2
+Counted items.greater n = n ≡ 2
+Counted items.same n = (2 ≤ n) × (n ≤ 4)
+
+pub few_tested : (test : Test) (n : ℕ) → Counted test n → n ≤ 4
+few_tested items.is_zero n is = omega (arith, is)
+few_tested items.less n is = omega (arith, is)
+few_tested items.greater n is = omega (arith, is)
+few_tested items.same n is = is.1
+
+pub few_given : (test : Test) (n : ℕ) → IsTested test n → n ≤ 4
+few_given items.is_zero n is = omega (arith, is)
+few_given items.less n is = omega (arith, is)
+few_given items.greater n is = omega (arith, is)
+few_given items.same n is = is.1
+
+-- no word is less than the least one
+none_less : (v : ℕ) → signed_less v least_word ≡ false
+none_less v = go (nat_le 32768 v) refl
+  where
+    go : (b : Bool) → nat_le 32768 v ≡ b → (if b then nat_lt v 32768 else false) ≡ false
+    go true e = le-ltb v 32768 (leb-true _ _ e)
+    go false e = refl
+
+-- a test as it is asked
+pub record Asked (p : ProgramOf) (locals : ℕ) (s : Situation) (test : Test) (os : List items.Operand)
+    (words vs rest : List ℕ) : Type 0 where
+  pub test1 : Test
+  pub os1 : List items.Operand
+  pub vs1 : List ℕ
+  pub code : (when : Bool) (offset : ℕ) → branch_code test os when offset ≡ tested_code test1 os1 when offset
+  pub counted : Counted test1 (length os1)
+  pub all : All (IsOperand p locals) os1
+  pub gives : Gives os1 s words vs1 rest
+  pub holds : stack.holds test1 vs1 ≡ stack.holds test vs
+
+pub asked : (p : ProgramOf) (locals : ℕ) (s : Situation) (test : Test) (os : List items.Operand)
+    (words vs rest : List ℕ)
+    → IsTested test (length os) → All (IsOperand p locals) os → Gives os s words vs rest
+    → Asked p locals s test os words vs rest
+asked p locals s items.is_zero os words vs rest is all g =
+    record {
+      test1 = items.is_zero;
+      os1 = os;
+      vs1 = vs;
+      code = λ when offset. refl;
+      counted = is;
+      all = all;
+      gives = g;
+      holds = refl;
+    }
+asked p locals s items.less os words vs rest is all g =
+    record {
+      test1 = items.less;
+      os1 = os;
+      vs1 = vs;
+      code = λ when offset. refl;
+      counted = is;
+      all = all;
+      gives = g;
+      holds = refl;
+    }
+asked p locals s items.greater os words vs rest is all g =
+    record {
+      test1 = items.greater;
+      os1 = os;
+      vs1 = vs;
+      code = λ when offset. refl;
+      counted = is;
+      all = all;
+      gives = g;
+      holds = refl;
+    }
+asked p locals s items.same [] words vs rest is all g = absurd (omega (arith, is.0))
+asked p locals s items.same (o ∷ q ∷ os) words vs rest is all g =
+    record {
+      test1 = items.same;
+      os1 = o ∷ q ∷ os;
+      vs1 = vs;
+      code = λ when offset. refl;
+      counted = (omega arith, is.1);
+      all = all;
+      gives = g;
+      holds = refl;
+    }
+asked p locals s items.same (o ∷ []) words [] rest is all g = absurd g
+asked p locals s items.same (o ∷ []) words (v ∷ w ∷ vs) rest is all g =
+    absurd (omega (arith, gives_length (o ∷ []) s words (v ∷ w ∷ vs) rest g))
+asked p locals s items.same (o ∷ []) words (v ∷ []) rest is all g = record {
+  test1 = items.less;
+  os1 = o ∷ items.number least_word ∷ [];
+  vs1 = v ∷ least_word ∷ [];
+  code = λ when offset. refl;
+  counted = refl;
+  all = All-cons (IsOperand p locals) o (items.number least_word ∷ []) (all 0 o (omega arith))
+      (All-cons (IsOperand p locals) (items.number least_word) [] tt (All-nil (IsOperand p locals)));
+  gives = more o g;
+  holds = none_less v;
+}
+  where
+    more : (o : items.Operand) → Gives (o ∷ []) s words (v ∷ []) rest
+        → Gives (o ∷ items.number least_word ∷ []) s words (v ∷ least_word ∷ []) rest
+    more items.pushed g = (refl, g)
+    more (items.number n) g = (g.0, (refl, g.1))
+    more (items.variable x) g = (g.0, (refl, g.1))
+
+pub test_of : (test : Test) (os : List Operand) (vs : List ℕ) → length vs ≡ length os → Counted test (length os)
+    → TestOf test os vs
+unfolding perform
+test_of items.is_zero os [] e is = absurd (omega (arith, e, is))
+test_of items.is_zero os (v ∷ w ∷ vs) e is = absurd (omega (arith, e, is))
+test_of items.is_zero os (v ∷ []) e is =
+    record {
+      least = omega (arith, is);
+      most = omega (arith, is);
+      result = tt;
+      branch = λ when offset h. h;
+      does = λ when offset here after st. refl;
+    }
+test_of items.less os [] e is = absurd (omega (arith, e, is))
+test_of items.less os (v ∷ []) e is = absurd (omega (arith, e, is))
+test_of items.less os (v ∷ w ∷ u ∷ vs) e is = absurd (omega (arith, e, is))
+test_of items.less os (v ∷ w ∷ []) e is =
+    record {
+      least = omega (arith, is);
+      most = omega (arith, is);
+      result = tt;
+      branch = λ when offset h. h;
+      does = λ when offset here after st. refl;
+    }
+test_of items.greater os [] e is = absurd (omega (arith, e, is))
+test_of items.greater os (v ∷ []) e is = absurd (omega (arith, e, is))
+test_of items.greater os (v ∷ w ∷ u ∷ vs) e is = absurd (omega (arith, e, is))
+test_of items.greater os (v ∷ w ∷ []) e is =
+    record {
+      least = omega (arith, is);
+      most = omega (arith, is);
+      result = tt;
+      branch = λ when offset h. h;
+      does = λ when offset here after st. refl;
+    }
+test_of items.same os [] e is = absurd (omega (arith, e, is.0))
+test_of items.same os (v ∷ vs) e is =
+    record {
+      least = is.0;
+      most = is.1;
+      result = tt;
+      branch = λ when offset h. h;
+      does = λ when offset here after st. refl;
+    }

@@ -1,0 +1,10 @@
+use Rattle.std.proofs.Common.{◌≡◌, ◌+◌, ◌++◌, length, drop}
+use Rattle.items.specs.Code.{items_of}
+use Rattle.code.specs.Bytes.{parts_of}
+use Rattle.code.proofs.Codes.{least_sum}
+use Rattle.code.proofs.routine.parts_of.Given as goal
+
+abbrev pub invariant-loop-item : goal.invariant-loop-item
+invariant-loop-item l =
+    (l.parts.items ++ parts_of (items_of (drop l.item-index l.items)) ≡ parts_of (items_of l.items))
+    × (length l.bytes.items + least_sum (items_of (drop l.item-index l.items)) ≡ least_sum (items_of l.items))

@@ -1,5 +1,0 @@
-use Rattle.expressions.proofs.GoesOn.{part_fails}
-use Rattle.expressions.proofs.parts.prefixed.Goals as goal
-
-pub returns-in-Err : goal.returns-in-Err
-returns-in-Err c = λ read read_whole g is. part_fails c.in-Err.e read read_whole _ (c.in-Err.ensures read g) is

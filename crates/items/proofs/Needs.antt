@@ -1,0 +1,23 @@
+-- Each value needs a word of the stack at least.
+use Rattle.std.proofs.Common.{ℕ, ◌+◌, ◌≤◌, List, [], ◌∷◌, arith}
+use Rattle.checker.specs.Temporaries.{operands}
+use Rattle.checker.specs.Resolved.{Value}
+use Rattle.checker.specs.Resolved as source
+use Rattle.checker.specs.Accepted.{need_of, needs_of}
+
+-- each needs one word at least
+pub some_needed : (before : ℕ) (ns : List ℕ) → 1 ≤ operands before ns
+some_needed before [] = omega arith
+some_needed before (n ∷ ns) = let rest = some_needed (before + 1) ns in omega (arith, rest)
+
+pub some_needed_of : (v : Value) → 1 ≤ need_of v
+some_needed_of (source.number n) = omega arith
+some_needed_of (source.read x) = omega arith
+some_needed_of (source.call r vs) = some_needed 0 (needs_of vs)
+some_needed_of (source.prefixed op v) = some_needed 0 (need_of v ∷ [])
+some_needed_of (source.step_before op x) = omega arith
+some_needed_of (source.step_after x op) = omega arith
+some_needed_of (source.binary op a b) = some_needed 0 (need_of a ∷ need_of b ∷ [])
+some_needed_of (source.compare op a b) = some_needed 0 (need_of a ∷ need_of b ∷ [])
+some_needed_of (source.equal op a bs) = some_needed 0 (need_of a ∷ needs_of bs)
+some_needed_of (source.assign x v) = some_needed 0 (need_of v ∷ [])

@@ -1,0 +1,156 @@
+-- What the items of some programs do, computed.
+use Rattle.std.proofs.Common.{◌≡◌, ℕ, List, [], ◌∷◌, ◌++◌, Option, Some, None, refl}
+use Rattle.std.specs.Prelude.{codes}
+use Rattle.lexer.specs.declared.token.Position.{Position}
+use Rattle.expressions.specs.Tree.{NameTree, ExpressionTree, constant, named, call, prefixed, step_after, binary}
+use Rattle.expressions.specs.Tree.{compare, equal, assign, none, more}
+use Rattle.expressions.specs.declared.tree.Binary.TheVariants as op
+use Rattle.expressions.specs.declared.tree.Comparison.TheVariants as comparison
+use Rattle.expressions.specs.declared.tree.Equality.TheVariants as equality
+use Rattle.expressions.specs.declared.tree.Prefix.TheVariants as prefix
+use Rattle.expressions.specs.declared.tree.Step.TheVariants as steps
+use Rattle.statements.specs.Tree as s
+use Rattle.statements.specs.Tree.{StatementTree, StatementTrees}
+use Rattle.syntax.specs.Tree as d
+use Rattle.syntax.specs.Tree.{DirectiveTree, ProgramTree}
+use Rattle.zcore.specs.Arithmetic.{signed_text, decimal, quotient, remainder}
+use Rattle.zcore.specs.declared.place.Place.TheVariants as places
+use Rattle.zcore.specs.declared.place.Limit.TheVariants as limits
+use Rattle.checker.specs.Programs.{resolve_program}
+use Rattle.checker.specs.Names.{table_of, key_of, look_up}
+use Rattle.checker.specs.Resolved as source
+use Rattle.checker.specs.World.{Outcome}
+use Rattle.items.specs.Stack.{from, exec, start}
+
+-- the position of a token, by its number
+abbrev p : ℕ → Position
+p n = record { offset = n; line = 1 }
+
+abbrev the : ℕ → List ℕ → NameTree
+the n text = record { text = text; position = p n }
+
+abbrev item : ExpressionTree → s.ItemTree
+item e = s.number_item (p 0) e
+
+abbrev words : List ℕ → s.ItemTree
+words text = s.text_item text
+
+abbrev body : List StatementTree → StatementTrees
+body xs = s.trees_of xs
+
+abbrev routine : List ℕ → List NameTree → List StatementTree → DirectiveTree
+routine name locals xs = d.routine (record { name = the 0 name; locals = locals; body = body xs; weight = 0 })
+
+abbrev program : List DirectiveTree → ProgramTree
+program ds = record { directives = ds; end = p 999; weight = 0 }
+
+-- the transcript of one turn
+abbrev says : List ℕ → Outcome
+says text = record { texts = text ∷ []; place = places.Quit }
+
+-- so many items with so much fuel
+abbrev runs : ℕ → ℕ → source.ProgramOf → Option Outcome
+runs count full program = from (start program full []) (exec program count)
+
+-- [ Main; print 32767 + 1, " ", -13 % 5, "^"; ];
+abbrev sums : ProgramTree
+sums = program (routine (codes "Main") []
+    (s.print (item (binary op.Add (constant 32767) (constant 1)) ∷ words (codes " ") ∷ item
+    (binary op.Remainder (prefixed prefix.Minus (constant 13)) (constant 5)) ∷ words (codes "^") ∷ []) ∷ []) ∷ [])
+
+sums_do : runs 20 1000 (resolve_program sums) ≡ Some (says (codes "-32768 -3" ++ 10 ∷ []))
+unfolding resolve_program table_of key_of look_up signed_text decimal quotient remainder
+sums_do = refl
+
+-- [ F x; print 1 / x; ]; [ Main; print "a"; F(); ];
+abbrev divides : ProgramTree
+divides = program
+    (routine (codes "F") (the 1 (codes "x") ∷ [])
+    (s.print (item (binary op.Divide (constant 1) (named (the 2 (codes "x")))) ∷ []) ∷ [])
+    ∷ routine (codes "Main") [] (s.print (words (codes "a") ∷ []) ∷ s.effect (p 3) (call (the 3 (codes "F")) none) ∷ [])
+    ∷ [])
+
+divides_do : runs 20 1000 (resolve_program divides)
+    ≡ Some (says (codes "a" ++ 10 ∷ codes "[Fault: division by zero]" ++ 10 ∷ []))
+unfolding resolve_program table_of key_of look_up signed_text decimal quotient remainder
+divides_do = refl
+
+-- [ F; F(); ]; [ Main; F(); ];
+abbrev deep : ProgramTree
+deep = program
+    (routine (codes "F") [] (s.effect (p 1) (call (the 1 (codes "F")) none) ∷ [])
+    ∷ routine (codes "Main") [] (s.effect (p 2) (call (the 2 (codes "F")) none) ∷ [])
+    ∷ [])
+
+deep_does : runs 1001 1000000 (resolve_program deep)
+    ≡ Some (record {
+      texts = (10 ∷ codes "[Limit: calls too deep]" ++ 10 ∷ []) ∷ [];
+      place =
+          places.Limit limits.Calls;
+    })
+unfolding resolve_program table_of key_of look_up
+deep_does = refl
+
+deep_in_short : runs 1001 10 (resolve_program deep)
+    ≡ Some (record { texts = (10 ∷ codes "[Limit: turn too long]" ++ 10 ∷ []) ∷ []; place = places.Limit limits.Fuel })
+unfolding resolve_program table_of key_of look_up
+deep_in_short = refl
+
+-- Global i; [ Main; while (i < 2) { print i; i++; } ]; going back is charged before the test
+abbrev counts : ProgramTree
+counts = program
+    (d.global (the 0 (codes "i")) None
+    ∷ routine (codes "Main") []
+    (s.while_do (p 1) (compare comparison.Less (named (the 1 (codes "i"))) (constant 2))
+    (s.block (body (s.print (item (named (the 2 (codes "i"))) ∷ []) ∷ s.effect (p 3)
+    (step_after (named (the 3 (codes "I"))) steps.Increment (p 4)) ∷ []))) ∷ [])
+    ∷ [])
+
+counts_do : runs 40 3 (resolve_program counts) ≡ Some (says (codes "01"))
+unfolding resolve_program table_of key_of look_up signed_text decimal quotient remainder
+counts_do = refl
+
+counts_in_short : runs 40 2 (resolve_program counts)
+    ≡ Some (record {
+      texts = (codes "01" ++ 10 ∷ codes "[Limit: turn too long]" ++ 10 ∷ []) ∷ [];
+      place =
+          places.Limit limits.Fuel;
+    })
+unfolding resolve_program table_of key_of look_up signed_text decimal quotient remainder
+counts_in_short = refl
+
+-- Global g; [ F; g = g + 1; return g; ]; [ Main; print F() - F() * 10, "^"; ];
+abbrev in_order : ProgramTree
+in_order = program
+    (d.global (the 0 (codes "g")) None
+    ∷ routine (codes "F") []
+    (s.effect (p 1) (assign (named (the 1 (codes "g"))) (p 2)
+    (binary op.Add (named (the 3 (codes "g"))) (constant 1))) ∷ s.return_value (p 4)
+    (named (the 4 (codes "g"))) ∷ [])
+    ∷ routine (codes "Main") []
+    (s.print (item (binary op.Subtract (call (the 5 (codes "F")) none)
+    (binary op.Multiply (call (the 6 (codes "F")) none) (constant 10))) ∷ words (codes "^") ∷ []) ∷ [])
+    ∷ [])
+
+in_order_does : runs 60 1000 (resolve_program in_order) ≡ Some (says (codes "-19" ++ 10 ∷ []))
+unfolding resolve_program table_of key_of look_up signed_text decimal quotient remainder
+in_order_does = refl
+
+-- [ F a b; return a - b; ]; [ Main; print F(5, 2), 2 == 1 or 2 or 3, 2 ~= 1 or 2, 0 && 1, 7 || 0, 3 && 4; ];
+abbrev choices : ProgramTree
+choices = program
+    (routine (codes "F") (the 1 (codes "a") ∷ the 2 (codes "b") ∷ [])
+    (s.return_value (p 3) (binary op.Subtract (named (the 3 (codes "a"))) (named (the 4 (codes "b")))) ∷ [])
+    ∷ routine (codes "Main") [] (s.print
+    (item (call (the 5 (codes "F")) (more (constant 5) (more (constant 2) none)))
+    ∷ item (equal equality.Equal (constant 2) (more (constant 1) (more (constant 2) (more (constant 3) none))))
+    ∷ item (equal equality.NotEqual (constant 2) (more (constant 1) (more (constant 2) none)))
+    ∷ item (binary op.AndAlso (constant 0) (constant 1))
+    ∷ item (binary op.OrElse (constant 7) (constant 0))
+    ∷ item (binary op.AndAlso (constant 3) (constant 4))
+    ∷ []) ∷ [])
+    ∷ [])
+
+choices_do : runs 60 1000 (resolve_program choices) ≡ Some (says (codes "310011"))
+unfolding resolve_program table_of key_of look_up signed_text decimal quotient remainder
+choices_do = refl

@@ -1,0 +1,115 @@
+-- What a statement does where it neither branches nor goes back.
+use Rattle.std.proofs.Common.{◌≡◌, ℕ, ◌+◌, List, [], ◌∷◌, Some, refl, sym, ap, ◌∙◌, arith}
+use Rattle.std.specs.Prelude.{slice_get, map}
+use Rattle.std.specs.List.{All}
+use Rattle.std.proofs.lemmas.List.Elements.{All-head, All-tail}
+use Rattle.zcore.specs.Arithmetic.{signed_text}
+use Rattle.checker.specs.Resolved.{Value, none, Printed}
+use Rattle.checker.specs.Resolved as source
+use Rattle.checker.specs.Accepted.{IsWhole, IsPrinted}
+use Rattle.checker.specs.World.{Situation, to, Part, ◌>>=◌, give, put, shown}
+use Rattle.checker.specs.Meaning.{put_character, put_line, evaluate, Ending, goes_on, returns, print_one, print_all}
+use Rattle.checker.specs.Meaning.{follow}
+use Rattle.items.specs.Items.{Operand, number, alone, operand_count, printed_count, alone_items, printed_items}
+use Rattle.items.specs.Items.{prints_items, return_true}
+use Rattle.items.specs.Items as items
+use Rattle.items.specs.Stack.{Next, prints, return_to, act}
+use Rattle.items.proofs.Counts.{alone_length}
+use Rattle.items.proofs.StatementCounts.{printed_length}
+use Rattle.items.proofs.Acts.{keeps_put, keeps_put_character}
+use Rattle.items.proofs.Running.{steps_on, Running, code, locals, calls}
+use Rattle.items.proofs.Standing.{HasAt, split}
+use Rattle.items.proofs.Held.{Held, onto, with_held}
+use Rattle.items.proofs.Leads.{Leads, on, given, here, stands, at_place, begins_at}
+use Rattle.items.proofs.Steps.{puts}
+use Rattle.items.proofs.Evaluated.{operand_held, operand_does}
+use Rattle.items.proofs.EachValue.{value_ok}
+
+module _ (now : Running) where
+  open now use {p, full, routine, callers}
+
+  -- from here a statement's end goes on, or returns
+  abbrev pub ended_at : ℕ → Ending → Situation → Next
+  ended_at q goes_on s = stands now q [] s
+  ended_at q (returns v) s = return_to callers v s.world
+
+  abbrev printed_at : ℕ → Unit {0} → Situation → Next
+  printed_at q _ s = stands now q [] s
+
+  pub goes_at : {s : Situation} {n : ℕ} (q q' : ℕ) → q ≡ q'
+      → Leads now s n (stands now q [] s) (to goes_on s) (ended_at q')
+  goes_at q q' e = begins_at now q' q [] (sym e) (given now {behind = ended_at q'} goes_on)
+
+  -- what goes on, and what follows it
+  pub follows_on : {s : Situation} {n : ℕ} {before : Next} (q q' : ℕ) (f rest : Part Ending)
+      → Leads now s n before (f s) (ended_at q)
+      → ((last : Situation) → Leads now last n (stands now q [] last) (rest last) (ended_at q'))
+      → Leads now s n before ((f >>= λ e. follow e rest) s) (ended_at q')
+  follows_on {n = n} q q' f rest hf hr = on now f (λ e. follow e rest) hf (λ e last _. go e last)
+    where
+      go : (e : Ending) (last : Situation) → Leads now last n (ended_at q e last) (follow e rest last) (ended_at q')
+      go goes_on last = hr last
+      go (returns v) last = given now {behind = ended_at q'} (returns v)
+
+  pub returns_by : {s : Situation} {n : ℕ} (m q : ℕ) (o : Operand) (v : ℕ) → slice_get (code now) m
+      ≡ Some (items.return o) → Held o v s
+      → Leads now s n (stands now m (onto o v []) s) (to (returns v) s) (ended_at q)
+  returns_by {s = s} m q o v h held =
+      record {
+        does = λ k le d. steps_on p (here now m (onto o v []) s) _ _
+            (ap (λ x. act p x (here now m (onto o v []) s)) h
+            ∙ with_held o v s [] (λ w rest. return_to callers w s.world) held) (d (returns v) s refl (omega arith));
+      }
+
+  -- an operand that stands alone
+  pub alone_does : (v : Value) → IsWhole p (locals now) v → (s : Situation) (n pc q : ℕ)
+      → HasAt (code now) pc (alone_items pc v) q → Leads now s n (stands now pc [] s) (evaluate (calls now) v s)
+      (λ a last. stands now q (onto (alone v) a []) last)
+  alone_does v fine s n pc q has = operand_does now v none (value_ok now v) s n pc q [] has (omega (arith, fine.1))
+
+  printed_does : (i : Printed) → IsPrinted p (locals now) i → (s : Situation) (n pc q : ℕ)
+      → HasAt (code now) pc (printed_items pc i) q
+      → Leads now s n (stands now pc [] s) (print_one (calls now) i s) (printed_at q)
+  printed_does (source.text bytes) fine s n pc q has =
+      at_place now printed_at (pc + 1) q has.1
+      (puts now pc [] (items.print_text bytes) (put (map shown bytes)) [] has.0 refl (keeps_put full (map shown bytes)))
+  printed_does (source.character_of v) fine s n pc q has =
+      let m = pc + operand_count v (alone v) in
+      let h = split (code now) pc (alone_items pc v) _ q (operand_count v (alone v)) (alone_length v pc) has in
+      at_place now printed_at (m + 1) q h.1.1
+      (on now (evaluate (calls now) v) put_character (alone_does v fine s n pc m h.0) (λ c s1 e1.
+      puts now m [] (items.print_character (alone v)) (put_character c) (onto (alone v) c []) h.1.0
+      (with_held (alone v) c s1 [] (λ w rest. prints (put_character w) rest (here now m (onto (alone v) c []) s1))
+      (operand_held now v none s s1 c e1)) (keeps_put_character full c)))
+  printed_does (source.number_of v) fine s n pc q has =
+      let m = pc + operand_count v (alone v) in
+      let h = split (code now) pc (alone_items pc v) _ q (operand_count v (alone v)) (alone_length v pc) has in
+      at_place now printed_at (m + 1) q h.1.1
+      (on now (evaluate (calls now) v) (λ x. put (signed_text x)) (alone_does v fine s n pc m h.0) (λ x s1 e1.
+      puts now m [] (items.print_number (alone v)) (put (signed_text x)) (onto (alone v) x []) h.1.0
+      (with_held (alone v) x s1 []
+      (λ w rest. prints (put (signed_text w)) rest (here now m (onto (alone v) x []) s1))
+      (operand_held now v none s s1 x e1))
+      (keeps_put full (signed_text x))))
+
+  pub prints_do : (is : List Printed) → All (IsPrinted p (locals now)) is → (s : Situation) (n pc q : ℕ)
+      → HasAt (code now) pc (prints_items pc is) q
+      → Leads now s n (stands now pc [] s) (print_all (calls now) is s) (printed_at q)
+  prints_do [] fine s n pc q has = begins_at now q pc [] (sym has) (given now {behind = printed_at q} tt)
+  prints_do (i ∷ is) fine s n pc q has =
+      let m = pc + printed_count i in
+      let h = split (code now) pc (printed_items pc i) (prints_items m is) q (printed_count i)
+      (printed_length i pc) has in
+      on now (print_one (calls now) i) (λ _. print_all (calls now) is)
+      (printed_does i (All-head (IsPrinted p (locals now)) i is fine) s n pc m h.0)
+      (λ _ s1 _. prints_do is (All-tail (IsPrinted p (locals now)) i is fine) s1 n m q h.1)
+
+  pub line_does : {s : Situation} {n : ℕ} (pc : ℕ) → slice_get (code now) pc ≡ Some items.new_line
+      → Leads now s n (stands now pc [] s) (put_line s) (printed_at (pc + 1))
+  line_does pc h = puts now pc [] items.new_line put_line [] h refl (keeps_put full (10 ∷ []))
+
+  -- a new line, and the routine returns true
+  pub end_of_line : {s : Situation} {n : ℕ} (pc q : ℕ) → HasAt (code now) pc (items.new_line ∷ return_true ∷ []) q
+      → Leads now s n (stands now pc [] s) ((put_line >>= λ _. give (returns 1)) s) (ended_at q)
+  end_of_line pc q has =
+      on now put_line _ (line_does pc has.0) (λ _ s1 _. returns_by (pc + 1) q (number 1) 1 has.1.0 refl)

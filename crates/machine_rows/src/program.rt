@@ -1,0 +1,57 @@
+//! The rows of an input, one after the other.
+
+use crate::row::Row;
+use crate::stories::Definition;
+use anyhow::{Context, Result};
+use rows::RowError;
+use std::alloc::Global;
+use std::io::{BufRead, Write};
+
+/// A program of rows that is being read.
+#[derive(Drop)]
+pub struct Program {
+    /// The stories that have a name.
+    definitions: Vec<Definition>,
+
+    /// The row whose lines are read.
+    row: Row,
+    alloc: Global,
+}
+
+impl Program {
+    /// A program of which no line was read.
+    pub fn new(alloc: Global) -> Program {
+        Program {
+            definitions: Vec::new(alloc),
+            row: Row::new(alloc),
+            alloc,
+        }
+    }
+
+    /// Plays the rows of an input, and writes what they show.
+    pub fn play<R: BufRead + Drop, W: Write>(&mut self, input: R, output: &mut W) -> Result<()> {
+        let mut number = 0u64;
+        for line in input.lines(self.alloc) {
+            number = number.wrapping_add(1);
+            let line = line?;
+            self.take(&line, number, output)?;
+        }
+        self.end(output)
+    }
+
+    /// Takes a line, which ends the row where it is empty.
+    fn take<W: Write>(&mut self, line: &str, number: u64, output: &mut W) -> Result<()> {
+        if line.is_empty() {
+            return self.end(output);
+        }
+        let answer: Result<(), RowError> = self.row.take(&mut self.definitions, line);
+        answer.context(format_args!("line {number}"))
+    }
+
+    /// Writes what the row shows, and begins another.
+    fn end<W: Write>(&mut self, output: &mut W) -> Result<()> {
+        output.write_all(self.row.outcome()?)?;
+        self.row = Row::new(self.alloc);
+        Ok(())
+    }
+}

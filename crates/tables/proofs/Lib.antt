@@ -1,0 +1,11 @@
+pub mod Runs
+pub mod Cut
+pub mod Halving
+pub mod Written
+pub mod Walking
+pub mod Sizes
+pub mod Names
+pub mod Listed
+pub mod ReadBack
+pub mod Causes
+pub mod Samples

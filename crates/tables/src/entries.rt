@@ -1,0 +1,118 @@
+//! The entries of an object table (Z-Machine Standards Document 1.1, section 12.3).
+
+ghost use Rattle.std.specs.Prelude.{◌≡◌, ◌<◌, ◌≤◌, ◌+◌, ℕ, length, if◌then◌else◌, Ok, Err};
+ghost use Rattle.zcore.specs.Bytes.{word_at};
+ghost use Rattle.zcore.specs.Entries.{Parent, Sibling, Child, object_entry, has_entry};
+ghost use Rattle.tables.specs.Objects.{link_of, attribute_of};
+ghost use Rattle.tables.specs.declared.fault.TableRead.TheVariants.{Object};
+
+use crate::fault::TableRead;
+use byteorder::{BigEndian, ByteOrder};
+
+/// The bytes of the 63 words of property defaults, with which an object table begins (section 12.2).
+pub(crate) const DEFAULTS_LENGTH: usize = 126;
+
+/// The bytes of an object's entry.
+pub(crate) const ENTRY_LENGTH: usize = 14;
+
+// The next four are the places of words in an entry, behind its six bytes of attributes.
+const PARENT: usize = 6;
+
+const SIBLING: usize = 8;
+
+const CHILD: usize = 10;
+
+/// The place of the address of the property table.
+pub(crate) const PROPERTIES: usize = 12;
+
+/// Where an object's entry stands.
+#[inline]
+pub(crate) fn entry(table: u16, object: u16) -> usize
+    ensures same { result ≡ object_entry table object }
+    ensures within { result ≤ 1048576 }
+{
+    usize::from(table) + DEFAULTS_LENGTH + ENTRY_LENGTH * usize::from(object).saturating_sub(1)
+}
+
+/// Whether an object's number is not 0, and its entry lies in a story.
+#[inline]
+pub(crate) fn is_object(story: &[u8], table: u16, object: u16) -> bool
+    ensures { result ≡ has_entry table (length story.now) object }
+{
+    object >= 1 && entry(table, object) + ENTRY_LENGTH <= story.len()
+}
+
+/// The word at an address, its high byte first.
+#[inline]
+pub(crate) fn read_word(story: &[u8], at: usize) -> u16
+    requires { at + 1 < length story.now }
+    ensures { result ≡ word_at story.now at }
+{
+    BigEndian::read_u16(&story[at..])
+}
+
+/// The word at a place of an object's entry.
+fn entry_word(story: &[u8], table: u16, object: u16, place: usize) -> Result<u16, TableRead>
+    requires { place + 1 < 14 }
+    ensures { result ≡ (if has_entry table (length story.now) object then Ok (word_at story.now (object_entry table object + place)) else Err Object) }
+{
+    if !is_object(story, table, object) {
+        return Err(TableRead::Object);
+    }
+    Ok(read_word(story, entry(table, object) + place))
+}
+
+/// The object that an object stands in, 0 for none. The table is at the address of its property defaults. It takes no
+/// memory, as none of these readers does.
+///
+/// # Errors
+///
+/// [`TableRead::Object`] for the number 0, and where the object's entry lies outside the story.
+pub fn parent(story: &[u8], table: u16, object: u16) -> Result<u16, TableRead>
+    ensures { result ≡ link_of story.now table (Parent object) }
+{
+    entry_word(story, table, object, PARENT)
+}
+
+/// The next object that stands in the same as an object, 0 for none.
+///
+/// # Errors
+///
+/// [`TableRead::Object`] for the number 0, and where the object's entry lies outside the story.
+pub fn sibling(story: &[u8], table: u16, object: u16) -> Result<u16, TableRead>
+    ensures { result ≡ link_of story.now table (Sibling object) }
+{
+    entry_word(story, table, object, SIBLING)
+}
+
+/// The first object that stands in an object, 0 for none.
+///
+/// # Errors
+///
+/// [`TableRead::Object`] for the number 0, and where the object's entry lies outside the story.
+pub fn child(story: &[u8], table: u16, object: u16) -> Result<u16, TableRead>
+    ensures { result ≡ link_of story.now table (Child object) }
+{
+    entry_word(story, table, object, CHILD)
+}
+
+/// Whether an object has an attribute, whose number is below 48.
+///
+/// # Errors
+///
+/// [`TableRead::Object`] for the number 0, and where the object's entry lies outside the story.
+pub fn has_attribute(
+    story: &[u8],
+    table: u16,
+    object: u16,
+    attribute: u8,
+) -> Result<bool, TableRead>
+    requires { attribute < 48 }
+    ensures { result ≡ attribute_of story.now table object attribute }
+{
+    if !is_object(story, table, object) {
+        return Err(TableRead::Object);
+    }
+    let byte = story[entry(table, object) + usize::from(attribute) / 8];
+    Ok((byte >> (7 - attribute % 8)) % 2 == 1)
+}
