@@ -1,5 +1,6 @@
 -- A program that breaks no rule resolves to one within the limits.
-use Rattle.std.proofs.Common.{◌≡◌, ℕ, ◌+◌, ◌<◌, ◌≤◌, nat_le, false, List, [], ◌∷◌, ◌++◌, length, Option, Some, None, cond, refl, sym, subst, length-append, arith}
+use Rattle.std.proofs.Common.{◌≡◌, ℕ, ◌+◌, ◌<◌, ◌≤◌, nat_le, false, List, [], ◌∷◌, ◌++◌, length, Option, Some, None}
+use Rattle.std.proofs.Common.{cond, refl, sym, subst, length-append, arith}
 use Rattle.std.specs.List.{All}
 use Rattle.std.proofs.lemmas.Bool.Decides.{nat_tests}
 use Rattle.std.proofs.lemmas.List.Elements.{All-nil, All-cons}
@@ -9,11 +10,16 @@ use Rattle.syntax.specs.Tree.{RoutineTree, DirectiveTree, global, constant, rout
 use Rattle.checker.specs.declared.binding.Binding.{Binding}
 use Rattle.checker.specs.declared.binding.Binding.TheVariants as bindings
 use Rattle.checker.specs.Breaches.{at}
-use Rattle.checker.specs.Names.{Table, in_table, first_table, with_directive, table_of, look_up}
+use Rattle.checker.specs.declared.counts.Counts.{Counts}
+use Rattle.checker.specs.Names.{Table, in_table, first_table, no_counts, counts_after, with_directive, table_of}
+use Rattle.checker.specs.Names.{look_up}
 use Rattle.checker.specs.Resolved.{ProgramOf}
 use Rattle.checker.specs.Meaning.{routine_at}
-use Rattle.checker.specs.Statements.{statements_breaches}
-use Rattle.checker.specs.Programs.{twice, initial_breaches, has_local, locals_breaches, routine_breaches, directive_breaches, directives_breaches, main_key, first_routine, position_or, main_breaches, program_breaches, globals_of, resolve_routine, routines_of, routine_number, resolve_program}
+use Rattle.checker.specs.Statements.{outside, statements_breaches}
+use Rattle.checker.specs.Programs.{twice, initial_breaches, has_local, locals_breaches, routine_breaches}
+use Rattle.checker.specs.Programs.{directive_breaches, directives_breaches, main_key, first_routine, position_or}
+use Rattle.checker.specs.Programs.{main_breaches, program_breaches, globals_of, resolve_routine, routines_of}
+use Rattle.checker.specs.Programs.{routine_number, resolve_program}
 use Rattle.checker.specs.Accepted.{IsRoutine, IsAccepted}
 use Rattle.checker.specs.Laws.{AcceptedPrograms}
 use Rattle.checker.proofs.Whole.{made}
@@ -25,34 +31,44 @@ below limit n h = grind (arith, nat_tests)
 
 -- Counts
 
-locals_few : (before ls : List NameTree) → length before ≤ 15 → locals_breaches before ls ≡ [] → length before + length ls ≤ 15
+locals_few : (before ls : List NameTree) → length before ≤ 15 → locals_breaches before ls ≡ []
+    → length before + length ls ≤ 15
 locals_few before [] few h = omega (arith, few)
 locals_few before (l ∷ ls) few h =
     let same = cond (has_local before l) (at l.position 22) [] in
     let many = cond (nat_le 15 (length before)) (at l.position 24) [] in
     let rest = right_empty same (many ++ locals_breaches (before ++ l ∷ []) ls) h in
-    let room = below 15 (length before) (kept (nat_le 15 (length before)) l.position 24 (left_empty many (locals_breaches (before ++ l ∷ []) ls) rest)) in
+    let room = below 15 (length before)
+    (kept (nat_le 15 (length before)) l.position 24 (left_empty many (locals_breaches (before ++ l ∷ []) ls) rest)) in
     let longer = length-append before (l ∷ []) in
-    let all = locals_few (before ++ l ∷ []) ls (omega (arith, room, longer)) (right_empty many (locals_breaches (before ++ l ∷ []) ls) rest) in
+    let all = locals_few (before ++ l ∷ []) ls (omega (arith, room, longer))
+    (right_empty many (locals_breaches (before ++ l ∷ []) ls) rest) in
     omega (arith, all, longer)
 
-globals_few : (whole t : Table) (count number : ℕ) (ds : List DirectiveTree) → count ≤ 232 → directives_breaches whole t count number ds ≡ [] → count + length (globals_of whole ds) ≤ 232
-globals_few whole t count number [] few h = omega (arith, few)
-globals_few whole t count number (global n v ∷ ds) few h =
+globals_few : (whole t : Table) (counts : Counts) (ds : List DirectiveTree) → counts.globals ≤ 232
+    → directives_breaches whole t counts ds ≡ [] → counts.globals + length (globals_of whole ds) ≤ 232
+globals_few whole t counts [] few h = omega (arith, few)
+globals_few whole t counts (global n v ∷ ds) few h =
     let d = global n v in
-    let own = directive_breaches whole t count d in
-    let rest = directives_breaches whole (with_directive t count number d) (count + 1) number ds in
-    let many = cond (nat_le 232 count) (at n.position 24) [] in
-    let here = left_empty many (initial_breaches whole v) (right_empty (twice t n) (many ++ initial_breaches whole v) (left_empty own rest h)) in
-    let room = below 232 count (kept (nat_le 232 count) n.position 24 here) in
-    let all = globals_few whole (with_directive t count number d) (count + 1) number ds (omega (arith, room)) (right_empty own rest h) in
+    let own = directive_breaches whole t counts d in
+    let rest = directives_breaches whole (with_directive t counts d) (counts_after counts d) ds in
+    let many = cond (nat_le 232 counts.globals) (at n.position 24) [] in
+    let here = left_empty many (initial_breaches whole v)
+    (right_empty (twice t n) (many ++ initial_breaches whole v) (left_empty own rest h)) in
+    let room = below 232 counts.globals (kept (nat_le 232 counts.globals) n.position 24 here) in
+    let all = globals_few whole (with_directive t counts d) (counts_after counts d) ds (omega (arith, room))
+    (right_empty own rest h) in
     omega (arith, all)
-globals_few whole t count number (constant n v ∷ ds) few h =
+globals_few whole t counts (constant n v ∷ ds) few h =
     let d = constant n v in
-    globals_few whole (with_directive t count number d) count number ds few (right_empty (directive_breaches whole t count d) (directives_breaches whole (with_directive t count number d) count number ds) h)
-globals_few whole t count number (routine r ∷ ds) few h =
+    globals_few whole (with_directive t counts d) counts ds few
+    (right_empty (directive_breaches whole t counts d)
+    (directives_breaches whole (with_directive t counts d) counts ds) h)
+globals_few whole t counts (routine r ∷ ds) few h =
     let d = routine r in
-    globals_few whole (with_directive t count number d) count (number + 1) ds few (right_empty (directive_breaches whole t count d) (directives_breaches whole (with_directive t count number d) count (number + 1) ds) h)
+    globals_few whole (with_directive t counts d) (counts_after counts d) ds few
+    (right_empty (directive_breaches whole t counts d)
+    (directives_breaches whole (with_directive t counts d) (counts_after counts d) ds) h)
 
 -- Routines
 
@@ -60,24 +76,33 @@ module _ (p : ProgramOf) (whole : Table) (entries : AreEntries (length p.globals
   routine_within : (r : RoutineTree) → routine_breaches whole r ≡ [] → IsRoutine p (resolve_routine whole r)
   routine_within r h =
       let names = locals_breaches [] r.locals in
-      let body = statements_breaches (look_up whole r.locals) r.body in
-      let few = locals_few [] r.locals (omega arith) (left_empty names body h) in
-      (omega (arith, few), statements_within p (length r.locals) (look_up whole r.locals) (λ name. name_meant p whole r.locals name entries) r.body (right_empty names body h))
+      let body = statements_breaches (look_up whole r.locals) outside r.body in
+      let few = locals_few [] r.locals (omega arith) (left_empty names body h) in (
+        omega (arith, few),
+        statements_within p (length r.locals) (look_up whole r.locals)
+            (λ name. name_meant p whole r.locals name entries) outside r.body (right_empty names body h),
+      )
 
-  routines_within : (t : Table) (count number : ℕ) (ds : List DirectiveTree) → directives_breaches whole t count number ds ≡ [] → All (IsRoutine p) (routines_of whole ds)
-  routines_within t count number [] h = All-nil (IsRoutine p)
-  routines_within t count number (global n v ∷ ds) h =
+  routines_within : (t : Table) (counts : Counts) (ds : List DirectiveTree)
+      → directives_breaches whole t counts ds ≡ [] → All (IsRoutine p) (routines_of whole ds)
+  routines_within t counts [] h = All-nil (IsRoutine p)
+  routines_within t counts (global n v ∷ ds) h =
       let d = global n v in
-      routines_within (with_directive t count number d) (count + 1) number ds (right_empty (directive_breaches whole t count d) (directives_breaches whole (with_directive t count number d) (count + 1) number ds) h)
-  routines_within t count number (constant n v ∷ ds) h =
+      routines_within (with_directive t counts d) (counts_after counts d) ds
+      (right_empty (directive_breaches whole t counts d)
+      (directives_breaches whole (with_directive t counts d) (counts_after counts d) ds) h)
+  routines_within t counts (constant n v ∷ ds) h =
       let d = constant n v in
-      routines_within (with_directive t count number d) count number ds (right_empty (directive_breaches whole t count d) (directives_breaches whole (with_directive t count number d) count number ds) h)
-  routines_within t count number (routine r ∷ ds) h =
+      routines_within (with_directive t counts d) counts ds
+      (right_empty (directive_breaches whole t counts d)
+      (directives_breaches whole (with_directive t counts d) counts ds) h)
+  routines_within t counts (routine r ∷ ds) h =
       let d = routine r in
-      let own = directive_breaches whole t count d in
-      let rest = directives_breaches whole (with_directive t count number d) count (number + 1) ds in
+      let own = directive_breaches whole t counts d in
+      let rest = directives_breaches whole (with_directive t counts d) (counts_after counts d) ds in
       All-cons (IsRoutine p) (resolve_routine whole r) (routines_of whole ds)
-      (routine_within r (right_empty (twice t r.name) (routine_breaches whole r) (left_empty own rest h))) (routines_within (with_directive t count number d) count (number + 1) ds (right_empty own rest h))
+      (routine_within r (right_empty (twice t r.name) (routine_breaches whole r) (left_empty own rest h)))
+      (routines_within (with_directive t counts d) (counts_after counts d) ds (right_empty own rest h))
 
   -- Main
 
@@ -85,7 +110,8 @@ module _ (p : ProgramOf) (whole : Table) (entries : AreEntries (length p.globals
     there : main < length p.routines
     alone : (routine_at p.routines main).locals ≡ 0
 
-  main_within : (end : Position) (name : Option NameTree) (o : Option Binding) → IsMeant p 0 o → main_breaches end name o ≡ [] → IsMain (routine_number o)
+  main_within : (end : Position) (name : Option NameTree) (o : Option Binding) → IsMeant p 0 o
+      → main_breaches end name o ≡ [] → IsMain (routine_number o)
   main_within end name None m h = absurd cc
   main_within end name (Some (bindings.Constant n)) m h = absurd cc
   main_within end name (Some (bindings.Global g)) m h = absurd cc
@@ -99,22 +125,27 @@ module _ (p : ProgramOf) (whole : Table) (entries : AreEntries (length p.globals
 -- Programs
 
 accepted : (ds : List DirectiveTree) (end : Position) (name : Option NameTree) (whole : Table) → whole ≡ table_of ds
-    → directives_breaches whole first_table 0 0 ds ++ main_breaches end name (in_table whole main_key) ≡ []
+    → directives_breaches whole first_table no_counts ds ++ main_breaches end name (in_table whole main_key) ≡ []
     → IsAccepted (made (globals_of whole ds) (routines_of whole ds) (routine_number (in_table whole main_key)))
 accepted ds end name whole is h =
-    let p : ProgramOf = made (globals_of whole ds) (routines_of whole ds) (routine_number (in_table whole main_key)) in
-    let entries : AreEntries (length p.globals) p.routines whole = subst (λ (t : Table). AreEntries (length p.globals) p.routines t) (sym is) (file_entries (length p.globals) p.routines whole ds refl refl) in
-    let all = directives_breaches whole first_table 0 0 ds in
+    let p : ProgramOf = made (globals_of whole ds) (routines_of whole ds)
+    (routine_number (in_table whole main_key)) in
+    let entries : AreEntries (length p.globals) p.routines whole = subst
+    (λ (t : Table). AreEntries (length p.globals) p.routines t) (sym is)
+    (file_entries (length p.globals) p.routines whole ds refl refl) in
+    let all = directives_breaches whole first_table no_counts ds in
     let main = main_breaches end name (in_table whole main_key) in
-    let kept_main = main_within p whole entries end name (in_table whole main_key) (found_meant p 0 whole main_key entries) (right_empty all main h) in
-    let few = globals_few whole first_table 0 0 ds (omega arith) (left_empty all main h) in
+    let kept_main = main_within p whole entries end name (in_table whole main_key)
+    (found_meant p 0 whole main_key entries) (right_empty all main h) in
+    let few = globals_few whole first_table no_counts ds (omega arith) (left_empty all main h) in
     record {
       globals = omega (arith, few);
-      routines = routines_within p whole entries first_table 0 0 ds (left_empty all main h);
+      routines = routines_within p whole entries first_table no_counts ds (left_empty all main h);
       main = kept_main.there;
       alone = kept_main.alone;
     }
 
 pub accepted_programs : AcceptedPrograms
 unfolding program_breaches resolve_program
-accepted_programs p h = accepted p.directives p.end (first_routine p.directives main_key) (table_of p.directives) refl h
+accepted_programs p h = accepted p.directives p.end (first_routine p.directives main_key) (table_of p.directives)
+    refl h

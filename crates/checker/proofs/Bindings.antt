@@ -1,16 +1,20 @@
 -- The names of a file: its globals and routines are there.
-use Rattle.std.proofs.Common.{◌≡◌, ℕ, ◌+◌, ◌<◌, ◌≤◌, Bool, true, false, List, [], ◌∷◌, ◌++◌, length, Option, Some, None, cond, is_some, refl, sym, ap, ◌∙◌, append_assoc, length-append, arith}
+use Rattle.std.proofs.Common.{◌≡◌, ℕ, ◌+◌, ◌<◌, ◌≤◌, Bool, true, false, List, [], ◌∷◌, ◌++◌, length, Option, Some}
+use Rattle.std.proofs.Common.{None, cond, is_some, refl, sym, ap, ◌∙◌, append_assoc, length-append, arith}
 use Rattle.expressions.specs.Tree.{NameTree}
 use Rattle.syntax.specs.Tree.{DirectiveTree, global, constant, routine}
 use Rattle.checker.specs.declared.binding.Binding.{Binding}
 use Rattle.checker.specs.declared.binding.Binding.TheVariants as bindings
-use Rattle.checker.specs.Names.{Table, key_of, same_key, in_table, first_table, value_so_far, with_name, table_from, table_of, local_from, local_first, look_up}
+use Rattle.checker.specs.declared.counts.Counts.{Counts}
+use Rattle.checker.specs.Names.{Table, key_of, same_key, in_table, first_table, value_so_far, with_name, no_counts}
+use Rattle.checker.specs.Names.{counts_after, with_directive, table_from, table_of, local_from, local_first, look_up}
 use Rattle.checker.specs.Resolved.{RoutineOf, ProgramOf}
 use Rattle.checker.specs.Meaning.{routine_at}
 use Rattle.checker.specs.Programs.{globals_of, resolve_routine, routines_of}
 use Rattle.checker.proofs.Unbroken.{IsMeant}
 
-routine_here : (front : List RoutineOf) (r : RoutineOf) (rest : List RoutineOf) → routine_at (front ++ r ∷ rest) (length front) ≡ r
+routine_here : (front : List RoutineOf) (r : RoutineOf) (rest : List RoutineOf)
+    → routine_at (front ++ r ∷ rest) (length front) ≡ r
 routine_here [] r rest = refl
 routine_here (s ∷ front) r rest = routine_here front r rest
 
@@ -31,7 +35,8 @@ module _ (globals : ℕ) (routines : List RoutineOf) where
   one_more [] k b h i = (i, tt)
   one_more (e ∷ es) k b h i = (h.0, one_more es k b h.1 i)
 
-  perhaps_more : (defined : Bool) (t : Table) (k : List ℕ) (b : Binding) → AreEntries t → IsEntry b → AreEntries (cond defined t (t ++ (k, b) ∷ []))
+  perhaps_more : (defined : Bool) (t : Table) (k : List ℕ) (b : Binding) → AreEntries t → IsEntry b
+      → AreEntries (cond defined t (t ++ (k, b) ∷ []))
   perhaps_more true t k b h i = h
   perhaps_more false t k b h i = one_more t k b h i
 
@@ -39,24 +44,35 @@ module _ (globals : ℕ) (routines : List RoutineOf) where
   name_more t n b h i = perhaps_more (is_some (in_table t (key_of n.text))) t (key_of n.text) b h i
 
   -- the table of a file, from a place on, before which there are these routines
-  table_entries : (whole t : Table) (count number : ℕ) (front : List RoutineOf) (ds : List DirectiveTree)
-      → AreEntries t → count + length (globals_of whole ds) ≡ globals → number ≡ length front → front ++ routines_of whole ds ≡ routines → AreEntries (table_from t count number ds)
-  table_entries whole t count number front [] h g n r = h
-  table_entries whole t count number front (global name v ∷ ds) h g n r =
-      table_entries whole (with_name t name (bindings.Global count)) (count + 1) number front ds (name_more t name (bindings.Global count) h (omega (arith, g))) (omega (arith, g)) n r
-  table_entries whole t count number front (constant name v ∷ ds) h g n r =
-      table_entries whole (with_name t name (bindings.Constant (value_so_far t v))) count number front ds (name_more t name (bindings.Constant (value_so_far t v)) h tt) g n r
-  table_entries whole t count number front (routine x ∷ ds) h g n r =
+  table_entries : (whole t : Table) (counts : Counts) (front : List RoutineOf) (ds : List DirectiveTree)
+      → AreEntries t → counts.globals + length (globals_of whole ds) ≡ globals → counts.routines ≡ length front
+      → front ++ routines_of whole ds ≡ routines → AreEntries (table_from t counts ds)
+  table_entries whole t counts front [] h g n r = h
+  table_entries whole t counts front (global name v ∷ ds) h g n r =
+      let d = global name v in
+      table_entries whole (with_directive t counts d) (counts_after counts d) front ds
+      (name_more t name (bindings.Global counts.globals) h (omega (arith, g))) (omega (arith, g)) n r
+  table_entries whole t counts front (constant name v ∷ ds) h g n r =
+      table_entries whole (with_directive t counts (constant name v)) counts front ds
+      (name_more t name (bindings.Constant (value_so_far t v)) h tt) g n r
+  table_entries whole t counts front (routine x ∷ ds) h g n r =
+      let d = routine x in
+      let number : ℕ = counts.routines in
       let made : RoutineOf = resolve_routine whole x in
       let rest : List RoutineOf = routines_of whole ds in
       let there : number < length routines = omega (arith, n, ap length r, length-append front (made ∷ rest)) in
-      let same : (routine_at routines number).locals ≡ length x.locals = ap (λ (rs : List RoutineOf). (routine_at rs number).locals) (sym r) ∙ ap (λ (m : ℕ). (routine_at (front ++ made ∷ rest) m).locals) n ∙ ap (λ (s : RoutineOf). s.locals) (routine_here front made rest) in
-      table_entries whole (with_name t x.name (bindings.Routine number (length x.locals))) count (number + 1) (front ++ made ∷ []) ds (name_more t x.name (bindings.Routine number (length x.locals)) h (there, same)) g
+      let same : (routine_at routines number).locals
+      ≡ length x.locals = ap (λ (rs : List RoutineOf). (routine_at rs number).locals) (sym r)
+      ∙ ap (λ (m : ℕ). (routine_at (front ++ made ∷ rest) m).locals) n
+      ∙ ap (λ (s : RoutineOf). s.locals) (routine_here front made rest) in
+      table_entries whole (with_directive t counts d) (counts_after counts d)
+      (front ++ made ∷ []) ds (name_more t x.name (bindings.Routine number (length x.locals)) h (there, same)) g
       (omega (arith, n, length-append front (made ∷ []))) (append_assoc front (made ∷ []) rest ∙ r)
 
-  pub file_entries : (whole : Table) (ds : List DirectiveTree) → length (globals_of whole ds) ≡ globals → routines_of whole ds ≡ routines → AreEntries (table_of ds)
+  pub file_entries : (whole : Table) (ds : List DirectiveTree) → length (globals_of whole ds) ≡ globals
+      → routines_of whole ds ≡ routines → AreEntries (table_of ds)
   unfolding table_of
-  file_entries whole ds g r = table_entries whole first_table 0 0 [] ds (tt, tt) (omega (arith, g)) refl r
+  file_entries whole ds g r = table_entries whole first_table no_counts [] ds (tt, tt) (omega (arith, g)) refl r
 
 -- What is found
 
@@ -68,9 +84,11 @@ below_either : (c : Bool) (n limit : ℕ) (o : Option ℕ) → n < limit → Bel
 below_either true n limit o h i = h
 below_either false n limit o h i = i
 
-locals_below : (limit n : ℕ) (ls : List NameTree) (key : List ℕ) → n + length ls ≤ limit → Below limit (local_from n ls key)
+locals_below : (limit n : ℕ) (ls : List NameTree) (key : List ℕ) → n + length ls ≤ limit
+    → Below limit (local_from n ls key)
 locals_below limit n [] key h = tt
-locals_below limit n (l ∷ ls) key h = below_either (same_key (key_of l.text) key) n limit (local_from (n + 1) ls key) (omega (arith, h)) (locals_below limit (n + 1) ls key (omega (arith, h)))
+locals_below limit n (l ∷ ls) key h = below_either (same_key (key_of l.text) key) n limit (local_from (n + 1) ls key)
+    (omega (arith, h)) (locals_below limit (n + 1) ls key (omega (arith, h)))
 
 module _ (p : ProgramOf) (locals : ℕ) where
   entry_meant : (b : Binding) → IsEntry (length p.globals) p.routines b → IsMeant p locals (Some b)
@@ -80,20 +98,26 @@ module _ (p : ProgramOf) (locals : ℕ) where
   entry_meant bindings.Property h = tt
   entry_meant (bindings.Local l) h = absurd h
 
-  meant_either : (c : Bool) (b : Binding) (o : Option Binding) → IsMeant p locals (Some b) → IsMeant p locals o → IsMeant p locals (cond c (Some b) o)
+  meant_either : (c : Bool) (b : Binding) (o : Option Binding) → IsMeant p locals (Some b) → IsMeant p locals o
+      → IsMeant p locals (cond c (Some b) o)
   meant_either true b o h i = h
   meant_either false b o h i = i
 
-  pub found_meant : (t : Table) (key : List ℕ) → AreEntries (length p.globals) p.routines t → IsMeant p locals (in_table t key)
+  pub found_meant : (t : Table) (key : List ℕ) → AreEntries (length p.globals) p.routines t
+      → IsMeant p locals (in_table t key)
   found_meant [] key h = tt
-  found_meant (e ∷ es) key h = meant_either (same_key e.0 key) e.1 (in_table es key) (entry_meant e.1 h.0) (found_meant es key h.1)
+  found_meant (e ∷ es) key h = meant_either (same_key e.0 key) e.1 (in_table es key) (entry_meant e.1 h.0)
+      (found_meant es key h.1)
 
-  local_meant : (o : Option ℕ) (found : Option Binding) → Below locals o → IsMeant p locals found → IsMeant p locals (local_first o found)
+  local_meant : (o : Option ℕ) (found : Option Binding) → Below locals o → IsMeant p locals found
+      → IsMeant p locals (local_first o found)
   local_meant None found b h = h
   local_meant (Some n) found b h = b
 
 -- what a name stands for in a routine is there
-pub name_meant : (p : ProgramOf) (t : Table) (ls : List NameTree) (name : List ℕ) → AreEntries (length p.globals) p.routines t → IsMeant p (length ls) (look_up t ls name)
+pub name_meant : (p : ProgramOf) (t : Table) (ls : List NameTree) (name : List ℕ)
+    → AreEntries (length p.globals) p.routines t → IsMeant p (length ls) (look_up t ls name)
 unfolding look_up
 name_meant p t ls name h =
-    local_meant p (length ls) (local_from 0 ls (key_of name)) (in_table t (key_of name)) (locals_below (length ls) 0 ls (key_of name) (omega arith)) (found_meant p (length ls) t (key_of name) h)
+    local_meant p (length ls) (local_from 0 ls (key_of name)) (in_table t (key_of name))
+    (locals_below (length ls) 0 ls (key_of name) (omega arith)) (found_meant p (length ls) t (key_of name) h)

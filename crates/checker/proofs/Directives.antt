@@ -1,38 +1,44 @@
 -- Directives, one at a time.
-use Rattle.std.proofs.Common.{◌≡◌, ℕ, zero, suc, ◌+◌, ◌<◌, ◌≤◌, List, [], ◌∷◌, ◌++◌, length, drop, slice_index_or, Option, append_assoc, refl, sym, subst, ap, ◌∙◌, arith}
+use Rattle.std.proofs.Common.{◌≡◌, ℕ, zero, suc, ◌+◌, ◌<◌, ◌≤◌, List, [], ◌∷◌, ◌++◌, length, drop, slice_index_or}
+use Rattle.std.proofs.Common.{Option, append_assoc, refl, sym, subst, ap, ◌∙◌, arith}
 use Rattle.std.specs.Prelude.{map}
 use Rattle.std.specs.Global.{Vec}
 use Rattle.syntax.specs.declared.tree.Directive.{Directive}
 use Rattle.expressions.specs.Tree.{NameTree}
-use Rattle.syntax.specs.Tree.{ValueTree, RoutineTree, DirectiveTree, global, constant, routine, directive_tree}
+use Rattle.syntax.specs.Tree.{LiteralTree, RoutineTree, DirectiveTree, global, constant, routine, directive_tree}
 use Rattle.checker.specs.declared.breach.Breach.{Breach}
 use Rattle.checker.specs.declared.checked.CheckedRoutine.{CheckedRoutine}
 use Rattle.checker.specs.declared.directive_rules.Found.{Found}
-use Rattle.checker.specs.Names.{Table, with_directive, globals_after, routines_after}
+use Rattle.checker.specs.declared.counts.Counts.{Counts}
+use Rattle.checker.specs.Names.{Table, AreFewer, counts_after, with_directive}
 use Rattle.checker.specs.Noted.{noted}
 use Rattle.checker.proofs.Noted.{noted_append}
 use Rattle.checker.specs.Resolved.{RoutineOf, routine_of, title_of}
 use Rattle.checker.specs.Walk.{IsAdded, IsAdding}
-use Rattle.checker.specs.Programs.{globals_of, routines_of, initial_value, resolve_routine, routine_trees, title, directive_breaches, directives_breaches}
+use Rattle.checker.specs.Programs.{globals_of, routines_of, initial_value, resolve_routine, routine_trees, title}
+use Rattle.checker.specs.Programs.{directive_breaches, directives_breaches}
 
-pub globals_fit : (d : DirectiveTree) (g i : ℕ) → g ≤ i → globals_after g d ≤ i + 1
-globals_fit (global n v) g i h = omega arith
-globals_fit (constant n v) g i h = omega arith
-globals_fit (routine r) g i h = omega arith
+-- one directive defines one name
+pub counts_fit : (d : DirectiveTree) (counts : Counts) (i : ℕ) → AreFewer (i + 1) counts
+    → AreFewer (i + 1 + 1) (counts_after counts d)
+counts_fit (global n v) counts i h = let g = h.0 in let r = h.1 in (omega (arith, g), omega (arith, r))
+counts_fit (constant n v) counts i h = let g = h.0 in let r = h.1 in (omega (arith, g), omega (arith, r))
+counts_fit (routine x) counts i h = let g = h.0 in let r = h.1 in (omega (arith, g), omega (arith, r))
 
-pub routines_fit : (d : DirectiveTree) (r i : ℕ) → r ≤ i → routines_after r d ≤ i + 1
-routines_fit (global n v) r i h = omega arith
-routines_fit (constant n v) r i h = omega arith
-routines_fit (routine x) r i h = omega arith
+pub fewer : (m n : ℕ) (counts : Counts) → m ≤ n → AreFewer m counts → AreFewer n counts
+fewer m n counts le h = let g = h.0 in let r = h.1 in (omega (arith, g, le), omega (arith, r, le))
 
 -- what is left of a list, before one of it and at the end
-drop_cons : {A : Type 0} (xs : List A) (i : ℕ) (x : A) → i < length xs → drop i xs ≡ slice_index_or xs i x ∷ drop (suc i) xs
+drop_cons : {A : Type 0} (xs : List A) (i : ℕ) (x : A) → i < length xs
+    → drop i xs ≡ slice_index_or xs i x ∷ drop (suc i) xs
 drop_cons [] i x h = absurd (omega arith)
 drop_cons (y ∷ ys) zero x h = refl
 drop_cons (y ∷ ys) (suc i) x h = drop_cons ys i x (omega arith)
 
-pub drop_here : {A : Type 0} (xs : List A) (i : ℕ) (x : A) → i < length xs → x ≡ slice_index_or xs i x → drop i xs ≡ x ∷ drop (i + 1) xs
-drop_here {A = A} xs i x h is = let j : i + 1 ≡ suc i = omega arith in rw j (drop_cons xs i x h ∙ ap (λ (y : A). y ∷ drop (suc i) xs) (sym is))
+pub drop_here : {A : Type 0} (xs : List A) (i : ℕ) (x : A) → i < length xs → x ≡ slice_index_or xs i x
+    → drop i xs ≡ x ∷ drop (i + 1) xs
+drop_here {A = A} xs i x h is = let j : i + 1 ≡ suc i = omega arith in
+    rw j (drop_cons xs i x h ∙ ap (λ (y : A). y ∷ drop (suc i) xs) (sym is))
 
 pub drop_end : {A : Type 0} (xs : List A) (i : ℕ) → length xs ≤ i → drop i xs ≡ []
 drop_end [] zero h = refl
@@ -40,17 +46,20 @@ drop_end [] (suc i) h = refl
 drop_end (x ∷ xs) zero h = absurd (omega arith)
 drop_end (x ∷ xs) (suc i) h = drop_end xs i (omega arith)
 
-globals_more : (whole : Table) (d : DirectiveTree) (ds : List DirectiveTree) → globals_of whole (d ∷ ds) ≡ globals_of whole (d ∷ []) ++ globals_of whole ds
+globals_more : (whole : Table) (d : DirectiveTree) (ds : List DirectiveTree)
+    → globals_of whole (d ∷ ds) ≡ globals_of whole (d ∷ []) ++ globals_of whole ds
 globals_more whole (global n v) ds = refl
 globals_more whole (constant n v) ds = refl
 globals_more whole (routine r) ds = refl
 
-routines_more : (whole : Table) (d : DirectiveTree) (ds : List DirectiveTree) → routines_of whole (d ∷ ds) ≡ routines_of whole (d ∷ []) ++ routines_of whole ds
+routines_more : (whole : Table) (d : DirectiveTree) (ds : List DirectiveTree)
+    → routines_of whole (d ∷ ds) ≡ routines_of whole (d ∷ []) ++ routines_of whole ds
 routines_more whole (global n v) ds = refl
 routines_more whole (constant n v) ds = refl
 routines_more whole (routine r) ds = refl
 
-titles_more : (d : DirectiveTree) (ds : List DirectiveTree) → map title (routine_trees (d ∷ ds)) ≡ map title (routine_trees (d ∷ [])) ++ map title (routine_trees ds)
+titles_more : (d : DirectiveTree) (ds : List DirectiveTree)
+    → map title (routine_trees (d ∷ ds)) ≡ map title (routine_trees (d ∷ [])) ++ map title (routine_trees ds)
 titles_more (global n v) ds = refl
 titles_more (constant n v) ds = refl
 titles_more (routine r) ds = refl
@@ -65,15 +74,20 @@ map_push : {A B : Type 0} (f : A → B) (xs : List A) (x : A) → map f (xs ++ x
 map_push f [] x = refl
 map_push f (y ∷ ys) x = ap (λ r. f y ∷ r) (map_push f ys x)
 
-pub added_global : (whole : Table) (d : DirectiveTree) (n : NameTree) (v : Option ValueTree) (old new : Found) (x : ℕ)
-    → d ≡ global n v → new.globals.items ≡ old.globals.items ++ x ∷ [] → x ≡ initial_value whole v → new.routines ≡ old.routines → IsAdded whole (d ∷ []) old new
+pub added_global : (whole : Table) (d : DirectiveTree) (n : NameTree) (v : Option LiteralTree) (old new : Found)
+    (x : ℕ)
+    → d ≡ global n v → new.globals.items ≡ old.globals.items ++ x ∷ [] → x ≡ initial_value whole v
+    → new.routines ≡ old.routines → IsAdded whole (d ∷ []) old new
 added_global whole d n v old new x is more value same = rw is (record {
   globals = more ∙ ap (λ y. old.globals.items ++ y ∷ []) value;
-  routines = ap (λ (rs : Vec CheckedRoutine). map routine_of rs.items) same ∙ nothing_more (map routine_of old.routines.items);
-  titles = ap (λ (rs : Vec CheckedRoutine). map title_of rs.items) same ∙ nothing_more (map title_of old.routines.items);
+  routines = ap (λ (rs : Vec CheckedRoutine). map routine_of rs.items) same
+      ∙ nothing_more (map routine_of old.routines.items);
+  titles = ap (λ (rs : Vec CheckedRoutine). map title_of rs.items) same
+      ∙ nothing_more (map title_of old.routines.items);
 })
 
-pub added_constant : (whole : Table) (d : DirectiveTree) (n : NameTree) (v : ValueTree) (old : Found) → d ≡ constant n v → IsAdded whole (d ∷ []) old old
+pub added_constant : (whole : Table) (d : DirectiveTree) (n : NameTree) (v : LiteralTree) (old : Found)
+    → d ≡ constant n v → IsAdded whole (d ∷ []) old old
 added_constant whole d n v old is = rw is (record {
   globals = nothing_more old.globals.items;
   routines = nothing_more (map routine_of old.routines.items);
@@ -84,7 +98,9 @@ abbrev pub IsSame : RoutineOf × (NameTree × ℕ) → RoutineOf × (NameTree ×
 IsSame p q = p ≡ q
 
 pub added_routine : (whole : Table) (d : DirectiveTree) (r : RoutineTree) (old new : Found) (c : CheckedRoutine)
-    → d ≡ routine r → new.routines.items ≡ old.routines.items ++ c ∷ [] → IsSame (routine_of c, title_of c) (resolve_routine whole r, title r) → new.globals ≡ old.globals → IsAdded whole (d ∷ []) old new
+    → d ≡ routine r → new.routines.items ≡ old.routines.items ++ c ∷ []
+    → IsSame (routine_of c, title_of c) (resolve_routine whole r, title r) → new.globals ≡ old.globals
+    → IsAdded whole (d ∷ []) old new
 added_routine whole d r old new c is more value same = rw is (record {
   globals = ap (λ (gs : Vec ℕ). gs.items) same ∙ nothing_more old.globals.items;
   routines =
@@ -97,8 +113,10 @@ added_routine whole d r old new c is more value same = rw is (record {
 
 -- one more directive
 
-list_step : {A : Type 0} (f : List DirectiveTree → List A) → ((d : DirectiveTree) (ds : List DirectiveTree) → f (d ∷ ds) ≡ f (d ∷ []) ++ f ds)
-    → (old new : List A) (ds : List Directive) (i : ℕ) (x : Directive) → i < length ds → x ≡ slice_index_or ds i x → new ≡ old ++ f (directive_tree x ∷ [])
+list_step : {A : Type 0} (f : List DirectiveTree → List A)
+    → ((d : DirectiveTree) (ds : List DirectiveTree) → f (d ∷ ds) ≡ f (d ∷ []) ++ f ds)
+    → (old new : List A) (ds : List Directive) (i : ℕ) (x : Directive) → i < length ds → x ≡ slice_index_or ds i x
+    → new ≡ old ++ f (directive_tree x ∷ [])
     → new ++ f (map directive_tree (drop (i + 1) ds)) ≡ old ++ f (map directive_tree (drop i ds))
 list_step {A = A} f more old new ds i x lt is h =
     ap (λ (q : List A). q ++ f (map directive_tree (drop (i + 1) ds))) h
@@ -106,28 +124,43 @@ list_step {A = A} f more old new ds i x lt is h =
     ∙ ap (λ (q : List A). old ++ q) (sym (more (directive_tree x) (map directive_tree (drop (i + 1) ds))))
     ∙ ap (λ (q : List Directive). old ++ f (map directive_tree q)) (sym (drop_here ds i x lt is))
 
-pub adding_more : (whole : Table) (ds : List Directive) (i : ℕ) (x : Directive) (first old new : Found) → i < length ds → x ≡ slice_index_or ds i x
-    → IsAdded whole (directive_tree x ∷ []) old new → IsAdding whole (map directive_tree (drop i ds)) (map directive_tree ds) first old → IsAdding whole (map directive_tree (drop (i + 1) ds)) (map directive_tree ds) first new
+pub adding_more : (whole : Table) (ds : List Directive) (i : ℕ) (x : Directive) (first old new : Found)
+    → i < length ds → x ≡ slice_index_or ds i x
+    → IsAdded whole (directive_tree x ∷ []) old new
+    → IsAdding whole (map directive_tree (drop i ds)) (map directive_tree ds) first old
+    → IsAdding whole (map directive_tree (drop (i + 1) ds)) (map directive_tree ds) first new
 adding_more whole ds i x first old new lt is a h = record {
-  globals = list_step (λ (q : List DirectiveTree). globals_of whole q) (globals_more whole) old.globals.items new.globals.items ds i x lt is a.globals ∙ h.globals;
-  routines = list_step (λ (q : List DirectiveTree). routines_of whole q) (routines_more whole) (map routine_of old.routines.items) (map routine_of new.routines.items) ds i x lt is a.routines ∙ h.routines;
-  titles = list_step (λ (q : List DirectiveTree). map title (routine_trees q)) titles_more (map title_of old.routines.items) (map title_of new.routines.items) ds i x lt is a.titles ∙ h.titles;
+  globals = list_step (λ (q : List DirectiveTree). globals_of whole q) (globals_more whole) old.globals.items
+      new.globals.items ds i x lt is a.globals ∙ h.globals;
+  routines = list_step (λ (q : List DirectiveTree). routines_of whole q) (routines_more whole)
+      (map routine_of old.routines.items) (map routine_of new.routines.items) ds i x lt is a.routines ∙ h.routines;
+  titles = list_step (λ (q : List DirectiveTree). map title (routine_trees q)) titles_more
+      (map title_of old.routines.items) (map title_of new.routines.items) ds i x lt is a.titles ∙ h.titles;
 }
 
 pub adding_end : (whole : Table) (ds : List Directive) (i : ℕ) (first found : Found) → length ds ≤ i
-    → IsAdding whole (map directive_tree (drop i ds)) (map directive_tree ds) first found → IsAdded whole (map directive_tree ds) first found
+    → IsAdding whole (map directive_tree (drop i ds)) (map directive_tree ds) first found
+    → IsAdded whole (map directive_tree ds) first found
 adding_end whole ds i first found end h =
     let e : drop i ds ≡ [] = drop_end ds i end in
-    let k : IsAdding whole [] (map directive_tree ds) first found = subst (λ (q : List Directive). IsAdding whole (map directive_tree q) (map directive_tree ds) first found) e h in
+    let k : IsAdding whole [] (map directive_tree ds) first found = subst
+    (λ (q : List Directive). IsAdding whole (map directive_tree q) (map directive_tree ds) first found) e h in
     record {
       globals = nothing_more found.globals.items ∙ k.globals;
       routines = nothing_more (map routine_of found.routines.items) ∙ k.routines;
       titles = nothing_more (map title_of found.routines.items) ∙ k.titles;
     }
 
-pub breaches_step : (whole t u : Table) (g h r s : ℕ) (m n : Option Breach) (ds : List Directive) (i : ℕ) (x : Directive) → i < length ds → x ≡ slice_index_or ds i x
-    → n ≡ noted m (directive_breaches whole t g (directive_tree x)) → u ≡ with_directive t g r (directive_tree x) → h ≡ globals_after g (directive_tree x) → s ≡ routines_after r (directive_tree x)
-    → noted n (directives_breaches whole u h s (map directive_tree (drop (i + 1) ds))) ≡ noted m (directives_breaches whole t g r (map directive_tree (drop i ds)))
-breaches_step whole t u g h r s m n ds i x lt is a b c d =
-    rw (a, b, c, d) (sym (noted_append m (directive_breaches whole t g (directive_tree x)) (directives_breaches whole (with_directive t g r (directive_tree x)) (globals_after g (directive_tree x)) (routines_after r (directive_tree x)) (map directive_tree (drop (i + 1) ds))))
-    ∙ ap (λ (q : List Directive). noted m (directives_breaches whole t g r (map directive_tree q))) (sym (drop_here ds i x lt is)))
+pub breaches_step : (whole t u : Table) (g h : Counts) (m n : Option Breach) (ds : List Directive) (i : ℕ)
+    (x : Directive) → i < length ds → x ≡ slice_index_or ds i x
+    → n ≡ noted m (directive_breaches whole t g (directive_tree x)) → u ≡ with_directive t g (directive_tree x)
+    → h ≡ counts_after g (directive_tree x)
+    → noted n (directives_breaches whole u h (map directive_tree (drop (i + 1) ds)))
+    ≡ noted m (directives_breaches whole t g (map directive_tree (drop i ds)))
+breaches_step whole t u g h m n ds i x lt is a b c =
+    rw (a, b, c)
+    (sym (noted_append m (directive_breaches whole t g (directive_tree x))
+    (directives_breaches whole (with_directive t g (directive_tree x)) (counts_after g (directive_tree x))
+    (map directive_tree (drop (i + 1) ds))))
+    ∙ ap (λ (q : List Directive). noted m (directives_breaches whole t g (map directive_tree q)))
+    (sym (drop_here ds i x lt is)))

@@ -7,18 +7,22 @@ use Rattle.expressions.specs.declared.tree.Expression.{Expression}
 use Rattle.expressions.specs.Tree as trees
 use Rattle.expressions.specs.Tree.{NameTree, ExpressionTree, expression_tree, trees_of, chained, link}
 use Rattle.statements.specs.declared.tree.Statement.{Statement}
-use Rattle.statements.specs.declared.tree.Item.{Item}
+use Rattle.statements.specs.declared.tree.PrintItem.{PrintItem}
 use Rattle.statements.specs.Tree.{item_tree, statement_tree}
 use Rattle.statements.specs.Tree as written
+use Rattle.checker.specs.declared.around.Around.{Around}
 use Rattle.checker.specs.declared.binding.Binding.{Binding}
 use Rattle.checker.specs.declared.breach.Breach.{Breach}
 use Rattle.checker.specs.Noted.{noted}
 use Rattle.checker.specs.Names.{name_of}
 use Rattle.checker.specs.Resolved as values
 use Rattle.checker.specs.Resolved.{Value, Printed, Action, Actions, values_of, actions_of}
-use Rattle.checker.specs.Expressions.{breaches, all_breaches, resolve, resolve_all, count, call_breaches, routine_of_binding}
+use Rattle.checker.specs.Expressions.{breaches, all_breaches, resolve, resolve_all, count, call_breaches}
+use Rattle.checker.specs.Expressions.{routine_of_binding}
 use Rattle.checker.specs.Statements.{item_breaches, resolve_item, statements_breaches, resolve_statements}
-use Rattle.checker.specs.Walk.{own_breaches, resolved, link_breaches, resolved_link, IsWalked, IsResolved, AreResolved, AreLinks, AreItems, AreActions, own_item_breaches, resolved_item, own_statement_breaches, resolved_statement}
+use Rattle.checker.specs.Walk.{own_breaches, resolved, link_breaches, resolved_link, IsWalked, IsResolved}
+use Rattle.checker.specs.Walk.{AreResolved, AreLinks, AreItems, AreActions, own_item_breaches, resolved_item}
+use Rattle.checker.specs.Walk.{own_statement_breaches, resolved_statement}
 use Rattle.checker.proofs.Noted.{noted_none, noted_append}
 use Rattle.checker.proofs.Walks.{two}
 
@@ -27,82 +31,104 @@ count_all [] = refl
 count_all (e ∷ es) = let h = count_all es in omega arith
 
 -- what a chain is has no name
-pub chain_name : (op : Binary) (a b : ExpressionTree) (ls : List (Binary × ExpressionTree)) → name_of (chained (trees.binary op a b) ls) ≡ None
+pub chain_name : (op : Binary) (a b : ExpressionTree) (ls : List (Binary × ExpressionTree))
+    → name_of (chained (trees.binary op a b) ls) ≡ None
 chain_name op a b [] = refl
 chain_name op a b (l ∷ ls) = chain_name l.0 (trees.binary op a b) l.1 ls
 
 module _ (look : List ℕ → Option Binding) where
-  pub all_break : (es : List Expression) → all_breaches look (trees_of (map expression_tree es)) ≡ flat_map (own_breaches look) es
+  pub all_break : (es : List Expression) → all_breaches look (trees_of (map expression_tree es))
+      ≡ flat_map (own_breaches look) es
   all_break [] = refl
   all_break (e ∷ es) = ap (λ b. own_breaches look e ++ b) (all_break es)
 
-  pub all_resolve : (es : List Expression) → resolve_all look (trees_of (map expression_tree es)) ≡ values_of (map (resolved look) es)
+  pub all_resolve : (es : List Expression) → resolve_all look (trees_of (map expression_tree es))
+      ≡ values_of (map (resolved look) es)
   all_resolve [] = refl
   all_resolve (e ∷ es) = ap (λ r. values.more (resolved look e) r) (all_resolve es)
 
   pub chain_break : (m : Option Breach) (e : ExpressionTree) (ls : List (Binary × Expression))
-      → noted m (breaches look (chained e (map link ls))) ≡ noted (noted m (breaches look e)) (flat_map (link_breaches look) ls)
+      → noted m (breaches look (chained e (map link ls)))
+      ≡ noted (noted m (breaches look e)) (flat_map (link_breaches look) ls)
   chain_break m e [] = sym (noted_none (noted m (breaches look e)))
   chain_break m e (l ∷ ls) =
       chain_break m (trees.binary l.0 e (expression_tree l.1)) ls
       ∙ ap (λ q. noted q (flat_map (link_breaches look) ls)) (noted_append m (breaches look e) (link_breaches look l))
       ∙ sym (noted_append (noted m (breaches look e)) (link_breaches look l) (flat_map (link_breaches look) ls))
 
-  pub chain_resolve : (e : ExpressionTree) (ls : List (Binary × Expression)) → resolve look (chained e (map link ls)) ≡ values.chained (resolve look e) (map (resolved_link look) ls)
+  pub chain_resolve : (e : ExpressionTree) (ls : List (Binary × Expression))
+      → resolve look (chained e (map link ls)) ≡ values.chained (resolve look e) (map (resolved_link look) ls)
   chain_resolve e [] = refl
   chain_resolve e (l ∷ ls) = chain_resolve (trees.binary l.0 e (expression_tree l.1)) ls
 
-  pub statements_break : (ss : List Statement) → statements_breaches look (written.trees_of (map statement_tree ss)) ≡ flat_map (own_statement_breaches look) ss
-  statements_break [] = refl
-  statements_break (s ∷ ss) = ap (λ b. own_statement_breaches look s ++ b) (statements_break ss)
+  pub statements_break : (around : Around) (ss : List Statement)
+      → statements_breaches look around (written.trees_of (map statement_tree ss))
+      ≡ flat_map (own_statement_breaches look around) ss
+  statements_break around [] = refl
+  statements_break around (s ∷ ss) = ap (λ b. own_statement_breaches look around s ++ b) (statements_break around ss)
 
-  pub statements_resolve : (ss : List Statement) → resolve_statements look (written.trees_of (map statement_tree ss)) ≡ actions_of (map (resolved_statement look) ss)
+  pub statements_resolve : (ss : List Statement)
+      → resolve_statements look (written.trees_of (map statement_tree ss))
+      ≡ actions_of (map (resolved_statement look) ss)
   statements_resolve [] = refl
   statements_resolve (s ∷ ss) = ap (λ r. values.next (resolved_statement look s) r) (statements_resolve ss)
 
-  pub items_break : (xs : List Item) → flat_map (item_breaches look) (map item_tree xs) ≡ flat_map (own_item_breaches look) xs
+  pub items_break : (xs : List PrintItem) → flat_map (item_breaches look) (map item_tree xs)
+      ≡ flat_map (own_item_breaches look) xs
   items_break [] = refl
   items_break (x ∷ xs) = ap (λ b. own_item_breaches look x ++ b) (items_break xs)
 
-  pub items_resolve : (xs : List Item) → map (resolve_item look) (map item_tree xs) ≡ map (resolved_item look) xs
+  pub items_resolve : (xs : List PrintItem) → map (resolve_item look) (map item_tree xs) ≡ map (resolved_item look) xs
   items_resolve [] = refl
   items_resolve (x ∷ xs) = ap (λ r. resolved_item look x ∷ r) (items_resolve xs)
 
   -- Lists, walked
 
   pub all_walked : (es : List Expression) (vs : List Value) {m n : Option Breach} → AreResolved look es m n vs
-      → IsWalked (all_breaches look (trees_of (map expression_tree es))) m n (values_of vs) (resolve_all look (trees_of (map expression_tree es)))
+      → IsWalked (all_breaches look (trees_of (map expression_tree es))) m n (values_of vs)
+      (resolve_all look (trees_of (map expression_tree es)))
   all_walked es vs {m = m} w = record {
     value = ap values_of w.value ∙ sym (all_resolve es);
     breaches = w.breaches ∙ ap (λ b. noted m b) (sym (all_break es));
   }
 
-  pub chain_walked : (e : ExpressionTree) (ls : List (Binary × Expression)) (v : Value) (vs : List (Binary × Value)) {m n o : Option Breach}
-      → IsResolved look e m n v → AreLinks look ls n o vs → IsResolved look (chained e (map link ls)) m o (values.chained v vs)
+  pub chain_walked : (e : ExpressionTree) (ls : List (Binary × Expression)) (v : Value)
+      (vs : List (Binary × Value)) {m n o : Option Breach}
+      → IsResolved look e m n v → AreLinks look ls n o vs
+      → IsResolved look (chained e (map link ls)) m o (values.chained v vs)
   chain_walked e ls v vs {m = m} w z = record {
-    value = ap (λ a. values.chained a vs) w.value ∙ ap (λ l. values.chained (resolve look e) l) z.value ∙ sym (chain_resolve e ls);
-    breaches = z.breaches ∙ ap (λ q. noted q (flat_map (link_breaches look) ls)) w.breaches ∙ sym (chain_break m e ls);
+    value = ap (λ a. values.chained a vs) w.value ∙ ap (λ l. values.chained (resolve look e) l) z.value
+        ∙ sym (chain_resolve e ls);
+    breaches = z.breaches ∙ ap (λ q. noted q (flat_map (link_breaches look) ls)) w.breaches
+        ∙ sym (chain_break m e ls);
   }
 
-  pub call_walked : (name : NameTree) (number given : ℕ) (found : Option Binding) (es : List Expression) (vs : List Value) {m o p : Option Breach}
-      → found ≡ look name.text → given ≡ length es → number ≡ routine_of_binding found → o ≡ noted m (call_breaches name.position given found) → AreResolved look es o p vs
+  pub call_walked : (name : NameTree) (number given : ℕ) (found : Option Binding) (es : List Expression)
+      (vs : List Value) {m o p : Option Breach}
+      → found ≡ look name.text → given ≡ length es → number ≡ routine_of_binding found
+      → o ≡ noted m (call_breaches name.position given found) → AreResolved look es o p vs
       → IsResolved look (trees.call name (trees_of (map expression_tree es))) m p (values.call number (values_of vs))
   call_walked name number given found es vs {m = m} {o = o} f g n b w =
-      let own : IsWalked (call_breaches name.position (count (trees_of (map expression_tree es))) (look name.text)) m o number (routine_of_binding (look name.text)) = record {
+      let own : IsWalked (call_breaches name.position (count (trees_of (map expression_tree es))) (look name.text)) m
+      o number (routine_of_binding (look name.text)) = record {
         value = n ∙ ap routine_of_binding f;
-        breaches = b ∙ ap (λ x. noted m (call_breaches name.position given x)) f ∙ ap (λ x. noted m (call_breaches name.position x (look name.text))) (g ∙ sym (count_all es));
+        breaches = b ∙ ap (λ x. noted m (call_breaches name.position given x)) f
+            ∙ ap (λ x. noted m (call_breaches name.position x (look name.text))) (g ∙ sym (count_all es));
       } in
       two values.call own (all_walked es vs w)
 
-  pub statements_walked : (ss : List Statement) (found : List Action) {m n : Option Breach} → AreActions look ss m n found
-      → IsWalked (statements_breaches look (written.trees_of (map statement_tree ss))) m n (actions_of found) (resolve_statements look (written.trees_of (map statement_tree ss)))
-  statements_walked ss found {m = m} w = record {
+  pub statements_walked : (around : Around) (ss : List Statement) (found : List Action) {m n : Option Breach}
+      → AreActions look around ss m n found
+      → IsWalked (statements_breaches look around (written.trees_of (map statement_tree ss))) m n (actions_of found)
+      (resolve_statements look (written.trees_of (map statement_tree ss)))
+  statements_walked around ss found {m = m} w = record {
     value = ap actions_of w.value ∙ sym (statements_resolve ss);
-    breaches = w.breaches ∙ ap (λ b. noted m b) (sym (statements_break ss));
+    breaches = w.breaches ∙ ap (λ b. noted m b) (sym (statements_break around ss));
   }
 
-  pub items_walked : (xs : List Item) (found : List Printed) {m n : Option Breach} → AreItems look xs m n found
-      → IsWalked (flat_map (item_breaches look) (map item_tree xs)) m n found (map (resolve_item look) (map item_tree xs))
+  pub items_walked : (xs : List PrintItem) (found : List Printed) {m n : Option Breach} → AreItems look xs m n found
+      → IsWalked (flat_map (item_breaches look) (map item_tree xs)) m n found
+      (map (resolve_item look) (map item_tree xs))
   items_walked xs found {m = m} w = record {
     value = w.value ∙ sym (items_resolve xs);
     breaches = w.breaches ∙ ap (λ b. noted m b) (sym (items_break xs));

@@ -1,5 +1,6 @@
 -- The first of a list of broken rules, part by part.
-use Rattle.std.proofs.Common.{◌≡◌, Bool, true, false, List, [], ◌∷◌, ◌++◌, Option, Some, None, refl, sym, ap, ◌∙◌, arith}
+use Rattle.std.proofs.Common.{◌≡◌, Bool, true, false, List, [], ◌∷◌, ◌++◌, Option, Some, None, refl, sym, ap, ◌∙◌}
+use Rattle.std.proofs.Common.{arith}
 use Rattle.checker.specs.declared.breach.Breach.{Breach}
 use Rattle.checker.specs.Breaches.{is_before, IsAmong, IsFirst}
 use Rattle.checker.specs.Noted.{first_of_two, noted}
@@ -33,16 +34,20 @@ itself a = grind (arith, nat_tests)
 abbrev FirstOf : Breach → List Breach → Breach → Type 0
 FirstOf a bs b = ((a ≡ b) ⊎ IsAmong b bs) × (is_before a b ≡ false) × IsFirst b bs
 
-turn : (a x b : Breach) (bs : List Breach) (t : Bool) → is_before x a ≡ t → (noted (Some x) bs ≡ Some b → FirstOf x bs b) → (noted (Some a) bs ≡ Some b → FirstOf a bs b) → noted (cond t (Some x) (Some a)) bs ≡ Some b → FirstOf a (x ∷ bs) b
+turn : (a x b : Breach) (bs : List Breach) (t : Bool) → is_before x a ≡ t
+    → (noted (Some x) bs ≡ Some b → FirstOf x bs b) → (noted (Some a) bs ≡ Some b → FirstOf a bs b)
+    → noted (cond t (Some x) (Some a)) bs ≡ Some b → FirstOf a (x ∷ bs) b
 turn a x b bs true q p r h = let l = p h in (inr l.0, earlier x a b q l.1, (l.1, l.2))
-turn a x b bs false q p r h = let l = r h in (elim l.0 [ inl e ↦ inl e | inr m ↦ inr (inr m) ], l.1, (later x a b q l.1, l.2))
+turn a x b bs false q p r h = let l = r h in
+    (elim l.0 [ inl e ↦ inl e | inr m ↦ inr (inr m) ], l.1, (later x a b q l.1, l.2))
 
 first_from : (bs : List Breach) (a b : Breach) → noted (Some a) bs ≡ Some b → FirstOf a bs b
 unfolding noted
 first_from [] a b h = let e : a ≡ b = cc in (inl e, subst (λ y. is_before a y ≡ false) e (itself a), tt)
 first_from (x ∷ bs) a b h = turn a x b bs (is_before x a) refl (first_from bs x b) (first_from bs a b) h
 
-kept_on : (bs : List Breach) (x a : Breach) (t : Bool) → is_some (noted (Some x) bs) ≡ true → is_some (noted (Some a) bs) ≡ true → is_some (noted (cond t (Some x) (Some a)) bs) ≡ true
+kept_on : (bs : List Breach) (x a : Breach) (t : Bool) → is_some (noted (Some x) bs) ≡ true
+    → is_some (noted (Some a) bs) ≡ true → is_some (noted (cond t (Some x) (Some a)) bs) ≡ true
 kept_on bs x a true p q = p
 kept_on bs x a false p q = q
 

@@ -3,7 +3,10 @@ use Rattle.std.proofs.Common.{ℕ, List, [], ◌∷◌, Option}
 use Rattle.std.specs.Prelude.{map}
 use Rattle.std.specs.List.{All}
 use Rattle.std.proofs.lemmas.List.Elements.{All-nil, All-cons, All-head, All-tail}
-use Rattle.statements.specs.Tree.{ItemTree, text_item, character_item, number_item, StatementTree, StatementTrees, empty, block, text_alone, print, print_return, new_line, if_then, if_else, while_do, return_alone, return_value, return_true, return_false, quit, effect, stop, next}
+use Rattle.statements.specs.Tree.{PrintItemTree, text_item, character_item, number_item, StatementTree}
+use Rattle.statements.specs.Tree.{StatementTrees, empty, block, text_alone, print, print_return, new_line, if_then}
+use Rattle.statements.specs.Tree.{if_else, while_do, return_alone, return_value, return_true, return_false, quit}
+use Rattle.statements.specs.Tree.{effect, stop, next}
 use Rattle.syntax.specs.Tree.{DirectiveTree, global, constant, routine}
 use Rattle.syntax.specs.Printable as source
 use Rattle.checker.specs.declared.binding.Binding.{Binding}
@@ -14,18 +17,22 @@ use Rattle.checker.specs.Printable.{IsPrintableItem, IsPrintableAction, ArePrint
 use Rattle.checker.specs.Laws.{PrintablePrograms}
 
 module _ (look : List ℕ → Option Binding) where
-  item_prints : (i : ItemTree) → source.IsPrintableItem i → IsPrintableItem (resolve_item look i)
+  item_prints : (i : PrintItemTree) → source.IsPrintableItem i → IsPrintableItem (resolve_item look i)
   item_prints (text_item bytes) h = h
   item_prints (character_item p e) h = tt
   item_prints (number_item p e) h = tt
 
-  items_print : (is : List ItemTree) → All source.IsPrintableItem is → All IsPrintableItem (map (resolve_item look) is)
+  items_print : (is : List PrintItemTree) → All source.IsPrintableItem is
+      → All IsPrintableItem (map (resolve_item look) is)
   items_print [] h = All-nil IsPrintableItem
   items_print (i ∷ is) h =
-      All-cons IsPrintableItem (resolve_item look i) (map (resolve_item look) is) (item_prints i (All-head source.IsPrintableItem i is h)) (items_print is (All-tail source.IsPrintableItem i is h))
+      All-cons IsPrintableItem (resolve_item look i) (map (resolve_item look) is)
+      (item_prints i (All-head source.IsPrintableItem i is h))
+      (items_print is (All-tail source.IsPrintableItem i is h))
 
   mutual
-    statement_prints : (x : StatementTree) → source.IsPrintableStatement x → IsPrintableAction (resolve_statement look x)
+    statement_prints : (x : StatementTree) → source.IsPrintableStatement x
+        → IsPrintableAction (resolve_statement look x)
     statement_prints empty h = tt
     statement_prints (block xs) h = statements_print xs h
     statement_prints (text_alone bytes) h = h
@@ -42,17 +49,22 @@ module _ (look : List ℕ → Option Binding) where
     statement_prints quit h = tt
     statement_prints (effect p e) h = tt
 
-    statements_print : (xs : StatementTrees) → source.ArePrintableStatements xs → ArePrintableActions (resolve_statements look xs)
+    statements_print : (xs : StatementTrees) → source.ArePrintableStatements xs
+        → ArePrintableActions (resolve_statements look xs)
     statements_print stop h = tt
     statements_print (next x xs) h = (statement_prints x h.0, statements_print xs h.1)
 
-routines_print : (whole : Table) (ds : List DirectiveTree) → All source.IsPrintableDirective ds → All IsPrintableRoutine (routines_of whole ds)
+routines_print : (whole : Table) (ds : List DirectiveTree) → All source.IsPrintableDirective ds
+    → All IsPrintableRoutine (routines_of whole ds)
 routines_print whole [] h = All-nil IsPrintableRoutine
-routines_print whole (global n v ∷ ds) h = routines_print whole ds (All-tail source.IsPrintableDirective (global n v) ds h)
-routines_print whole (constant n v ∷ ds) h = routines_print whole ds (All-tail source.IsPrintableDirective (constant n v) ds h)
+routines_print whole (global n v ∷ ds) h = routines_print whole ds
+    (All-tail source.IsPrintableDirective (global n v) ds h)
+routines_print whole (constant n v ∷ ds) h = routines_print whole ds
+    (All-tail source.IsPrintableDirective (constant n v) ds h)
 routines_print whole (routine r ∷ ds) h =
     All-cons IsPrintableRoutine (resolve_routine whole r) (routines_of whole ds)
-    (statements_print (look_up whole r.locals) r.body (All-head source.IsPrintableDirective (routine r) ds h)) (routines_print whole ds (All-tail source.IsPrintableDirective (routine r) ds h))
+    (statements_print (look_up whole r.locals) r.body (All-head source.IsPrintableDirective (routine r) ds h))
+    (routines_print whole ds (All-tail source.IsPrintableDirective (routine r) ds h))
 
 pub printable_programs : PrintablePrograms
 unfolding resolve_program

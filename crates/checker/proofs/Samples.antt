@@ -2,7 +2,8 @@
 use Rattle.std.proofs.Common.{◌≡◌, ℕ, zero, suc, List, [], ◌∷◌, ◌++◌, None, refl}
 use Rattle.std.specs.Prelude.{codes}
 use Rattle.lexer.specs.declared.token.Position.{Position}
-use Rattle.expressions.specs.Tree.{NameTree, ExpressionTree, ExpressionTrees, constant, named, call, parenthesised, prefixed, step_before, step_after, binary, compare, equal, assign, none, more}
+use Rattle.expressions.specs.Tree.{NameTree, ExpressionTree, ExpressionTrees, constant, named, call, parenthesised}
+use Rattle.expressions.specs.Tree.{prefixed, step_before, step_after, binary, compare, equal, assign, none, more}
 use Rattle.expressions.specs.declared.tree.Binary.TheVariants as op
 use Rattle.expressions.specs.declared.tree.Comparison.TheVariants as comparison
 use Rattle.expressions.specs.declared.tree.Equality.TheVariants as equality
@@ -29,10 +30,10 @@ p n = record { offset = n; line = 1 }
 abbrev the : ℕ → List ℕ → NameTree
 the n text = record { text = text; position = p n }
 
-abbrev item : ExpressionTree → s.ItemTree
+abbrev item : ExpressionTree → s.PrintItemTree
 item e = s.number_item (p 0) e
 
-abbrev words : List ℕ → s.ItemTree
+abbrev words : List ℕ → s.PrintItemTree
 words text = s.text_item text
 
 abbrev body : List StatementTree → StatementTrees
@@ -50,7 +51,12 @@ says text = record { texts = text ∷ []; place = places.Quit }
 
 -- [ Main; print 32767 + 1, " ", -13 % 5, "^"; ];
 abbrev sums : ProgramTree
-sums = program (routine (codes "Main") [] (s.print (item (binary op.Add (constant 32767) (constant 1)) ∷ words (codes " ") ∷ item (binary op.Remainder (prefixed prefix.Minus (constant 13)) (constant 5)) ∷ words (codes "^") ∷ []) ∷ []) ∷ [])
+sums = program
+    (routine (codes "Main") []
+    (s.print
+    (item (binary op.Add (constant 32767) (constant 1)) ∷ words (codes " ")
+    ∷ item (binary op.Remainder (prefixed prefix.Minus (constant 13)) (constant 5)) ∷ words (codes "^") ∷ []) ∷ [])
+    ∷ [])
 
 sums_fine : program_breaches sums ≡ []
 unfolding program_breaches table_of key_of look_up
@@ -63,15 +69,18 @@ sums_mean = refl
 -- [ F x; print 1 / x; ]; [ Main; print "a"; F(); ];
 abbrev divides : ProgramTree
 divides = program
-    (routine (codes "F") (the 1 (codes "x") ∷ []) (s.print (item (binary op.Divide (constant 1) (named (the 2 (codes "x")))) ∷ []) ∷ [])
-    ∷ routine (codes "Main") [] (s.print (words (codes "a") ∷ []) ∷ s.effect (p 3) (call (the 3 (codes "F")) none) ∷ [])
+    (routine (codes "F") (the 1 (codes "x") ∷ [])
+    (s.print (item (binary op.Divide (constant 1) (named (the 2 (codes "x")))) ∷ []) ∷ [])
+    ∷ routine (codes "Main") []
+    (s.print (words (codes "a") ∷ []) ∷ s.effect (p 3) (call (the 3 (codes "F")) none) ∷ [])
     ∷ [])
 
 divides_fine : program_breaches divides ≡ []
 unfolding program_breaches table_of key_of look_up
 divides_fine = refl
 
-divides_mean : meaning (resolve_program divides) 1000 [] ≡ says (codes "a" ++ 10 ∷ codes "[Fault: division by zero]" ++ 10 ∷ [])
+divides_mean : meaning (resolve_program divides) 1000 []
+    ≡ says (codes "a" ++ 10 ∷ codes "[Fault: division by zero]" ++ 10 ∷ [])
 unfolding meaning resolve_program table_of key_of look_up signed_text decimal quotient remainder
 divides_mean = refl
 
@@ -79,7 +88,8 @@ divides_mean = refl
 abbrev endless : ProgramTree
 endless = program (routine (codes "Main") [] (s.while_do (p 0) (constant 1) (s.block s.stop) ∷ []) ∷ [])
 
-endless_means : meaning (resolve_program endless) 1 [] ≡ record { texts = (10 ∷ codes "[Limit: turn too long]" ++ 10 ∷ []) ∷ []; place = places.Limit limits.Fuel }
+endless_means : meaning (resolve_program endless) 1 []
+    ≡ record { texts = (10 ∷ codes "[Limit: turn too long]" ++ 10 ∷ []) ∷ []; place = places.Limit limits.Fuel }
 unfolding meaning resolve_program table_of key_of look_up signed_text decimal quotient remainder
 endless_means = refl
 
@@ -90,11 +100,13 @@ deep = program
     ∷ routine (codes "Main") [] (s.effect (p 2) (call (the 2 (codes "F")) none) ∷ [])
     ∷ [])
 
-deep_means : meaning (resolve_program deep) 1000000 [] ≡ record { texts = (10 ∷ codes "[Limit: calls too deep]" ++ 10 ∷ []) ∷ []; place = places.Limit limits.Calls }
+deep_means : meaning (resolve_program deep) 1000000 []
+    ≡ record { texts = (10 ∷ codes "[Limit: calls too deep]" ++ 10 ∷ []) ∷ []; place = places.Limit limits.Calls }
 unfolding meaning resolve_program table_of key_of look_up signed_text decimal quotient remainder
 deep_means = refl
 
-deep_in_short : meaning (resolve_program deep) 10 [] ≡ record { texts = (10 ∷ codes "[Limit: turn too long]" ++ 10 ∷ []) ∷ []; place = places.Limit limits.Fuel }
+deep_in_short : meaning (resolve_program deep) 10 []
+    ≡ record { texts = (10 ∷ codes "[Limit: turn too long]" ++ 10 ∷ []) ∷ []; place = places.Limit limits.Fuel }
 unfolding meaning resolve_program table_of key_of look_up signed_text decimal quotient remainder
 deep_in_short = refl
 
@@ -102,7 +114,11 @@ deep_in_short = refl
 abbrev counts : ProgramTree
 counts = program
     (d.global (the 0 (codes "i")) None
-    ∷ routine (codes "Main") [] (s.while_do (p 1) (compare comparison.Less (named (the 1 (codes "i"))) (constant 2)) (s.block (body (s.print (item (named (the 2 (codes "i"))) ∷ []) ∷ s.effect (p 3) (step_after (named (the 3 (codes "I"))) steps.Increment (p 4)) ∷ []))) ∷ [])
+    ∷ routine (codes "Main") []
+    (s.while_do (p 1) (compare comparison.Less (named (the 1 (codes "i"))) (constant 2))
+    (s.block
+    (body (s.print (item (named (the 2 (codes "i"))) ∷ [])
+    ∷ s.effect (p 3) (step_after (named (the 3 (codes "I"))) steps.Increment (p 4)) ∷ []))) ∷ [])
     ∷ [])
 
 counts_fine : program_breaches counts ≡ []
@@ -113,7 +129,11 @@ counts_mean : meaning (resolve_program counts) 3 [] ≡ says (codes "01")
 unfolding meaning resolve_program table_of key_of look_up signed_text decimal quotient remainder
 counts_mean = refl
 
-counts_in_short : meaning (resolve_program counts) 2 [] ≡ record { texts = (codes "01" ++ 10 ∷ codes "[Limit: turn too long]" ++ 10 ∷ []) ∷ []; place = places.Limit limits.Fuel }
+counts_in_short : meaning (resolve_program counts) 2 []
+    ≡ record {
+      texts = (codes "01" ++ 10 ∷ codes "[Limit: turn too long]" ++ 10 ∷ []) ∷ [];
+      place = places.Limit limits.Fuel;
+    }
 unfolding meaning resolve_program table_of key_of look_up signed_text decimal quotient remainder
 counts_in_short = refl
 
@@ -121,7 +141,8 @@ counts_in_short = refl
 abbrev missing : ProgramTree
 missing = program
     (d.constant (the 0 (codes "c")) (d.number_value 5)
-    ∷ routine (codes "F") (the 1 (codes "a") ∷ the 2 (codes "b") ∷ []) (s.return_value (p 3) (binary op.Subtract (named (the 3 (codes "a"))) (named (the 4 (codes "b")))) ∷ [])
+    ∷ routine (codes "F") (the 1 (codes "a") ∷ the 2 (codes "b") ∷ [])
+    (s.return_value (p 3) (binary op.Subtract (named (the 3 (codes "a"))) (named (the 4 (codes "b")))) ∷ [])
     ∷ routine (codes "Main") [] (s.print
     (item (call (the 5 (codes "F")) (more (named (the 6 (codes "c"))) (more (constant 2) none)))
     ∷ words (codes " ")
@@ -146,8 +167,14 @@ missing_means = refl
 abbrev in_order : ProgramTree
 in_order = program
     (d.global (the 0 (codes "g")) None
-    ∷ routine (codes "F") [] (s.effect (p 1) (assign (named (the 1 (codes "g"))) (p 2) (binary op.Add (named (the 3 (codes "g"))) (constant 1))) ∷ s.return_value (p 4) (named (the 4 (codes "g"))) ∷ [])
-    ∷ routine (codes "Main") [] (s.print (item (binary op.Subtract (call (the 5 (codes "F")) none) (binary op.Multiply (call (the 6 (codes "F")) none) (constant 10))) ∷ words (codes "^") ∷ []) ∷ [])
+    ∷ routine (codes "F") []
+    (s.effect (p 1)
+    (assign (named (the 1 (codes "g"))) (p 2) (binary op.Add (named (the 3 (codes "g"))) (constant 1)))
+    ∷ s.return_value (p 4) (named (the 4 (codes "g"))) ∷ [])
+    ∷ routine (codes "Main") []
+    (s.print
+    (item (binary op.Subtract (call (the 5 (codes "F")) none)
+    (binary op.Multiply (call (the 6 (codes "F")) none) (constant 10))) ∷ words (codes "^") ∷ []) ∷ [])
     ∷ [])
 
 in_order_means : meaning (resolve_program in_order) 1000 [] ≡ says (codes "-19" ++ 10 ∷ [])
@@ -162,17 +189,26 @@ unfolding program_breaches table_of key_of look_up
 nothing_there = refl
 
 -- [ Main; x = 1; ];
-unknown : program_breaches (program (routine (codes "Main") [] (s.effect (p 3) (assign (named (the 3 (codes "x"))) (p 4) (constant 1)) ∷ []) ∷ [])) ≡ at (p 3) 20
+unknown : program_breaches
+    (program
+    (routine (codes "Main") [] (s.effect (p 3) (assign (named (the 3 (codes "x"))) (p 4) (constant 1)) ∷ []) ∷ []))
+    ≡ at (p 3) 20
 unfolding program_breaches table_of key_of look_up
 unknown = refl
 
 -- Constant a = b; Constant b = 1; a later constant is unknown to an earlier one
-later_constant : program_breaches (program (d.constant (the 0 (codes "a")) (d.named_value (the 1 (codes "b"))) ∷ d.constant (the 2 (codes "b")) (d.number_value 1) ∷ routine (codes "Main") [] [] ∷ [])) ≡ at (p 1) 20
+later_constant : program_breaches
+    (program
+    (d.constant (the 0 (codes "a")) (d.named_value (the 1 (codes "b")))
+    ∷ d.constant (the 2 (codes "b")) (d.number_value 1) ∷ routine (codes "Main") [] [] ∷ [])) ≡ at (p 1) 20
 unfolding program_breaches table_of key_of look_up
 later_constant = refl
 
 -- Constant a = g; Global g; a global is no constant
-no_constant : program_breaches (program (d.constant (the 0 (codes "a")) (d.named_value (the 1 (codes "g"))) ∷ d.global (the 2 (codes "g")) None ∷ routine (codes "Main") [] [] ∷ [])) ≡ at (p 1) 23
+no_constant : program_breaches
+    (program
+    (d.constant (the 0 (codes "a")) (d.named_value (the 1 (codes "g"))) ∷ d.global (the 2 (codes "g")) None
+    ∷ routine (codes "Main") [] [] ∷ [])) ≡ at (p 1) 23
 unfolding program_breaches table_of key_of look_up
 no_constant = refl
 
@@ -218,6 +254,9 @@ name_needs = refl
 abbrev many : ExpressionTree
 many = equal equality.Equal (constant 1) (arguments 48)
 
-stepped_wide : program_breaches (program (routine (codes "Main") [] (s.effect (p 3) (step_after (parenthesised many) steps.Increment (p 4)) ∷ []) ∷ [])) ≡ at (p 3) 29 ++ at (p 4) 26
+stepped_wide : program_breaches
+    (program
+    (routine (codes "Main") [] (s.effect (p 3) (step_after (parenthesised many) steps.Increment (p 4)) ∷ []) ∷ []))
+    ≡ at (p 3) 29 ++ at (p 4) 26
 unfolding program_breaches table_of key_of look_up
 stepped_wide = refl

@@ -1,5 +1,6 @@
 -- Look-ups in tables.
-use Rattle.std.proofs.Common.{◌≡◌, ℕ, Bool, true, false, List, [], ◌∷◌, ◌++◌, Option, Some, cond, is_some, not, refl, sym, ap, ◌∙◌}
+use Rattle.std.proofs.Common.{◌≡◌, ℕ, Bool, true, false, List, [], ◌∷◌, ◌++◌, Option, Some, cond, is_some, not, refl}
+use Rattle.std.proofs.Common.{sym, ap, ◌∙◌}
 use Rattle.std.specs.Map.{lookup}
 use Rattle.std.proofs.lemmas.Cmp.{nat_list_eq_equiv}
 use Rattle.indexmap.specs.IndexMap.{insert_entry}
@@ -19,19 +20,25 @@ some_of : (t : Bool) (b : Binding) (o : Option Binding) → is_some (cond t (Som
 some_of true b o = refl
 some_of false b o = refl
 
-new_entry : (es : Table) (e : List ℕ × Binding) (k : List ℕ) (b : Binding) (t : Bool) → same_key k e.0 ≡ t → cond t true (is_some (in_table es k)) ≡ false → (is_some (in_table es k) ≡ false → insert_entry same_key es k b ≡ es ++ (k, b) ∷ [])
+new_entry : (es : Table) (e : List ℕ × Binding) (k : List ℕ) (b : Binding) (t : Bool) → same_key k e.0 ≡ t
+    → cond t true (is_some (in_table es k)) ≡ false
+    → (is_some (in_table es k) ≡ false → insert_entry same_key es k b ≡ es ++ (k, b) ∷ [])
     → insert_entry same_key (e ∷ es) k b ≡ e ∷ (es ++ (k, b) ∷ [])
 new_entry es e k b true q p r = absurd cc
 new_entry es e k b false q p r = rw q (ap (λ x. e ∷ x) (r p))
 
 -- a new key goes last
-pub insert_new : (es : Table) (k : List ℕ) (b : Binding) → is_some (in_table es k) ≡ false → insert_entry same_key es k b ≡ es ++ (k, b) ∷ []
+pub insert_new : (es : Table) (k : List ℕ) (b : Binding) → is_some (in_table es k) ≡ false
+    → insert_entry same_key es k b ≡ es ++ (k, b) ∷ []
 insert_new [] k b h = refl
-insert_new (e ∷ es) k b h = new_entry es e k b (same_key k e.0) refl (sym (some_of (same_key k e.0) e.1 (in_table es k)) ∙ ap (λ t. is_some (cond t (Some e.1) (in_table es k))) (same_key_back k e.0) ∙ h) (insert_new es k b)
+insert_new (e ∷ es) k b h = new_entry es e k b (same_key k e.0) refl
+    (sym (some_of (same_key k e.0) e.1 (in_table es k))
+    ∙ ap (λ t. is_some (cond t (Some e.1) (in_table es k))) (same_key_back k e.0) ∙ h) (insert_new es k b)
 
 -- a name that has no meaning gets one
 pub define_new : (t after : Table) (n : NameTree) (k : List ℕ) (b : Binding) (found : Option Binding) (none : Bool)
-    → found ≡ in_table t (key_of n.text) → is_some found ≡ not none → none ≡ true → k ≡ key_of n.text → after ≡ insert_entry same_key t k b → after ≡ with_name t n b
+    → found ≡ in_table t (key_of n.text) → is_some found ≡ not none → none ≡ true → k ≡ key_of n.text
+    → after ≡ insert_entry same_key t k b → after ≡ with_name t n b
 define_new t after n k b found none f s e key h =
     let absent : is_some (in_table t (key_of n.text)) ≡ false = ap is_some (sym f) ∙ s ∙ ap not e in
     rw absent (h ∙ ap (λ x. insert_entry same_key t x b) key ∙ insert_new t (key_of n.text) b absent)

@@ -1,5 +1,6 @@
 -- Expressions and statements that break no rule: what they resolve to is within the limits.
-use Rattle.std.proofs.Common.{◌≡◌, ℕ, ◌+◌, ◌<◌, ◌≤◌, nat_lt, Bool, true, false, List, [], ◌∷◌, ◌++◌, length, Option, Some, None, cond, refl, ap, arith}
+use Rattle.std.proofs.Common.{◌≡◌, ℕ, ◌+◌, ◌<◌, ◌≤◌, nat_lt, Bool, true, false, List, [], ◌∷◌, ◌++◌, length, Option}
+use Rattle.std.proofs.Common.{Some, None, cond, refl, ap, arith}
 use Rattle.std.specs.Prelude.{map}
 use Rattle.std.specs.List.{flat_map, All}
 use Rattle.std.proofs.lemmas.Bool.Decides.{nat_tests}
@@ -8,7 +9,8 @@ use Rattle.lexer.specs.declared.token.Position.{Position}
 use Rattle.expressions.specs.Tree as trees
 use Rattle.expressions.specs.Tree.{NameTree, ExpressionTree, ExpressionTrees}
 use Rattle.statements.specs.Tree as written
-use Rattle.statements.specs.Tree.{ItemTree, StatementTree, StatementTrees}
+use Rattle.statements.specs.Tree.{PrintItemTree, StatementTree, StatementTrees}
+use Rattle.checker.specs.declared.around.Around.{Around}
 use Rattle.checker.specs.declared.binding.Binding.{Binding}
 use Rattle.checker.specs.declared.binding.Binding.TheVariants as bindings
 use Rattle.checker.specs.declared.breach.Breach.{Breach}
@@ -16,10 +18,14 @@ use Rattle.checker.specs.Breaches.{at}
 use Rattle.checker.specs.Names.{name_of}
 use Rattle.checker.specs.Temporaries.{need, needs, operands, left_needs}
 use Rattle.checker.specs.Resolved.{ProgramOf}
-use Rattle.checker.specs.Expressions.{value_breaches, call_breaches, target_breaches, count, value_of_binding, variable_of_binding, routine_of_binding, left_breaches, breaches, all_breaches, target, resolve, resolve_all}
-use Rattle.checker.specs.Statements.{whole_breaches, item_breaches, statement_breaches, statements_breaches, resolve_item, resolve_statement, resolve_statements}
+use Rattle.checker.specs.Expressions.{value_breaches, call_breaches, target_breaches, count, value_of_binding}
+use Rattle.checker.specs.Expressions.{variable_of_binding, routine_of_binding, left_breaches, breaches, all_breaches}
+use Rattle.checker.specs.Expressions.{target, resolve, resolve_all}
+use Rattle.checker.specs.Statements.{in_loop, whole_breaches, item_breaches, statement_breaches}
+use Rattle.checker.specs.Statements.{statements_breaches, resolve_item, resolve_statement, resolve_statements}
 use Rattle.checker.specs.Meaning.{routine_at}
-use Rattle.checker.specs.Accepted.{count_of, need_of, needs_of, IsVariable, IsValue, AreValues, IsWhole, IsPrinted, IsAction, AreActions}
+use Rattle.checker.specs.Accepted.{count_of, need_of, needs_of, IsVariable, IsValue, AreValues, IsWhole, IsPrinted}
+use Rattle.checker.specs.Accepted.{IsAction, AreActions}
 
 -- Lists of broken rules that are empty
 
@@ -54,7 +60,8 @@ need_named (Some bindings.Property) = refl
 need_named (Some (bindings.Local l)) = refl
 
 -- the right side of an assignment needs no more than both
-right_below : (left : Option NameTree) (a b n : ℕ) → n ≤ b → operands 0 (n ∷ []) ≤ operands 0 (left_needs left a ++ b ∷ [])
+right_below : (left : Option NameTree) (a b n : ℕ) → n ≤ b
+    → operands 0 (n ∷ []) ≤ operands 0 (left_needs left a ++ b ∷ [])
 right_below (Some x) a b n h = omega (arith, h)
 right_below None a b n h = omega (arith, h)
 
@@ -69,7 +76,8 @@ operands_below : (b : ℕ) (ms ns : List ℕ) → AreBelow ms ns → operands b 
 operands_below b [] [] h = omega arith
 operands_below b [] (n ∷ ns) h = absurd h
 operands_below b (m ∷ ms) [] h = absurd h
-operands_below b (m ∷ ms) (n ∷ ns) h = let first = h.0 in let rest = operands_below (b + 1) ms ns h.1 in omega (arith, first, rest)
+operands_below b (m ∷ ms) (n ∷ ns) h = let first = h.0 in let rest = operands_below (b + 1) ms ns h.1 in
+    omega (arith, first, rest)
 
 module _ (look : List ℕ → Option Binding) where
   mutual
@@ -83,8 +91,10 @@ module _ (look : List ℕ → Option Binding) where
     need_below (trees.step_after e op p) = omega arith
     need_below (trees.binary op a b) = let h = need_below a in let k = need_below b in omega (arith, h, k)
     need_below (trees.compare op a b) = let h = need_below a in let k = need_below b in omega (arith, h, k)
-    need_below (trees.equal op a bs) = operands_below 0 (need_of (resolve look a) ∷ needs_of (resolve_all look bs)) (need a ∷ needs bs) (need_below a, needs_below bs)
-    need_below (trees.assign a p b) = right_below (name_of a) (need a) (need b) (need_of (resolve look b)) (need_below b)
+    need_below (trees.equal op a bs) = operands_below 0 (need_of (resolve look a) ∷ needs_of (resolve_all look bs))
+        (need a ∷ needs bs) (need_below a, needs_below bs)
+    need_below (trees.assign a p b) = right_below (name_of a) (need a) (need b) (need_of (resolve look b))
+        (need_below b)
 
     pub needs_below : (es : ExpressionTrees) → AreBelow (needs_of (resolve_all look es)) (needs es)
     needs_below trees.none = tt
@@ -102,7 +112,8 @@ module _ (p : ProgramOf) (locals : ℕ) where
   IsMeant (Some bindings.Property) = Unit {0}
   IsMeant (Some (bindings.Local l)) = l < locals
 
-  named_within : (position : Position) (o : Option Binding) → IsMeant o → value_breaches position o ≡ [] → IsValue p locals (value_of_binding o)
+  named_within : (position : Position) (o : Option Binding) → IsMeant o → value_breaches position o ≡ []
+      → IsValue p locals (value_of_binding o)
   named_within position None m h = absurd cc
   named_within position (Some (bindings.Constant n)) m h = tt
   named_within position (Some (bindings.Global g)) m h = m
@@ -110,7 +121,8 @@ module _ (p : ProgramOf) (locals : ℕ) where
   named_within position (Some bindings.Property) m h = absurd cc
   named_within position (Some (bindings.Local l)) m h = m
 
-  target_within : (position operator : Position) (o : Option Binding) → IsMeant o → target_breaches position operator o ≡ [] → IsVariable p locals (variable_of_binding o)
+  target_within : (position operator : Position) (o : Option Binding) → IsMeant o
+      → target_breaches position operator o ≡ [] → IsVariable p locals (variable_of_binding o)
   target_within position operator None m h = absurd cc
   target_within position operator (Some (bindings.Constant n)) m h = absurd cc
   target_within position operator (Some (bindings.Global g)) m h = m
@@ -123,13 +135,18 @@ module _ (p : ProgramOf) (locals : ℕ) where
     seven : given ≤ 7
     taken : given ≤ (routine_at p.routines r).locals
 
-  call_within : (position : Position) (given : ℕ) (o : Option Binding) → IsMeant o → call_breaches position given o ≡ [] → IsCall (routine_of_binding o) given
+  call_within : (position : Position) (given : ℕ) (o : Option Binding) → IsMeant o
+      → call_breaches position given o ≡ [] → IsCall (routine_of_binding o) given
   call_within position given None m h = absurd cc
   call_within position given (Some (bindings.Constant n)) m h = absurd cc
   call_within position given (Some (bindings.Global g)) m h = absurd cc
   call_within position given (Some (bindings.Routine r n)) m h =
-      let seven = at_most 7 given (kept (nat_lt 7 given) position 24 (left_empty (cond (nat_lt 7 given) (at position 24) []) (cond (nat_lt n given) (at position 25) []) h)) in
-      let taken = at_most n given (kept (nat_lt n given) position 25 (right_empty (cond (nat_lt 7 given) (at position 24) []) (cond (nat_lt n given) (at position 25) []) h)) in
+      let seven = at_most 7 given
+      (kept (nat_lt 7 given) position 24
+      (left_empty (cond (nat_lt 7 given) (at position 24) []) (cond (nat_lt n given) (at position 25) []) h)) in
+      let taken = at_most n given
+      (kept (nat_lt n given) position 25
+      (right_empty (cond (nat_lt 7 given) (at position 24) []) (cond (nat_lt n given) (at position 25) []) h)) in
       let same = m.1 in
       record { there = m.0; seven = seven; taken = omega arith }
   call_within position given (Some bindings.Property) m h = absurd cc
@@ -142,7 +159,8 @@ module _ (p : ProgramOf) (locals : ℕ) where
     not_empty : (xs : List Breach) (operator : Position) → xs ++ at operator 26 ≡ [] → ⊥
     not_empty xs operator h = let e = right_empty xs (at operator 26) h in cc
 
-    left_within : (operator : Position) (name : Option NameTree) (inside : List Breach) → left_breaches look operator name inside ≡ [] → IsVariable p locals (target look name)
+    left_within : (operator : Position) (name : Option NameTree) (inside : List Breach)
+        → left_breaches look operator name inside ≡ [] → IsVariable p locals (target look name)
     left_within operator (Some n) inside h = target_within n.position operator (look n.text) (meant n.text) h
     left_within operator None inside h = absurd (not_empty inside operator h)
 
@@ -152,67 +170,118 @@ module _ (p : ProgramOf) (locals : ℕ) where
       value_within (trees.named n) h = named_within n.position (look n.text) (meant n.text) h
       value_within (trees.call n es) h =
           let own = call_breaches n.position (count es) (look n.text) in
-          let called = call_within n.position (count es) (look n.text) (meant n.text) (left_empty own (all_breaches look es) h) in
-          let same = count_same look es in
-          (called.there, omega (arith, called.seven, same), omega (arith, called.taken, same), values_within es (right_empty own (all_breaches look es) h))
+          let called = call_within n.position (count es) (look n.text) (meant n.text)
+          (left_empty own (all_breaches look es) h) in
+          let same = count_same look es in (
+            called.there,
+            omega (arith, called.seven, same),
+            omega (arith, called.taken, same),
+            values_within es
+                (right_empty own (all_breaches look es) h),
+          )
       value_within (trees.parenthesised e) h = value_within e h
       value_within (trees.prefixed op e) h = value_within e h
       value_within (trees.step_before op q e) h = left_within q (name_of e) (breaches look e) h
       value_within (trees.step_after e op q) h = left_within q (name_of e) (breaches look e) h
-      value_within (trees.binary op a b) h = (value_within a (left_empty (breaches look a) (breaches look b) h), value_within b (right_empty (breaches look a) (breaches look b) h))
-      value_within (trees.compare op a b) h = (value_within a (left_empty (breaches look a) (breaches look b) h), value_within b (right_empty (breaches look a) (breaches look b) h))
-      value_within (trees.equal op a bs) h = (value_within a (left_empty (breaches look a) (all_breaches look bs) h), values_within bs (right_empty (breaches look a) (all_breaches look bs) h))
+      value_within (trees.binary op a b) h = (
+        value_within a (left_empty (breaches look a) (breaches look b) h),
+        value_within b
+            (right_empty (breaches look a) (breaches look b) h),
+      )
+      value_within (trees.compare op a b) h = (
+        value_within a (left_empty (breaches look a) (breaches look b) h),
+        value_within b
+            (right_empty (breaches look a) (breaches look b) h),
+      )
+      value_within (trees.equal op a bs) h = (
+        value_within a (left_empty (breaches look a) (all_breaches look bs) h),
+        values_within bs
+            (right_empty (breaches look a) (all_breaches look bs) h),
+      )
       value_within (trees.assign a q b) h =
-          let left = left_breaches look q (name_of a) (breaches look a) in
-          (left_within q (name_of a) (breaches look a) (left_empty left (breaches look b) h), value_within b (right_empty left (breaches look b) h))
+          let left = left_breaches look q (name_of a) (breaches look a) in (
+            left_within q (name_of a) (breaches look a) (left_empty left (breaches look b) h),
+            value_within b
+                (right_empty left (breaches look b) h),
+          )
 
-      pub values_within : (es : ExpressionTrees) → all_breaches look es ≡ [] → AreValues p locals (resolve_all look es)
+      pub values_within : (es : ExpressionTrees) → all_breaches look es ≡ []
+          → AreValues p locals (resolve_all look es)
       values_within trees.none h = tt
-      values_within (trees.more e es) h = (value_within e (left_empty (breaches look e) (all_breaches look es) h), values_within es (right_empty (breaches look e) (all_breaches look es) h))
+      values_within (trees.more e es) h = (
+        value_within e (left_empty (breaches look e) (all_breaches look es) h),
+        values_within es
+            (right_empty (breaches look e) (all_breaches look es) h),
+      )
 
-    whole_within : (position : Position) (e : ExpressionTree) → whole_breaches look position e ≡ [] → IsWhole p locals (resolve look e)
+    whole_within : (position : Position) (e : ExpressionTree) → whole_breaches look position e ≡ []
+        → IsWhole p locals (resolve look e)
     whole_within position e h =
         let large = cond (nat_lt 48 (need e)) (at position 29) [] in
-        let few = at_most 48 (need e) (kept (nat_lt 48 (need e)) position 29 (left_empty large (breaches look e) h)) in
+        let few = at_most 48 (need e)
+        (kept (nat_lt 48 (need e)) position 29 (left_empty large (breaches look e) h)) in
         let below = need_below look e in
         (value_within e (right_empty large (breaches look e) h), omega (arith, few, below))
 
     -- Statements
 
-    item_within : (i : ItemTree) → item_breaches look i ≡ [] → IsPrinted p locals (resolve_item look i)
+    item_within : (i : PrintItemTree) → item_breaches look i ≡ [] → IsPrinted p locals (resolve_item look i)
     item_within (written.text_item s) h = tt
     item_within (written.character_item q e) h = whole_within q e h
     item_within (written.number_item q e) h = whole_within q e h
 
-    items_within : (is : List ItemTree) → flat_map (item_breaches look) is ≡ [] → All (IsPrinted p locals) (map (resolve_item look) is)
+    items_within : (is : List PrintItemTree) → flat_map (item_breaches look) is ≡ []
+        → All (IsPrinted p locals) (map (resolve_item look) is)
     items_within [] h = All-nil (IsPrinted p locals)
     items_within (i ∷ is) h =
         All-cons (IsPrinted p locals) (resolve_item look i) (map (resolve_item look) is)
-        (item_within i (left_empty (item_breaches look i) (flat_map (item_breaches look) is) h)) (items_within is (right_empty (item_breaches look i) (flat_map (item_breaches look) is) h))
+        (item_within i (left_empty (item_breaches look i) (flat_map (item_breaches look) is) h))
+        (items_within is (right_empty (item_breaches look i) (flat_map (item_breaches look) is) h))
 
     mutual
-      pub statement_within : (x : StatementTree) → statement_breaches look x ≡ [] → IsAction p locals (resolve_statement look x)
-      statement_within written.empty h = tt
-      statement_within (written.block xs) h = statements_within xs h
-      statement_within (written.text_alone s) h = tt
-      statement_within (written.print is) h = items_within is h
-      statement_within (written.print_return is) h = items_within is h
-      statement_within written.new_line h = tt
-      statement_within (written.if_then q c x) h = (whole_within q c (left_empty (whole_breaches look q c) (statement_breaches look x) h), statement_within x (right_empty (whole_breaches look q c) (statement_breaches look x) h))
-      statement_within (written.if_else q c x y) h =
-          let both = right_empty (whole_breaches look q c) (statement_breaches look x ++ statement_breaches look y) h in (
-            whole_within q c (left_empty (whole_breaches look q c) (statement_breaches look x ++ statement_breaches look y) h),
-            statement_within x (left_empty (statement_breaches look x) (statement_breaches look y) both),
-            statement_within y (right_empty (statement_breaches look x) (statement_breaches look y) both),
+      pub statement_within : (around : Around) (x : StatementTree) → statement_breaches look around x ≡ []
+          → IsAction p locals (resolve_statement look x)
+      statement_within around written.empty h = tt
+      statement_within around (written.block xs) h = statements_within around xs h
+      statement_within around (written.text_alone s) h = tt
+      statement_within around (written.print is) h = items_within is h
+      statement_within around (written.print_return is) h = items_within is h
+      statement_within around written.new_line h = tt
+      statement_within around (written.if_then q c x) h = (
+        whole_within q c (left_empty (whole_breaches look q c) (statement_breaches look around x) h),
+        statement_within around x
+            (right_empty (whole_breaches look q c) (statement_breaches look around x) h),
+      )
+      statement_within around (written.if_else q c x y) h =
+          let both = right_empty (whole_breaches look q c)
+          (statement_breaches look around x ++ statement_breaches look around y)
+          h in (
+            whole_within q c
+                (left_empty (whole_breaches look q c)
+                (statement_breaches look around x ++ statement_breaches look around y) h),
+            statement_within around x (left_empty (statement_breaches look around x)
+                (statement_breaches look around y) both),
+            statement_within around y (right_empty (statement_breaches look around x)
+                (statement_breaches look around y) both),
           )
-      statement_within (written.while_do q c x) h = (whole_within q c (left_empty (whole_breaches look q c) (statement_breaches look x) h), statement_within x (right_empty (whole_breaches look q c) (statement_breaches look x) h))
-      statement_within written.return_alone h = (tt, omega arith)
-      statement_within (written.return_value q e) h = whole_within q e h
-      statement_within written.return_true h = (tt, omega arith)
-      statement_within written.return_false h = (tt, omega arith)
-      statement_within written.quit h = tt
-      statement_within (written.effect q e) h = whole_within q e h
+      statement_within around (written.while_do q c x) h = (
+        whole_within q c (left_empty (whole_breaches look q c) (statement_breaches look in_loop x) h),
+        statement_within in_loop x
+            (right_empty (whole_breaches look q c) (statement_breaches look in_loop x) h),
+      )
+      statement_within around written.return_alone h = (tt, omega arith)
+      statement_within around (written.return_value q e) h = whole_within q e h
+      statement_within around written.return_true h = (tt, omega arith)
+      statement_within around written.return_false h = (tt, omega arith)
+      statement_within around written.quit h = tt
+      statement_within around (written.effect q e) h = whole_within q e h
 
-      pub statements_within : (xs : StatementTrees) → statements_breaches look xs ≡ [] → AreActions p locals (resolve_statements look xs)
-      statements_within written.stop h = tt
-      statements_within (written.next x xs) h = (statement_within x (left_empty (statement_breaches look x) (statements_breaches look xs) h), statements_within xs (right_empty (statement_breaches look x) (statements_breaches look xs) h))
+      pub statements_within : (around : Around) (xs : StatementTrees) → statements_breaches look around xs ≡ []
+          → AreActions p locals (resolve_statements look xs)
+      statements_within around written.stop h = tt
+      statements_within around (written.next x xs) h = (
+        statement_within around x (left_empty (statement_breaches look around x)
+            (statements_breaches look around xs) h),
+        statements_within around xs (right_empty (statement_breaches look around x)
+            (statements_breaches look around xs) h),
+      )

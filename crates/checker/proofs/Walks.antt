@@ -9,13 +9,13 @@ use Rattle.expressions.specs.declared.tree.Prefix.{Prefix}
 use Rattle.expressions.specs.declared.tree.Step.{Step}
 use Rattle.checker.specs.declared.breach.Breach.{Breach}
 use Rattle.checker.specs.declared.resolved.Variable.{Variable}
-use Rattle.checker.specs.declared.resolved.Evaluation.{Evaluation}
-use Rattle.checker.specs.declared.resolved.Evaluation.TheVariants as made
-use Rattle.checker.specs.declared.resolved.Evaluation.TheFolds.{fold-roll-Evaluation}
-use Rattle.checker.specs.declared.resolved.CheckedItem.{CheckedItem}
-use Rattle.checker.specs.declared.resolved.CheckedStatement.{CheckedStatement}
-use Rattle.checker.specs.declared.resolved.CheckedStatement.TheVariants as done
-use Rattle.checker.specs.declared.resolved.CheckedStatement.TheFolds.{fold-roll-CheckedStatement}
+use Rattle.checker.specs.declared.resolved.Value as code_value
+use Rattle.checker.specs.declared.resolved.Value.TheVariants as made
+use Rattle.checker.specs.declared.resolved.Value.TheFolds.{fold-roll-Value}
+use Rattle.checker.specs.declared.resolved.Printed as code_printed
+use Rattle.checker.specs.declared.resolved.Action as code_action
+use Rattle.checker.specs.declared.resolved.Action.TheVariants as done
+use Rattle.checker.specs.declared.resolved.Action.TheFolds.{fold-roll-Action}
 use Rattle.checker.specs.Noted.{noted}
 use Rattle.checker.specs.Resolved as values
 use Rattle.checker.specs.Resolved.{Value, value_of, value_layer, printed_of, Action, action_of, action_layer}
@@ -27,84 +27,100 @@ pub leaf : {A : Type 0} (m : Option Breach) (x : A) → IsWalked [] m m x x
 leaf m x = record { value = refl; breaches = sym (noted_none m) }
 
 -- one part
-pub one : {A B : Type 0} (f : A → B) {bs : List Breach} {m n : Option Breach} {x y : A} → IsWalked bs m n x y → IsWalked bs m n (f x) (f y)
+pub one : {A B : Type 0} (f : A → B) {bs : List Breach} {m n : Option Breach} {x y : A} → IsWalked bs m n x y
+    → IsWalked bs m n (f x) (f y)
 one f w = record { value = ap f w.value; breaches = w.breaches }
 
 -- one part and then another
-pub two : {A B C : Type 0} (f : A → B → C) {bs cs : List Breach} {m n o : Option Breach} {x y : A} {u v : B} → IsWalked bs m n x y → IsWalked cs n o u v → IsWalked (bs ++ cs) m o (f x u) (f y v)
+pub two : {A B C : Type 0} (f : A → B → C) {bs cs : List Breach} {m n o : Option Breach} {x y : A} {u v : B}
+    → IsWalked bs m n x y → IsWalked cs n o u v → IsWalked (bs ++ cs) m o (f x u) (f y v)
 two f {bs = bs} {cs = cs} {m = m} {n = n} {o = o} {y = y} {u = u} w z = record {
   value = ap (λ a. f a u) w.value ∙ ap (λ b. f y b) z.value;
   breaches = noted_two m n o bs cs w.breaches z.breaches;
 }
 
 -- a part before a result
-pub before : {A B E : Type 0} (f : A → B) (r : Result A E) (bs cs : List Breach) (m n o : Option Breach) (y : B) → n ≡ noted m bs → IfOk r (λ x. IsWalked cs n o (f x) y) → IfOk r (λ x. IsWalked (bs ++ cs) m o (f x) y)
+pub before : {A B E : Type 0} (f : A → B) (r : Result A E) (bs cs : List Breach) (m n o : Option Breach) (y : B)
+    → n ≡ noted m bs → IfOk r (λ x. IsWalked cs n o (f x) y) → IfOk r (λ x. IsWalked (bs ++ cs) m o (f x) y)
 before f (Ok x) bs cs m n o y h w = record { value = w.value; breaches = noted_two m n o bs cs h w.breaches }
 before f (Err e) bs cs m n o y h w = tt
 
 -- What is made of parts
 
 pub made_number : (n : ℕ) → value_of (made.Number n) ≡ values.number n
-made_number n = ap value_of (sym (made.rolls-Number n)) ∙ fold-roll-Evaluation Value value_layer _
+made_number n = ap value_of (sym (made.rolls-Number n)) ∙ fold-roll-Value Value value_layer _
 
-pub made_call : (n : ℕ) (vs : Vec Evaluation) → value_of (made.Call n vs) ≡ values.call n (values.values_of (map value_of vs.items))
-made_call n vs = ap value_of (sym (made.rolls-Call n vs)) ∙ fold-roll-Evaluation Value value_layer _
+pub made_call : (n : ℕ) (vs : Vec code_value.Value)
+    → value_of (made.Call n vs) ≡ values.call n (values.values_of (map value_of vs.items))
+made_call n vs = ap value_of (sym (made.rolls-Call n vs)) ∙ fold-roll-Value Value value_layer _
 
-pub made_prefixed : (op : Prefix) (v : Box Evaluation) → value_of (made.Prefixed op v) ≡ values.prefixed op (value_of v.value)
-made_prefixed op v = ap value_of (sym (made.rolls-Prefixed op v)) ∙ fold-roll-Evaluation Value value_layer _
+pub made_prefixed : (op : Prefix) (v : Box code_value.Value)
+    → value_of (made.Prefixed op v) ≡ values.prefixed op (value_of v.value)
+made_prefixed op v = ap value_of (sym (made.rolls-Prefixed op v)) ∙ fold-roll-Value Value value_layer _
 
 pub made_step_before : (op : Step) (x : Variable) → value_of (made.StepBefore op x) ≡ values.step_before op x
-made_step_before op x = ap value_of (sym (made.rolls-StepBefore op x)) ∙ fold-roll-Evaluation Value value_layer _
+made_step_before op x = ap value_of (sym (made.rolls-StepBefore op x)) ∙ fold-roll-Value Value value_layer _
 
 pub made_step_after : (x : Variable) (op : Step) → value_of (made.StepAfter x op) ≡ values.step_after x op
-made_step_after x op = ap value_of (sym (made.rolls-StepAfter x op)) ∙ fold-roll-Evaluation Value value_layer _
+made_step_after x op = ap value_of (sym (made.rolls-StepAfter x op)) ∙ fold-roll-Value Value value_layer _
 
-pub made_chain : (a : Box Evaluation) (op : Binary) (b : Box Evaluation) (ls : Vec (Binary × Evaluation))
-    → value_of (made.Chain a op b ls) ≡ values.chained (values.binary op (value_of a.value) (value_of b.value)) (map value_link ls.items)
-made_chain a op b ls = ap value_of (sym (made.rolls-Chain a op b ls)) ∙ fold-roll-Evaluation Value value_layer _
+pub made_chain : (a : Box code_value.Value) (op : Binary) (b : Box code_value.Value)
+    (ls : Vec (Binary × code_value.Value))
+    → value_of (made.Chain a op b ls) ≡ values.chained (values.binary op (value_of a.value) (value_of b.value))
+    (map value_link ls.items)
+made_chain a op b ls = ap value_of (sym (made.rolls-Chain a op b ls)) ∙ fold-roll-Value Value value_layer _
 
-pub made_compare : (a : Box Evaluation) (op : Comparison) (b : Box Evaluation) → value_of (made.Compare a op b) ≡ values.compare op (value_of a.value) (value_of b.value)
-made_compare a op b = ap value_of (sym (made.rolls-Compare a op b)) ∙ fold-roll-Evaluation Value value_layer _
+pub made_compare : (a : Box code_value.Value) (op : Comparison) (b : Box code_value.Value)
+    → value_of (made.Compare a op b) ≡ values.compare op (value_of a.value) (value_of b.value)
+made_compare a op b = ap value_of (sym (made.rolls-Compare a op b)) ∙ fold-roll-Value Value value_layer _
 
-pub made_equal : (a : Box Evaluation) (op : Equality) (b : Box Evaluation) (vs : Vec Evaluation)
-    → value_of (made.Equal a op b vs) ≡ values.equal op (value_of a.value) (values.more (value_of b.value) (values.values_of (map value_of vs.items)))
-made_equal a op b vs = ap value_of (sym (made.rolls-Equal a op b vs)) ∙ fold-roll-Evaluation Value value_layer _
+pub made_equal : (a : Box code_value.Value) (op : Equality) (b : Box code_value.Value) (vs : Vec code_value.Value)
+    → value_of (made.Equal a op b vs) ≡ values.equal op (value_of a.value)
+    (values.more (value_of b.value) (values.values_of (map value_of vs.items)))
+made_equal a op b vs = ap value_of (sym (made.rolls-Equal a op b vs)) ∙ fold-roll-Value Value value_layer _
 
-pub made_assign : (x : Variable) (v : Box Evaluation) → value_of (made.Assign x v) ≡ values.assign x (value_of v.value)
-made_assign x v = ap value_of (sym (made.rolls-Assign x v)) ∙ fold-roll-Evaluation Value value_layer _
+pub made_assign : (x : Variable) (v : Box code_value.Value)
+    → value_of (made.Assign x v) ≡ values.assign x (value_of v.value)
+made_assign x v = ap value_of (sym (made.rolls-Assign x v)) ∙ fold-roll-Value Value value_layer _
 
-pub made_block : (all : Vec CheckedStatement) → action_of (done.Block all) ≡ values.block (values.actions_of (map action_of all.items))
-made_block all = ap action_of (sym (done.rolls-Block all)) ∙ fold-roll-CheckedStatement Action action_layer _
+pub made_block : (all : Vec code_action.Action) → action_of (done.Block all)
+    ≡ values.block (values.actions_of (map action_of all.items))
+made_block all = ap action_of (sym (done.rolls-Block all)) ∙ fold-roll-Action Action action_layer _
 
-pub made_print : (items : Vec CheckedItem) → action_of (done.Print items) ≡ values.print (map printed_of items.items)
-made_print items = ap action_of (sym (done.rolls-Print items)) ∙ fold-roll-CheckedStatement Action action_layer _
+pub made_print : (items : Vec code_printed.Printed)
+    → action_of (done.Print items) ≡ values.print (map printed_of items.items)
+made_print items = ap action_of (sym (done.rolls-Print items)) ∙ fold-roll-Action Action action_layer _
 
-pub made_print_return : (items : Vec CheckedItem) → action_of (done.PrintReturn items) ≡ values.print_return (map printed_of items.items)
-made_print_return items = ap action_of (sym (done.rolls-PrintReturn items)) ∙ fold-roll-CheckedStatement Action action_layer _
+pub made_print_return : (items : Vec code_printed.Printed)
+    → action_of (done.PrintReturn items) ≡ values.print_return (map printed_of items.items)
+made_print_return items = ap action_of (sym (done.rolls-PrintReturn items)) ∙ fold-roll-Action Action action_layer _
 
-pub made_if_then : (v : Evaluation) (a : Box CheckedStatement) → action_of (done.If v a) ≡ values.if_then (value_of v) (action_of a.value)
-made_if_then v a = ap action_of (sym (done.rolls-If v a)) ∙ fold-roll-CheckedStatement Action action_layer _
+pub made_if_then : (v : code_value.Value) (a : Box code_action.Action)
+    → action_of (done.If v a) ≡ values.if_then (value_of v) (action_of a.value)
+made_if_then v a = ap action_of (sym (done.rolls-If v a)) ∙ fold-roll-Action Action action_layer _
 
-pub made_if_else : (v : Evaluation) (a b : Box CheckedStatement) → action_of (done.IfElse v a b) ≡ values.if_else (value_of v) (action_of a.value) (action_of b.value)
-made_if_else v a b = ap action_of (sym (done.rolls-IfElse v a b)) ∙ fold-roll-CheckedStatement Action action_layer _
+pub made_if_else : (v : code_value.Value) (a b : Box code_action.Action)
+    → action_of (done.IfElse v a b) ≡ values.if_else (value_of v) (action_of a.value) (action_of b.value)
+made_if_else v a b = ap action_of (sym (done.rolls-IfElse v a b)) ∙ fold-roll-Action Action action_layer _
 
-pub made_while_do : (v : Evaluation) (a : Box CheckedStatement) → action_of (done.While v a) ≡ values.while_do (value_of v) (action_of a.value)
-made_while_do v a = ap action_of (sym (done.rolls-While v a)) ∙ fold-roll-CheckedStatement Action action_layer _
+pub made_while_do : (v : code_value.Value) (a : Box code_action.Action)
+    → action_of (done.While v a) ≡ values.while_do (value_of v) (action_of a.value)
+made_while_do v a = ap action_of (sym (done.rolls-While v a)) ∙ fold-roll-Action Action action_layer _
 
-pub made_return_value : (v : Evaluation) → action_of (done.ReturnValue v) ≡ values.return_value (value_of v)
-made_return_value v = ap action_of (sym (done.rolls-ReturnValue v)) ∙ fold-roll-CheckedStatement Action action_layer _
+pub made_return_value : (v : code_value.Value) → action_of (done.ReturnValue v) ≡ values.return_value (value_of v)
+made_return_value v = ap action_of (sym (done.rolls-ReturnValue v)) ∙ fold-roll-Action Action action_layer _
 
-pub made_effect : (v : Evaluation) → action_of (done.Effect v) ≡ values.effect (value_of v)
-made_effect v = ap action_of (sym (done.rolls-Effect v)) ∙ fold-roll-CheckedStatement Action action_layer _
+pub made_effect : (v : code_value.Value) → action_of (done.Effect v) ≡ values.effect (value_of v)
+made_effect v = ap action_of (sym (done.rolls-Effect v)) ∙ fold-roll-Action Action action_layer _
 
 pub made_empty : action_of done.Empty ≡ values.empty
-made_empty = ap action_of (sym done.rolls-Empty) ∙ fold-roll-CheckedStatement Action action_layer _
+made_empty = ap action_of (sym done.rolls-Empty) ∙ fold-roll-Action Action action_layer _
 
 pub made_text : (s : Bor (List ℕ)) → action_of (done.Text s) ≡ values.text_alone s.now
-made_text s = ap action_of (sym (done.rolls-Text s)) ∙ fold-roll-CheckedStatement Action action_layer _
+made_text s = ap action_of (sym (done.rolls-Text s)) ∙ fold-roll-Action Action action_layer _
 
 pub made_new_line : action_of done.NewLine ≡ values.new_line
-made_new_line = ap action_of (sym done.rolls-NewLine) ∙ fold-roll-CheckedStatement Action action_layer _
+made_new_line = ap action_of (sym done.rolls-NewLine) ∙ fold-roll-Action Action action_layer _
 
 pub made_quit : action_of done.Quit ≡ values.quit
-made_quit = ap action_of (sym done.rolls-Quit) ∙ fold-roll-CheckedStatement Action action_layer _
+made_quit = ap action_of (sym done.rolls-Quit) ∙ fold-roll-Action Action action_layer _

@@ -25,10 +25,11 @@ abbrev pub IsFirst : Breach → List Breach → Type 0
 IsFirst b [] = Unit {0}
 IsFirst b (x ∷ xs) = (is_before x b ≡ false) × IsFirst b xs
 
--- An answer: where no rule is broken, what is handed out; else the number and the line of the first broken rule. E99 with
--- line 0 tells of refused memory, and of nothing else.
+-- An answer: where no rule is broken, what is handed out; else the number and the line of the first broken rule. E99
+-- with line 0 tells of refused memory, and of nothing else.
 abbrev pub Answers : {X : Type 0} → Result X SourceFault → List Breach → (X → Type 0) → Type 0
 Answers (Ok x) breaches P = (breaches ≡ []) × P x
 Answers (Err fault) breaches P =
     (fault ≡ no_memory)
-    ⊎ ((b : Breach) × IsAmong b breaches × IsFirst b breaches × (fault.number ≡ b.number) × (fault.line ≡ b.position.line))
+    ⊎ ((b : Breach) × IsAmong b breaches × IsFirst b breaches × (fault.number ≡ b.number)
+    × (fault.line ≡ b.position.line))

@@ -10,52 +10,71 @@ use Rattle.checker.specs.declared.resolved.Variable.{Variable}
 use Rattle.checker.specs.declared.resolved.Variable.TheVariants as variables
 use Rattle.checker.specs.Breaches.{at}
 use Rattle.checker.specs.Names.{name_of}
-use Rattle.checker.specs.Resolved.{Value, Values, number, read, call, prefixed, step_before, step_after, binary, compare, equal, assign, none, more}
+use Rattle.checker.specs.Resolved.{Value, Values, number, read, call, prefixed, step_before, step_after, binary}
+use Rattle.checker.specs.Resolved.{compare, equal, assign, none, more}
 
 -- a name as a value: E20 where it is unknown, E23 where it is a routine or a property
 abbrev pub value_breaches : Position → Option Binding → List Breach
 value_breaches p None = at p 20
+value_breaches p (Some (bindings.Constant n)) = []
+value_breaches p (Some (bindings.Global g)) = []
 value_breaches p (Some (bindings.Routine r locals)) = at p 23
 value_breaches p (Some bindings.Property) = at p 23
-value_breaches p (Some _) = []
+value_breaches p (Some (bindings.Local l)) = []
 
 -- more than seven arguments are E24; more than the routine has locals are E25
 abbrev pub argument_breaches : Position → ℕ → ℕ → List Breach
-argument_breaches p given locals = (if nat_lt 7 given then at p 24 else []) ++ (if nat_lt locals given then at p 25 else [])
+argument_breaches p given locals = (if nat_lt 7 given then at p 24 else [])
+    ++ (if nat_lt locals given then at p 25 else [])
 
 -- a name that is called: E20 where it is unknown, E23 where it is no routine
 abbrev pub call_breaches : Position → ℕ → Option Binding → List Breach
 call_breaches p given None = at p 20
+call_breaches p given (Some (bindings.Constant n)) = at p 23
+call_breaches p given (Some (bindings.Global g)) = at p 23
 call_breaches p given (Some (bindings.Routine r locals)) = argument_breaches p given locals
-call_breaches p given (Some _) = at p 23
+call_breaches p given (Some bindings.Property) = at p 23
+call_breaches p given (Some (bindings.Local l)) = at p 23
 
--- A name that is assigned to or stepped, with the operator's position: E20 where it is unknown; E26 at the operator where it
--- is no variable, and E23 at a routine or a property too.
+-- A name that is assigned to or stepped, with the operator's position: E20 where it is unknown; E26 at the operator
+-- where it is no variable, and E23 at a routine or a property too.
 abbrev pub target_breaches : Position → Position → Option Binding → List Breach
 target_breaches p operator None = at p 20
-target_breaches p operator (Some (bindings.Global g)) = []
-target_breaches p operator (Some (bindings.Local l)) = []
 target_breaches p operator (Some (bindings.Constant n)) = at operator 26
-target_breaches p operator (Some _) = at p 23 ++ at operator 26
+target_breaches p operator (Some (bindings.Global g)) = []
+target_breaches p operator (Some (bindings.Routine r locals)) = at p 23 ++ at operator 26
+target_breaches p operator (Some bindings.Property) = at p 23 ++ at operator 26
+target_breaches p operator (Some (bindings.Local l)) = []
 
 abbrev pub count : ExpressionTrees → ℕ
 count trees.none = 0
 count (trees.more e es) = count es + 1
 
+-- What a name resolves to. Where a rule is broken any value will do.
+
 abbrev pub value_of_binding : Option Binding → Value
+value_of_binding None = number 0
 value_of_binding (Some (bindings.Constant n)) = number n
 value_of_binding (Some (bindings.Global g)) = read (variables.Global g)
+value_of_binding (Some (bindings.Routine r locals)) = number 0
+value_of_binding (Some bindings.Property) = number 0
 value_of_binding (Some (bindings.Local l)) = read (variables.Local l)
-value_of_binding _ = number 0
 
 abbrev pub variable_of_binding : Option Binding → Variable
+variable_of_binding None = variables.Local 0
+variable_of_binding (Some (bindings.Constant n)) = variables.Local 0
 variable_of_binding (Some (bindings.Global g)) = variables.Global g
+variable_of_binding (Some (bindings.Routine r locals)) = variables.Local 0
+variable_of_binding (Some bindings.Property) = variables.Local 0
 variable_of_binding (Some (bindings.Local l)) = variables.Local l
-variable_of_binding _ = variables.Local 0
 
 abbrev pub routine_of_binding : Option Binding → ℕ
+routine_of_binding None = 0
+routine_of_binding (Some (bindings.Constant n)) = 0
+routine_of_binding (Some (bindings.Global g)) = 0
 routine_of_binding (Some (bindings.Routine r locals)) = r
-routine_of_binding _ = 0
+routine_of_binding (Some bindings.Property) = 0
+routine_of_binding (Some (bindings.Local l)) = 0
 
 -- `look` tells what a name stands for
 module _ (look : List ℕ → Option Binding) where
@@ -82,7 +101,7 @@ module _ (look : List ℕ → Option Binding) where
     all_breaches trees.none = []
     all_breaches (trees.more e es) = breaches e ++ all_breaches es
 
-  -- Resolving. Where a rule is broken any value will do.
+  -- Resolving
 
   abbrev pub target : Option NameTree → Variable
   target (Some n) = variable_of_binding (look n.text)

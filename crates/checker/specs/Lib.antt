@@ -5,6 +5,7 @@ pub mod Temporaries
 pub mod Expressions
 pub mod Statements
 pub mod Programs
+pub mod Places
 pub mod Sizes
 pub mod World
 pub mod Meaning

@@ -1,12 +1,14 @@
 -- What names stand for. Case is ignored; all names of a file share one space, and a local hides a name of the file in
 -- its whole routine.
-use Rattle.std.specs.Prelude.{◌&&◌, ◌+◌, ℕ, zero, suc, nat_eq, nat_le, Bool, if◌then◌else◌, List, [], ◌∷◌, ◌++◌, codes, length, Option, Some, None, is_some}
+use Rattle.std.specs.Prelude.{◌&&◌, ◌+◌, ◌<◌, ℕ, zero, suc, nat_eq, nat_le, Bool, if◌then◌else◌, List, [], ◌∷◌, ◌++◌}
+use Rattle.std.specs.Prelude.{codes, length, Option, Some, None, is_some}
 use Rattle.std.specs.Cmp.Lexicographic.{pointwise}
 use Rattle.expressions.specs.Tree as trees
 use Rattle.expressions.specs.Tree.{NameTree, ExpressionTree}
-use Rattle.syntax.specs.Tree.{ValueTree, number_value, named_value, DirectiveTree, global, constant, routine}
+use Rattle.syntax.specs.Tree.{LiteralTree, number_value, named_value, DirectiveTree, global, constant, routine}
 use Rattle.checker.specs.declared.binding.Binding.{Binding}
 use Rattle.checker.specs.declared.binding.Binding.TheVariants as bindings
+use Rattle.checker.specs.declared.counts.Counts.{Counts}
 
 abbrev pub lower_case : ℕ → ℕ
 lower_case c = if nat_le 65 c && nat_le c 90 then c + 32 else c
@@ -23,9 +25,17 @@ key_of name = padded 32 name
 
 -- the name that an expression is, parentheses apart
 abbrev pub name_of : ExpressionTree → Option NameTree
+name_of (trees.constant n) = None
 name_of (trees.named n) = Some n
+name_of (trees.call n es) = None
 name_of (trees.parenthesised e) = name_of e
-name_of _ = None
+name_of (trees.prefixed op e) = None
+name_of (trees.step_before op p e) = None
+name_of (trees.step_after e op p) = None
+name_of (trees.binary op a b) = None
+name_of (trees.compare op a b) = None
+name_of (trees.equal op a bs) = None
+name_of (trees.assign a p b) = None
 
 abbrev pub same_key : List ℕ → List ℕ → Bool
 same_key = pointwise nat_eq
@@ -51,35 +61,44 @@ abbrev pub first_table : Table
 first_table = (key_of (codes "name"), bindings.Property) ∷ []
 
 abbrev pub constant_or_zero : Option Binding → ℕ
+constant_or_zero None = 0
 constant_or_zero (Some (bindings.Constant n)) = n
-constant_or_zero _ = 0
+constant_or_zero (Some (bindings.Global g)) = 0
+constant_or_zero (Some (bindings.Routine r locals)) = 0
+constant_or_zero (Some bindings.Property) = 0
+constant_or_zero (Some (bindings.Local l)) = 0
 
 -- the value of a constant: the name in it stands earlier
-abbrev pub value_so_far : Table → ValueTree → ℕ
+abbrev pub value_so_far : Table → LiteralTree → ℕ
 value_so_far table (number_value n) = n
 value_so_far table (named_value n) = constant_or_zero (in_table table (key_of n.text))
 
--- the names of a file after a directive, where so many globals and routines were defined before
-abbrev pub with_directive : Table → ℕ → ℕ → DirectiveTree → Table
-with_directive table globals routines (global n v) = with_name table n (bindings.Global globals)
-with_directive table globals routines (constant n v) = with_name table n (bindings.Constant (value_so_far table v))
-with_directive table globals routines (routine r) = with_name table r.name (bindings.Routine routines (length r.locals))
+-- what is defined before the first directive
+abbrev pub no_counts : Counts
+no_counts = record { globals = 0; routines = 0 }
 
-abbrev pub globals_after : ℕ → DirectiveTree → ℕ
-globals_after globals (global n v) = globals + 1
-globals_after globals _ = globals
+-- fewer of each kind
+abbrev pub AreFewer : ℕ → Counts → Type 0
+AreFewer n counts = (counts.globals < n) × (counts.routines < n)
 
-abbrev pub routines_after : ℕ → DirectiveTree → ℕ
-routines_after routines (routine r) = routines + 1
-routines_after routines _ = routines
+-- how many definitions there are after a directive
+abbrev pub counts_after : Counts → DirectiveTree → Counts
+counts_after counts (global n v) = record counts { globals = counts.globals + 1 }
+counts_after counts (constant n v) = counts
+counts_after counts (routine r) = record counts { routines = counts.routines + 1 }
 
-abbrev pub table_from : Table → ℕ → ℕ → List DirectiveTree → Table
-table_from table globals routines [] = table
-table_from table globals routines (d ∷ ds) =
-    table_from (with_directive table globals routines d) (globals_after globals d) (routines_after routines d) ds
+-- the names of a file after a directive, where so much was defined before
+abbrev pub with_directive : Table → Counts → DirectiveTree → Table
+with_directive table counts (global n v) = with_name table n (bindings.Global counts.globals)
+with_directive table counts (constant n v) = with_name table n (bindings.Constant (value_so_far table v))
+with_directive table counts (routine r) = with_name table r.name (bindings.Routine counts.routines (length r.locals))
+
+abbrev pub table_from : Table → Counts → List DirectiveTree → Table
+table_from table counts [] = table
+table_from table counts (d ∷ ds) = table_from (with_directive table counts d) (counts_after counts d) ds
 
 unfoldable pub table_of : List DirectiveTree → Table
-table_of directives = table_from first_table 0 0 directives
+table_of directives = table_from first_table no_counts directives
 
 -- Names in a routine
 

@@ -1,14 +1,18 @@
 -- The rules that a program can break, and what it resolves to.
-use Rattle.std.specs.Prelude.{◌≡◌, ℕ, nat_le, map, Bool, true, false, if◌then◌else◌, List, [], ◌∷◌, ◌++◌, codes, length, Option, Some, None, is_some}
+use Rattle.std.specs.Prelude.{◌≡◌, ℕ, nat_le, map, Bool, true, false, if◌then◌else◌, List, [], ◌∷◌, ◌++◌, codes}
+use Rattle.std.specs.Prelude.{length, Option, Some, None, is_some}
 use Rattle.lexer.specs.declared.token.Position.{Position}
 use Rattle.expressions.specs.Tree.{NameTree}
-use Rattle.syntax.specs.Tree.{ValueTree, number_value, named_value, RoutineTree, DirectiveTree, global, constant, routine, ProgramTree}
+use Rattle.syntax.specs.Tree.{LiteralTree, number_value, named_value, RoutineTree, DirectiveTree, global, constant}
+use Rattle.syntax.specs.Tree.{routine, ProgramTree}
 use Rattle.checker.specs.declared.binding.Binding.{Binding}
 use Rattle.checker.specs.declared.binding.Binding.TheVariants as bindings
 use Rattle.checker.specs.declared.breach.Breach.{Breach}
 use Rattle.checker.specs.Breaches.{at}
-use Rattle.checker.specs.Names.{Table, key_of, same_key, in_table, first_table, with_directive, globals_after, routines_after, table_of, look_up, constant_or_zero}
-use Rattle.checker.specs.Statements.{statements_breaches, resolve_statements}
+use Rattle.checker.specs.declared.counts.Counts.{Counts}
+use Rattle.checker.specs.Names.{Table, key_of, same_key, in_table, first_table, no_counts, with_directive}
+use Rattle.checker.specs.Names.{counts_after, table_of, look_up, constant_or_zero}
+use Rattle.checker.specs.Statements.{outside, statements_breaches, resolve_statements}
 use Rattle.checker.specs.Resolved.{RoutineOf, ProgramOf, CheckedProgram, program_of, title_of}
 
 -- Values of globals and constants
@@ -17,28 +21,44 @@ use Rattle.checker.specs.Resolved.{RoutineOf, ProgramOf, CheckedProgram, program
 abbrev pub global_breaches : Position → Option Binding → List Breach
 global_breaches p None = at p 20
 global_breaches p (Some (bindings.Constant n)) = []
-global_breaches p (Some _) = at p 23
+global_breaches p (Some (bindings.Global g)) = at p 23
+global_breaches p (Some (bindings.Routine r locals)) = at p 23
+global_breaches p (Some bindings.Property) = at p 23
+global_breaches p (Some (bindings.Local l)) = at p 23
+
+-- a name in a constant's value that is no constant there, by what it stands for in the file: a later constant is
+-- unknown
+abbrev pub later_breaches : Position → Option Binding → List Breach
+later_breaches p None = at p 20
+later_breaches p (Some (bindings.Constant n)) = at p 20
+later_breaches p (Some (bindings.Global g)) = at p 23
+later_breaches p (Some (bindings.Routine r locals)) = at p 23
+later_breaches p (Some bindings.Property) = at p 23
+later_breaches p (Some (bindings.Local l)) = at p 23
 
 -- a name in a constant's value: `before` is what it stands for there, `anywhere` what it stands for in the file
 abbrev pub constant_breaches : Position → Option Binding → Option Binding → List Breach
+constant_breaches p None anywhere = later_breaches p anywhere
 constant_breaches p (Some (bindings.Constant n)) anywhere = []
-constant_breaches p before None = at p 20
-constant_breaches p before (Some (bindings.Constant n)) = at p 20
-constant_breaches p before (Some _) = at p 23
+constant_breaches p (Some (bindings.Global g)) anywhere = later_breaches p anywhere
+constant_breaches p (Some (bindings.Routine r locals)) anywhere = later_breaches p anywhere
+constant_breaches p (Some bindings.Property) anywhere = later_breaches p anywhere
+constant_breaches p (Some (bindings.Local l)) anywhere = later_breaches p anywhere
 
 -- Definitions: E22 at a name that is defined already, E24 at the 233rd global
 
 abbrev pub twice : Table → NameTree → List Breach
 twice table name = if is_some (in_table table (key_of name.text)) then at name.position 22 else []
 
-abbrev pub initial_breaches : Table → Option ValueTree → List Breach
+abbrev pub initial_breaches : Table → Option LiteralTree → List Breach
 initial_breaches whole None = []
 initial_breaches whole (Some (number_value n)) = []
 initial_breaches whole (Some (named_value n)) = global_breaches n.position (in_table whole (key_of n.text))
 
-abbrev pub named_breaches : Table → Table → ValueTree → List Breach
+abbrev pub named_breaches : Table → Table → LiteralTree → List Breach
 named_breaches whole table (number_value n) = []
-named_breaches whole table (named_value n) = constant_breaches n.position (in_table table (key_of n.text)) (in_table whole (key_of n.text))
+named_breaches whole table (named_value n) = constant_breaches n.position (in_table table (key_of n.text))
+    (in_table whole (key_of n.text))
 
 -- Locals: E22 at the second of two, E24 at the 16th
 
@@ -55,23 +75,23 @@ locals_breaches before (l ∷ ls) =
     ++ locals_breaches (before ++ l ∷ []) ls)
 
 abbrev pub routine_breaches : Table → RoutineTree → List Breach
-routine_breaches whole r = locals_breaches [] r.locals ++ statements_breaches (look_up whole r.locals) r.body
+routine_breaches whole r = locals_breaches [] r.locals ++ statements_breaches (look_up whole r.locals) outside r.body
 
-abbrev pub global_directive_breaches : Table → Table → ℕ → NameTree → Option ValueTree → List Breach
-global_directive_breaches whole table globals n v =
-    twice table n ++ ((if nat_le 232 globals then at n.position 24 else []) ++ initial_breaches whole v)
+abbrev pub global_directive_breaches : Table → Table → Counts → NameTree → Option LiteralTree → List Breach
+global_directive_breaches whole table counts n v =
+    twice table n ++ ((if nat_le 232 counts.globals then at n.position 24 else []) ++ initial_breaches whole v)
 
--- of a directive, with the names of the file so far and of the whole file
-abbrev pub directive_breaches : Table → Table → ℕ → DirectiveTree → List Breach
-directive_breaches whole table globals (global n v) = global_directive_breaches whole table globals n v
-directive_breaches whole table globals (constant n v) = twice table n ++ named_breaches whole table v
-directive_breaches whole table globals (routine r) = twice table r.name ++ routine_breaches whole r
+-- of a directive, with the names of the whole file, and the names and how much is defined before it
+abbrev pub directive_breaches : Table → Table → Counts → DirectiveTree → List Breach
+directive_breaches whole table counts (global n v) = global_directive_breaches whole table counts n v
+directive_breaches whole table counts (constant n v) = twice table n ++ named_breaches whole table v
+directive_breaches whole table counts (routine r) = twice table r.name ++ routine_breaches whole r
 
-abbrev pub directives_breaches : Table → Table → ℕ → ℕ → List DirectiveTree → List Breach
-directives_breaches whole table globals routines [] = []
-directives_breaches whole table globals routines (d ∷ ds) =
-    directive_breaches whole table globals d
-    ++ directives_breaches whole (with_directive table globals routines d) (globals_after globals d) (routines_after routines d) ds
+abbrev pub directives_breaches : Table → Table → Counts → List DirectiveTree → List Breach
+directives_breaches whole table counts [] = []
+directives_breaches whole table counts (d ∷ ds) =
+    directive_breaches whole table counts d
+    ++ directives_breaches whole (with_directive table counts d) (counts_after counts d) ds
 
 -- Main: E21 at the end of the source where no routine has this name, and at its name where it has locals
 
@@ -81,26 +101,32 @@ main_key = key_of (codes "main")
 -- the name of the first routine with a key
 abbrev pub first_routine : List DirectiveTree → List ℕ → Option NameTree
 first_routine [] key = None
+first_routine (global n v ∷ ds) key = first_routine ds key
+first_routine (constant n v ∷ ds) key = first_routine ds key
 first_routine (routine r ∷ ds) key = if same_key (key_of r.name.text) key then Some r.name else first_routine ds key
-first_routine (_ ∷ ds) key = first_routine ds key
 
 abbrev pub position_or : Position → Option NameTree → Position
 position_or end None = end
 position_or end (Some name) = name.position
 
 abbrev pub main_breaches : Position → Option NameTree → Option Binding → List Breach
-main_breaches end name (Some (bindings.Routine r locals)) = if nat_le 1 locals then at (position_or end name) 21 else []
-main_breaches end name _ = at end 21
+main_breaches end name None = at end 21
+main_breaches end name (Some (bindings.Constant n)) = at end 21
+main_breaches end name (Some (bindings.Global g)) = at end 21
+main_breaches end name (Some (bindings.Routine r locals)) = if nat_le 1 locals then at (position_or end name) 21
+    else []
+main_breaches end name (Some bindings.Property) = at end 21
+main_breaches end name (Some (bindings.Local l)) = at end 21
 
 -- every broken rule of a program, with its place
 unfoldable pub program_breaches : ProgramTree → List Breach
 program_breaches p =
-    directives_breaches (table_of p.directives) first_table 0 0 p.directives
+    directives_breaches (table_of p.directives) first_table no_counts p.directives
     ++ main_breaches p.end (first_routine p.directives main_key) (in_table (table_of p.directives) main_key)
 
 -- Resolving
 
-abbrev pub initial_value : Table → Option ValueTree → ℕ
+abbrev pub initial_value : Table → Option LiteralTree → ℕ
 initial_value whole None = 0
 initial_value whole (Some (number_value n)) = n
 initial_value whole (Some (named_value n)) = constant_or_zero (in_table whole (key_of n.text))
@@ -108,7 +134,8 @@ initial_value whole (Some (named_value n)) = constant_or_zero (in_table whole (k
 abbrev pub globals_of : Table → List DirectiveTree → List ℕ
 globals_of whole [] = []
 globals_of whole (global n v ∷ ds) = initial_value whole v ∷ globals_of whole ds
-globals_of whole (_ ∷ ds) = globals_of whole ds
+globals_of whole (constant n v ∷ ds) = globals_of whole ds
+globals_of whole (routine r ∷ ds) = globals_of whole ds
 
 -- where `look` tells what a name stands for
 abbrev pub resolve_body : (List ℕ → Option Binding) → RoutineTree → RoutineOf
@@ -119,12 +146,17 @@ resolve_routine whole r = resolve_body (look_up whole r.locals) r
 
 abbrev pub routines_of : Table → List DirectiveTree → List RoutineOf
 routines_of whole [] = []
+routines_of whole (global n v ∷ ds) = routines_of whole ds
+routines_of whole (constant n v ∷ ds) = routines_of whole ds
 routines_of whole (routine r ∷ ds) = resolve_routine whole r ∷ routines_of whole ds
-routines_of whole (_ ∷ ds) = routines_of whole ds
 
 abbrev pub routine_number : Option Binding → ℕ
+routine_number None = 0
+routine_number (Some (bindings.Constant n)) = 0
+routine_number (Some (bindings.Global g)) = 0
 routine_number (Some (bindings.Routine r locals)) = r
-routine_number _ = 0
+routine_number (Some bindings.Property) = 0
+routine_number (Some (bindings.Local l)) = 0
 
 unfoldable pub resolve_program : ProgramTree → ProgramOf
 resolve_program p = record {
@@ -138,8 +170,9 @@ resolve_program p = record {
 -- the routines of a file in order
 abbrev pub routine_trees : List DirectiveTree → List RoutineTree
 routine_trees [] = []
+routine_trees (global n v ∷ ds) = routine_trees ds
+routine_trees (constant n v ∷ ds) = routine_trees ds
 routine_trees (routine r ∷ ds) = r ∷ routine_trees ds
-routine_trees (_ ∷ ds) = routine_trees ds
 
 -- a routine's name and weight
 abbrev pub title : RoutineTree → NameTree × ℕ

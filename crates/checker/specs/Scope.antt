@@ -11,7 +11,8 @@ either None other = other
 
 -- the locals come before the names of the file
 unfoldable pub look_in : Scope → List ℕ → Option Binding
-look_in scope name = either (in_table scope.locals.now.entries (key_of name)) (in_table scope.file.now.entries (key_of name))
+look_in scope name = either (in_table scope.locals.now.entries (key_of name))
+    (in_table scope.file.now.entries (key_of name))
 
 abbrev pub local_binding : Option ℕ → Option Binding
 local_binding (Some number) = Some (bindings.Local number)

@@ -1,16 +1,12 @@
 -- Which programs are too large.
-use Rattle.std.specs.Prelude.{◌+◌, ℕ, nat_lt, if◌then◌else◌, List, [], ◌∷◌, Option, Some, None, Result, Ok, Err}
+use Rattle.std.specs.Prelude.{ℕ, nat_lt, if◌then◌else◌, List, [], ◌∷◌, Option, Some, None, Result, Ok, Err}
 use Rattle.lexer.specs.declared.token.Position.{Position}
 use Rattle.lexer.specs.declared.fault.SourceFault.{SourceFault}
 use Rattle.zcore.specs.declared.header.Version.{Version}
 use Rattle.zcore.specs.declared.header.Version.TheVariants as versions
 use Rattle.checker.specs.declared.checked.CheckedRoutine.{CheckedRoutine}
-use Rattle.checker.specs.Resolved.{CheckedProgram}
-
--- The sum of the parts of a story that stand before its routines: header, table of abbreviations, empty text, globals,
--- defaults of properties, dictionary, and the code that calls Main.
-abbrev pub sum_of_parts : CheckedProgram → ℕ
-sum_of_parts c = 64 + 192 + 2 + 480 + 126 + 7 + 4
+use Rattle.checker.specs.Places.{routines_place}
+use Rattle.checker.specs.Resolved.{CheckedProgram, program_of}
 
 -- the greatest weight of a source
 abbrev pub greatest_weight : Version → ℕ
@@ -29,10 +25,10 @@ abbrev pub heavy_fault : Option Position → Option SourceFault
 heavy_fault None = None
 heavy_fault (Some p) = Some (fault 32 p.line)
 
--- E30 where the parts are too large, else E31 where the source is, else E32 where a routine is
+-- E30 where the parts before the routines are too large, else E31 where the source is, else E32 where a routine is
 abbrev pub size_fault : CheckedProgram → Version → Option SourceFault
 size_fault c version =
-    if nat_lt 65535 (sum_of_parts c) then Some (fault 30 0)
+    if nat_lt 65535 (routines_place (program_of c)) then Some (fault 30 0)
     else if nat_lt (greatest_weight version) c.weight then Some (fault 31 0)
     else heavy_fault (first_heavy c.routines)
 

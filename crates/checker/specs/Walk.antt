@@ -5,29 +5,33 @@ use Rattle.lexer.specs.declared.token.Position.{Position}
 use Rattle.expressions.specs.declared.tree.Binary.{Binary}
 use Rattle.expressions.specs.declared.tree.Expression.{Expression}
 use Rattle.expressions.specs.Tree.{NameTree, ExpressionTree, expression_tree}
-use Rattle.statements.specs.declared.tree.Item.{Item}
+use Rattle.statements.specs.declared.tree.PrintItem.{PrintItem}
 use Rattle.statements.specs.declared.tree.Statement.{Statement}
-use Rattle.statements.specs.Tree.{ItemTree, StatementTree, item_tree, statement_tree}
+use Rattle.statements.specs.Tree.{PrintItemTree, StatementTree, item_tree, statement_tree}
 use Rattle.syntax.specs.Tree.{RoutineTree, DirectiveTree}
+use Rattle.checker.specs.declared.around.Around.{Around}
 use Rattle.checker.specs.declared.binding.Binding.{Binding}
 use Rattle.checker.specs.declared.breach.Breach.{Breach}
 use Rattle.checker.specs.declared.resolved.Variable.{Variable}
-use Rattle.checker.specs.declared.resolved.Evaluation.{Evaluation}
+use Rattle.checker.specs.declared.resolved.Value as code_value
 use Rattle.checker.specs.declared.checked.CheckedRoutine.{CheckedRoutine}
 use Rattle.checker.specs.declared.directive_rules.Found.{Found}
 use Rattle.checker.specs.Names.{Table, name_of}
 use Rattle.checker.specs.Noted.{noted}
 use Rattle.checker.specs.Resolved.{Value, Printed, Action, RoutineOf, value_of, routine_of, title_of}
 use Rattle.checker.specs.Expressions.{breaches, left_breaches, target, resolve}
-use Rattle.checker.specs.Statements.{whole_breaches, item_breaches, resolve_item, statement_breaches, statements_breaches, resolve_statement}
-use Rattle.checker.specs.Programs.{routine_breaches, resolve_body, resolve_routine, routine_trees, title, globals_of, routines_of}
+use Rattle.checker.specs.Statements.{whole_breaches, item_breaches, resolve_item, statement_breaches}
+use Rattle.checker.specs.Statements.{outside, statements_breaches, resolve_statement}
+use Rattle.checker.specs.Programs.{routine_breaches, resolve_body, resolve_routine, routine_trees, title, globals_of}
+use Rattle.checker.specs.Programs.{routines_of}
 
 -- what is found is what is meant, and the broken rules are noted over what was noted before
-pub record IsWalked {A : Type 0} (broken : List Breach) (before after : Option Breach) (found meant : A) : Type 0 where
-  pub value : found ≡ meant
-  pub breaches : after ≡ noted before broken
+pub record IsWalked {A : Type 0} (broken : List Breach) (before after : Option Breach) (found meant : A) : Type 0
+  where
+    pub value : found ≡ meant
+    pub breaches : after ≡ noted before broken
 
-abbrev pub value_link : Binary × Evaluation → Binary × Value
+abbrev pub value_link : Binary × code_value.Value → Binary × Value
 value_link l = (l.0, value_of l.1)
 
 -- `look` tells what a name stands for
@@ -46,14 +50,14 @@ module _ (look : List ℕ → Option Binding) where
   abbrev pub resolved_link : Binary × Expression → Binary × Value
   resolved_link l = (l.0, resolve look (expression_tree l.1))
 
-  abbrev pub own_item_breaches : Item → List Breach
+  abbrev pub own_item_breaches : PrintItem → List Breach
   own_item_breaches x = item_breaches look (item_tree x)
 
-  abbrev pub resolved_item : Item → Printed
+  abbrev pub resolved_item : PrintItem → Printed
   resolved_item x = resolve_item look (item_tree x)
 
-  abbrev pub own_statement_breaches : Statement → List Breach
-  own_statement_breaches s = statement_breaches look (statement_tree s)
+  abbrev pub own_statement_breaches : Around → Statement → List Breach
+  own_statement_breaches around s = statement_breaches look around (statement_tree s)
 
   abbrev pub resolved_statement : Statement → Action
   resolved_statement s = resolve_statement look (statement_tree s)
@@ -78,27 +82,33 @@ module _ (look : List ℕ → Option Binding) where
   abbrev pub IsWhole : Position → ExpressionTree → Option Breach → Option Breach → Value → Type 0
   IsWhole position e before after v = IsWalked (whole_breaches look position e) before after v (resolve look e)
 
-  abbrev pub IsItem : ItemTree → Option Breach → Option Breach → Printed → Type 0
+  abbrev pub IsItem : PrintItemTree → Option Breach → Option Breach → Printed → Type 0
   IsItem x before after i = IsWalked (item_breaches look x) before after i (resolve_item look x)
 
-  abbrev pub AreItems : List Item → Option Breach → Option Breach → List Printed → Type 0
+  abbrev pub AreItems : List PrintItem → Option Breach → Option Breach → List Printed → Type 0
   AreItems xs before after is = IsWalked (flat_map own_item_breaches xs) before after is (map resolved_item xs)
 
-  abbrev pub IsAction : StatementTree → Option Breach → Option Breach → Action → Type 0
-  IsAction s before after a = IsWalked (statement_breaches look s) before after a (resolve_statement look s)
+  -- statements that stand in what is around them
 
-  abbrev pub AreActions : List Statement → Option Breach → Option Breach → List Action → Type 0
-  AreActions ss before after found = IsWalked (flat_map own_statement_breaches ss) before after found (map resolved_statement ss)
+  abbrev pub IsAction : Around → StatementTree → Option Breach → Option Breach → Action → Type 0
+  IsAction around s before after a = IsWalked (statement_breaches look around s) before after a
+      (resolve_statement look s)
+
+  abbrev pub AreActions : Around → List Statement → Option Breach → Option Breach → List Action → Type 0
+  AreActions around ss before after found = IsWalked (flat_map (own_statement_breaches around) ss) before after found
+      (map resolved_statement ss)
 
   -- a routine and its title
   abbrev pub IsRoutineIn : RoutineTree → Option Breach → Option Breach → CheckedRoutine → Type 0
   IsRoutineIn r before after c =
-      IsWalked {A = RoutineOf × (NameTree × ℕ)} (statements_breaches look r.body) before after (routine_of c, title_of c) (resolve_body look r, title r)
+      IsWalked {A = RoutineOf × (NameTree × ℕ)} (statements_breaches look outside r.body) before after
+      (routine_of c, title_of c) (resolve_body look r, title r)
 
 -- in a file of these names
 abbrev pub IsRoutineOf : Table → RoutineTree → Option Breach → Option Breach → CheckedRoutine → Type 0
 IsRoutineOf whole r before after c =
-    IsWalked {A = RoutineOf × (NameTree × ℕ)} (routine_breaches whole r) before after (routine_of c, title_of c) (resolve_routine whole r, title r)
+    IsWalked {A = RoutineOf × (NameTree × ℕ)} (routine_breaches whole r) before after (routine_of c, title_of c)
+    (resolve_routine whole r, title r)
 
 -- what these directives resolve to
 pub record IsFound (whole : Table) (ds : List DirectiveTree) (found : Found) : Type 0 where
@@ -115,5 +125,7 @@ pub record IsAdded (whole : Table) (ds : List DirectiveTree) (old new : Found) :
 -- with what the rest adds, what was found becomes what all add to what was found first
 pub record IsAdding (whole : Table) (rest all : List DirectiveTree) (first found : Found) : Type 0 where
   pub globals : found.globals.items ++ globals_of whole rest ≡ first.globals.items ++ globals_of whole all
-  pub routines : map routine_of found.routines.items ++ routines_of whole rest ≡ map routine_of first.routines.items ++ routines_of whole all
-  pub titles : map title_of found.routines.items ++ map title (routine_trees rest) ≡ map title_of first.routines.items ++ map title (routine_trees all)
+  pub routines : map routine_of found.routines.items ++ routines_of whole rest ≡ map routine_of first.routines.items
+      ++ routines_of whole all
+  pub titles : map title_of found.routines.items ++ map title (routine_trees rest)
+      ≡ map title_of first.routines.items ++ map title (routine_trees all)

@@ -4,11 +4,11 @@ ghost use Rattle.std.specs.Prelude.{◌≡◌, ◌<◌, length, slice_get, Some}
 ghost use Rattle.std.specs.Option.{option_map};
 ghost use Rattle.std.specs.Coded.{codes};
 ghost use denote.Signature.{static_lft};
-ghost use Rattle.checker.specs.contracts.resolved.CheckedStatement as statement;
+ghost use Rattle.checker.specs.contracts.resolved.Action as statement;
 ghost use Rattle.checker.specs.Resolved.{CheckedProgram, routine_of, program_of};
 ghost use Rattle.checker.specs.Meaning.{routine_at};
 
-use crate::resolved::CheckedStatement;
+use crate::resolved::Action;
 use expressions::Name;
 use std::marker::Model;
 
@@ -17,7 +17,7 @@ use std::marker::Model;
 pub struct CheckedRoutine<'a> {
     pub name: Name<'a>,
     pub locals: usize,
-    pub body: Vec<CheckedStatement<'a>>,
+    pub body: Vec<Action<'a>>,
 
     /// 32 for each token from its `[` to the `;` after its `]`, and 3 for each byte between the quotes of a text.
     pub weight: u128,

@@ -2,8 +2,8 @@
 
 ghost use Rattle.std.specs.Prelude.{◌≡◌, ◌∷◌, [], ℕ, List, IfOk, OnOk, map, nat_le, if◌then◌else◌};
 ghost use Rattle.expressions.specs.Tree.{name_tree};
-ghost use Rattle.syntax.specs.Tree.{value_tree, optional_tree, routine_tree, directive_tree};
-ghost use Rattle.checker.specs.Names.{in_table, local_from, first_table};
+ghost use Rattle.syntax.specs.Tree.{literal_tree, optional_tree, routine_tree, directive_tree};
+ghost use Rattle.checker.specs.Names.{in_table, local_from, first_table, no_counts};
 ghost use Rattle.checker.specs.Breaches.{at};
 ghost use Rattle.checker.specs.Names as names;
 ghost use Rattle.checker.specs.Noted.{noted};
@@ -11,6 +11,7 @@ ghost use Rattle.checker.specs.Scope.{look_in, local_binding};
 ghost use Rattle.checker.specs.Walk.{IsRoutineIn, IsRoutineOf, IsAdded, IsFound};
 ghost use Rattle.checker.specs.Programs as spec;
 
+use crate::around::OUTSIDE;
 use crate::binding::Binding;
 use crate::breach::Breach;
 use crate::checked::CheckedRoutine;
@@ -22,7 +23,7 @@ use expressions::Name;
 use indexmap::IndexMap;
 use lexer::{DEFINED_TWICE, Position, TOO_MANY, UNKNOWN_NAME, WRONG_KIND};
 use std::alloc::{AllocError, Global};
-use syntax::{Directive, Routine, Value};
+use syntax::{Directive, Literal, Routine};
 
 // The name of what a global begins with, and what it stands for.
 #[tactic(auto, using(crate::proofs::Noted::noted_none))]
@@ -33,21 +34,39 @@ fn global_name(position: Position, found: Option<Binding>, least: &mut Option<Br
     match found {
         None => note(least, UNKNOWN_NAME, position),
         Some(Binding::Constant(number)) => return number,
-        Some(_) => note(least, WRONG_KIND, position),
+        Some(Binding::Global(_)) => note(least, WRONG_KIND, position),
+        Some(Binding::Routine(_, _)) => note(least, WRONG_KIND, position),
+        Some(Binding::Property) => note(least, WRONG_KIND, position),
+        Some(Binding::Local(_)) => note(least, WRONG_KIND, position),
     }
     0
 }
 
 // What a global begins with.
 #[tactic(auto, using(crate::proofs::Noted::noted_none))]
-fn initial(value: &Option<Value<'_>>, whole: &Table, least: &mut Option<Breach>) -> u16
+fn initial(value: &Option<Literal<'_>>, whole: &Table, least: &mut Option<Breach>) -> u16
     ensures value { result ≡ spec.initial_value whole.now.entries (optional_tree value.now) }
     ensures breaches { least.new ≡ noted least.old (spec.initial_breaches whole.now.entries (optional_tree value.now)) }
 {
     match value {
         None => 0,
-        Some(Value::Number(number)) => *number,
-        Some(Value::Named(name)) => global_name(name.position, find(whole, name.text), least),
+        Some(Literal::Number(number)) => *number,
+        Some(Literal::Named(name)) => global_name(name.position, find(whole, name.text), least),
+    }
+}
+
+// A name in a constant's value that is no constant there: what it stands for in the file.
+#[tactic(auto, using(crate::proofs::Noted::noted_none))]
+fn later_name(position: Position, anywhere: Option<Binding>, least: &mut Option<Breach>)
+    ensures { least.new ≡ noted least.old (spec.later_breaches position anywhere) }
+{
+    match anywhere {
+        None => note(least, UNKNOWN_NAME, position),
+        Some(Binding::Constant(_)) => note(least, UNKNOWN_NAME, position),
+        Some(Binding::Global(_)) => note(least, WRONG_KIND, position),
+        Some(Binding::Routine(_, _)) => note(least, WRONG_KIND, position),
+        Some(Binding::Property) => note(least, WRONG_KIND, position),
+        Some(Binding::Local(_)) => note(least, WRONG_KIND, position),
     }
 }
 
@@ -61,21 +80,21 @@ fn constant_name(
 )
     ensures { least.new ≡ noted least.old (spec.constant_breaches position before anywhere) }
 {
-    if let Some(Binding::Constant(_)) = before {
-        return;
-    }
-    match anywhere {
-        None => note(least, UNKNOWN_NAME, position),
-        Some(Binding::Constant(_)) => note(least, UNKNOWN_NAME, position),
-        Some(_) => note(least, WRONG_KIND, position),
+    match before {
+        None => later_name(position, anywhere, least),
+        Some(Binding::Constant(_)) => {}
+        Some(Binding::Global(_)) => later_name(position, anywhere, least),
+        Some(Binding::Routine(_, _)) => later_name(position, anywhere, least),
+        Some(Binding::Property) => later_name(position, anywhere, least),
+        Some(Binding::Local(_)) => later_name(position, anywhere, least),
     }
 }
 
 #[tactic(auto, using(crate::proofs::Noted::noted_none))]
-fn constant_value(value: &Value<'_>, whole: &Table, table: &Table, least: &mut Option<Breach>)
-    ensures { least.new ≡ noted least.old (spec.named_breaches whole.now.entries table.now.entries (value_tree value.now)) }
+fn constant_value(value: &Literal<'_>, whole: &Table, table: &Table, least: &mut Option<Breach>)
+    ensures { least.new ≡ noted least.old (spec.named_breaches whole.now.entries table.now.entries (literal_tree value.now)) }
 {
-    if let Value::Named(name) = value {
+    if let Literal::Named(name) = value {
         constant_name(
             name.position,
             find(table, name.text),
@@ -132,7 +151,7 @@ fn routine_in<'a>(
 ) -> Result<CheckedRoutine<'a>, AllocError>
     ensures { IfOk result (λ r. IsRoutineIn (look_in scope.now) (routine_tree routine.now) least.old least.new r) }
 {
-    let body = all_statements(alloc, scope, &routine.body, least)?;
+    let body = all_statements(alloc, scope, OUTSIDE, &routine.body, least)?;
     Ok(CheckedRoutine {
         name: routine.name,
         locals: routine.locals.len(),
@@ -180,14 +199,14 @@ fn global(
     whole: &Table,
     names: &Names,
     name: Name<'_>,
-    value: &Option<Value<'_>>,
+    value: &Option<Literal<'_>>,
     least: &mut Option<Breach>,
 ) -> u16
     ensures value { result ≡ spec.initial_value whole.now.entries (optional_tree value.now) }
-    ensures breaches { least.new ≡ noted least.old (spec.global_directive_breaches whole.now.entries names.now.table.entries names.now.globals (name_tree name.entry) (optional_tree value.now)) }
+    ensures breaches { least.new ≡ noted least.old (spec.global_directive_breaches whole.now.entries names.now.table.entries names.now.counts (name_tree name.entry) (optional_tree value.now)) }
 {
     twice(&names.table, name, least);
-    count_globals(names.globals, name.position, least);
+    count_globals(names.counts.globals, name.position, least);
     initial(value, whole, least)
 }
 
@@ -201,7 +220,7 @@ fn directive<'a>(
     least: &mut Option<Breach>,
 ) -> Result<(), AllocError>
     ensures added { OnOk result (IsAdded whole.now.entries (directive_tree directive.now ∷ []) found.old found.new) }
-    ensures breaches { OnOk result (least.new ≡ noted least.old (spec.directive_breaches whole.now.entries names.now.table.entries names.now.globals (directive_tree directive.now))) }
+    ensures breaches { OnOk result (least.new ≡ noted least.old (spec.directive_breaches whole.now.entries names.now.table.entries names.now.counts (directive_tree directive.now))) }
 {
     match directive {
         Directive::Global(name, value) => {
@@ -232,10 +251,9 @@ fn add_all<'a>(
     found: &mut Found<'a>,
     least: &mut Option<Breach>,
 ) -> Result<(), AllocError>
-    requires no_globals { names.old.globals ≡ 0 }
-    requires no_routines { names.old.routines ≡ 0 }
+    requires first { names.old.counts ≡ no_counts }
     ensures added { OnOk result (IsAdded whole.now.entries (map directive_tree directives.now) found.old found.new) }
-    ensures breaches { OnOk result (least.new ≡ noted least.old (spec.directives_breaches whole.now.entries names.old.table.entries 0 0 (map directive_tree directives.now))) }
+    ensures breaches { OnOk result (least.new ≡ noted least.old (spec.directives_breaches whole.now.entries names.old.table.entries no_counts (map directive_tree directives.now))) }
 {
     for one in directives {
         directive(alloc, whole, names, one, found, least)?;
@@ -257,7 +275,7 @@ pub fn all_directives<'a>(
     least: &mut Option<Breach>,
 ) -> Result<Found<'a>, AllocError>
     ensures found { IfOk result (λ f. IsFound whole.now.entries (map directive_tree directives.now) f) }
-    ensures breaches { OnOk result (least.new ≡ noted least.old (spec.directives_breaches whole.now.entries first_table 0 0 (map directive_tree directives.now))) }
+    ensures breaches { OnOk result (least.new ≡ noted least.old (spec.directives_breaches whole.now.entries first_table no_counts (map directive_tree directives.now))) }
 {
     let mut names = Names::new(alloc)?;
     let mut found = Found {

@@ -15,7 +15,7 @@ ghost use Rattle.checker.specs.Walk.{IsResolved, AreResolved, AreLinks, IsTarget
 use crate::binding::Binding;
 use crate::breach::Breach;
 use crate::note::note;
-use crate::resolved::{Evaluation, Variable};
+use crate::resolved::{Value, Variable};
 use crate::table::Scope;
 use expressions::{Binary, Comparison, Equality, Expression, Name, Prefix, Step};
 use lexer::{NOT_ASSIGNABLE, Position, TOO_MANY, TOO_MANY_ARGUMENTS, UNKNOWN_NAME, WRONG_KIND};
@@ -23,7 +23,7 @@ use std::alloc::{AllocError, Global};
 
 // A name as a value.
 #[tactic(auto, using(crate::proofs::Noted::noted_none))]
-fn value(name: Name<'_>, found: Option<Binding>, least: &mut Option<Breach>) -> Evaluation
+fn value(name: Name<'_>, found: Option<Binding>, least: &mut Option<Breach>) -> Value
     ensures value { value_of result ≡ value_of_binding found }
     ensures breaches { least.new ≡ noted least.old (value_breaches name.entry.position found) }
 {
@@ -31,11 +31,11 @@ fn value(name: Name<'_>, found: Option<Binding>, least: &mut Option<Breach>) -> 
         None => note(least, UNKNOWN_NAME, name.position),
         Some(Binding::Routine(_, _)) => note(least, WRONG_KIND, name.position),
         Some(Binding::Property) => note(least, WRONG_KIND, name.position),
-        Some(Binding::Constant(number)) => return Evaluation::Number(number),
-        Some(Binding::Global(number)) => return Evaluation::Read(Variable::Global(number)),
-        Some(Binding::Local(number)) => return Evaluation::Read(Variable::Local(number)),
+        Some(Binding::Constant(number)) => return Value::Number(number),
+        Some(Binding::Global(number)) => return Value::Read(Variable::Global(number)),
+        Some(Binding::Local(number)) => return Value::Read(Variable::Local(number)),
     }
-    Evaluation::Number(0)
+    Value::Number(0)
 }
 
 #[tactic(auto, using(crate::proofs::Noted::noted_none, crate::proofs::Noted::noted_append))]
@@ -48,6 +48,16 @@ fn arguments(position: Position, given: usize, locals: usize, least: &mut Option
     if given > locals {
         note(least, TOO_MANY_ARGUMENTS, position);
     }
+}
+
+// A name that is called and is no routine; any number will do for it.
+#[tactic(auto, using(crate::proofs::Noted::noted_none))]
+fn wrong_kind(position: Position, least: &mut Option<Breach>) -> usize
+    ensures value { result ≡ 0 }
+    ensures breaches { least.new ≡ noted least.old (at position 23) }
+{
+    note(least, WRONG_KIND, position);
+    0
 }
 
 // A name that is called with so many arguments.
@@ -70,10 +80,10 @@ fn routine(
             arguments(name.position, given, locals, least);
             number
         }
-        _ => {
-            note(least, WRONG_KIND, name.position);
-            0
-        }
+        Some(Binding::Constant(_)) => wrong_kind(name.position, least),
+        Some(Binding::Global(_)) => wrong_kind(name.position, least),
+        Some(Binding::Property) => wrong_kind(name.position, least),
+        Some(Binding::Local(_)) => wrong_kind(name.position, least),
     }
 }
 
@@ -137,11 +147,11 @@ pub fn expression(
     scope: &Scope<'_>,
     e: &Expression<'_>,
     least: &mut Option<Breach>,
-) -> Result<Evaluation, AllocError>
+) -> Result<Value, AllocError>
     ensures { IfOk result (λ v. IsResolved (look_in scope.now) (expression_tree e.now) least.old least.new (value_of v)) }
 {
     match e {
-        Expression::Constant(number) => Ok(Evaluation::Number(*number)),
+        Expression::Constant(number) => Ok(Value::Number(*number)),
         Expression::Named(name) => Ok(value(*name, scope.look(name.text), least)),
         Expression::Call(name, given) => call(alloc, scope, given, *name, least),
         Expression::Parenthesised(inside) => expression(alloc, scope, inside, least),
@@ -174,7 +184,7 @@ fn boxed(
     scope: &Scope<'_>,
     e: &Expression<'_>,
     least: &mut Option<Breach>,
-) -> Result<Box<Evaluation>, AllocError>
+) -> Result<Box<Value>, AllocError>
     ensures { IfOk result (λ v. IsResolved (look_in scope.now) (expression_tree e.now) least.old least.new (value_of v.value)) }
 {
     let Ok(found) = expression(alloc, scope, e, least) else {
@@ -189,7 +199,7 @@ fn all_expressions(
     scope: &Scope<'_>,
     given: &[Expression<'_>],
     least: &mut Option<Breach>,
-) -> Result<Vec<Evaluation>, AllocError>
+) -> Result<Vec<Value>, AllocError>
     ensures { IfOk result (λ v. AreResolved (look_in scope.now) given.now least.old least.new (map value_of v.items)) }
 {
     let mut found = Vec::new(alloc);
@@ -209,7 +219,7 @@ fn chain_links(
     scope: &Scope<'_>,
     links: &[(Binary, Expression<'_>)],
     least: &mut Option<Breach>,
-) -> Result<Vec<(Binary, Evaluation)>, AllocError>
+) -> Result<Vec<(Binary, Value)>, AllocError>
     ensures { IfOk result (λ v. AreLinks (look_in scope.now) links.now least.old least.new (map value_link v.items)) }
 {
     let mut found = Vec::new(alloc);
@@ -250,14 +260,14 @@ fn call(
     given: &[Expression<'_>],
     name: Name<'_>,
     least: &mut Option<Breach>,
-) -> Result<Evaluation, AllocError>
+) -> Result<Value, AllocError>
     ensures { IfOk result (λ v. IsResolved (look_in scope.now) (trees.call (name_tree name.entry) (trees_of (map expression_tree given.now))) least.old least.new (value_of v)) }
 {
     let number = routine(name, given.len(), scope.look(name.text), least);
     let Ok(given) = all_expressions(alloc, scope, given, least) else {
         return Err(AllocError);
     };
-    Ok(Evaluation::Call(number, given))
+    Ok(Value::Call(number, given))
 }
 
 #[cycle(expression)]
@@ -267,13 +277,13 @@ fn prefixed(
     operand: &Expression<'_>,
     prefix: Prefix,
     least: &mut Option<Breach>,
-) -> Result<Evaluation, AllocError>
+) -> Result<Value, AllocError>
     ensures { IfOk result (λ v. IsResolved (look_in scope.now) (trees.prefixed prefix (expression_tree operand.now)) least.old least.new (value_of v)) }
 {
     let Ok(operand) = boxed(alloc, scope, operand, least) else {
         return Err(AllocError);
     };
-    Ok(Evaluation::Prefixed(prefix, operand))
+    Ok(Value::Prefixed(prefix, operand))
 }
 
 #[cycle(expression)]
@@ -284,13 +294,13 @@ fn step_before(
     step: Step,
     position: Position,
     least: &mut Option<Breach>,
-) -> Result<Evaluation, AllocError>
+) -> Result<Value, AllocError>
     ensures { IfOk result (λ v. IsResolved (look_in scope.now) (trees.step_before step position (expression_tree operand.now)) least.old least.new (value_of v)) }
 {
     let Ok(variable) = variable(alloc, scope, operand, position, least) else {
         return Err(AllocError);
     };
-    Ok(Evaluation::StepBefore(step, variable))
+    Ok(Value::StepBefore(step, variable))
 }
 
 #[cycle(expression)]
@@ -301,13 +311,13 @@ fn step_after(
     step: Step,
     position: Position,
     least: &mut Option<Breach>,
-) -> Result<Evaluation, AllocError>
+) -> Result<Value, AllocError>
     ensures { IfOk result (λ v. IsResolved (look_in scope.now) (trees.step_after (expression_tree operand.now) step position) least.old least.new (value_of v)) }
 {
     let Ok(variable) = variable(alloc, scope, operand, position, least) else {
         return Err(AllocError);
     };
-    Ok(Evaluation::StepAfter(variable, step))
+    Ok(Value::StepAfter(variable, step))
 }
 
 #[cycle(expression)]
@@ -319,7 +329,7 @@ fn chain(
     operator: Binary,
     second: &Expression<'_>,
     least: &mut Option<Breach>,
-) -> Result<Evaluation, AllocError>
+) -> Result<Value, AllocError>
     ensures { IfOk result (λ v. IsResolved (look_in scope.now) (trees.chained (trees.binary operator (expression_tree first.now) (expression_tree second.now)) (map link links.now)) least.old least.new (value_of v)) }
 {
     let Ok(first) = boxed(alloc, scope, first, least) else {
@@ -331,7 +341,7 @@ fn chain(
     let Ok(links) = chain_links(alloc, scope, links, least) else {
         return Err(AllocError);
     };
-    Ok(Evaluation::Chain(first, operator, second, links))
+    Ok(Value::Chain(first, operator, second, links))
 }
 
 #[cycle(expression)]
@@ -342,7 +352,7 @@ fn compare(
     comparison: Comparison,
     right: &Expression<'_>,
     least: &mut Option<Breach>,
-) -> Result<Evaluation, AllocError>
+) -> Result<Value, AllocError>
     ensures { IfOk result (λ v. IsResolved (look_in scope.now) (trees.compare comparison (expression_tree left.now) (expression_tree right.now)) least.old least.new (value_of v)) }
 {
     let Ok(left) = boxed(alloc, scope, left, least) else {
@@ -351,7 +361,7 @@ fn compare(
     let Ok(right) = boxed(alloc, scope, right, least) else {
         return Err(AllocError);
     };
-    Ok(Evaluation::Compare(left, comparison, right))
+    Ok(Value::Compare(left, comparison, right))
 }
 
 #[cycle(expression)]
@@ -363,7 +373,7 @@ fn equal(
     equality: Equality,
     right: &Expression<'_>,
     least: &mut Option<Breach>,
-) -> Result<Evaluation, AllocError>
+) -> Result<Value, AllocError>
     ensures { IfOk result (λ v. IsResolved (look_in scope.now) (trees.equal equality (expression_tree left.now) (trees.more (expression_tree right.now) (trees_of (map expression_tree others.now)))) least.old least.new (value_of v)) }
 {
     let Ok(left) = boxed(alloc, scope, left, least) else {
@@ -375,7 +385,7 @@ fn equal(
     let Ok(others) = all_expressions(alloc, scope, others, least) else {
         return Err(AllocError);
     };
-    Ok(Evaluation::Equal(left, equality, right, others))
+    Ok(Value::Equal(left, equality, right, others))
 }
 
 #[cycle(expression)]
@@ -386,7 +396,7 @@ fn assign(
     position: Position,
     right: &Expression<'_>,
     least: &mut Option<Breach>,
-) -> Result<Evaluation, AllocError>
+) -> Result<Value, AllocError>
     ensures { IfOk result (λ v. IsResolved (look_in scope.now) (trees.assign (expression_tree left.now) position (expression_tree right.now)) least.old least.new (value_of v)) }
 {
     let Ok(variable) = variable(alloc, scope, left, position, least) else {
@@ -395,5 +405,5 @@ fn assign(
     let Ok(right) = boxed(alloc, scope, right, least) else {
         return Err(AllocError);
     };
-    Ok(Evaluation::Assign(variable, right))
+    Ok(Value::Assign(variable, right))
 }

@@ -57,11 +57,13 @@ pub fn main_number(
             if locals >= 1 {
                 note(least, NO_PROPER_MAIN, main_position(directives, end));
             }
-            number
+            return number;
         }
-        _ => {
-            note(least, NO_PROPER_MAIN, end);
-            0
-        }
+        None => note(least, NO_PROPER_MAIN, end),
+        Some(Binding::Constant(_)) => note(least, NO_PROPER_MAIN, end),
+        Some(Binding::Global(_)) => note(least, NO_PROPER_MAIN, end),
+        Some(Binding::Property) => note(least, NO_PROPER_MAIN, end),
+        Some(Binding::Local(_)) => note(least, NO_PROPER_MAIN, end),
     }
+    0
 }

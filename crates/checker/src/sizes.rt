@@ -5,22 +5,9 @@ ghost use Rattle.checker.specs.Sizes.{fault_of, size_fault};
 ghost use Rattle.checker.specs.Sizes as spec;
 
 use crate::checked::{Checked, CheckedRoutine};
+use crate::places::part_places;
 use lexer::{Position, ROUTINE_TOO_LARGE, STORY_TOO_LARGE, SourceFault, TABLES_TOO_LARGE};
 use zcore::Version;
-
-// The parts of a story that stand before its routines.
-fn sum_of_parts(_checked: &Checked<'_>) -> u32
-    ensures { result ≡ spec.sum_of_parts _checked.now }
-{
-    let header = 64;
-    let abbreviations = 192;
-    let empty_text = 2;
-    let globals = 480;
-    let property_defaults = 126;
-    let dictionary = 7;
-    let first_code = 4;
-    header + abbreviations + empty_text + globals + property_defaults + dictionary + first_code
-}
 
 fn greatest_weight(version: Version) -> u128
     ensures { result ≡ spec.greatest_weight version }
@@ -53,7 +40,7 @@ fn first_heavy(routines: &[CheckedRoutine<'_>]) -> Option<Position>
 pub fn test_sizes(checked: &Checked<'_>, version: Version) -> Result<(), SourceFault>
     ensures { fault_of result ≡ size_fault checked.now version }
 {
-    if sum_of_parts(checked) > 65_535 {
+    if part_places(checked).routines > 65_535 {
         return Err(SourceFault {
             number: TABLES_TOO_LARGE,
             line: 0,

@@ -11,15 +11,16 @@ ghost use Rattle.checker.specs.Temporaries.{need};
 ghost use Rattle.checker.specs.Resolved.{value_of, printed_of, action_of};
 ghost use Rattle.checker.specs.Walk.{IsWhole, IsItem, AreItems, IsAction, AreActions};
 
+use crate::around::{Around, IN_LOOP};
 use crate::breach::Breach;
 use crate::expression_rules::expression;
 use crate::note::note;
-use crate::resolved::{CheckedItem, CheckedStatement, Evaluation};
+use crate::resolved::{Action, Printed, Value};
 use crate::table::Scope;
 use crate::temporaries::fits;
 use expressions::Expression;
 use lexer::{EXPRESSION_TOO_LARGE, Position};
-use statements::{Item, Statement};
+use statements::{PrintItem, Statement};
 use std::alloc::{AllocError, Global};
 
 #[tactic(auto, using(crate::proofs::Noted::noted_none, crate::proofs::Needs::fits_not))]
@@ -38,7 +39,7 @@ fn whole(
     position: Position,
     e: &Expression<'_>,
     least: &mut Option<Breach>,
-) -> Result<Evaluation, AllocError>
+) -> Result<Value, AllocError>
     ensures { IfOk result (λ v. IsWhole (look_in scope.now) position (expression_tree e.now) least.old least.new (value_of v)) }
 {
     temporaries(position, e, least);
@@ -49,24 +50,24 @@ fn whole(
 fn item<'a>(
     alloc: Global,
     scope: &Scope<'_>,
-    printed: &Item<'a>,
+    printed: &PrintItem<'a>,
     least: &mut Option<Breach>,
-) -> Result<CheckedItem<'a>, AllocError>
+) -> Result<Printed<'a>, AllocError>
     ensures { IfOk result (λ x. IsItem (look_in scope.now) (item_tree printed.now) least.old least.new (printed_of x)) }
 {
     match printed {
-        Item::Text(text) => Ok(CheckedItem::Text(text)),
-        Item::Character(position, e) => {
+        PrintItem::Text(text) => Ok(Printed::Text(text)),
+        PrintItem::Character(position, e) => {
             let Ok(value) = whole(alloc, scope, *position, e, least) else {
                 return Err(AllocError);
             };
-            Ok(CheckedItem::Character(value))
+            Ok(Printed::Character(value))
         }
-        Item::Number(position, e) => {
+        PrintItem::Number(position, e) => {
             let Ok(value) = whole(alloc, scope, *position, e, least) else {
                 return Err(AllocError);
             };
-            Ok(CheckedItem::Number(value))
+            Ok(Printed::Number(value))
         }
     }
 }
@@ -74,9 +75,9 @@ fn item<'a>(
 fn items<'a>(
     alloc: Global,
     scope: &Scope<'_>,
-    printed: &[Item<'a>],
+    printed: &[PrintItem<'a>],
     least: &mut Option<Breach>,
-) -> Result<Vec<CheckedItem<'a>>, AllocError>
+) -> Result<Vec<Printed<'a>>, AllocError>
     ensures { IfOk result (λ v. AreItems (look_in scope.now) printed.now least.old least.new (map printed_of v.items)) }
 {
     let mut found = Vec::new(alloc);
@@ -92,29 +93,29 @@ fn items<'a>(
 fn print<'a>(
     alloc: Global,
     scope: &Scope<'_>,
-    printed: &[Item<'a>],
+    printed: &[PrintItem<'a>],
     least: &mut Option<Breach>,
-) -> Result<CheckedStatement<'a>, AllocError>
-    ensures { IfOk result (λ x. IsAction (look_in scope.now) (trees.print (map item_tree printed.now)) least.old least.new (action_of x)) }
+) -> Result<Action<'a>, AllocError>
+    ensures { (around : _) → IfOk result (λ x. IsAction (look_in scope.now) around (trees.print (map item_tree printed.now)) least.old least.new (action_of x)) }
 {
     let Ok(found) = items(alloc, scope, printed, least) else {
         return Err(AllocError);
     };
-    Ok(CheckedStatement::Print(found))
+    Ok(Action::Print(found))
 }
 
 fn print_return<'a>(
     alloc: Global,
     scope: &Scope<'_>,
-    printed: &[Item<'a>],
+    printed: &[PrintItem<'a>],
     least: &mut Option<Breach>,
-) -> Result<CheckedStatement<'a>, AllocError>
-    ensures { IfOk result (λ x. IsAction (look_in scope.now) (trees.print_return (map item_tree printed.now)) least.old least.new (action_of x)) }
+) -> Result<Action<'a>, AllocError>
+    ensures { (around : _) → IfOk result (λ x. IsAction (look_in scope.now) around (trees.print_return (map item_tree printed.now)) least.old least.new (action_of x)) }
 {
     let Ok(found) = items(alloc, scope, printed, least) else {
         return Err(AllocError);
     };
-    Ok(CheckedStatement::PrintReturn(found))
+    Ok(Action::PrintReturn(found))
 }
 
 fn return_value<'a>(
@@ -123,13 +124,13 @@ fn return_value<'a>(
     position: Position,
     e: &Expression<'_>,
     least: &mut Option<Breach>,
-) -> Result<CheckedStatement<'a>, AllocError>
-    ensures { IfOk result (λ x. IsAction (look_in scope.now) (trees.return_value position (expression_tree e.now)) least.old least.new (action_of x)) }
+) -> Result<Action<'a>, AllocError>
+    ensures { (around : _) → IfOk result (λ x. IsAction (look_in scope.now) around (trees.return_value position (expression_tree e.now)) least.old least.new (action_of x)) }
 {
     let Ok(value) = whole(alloc, scope, position, e, least) else {
         return Err(AllocError);
     };
-    Ok(CheckedStatement::ReturnValue(value))
+    Ok(Action::ReturnValue(value))
 }
 
 fn effect<'a>(
@@ -138,13 +139,13 @@ fn effect<'a>(
     position: Position,
     e: &Expression<'_>,
     least: &mut Option<Breach>,
-) -> Result<CheckedStatement<'a>, AllocError>
-    ensures { IfOk result (λ x. IsAction (look_in scope.now) (trees.effect position (expression_tree e.now)) least.old least.new (action_of x)) }
+) -> Result<Action<'a>, AllocError>
+    ensures { (around : _) → IfOk result (λ x. IsAction (look_in scope.now) around (trees.effect position (expression_tree e.now)) least.old least.new (action_of x)) }
 {
     let Ok(value) = whole(alloc, scope, position, e, least) else {
         return Err(AllocError);
     };
-    Ok(CheckedStatement::Effect(value))
+    Ok(Action::Effect(value))
 }
 
 /// Resolves the names of a statement, and notes the rules that it breaks.
@@ -156,32 +157,35 @@ fn effect<'a>(
 pub fn statement<'a>(
     alloc: Global,
     scope: &Scope<'_>,
+    around: Around,
     s: &Statement<'a>,
     least: &mut Option<Breach>,
-) -> Result<CheckedStatement<'a>, AllocError>
-    ensures { IfOk result (λ x. IsAction (look_in scope.now) (statement_tree s.now) least.old least.new (action_of x)) }
+) -> Result<Action<'a>, AllocError>
+    ensures { IfOk result (λ x. IsAction (look_in scope.now) around (statement_tree s.now) least.old least.new (action_of x)) }
 {
     match s {
-        Statement::Empty => Ok(CheckedStatement::Empty),
-        Statement::Block(all) => block(alloc, scope, all, least),
-        Statement::Text(text) => Ok(CheckedStatement::Text(text)),
+        Statement::Empty => Ok(Action::Empty),
+        Statement::Block(all) => block(alloc, scope, around, all, least),
+        Statement::Text(text) => Ok(Action::Text(text)),
         Statement::Print(all) => print(alloc, scope, all, least),
         Statement::PrintReturn(all) => print_return(alloc, scope, all, least),
-        Statement::NewLine => Ok(CheckedStatement::NewLine),
+        Statement::NewLine => Ok(Action::NewLine),
         Statement::If(position, condition, then) => {
-            if_then(alloc, scope, then, *position, condition, least)
+            if_then(alloc, scope, around, then, *position, condition, least)
         }
         Statement::IfElse(position, condition, then, otherwise) => {
-            if_else(alloc, scope, then, otherwise, *position, condition, least)
+            if_else(
+                alloc, scope, around, then, otherwise, *position, condition, least,
+            )
         }
         Statement::While(position, condition, body) => {
             while_do(alloc, scope, body, *position, condition, least)
         }
-        Statement::Return => Ok(CheckedStatement::ReturnValue(Evaluation::Number(1))),
+        Statement::Return => Ok(Action::ReturnValue(Value::Number(1))),
         Statement::ReturnValue(position, e) => return_value(alloc, scope, *position, e, least),
-        Statement::ReturnTrue => Ok(CheckedStatement::ReturnValue(Evaluation::Number(1))),
-        Statement::ReturnFalse => Ok(CheckedStatement::ReturnValue(Evaluation::Number(0))),
-        Statement::Quit => Ok(CheckedStatement::Quit),
+        Statement::ReturnTrue => Ok(Action::ReturnValue(Value::Number(1))),
+        Statement::ReturnFalse => Ok(Action::ReturnValue(Value::Number(0))),
+        Statement::Quit => Ok(Action::Quit),
         Statement::Effect(position, e) => effect(alloc, scope, *position, e, least),
     }
 }
@@ -191,12 +195,13 @@ pub fn statement<'a>(
 fn boxed<'a>(
     alloc: Global,
     scope: &Scope<'_>,
+    around: Around,
     s: &Box<Statement<'a>>,
     least: &mut Option<Breach>,
-) -> Result<Box<CheckedStatement<'a>>, AllocError>
-    ensures { IfOk result (λ x. IsAction (look_in scope.now) (statement_tree s.now.value) least.old least.new (action_of x.value)) }
+) -> Result<Box<Action<'a>>, AllocError>
+    ensures { IfOk result (λ x. IsAction (look_in scope.now) around (statement_tree s.now.value) least.old least.new (action_of x.value)) }
 {
-    let Ok(found) = statement(alloc, scope, s, least) else {
+    let Ok(found) = statement(alloc, scope, around, s, least) else {
         return Err(AllocError);
     };
     Ok(Box::new(alloc, found)?)
@@ -211,14 +216,15 @@ fn boxed<'a>(
 pub fn all_statements<'a>(
     alloc: Global,
     scope: &Scope<'_>,
+    around: Around,
     all: &[Statement<'a>],
     least: &mut Option<Breach>,
-) -> Result<Vec<CheckedStatement<'a>>, AllocError>
-    ensures { IfOk result (λ v. AreActions (look_in scope.now) all.now least.old least.new (map action_of v.items)) }
+) -> Result<Vec<Action<'a>>, AllocError>
+    ensures { IfOk result (λ v. AreActions (look_in scope.now) around all.now least.old least.new (map action_of v.items)) }
 {
     let mut found = Vec::new(alloc);
     for s in all {
-        let Ok(resolved) = statement(alloc, scope, s, least) else {
+        let Ok(resolved) = statement(alloc, scope, around, s, least) else {
             return Err(AllocError);
         };
         found.push(resolved)?;
@@ -230,62 +236,65 @@ pub fn all_statements<'a>(
 fn block<'a>(
     alloc: Global,
     scope: &Scope<'_>,
+    around: Around,
     all: &[Statement<'a>],
     least: &mut Option<Breach>,
-) -> Result<CheckedStatement<'a>, AllocError>
-    ensures { IfOk result (λ x. IsAction (look_in scope.now) (trees.block (trees_of (map statement_tree all.now))) least.old least.new (action_of x)) }
+) -> Result<Action<'a>, AllocError>
+    ensures { IfOk result (λ x. IsAction (look_in scope.now) around (trees.block (trees_of (map statement_tree all.now))) least.old least.new (action_of x)) }
 {
-    let Ok(found) = all_statements(alloc, scope, all, least) else {
+    let Ok(found) = all_statements(alloc, scope, around, all, least) else {
         return Err(AllocError);
     };
-    Ok(CheckedStatement::Block(found))
+    Ok(Action::Block(found))
 }
 
 #[cycle(statement)]
 fn if_then<'a>(
     alloc: Global,
     scope: &Scope<'_>,
+    around: Around,
     body: &Box<Statement<'a>>,
     position: Position,
     condition: &Expression<'_>,
     least: &mut Option<Breach>,
-) -> Result<CheckedStatement<'a>, AllocError>
-    ensures { IfOk result (λ x. IsAction (look_in scope.now) (trees.if_then position (expression_tree condition.now) (statement_tree body.now.value)) least.old least.new (action_of x)) }
+) -> Result<Action<'a>, AllocError>
+    ensures { IfOk result (λ x. IsAction (look_in scope.now) around (trees.if_then position (expression_tree condition.now) (statement_tree body.now.value)) least.old least.new (action_of x)) }
 {
     let Ok(condition) = whole(alloc, scope, position, condition, least) else {
         return Err(AllocError);
     };
-    let Ok(body) = boxed(alloc, scope, body, least) else {
+    let Ok(body) = boxed(alloc, scope, around, body, least) else {
         drop(condition);
         return Err(AllocError);
     };
-    Ok(CheckedStatement::If(condition, body))
+    Ok(Action::If(condition, body))
 }
 
 #[cycle(statement)]
 fn if_else<'a>(
     alloc: Global,
     scope: &Scope<'_>,
+    around: Around,
     first: &Box<Statement<'a>>,
     otherwise: &Box<Statement<'a>>,
     position: Position,
     condition: &Expression<'_>,
     least: &mut Option<Breach>,
-) -> Result<CheckedStatement<'a>, AllocError>
-    ensures { IfOk result (λ x. IsAction (look_in scope.now) (trees.if_else position (expression_tree condition.now) (statement_tree first.now.value) (statement_tree otherwise.now.value)) least.old least.new (action_of x)) }
+) -> Result<Action<'a>, AllocError>
+    ensures { IfOk result (λ x. IsAction (look_in scope.now) around (trees.if_else position (expression_tree condition.now) (statement_tree first.now.value) (statement_tree otherwise.now.value)) least.old least.new (action_of x)) }
 {
     let Ok(condition) = whole(alloc, scope, position, condition, least) else {
         return Err(AllocError);
     };
-    let Ok(first) = boxed(alloc, scope, first, least) else {
+    let Ok(first) = boxed(alloc, scope, around, first, least) else {
         drop(condition);
         return Err(AllocError);
     };
-    let Ok(otherwise) = boxed(alloc, scope, otherwise, least) else {
+    let Ok(otherwise) = boxed(alloc, scope, around, otherwise, least) else {
         drop(condition);
         return Err(AllocError);
     };
-    Ok(CheckedStatement::IfElse(condition, first, otherwise))
+    Ok(Action::IfElse(condition, first, otherwise))
 }
 
 #[cycle(statement)]
@@ -296,15 +305,15 @@ fn while_do<'a>(
     position: Position,
     condition: &Expression<'_>,
     least: &mut Option<Breach>,
-) -> Result<CheckedStatement<'a>, AllocError>
-    ensures { IfOk result (λ x. IsAction (look_in scope.now) (trees.while_do position (expression_tree condition.now) (statement_tree body.now.value)) least.old least.new (action_of x)) }
+) -> Result<Action<'a>, AllocError>
+    ensures { (around : _) → IfOk result (λ x. IsAction (look_in scope.now) around (trees.while_do position (expression_tree condition.now) (statement_tree body.now.value)) least.old least.new (action_of x)) }
 {
     let Ok(condition) = whole(alloc, scope, position, condition, least) else {
         return Err(AllocError);
     };
-    let Ok(body) = boxed(alloc, scope, body, least) else {
+    let Ok(body) = boxed(alloc, scope, IN_LOOP, body, least) else {
         drop(condition);
         return Err(AllocError);
     };
-    Ok(CheckedStatement::While(condition, body))
+    Ok(Action::While(condition, body))
 }

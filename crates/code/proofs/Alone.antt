@@ -1,5 +1,6 @@
 -- Items of one instruction: where it stands, its operand, and the word that it gives.
-use Rattle.std.proofs.Common.{◌≡◌, ℕ, ◌+◌, ◌≤◌, List, [], ◌∷◌, ◌++◌, length, Some, None, refl, ap, ◌∙◌, subst, arith, append-nil}
+use Rattle.std.proofs.Common.{◌≡◌, ℕ, ◌+◌, ◌≤◌, List, [], ◌∷◌, ◌++◌, length, Some, None, refl, ap, ◌∙◌, subst, arith}
+use Rattle.std.proofs.Common.{append-nil}
 use Rattle.std.specs.List.{flat_map}
 use Rattle.zcore.specs.declared.instruction.Operand.{Operand}
 use Rattle.zcore.specs.declared.instruction.Operation.{Operation}
@@ -7,7 +8,7 @@ use Rattle.zcore.specs.declared.next.Next.{Next}
 use Rattle.zcore.specs.Instruction.{Instruction, bytes_of}
 use Rattle.zcore.specs.State.{State, done}
 use Rattle.zcore.specs.Parts.{operand_value, operand_values}
-use Rattle.zcore.specs.Step.{give_result, perform}
+use Rattle.zcore.specs.Execution.{give_result, perform}
 use Rattle.checker.specs.World.{Situation, value_in}
 use Rattle.checker.specs.Meaning.{routine_at}
 use Rattle.items.specs.Items.{Item, Destination}
@@ -22,7 +23,8 @@ use Rattle.code.proofs.Parts.{machine as at_words}
 use Rattle.code.proofs.Steps.{point, leads_then, one_step, top_value, variable_value}
 use Rattle.code.proofs.Fitting.{Shaped}
 use Rattle.code.proofs.ItemOperands.{constant_value}
-use Rattle.code.proofs.Arriving.{Running, at, around, here, LedFrom, Stands, code_here, bytes_here, code_held, situation_here}
+use Rattle.code.proofs.Arriving.{Running, at, around, here, LedFrom, Stands, code_here, bytes_here, code_held}
+use Rattle.code.proofs.Arriving.{situation_here}
 use Rattle.code.proofs.Variables.{variable_held}
 use Rattle.code.proofs.Temporaries.{Scratch, made}
 use Rattle.code.proofs.Delivering.{memory_after, locals_after, stack_after, delivered_led, given}
@@ -42,7 +44,8 @@ by_operand items.pushed s (v ∷ words) P k lacks f = f v words refl
 by_operand (items.number n) s words P k lacks f = f n words (refl, refl)
 by_operand (items.variable x) s words P k lacks f = f (value_in x s) words (refl, refl)
 
-pub alone_count : (o : items.Operand) (s : Situation) (words : List ℕ) (v : ℕ) (rest : List ℕ) → Alone o s words v rest
+pub alone_count : (o : items.Operand) (s : Situation) (words : List ℕ) (v : ℕ) (rest : List ℕ)
+    → Alone o s words v rest
     → length rest ≤ length words
 alone_count items.pushed s words v rest h = let n = ap length h in omega (arith, n)
 alone_count (items.number n) s words v rest h = let n = ap length h.1 in omega (arith, n)
@@ -95,7 +98,10 @@ module _ (c : Running) where
       let same : flat_map bytes_of (code_here c item) ≡ bytes_of i =
       ap (flat_map bytes_of) is ∙ append-nil (bytes_of i) in
       let size = plain_length item none ∙ ap length same in
-      record { held = subst (Holds m (here c)) same (code_held c item stands); end = omega (arith, stands.next, size) }
+      record {
+        held = subst (Holds m (here c)) same (code_held c item stands);
+        end = omega (arith, stands.next, size);
+      }
 
   -- an instruction gives a word, which goes to its destination
   pub gives_led : (op : Operation) (os : List Operand) (d : Destination) (w q : ℕ)

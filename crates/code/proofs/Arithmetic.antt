@@ -1,5 +1,6 @@
 -- Items that operate on words, without a fault.
-use Rattle.std.proofs.Common.{◌≡◌, ◌≢◌, ℕ, ◌-◌, ◌%◌, ◌≤◌, List, [], ◌∷◌, ◌++◌, length, Some, None, true, refl, sym, ap, subst, arith}
+use Rattle.std.proofs.Common.{◌≡◌, ◌≢◌, ℕ, ◌-◌, ◌%◌, ◌≤◌, List, [], ◌∷◌, ◌++◌, length, Some, None, true, refl, sym}
+use Rattle.std.proofs.Common.{ap, subst, arith}
 use Rattle.std.specs.List.{All, flat_map}
 use Rattle.std.proofs.lemmas.List.Elements.{All-cons, All-nil}
 use Rattle.zcore.specs.declared.instruction.Operand.{Operand}
@@ -10,7 +11,7 @@ use Rattle.zcore.specs.declared.next.Next.{Next}
 use Rattle.zcore.specs.Operations.{least_operands, most_operands, has_result, has_branch}
 use Rattle.zcore.specs.Instruction.{Instruction, FitsBranch, FitsResult, bytes_of}
 use Rattle.zcore.specs.State.{State}
-use Rattle.zcore.specs.Step.{give_result, perform}
+use Rattle.zcore.specs.Execution.{give_result, perform}
 use Rattle.expressions.specs.declared.tree.Prefix.{Prefix}
 use Rattle.expressions.specs.declared.tree.Prefix.TheVariants as prefixes
 use Rattle.checker.specs.Meaning.{with_prefix}
@@ -24,13 +25,15 @@ use Rattle.code.proofs.Play.{stays}
 use Rattle.code.proofs.Parts.{machine as at_words}
 use Rattle.code.proofs.Steps.{point, first_held, one_operand, two_operands, small_value}
 use Rattle.code.proofs.Fitting.{Shaped}
-use Rattle.code.proofs.ItemOperands.{Gives, with_first, by_operands, gives_count, gives_length, few_pushed, operands_length}
+use Rattle.code.proofs.ItemOperands.{Gives, with_first, by_operands, gives_count, gives_length, few_pushed}
+use Rattle.code.proofs.ItemOperands.{operands_length}
 use Rattle.code.proofs.Lengths.{one_length}
 use Rattle.code.proofs.Arriving.{Running, at, around, here, LedFrom, Stands, code_here, code_held, situation_here}
 use Rattle.code.proofs.Temporaries.{scratch_here}
 use Rattle.code.proofs.Taking.{after_takes, taken, apart}
 use Rattle.code.proofs.Delivering.{result_small}
-use Rattle.code.proofs.Alone.{by_operand, alone_count, alone_value, IsOperandHere, IsHere, plain_length, single, gives_led}
+use Rattle.code.proofs.Alone.{by_operand, alone_count, alone_value, IsOperandHere, IsHere, plain_length, single}
+use Rattle.code.proofs.Alone.{gives_led}
 
 -- what is done with two words
 abbrev pub of_two : (ℕ → ℕ → List ℕ → stack.Next) → List ℕ → List ℕ → stack.Next
@@ -94,7 +97,8 @@ module _ (c : Running) where
   pair_here x y is is_y =
       All-cons (IsOperandHere c) x (y ∷ []) is (All-cons (IsOperandHere c) y [] is_y (All-nil (IsOperandHere c)))
 
-  pub reckons_led : (item : Item) (op : Operation) (f : ℕ → ℕ → ℕ) (x y : items.Operand) (d : Destination) (s : List ℕ)
+  pub reckons_led : (item : Item) (op : Operation) (f : ℕ → ℕ → ℕ) (x y : items.Operand) (d : Destination)
+      (s : List ℕ)
       → IsOperandHere c x → IsOperandHere c y → IsHere c d → length s ≤ 48 → Stands c item
       → code_here c item ≡ takes (x ∷ y ∷ []) ++ giving op (operands (x ∷ y ∷ [])) (result_in d) ∷ []
       → text_bytes item ≡ []

@@ -1,5 +1,6 @@
 -- What holds of a running routine of a program that stands in a story, and how an item leads to the next.
-use Rattle.std.proofs.Common.{◌≡◌, ℕ, zero, suc, ◌+◌, ◌-◌, ◌*◌, ◌^◌, ◌<◌, ◌≤◌, List, [], ◌∷◌, length, drop, slice_index, Bool, true, false, refl, sym, ap, ◌∙◌, subst, arith}
+use Rattle.std.proofs.Common.{◌≡◌, ℕ, zero, suc, ◌+◌, ◌-◌, ◌*◌, ◌^◌, ◌<◌, ◌≤◌, List, [], ◌∷◌, length, drop}
+use Rattle.std.proofs.Common.{slice_index, Bool, true, false, refl, sym, ap, ◌∙◌, subst, arith}
 use Rattle.std.specs.Prelude.{nat_le, nat_eq, if◌then◌else◌, slice_index_or}
 use Rattle.std.specs.List.{All, flat_map}
 use Rattle.std.proofs.lemmas.Bool.{leb-true}
@@ -20,8 +21,9 @@ use Rattle.code.proofs.Behind.{Holds}
 use Rattle.code.specs.Addresses.{Addresses}
 use Rattle.code.specs.Instructions.{item_code}
 use Rattle.code.specs.Bytes.{text_bytes, item_bytes, place_of, offset_of}
-use Rattle.code.specs.Standing.{HoldsProgram}
-use Rattle.code.proofs.Play.{Leads, Stored, items_in, address, frames_of, back_of, result_of, state_of, next_of, IsCaller, Good, Led, other_counts}
+use Rattle.code.specs.HeldProgram.{HoldsProgram}
+use Rattle.code.proofs.Play.{Leads, Stored, items_in, address, frames_of, back_of, result_of, state_of, next_of}
+use Rattle.code.proofs.Play.{IsCaller, Good, Led, other_counts}
 use Rattle.code.proofs.Memory.{Ground}
 use Rattle.code.proofs.Parts.{Around, machine as at_words}
 use Rattle.code.proofs.Places.{ends_by}

@@ -11,9 +11,15 @@ use Rattle.checker.specs.Resolved.{Value, Values, none, more}
 use Rattle.checker.specs.Resolved as source
 use Rattle.checker.specs.Meaning.{is_true}
 use Rattle.checker.specs.Accepted.{count_of}
-use Rattle.items.specs.Items.{Item, Operand, pushed, number, variable, Destination, push, into, nowhere, operand_of, operands_of, alone, left_of, if_pushed, branch_true, agrees, is_few, comparison_test, comparison_when, equality_when, value_count, operand_count, operands_count, branch_count, many_count, moved, truth_items, after_items, kept_items, and_items, or_items, value_items, operands_items, branch_items, many_items, also_items}
+use Rattle.items.specs.Items.{Item, Operand, pushed, number, variable, Destination, push, into, nowhere, operand_of}
+use Rattle.items.specs.Items.{operands_of, alone, left_of, if_pushed, branch_true, agrees, is_few, comparison_test}
+use Rattle.items.specs.Items.{comparison_when, equality_when, value_count, operand_count, operands_count}
+use Rattle.items.specs.Items.{branch_count, many_count, moved, truth_items, after_items, kept_items, and_items}
+use Rattle.items.specs.Items.{or_items, value_items, operands_items, branch_items, many_items, also_items}
 use Rattle.items.specs.Items as items
-use Rattle.code.proofs.Most.{most_of, tokens, list_tokens, alternative_tokens, or_tokens, most_append, if_small, moved_small, after_small, kept_small, truth_small, either_small, operands_length, alternatives_are}
+use Rattle.code.proofs.Most.{most_of, tokens, list_tokens, alternative_tokens, or_tokens, most_append, if_small}
+use Rattle.code.proofs.Most.{moved_small, after_small, kept_small, truth_small, either_small, operands_length}
+use Rattle.code.proofs.Most.{alternatives_are}
 
 pub record Small (v : Value) : Type 0 where
   pub value : (d : Destination) (at : ℕ) → most_of (value_items at v d) + 20 ≤ 32 * tokens v
@@ -37,7 +43,8 @@ two_small oa ob xa xb tail na nb ha hb =
 
 prefixed_small : (op : Prefix) (v : Value) → Small v → Small (source.prefixed op v)
 prefixed_small prefixes.Not v s = record {
-  value = λ d at. let h = truth_small at (branch_count v false) d (λ t. branch_items at v false t) (32 * tokens v - 20)
+  value = λ d at. let h = truth_small at (branch_count v false) d (λ t. branch_items at v false t)
+      (32 * tokens v - 20)
       (λ t. omega (arith, s.branch false at t)) in omega (arith, h, s.branch false at 0);
   branch = λ when at t. omega (arith, s.branch (not when) at t);
 }
@@ -131,7 +138,8 @@ compare_small op a b sa sb =
     λ when at t. omega (
       arith,
       two_small (left_of a b) (alone b) _ _ (items.branch (comparison_test op) (left_of a b ∷ alone b ∷ [])
-          (comparison_when op when) t ∷ []) _ _ (sa.value push at) (sb.value push (at + operand_count a (left_of a b))),
+          (comparison_when op when) t ∷ []) _ _ (sa.value push at)
+          (sb.value push (at + operand_count a (left_of a b))),
     ) in
     record {
       value = λ d at. let h = truth_small at (operand_count a (left_of a b) + operand_count b (alone b) + 1) d

@@ -1,5 +1,6 @@
 -- The branches of a routine.
-use Rattle.std.proofs.Common.{◌≡◌, ℕ, ◌+◌, ◌-◌, ◌<◌, ◌≤◌, List, [], length, Bool, true, false, refl, sym, ap, ◌∙◌, subst, arith}
+use Rattle.std.proofs.Common.{◌≡◌, ℕ, ◌+◌, ◌-◌, ◌<◌, ◌≤◌, List, [], length, Bool, true, false, refl, sym, ap, ◌∙◌}
+use Rattle.std.proofs.Common.{subst, arith}
 use Rattle.std.specs.Prelude.{nat_lt, if◌then◌else◌}
 use Rattle.std.specs.List.{All, flat_map}
 use Rattle.std.proofs.lemmas.Bool.{ltb-true}
@@ -18,10 +19,12 @@ use Rattle.code.proofs.Play.{Leads, address}
 use Rattle.code.proofs.Parts.{machine as at_words}
 use Rattle.code.proofs.Steps.{point, leads_then, landing}
 use Rattle.code.proofs.Fitting.{held_bytes}
-use Rattle.code.proofs.ItemOperands.{Gives, with_first, by_operands, gives_count, gives_length, few_pushed, operands_length}
+use Rattle.code.proofs.ItemOperands.{Gives, with_first, by_operands, gives_count, gives_length, few_pushed}
+use Rattle.code.proofs.ItemOperands.{operands_length}
 use Rattle.code.proofs.Labels.{Branching, label_leads}
 use Rattle.code.proofs.Places.{rises, ends_by}
-use Rattle.code.proofs.Arriving.{Running, at, around, here, high, above, kept, LedFrom, Stands, code_here, code_held, arrives_on, situation_here}
+use Rattle.code.proofs.Arriving.{Running, at, around, here, high, above, kept, LedFrom, Stands, code_here, code_held}
+use Rattle.code.proofs.Arriving.{arrives_on, situation_here}
 use Rattle.code.proofs.Temporaries.{held_in}
 use Rattle.code.proofs.Taking.{after_takes, Taken, taken, Apart, apart}
 use Rattle.code.proofs.Alone.{IsOperandHere, next_place, plain_length}
@@ -71,7 +74,8 @@ module _ (c : Running) where
 
       fit : All FitsOperand (operands os)
       fit = labelled_fit op (operands os) when (2 + d)
-          (held_bytes _ q story m (flat_map bytes_of (labelled op (operands os) when (2 + d))) holds.byte_each (kept c)
+          (held_bytes _ q story m (flat_map bytes_of (labelled op (operands os) when (2 + d))) holds.byte_each
+          (kept c)
           (omega (arith, high c)) parts.others)
 
       branching_is : Branching (around c) t.memory locals (with_first os vs rest) rest world.text op (operands os)
@@ -128,7 +132,8 @@ module _ (c : Running) where
       passes : Leads (point (here c) world.fuel) (at_words (around c) m locals words world.text)
           (point (next_place c) world.fuel) (at_words (around c) t.memory locals rest world.text)
           → LedFrom c words (stack.goes (stack.after (at c words) rest (situation_here c)))
-      passes l = arrives_on c words rest t.memory (situation_here c) (next_place c) refl left t.scratch.stored refl refl
+      passes l = arrives_on c words rest t.memory (situation_here c) (next_place c) refl left t.scratch.stored refl
+          refl
           l
 
       jumps : (b : Bool) → nat_lt place target ≡ b

@@ -1,5 +1,6 @@
 -- Calls and returns.
-use Rattle.std.proofs.Common.{◌≡◌, ℕ, ◌+◌, ◌<◌, ◌≤◌, List, [], ◌∷◌, ◌++◌, length, slice_index, Some, None, Bool, true, false, refl, sym, ap, ◌∙◌, subst, arith}
+use Rattle.std.proofs.Common.{◌≡◌, ℕ, ◌+◌, ◌<◌, ◌≤◌, List, [], ◌∷◌, ◌++◌, length, slice_index, Some, None, Bool, true}
+use Rattle.std.proofs.Common.{false, refl, sym, ap, ◌∙◌, subst, arith}
 use Rattle.std.specs.Prelude.{nat_le, if◌then◌else◌, ◌==◌}
 use Rattle.std.specs.List.{All, flat_map}
 use Rattle.std.proofs.lemmas.Bool.{leb-true, eqb-true}
@@ -11,7 +12,7 @@ use Rattle.zcore.specs.declared.instruction.Operation.TheVariants as operations
 use Rattle.zcore.specs.declared.next.Next.{Next}
 use Rattle.zcore.specs.Instruction.{Instruction, bytes_of}
 use Rattle.zcore.specs.State.{State}
-use Rattle.zcore.specs.Step.{step, perform, call_packed}
+use Rattle.zcore.specs.Execution.{step, perform, call_packed}
 use Rattle.checker.specs.Resolved.{ProgramOf}
 use Rattle.checker.specs.World.{World}
 use Rattle.items.specs.Items.{Item, Destination}
@@ -20,12 +21,14 @@ use Rattle.items.specs.Stack.{Caller}
 use Rattle.items.specs.Stack as stack
 use Rattle.code.proofs.Behind.{Holds}
 use Rattle.code.specs.Addresses.{Addresses}
-use Rattle.code.specs.Instructions.{number_of, operands, takes, call_operation, call_result, calling, call_code, most_arguments}
+use Rattle.code.specs.Instructions.{number_of, operands, takes, call_operation, call_result, calling, call_code}
+use Rattle.code.specs.Instructions.{most_arguments}
 use Rattle.code.proofs.Play.{Leads, next_of, state_of, IsCaller, Led}
 use Rattle.code.proofs.Parts.{machine as at_words}
 use Rattle.code.proofs.Steps.{point, leads_then, first_held, large_value}
 use Rattle.code.proofs.Fitting.{Shaped}
-use Rattle.code.proofs.ItemOperands.{Gives, with_first, values_then, by_operands, gives_count, gives_length, few_pushed, operands_length}
+use Rattle.code.proofs.ItemOperands.{Gives, with_first, values_then, by_operands, gives_count, gives_length}
+use Rattle.code.proofs.ItemOperands.{few_pushed, operands_length}
 use Rattle.code.proofs.Ends.{does_after}
 use Rattle.code.proofs.Lengths.{one_length}
 use Rattle.code.proofs.Entering.{enter_led}
@@ -104,7 +107,12 @@ call_storing routine os vs v small same most false true e f = (
   λ before after s. refl,
 )
 call_storing routine os vs v small same most false false e f = (
-  record { least = omega arith; most = omega (arith, most, operands_length os); result_fits = small; branch_fits = tt },
+  record {
+    least = omega arith;
+    most = omega (arith, most, operands_length os);
+    result_fits = small;
+    branch_fits = tt;
+  },
   λ before after s. refl,
 )
 
@@ -222,12 +230,15 @@ module _ (c : Running) where
         one_length i,
       )
 
-      called : step (point q world.fuel) st ≡ call_packed (point q world.fuel) (next_place c) (call_result d) packed vs
+      called : step (point q world.fuel) st ≡ call_packed (point q world.fuel) (next_place c) (call_result d) packed
+          vs
           after
       called =
-          made c t.memory (with_first os vs rest) rest world.text q i (packed ∷ vs) t.scratch (omega arith) kinds.shaped
+          made c t.memory (with_first os vs rest) rest world.text q i (packed ∷ vs) t.scratch (omega arith)
+          kinds.shaped
           (first_held m q i [] parts.others)
-          (values_then st st after (Large packed) (operands os) packed vs (large_value st packed) (t.values world.text))
+          (values_then st st after (Large packed) (operands os) packed vs (large_value st packed)
+          (t.values world.text))
           ∙ kinds.performs (point q world.fuel) (q + length (bytes_of i)) after
           ∙ ap (λ (x : ℕ). call_packed (point q world.fuel) x (call_result d) packed vs after) behind
 

@@ -7,7 +7,8 @@ use Rattle.zcore.specs.Instruction.{Instruction, opcode_bytes, operand_bytes, re
 
 pub instruction_joined : (i : Instruction) (b b1 b2 b3 b4 : List ℕ)
     → b1 ≡ b ++ opcode_bytes (count_of i.operation) (number_of i.operation) (has_more_types i.operation) i.operands
-    → b2 ≡ b1 ++ flat_map operand_bytes i.operands → b3 ≡ b2 ++ result_bytes i.result → b4 ≡ b3 ++ branch_bytes i.branch
+    → b2 ≡ b1 ++ flat_map operand_bytes i.operands → b3 ≡ b2 ++ result_bytes i.result
+    → b4 ≡ b3 ++ branch_bytes i.branch
     → b4 ≡ b ++ bytes_of i
 unfolding bytes_of
 instruction_joined i b b1 b2 b3 b4 e1 e2 e3 e4 =
@@ -21,7 +22,8 @@ all_append (x ∷ xs) ys =
     ap (λ z. bytes_of x ++ z) (all_append xs ys) ∙ sym (append_assoc (bytes_of x) (bytes_of_all xs) (bytes_of_all ys))
 
 -- two lists of instructions
-pub all_joined : (xs ys : List Instruction) (b b1 b2 : List ℕ) → b1 ≡ b ++ bytes_of_all xs → b2 ≡ b1 ++ bytes_of_all ys
+pub all_joined : (xs ys : List Instruction) (b b1 b2 : List ℕ) → b1 ≡ b ++ bytes_of_all xs
+    → b2 ≡ b1 ++ bytes_of_all ys
     → b2 ≡ b ++ bytes_of_all (xs ++ ys)
 all_joined xs ys b b1 b2 e1 e2 = e2 ∙ ap (λ z. z ++ bytes_of_all ys) e1
     ∙ append_assoc b (bytes_of_all xs) (bytes_of_all ys) ∙ ap (λ z. b ++ z) (sym (all_append xs ys))

@@ -3,7 +3,7 @@ use Rattle.std.proofs.Common.{◌≡◌, ◌⊎◌, inl, inr, ℕ, ◌<◌, ◌�
 use Rattle.std.specs.Prelude.{nat_lt, nat_le, nat_eq, not, ◌||◌, ◌&&◌}
 use Rattle.std.proofs.lemmas.Bool.{cases_lt, lt-ltb, le-ltb, le-leb, lt-leb}
 use Rattle.zcore.specs.Arithmetic.{signed_less}
-use Rattle.zcore.specs.Step.{equals_any}
+use Rattle.zcore.specs.Execution.{equals_any}
 use Rattle.checker.specs.Meaning.{is_character}
 
 either_same : (x y z w : Bool) → z ≡ w → (x || y || z) ≡ ((x || (y || false)) || w)
@@ -42,4 +42,5 @@ pub character_tests : (v : ℕ) → is_character v
     ≡ (equals_any v (0 ∷ 13 ∷ []) || (not (signed_less v 32) && not (signed_less 126 v)))
 character_tests v =
     either_same (nat_eq v 0) (nat_eq v 13) (nat_le 32 v && nat_le v 126)
-    (not (signed_less v 32) && not (signed_less 126 v)) (by_order v (cases_lt v 32) (cases_lt 126 v) (cases_lt v 32768))
+    (not (signed_less v 32) && not (signed_less 126 v))
+    (by_order v (cases_lt v 32) (cases_lt 126 v) (cases_lt v 32768))

@@ -1,5 +1,6 @@
 -- The item that prints a character, with its fault.
-use Rattle.std.proofs.Common.{◌≡◌, ℕ, ◌+◌, ◌<◌, ◌≤◌, List, [], ◌∷◌, ◌++◌, codes, length, Some, None, Bool, true, false, refl, sym, ◌∙◌, subst, arith}
+use Rattle.std.proofs.Common.{◌≡◌, ℕ, ◌+◌, ◌<◌, ◌≤◌, List, [], ◌∷◌, ◌++◌, codes, length, Some, None, Bool, true}
+use Rattle.std.proofs.Common.{false, refl, sym, ◌∙◌, subst, arith}
 use Rattle.std.specs.Prelude.{if◌then◌else◌, not, ◌||◌, ◌&&◌}
 use Rattle.std.specs.List.{flat_map}
 use Rattle.std.proofs.lemmas.List.{append-nil}
@@ -12,7 +13,7 @@ use Rattle.zcore.specs.Arithmetic.{signed_less}
 use Rattle.zcore.specs.Instruction.{Instruction, bytes_of}
 use Rattle.zcore.specs.State.{State, done}
 use Rattle.zcore.specs.Parts.{operand_value, operand_values, branch_on, transcribed}
-use Rattle.zcore.specs.Step.{perform, step, equals_any, print_character}
+use Rattle.zcore.specs.Execution.{perform, step, equals_any, print_character}
 use Rattle.checker.specs.World.{put, value_in}
 use Rattle.checker.specs.World as source
 use Rattle.checker.specs.Meaning.{is_character, put_character}
@@ -23,16 +24,19 @@ use Rattle.code.specs.Instructions.{plain, branching, number_of, pull, fail, in_
 use Rattle.code.proofs.Play.{Leads, stays, moves}
 use Rattle.code.proofs.Memory.{with_variable}
 use Rattle.code.proofs.Parts.{machine as at_words, Reads}
-use Rattle.code.proofs.Steps.{point, leads_then, one_step, first_held, others_held, one_operand, two_operands, three_operands, small_value, variable_value, landing}
+use Rattle.code.proofs.Steps.{point, leads_then, one_step, first_held, others_held, one_operand, two_operands}
+use Rattle.code.proofs.Steps.{three_operands, small_value, variable_value, landing}
 use Rattle.code.proofs.SingleSteps.{branch_step}
 use Rattle.code.proofs.Fitting.{Shaped, held_bytes, encodable}
 use Rattle.code.proofs.Ends.{prints_on, prints_off}
 use Rattle.code.proofs.ItemOperands.{constant_value}
 use Rattle.code.proofs.Texts.{character_line}
 use Rattle.code.proofs.Lengths.{one_length}
-use Rattle.code.proofs.Arriving.{Running, at, around, here, high, above, kept, LedFrom, Stands, code_held, situation_here}
+use Rattle.code.proofs.Arriving.{Running, at, around, here, high, above, kept, LedFrom, Stands, code_held}
+use Rattle.code.proofs.Arriving.{situation_here}
 use Rattle.code.proofs.Variables.{variable_held}
-use Rattle.code.proofs.Temporaries.{Scratch, scratch_here, scratch_with, reads_written, held_in, made, pull_temporary, others_held_pull}
+use Rattle.code.proofs.Temporaries.{Scratch, scratch_here, scratch_with, reads_written, held_in, made, pull_temporary}
+use Rattle.code.proofs.Temporaries.{others_held_pull}
 use Rattle.code.proofs.Alone.{IsOperandHere, next_place, plain_length}
 use Rattle.code.proofs.ItemsThatPrint.{printed_led, fails_led}
 use Rattle.code.proofs.CharacterTests.{character_tests}
@@ -158,7 +162,8 @@ module _ (c : Running) where
         record { least = omega arith; most = omega arith; result_fits = tt; branch_fits = omega arith } in
         let room : q + 18 < length m = omega (arith, end, parts.size, followed) in
         leads_then (point (here c) world.fuel) (point q world.fuel)
-        (point (if is_character v then q + 18 else q + 14) world.fuel) (at_words (around c) m locals before world.text)
+        (point (if is_character v then q + 18 else q + 14) world.fuel)
+        (at_words (around c) m locals before world.text)
         st st leads
         (subst (λ b. Leads (point q world.fuel) st (point (if b then q + 18 else q + 14) world.fuel) st)
         (sym (character_tests v))
@@ -172,13 +177,15 @@ module _ (c : Running) where
         (q + 6) 4 low_shaped
         (two_operands st st st (Variable variable) (Small 32) v 32 value (small_value st 32))
         (λ here after st. refl) (omega arith) (omega arith) (omega arith) (omega (arith, room)) parts.low)
-        (one_test operations.JumpIfGreater (Variable variable ∷ Small 126 ∷ []) (v ∷ 126 ∷ []) false (signed_less 126 v)
+        (one_test operations.JumpIfGreater (Variable variable ∷ Small 126 ∷ []) (v ∷ 126 ∷ []) false
+        (signed_less 126 v)
         (q + 6 + 4) 4 high_shaped
         (two_operands st st st (Variable variable) (Small 126) v 126 value (small_value st 126))
         (λ here after st. refl) (omega arith) (omega arith) (omega arith) (omega (arith, room)) parts.high)))
 
     by_test : (b : Bool) → is_character v ≡ b
-        → LedFrom c before (stack.prints (if b then put (transcribed v) else source.fault (codes "not a character")) mid
+        → LedFrom c before
+        (stack.prints (if b then put (transcribed v) else source.fault (codes "not a character")) mid
         (at c before))
     unfolding bytes_of perform print_character
     by_test true e =
@@ -188,9 +195,11 @@ module _ (c : Running) where
         parts.print (one_operand st st (Variable variable) v value) in
         let there = subst (λ b. Leads (point (here c) world.fuel) (at_words (around c) m locals before world.text)
         (point (if b then q + 18 else q + 14) world.fuel) st) e tested in
-        printed_led c before mid mid other (transcribed v) (q + 18) (q + 18 + 3) (omega (arith, end, parts.size)) short
+        printed_led c before mid mid other (transcribed v) (q + 18) (q + 18 + 3) (omega (arith, end, parts.size))
+        short
         scratch there
-        (λ room. makes ∙ rw e (prints_on (around c) other locals mid world.text (point (q + 18) world.fuel) (q + 18 + 3)
+        (λ room. makes
+        ∙ rw e (prints_on (around c) other locals mid world.text (point (q + 18) world.fuel) (q + 18 + 3)
         (v ∷ []) (transcribed v) (append-nil (transcribed v)) room))
         (λ room. makes ∙ rw e (prints_off (around c) other locals mid world.text (point (q + 18) world.fuel)
         (q + 18 + 3) (v ∷ []) (transcribed v) (append-nil (transcribed v)) room))
@@ -226,13 +235,15 @@ module _ (c : Running) where
       (transcribed n) (append-nil (transcribed n)) room))
   number_led false n s e short h end =
       fails_led c (codes "not a character") a.not_a_character (here c) s s m
-      (λ _ situation. stack.goes (stack.after (at c s) s situation)) character_line holds.not_a_character (omega arith)
+      (λ _ situation. stack.goes (stack.after (at c s) s situation)) character_line holds.not_a_character
+      (omega arith)
       (scratch_here c) h
       (stays (point (here c) world.fuel) (at_words (around c) m locals s world.text))
 
   pub print_character_led : (o : items.Operand) (s : List ℕ) → IsOperandHere c o → length s ≤ 48
       → Stands c (items.print_character o)
-      → LedFrom c s (stack.with_operand o (situation_here c) s (λ v rest. stack.prints (put_character v) rest (at c s)))
+      → LedFrom c s
+      (stack.with_operand o (situation_here c) s (λ v rest. stack.prints (put_character v) rest (at c s)))
   unfolding bytes_of
   print_character_led items.pushed [] is short stands = tt
   print_character_led items.pushed (v ∷ s) is short stands =
@@ -256,6 +267,7 @@ module _ (c : Running) where
       let size = plain_length c (items.print_character (items.variable x)) refl in
       by_test (number_of x) (value_in x (situation_here c)) (here c) s s m (scratch_here c) (omega arith) short
       (variable_held c m x (scratch_here c) is).reads
-      (code_held c (items.print_character (items.variable x)) stands) (omega (arith, stands.next, size)) stands.followed
+      (code_held c (items.print_character (items.variable x)) stands) (omega (arith, stands.next, size))
+      stands.followed
       (stays (point (here c) world.fuel) (at_words (around c) m locals s world.text))
       (is_character (value_in x (situation_here c))) refl

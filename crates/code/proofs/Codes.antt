@@ -1,5 +1,7 @@
 -- The code of a routine from its items.
-use Rattle.std.proofs.Common.{◌≡◌, ℕ, suc, ◌+◌, ◌-◌, ◌*◌, ◌%◌, ◌<◌, ◌≤◌, List, [], ◌∷◌, ◌++◌, length, drop, reverse, slice_index, slice_index_or, Option, Some, None, refl, sym, ap, ◌∙◌, arith, append_assoc, length-append}
+use Rattle.std.proofs.Common.{◌≡◌, ℕ, suc, ◌+◌, ◌-◌, ◌*◌, ◌%◌, ◌<◌, ◌≤◌, List, [], ◌∷◌, ◌++◌, length, drop, reverse}
+use Rattle.std.proofs.Common.{slice_index, slice_index_or, Option, Some, None, refl, sym, ap, ◌∙◌, arith}
+use Rattle.std.proofs.Common.{append_assoc, length-append}
 use Rattle.std.specs.Prelude.{map}
 use Rattle.std.proofs.Math.Seq.{drop-cons}
 use Rattle.std.proofs.lemmas.List.{reverse-reverse, drop_all}
@@ -13,7 +15,8 @@ use Rattle.items.specs.Items.{Item}
 use Rattle.items.specs.Items as items
 use Rattle.items.specs.Code.{item_of, items_of}
 use Rattle.code.specs.Addresses.{Addresses}
-use Rattle.code.specs.Bytes.{item_bytes, no_addresses, target_of, least_size, label_size, part_of, parts_of, lefts_of, place_of, offset_of, items_bytes, code_bytes, code_size}
+use Rattle.code.specs.Bytes.{item_bytes, no_addresses, target_of, least_size, label_size, part_of, parts_of, lefts_of}
+use Rattle.code.specs.Bytes.{place_of, offset_of, items_bytes, code_bytes, code_size}
 use Rattle.code.specs.Written.{CodeOf, place_in, branch_offsets}
 use Rattle.forms.proofs.Offsets.{left_length}
 use Rattle.code.proofs.Places.{branch_offset, ends_at}
@@ -66,7 +69,8 @@ part_next b b1 ps ps1 xs i x item size target total sum h is all long more to si
     let part : record { size = size; target = target } ≡ part_of item =
     ap (λ (n : ℕ). record { size = n; target = target }) same_size
     ∙ ap (λ (t : Option ℕ). record { size = (part_of item).size; target = t }) to in (
-      ap (λ l. l ++ parts_of rest) last ∙ append_assoc ps (record { size = size; target = target } ∷ []) (parts_of rest)
+      ap (λ l. l ++ parts_of rest) last ∙ append_assoc ps (record { size = size; target = target } ∷ [])
+          (parts_of rest)
           ∙ ap (λ (q : Part). ps ++ q ∷ parts_of rest) part ∙ ap (λ l. ps ++ parts_of l) (sym whole) ∙ all,
       omega (arith, long, longer, ap least_sum whole),
     )

@@ -1,8 +1,8 @@
 -- Words that items give go to their destinations.
 use Rattle.std.proofs.Common.{◌≡◌, ℕ, ◌+◌, ◌<◌, ◌≤◌, List, ◌∷◌, length, Some, refl, arith}
 use Rattle.zcore.specs.State.{done}
-use Rattle.zcore.specs.Step.{give_result, step, perform}
-use Rattle.zcore.specs.Step as machine
+use Rattle.zcore.specs.Execution.{give_result, step, perform}
+use Rattle.zcore.specs.Execution as machine
 use Rattle.checker.specs.declared.resolved.Variable.{Variable}
 use Rattle.checker.specs.declared.resolved.Variable.TheVariants as variables
 use Rattle.checker.specs.World.{with_value}
@@ -67,7 +67,8 @@ module _ (c : Running) where
   delivered_led (items.into (variables.Global g)) word end before rest other is scratch room next leads =
       let held = variable_held c other (variables.Global g) scratch is in
       arrives_on c before rest (memory_with c other (variables.Global g) word)
-      (with_value (variables.Global g) word (situation_here c)) end next room (held.stored word) (held.locals_same word)
+      (with_value (variables.Global g) word (situation_here c)) end next room (held.stored word)
+      (held.locals_same word)
       (held.globals_same word) leads
   delivered_led items.nowhere word end before rest other is scratch room next leads =
       let after = scratch_with c other 248 word scratch (omega arith) (omega arith) in
@@ -89,7 +90,8 @@ module _ (c : Running) where
       ((variable_held c other x scratch is).writes word)
   given items.nowhere word after q rest other text is scratch room =
       gives_variable (point q world.fuel) after 248 word (around c) other locals rest text
-      (with_variable other 248 word) locals (global_writes (around c) other locals 248 word (omega arith) (omega arith))
+      (with_variable other 248 word) locals
+      (global_writes (around c) other locals 248 word (omega arith) (omega arith))
 
   -- a variable is stored
   pub stored_step : (here : _) (after v word : ℕ) (s text other m1 l1 : List ℕ)

@@ -1,5 +1,6 @@
 -- How turns go on and end: steps before the end of a turn, and printing up to the limit of text.
-use Rattle.std.proofs.Common.{◌≡◌, ℕ, suc, ◌+◌, List, [], ◌∷◌, ◌++◌, length, take, Some, true, false, refl, sym, ap, ◌∙◌, arith, length-append}
+use Rattle.std.proofs.Common.{◌≡◌, ℕ, suc, ◌+◌, List, [], ◌∷◌, ◌++◌, length, take, Some, true, false, refl, sym, ap}
+use Rattle.std.proofs.Common.{◌∙◌, arith, length-append}
 use Rattle.std.specs.Prelude.{nat_le, map}
 use Rattle.std.specs.List.{flat_map}
 use Rattle.zcore.specs.declared.instruction.Operation.TheVariants as operations
@@ -10,7 +11,7 @@ use Rattle.zcore.specs.declared.next.Next.{Next}
 use Rattle.zcore.specs.Instruction.{bytes_of}
 use Rattle.zcore.specs.State.{State, done, halt}
 use Rattle.zcore.specs.Parts.{transcribed, print}
-use Rattle.zcore.specs.Step.{perform, print_characters, step}
+use Rattle.zcore.specs.Execution.{perform, print_characters, step}
 use Rattle.zcore.specs.Turn.{Whole, turn_in, after_step, ended, notice, is_waiting, plays_from, last_place}
 use Rattle.checker.specs.World.{Outcome, World}
 use Rattle.code.proofs.Behind.{Holds}
@@ -29,7 +30,8 @@ does_after full w o here next s t (moves h m n x y z e rest) d =
       whole = r.whole;
       turns = record {
         count = suc r.turns.count;
-        ends = ap (λ out. after_step out (turn_in r.turns.count) (λ place u. Some (ended h place u))) e ∙ r.turns.ends;
+        ends = ap (λ out. after_step out (turn_in r.turns.count) (λ place u. Some (ended h place u))) e
+            ∙ r.turns.ends;
       };
       texts = r.texts;
       place = r.place;
@@ -103,5 +105,11 @@ module _ (e : Around) (m l s t : List ℕ) where
       let st = at_words e m l s t in
       does_halt full w (point q fuel) st st places.Quit refl
       (step_is (point q fuel) st st (plain operations.Quit []) []
-      (record { least = omega arith; most = omega arith; operands_fit = fits_none; result_fits = tt; branch_fits = tt })
+      (record {
+        least = omega arith;
+        most = omega arith;
+        operands_fit = fits_none;
+        result_fits = tt;
+        branch_fits = tt;
+      })
       h (no_operand st))

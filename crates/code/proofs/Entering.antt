@@ -1,5 +1,7 @@
 -- How the machine enters a routine that the machine of items enters.
-use Rattle.std.proofs.Common.{◌≡◌, ℕ, zero, suc, ◌+◌, ◌-◌, ◌*◌, ◌<◌, ◌≤◌, List, [], ◌∷◌, ◌++◌, length, take, slice_index, Option, None, Bool, true, false, refl, sym, ap, ◌∙◌, subst, arith, length-append}
+use Rattle.std.proofs.Common.{◌≡◌, ℕ, zero, suc, ◌+◌, ◌-◌, ◌*◌, ◌<◌, ◌≤◌, List, [], ◌∷◌, ◌++◌, length, take}
+use Rattle.std.proofs.Common.{slice_index, Option, None, Bool, true, false, refl, sym, ap, ◌∙◌, subst, arith}
+use Rattle.std.proofs.Common.{length-append}
 use Rattle.std.specs.Prelude.{nat_lt, nat_le, nat_eq, if◌then◌else◌, replicate}
 use Rattle.std.specs.List.{All}
 use Rattle.std.proofs.lemmas.Bool.{lt-ltb, le-ltb, le-leb, ne_eqb, ltb-true, ltb-false}
@@ -10,7 +12,7 @@ use Rattle.zcore.specs.Header.{static_base_of}
 use Rattle.zcore.specs.State.{Frame, State, done, halt, words}
 use Rattle.zcore.specs.Parts as machine
 use Rattle.zcore.specs.Parts.{unpacked, scale_in, call, test_routine, test_calls, spend}
-use Rattle.zcore.specs.Step.{step, call_packed}
+use Rattle.zcore.specs.Execution.{step, call_packed}
 use Rattle.zcore.specs.Text.{Holds}
 use Rattle.zcore.proofs.Holding.{holds_byte}
 use Rattle.checker.specs.Resolved.{ProgramOf}
@@ -22,7 +24,7 @@ use Rattle.items.specs.Stack.{Caller}
 use Rattle.items.specs.Stack as stack
 use Rattle.code.specs.Addresses.{Addresses}
 use Rattle.code.specs.Bytes.{code_bytes}
-use Rattle.code.specs.Standing.{HoldsProgram}
+use Rattle.code.specs.HeldProgram.{HoldsProgram}
 use Rattle.code.proofs.Play.{Stored, address, frames_of, back_of, result_of, other_counts, IsCaller, Led}
 use Rattle.code.proofs.Memory.{holds_on}
 use Rattle.code.proofs.Steps.{point, one_step}

@@ -1,5 +1,6 @@
 -- Items that compare with more than three words, one after another.
-use Rattle.std.proofs.Common.{◌≡◌, ℕ, zero, suc, ◌+◌, ◌<◌, ◌≤◌, List, [], ◌∷◌, length, Bool, true, false, refl, sym, ap, ◌∙◌, subst, arith}
+use Rattle.std.proofs.Common.{◌≡◌, ℕ, zero, suc, ◌+◌, ◌<◌, ◌≤◌, List, [], ◌∷◌, length, Bool, true, false, refl, sym}
+use Rattle.std.proofs.Common.{ap, ◌∙◌, subst, arith}
 use Rattle.std.specs.Prelude.{nat_lt, nat_eq, if◌then◌else◌, not, ◌||◌}
 use Rattle.std.specs.List.{flat_map}
 use Rattle.std.proofs.lemmas.Bool.{ne_eqb, lt-ltb}
@@ -7,7 +8,7 @@ use Rattle.zcore.specs.declared.instruction.Operand.{Operand}
 use Rattle.zcore.specs.declared.instruction.Operand.TheVariants.{Variable}
 use Rattle.zcore.specs.declared.instruction.Operation.TheVariants as operations
 use Rattle.zcore.specs.Instruction.{bytes_of, IsEncodable, FitsOperand}
-use Rattle.zcore.specs.Step.{perform}
+use Rattle.zcore.specs.Execution.{perform}
 use Rattle.checker.specs.Meaning.{truth, is_true}
 use Rattle.items.specs.Items as items
 use Rattle.items.specs.Stack as stack
@@ -16,11 +17,14 @@ use Rattle.code.specs.Instructions.{branching, pull, copy, flag}
 use Rattle.code.proofs.Play.{Leads, moves}
 use Rattle.code.proofs.Memory.{with_variable}
 use Rattle.code.proofs.Parts.{machine as at_words, Reads}
-use Rattle.code.proofs.Steps.{point, first_held, others_held, fits_one, fits_two, one_operand, two_operands, variable_value, landing}
+use Rattle.code.proofs.Steps.{point, first_held, others_held, fits_one, fits_two, one_operand, two_operands}
+use Rattle.code.proofs.Steps.{variable_value, landing}
 use Rattle.code.proofs.SingleSteps.{branch_step, flag_leads}
 use Rattle.code.proofs.Flags.{test_leads}
-use Rattle.code.proofs.Arriving.{Running, at, around, here, LedFrom, Stands, above, room_for, code_held, arrives, situation_here}
-use Rattle.code.proofs.Temporaries.{scratch_here, scratch_with, reads_written, reads_other, word_written, word_unwritten, held_in, pull_temporary, copy_temporary}
+use Rattle.code.proofs.Arriving.{Running, at, around, here, LedFrom, Stands, above, room_for, code_held, arrives}
+use Rattle.code.proofs.Arriving.{situation_here}
+use Rattle.code.proofs.Temporaries.{scratch_here, scratch_with, reads_written, reads_other, word_written}
+use Rattle.code.proofs.Temporaries.{word_unwritten, held_in, pull_temporary, copy_temporary}
 
 -- the word of a condition
 truth_is : (b : Bool) → (if b then 1 else 0) ≡ truth b
@@ -43,7 +47,8 @@ or_true : (b : Bool) → true ≡ (b || true)
 or_true true = refl
 or_true false = refl
 
-zero_fits : (o : Operand) (when : Bool) → FitsOperand o → IsEncodable (branching operations.JumpIfZero (o ∷ []) when 8)
+zero_fits : (o : Operand) (when : Bool) → FitsOperand o
+    → IsEncodable (branching operations.JumpIfZero (o ∷ []) when 8)
 zero_fits o when f = record {
   least = omega arith;
   most = omega arith;
@@ -101,9 +106,11 @@ module _ (c : Running) where
       (at_words w m2 locals (x ∷ s) t) (at_words w m2 locals (truth (nat_eq x y) ∷ x ∷ s) t)
       (copy_temporary c m1 s t (q0 + 3) 249 x sc1 (omega arith) (omega arith) (omega arith)
       (first_held m (q0 + 3) (copy 249) (test ∷ flag) h1))
-      (subst (λ v. Leads (point (q0 + 3 + 3) f) st (point (q0 + 3 + 3 + 4 + 9) f) (at_words w m2 locals (v ∷ x ∷ s) t))
+      (subst (λ v. Leads (point (q0 + 3 + 3) f) st (point (q0 + 3 + 3 + 4 + 9) f)
+      (at_words w m2 locals (v ∷ x ∷ s) t))
       (truth_is (nat_eq x y || false) ∙ ap truth (or_none (nat_eq x y)))
-      (test_leads w f m2 locals (x ∷ s) (x ∷ s) t (q0 + 3 + 3) operations.JumpIfEqual (Variable 249 ∷ Variable 248 ∷ [])
+      (test_leads w f m2 locals (x ∷ s) (x ∷ s) t (q0 + 3 + 3) operations.JumpIfEqual
+      (Variable 249 ∷ Variable 248 ∷ [])
       (x ∷ y ∷ []) true (nat_eq x y || false) (equal_fits 249 248 true 8 (omega arith) (omega arith) (omega arith))
       (two_operands st st st (Variable 249) (Variable 248) x y (variable_value w m2 locals (x ∷ s) t 249 x r1)
       (variable_value w m2 locals (x ∷ s) t 248 y r0))
@@ -115,7 +122,8 @@ module _ (c : Running) where
       → Reads (around c) m1 locals 249 flag_word → 64 ≤ q → q + 3 + 9 < length m1
       → Holds m1 q (flat_map bytes_of (branching operations.JumpIfZero (Variable 249 ∷ []) false 8 ∷ flag))
       → Leads (point (landing true b q 9) world.fuel) (at_words (around c) m1 locals (x ∷ s) world.text)
-      (point (q + 3 + 9) world.fuel) (at_words (around c) m1 locals (truth (is_true flag_word || b) ∷ x ∷ s) world.text)
+      (point (q + 3 + 9) world.fuel)
+      (at_words (around c) m1 locals (truth (is_true flag_word || b) ∷ x ∷ s) world.text)
   unfolding bytes_of perform
   also_rest true m1 q flag_word x s short reads above within h =
       let e : q + 3 + 6 ≡ q + 9 = omega arith in
@@ -133,7 +141,8 @@ module _ (c : Running) where
       subst (λ v. Leads (point q world.fuel) st (point (q + 3 + 9) world.fuel)
       (at_words (around c) m1 locals (v ∷ x ∷ s) world.text))
       (truth_is (not (nat_eq flag_word 0)) ∙ ap truth (not_zero flag_word ∙ sym (or_none (is_true flag_word))))
-      (test_leads (around c) world.fuel m1 locals (x ∷ s) (x ∷ s) world.text q operations.JumpIfZero (Variable 249 ∷ [])
+      (test_leads (around c) world.fuel m1 locals (x ∷ s) (x ∷ s) world.text q operations.JumpIfZero
+      (Variable 249 ∷ [])
       (flag_word ∷ []) false (nat_eq flag_word 0) (zero_fits (Variable 249) false (omega arith))
       (one_operand st st (Variable 249) flag_word
       (variable_value (around c) m1 locals (x ∷ s) world.text 249 flag_word reads))
@@ -190,7 +199,8 @@ module _ (c : Running) where
       st end
       (copy_temporary c m2 s t (q0 + 3 + 3) 250 x sc2 (omega arith) (omega arith) (omega arith)
       (first_held m (q0 + 3 + 3) (copy 250) (test ∷ last) h2))
-      (moves (point (q0 + 3 + 3 + 3) f) (point (landing true (nat_eq x y || false) q4 9) f) (point (q4 + 3 + 9) f) st st
+      (moves (point (q0 + 3 + 3 + 3) f) (point (landing true (nat_eq x y || false) q4 9) f) (point (q4 + 3 + 9) f) st
+      st
       end
       (branch_step w f m3 locals (x ∷ s) (x ∷ s) t (q0 + 3 + 3 + 3) 9 operations.JumpIfEqual
       (Variable 250 ∷ Variable 248 ∷ []) (x ∷ y ∷ []) true (nat_eq x y || false)

@@ -17,7 +17,7 @@ use Rattle.items.specs.Laws.{ItemsFollow, ItemsAreWithin}
 use Rattle.code.specs.Laws.{Plays}
 use Rattle.lexer.specs.Printable.{IsPrintable}
 use Rattle.checker.specs.Printable.{IsPrintableItem, HasPrintableTexts}
-use Rattle.code.specs.Standing.{HoldsRoutine, HoldsText, HoldsProgram, fault_line}
+use Rattle.code.specs.HeldProgram.{HoldsRoutine, HoldsText, HoldsProgram, fault_line}
 use Rattle.code.proofs.Leading.{code_plays_by}
 use Rattle.code.proofs.Stories.{a, main, sum_of_two, program, story, greeting, count_down, quotient_of_seven}
 
@@ -149,4 +149,5 @@ accepted = record {
 }
 
 pub filled_plays : ItemsFollow → ItemsAreWithin → (full : ℕ) (lines : List (List ℕ)) → Plays story program full lines
-filled_plays follows within full lines = code_plays_by follows within story a program accepted printable held full lines
+filled_plays follows within full lines = code_plays_by follows within story a program accepted printable held full
+    lines

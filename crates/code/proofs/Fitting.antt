@@ -1,11 +1,14 @@
 -- Instructions whose bytes stand in a story: each number fits its bytes.
-use Rattle.std.proofs.Common.{◌≡◌, ℕ, suc, ◌<◌, ◌≤◌, List, [], ◌∷◌, ◌++◌, length, take, drop, sym, ap, ◌∙◌, subst, arith}
+use Rattle.std.proofs.Common.{◌≡◌, ℕ, suc, ◌<◌, ◌≤◌, List, [], ◌∷◌, ◌++◌, length, take, drop, sym, ap, ◌∙◌, subst}
+use Rattle.std.proofs.Common.{arith}
 use Rattle.std.specs.List.{All, flat_map}
 use Rattle.std.proofs.lemmas.List.Elements.{All-take, All-drop}
 use Rattle.zcore.specs.declared.instruction.Operand.{Operand}
 use Rattle.zcore.specs.declared.instruction.Operand.TheVariants.{Large, Small, Variable}
-use Rattle.zcore.specs.Operations.{count_of, number_of, has_more_types, least_operands, most_operands, has_result, has_branch}
-use Rattle.zcore.specs.Instruction.{Instruction, opcode_bytes, operand_bytes, result_bytes, branch_bytes, bytes_of, FitsOperand, FitsResult, FitsBranch, IsEncodable}
+use Rattle.zcore.specs.Operations.{count_of, number_of, has_more_types, least_operands, most_operands, has_result}
+use Rattle.zcore.specs.Operations.{has_branch}
+use Rattle.zcore.specs.Instruction.{Instruction, opcode_bytes, operand_bytes, result_bytes, branch_bytes, bytes_of}
+use Rattle.zcore.specs.Instruction.{FitsOperand, FitsResult, FitsBranch, IsEncodable}
 use Rattle.code.proofs.Behind.{Holds}
 use Rattle.code.proofs.Memory.{same_on}
 use Rattle.code.proofs.Steps.{fits_none, fits_more}
@@ -27,10 +30,12 @@ from_all [] h = tt
 from_all (b ∷ bs) h = (h 0 b (omega arith), from_all bs (λ k d l. h (suc k) d (omega (arith, l))))
 
 -- what stands in a story is bytes
-pub held_bytes : (base q : ℕ) (story memory bs : List ℕ) → All (λ b. b < 256) story → drop base memory ≡ drop base story
+pub held_bytes : (base q : ℕ) (story memory bs : List ℕ) → All (λ b. b < 256) story
+    → drop base memory ≡ drop base story
     → base ≤ q → Holds memory q bs → AreBytes bs
 held_bytes base q story memory bs all kept high h =
-    from_all bs (subst (All (λ b. b < 256)) (sym (ap (take (length bs)) (same_on base q story memory kept high)) ∙ h.1)
+    from_all bs
+    (subst (All (λ b. b < 256)) (sym (ap (take (length bs)) (same_on base q story memory kept high)) ∙ h.1)
     (All-take (λ b. b < 256) (length bs) (drop q story) (All-drop (λ b. b < 256) q story all)))
 
 operand_fits : (o : Operand) → AreBytes (operand_bytes o) → FitsOperand o

@@ -1,5 +1,6 @@
 -- A test whose outcome is pushed as 1 or 0.
-use Rattle.std.proofs.Common.{◌≡◌, ℕ, ◌+◌, ◌<◌, ◌≤◌, List, ◌∷◌, length, Some, None, Bool, true, false, refl, subst, arith}
+use Rattle.std.proofs.Common.{◌≡◌, ℕ, ◌+◌, ◌<◌, ◌≤◌, List, ◌∷◌, length, Some, None, Bool, true, false, refl, subst}
+use Rattle.std.proofs.Common.{arith}
 use Rattle.std.specs.Prelude.{if◌then◌else◌, not}
 use Rattle.std.specs.List.{flat_map}
 use Rattle.zcore.specs.declared.instruction.Operand.{Operand}
@@ -8,7 +9,7 @@ use Rattle.zcore.specs.declared.next.Next.{Next}
 use Rattle.zcore.specs.Instruction.{bytes_of, IsEncodable}
 use Rattle.zcore.specs.State.{State, done, words}
 use Rattle.zcore.specs.Parts.{operand_values, branch_on}
-use Rattle.zcore.specs.Step.{perform}
+use Rattle.zcore.specs.Execution.{perform}
 use Rattle.code.proofs.Behind.{Holds}
 use Rattle.code.specs.Instructions.{branching, flag}
 use Rattle.code.proofs.Play.{Leads, moves}

@@ -10,7 +10,8 @@ use Rattle.items.specs.Items.{Destination, Test}
 use Rattle.items.specs.Items as items
 use Rattle.items.specs.declared.item.Operand as code_operand
 use Rattle.items.specs.Code.{as_operand, as_operands}
-use Rattle.code.specs.Instructions.{takes, operands, calling, call_code, call_operation, call_result, asks_none, labelled, test_operation, least_word, tested_code, branch_code}
+use Rattle.code.specs.Instructions.{takes, operands, calling, call_code, call_operation, call_result, asks_none}
+use Rattle.code.specs.Instructions.{labelled, test_operation, least_word, tested_code, branch_code}
 use Rattle.code.specs.Bytes.{bytes_of_all}
 use Rattle.code.proofs.Chains.{one_joined, all_joined}
 
@@ -73,7 +74,8 @@ as_joined (x ∷ xs) y = ap (λ os. as_operand x ∷ os) (as_joined xs y)
 
 -- the bytes of a branch
 pub tested_joined : (test : Test) (os : List items.Operand) (op : Operation) (when : Bool) (offset : ℕ)
-    (b b1 b2 : List ℕ) (n1 n2 n3 : List Operand) → n1 ≡ [] → n2 ≡ n1 ++ operands os → n3 ≡ n2 → op ≡ test_operation test
+    (b b1 b2 : List ℕ) (n1 n2 n3 : List Operand) → n1 ≡ [] → n2 ≡ n1 ++ operands os → n3 ≡ n2
+    → op ≡ test_operation test
     → b1 ≡ b ++ bytes_of_all (takes os) → b2 ≡ b1 ++ bytes_of_all (labelled op n3 when offset)
     → b2 ≡ b ++ bytes_of_all (tested_code test os when offset)
 tested_joined test os op when offset b b1 b2 n1 n2 n3 e1 e2 e3 o f1 f2 =
@@ -91,7 +93,8 @@ branch_otherwise test os given asks when offset b b1 same is isnt e =
     let none : asks_none test os ≡ false = sym (is ∙ ap (λ xs. asks_none test xs) same) ∙ isnt in
     e ∙ ap (λ xs. b ++ bytes_of_all (tested_code test xs when offset)) same
     ∙ ap (λ (x : Bool). b ++ bytes_of_all (if x
-    then tested_code items.less (os ++ items.number least_word ∷ []) when offset else tested_code test os when offset))
+    then tested_code items.less (os ++ items.number least_word ∷ []) when offset
+    else tested_code test os when offset))
     (sym none)
 
 pub on_ok : {A E P Q : Type 0} (r : Result A E) → (P → Q) → OnOk r P → OnOk r Q

@@ -1,5 +1,6 @@
 -- What operands of an item come to, and that the operands of its instruction come to the same.
-use Rattle.std.proofs.Common.{◌≡◌, ℕ, ◌+◌, ◌-◌, ◌<◌, ◌≤◌, zero, suc, List, [], ◌∷◌, length, drop, slice_index, subst, Bool, true, false, refl, ap, ◌∙◌, arith}
+use Rattle.std.proofs.Common.{◌≡◌, ℕ, ◌+◌, ◌-◌, ◌<◌, ◌≤◌, zero, suc, List, [], ◌∷◌, length, drop, slice_index, subst}
+use Rattle.std.proofs.Common.{Bool, true, false, refl, ap, ◌∙◌, arith}
 use Rattle.std.specs.Prelude.{nat_lt, if◌then◌else◌}
 use Rattle.zcore.specs.declared.instruction.Operand.{Operand}
 use Rattle.zcore.specs.declared.instruction.Operand.TheVariants as machine_operands
@@ -32,7 +33,8 @@ by_operands [] s words P k lacks f = f [] words refl
 by_operands (pushed ∷ os) s words P k lacks f =
     by_operands os s words P (λ vs rest. with_operand pushed s rest (λ v left. k (v ∷ vs) left)) lacks popped
   where
-    popped : (vs rest : List ℕ) → Gives os s words vs rest → P (with_operand pushed s rest (λ v left. k (v ∷ vs) left))
+    popped : (vs rest : List ℕ) → Gives os s words vs rest
+        → P (with_operand pushed s rest (λ v left. k (v ∷ vs) left))
     popped vs [] g = lacks
     popped vs (v ∷ left) g = f (v ∷ vs) left g
 by_operands (number n ∷ os) s words P k lacks f =
@@ -108,7 +110,8 @@ constant_value s n = go (nat_lt n 256)
     go false = large_value s n
 
 -- an operand, and others after it
-pub values_then : (s t u : State) (o : Operand) (os : List Operand) (x : ℕ) (xs : List ℕ) → operand_value o s ≡ done x t
+pub values_then : (s t u : State) (o : Operand) (os : List Operand) (x : ℕ) (xs : List ℕ)
+    → operand_value o s ≡ done x t
     → operand_values os t ≡ done xs u → operand_values (o ∷ os) s ≡ done (x ∷ xs) u
 unfolding operand_values
 values_then s t u o os x xs e f = rw (e, f) refl
@@ -144,10 +147,12 @@ module _ (e : Around) (m l : List ℕ) where
       let st = at_words e m l s t in values_then st st st (machine_operands.Variable (temporary n))
       (named_from (n + 1) os) v vs (variable_value e m l s t (temporary n) v h.0) (named_values (n + 1) os vs s t h.1)
   named_values n (number k ∷ os) (v ∷ vs) s t h =
-      let st = at_words e m l s t in values_then st st st (constant k) (named_from n os) v vs (number_value k v st h.0)
+      let st = at_words e m l s t in values_then st st st (constant k) (named_from n os) v vs
+      (number_value k v st h.0)
       (named_values n os vs s t h.1)
   named_values n (variable x ∷ os) (v ∷ vs) s t h =
-      let st = at_words e m l s t in values_then st st st (machine_operands.Variable (number_of x)) (named_from n os) v
+      let st = at_words e m l s t in values_then st st st (machine_operands.Variable (number_of x)) (named_from n os)
+      v
       vs (variable_value e m l s t (number_of x) v h.0) (named_values n os vs s t h.1)
 
   -- the words of so many temporaries, of which the last was topmost

@@ -1,5 +1,6 @@
 -- Items that print, and faults, which print their line and quit.
-use Rattle.std.proofs.Common.{◌≡◌, ℕ, ◌+◌, ◌*◌, ◌≤◌, List, [], ◌∷◌, ◌++◌, codes, length, take, slice_index, Bool, true, false, refl, sym, ap, ◌∙◌, subst, arith}
+use Rattle.std.proofs.Common.{◌≡◌, ℕ, ◌+◌, ◌*◌, ◌≤◌, List, [], ◌∷◌, ◌++◌, codes, length, take, slice_index, Bool}
+use Rattle.std.proofs.Common.{true, false, refl, sym, ap, ◌∙◌, subst, arith}
 use Rattle.std.specs.Prelude.{nat_le, nat_eq, if◌then◌else◌, map, ◌==◌}
 use Rattle.std.specs.List.{All, flat_map}
 use Rattle.zcore.specs.declared.instruction.Operand.TheVariants.{Large}
@@ -11,7 +12,7 @@ use Rattle.zcore.specs.Header.{static_base_of}
 use Rattle.zcore.specs.Instruction.{bytes_of}
 use Rattle.zcore.specs.State.{done, halt}
 use Rattle.zcore.specs.Parts.{unpacked}
-use Rattle.zcore.specs.Step.{perform, step, text_at, print_inline, print_packed}
+use Rattle.zcore.specs.Execution.{perform, step, text_at, print_inline, print_packed}
 use Rattle.zcore.specs.Text.{encoded}
 use Rattle.zcore.specs.Text as machine_text
 use Rattle.zcore.proofs.Holding.{holds_append}
@@ -24,15 +25,17 @@ use Rattle.code.proofs.Behind.{Holds}
 use Rattle.code.specs.Instructions.{plain, in_place, fail}
 use Rattle.code.specs.Bytes.{character_of, text_bytes}
 use Rattle.lexer.specs.Printable.{IsPrintable}
-use Rattle.code.specs.Standing.{fault_line, HoldsText}
+use Rattle.code.specs.HeldProgram.{fault_line, HoldsText}
 use Rattle.code.proofs.Play.{Leads, stays}
 use Rattle.code.proofs.Memory.{holds_on}
 use Rattle.code.proofs.Parts.{machine as at_words}
-use Rattle.code.proofs.Steps.{point, leads_then, one_step, first_held, others_held, no_operand, one_operand, large_value}
+use Rattle.code.proofs.Steps.{point, leads_then, one_step, first_held, others_held, no_operand, one_operand}
+use Rattle.code.proofs.Steps.{large_value}
 use Rattle.code.proofs.Fitting.{Shaped}
 use Rattle.code.proofs.Ends.{does_after, does_halt, prints, prints_part, prints_on, prints_off, quits}
 use Rattle.code.proofs.Texts.{number_prints, text_prints, text_read, printable_kept, IsLine, line_read}
-use Rattle.code.proofs.Arriving.{unpacked_low, address_low, Running, at, around, here, LedFrom, Stands, kept, code_held, arrives_on, situation_here}
+use Rattle.code.proofs.Arriving.{unpacked_low, address_low, Running, at, around, here, LedFrom, Stands, kept}
+use Rattle.code.proofs.Arriving.{code_held, arrives_on, situation_here}
 use Rattle.code.proofs.Temporaries.{Scratch, scratch_here, held_in, made}
 use Rattle.code.proofs.Alone.{by_operand, alone_count, alone_value, IsOperandHere, next_place, single}
 
@@ -70,7 +73,8 @@ module _ (c : Running) where
       go : (b : Bool) → nat_le (length (world.text ++ bytes)) 65536 ≡ b
           → LedFrom c before (stack.after_part (put_by b bytes) (λ _ situation. onward before after situation))
       go true e =
-          arrives_on c before after m1 (record { locals = locals; world = record world { text = world.text ++ bytes } })
+          arrives_on c before after m1
+          (record { locals = locals; world = record world { text = world.text ++ bytes } })
           end size room scratch.stored refl refl
           (leads_then (point (here c) world.fuel) (point q world.fuel) (point end world.fuel)
           (at_words (around c) m locals before world.text) (at_words (around c) m1 locals mid world.text)
@@ -180,7 +184,7 @@ module _ (c : Running) where
       go (nat_le (length (world.text ++ fault_bytes words)) 65536) refl
     where
       go : (b : Bool) → nat_le (length (world.text ++ fault_bytes words)) 65536 ≡ b
-          → LedFrom c before (stack.after_part (bound (put_by b (fault_bytes words)) (λ _. source.stop {A =
+          → LedFrom c before (stack.after_part (bound (put_by b (fault_bytes words)) (λ _. source.ends {A =
           A} places.Quit)) next)
       go true e =
           does_after full world _ (point (here c) world.fuel) (point q world.fuel)
@@ -195,7 +199,8 @@ module _ (c : Running) where
           does_after full world _ (point (here c) world.fuel) (point q world.fuel)
           (at_words (around c) m locals before world.text) (at_words (around c) m1 locals mid world.text) leads
           (does_halt full world (point q world.fuel) (at_words (around c) m1 locals mid world.text)
-          (at_words (around c) m1 locals mid (take 65536 (world.text ++ fault_bytes words))) (places.Limit limits.Text)
+          (at_words (around c) m1 locals mid (take 65536 (world.text ++ fault_bytes words)))
+          (places.Limit limits.Text)
           refl (over_full e))
 
   -- where the machine comes to a fault's code, it does what a fault does

@@ -1,5 +1,6 @@
 -- The jumps of a routine, forward and back.
-use Rattle.std.proofs.Common.{◌≡◌, ℕ, zero, suc, ◌+◌, ◌-◌, ◌%◌, ◌<◌, ◌≤◌, List, [], ◌∷◌, length, Bool, true, false, refl, sym, ap, ◌∙◌, arith}
+use Rattle.std.proofs.Common.{◌≡◌, ℕ, zero, suc, ◌+◌, ◌-◌, ◌%◌, ◌<◌, ◌≤◌, List, [], ◌∷◌, length, Bool, true, false}
+use Rattle.std.proofs.Common.{refl, sym, ap, ◌∙◌, arith}
 use Rattle.std.specs.Prelude.{nat_lt, nat_le, nat_eq, if◌then◌else◌}
 use Rattle.std.proofs.lemmas.Bool.{lt-ltb, le-ltb, le-leb, ltb-true, leb-true, ne_eqb}
 use Rattle.zcore.specs.declared.instruction.Operand.TheVariants.{Large}
@@ -9,7 +10,7 @@ use Rattle.zcore.specs.declared.place.Place.TheVariants as places
 use Rattle.zcore.specs.Instruction.{Instruction, bytes_of}
 use Rattle.zcore.specs.State.{State, done, halt}
 use Rattle.zcore.specs.Parts.{jump_target, test_target, go, spend}
-use Rattle.zcore.specs.Step.{step, perform, jump}
+use Rattle.zcore.specs.Execution.{step, perform, jump}
 use Rattle.checker.specs.World.{spend_from}
 use Rattle.items.specs.Items.{Item}
 use Rattle.items.specs.Items as items
@@ -27,7 +28,8 @@ use Rattle.code.proofs.Arriving.{Running, at, around, here, LedFrom, Stands, abo
 use Rattle.code.proofs.Alone.{Single, single}
 
 -- A jump that does not lead ahead costs a unit
-module _ (e : Around) (m l s t : List ℕ) (q offset target : ℕ) (fits : offset < 65536) (is : jump_target (q + 3) offset
+module _ (e : Around) (m l s t : List ℕ) (q offset target : ℕ) (fits : offset < 65536)
+    (is : jump_target (q + 3) offset
     ≡ target) (above_header : 64 ≤ target) (behind : target ≤ q) (within : target < length m)
     (h : Holds m q (bytes_of (plain operations.Jump (Large offset ∷ [])))) where
   back_step : (fuel : ℕ) → step (point q (suc fuel)) (at_words e m l s t)
@@ -182,7 +184,8 @@ module _ (c : Running) where
       goes_back : (fuel : ℕ) → target ≤ place → LedWith fuel
       goes_back zero below =
           does_halt full world (point (here c) 0) st st (places.Limit limits.Fuel) refl
-          (back_ends (around c) m locals words world.text (here c) (offset_to target) (address story a p routine target)
+          (back_ends (around c) m locals words world.text (here c) (offset_to target)
+          (address story a p routine target)
           small (leads_there target there) (target_above target) (behind below) (target_within target) there.held)
       goes_back (suc fuel) below = record {
         memory = m;
@@ -198,6 +201,7 @@ module _ (c : Running) where
       go : (b : Bool) → nat_le target place ≡ b
           → LedFrom c words (if b then stack.after_part
           (spend_from world.fuel (record { locals = locals; world = world }))
-          (λ _ situation. stack.goes (record (at c words) { place = target; situation = situation })) else stack.stuck)
+          (λ _ situation. stack.goes (record (at c words) { place = target; situation = situation }))
+          else stack.stuck)
       go false e = tt
       go true e = goes_back world.fuel (leb-true _ _ e)

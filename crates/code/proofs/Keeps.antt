@@ -1,5 +1,7 @@
--- Items leave the lines to come and the texts of turns before as they were, and no run of them ends in a machine fault.
-use Rattle.std.proofs.Common.{◌≡◌, ◌≢◌, ℕ, zero, suc, List, [], ◌∷◌, ◌++◌, length, Option, Some, None, Bool, true, false, refl, ◌∙◌, subst}
+-- Items leave the lines to come and the texts of turns before as they were, and no run of them ends in a machine
+-- fault.
+use Rattle.std.proofs.Common.{◌≡◌, ◌≢◌, ℕ, zero, suc, List, [], ◌∷◌, ◌++◌, length, Option, Some, None, Bool, true}
+use Rattle.std.proofs.Common.{false, refl, ◌∙◌, subst}
 use Rattle.std.specs.Prelude.{nat_lt, nat_le, if◌then◌else◌, slice_get, ◌==◌, ◌||◌, codes, map}
 use Rattle.zcore.specs.Arithmetic.{signed_text}
 use Rattle.zcore.specs.Parts.{transcribed}
@@ -10,7 +12,8 @@ use Rattle.expressions.specs.declared.tree.Binary.TheVariants as binaries
 use Rattle.checker.specs.declared.resolved.Variable.{Variable}
 use Rattle.checker.specs.declared.resolved.Variable.TheVariants as variables
 use Rattle.checker.specs.Resolved.{ProgramOf}
-use Rattle.checker.specs.World.{Outcome, World, Situation, Comes, to, over, Part, bound, put, shown, spend, spend_from, fault, value_in, with_value}
+use Rattle.checker.specs.World.{Outcome, World, Situation, Comes, to, over, Part, bound, put, shown, spend}
+use Rattle.checker.specs.World.{spend_from, fault, value_in, with_value}
 use Rattle.checker.specs.Meaning.{operate, put_character, put_line, is_character, routine_at, truth, is_true}
 use Rattle.items.specs.Items.{Item, Operand, Destination, routine_items}
 use Rattle.items.specs.Items as items
@@ -109,7 +112,8 @@ delivered_keeps w (items.into x) v s h =
     then_same w s.situation.world (with_value x v s.situation).world h (value_keeps x v s.situation)
 delivered_keeps w items.nowhere v s h = h
 
-gives_keeps : (f : Part ℕ) (d : Destination) (words : List ℕ) (s : stack.State) → Kept s.situation.world (f s.situation)
+gives_keeps : (f : Part ℕ) (d : Destination) (words : List ℕ) (s : stack.State)
+    → Kept s.situation.world (f s.situation)
     → Keeps s.situation.world (stack.gives f d words s)
 gives_keeps f d words s h =
     after_keeps s.situation.world (f s.situation) _ h (λ v t g. delivered_keeps s.situation.world d v _ g)
@@ -176,7 +180,8 @@ branch_keeps false target words s = same s.situation.world
 
 back_keeps : (target : ℕ) (s : stack.State) → Keeps s.situation.world (stack.go_back target s)
 back_keeps target s = if_keeps s.situation.world (nat_le target s.place) _ _
-    (after_keeps s.situation.world (spend s.situation) _ (spend_keeps s.situation.world.fuel s.situation) (λ a t g. g))
+    (after_keeps s.situation.world (spend s.situation) _ (spend_keeps s.situation.world.fuel s.situation)
+    (λ a t g. g))
     tt
 
 pub enter_keeps : (p : ProgramOf) (r : ℕ) (arguments : List ℕ) (callers : List stack.Caller) (s : Situation)

@@ -1,5 +1,6 @@
 -- A branch to a label leads to its target, in whatever form it is written.
-use Rattle.std.proofs.Common.{◌≡◌, ℕ, ◌+◌, ◌%◌, ◌<◌, ◌≤◌, List, [], ◌∷◌, length, Some, None, Bool, true, false, refl, sym, subst, arith, length-append}
+use Rattle.std.proofs.Common.{◌≡◌, ℕ, ◌+◌, ◌%◌, ◌<◌, ◌≤◌, List, [], ◌∷◌, length, Some, None, Bool, true, false, refl}
+use Rattle.std.proofs.Common.{sym, subst, arith, length-append}
 use Rattle.std.specs.Prelude.{not, nat_lt, if◌then◌else◌}
 use Rattle.std.specs.List.{flat_map}
 use Rattle.std.proofs.lemmas.Bool.{lt-ltb, ltb-true}
@@ -11,7 +12,7 @@ use Rattle.zcore.specs.declared.next.Next.{Next}
 use Rattle.zcore.specs.Instruction.{Instruction, bytes_of, IsEncodable}
 use Rattle.zcore.specs.State.{State, done}
 use Rattle.zcore.specs.Parts.{operand_values, branch_on, jump_target}
-use Rattle.zcore.specs.Step.{perform}
+use Rattle.zcore.specs.Execution.{perform}
 use Rattle.code.proofs.Behind.{Holds}
 use Rattle.code.specs.Instructions.{plain, branching, labelled}
 use Rattle.code.proofs.Play.{Leads, stays}
@@ -75,7 +76,8 @@ module _ (e : Around) (fuel : ℕ) (m l s s1 t : List ℕ) (q d : ℕ) (op : Ope
       let j = plain operations.Jump (Large (2 + d) ∷ []) in
       let after = q + length (bytes_of i) in
       let st = at_words e m l s1 t in
-      let first = branch_step e fuel m l s s1 t q 3 op os b.values (not when) holds (b.fits (not when) 5 (omega arith))
+      let first = branch_step e fuel m l s s1 t q 3 op os b.values (not when) holds
+      (b.fits (not when) 5 (omega arith))
       b.taken (b.branches (not when) 5) (omega arith) above (b.some (not when) 5) (omega (arith, within))
       (first_held m q i (j ∷ []) h) in
       let leads = jump_leads (after + 3) d near in

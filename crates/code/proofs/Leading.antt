@@ -1,5 +1,7 @@
--- Each item of an accepted program that stands in a story is done where it stands, and so the story plays the program.
-use Rattle.std.proofs.Common.{◌≡◌, ℕ, zero, suc, ◌+◌, ◌<◌, List, [], ◌∷◌, length, slice_index, Some, refl, subst, arith}
+-- Each item of an accepted program that stands in a story is done where it stands, and so the story plays the
+-- program.
+use Rattle.std.proofs.Common.{◌≡◌, ℕ, zero, suc, ◌+◌, ◌<◌, List, [], ◌∷◌, length, slice_index, Some, refl, subst}
+use Rattle.std.proofs.Common.{arith}
 use Rattle.std.specs.Prelude.{slice_get}
 use Rattle.std.specs.List.{All}
 use Rattle.std.proofs.lemmas.Option.{get_or_from_slice_get, slice_get_within}
@@ -23,7 +25,7 @@ use Rattle.code.specs.Addresses.{Addresses}
 use Rattle.code.specs.Instructions.{plain}
 use Rattle.code.specs.Bytes.{item_bytes, place_of, offset_of, code_bytes}
 use Rattle.code.specs.Laws.{CodePlays}
-use Rattle.code.specs.Standing.{HoldsProgram}
+use Rattle.code.specs.HeldProgram.{HoldsProgram}
 use Rattle.code.proofs.Play.{items_in, address, Good}
 use Rattle.code.proofs.Memory.{holds_on}
 use Rattle.code.proofs.Places.{next_place, ends_by, starts, follow, item_holds}
@@ -157,7 +159,8 @@ module _ (story : List ℕ) (a : Addresses) (p : ProgramOf) (accepted : IsAccept
       go items.quit f st is text = quits (around c) m s.situation.locals words s.situation.world.text full
           (here c) s.situation.world.fuel s.situation.world
           (single c items.quit (plain operations.Quit []) refl refl st).held
-      go (items.branch test os when target) f st is text = branch_led c test os when target words is.0 is.1 good.room st
+      go (items.branch test os when target) f st is text = branch_led c test os when target words is.0 is.1 good.room
+          st
       go (items.jump target) f st is text = jump_led c target words good.room st
       go (items.back target) f st is text = back_led c target words good.room st
       go (items.call r os d) f st is text = call_led c r os d words is.0 is.1 is.4 is.2 good.room st

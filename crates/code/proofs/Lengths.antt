@@ -1,5 +1,6 @@
 -- How long the bytes of an item are: it depends on no address, and of its branch on the form alone.
-use Rattle.std.proofs.Common.{◌≡◌, ℕ, ◌+◌, ◌-◌, ◌%◌, ◌≤◌, List, [], ◌∷◌, ◌++◌, length, Option, Some, None, Bool, true, false, refl, sym, ap, ◌∙◌, arith, length-append, append_assoc, append-nil}
+use Rattle.std.proofs.Common.{◌≡◌, ℕ, ◌+◌, ◌-◌, ◌%◌, ◌≤◌, List, [], ◌∷◌, ◌++◌, length, Option, Some, None, Bool, true}
+use Rattle.std.proofs.Common.{false, refl, sym, ap, ◌∙◌, arith, length-append, append_assoc, append-nil}
 use Rattle.std.specs.Prelude.{nat_lt, ◌==◌, if◌then◌else◌, not, take, slice_index}
 use Rattle.std.specs.List.{flat_map}
 use Rattle.std.proofs.lemmas.Bool.{ltb-true, ltb-false}
@@ -19,7 +20,9 @@ use Rattle.checker.specs.Meaning.{is_character}
 use Rattle.items.specs.Items.{Item, Destination, Test}
 use Rattle.items.specs.Items as items
 use Rattle.code.specs.Addresses.{Addresses}
-use Rattle.code.specs.Instructions.{plain, branching, fail, labelled, takes, operands, test_operation, tested_code, asks_none, least_word, branch_code, calling, call_operation, call_result, call_code, divided, character_code, item_code, most_tested, most_arguments}
+use Rattle.code.specs.Instructions.{plain, branching, fail, labelled, takes, operands, test_operation, tested_code}
+use Rattle.code.specs.Instructions.{asks_none, least_word, branch_code, calling, call_operation, call_result}
+use Rattle.code.specs.Instructions.{call_code, divided, character_code, item_code, most_tested, most_arguments}
 use Rattle.code.specs.Bytes.{bytes_of_all, item_bytes, no_addresses, least_size, target_of, part_of}
 
 -- Lists of instructions
@@ -132,7 +135,8 @@ pub branching_length : (op : Operation) (os : List Operand) (when : Bool) (offse
     → length (bytes_of (branching op os when offset)) ≡ beside op os + (if nat_lt offset 64 then 1 else 2)
 unfolding bytes_of
 branching_length op os when offset =
-    length-append (opcode_bytes (count_of op) (number_of op) (has_more_types op) os ++ flat_map operand_bytes os ++ [])
+    length-append
+    (opcode_bytes (count_of op) (number_of op) (has_more_types op) os ++ flat_map operand_bytes os ++ [])
     (branch_bytes (Some (record { when = when; offset = offset })))
     ∙ ap (λ k. beside op os + k) (label_bytes (nat_lt offset 64) _ _ _)
 
@@ -251,7 +255,8 @@ same_length a offset (items.call r os d) e =
     )
 same_length a offset i e = refl
 
-branch_size : (a : Addresses) (n : ℕ) (rest : List ℕ) (test : Test) (os : List items.Operand) (when : Bool) (target : ℕ)
+branch_size : (a : Addresses) (n : ℕ) (rest : List ℕ) (test : Test) (os : List items.Operand) (when : Bool)
+    (target : ℕ)
     → length (item_bytes a (offset_over (target - (n + 1)) rest) (items.branch test os when target))
     ≡ part_size n (part_of (items.branch test os when target)) rest
 branch_size a n rest test os when target =

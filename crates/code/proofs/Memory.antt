@@ -1,5 +1,6 @@
 -- Words written to the globals of a story in memory, and what they leave as it was.
-use Rattle.std.proofs.Common.{◌≡◌, ◌≢◌, ◌⊎◌, inl, inr, ℕ, ◌+◌, ◌-◌, ◌*◌, ◌/◌, ◌%◌, ◌<◌, ◌≤◌, List, length, take, drop, slice_index, slice_set, sym, ap, ◌∙◌, subst, arith}
+use Rattle.std.proofs.Common.{◌≡◌, ◌≢◌, ◌⊎◌, inl, inr, ℕ, ◌+◌, ◌-◌, ◌*◌, ◌/◌, ◌%◌, ◌<◌, ◌≤◌, List, length, take, drop}
+use Rattle.std.proofs.Common.{slice_index, slice_set, sym, ap, ◌∙◌, subst, arith}
 use Rattle.std.proofs.lemmas.Bool.{cases_eq, cases_lt}
 use Rattle.std.proofs.lemmas.List.{length-set, drop-set-lt, drop-drop, get_or-set_same, get_or-set_other}
 use Rattle.zcore.specs.Bytes.{word_at}
@@ -17,7 +18,8 @@ with_variable memory variable word = with_word memory (global_address memory var
 
 module _ (memory : List ℕ) (at word : ℕ) where
   pub length_with : length (with_word memory at word) ≡ length memory
-  length_with = length-set (slice_set memory at (word / 256)) (at + 1) (word % 256) ∙ length-set memory at (word / 256)
+  length_with = length-set (slice_set memory at (word / 256)) (at + 1) (word % 256)
+      ∙ length-set memory at (word / 256)
 
   pub drop_with : (n : ℕ) → at + 1 < n → drop n (with_word memory at word) ≡ drop n memory
   drop_with n h = drop-set-lt n (slice_set memory at (word / 256)) (at + 1) (word % 256) h
@@ -31,15 +33,18 @@ module _ (memory : List ℕ) (at word : ℕ) where
   word_other q (inl h) =
       let a = byte_other q (λ e. omega (arith, h, e)) (λ e. omega (arith, h, e)) in
       let b = byte_other (q + 1) (λ e. omega (arith, h, e)) (λ e. omega (arith, h, e)) in
-      ap (λ x. x * 256 + slice_index (with_word memory at word) (q + 1)) a ∙ ap (λ x. slice_index memory q * 256 + x) b
+      ap (λ x. x * 256 + slice_index (with_word memory at word) (q + 1)) a
+      ∙ ap (λ x. slice_index memory q * 256 + x) b
   word_other q (inr h) =
       let a = byte_other q (λ e. omega (arith, h, e)) (λ e. omega (arith, h, e)) in
       let b = byte_other (q + 1) (λ e. omega (arith, h, e)) (λ e. omega (arith, h, e)) in
-      ap (λ x. x * 256 + slice_index (with_word memory at word) (q + 1)) a ∙ ap (λ x. slice_index memory q * 256 + x) b
+      ap (λ x. x * 256 + slice_index (with_word memory at word) (q + 1)) a
+      ∙ ap (λ x. slice_index memory q * 256 + x) b
 
   pub word_here : at + 1 < length memory → word_at (with_word memory at word) at ≡ word
   word_here h =
-      let high = get_or-set_other (slice_set memory at (word / 256)) (at + 1) at (word % 256) 0 (λ e. omega (arith, e))
+      let high = get_or-set_other (slice_set memory at (word / 256)) (at + 1) at (word % 256) 0
+      (λ e. omega (arith, e))
       ∙ get_or-set_same memory at (word / 256) 0 (omega (arith, h)) in
       let low = get_or-set_same (slice_set memory at (word / 256)) (at + 1) (word % 256) 0
       (omega (arith, h, length-set memory at (word / 256))) in

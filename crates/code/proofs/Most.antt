@@ -6,7 +6,11 @@ use Rattle.checker.specs.Resolved.{Value, Values, none, more}
 use Rattle.checker.specs.declared.resolved.Variable.{Variable}
 use Rattle.expressions.specs.declared.tree.Step.{Step}
 use Rattle.items.specs.Items as items
-use Rattle.items.specs.Items.{Item, Operand, pushed, number, variable, Destination, push, into, nowhere, operand_of, operands_of, alone, left_of, if_pushed, branch_true, agrees, is_few, comparison_test, comparison_when, equality_when, value_count, operand_count, operands_count, branch_count, many_count, moved, truth_items, after_items, kept_items, and_items, or_items, value_items, operands_items, branch_items, many_items, also_items}
+use Rattle.items.specs.Items.{Item, Operand, pushed, number, variable, Destination, push, into, nowhere, operand_of}
+use Rattle.items.specs.Items.{operands_of, alone, left_of, if_pushed, branch_true, agrees, is_few, comparison_test}
+use Rattle.items.specs.Items.{comparison_when, equality_when, value_count, operand_count, operands_count}
+use Rattle.items.specs.Items.{branch_count, many_count, moved, truth_items, after_items, kept_items, and_items}
+use Rattle.items.specs.Items.{or_items, value_items, operands_items, branch_items, many_items, also_items}
 use Rattle.std.proofs.Common.{◌≡◌, ℕ, ◌+◌, ◌*◌, ◌≤◌, List, [], ◌∷◌, ◌++◌, length, Bool, true, false, refl, arith}
 use Rattle.std.specs.Prelude.{if◌then◌else◌, ◌+◌, ◌*◌, ℕ, List, [], ◌∷◌, length}
 
@@ -88,7 +92,8 @@ pub kept_small : (x : Variable) (d : Destination) (xs ys : List Item) (n : ℕ) 
     → most_of (kept_items x d xs ys) + 12 ≤ n
 kept_small x nowhere xs ys n hx hy = omega (arith, hx)
 kept_small x push xs ys n hx hy = omega (arith, hy, most_append ys (items.keep x ∷ []))
-kept_small x (into y) xs ys n hx hy = omega (arith, hy, most_append ys (items.keep x ∷ items.move pushed (into y) ∷ []))
+kept_small x (into y) xs ys n hx hy = omega
+    (arith, hy, most_append ys (items.keep x ∷ items.move pushed (into y) ∷ []))
 
 -- 0 or 1, beside the branch
 pub truth_small : (at count : ℕ) (d : Destination) (f : ℕ → List Item) (n : ℕ) → ((t : ℕ) → most_of (f t) ≤ n)

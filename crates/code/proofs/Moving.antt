@@ -1,10 +1,11 @@
 -- Items that move, keep and drop words.
-use Rattle.std.proofs.Common.{◌≡◌, ℕ, ◌+◌, ◌≤◌, List, [], ◌∷◌, length, Bool, true, false, refl, sym, ◌∙◌, subst, arith}
+use Rattle.std.proofs.Common.{◌≡◌, ℕ, ◌+◌, ◌≤◌, List, [], ◌∷◌, length, Bool, true, false, refl, sym, ◌∙◌, subst}
+use Rattle.std.proofs.Common.{arith}
 use Rattle.std.specs.Prelude.{nat_le, if◌then◌else◌}
 use Rattle.std.proofs.lemmas.Bool.{leb-true}
 use Rattle.zcore.specs.declared.instruction.Operand.TheVariants.{Small}
 use Rattle.zcore.specs.Instruction.{bytes_of}
-use Rattle.zcore.specs.Step.{perform, push_word}
+use Rattle.zcore.specs.Execution.{perform, push_word}
 use Rattle.checker.specs.declared.resolved.Variable as source
 use Rattle.checker.specs.declared.resolved.Variable.TheVariants as variables
 use Rattle.checker.specs.World.{Situation, with_value}
@@ -19,7 +20,8 @@ use Rattle.code.proofs.Parts.{machine as at_words, pushes, Writes, global_writes
 use Rattle.code.proofs.Steps.{point, one_step, one_operand, two_operands, small_value}
 use Rattle.code.proofs.SingleSteps.{pull_step, pull_below_step, copy_step}
 use Rattle.code.proofs.Fitting.{Shaped}
-use Rattle.code.proofs.Arriving.{Running, at, around, here, LedFrom, Stands, room_for, code_here, arrives, arrives_on, situation_here}
+use Rattle.code.proofs.Arriving.{Running, at, around, here, LedFrom, Stands, room_for, code_here, arrives, arrives_on}
+use Rattle.code.proofs.Arriving.{situation_here}
 use Rattle.code.proofs.Variables.{memory_with, variable_held}
 use Rattle.code.proofs.Temporaries.{scratch_here, made}
 use Rattle.code.proofs.Delivering.{memory_after, locals_after, stack_after, delivered_led, stored_step}
@@ -106,7 +108,8 @@ module _ (c : Running) where
       let end = here c + length (bytes_of i) in
       let to = at_words (around c) (memory_with c m x v) (with_value x v (situation_here c)).locals rest world.text in
       delivered_led c (items.into x) v end (v ∷ rest) rest m is_d (scratch_here c) (omega (arith, short)) there.end
-      (one_step (point (here c) world.fuel) (point end world.fuel) (at_words (around c) m locals (v ∷ rest) world.text)
+      (one_step (point (here c) world.fuel) (point end world.fuel)
+      (at_words (around c) m locals (v ∷ rest) world.text)
       to
       (pull_step (around c) world.fuel m locals rest world.text (memory_with c m x v)
       (with_value x v (situation_here c)).locals (here c) (number_of x) v
@@ -185,7 +188,8 @@ module _ (c : Running) where
       let there = single c (items.keep x) i refl refl stands in
       let l1 = (with_value x v (situation_here c)).locals in
       let end = here c + length (bytes_of i) in
-      within_led (v ∷ s) (v ∷ s) (memory_with c m x v) (with_value x v (situation_here c)) end there.end (held.stored v)
+      within_led (v ∷ s) (v ∷ s) (memory_with c m x v) (with_value x v (situation_here c)) end there.end
+      (held.stored v)
       (held.locals_same v) (held.globals_same v)
       (fuel_same x v (situation_here c)) (text_same x v (situation_here c))
       (one_step (point (here c) world.fuel) (point end world.fuel) (at_words (around c) m locals (v ∷ s) world.text)
@@ -201,6 +205,7 @@ module _ (c : Running) where
       let there = single c items.drop_below i refl refl stands in
       let end = here c + length (bytes_of i) in
       arrives c (v ∷ x ∷ s) (v ∷ s) m (situation_here c) end there.end good.stored refl refl
-      (one_step (point (here c) world.fuel) (point end world.fuel) (at_words (around c) m locals (v ∷ x ∷ s) world.text)
+      (one_step (point (here c) world.fuel) (point end world.fuel)
+      (at_words (around c) m locals (v ∷ x ∷ s) world.text)
       (at_words (around c) m locals (v ∷ s) world.text)
       (pull_below_step (around c) world.fuel m locals s world.text (here c) x v there.held))

@@ -1,5 +1,6 @@
 -- Operands that are named one after another.
-use Rattle.std.proofs.Common.{◌≡◌, ℕ, zero, suc, ◌+◌, ◌<◌, List, [], ◌∷◌, ◌++◌, length, drop, slice_index_or, refl, sym, ap, ◌∙◌, arith, append_assoc}
+use Rattle.std.proofs.Common.{◌≡◌, ℕ, zero, suc, ◌+◌, ◌<◌, List, [], ◌∷◌, ◌++◌, length, drop, slice_index_or, refl}
+use Rattle.std.proofs.Common.{sym, ap, ◌∙◌, arith, append_assoc}
 use Rattle.std.proofs.Math.Seq.{drop-cons}
 use Rattle.zcore.specs.declared.instruction.Operand.{Operand}
 use Rattle.items.specs.Items as items
@@ -31,7 +32,8 @@ count_next (items.variable x) os = omega arith
 from_operand : (xs : List code_operand.Operand) (i : ℕ) (x : code_operand.Operand) → i < length xs
     → as_operands (drop i xs) ≡ as_operand (slice_index_or xs i x) ∷ as_operands (drop (i + 1) xs)
 from_operand xs i x h = let number : suc i ≡ i + 1 = omega arith in
-    ap as_operands (drop-cons xs i x h) ∙ ap (λ k. as_operand (slice_index_or xs i x) ∷ as_operands (drop k xs)) number
+    ap as_operands (drop-cons xs i x h) ∙ ap (λ k. as_operand (slice_index_or xs i x) ∷ as_operands (drop k xs))
+    number
 
 pub counted_on : (xs : List code_operand.Operand) (i : ℕ) (x : code_operand.Operand) (count one total : ℕ)
     → i < length xs → count + pushed_count (as_operands (drop i xs)) ≡ total

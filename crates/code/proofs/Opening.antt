@@ -5,7 +5,7 @@ use Rattle.zcore.specs.declared.instruction.Operand.TheVariants.{Large}
 use Rattle.zcore.specs.declared.instruction.Operation.TheVariants.{Call1n, Quit}
 use Rattle.zcore.specs.Bytes.{word_at}
 use Rattle.zcore.specs.Instruction.{bytes_of}
-use Rattle.zcore.specs.Step.{step, perform, call_packed}
+use Rattle.zcore.specs.Execution.{step, perform, call_packed}
 use Rattle.zcore.specs.Turn.{Whole, first_next, first_state, opening, entries, plays_from, last_place}
 use Rattle.zcore.proofs.Turning.{turn_ends_once}
 use Rattle.checker.specs.Resolved.{ProgramOf}
@@ -17,7 +17,7 @@ use Rattle.items.specs.Stack as stack
 use Rattle.code.specs.Addresses.{Addresses}
 use Rattle.code.specs.Instructions.{plain}
 use Rattle.code.specs.Laws.{Plays}
-use Rattle.code.specs.Standing.{HoldsProgram}
+use Rattle.code.specs.HeldProgram.{HoldsProgram}
 use Rattle.code.proofs.Play.{Does, Stored}
 use Rattle.code.proofs.Steps.{step_is, first_held, fits_one, one_operand, large_value}
 use Rattle.code.proofs.Keeps.{enter_keeps, from_no_fault, exec_no_fault}
@@ -73,7 +73,8 @@ module _ (story : List ℕ) (a : Addresses) (p : ProgramOf) (accepted : IsAccept
 
     pub plays_it : Plays story p full lines
     plays_it = record {
-      texts = ap (λ (o : Option Whole). map (λ (w : Whole). w.text) (entries o (λ whole. plays_from full whole lines)))
+      texts = ap
+          (λ (o : Option Whole). map (λ (w : Whole). w.text) (entries o (λ whole. plays_from full whole lines)))
           opened ∙ sym does.texts;
       place = ap (λ (o : Option Whole). last_place (entries o (λ whole. plays_from full whole lines))) opened
           ∙ sym does.place;

@@ -1,5 +1,6 @@
 -- Items that operate on words, with the fault of a division.
-use Rattle.std.proofs.Common.{◌≡◌, ◌≢◌, ℕ, zero, suc, ◌+◌, ◌-◌, ◌*◌, ◌%◌, ◌<◌, ◌≤◌, List, [], ◌∷◌, ◌++◌, codes, length, Some, None, Bool, true, false, refl, ap, subst, arith, length-append}
+use Rattle.std.proofs.Common.{◌≡◌, ◌≢◌, ℕ, zero, suc, ◌+◌, ◌-◌, ◌*◌, ◌%◌, ◌<◌, ◌≤◌, List, [], ◌∷◌, ◌++◌, codes}
+use Rattle.std.proofs.Common.{length, Some, None, Bool, true, false, refl, ap, subst, arith, length-append}
 use Rattle.std.specs.Prelude.{nat_le, if◌then◌else◌, ◌==◌, bit_and, bit_or}
 use Rattle.std.specs.List.{flat_map}
 use Rattle.std.proofs.lemmas.Bool.{le-leb}
@@ -12,7 +13,7 @@ use Rattle.zcore.specs.Operations.{least_operands, most_operands, has_result, ha
 use Rattle.zcore.specs.Instruction.{Instruction, FitsBranch, bytes_of}
 use Rattle.zcore.specs.State.{State, done}
 use Rattle.zcore.specs.Parts.{operand_value}
-use Rattle.zcore.specs.Step.{give_result, divide, modulo, perform}
+use Rattle.zcore.specs.Execution.{give_result, divide, modulo, perform}
 use Rattle.expressions.specs.declared.tree.Binary.{Binary}
 use Rattle.expressions.specs.declared.tree.Binary.TheVariants as binaries
 use Rattle.checker.specs.World.{Part, value_in}
@@ -23,21 +24,26 @@ use Rattle.items.specs.Items.{Item, Destination}
 use Rattle.items.specs.Items as items
 use Rattle.items.specs.Stack as stack
 use Rattle.code.proofs.Behind.{Holds, holds_append}
-use Rattle.code.specs.Instructions.{giving, branching, in_place, result_in, number_of, pull, fail, divided_by, divided}
+use Rattle.code.specs.Instructions.{giving, branching, in_place, result_in, number_of, pull, fail, divided_by}
+use Rattle.code.specs.Instructions.{divided}
 use Rattle.code.specs.Bytes.{text_bytes}
 use Rattle.code.proofs.Play.{Leads, stays}
 use Rattle.code.proofs.Memory.{with_variable}
 use Rattle.code.proofs.Parts.{machine as at_words, Reads}
-use Rattle.code.proofs.Steps.{point, leads_then, one_step, first_held, others_held, one_operand, two_operands, variable_value, landing}
+use Rattle.code.proofs.Steps.{point, leads_then, one_step, first_held, others_held, one_operand, two_operands}
+use Rattle.code.proofs.Steps.{variable_value, landing}
 use Rattle.code.proofs.SingleSteps.{branch_step}
 use Rattle.code.proofs.Fitting.{Shaped, held_bytes, encodable}
 use Rattle.code.proofs.ItemOperands.{constant_value}
 use Rattle.code.proofs.Texts.{division_line}
 use Rattle.code.proofs.Lengths.{one_length}
-use Rattle.code.proofs.Arriving.{Running, at, around, here, high, above, kept, LedFrom, Stands, code_here, code_held, situation_here}
+use Rattle.code.proofs.Arriving.{Running, at, around, here, high, above, kept, LedFrom, Stands, code_here, code_held}
+use Rattle.code.proofs.Arriving.{situation_here}
 use Rattle.code.proofs.Variables.{variable_held}
-use Rattle.code.proofs.Temporaries.{Scratch, scratch_here, scratch_with, reads_written, held_in, pull_temporary, others_held_pull}
-use Rattle.code.proofs.Alone.{Alone, by_operand, alone_count, alone_value, IsOperandHere, IsHere, next_place, plain_length, gives_led}
+use Rattle.code.proofs.Temporaries.{Scratch, scratch_here, scratch_with, reads_written, held_in, pull_temporary}
+use Rattle.code.proofs.Temporaries.{others_held_pull}
+use Rattle.code.proofs.Alone.{Alone, by_operand, alone_count, alone_value, IsOperandHere, IsHere, next_place}
+use Rattle.code.proofs.Alone.{plain_length, gives_led}
 use Rattle.code.proofs.ItemsThatPrint.{fails_led}
 use Rattle.code.proofs.Arithmetic.{shaped_result, reckons_led}
 
@@ -67,7 +73,8 @@ module _ (c : Running) where
   -- what a division comes to
   abbrev Divided : Bool → ℕ → Destination → List ℕ → List ℕ → stack.Next
   Divided faulty w d before rest =
-      stack.after_part ((if faulty then source.fault (codes "division by zero") else source.give w) (situation_here c))
+      stack.after_part
+      ((if faulty then source.fault (codes "division by zero") else source.give w) (situation_here c))
       (λ v situation. stack.delivered d v (stack.after (at c before) rest situation))
 
   -- what stands after the test
@@ -189,7 +196,8 @@ module _ (c : Running) where
       by_operand x (situation_here c) s (LedFrom c s) (λ v rest. Divided true (f v n) d s rest) tt (λ v rest alone.
       fails_led c (codes "division by zero") a.division_by_zero (here c) s s m
       (λ v situation. stack.delivered d v (stack.after (at c s) rest situation)) division_line holds.division_by_zero
-      (omega arith) (scratch_here c) h (stays (point (here c) world.fuel) (at_words (around c) m locals s world.text)))
+      (omega arith) (scratch_here c) h
+      (stays (point (here c) world.fuel) (at_words (around c) m locals s world.text)))
   number_led op f x n d s false e is is_d short h end least most result branch performs =
       by_operand x (situation_here c) s (LedFrom c s) (λ v rest. Divided false (f v n) d s rest) tt (λ v rest alone.
       let os = in_place x ∷ in_place (items.number n) ∷ [] in
@@ -198,7 +206,8 @@ module _ (c : Running) where
       let st1 = at_words (around c) m locals rest world.text in
       gives_led c op os d (f v n) (here c) s s rest m (v ∷ n ∷ []) is_d (scratch_here c)
       (omega (arith, short, alone_count x (situation_here c) s v rest alone)) (omega arith)
-      (shaped_result op os d least most result branch) (first_held m (here c) i [] h) (omega (arith, end, one_length i))
+      (shaped_result op os d least most result branch) (first_held m (here c) i [] h)
+      (omega (arith, end, one_length i))
       (two_operands st st1 st1 (in_place x) (in_place (items.number n)) v n
       (alone_value c x m world.text s v rest (scratch_here c) is alone) (constant_value st1 n))
       (performs v n e) (stays (point (here c) world.fuel) st))
@@ -214,7 +223,8 @@ module _ (c : Running) where
       (λ w left. stack.with_operand x (situation_here c) left (λ v rest. Divided (w == 0) (f v w) d s rest)))
   unfolding bytes_of
   divided_led item op f x items.pushed d [] is is_y is_d short stands code none least most result branch performs = tt
-  divided_led item op f x items.pushed d (w ∷ s) is is_y is_d short stands code none least most result branch performs =
+  divided_led item op f x items.pushed d (w ∷ s) is is_y is_d short stands code none least most result branch
+      performs =
       let m1 = with_variable m 248 w in
       let scratch = scratch_with c m 248 w (scratch_here c) (omega arith) (omega arith) in
       let h = subst (λ is. Holds m (here c) (flat_map bytes_of is)) code (code_held c item stands) in
@@ -234,7 +244,8 @@ module _ (c : Running) where
       let same = ap (λ is. length (flat_map bytes_of is)) code in
       number_led op f x n d s (n == 0) refl is is_d short h (omega (arith, stands.next, size, same)) least most result
       branch performs
-  divided_led item op f x (items.variable y) d s is is_y is_d short stands code none least most result branch performs =
+  divided_led item op f x (items.variable y) d s is is_y is_d short stands code none least most result branch
+      performs =
       let h = subst (λ is. Holds m (here c) (flat_map bytes_of is)) code (code_held c item stands) in
       let size = plain_length c item none in
       let same = ap (λ is. length (flat_map bytes_of is)) code in

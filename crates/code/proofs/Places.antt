@@ -1,5 +1,6 @@
 -- Where items stand, and their bytes.
-use Rattle.std.proofs.Common.{◌≡◌, ◌⊎◌, inl, inr, ℕ, zero, suc, ◌+◌, ◌-◌, ◌<◌, ◌≤◌, List, [], ◌∷◌, length, Some, true, false, refl, sym, ap, ◌∙◌, subst, arith, length-append}
+use Rattle.std.proofs.Common.{◌≡◌, ◌⊎◌, inl, inr, ℕ, zero, suc, ◌+◌, ◌-◌, ◌<◌, ◌≤◌, List, [], ◌∷◌, length, Some, true}
+use Rattle.std.proofs.Common.{false, refl, sym, ap, ◌∙◌, subst, arith, length-append}
 use Rattle.std.specs.Prelude.{slice_get, slice_index, nat_lt}
 use Rattle.std.proofs.lemmas.Bool.{cases_lt, lt-ltb, le-ltb}
 use Rattle.zcore.specs.Parts.{jump_target}
@@ -11,7 +12,8 @@ use Rattle.items.specs.Items.{Item}
 use Rattle.items.specs.Items as items
 use Rattle.code.specs.Addresses.{Addresses}
 use Rattle.code.specs.Instructions.{jump_offset}
-use Rattle.code.specs.Bytes.{item_bytes, target_of, part_of, parts_of, lefts_of, code_size, place_of, offset_of, items_bytes, code_bytes}
+use Rattle.code.specs.Bytes.{item_bytes, target_of, part_of, parts_of, lefts_of, code_size, place_of, offset_of}
+use Rattle.code.specs.Bytes.{items_bytes, code_bytes}
 use Rattle.code.proofs.Lengths.{item_length}
 
 -- How many bytes there are on to the end
@@ -153,7 +155,8 @@ first_on a places from y is f =
     subst (λ k. places (k + 1) ≡ places k + length (item_bytes a (offset_of places k y) y)) number (f 0 y refl)
 
 -- the bytes of the item of a number
-pub item_holds : (memory : List ℕ) (a : Addresses) (places : ℕ → ℕ) (base : ℕ) (is : List Item) (from n : ℕ) (i : Item)
+pub item_holds : (memory : List ℕ) (a : Addresses) (places : ℕ → ℕ) (base : ℕ) (is : List Item) (from n : ℕ)
+    (i : Item)
     → Follow a places from is
     → Holds memory (base + places from) (items_bytes a places from is) → slice_get is n ≡ Some i
     → Holds memory (base + places (from + n)) (item_bytes a (offset_of places (from + n) i) i)

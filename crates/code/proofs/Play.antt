@@ -1,5 +1,6 @@
 -- Which state of the machine stands for a state of the machine of items.
-use Rattle.std.proofs.Common.{◌≡◌, ℕ, ◌+◌, ◌*◌, ◌<◌, ◌≤◌, List, [], ◌∷◌, ◌++◌, length, reverse, drop, slice_index, Option, None}
+use Rattle.std.proofs.Common.{◌≡◌, ℕ, ◌+◌, ◌*◌, ◌<◌, ◌≤◌, List, [], ◌∷◌, ◌++◌, length, reverse, drop, slice_index}
+use Rattle.std.proofs.Common.{Option, None}
 use Rattle.std.specs.Prelude.{map}
 use Rattle.std.specs.List.{All}
 use Rattle.zcore.specs.declared.next.Next.{Next}
@@ -7,7 +8,7 @@ use Rattle.zcore.specs.Bytes.{word_at}
 use Rattle.zcore.specs.Header.{globals_of, static_base_of}
 use Rattle.zcore.specs.Parts.{unpacked}
 use Rattle.zcore.specs.State.{Frame, State, done}
-use Rattle.zcore.specs.Step.{step}
+use Rattle.zcore.specs.Execution.{step}
 use Rattle.zcore.specs.Turn.{Whole, Turns, first_environment, plays_from, last_place}
 use Rattle.checker.specs.Resolved.{ProgramOf}
 use Rattle.checker.specs.World.{Outcome, World}

@@ -15,7 +15,12 @@ use Rattle.checker.specs.Resolved as source
 use Rattle.checker.specs.Meaning.{is_true}
 use Rattle.checker.specs.Printable.{IsPrintableItem, IsPrintableAction, ArePrintableActions}
 use Rattle.lexer.specs.Printable.{IsPrintable}
-use Rattle.items.specs.Items.{Item, Operand, pushed, number, variable, Destination, push, into, nowhere, operand_of, alone, left_of, if_pushed, is_few, agrees, value_count, operand_count, operands_count, branch_count, many_count, moved, truth_items, after_items, kept_items, value_items, operands_items, branch_items, many_items, also_items, printed_count, action_count, alone_items, printed_items, prints_items, action_items, actions_items, return_true, routine_items}
+use Rattle.items.specs.Items.{Item, Operand, pushed, number, variable, Destination, push, into, nowhere, operand_of}
+use Rattle.items.specs.Items.{alone, left_of, if_pushed, is_few, agrees, value_count, operand_count, operands_count}
+use Rattle.items.specs.Items.{branch_count, many_count, moved, truth_items, after_items, kept_items, value_items}
+use Rattle.items.specs.Items.{operands_items, branch_items, many_items, also_items, printed_count, action_count}
+use Rattle.items.specs.Items.{actions_count, alone_items, printed_items, prints_items, Exits, exits_to, action_items}
+use Rattle.items.specs.Items.{actions_items, return_true, routine_items}
 use Rattle.items.specs.Items as items
 
 -- a text that an item prints has only bytes from 32 to 126
@@ -133,7 +138,8 @@ compare_fine op a b f g =
       branch = branches;
     }
 
-equal_fine : (op : Equality) (a : Value) (bs : Values) → ValueFine a → ValuesFine bs → ValueFine (source.equal op a bs)
+equal_fine : (op : Equality) (a : Value) (bs : Values) → ValueFine a → ValuesFine bs
+    → ValueFine (source.equal op a bs)
 equal_fine op a bs f g = record {
   value = λ at d. either_fine (is_few bs) _ _
       (truth_fine at (operand_count a (operand_of a bs) + operands_count bs + 1) d (few_items at true) (few at true))
@@ -157,7 +163,8 @@ equal_fine op a bs f g = record {
         (g.all (at + operand_count a (operand_of a bs))) tt)
 
     several : (at : ℕ) (when : Bool) (t : ℕ) → Fine (several_items at when t)
-    several at when t = joined (value_items at a push) _ (f.value at push) (g.many (at + value_count a push) op when t)
+    several at when t = joined (value_items at a push) _ (f.value at push)
+        (g.many (at + value_count a push) op when t)
 
 none_fine : ValuesFine none
 none_fine = record {
@@ -226,33 +233,37 @@ prints_fine (i ∷ is) h at = joined (printed_items at i) _ (printed_fine i (All
     (prints_fine is (All-tail IsPrintableItem i is h) (at + printed_count i))
 
 mutual
-  action_fine : (a : Action) → IsPrintableAction a → (at : ℕ) → Fine (action_items at a)
-  action_fine source.empty h at = nothing
-  action_fine (source.block xs) h at = actions_fine xs h at
-  action_fine (source.text_alone bytes) h at = first _ _ h (first _ _ tt (first _ _ tt nothing))
-  action_fine (source.print is) h at = prints_fine is h at
-  action_fine (source.print_return is) h at =
+  action_fine : (x : Exits) (a : Action) → IsPrintableAction a → (at : ℕ) → Fine (action_items x at a)
+  action_fine x source.empty h at = nothing
+  action_fine x (source.block xs) h at = actions_fine x xs h at
+  action_fine x (source.text_alone bytes) h at = first _ _ h (first _ _ tt (first _ _ tt nothing))
+  action_fine x (source.print is) h at = prints_fine is h at
+  action_fine x (source.print_return is) h at =
       joined (prints_items at is) _ (prints_fine is h at) (first _ _ tt (first _ _ tt nothing))
-  action_fine source.new_line h at = first _ _ tt nothing
-  action_fine (source.if_then v a) h at =
+  action_fine x source.new_line h at = first _ _ tt nothing
+  action_fine x (source.if_then v a) h at =
       joined (branch_items at v false _) _ ((value_fine v).branch at false _)
-      (action_fine a h (at + branch_count v false))
-  action_fine (source.if_else v a b) h at =
+      (action_fine x a h (at + branch_count v false))
+  action_fine x (source.if_else v a b) h at =
       joined (branch_items at v false _) _ ((value_fine v).branch at false _)
-      (joined (action_items (at + branch_count v false) a) _ (action_fine a h.0 (at + branch_count v false))
-      (first _ _ tt (action_fine b h.1 (at + branch_count v false + action_count a + 1))))
-  action_fine (source.while_do v a) h at =
+      (joined (action_items x (at + branch_count v false) a) _ (action_fine x a h.0 (at + branch_count v false))
+      (first _ _ tt (action_fine x b h.1 (at + branch_count v false + action_count a + 1))))
+  action_fine x (source.while_do v a) h at =
+      let inside = exits_to (at + branch_count v false + action_count a)
+      (at + branch_count v false + action_count a + 1) in
       joined (branch_items at v false _) _ ((value_fine v).branch at false _)
-      (last (action_items (at + branch_count v false) a) _ (action_fine a h (at + branch_count v false)) tt)
-  action_fine (source.return_value v) h at = last (alone_items at v) _ (alone_fine v at) tt
-  action_fine source.quit h at = first _ _ tt nothing
-  action_fine (source.effect v) h at = (value_fine v).value at nowhere
+      (last (action_items inside (at + branch_count v false) a) _
+      (action_fine inside a h (at + branch_count v false)) tt)
+  action_fine x (source.return_value v) h at = last (alone_items at v) _ (alone_fine v at) tt
+  action_fine x source.quit h at = first _ _ tt nothing
+  action_fine x (source.effect v) h at = (value_fine v).value at nowhere
 
-  actions_fine : (xs : Actions) → ArePrintableActions xs → (at : ℕ) → Fine (actions_items at xs)
-  actions_fine stop h at = nothing
-  actions_fine (next a rest) h at =
-      joined (action_items at a) _ (action_fine a h.0 at) (actions_fine rest h.1 (at + action_count a))
+  actions_fine : (x : Exits) (xs : Actions) → ArePrintableActions xs → (at : ℕ) → Fine (actions_items x at xs)
+  actions_fine x stop h at = nothing
+  actions_fine x (next a rest) h at =
+      joined (action_items x at a) _ (action_fine x a h.0 at) (actions_fine x rest h.1 (at + action_count a))
 
 pub texts_printable : (r : RoutineOf) → ArePrintableActions r.body → All HasPrintableText (routine_items r)
 texts_printable r h =
-    (joined (actions_items 0 r.body) (return_true ∷ []) (actions_fine r.body h 0) (first _ _ tt nothing)).all
+    let x = exits_to (actions_count r.body) (actions_count r.body) in
+    (joined (actions_items x 0 r.body) (return_true ∷ []) (actions_fine x r.body h 0) (first _ _ tt nothing)).all

@@ -1,5 +1,6 @@
 -- What is done with the word that a routine gives back.
-use Rattle.std.proofs.Common.{◌≡◌, ℕ, suc, ◌+◌, ◌<◌, ◌≤◌, List, [], ◌∷◌, ◌++◌, length, Option, Some, None, Bool, true, false, refl, sym, ap, ◌∙◌, subst, arith}
+use Rattle.std.proofs.Common.{◌≡◌, ℕ, suc, ◌+◌, ◌<◌, ◌≤◌, List, [], ◌∷◌, ◌++◌, length, Option, Some, None, Bool, true}
+use Rattle.std.proofs.Common.{false, refl, sym, ap, ◌∙◌, subst, arith}
 use Rattle.std.specs.Prelude.{slice_index, nat_lt, nat_le, nat_eq, if◌then◌else◌, ◌||◌}
 use Rattle.std.specs.List.{All}
 use Rattle.std.proofs.lemmas.Bool.{lt-ltb, le-leb, leb-true, ne_eqb}
@@ -13,7 +14,7 @@ use Rattle.zcore.specs.Instruction.{bytes_of}
 use Rattle.zcore.specs.State.{Frame, State, Out, done, bound}
 use Rattle.zcore.specs.State as state
 use Rattle.zcore.specs.Parts.{push, goes_on, test_return, leave, give_back, store_result, write_variable}
-use Rattle.zcore.specs.Step.{step}
+use Rattle.zcore.specs.Execution.{step}
 use Rattle.zcore.specs.Turn.{first_environment}
 use Rattle.zcore.proofs.Holding.{holds_byte}
 use Rattle.checker.specs.declared.resolved.Variable as source
@@ -26,7 +27,8 @@ use Rattle.items.specs.Stack.{Caller}
 use Rattle.items.specs.Stack as stack
 use Rattle.code.proofs.Behind.{Holds, holds_on}
 use Rattle.code.specs.Instructions.{plain, number_of, call_result}
-use Rattle.code.proofs.Play.{Leads, items_in, address, frames_of, frame_of, back_of, result_of, first_count, other_counts, IsCaller, Led}
+use Rattle.code.proofs.Play.{Leads, items_in, address, frames_of, frame_of, back_of, result_of, first_count}
+use Rattle.code.proofs.Play.{other_counts, IsCaller, Led}
 use Rattle.code.proofs.Parts.{Around, machine as at_words, pushes}
 use Rattle.code.proofs.Steps.{point, one_step, first_held, others_held}
 use Rattle.code.proofs.Ends.{does_after, quits}
@@ -206,7 +208,8 @@ module _ (c : Running) where
               end made_so;
         }
 
-    goes_back : (words left : List ℕ) (v : ℕ) → d.destination ≡ items.nowhere → Backs (d ∷ callers) counts words left v
+    goes_back : (words left : List ℕ) (v : ℕ) → d.destination ≡ items.nowhere
+        → Backs (d ∷ callers) counts words left v
         → LedBy (d ∷ callers) counts words (stack.goes (resumed d.stack (situation_here caller_runs)))
     goes_back words left v to backs =
         let end = at_words e m d.locals d.stack world.text in
@@ -234,7 +237,8 @@ module _ (c : Running) where
     stores_back : (x : source.Variable) (words left : List ℕ) (v : ℕ) → d.destination ≡ items.into x
         → IsDestination p (routine_at p.routines d.routine).locals (items.into x)
         → Backs (d ∷ callers) counts words left v
-        → LedBy (d ∷ callers) counts words (stack.goes (resumed d.stack (with_value x v (situation_here caller_runs))))
+        → LedBy (d ∷ callers) counts words
+        (stack.goes (resumed d.stack (with_value x v (situation_here caller_runs))))
     stores_back x words left v to is backs =
         let held = variable_held caller_runs m x (scratch_here caller_runs) is in
         let w = held.writes v in

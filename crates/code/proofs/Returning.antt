@@ -5,7 +5,7 @@ use Rattle.std.proofs.lemmas.Bool.{eqb-true}
 use Rattle.zcore.specs.declared.instruction.Operation.TheVariants as operations
 use Rattle.zcore.specs.Instruction.{bytes_of}
 use Rattle.zcore.specs.Parts.{give_back}
-use Rattle.zcore.specs.Step.{perform, return_popped}
+use Rattle.zcore.specs.Execution.{perform, return_popped}
 use Rattle.items.specs.Items.{Destination}
 use Rattle.items.specs.Items as items
 use Rattle.items.specs.Stack.{Caller}

@@ -13,10 +13,11 @@ use Rattle.forms.specs.declared.layout.Form.TheVariants.{One, Two, Far}
 use Rattle.forms.specs.declared.layout.Part.{Part}
 use Rattle.forms.specs.declared.layout.BranchUse.{BranchUse}
 use Rattle.forms.specs.Layout.{uses}
-use Rattle.items.specs.Items.{Item, pushed, number, variable, push, into, nowhere, is_zero, same, move, operate, step, print_text, branch, call, return}
+use Rattle.items.specs.Items.{Item, pushed, number, variable, push, into, nowhere, is_zero, same, move, operate, step}
+use Rattle.items.specs.Items.{print_text, branch, call, return}
 use Rattle.code.specs.Addresses.{Addresses}
 use Rattle.code.specs.Bytes.{item_bytes, parts_of}
-use Rattle.code.specs.Standing.{start_code}
+use Rattle.code.specs.HeldProgram.{start_code}
 
 abbrev a : Addresses
 a = record { routines = 300 ∷ 400 ∷ []; division_by_zero = 515; not_a_character = 520 }
@@ -135,7 +136,8 @@ abbrev over_text : ℕ → List Part
 over_text size = record {
   size = 2;
   target = Some 2;
-} ∷ record { size = size; target = None } ∷ record { size = 3; target = None } ∷ record { size = 1; target = None } ∷ []
+} ∷ record { size = size; target = None } ∷ record { size = 3; target = None } ∷ record { size = 1; target = None }
+    ∷ []
 
 signs_3070 : uses 0 (over_text 8189) ≡ one_use (record { form = Two; offset = 8191 })
 signs_3070 = refl

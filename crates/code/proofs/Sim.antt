@@ -19,7 +19,8 @@ pub does_same : (full : ℕ) (here : Next) (t : State) (w v : World) (o : Outcom
 does_same full here t w v o same d = record {
   whole = d.whole;
   turns = d.turns;
-  texts = d.texts ∙ ap (λ ts. ts ++ map (λ (x : Whole). x.text) (d.whole ∷ plays_from full d.whole v.lines)) same.texts
+  texts = d.texts ∙ ap (λ ts. ts ++ map (λ (x : Whole). x.text) (d.whole ∷ plays_from full d.whole v.lines))
+      same.texts
       ∙ ap (λ ls. w.texts ++ map (λ (x : Whole). x.text) (d.whole ∷ plays_from full d.whole ls)) same.lines;
   place = d.place ∙ ap (λ ls. last_place (d.whole ∷ plays_from full d.whole ls)) same.lines;
 }
@@ -46,7 +47,8 @@ module _ (story : List ℕ) (a : Addresses) (p : ProgramOf) (full : ℕ) where
       → Does full here t w o
   led_on n later here t w (stack.goes s) o l keeps e =
       does_after full w o here (next_of story a p s) t (state_of story a p s l.memory l.count l.counts) l.leads
-      (does_same full (next_of story a p s) (state_of story a p s l.memory l.count l.counts) w s.situation.world o keeps
+      (does_same full (next_of story a p s) (state_of story a p s l.memory l.count l.counts) w s.situation.world o
+      keeps
       (later s l.memory l.count l.counts o l.good e))
   led_on n later here t w (stack.ends x) o l keeps e = let is : x ≡ o = cc in subst (λ y. Does full here t w y) is l
   led_on n later here t w stack.stuck o l keeps e = absurd (cc)

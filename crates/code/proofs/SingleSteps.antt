@@ -1,5 +1,6 @@
 -- The steps of single instructions, with words and variables as they are.
-use Rattle.std.proofs.Common.{◌≡◌, ℕ, ◌+◌, ◌-◌, ◌%◌, ◌<◌, ◌≤◌, List, [], ◌∷◌, length, Some, None, Bool, true, false, refl, ◌∙◌, subst, arith}
+use Rattle.std.proofs.Common.{◌≡◌, ℕ, ◌+◌, ◌-◌, ◌%◌, ◌<◌, ◌≤◌, List, [], ◌∷◌, length, Some, None, Bool, true, false}
+use Rattle.std.proofs.Common.{refl, ◌∙◌, subst, arith}
 use Rattle.std.specs.Prelude.{nat_lt, nat_le, nat_eq, if◌then◌else◌}
 use Rattle.std.specs.List.{flat_map}
 use Rattle.std.proofs.lemmas.Bool.{lt-ltb, le-leb, ne_eqb}
@@ -12,14 +13,20 @@ use Rattle.zcore.specs.Instruction.{Instruction, bytes_of, IsEncodable, FitsOper
 use Rattle.zcore.specs.State.{Frame, State, Out, done, halt, bound}
 use Rattle.zcore.specs.State as state
 use Rattle.zcore.specs.Parts as parts
-use Rattle.zcore.specs.Parts.{read_variable, write_variable, read_in_place, write_in_place, test_variable, test_pull, operand_value, operand_values, test_result, store_result, goes_on, test_target, go, take_branch, branch_on, is_code}
-use Rattle.zcore.specs.Step as machine
-use Rattle.zcore.specs.Step.{give_result, divide, modulo, load, increment, decrement, push_word, jump, perform, execute, step}
+use Rattle.zcore.specs.Parts.{read_variable, write_variable, read_in_place, write_in_place, test_variable, test_pull}
+use Rattle.zcore.specs.Parts.{operand_value, operand_values, test_result, store_result, goes_on, test_target, go}
+use Rattle.zcore.specs.Parts.{take_branch, branch_on, is_code}
+use Rattle.zcore.specs.Execution as machine
+use Rattle.zcore.specs.Execution.{give_result, divide, modulo, load, increment, decrement, push_word, jump, perform}
+use Rattle.zcore.specs.Execution.{execute, step}
 use Rattle.code.proofs.Behind.{Holds}
 use Rattle.code.specs.Instructions.{plain, giving, branching, push, pull, copy, flag}
 use Rattle.code.proofs.Play.{Leads, moves}
-use Rattle.code.proofs.Parts.{Around, machine as at_words, pushes, pops, tops, writes_top, can_pull_top, Reads, Writes}
-use Rattle.code.proofs.Steps.{point, one_step, first_held, others_held, step_is, fits_one, one_operand, small_value, large_value, reads_in_place, writes_in_place, named_variable, gives_top, gives_variable, landing, branches}
+use Rattle.code.proofs.Parts.{Around, machine as at_words, pushes, pops, tops, writes_top, can_pull_top, Reads}
+use Rattle.code.proofs.Parts.{Writes}
+use Rattle.code.proofs.Steps.{point, one_step, first_held, others_held, step_is, fits_one, one_operand, small_value}
+use Rattle.code.proofs.Steps.{large_value, reads_in_place, writes_in_place, named_variable, gives_top, gives_variable}
+use Rattle.code.proofs.Steps.{landing, branches}
 
 module _ (e : Around) (fuel : ℕ) where
   -- Words that are pushed
@@ -194,14 +201,16 @@ module _ (e : Around) (fuel : ℕ) where
       (at_words e m l s1 t)
   branch_step m l s s1 t q d op operands values when holds fits v is near above some within h =
       let n = q + length (bytes_of (branching op operands when (2 + d))) in
-      step_is (point q fuel) (at_words e m l s t) (at_words e m l s1 t) (branching op operands when (2 + d)) values fits
+      step_is (point q fuel) (at_words e m l s t) (at_words e m l s1 t) (branching op operands when (2 + d)) values
+      fits
       h v
       ∙ is (point q fuel) n (at_words e m l s1 t)
       ∙ branches (point q fuel) n d when holds (at_words e m l s1 t) near (omega (arith, some)) (omega (arith, above))
       within
 
   -- a jump ahead
-  pub jump_step : (m l s t : List ℕ) (q offset target : ℕ) → offset < 65536 → parts.jump_target (q + 3) offset ≡ target
+  pub jump_step : (m l s t : List ℕ) (q offset target : ℕ) → offset < 65536
+      → parts.jump_target (q + 3) offset ≡ target
       → 64 ≤ q → q < target → target < length m
       → Holds m q (bytes_of (plain operations.Jump (Large offset ∷ [])))
       → step (point q fuel) (at_words e m l s t) ≡ done (point target fuel) (at_words e m l s t)

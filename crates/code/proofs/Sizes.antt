@@ -1,5 +1,6 @@
 -- How many bytes items have.
-use Rattle.std.proofs.Common.{◌≡◌, ◌≤◌, ◌+◌, ◌-◌, ◌*◌, ◌==◌, ℕ, Bool, true, false, List, [], ◌∷◌, ◌++◌, length, take, refl, ap, arith, length-append, append-nil}
+use Rattle.std.proofs.Common.{◌≡◌, ◌≤◌, ◌+◌, ◌-◌, ◌*◌, ◌==◌, ℕ, Bool, true, false, List, [], ◌∷◌, ◌++◌, length, take}
+use Rattle.std.proofs.Common.{refl, ap, arith, length-append, append-nil}
 use Rattle.std.specs.Prelude.{nat_lt, if◌then◌else◌, slice_index}
 use Rattle.std.specs.List.{flat_map}
 use Rattle.std.proofs.lemmas.List.{length-take}
@@ -23,18 +24,24 @@ use Rattle.checker.specs.Meaning.{is_character}
 use Rattle.items.specs.Items.{Item, Destination, Test}
 use Rattle.items.specs.Items as items
 use Rattle.code.specs.Instructions as spec
-use Rattle.code.specs.Instructions.{plain, giving, in_place, constant, pushed_count, named_from, operands, takes, result_in, fail, arithmetic, divided, divided_by, binary_code, prefix_code, move_code, step_code, character_code, tested_character, labelled, test_operation, tested_code, asks_none, least_word, branch_code, call_operation, call_result, calling, call_code, return_code, most_tested, most_arguments}
+use Rattle.code.specs.Instructions.{plain, giving, in_place, constant, pushed_count, named_from, operands, takes}
+use Rattle.code.specs.Instructions.{result_in, fail, arithmetic, divided, divided_by, binary_code, prefix_code}
+use Rattle.code.specs.Instructions.{move_code, step_code, character_code, tested_character, labelled, test_operation}
+use Rattle.code.specs.Instructions.{tested_code, asks_none, least_word, branch_code, call_operation, call_result}
+use Rattle.code.specs.Instructions.{calling, call_code, return_code, most_tested, most_arguments}
 use Rattle.code.specs.Bytes.{bytes_of_all, no_addresses, part_of, parts_of, code_size}
 use Rattle.code.proofs.Most.{most, most_of}
 use Rattle.code.proofs.Lengths.{all_length, one_length, labelled_length, beside}
-use Rattle.code.proofs.SizesOfInstructions.{opcode_few, opcode_most, operand_count, parts_length, few_bytes, constant_few, operand_few, one_count, two_count, taken_few}
+use Rattle.code.proofs.SizesOfInstructions.{opcode_few, opcode_most, operand_count, parts_length, few_bytes}
+use Rattle.code.proofs.SizesOfInstructions.{constant_few, operand_few, one_count, two_count, taken_few}
 use Rattle.code.proofs.SizesOfTexts.{text_few}
 
 -- Items
 
 giving_few : (op : Operation) (a b : Operand) (d : Destination) → has_more_types op ≡ false
     → length (operand_bytes a) ≤ 2 → length (operand_bytes b) ≤ 2
-    → length (bytes_of (giving op (a ∷ b ∷ []) (result_in d))) ≤ 3 + length (operand_bytes a) + length (operand_bytes b)
+    → length (bytes_of (giving op (a ∷ b ∷ []) (result_in d))) ≤ 3 + length (operand_bytes a) + length
+    (operand_bytes b)
 giving_few op a b d e h k = omega (arith, few_bytes (giving op (a ∷ b ∷ []) (result_in d)) e, two_count a b)
 
 arithmetic_few : (op : Operation) (x y : items.Operand) (d : Destination) → has_more_types op ≡ false
@@ -47,7 +54,8 @@ fail_size : (n : ℕ) → length (bytes_of_all (fail n)) ≡ 4
 unfolding bytes_of
 fail_size n = refl
 
-either_all : (b : Bool) (xs ys : List Instruction) (n : ℕ) → length (bytes_of_all xs) ≤ n → length (bytes_of_all ys) ≤ n
+either_all : (b : Bool) (xs ys : List Instruction) (n : ℕ) → length (bytes_of_all xs) ≤ n
+    → length (bytes_of_all ys) ≤ n
     → length (bytes_of_all (if b then xs else ys)) ≤ n
 either_all true xs ys n h k = h
 either_all false xs ys n h k = k
@@ -141,7 +149,13 @@ character_few items.pushed = omega arith
 character_few (items.number n) =
     let i = plain operations.PrintCharacter (constant n ∷ []) in
     either_all (is_character n) (i ∷ []) (fail 0) 24
-    (omega (arith, plain_few operations.PrintCharacter (constant n) refl, constant_few (nat_lt n 256) n, one_length i))
+    (omega (
+      arith,
+      plain_few operations.PrintCharacter (constant n) refl,
+      constant_few (nat_lt n 256) n,
+      one_length
+          i,
+    ))
     (omega (arith, fail_size 0))
 character_few (items.variable x) = omega arith
 
@@ -259,7 +273,8 @@ no_text is = ap length (append-nil (bytes_of_all is))
 
 pub part_few : (i : Item) (n : ℕ) (rest : List ℕ) → part_size n (part_of i) rest ≤ most i
 unfolding bytes_of
-part_few (items.move o d) n rest = omega (arith, no_text (move_code o d ∷ []), one_length (move_code o d), move_few o d)
+part_few (items.move o d) n rest = omega
+    (arith, no_text (move_code o d ∷ []), one_length (move_code o d), move_few o d)
 part_few (items.apply_prefix op o d) n rest = omega (arith, no_text (prefix_code op o d), prefix_few op o d)
 part_few (items.operate op x y d) n rest =
     omega (arith, no_text (binary_code no_addresses op x y d), binary_few op x y d)
@@ -286,7 +301,8 @@ part_few (items.call r os d) n rest =
       call_few (slice_index no_addresses.routines r) given d,
       taken_length most_arguments os,
     )
-part_few (items.return o) n rest = omega (arith, no_text (return_code o ∷ []), one_length (return_code o), return_few o)
+part_few (items.return o) n rest = omega
+    (arith, no_text (return_code o ∷ []), one_length (return_code o), return_few o)
 
 lefts_few : (at : ℕ) (is : List Item) → first (lefts at (parts_of is)) ≤ most_of is
 lefts_few at [] = omega arith

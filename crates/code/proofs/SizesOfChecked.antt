@@ -1,5 +1,6 @@
 -- The code of a checked program that is not too large.
-use Rattle.std.proofs.Common.{◌≡◌, ◌≤◌, ◌+◌, ℕ, Bool, true, false, List, [], ◌∷◌, map, Option, Some, None, refl, ap, ◌∙◌, arith}
+use Rattle.std.proofs.Common.{◌≡◌, ◌≤◌, ◌+◌, ℕ, Bool, true, false, List, [], ◌∷◌, map, Option, Some, None, refl, ap}
+use Rattle.std.proofs.Common.{◌∙◌, arith}
 use Rattle.std.specs.Prelude.{nat_lt, if◌then◌else◌}
 use Rattle.std.specs.List.{All}
 use Rattle.std.proofs.lemmas.List.Elements.{All-nil, All-cons, All-head, All-tail}
@@ -13,8 +14,9 @@ use Rattle.zcore.specs.declared.header.Version.{Version}
 use Rattle.checker.specs.declared.checked.CheckedRoutine.{CheckedRoutine}
 use Rattle.checker.specs.Names.{Table, table_of}
 use Rattle.checker.specs.Programs.{resolve_routine, resolve_program, routines_of, routine_trees, title, IsCheckedOf}
-use Rattle.checker.specs.Resolved.{RoutineOf, ProgramOf, CheckedProgram, routine_of, title_of}
-use Rattle.checker.specs.Sizes.{sum_of_parts, greatest_weight, first_heavy, heavy_fault, size_fault, fault}
+use Rattle.checker.specs.Places.{routines_place}
+use Rattle.checker.specs.Resolved.{RoutineOf, ProgramOf, CheckedProgram, program_of, routine_of, title_of}
+use Rattle.checker.specs.Sizes.{greatest_weight, first_heavy, heavy_fault, size_fault, fault}
 use Rattle.code.specs.Sizes.{routine_size, routines_size}
 use Rattle.code.specs.Laws.{SmallSourcesHaveSmallCode}
 use Rattle.code.proofs.SizesOfPrograms.{IsRoutineShort, code_is_short}
@@ -49,7 +51,7 @@ tests : (c : CheckedProgram) (version : Version) → size_fault c version ≡ No
 tests c version e =
     let heavy = heavy_fault (first_heavy c.routines) in
     let large = nat_lt (greatest_weight version) c.weight in
-    let parts = small_first (nat_lt 65535 (sum_of_parts c)) (fault 30 0) (if large then Some (fault 31 0)
+    let parts = small_first (nat_lt 65535 (routines_place (program_of c))) (fault 30 0) (if large then Some (fault 31 0)
     else heavy) e in
     let whole = small_first large (fault 31 0) heavy parts.1 in
     record {

@@ -9,7 +9,12 @@ use Rattle.expressions.specs.declared.tree.Prefix.{Prefix}
 use Rattle.expressions.specs.declared.tree.Step.{Step}
 use Rattle.expressions.specs.Tree.{NameTree, ExpressionTree, ExpressionTrees}
 use Rattle.expressions.specs.Tree as trees
-use Rattle.expressions.specs.Grammar.{IsE, e_plain, e_assign, IsE1, e1_plain, e1_logical, IsN1, n1_plain, n1_not, IsE2, e2_plain, e2_compare, e2_equal, IsChoice, choice_last, choice_or, IsE3, e3_plain, e3_add, IsE4, e4_plain, e4_scale, IsN4, n4_plain, n4_complement, IsU, u_plain, u_minus, u_before, u_after, IsP, p_number, p_character, p_true, p_false, p_nothing, p_name, p_call, p_call_with, p_parenthesised, IsArguments, arguments_last, arguments_comma}
+use Rattle.expressions.specs.Grammar.{IsE, e_plain, e_assign, IsE1, e1_plain, e1_logical, IsN1, n1_plain, n1_not}
+use Rattle.expressions.specs.Grammar.{IsE2, e2_plain, e2_compare, e2_equal, IsChoice, choice_last, choice_or, IsE3}
+use Rattle.expressions.specs.Grammar.{e3_plain, e3_add, IsE4, e4_plain, e4_scale, IsN4, n4_plain, n4_complement, IsU}
+use Rattle.expressions.specs.Grammar.{u_plain, u_minus, u_before, u_after, IsP, p_number, p_character, p_true}
+use Rattle.expressions.specs.Grammar.{p_false, p_nothing, p_name, p_call, p_call_with, p_parenthesised, IsArguments}
+use Rattle.expressions.specs.Grammar.{arguments_last, arguments_comma}
 use Rattle.syntax.specs.Weight.{expression_weight, expression_weights}
 use Rattle.checker.specs.declared.binding.Binding.{Binding}
 use Rattle.checker.specs.declared.binding.Binding.TheVariants as bindings
@@ -35,7 +40,8 @@ module _ (look : List ℕ → Option Binding) where
     pub weighs : 32 * tokens (resolve look e) ≤ expression_weight e
 
   pub record AllFit (es : ExpressionTrees) : Type 0 where
-    pub arguments : 32 * list_tokens (resolve_all look es) + 32 * count_of (resolve_all look es) ≤ expression_weights es
+    pub arguments : 32 * list_tokens (resolve_all look es) + 32 * count_of (resolve_all look es) ≤ expression_weights
+        es
     pub others : 32 * or_tokens (resolve_all look es) ≤ expression_weights es
 
   -- the values with which one is compared
@@ -53,7 +59,8 @@ module _ (look : List ℕ → Option Binding) where
   none_fit = record { arguments = omega arith; others = omega arith }
 
   more_fit : {e : ExpressionTree} {es : ExpressionTrees} → Fits e → AllFit es → AllFit (trees.more e es)
-  more_fit a b = record { arguments = omega (arith, a.weighs, b.arguments); others = omega (arith, a.weighs, b.others) }
+  more_fit a b =
+      record { arguments = omega (arith, a.weighs, b.arguments); others = omega (arith, a.weighs, b.others) }
 
   sides_fit : {e : ExpressionTree} {es : ExpressionTrees} → Fits e → AllFit es → Sides (trees.more e es)
   sides_fit a b = record { all = more_fit a b; first = omega (arith, a.weighs, b.others) }

@@ -1,5 +1,6 @@
 -- How many bytes instructions and their operands have.
-use Rattle.std.proofs.Common.{◌≡◌, ◌≤◌, ◌+◌, ◌-◌, ◌*◌, ◌==◌, ℕ, Bool, true, false, List, [], ◌∷◌, ◌++◌, length, ap, arith, length-append, append-nil}
+use Rattle.std.proofs.Common.{◌≡◌, ◌≤◌, ◌+◌, ◌-◌, ◌*◌, ◌==◌, ℕ, Bool, true, false, List, [], ◌∷◌, ◌++◌, length, ap}
+use Rattle.std.proofs.Common.{arith, length-append, append-nil}
 use Rattle.std.specs.Prelude.{nat_lt, if◌then◌else◌}
 use Rattle.std.specs.List.{flat_map}
 use Rattle.zcore.specs.declared.instruction.Operand.{Operand}
@@ -7,7 +8,8 @@ use Rattle.zcore.specs.declared.instruction.Operand.TheVariants.{Large, Small}
 use Rattle.zcore.specs.declared.operations.OperandCount.{OperandCount}
 use Rattle.zcore.specs.declared.operations.OperandCount.TheVariants.{Two, One, Zero, Several}
 use Rattle.zcore.specs.Operations.{count_of, number_of, has_more_types}
-use Rattle.zcore.specs.Instruction.{Instruction, type_of, opcode_bytes, operand_bytes, result_bytes, branch_bytes, bytes_of}
+use Rattle.zcore.specs.Instruction.{Instruction, type_of, opcode_bytes, operand_bytes, result_bytes, branch_bytes}
+use Rattle.zcore.specs.Instruction.{bytes_of}
 use Rattle.items.specs.Items.{Item, Destination, Test}
 use Rattle.items.specs.Items as items
 use Rattle.code.specs.Instructions.{in_place, constant, pushed_count, named_from, operands, takes}

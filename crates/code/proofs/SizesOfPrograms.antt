@@ -8,20 +8,22 @@ use Rattle.lexer.specs.Token.{Lexeme, name, sign}
 use Rattle.expressions.specs.Tree.{NameTree}
 use Rattle.statements.specs.Tree.{StatementTrees}
 use Rattle.statements.specs.Grammar.{IsSs}
-use Rattle.syntax.specs.Tree.{ValueTree, RoutineTree, DirectiveTree, ProgramTree}
-use Rattle.syntax.specs.Grammar.{weight_of, IsK, k_number, k_negative, k_character, k_true, k_false, k_nothing, k_name, IsNames, IsDirective, d_global, d_global_value, d_constant, d_routine, IsDirectives, directives_stop, directives_next, IsProgram, program}
+use Rattle.syntax.specs.Tree.{LiteralTree, RoutineTree, DirectiveTree, ProgramTree}
+use Rattle.syntax.specs.Grammar.{weight_of, IsK, k_number, k_negative, k_character, k_true, k_false, k_nothing}
+use Rattle.syntax.specs.Grammar.{k_name, IsNames, IsDirective, d_global, d_global_value, d_constant, d_routine}
+use Rattle.syntax.specs.Grammar.{IsDirectives, directives_stop, directives_next, IsProgram, program}
 use Rattle.syntax.proofs.Spelled.{weight_Ss, spelled_Names, weighs}
 use Rattle.checker.specs.Names.{Table, look_up}
 use Rattle.checker.specs.Programs.{resolve_routine, routines_of, routine_trees}
 use Rattle.checker.specs.Statements.{resolve_statements}
-use Rattle.items.specs.Items.{return_true, actions_items}
+use Rattle.items.specs.Items.{return_true, actions_count, exits_to, actions_items}
 use Rattle.code.specs.Sizes.{routine_size, routines_size}
 use Rattle.code.specs.Laws.{IsShort, CodeIsShort}
 use Rattle.code.proofs.Most.{most_append}
 use Rattle.code.proofs.Sizes.{code_few}
 use Rattle.code.proofs.SizesOfTrees.{fits_Ss}
 
-value_weight : {ts r : List Lexeme} {k : ValueTree} → IsK ts k r → weight_of r ≤ weight_of ts
+value_weight : {ts r : List Lexeme} {k : LiteralTree} → IsK ts k r → weight_of r ≤ weight_of ts
 value_weight k_number = omega arith
 value_weight k_negative = omega arith
 value_weight k_character = omega arith
@@ -54,14 +56,16 @@ module _ (whole : Table) where
       }) r
   routine_short {m} {r = r} {ns = ns} {xs = xs} a b =
       let look = look_up whole ns in
-      let code = (fits_Ss look b).within 0 in
+      let actions = resolve_statements look xs in
+      let exits = exits_to (actions_count actions) (actions_count actions) in
+      let code = (fits_Ss look b).within exits 0 in
       let body = weight_Ss b in
       let locals = weighs (spelled_Names a) in
       record {
         short = omega (
           arith,
-          code_few (actions_items 0 (resolve_statements look xs) ++ return_true ∷ []),
-          most_append (actions_items 0 (resolve_statements look xs)) (return_true ∷ []),
+          code_few (actions_items exits 0 actions ++ return_true ∷ []),
+          most_append (actions_items exits 0 actions) (return_true ∷ []),
           code,
           body,
           locals,

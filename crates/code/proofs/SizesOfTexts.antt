@@ -1,10 +1,12 @@
 -- How many bytes texts have.
-use Rattle.std.proofs.Common.{◌≤◌, ◌+◌, ◌-◌, ◌*◌, ◌%◌, ◌==◌, ℕ, suc, Bool, true, false, List, [], ◌∷◌, length, map, Option, Some, None, arith, length-append}
+use Rattle.std.proofs.Common.{◌≤◌, ◌+◌, ◌-◌, ◌*◌, ◌%◌, ◌==◌, ℕ, suc, Bool, true, false, List, [], ◌∷◌, length, map}
+use Rattle.std.proofs.Common.{Option, Some, None, arith, length-append}
 use Rattle.std.specs.Prelude.{if◌then◌else◌, replicate}
 use Rattle.std.specs.List.{filter}
 use Rattle.std.proofs.lemmas.List.{length-map, length-replicate}
 use Rattle.zcore.specs.Instruction.{bytes_of}
-use Rattle.zcore.specs.Alphabets.{is_printable, punctuation, upper_letters, lower_letters, place_in, spelling_in_punctuation, spelling_in_upper, spelling_in_lower, spelling_of, spelled}
+use Rattle.zcore.specs.Alphabets.{is_printable, punctuation, upper_letters, lower_letters, place_in}
+use Rattle.zcore.specs.Alphabets.{spelling_in_punctuation, spelling_in_upper, spelling_in_lower, spelling_of, spelled}
 use Rattle.zcore.specs.Words.{packed, missing, padded}
 use Rattle.zcore.specs.Text.{encoded}
 use Rattle.items.specs.Items.{Item, Destination, Test}

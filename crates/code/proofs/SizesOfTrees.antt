@@ -3,27 +3,32 @@ use Rattle.std.proofs.Common.{◌≤◌, ◌+◌, ℕ, List, [], ◌∷◌, ◌+
 use Rattle.lexer.specs.declared.token.Position.{Position}
 use Rattle.lexer.specs.Token.{Lexeme}
 use Rattle.expressions.specs.Tree.{ExpressionTree}
-use Rattle.statements.specs.Tree.{ItemTree, StatementTree, StatementTrees}
+use Rattle.statements.specs.Tree.{PrintItemTree, StatementTree, StatementTrees}
 use Rattle.statements.specs.Tree as statements
-use Rattle.statements.specs.Grammar.{IsItem, item_text, item_character, item_number, IsItems, items_last, items_comma, IsS, s_empty, s_block, s_text, s_print, s_print_ret, s_new_line, s_if, s_if_else, s_while, s_return, s_return_value, s_rtrue, s_rfalse, s_quit, s_effect, IsSs, ss_stop, ss_next}
+use Rattle.statements.specs.Grammar.{IsItem, item_text, item_character, item_number, IsItems, items_last, items_comma}
+use Rattle.statements.specs.Grammar.{IsS, s_empty, s_block, s_text, s_print, s_print_ret, s_new_line, s_if, s_if_else}
+use Rattle.statements.specs.Grammar.{s_while, s_return, s_return_value, s_rtrue, s_rfalse, s_quit, s_effect, IsSs}
+use Rattle.statements.specs.Grammar.{ss_stop, ss_next}
 use Rattle.syntax.specs.Weight.{item_weight, item_weights, statement_weight, statement_weights}
 use Rattle.checker.specs.declared.binding.Binding.{Binding}
 use Rattle.checker.specs.Expressions.{resolve}
 use Rattle.checker.specs.Statements.{resolve_item, resolve_statement, resolve_statements}
-use Rattle.items.specs.Items.{Item, Destination, push, nowhere, operand_count, branch_count, alone, if_pushed, value_items, branch_items, alone_items, printed_count, printed_items, prints_items, action_count, action_items, actions_items}
+use Rattle.items.specs.Items.{Item, Destination, push, nowhere, operand_count, branch_count, alone, if_pushed}
+use Rattle.items.specs.Items.{value_items, branch_items, alone_items, printed_count, printed_items, prints_items}
+use Rattle.items.specs.Items.{action_count, Exits, exits_to, action_items, actions_items}
 use Rattle.items.specs.Items as items
 use Rattle.code.proofs.Most.{most_of, most_append}
 use Rattle.code.proofs.SizesOfExpressions.{Fits, fits_E, few_value, few_branch, few_alone}
 
 -- `look` tells what a name stands for
 module _ (look : List ℕ → Option Binding) where
-  pub record PrintedFits (i : ItemTree) : Type 0 where
+  pub record PrintedFits (i : PrintItemTree) : Type 0 where
     pub within : (at : ℕ) → most_of (printed_items at (resolve_item look i)) ≤ item_weight i
 
-  pub record PrintedFit (is : List ItemTree) : Type 0 where
+  pub record PrintedFit (is : List PrintItemTree) : Type 0 where
     pub within : (at : ℕ) → most_of (prints_items at (map (resolve_item look) is)) ≤ item_weights is
 
-  fits_Item : {ts r : List Lexeme} {i : ItemTree} → IsItem ts i r → PrintedFits i
+  fits_Item : {ts r : List Lexeme} {i : PrintItemTree} → IsItem ts i r → PrintedFits i
   fits_Item item_text = record { within = λ at. omega arith }
   fits_Item (item_character {e = e} a) =
       record {
@@ -45,7 +50,7 @@ module _ (look : List ℕ → Option Binding) where
   none_printed : PrintedFit []
   none_printed = record { within = λ at. omega arith }
 
-  more_printed : {i : ItemTree} {is : List ItemTree} → PrintedFits i → PrintedFit is → PrintedFit (i ∷ is)
+  more_printed : {i : PrintItemTree} {is : List PrintItemTree} → PrintedFits i → PrintedFit is → PrintedFit (i ∷ is)
   more_printed {i} {is} a b =
       let first = resolve_item look i in
       let rest = map (resolve_item look) is in
@@ -58,23 +63,24 @@ module _ (look : List ℕ → Option Binding) where
         );
       }
 
-  fits_Items : {ts r : List Lexeme} {is : List ItemTree} → IsItems ts is r → PrintedFit is
+  fits_Items : {ts r : List Lexeme} {is : List PrintItemTree} → IsItems ts is r → PrintedFit is
   fits_Items (items_last a) = more_printed (fits_Item a) none_printed
   fits_Items (items_comma a b) = more_printed (fits_Item a) (fits_Items b)
 
   pub record StatementFits (x : StatementTree) : Type 0 where
-    pub within : (at : ℕ) → most_of (action_items at (resolve_statement look x)) ≤ statement_weight x
+    pub within : (e : Exits) (at : ℕ) → most_of (action_items e at (resolve_statement look x)) ≤ statement_weight x
 
   pub record BodyFits (xs : StatementTrees) : Type 0 where
-    pub within : (at : ℕ) → most_of (actions_items at (resolve_statements look xs)) ≤ statement_weights xs
+    pub within : (e : Exits) (at : ℕ)
+        → most_of (actions_items e at (resolve_statements look xs)) ≤ statement_weights xs
 
   text_fits : {bytes : List ℕ} → StatementFits (statements.text_alone bytes)
-  text_fits = record { within = λ at. omega arith }
+  text_fits = record { within = λ e at. omega arith }
 
-  print_return_fits : {is : List ItemTree} → PrintedFit is → StatementFits (statements.print_return is)
+  print_return_fits : {is : List PrintItemTree} → PrintedFit is → StatementFits (statements.print_return is)
   print_return_fits {is} a = record {
     within =
-        λ at. omega (
+        λ e at. omega (
           arith,
           most_append (prints_items at (map (resolve_item look) is)) (items.new_line ∷ items.return_true ∷ []),
           a.within at,
@@ -87,14 +93,14 @@ module _ (look : List ℕ → Option Binding) where
       let v = resolve look c in
       let a = resolve_statement look x in
       record {
-        within = λ at.
+        within = λ e at.
             let n = at + branch_count v false in
             let end = n + action_count a in
             omega (
               arith,
-              most_append (branch_items at v false end) (action_items n a),
+              most_append (branch_items at v false end) (action_items e n a),
               few_branch look c f false at end,
-              g.within n,
+              g.within e n,
             );
       }
 
@@ -106,17 +112,17 @@ module _ (look : List ℕ → Option Binding) where
       let a = resolve_statement look x in
       let b = resolve_statement look y in
       record {
-        within = λ at.
+        within = λ e at.
             let n = at + branch_count v false in
             let second = n + action_count a + 1 in
-            let rest = items.jump (second + action_count b) ∷ action_items second b in
+            let rest = items.jump (second + action_count b) ∷ action_items e second b in
             omega (
               arith,
-              most_append (branch_items at v false second) (action_items n a ++ rest),
-              most_append (action_items n a) rest,
+              most_append (branch_items at v false second) (action_items e n a ++ rest),
+              most_append (action_items e n a) rest,
               few_branch look c f false at second,
-              g.within n,
-              h.within second,
+              g.within e n,
+              h.within e second,
             );
       }
 
@@ -126,22 +132,23 @@ module _ (look : List ℕ → Option Binding) where
       let v = resolve look c in
       let a = resolve_statement look x in
       record {
-        within = λ at.
+        within = λ e at.
             let n = at + branch_count v false in
             let end = n + action_count a + 1 in
+            let inside = exits_to (n + action_count a) end in
             omega (
               arith,
-              most_append (branch_items at v false end) (action_items n a ++ items.back at ∷ []),
-              most_append (action_items n a) (items.back at ∷ []),
+              most_append (branch_items at v false end) (action_items inside n a ++ items.back at ∷ []),
+              most_append (action_items inside n a) (items.back at ∷ []),
               few_branch look c f false at end,
-              g.within n,
+              g.within inside n,
             );
       }
 
   return_fits : {p : Position} {c : ExpressionTree} → Fits look c → StatementFits (statements.return_value p c)
   return_fits {c = c} f = record {
     within =
-        λ at. omega (
+        λ e at. omega (
           arith,
           most_append (alone_items at (resolve look c)) (items.return (alone (resolve look c)) ∷ []),
           few_alone look c f at,
@@ -149,46 +156,46 @@ module _ (look : List ℕ → Option Binding) where
   }
 
   effect_fits : {p : Position} {c : ExpressionTree} → Fits look c → StatementFits (statements.effect p c)
-  effect_fits {c = c} f = record { within = λ at. omega (arith, few_value look c f nowhere at) }
+  effect_fits {c = c} f = record { within = λ e at. omega (arith, few_value look c f nowhere at) }
 
   -- statements of one word, or none
   empty_fits : StatementFits statements.empty
-  empty_fits = record { within = λ at. omega arith }
+  empty_fits = record { within = λ e at. omega arith }
 
   new_line_fits : StatementFits statements.new_line
-  new_line_fits = record { within = λ at. omega arith }
+  new_line_fits = record { within = λ e at. omega arith }
 
   return_alone_fits : StatementFits statements.return_alone
-  return_alone_fits = record { within = λ at. omega arith }
+  return_alone_fits = record { within = λ e at. omega arith }
 
   return_true_fits : StatementFits statements.return_true
-  return_true_fits = record { within = λ at. omega arith }
+  return_true_fits = record { within = λ e at. omega arith }
 
   return_false_fits : StatementFits statements.return_false
-  return_false_fits = record { within = λ at. omega arith }
+  return_false_fits = record { within = λ e at. omega arith }
 
   quit_fits : StatementFits statements.quit
-  quit_fits = record { within = λ at. omega arith }
+  quit_fits = record { within = λ e at. omega arith }
 
-  print_fits : {is : List ItemTree} → PrintedFit is → StatementFits (statements.print is)
-  print_fits a = record { within = λ at. omega (arith, a.within at) }
+  print_fits : {is : List PrintItemTree} → PrintedFit is → StatementFits (statements.print is)
+  print_fits a = record { within = λ e at. omega (arith, a.within at) }
 
   block_fits : {xs : StatementTrees} → BodyFits xs → StatementFits (statements.block xs)
-  block_fits a = record { within = λ at. omega (arith, a.within at) }
+  block_fits a = record { within = λ e at. omega (arith, a.within e at) }
 
   stop_fits : BodyFits statements.stop
-  stop_fits = record { within = λ at. omega arith }
+  stop_fits = record { within = λ e at. omega arith }
 
   next_fits : {x : StatementTree} {xs : StatementTrees} → StatementFits x → BodyFits xs
       → BodyFits (statements.next x xs)
   next_fits {x} {xs} f g =
       let a = resolve_statement look x in
       record {
-        within = λ at. omega (
+        within = λ e at. omega (
           arith,
-          most_append (action_items at a) (actions_items (at + action_count a) (resolve_statements look xs)),
-          f.within at,
-          g.within (at + action_count a),
+          most_append (action_items e at a) (actions_items e (at + action_count a) (resolve_statements look xs)),
+          f.within e at,
+          g.within e (at + action_count a),
         );
       }
 

@@ -7,7 +7,8 @@ use Rattle.lexer.specs.declared.token.Word.TheVariants as w
 use Rattle.lexer.specs.Token.{Lexeme, name, number, text, reserved, sign, end}
 use Rattle.expressions.specs.declared.tree.Binary.TheVariants as binaries
 use Rattle.expressions.specs.Tree as trees
-use Rattle.expressions.specs.Grammar.{IsE, e_plain, e1_plain, n1_plain, e2_plain, e3_plain, e4_plain, e4_scale, n4_plain, u_plain, p_number}
+use Rattle.expressions.specs.Grammar.{IsE, e_plain, e1_plain, n1_plain, e2_plain, e3_plain, e4_plain, e4_scale}
+use Rattle.expressions.specs.Grammar.{n4_plain, u_plain, p_number}
 use Rattle.statements.specs.Grammar.{items_last, items_comma, item_text, item_number, s_print, ss_stop, ss_next}
 use Rattle.syntax.specs.Tree.{ProgramTree}
 use Rattle.syntax.specs.Grammar.{names_stop, d_routine, directives_stop, directives_next, IsProgram, program}

@@ -1,12 +1,13 @@
 -- Items that step a variable.
-use Rattle.std.proofs.Common.{◌≡◌, ℕ, ◌+◌, ◌<◌, ◌≤◌, List, [], ◌∷◌, length, drop, refl, ◌∙◌, subst, arith, length-append}
+use Rattle.std.proofs.Common.{◌≡◌, ℕ, ◌+◌, ◌<◌, ◌≤◌, List, [], ◌∷◌, length, drop, refl, ◌∙◌, subst, arith}
+use Rattle.std.proofs.Common.{length-append}
 use Rattle.std.specs.List.{flat_map}
 use Rattle.zcore.specs.declared.instruction.Operand.TheVariants.{Small, Variable}
 use Rattle.zcore.specs.Header.{static_base_of}
 use Rattle.zcore.specs.Instruction.{Instruction, bytes_of}
 use Rattle.zcore.specs.State.{done, words}
 use Rattle.zcore.specs.Parts.{operand_values}
-use Rattle.zcore.specs.Step.{step, perform, push_word}
+use Rattle.zcore.specs.Execution.{step, perform, push_word}
 use Rattle.expressions.specs.declared.tree.Step.{Step}
 use Rattle.expressions.specs.declared.tree.Step.TheVariants as steps
 use Rattle.checker.specs.declared.resolved.Variable as source
@@ -20,10 +21,12 @@ use Rattle.code.specs.Instructions.{number_of, push, store, stepping}
 use Rattle.code.specs.Bytes.{text_bytes}
 use Rattle.code.proofs.Play.{moves}
 use Rattle.code.proofs.Parts.{machine as at_words, pushes}
-use Rattle.code.proofs.Steps.{point, one_step, first_held, others_held, one_operand, two_operands, small_value, variable_value, step_is}
+use Rattle.code.proofs.Steps.{point, one_step, first_held, others_held, one_operand, two_operands, small_value}
+use Rattle.code.proofs.Steps.{variable_value, step_is}
 use Rattle.code.proofs.SingleSteps.{increment_step, decrement_step}
 use Rattle.code.proofs.Fitting.{Shaped, held_bytes, encodable}
-use Rattle.code.proofs.Arriving.{Running, at, around, here, high, kept, LedFrom, Stands, room_for, code_here, code_held, situation_here}
+use Rattle.code.proofs.Arriving.{Running, at, around, here, high, kept, LedFrom, Stands, room_for, code_here}
+use Rattle.code.proofs.Arriving.{code_held, situation_here}
 use Rattle.code.proofs.Variables.{memory_with, Held, variable_held}
 use Rattle.code.proofs.Temporaries.{scratch_here}
 use Rattle.code.proofs.Delivering.{stored_step}
@@ -43,7 +46,8 @@ module _ (c : Running) where
   new_memory op x = memory_with c m x (new_word op x)
 
   -- a variable is stepped
-  step_step : (op : Step) (x : source.Variable) (s : List ℕ) → Held c m x → Holds m (here c) (bytes_of (stepping op x))
+  step_step : (op : Step) (x : source.Variable) (s : List ℕ) → Held c m x
+      → Holds m (here c) (bytes_of (stepping op x))
       → step (point (here c) world.fuel) (at_words (around c) m locals s world.text)
       ≡ done (point (here c + length (bytes_of (stepping op x))) world.fuel)
       (at_words (around c) (new_memory op x) (new_situation op x).locals s world.text)
@@ -119,7 +123,8 @@ module _ (c : Running) where
       ≡ perform i.operation (point q world.fuel) (q + length (bytes_of i)) i.result i.branch values
       (at_words (around c) other l0 s text)
   made_in l0 other s text q i values same from shaped h is =
-      step_is (point q world.fuel) (at_words (around c) other l0 s text) (at_words (around c) other l0 s text) i values
+      step_is (point q world.fuel) (at_words (around c) other l0 s text) (at_words (around c) other l0 s text) i
+      values
       (encodable i shaped (held_bytes (static_base_of story) q story m (bytes_of i) holds.byte_each (kept c)
       (omega (arith, high c, from)) h))
       (holds_on (static_base_of story) q m other (bytes_of i) same (omega (arith, high c, from)) h) is
@@ -186,7 +191,8 @@ module _ (c : Running) where
       (step_step op x s held both.first)
       (one_step (point q world.fuel) (point (q + length (bytes_of j)) world.fuel) st
       (at_words (around c) m2 to.locals s world.text)
-      (makes ∙ stored_step d (point q world.fuel) (q + length (bytes_of j)) (number_of y) w s world.text m1 m2 to.locals
+      (makes ∙ stored_step d (point q world.fuel) (q + length (bytes_of j)) (number_of y) w s world.text m1 m2
+      to.locals
       (next.writes w))))
 
   pub step_led : (op : Step) (x : source.Variable) (d : Destination) (s : List ℕ) → IsVariableHere c x → IsHere c d
@@ -199,7 +205,8 @@ module _ (c : Running) where
       let w = new_word op x in
       let there = single c (items.step op x items.nowhere) (stepping op x) refl refl stands in
       let end = here c + length (bytes_of (stepping op x)) in
-      written_led c s s (new_memory op x) (new_situation op x) end there.end short (held.stored w) (held.locals_same w)
+      written_led c s s (new_memory op x) (new_situation op x) end there.end short (held.stored w)
+      (held.locals_same w)
       (held.globals_same w)
       (fuel_same x w (situation_here c)) (text_same x w (situation_here c))
       (one_step (point (here c) world.fuel) (point end world.fuel) (at_words (around c) m locals s world.text)

@@ -1,5 +1,6 @@
 -- Runs of steps, and what is common to the steps of single instructions.
-use Rattle.std.proofs.Common.{◌≡◌, ℕ, zero, suc, ◌+◌, ◌-◌, ◌<◌, ◌≤◌, List, [], ◌∷◌, length, Some, Bool, true, false, Ok, refl, ap, ◌∙◌, arith}
+use Rattle.std.proofs.Common.{◌≡◌, ℕ, zero, suc, ◌+◌, ◌-◌, ◌<◌, ◌≤◌, List, [], ◌∷◌, length, Some, Bool, true, false}
+use Rattle.std.proofs.Common.{Ok, refl, ap, ◌∙◌, arith}
 use Rattle.std.specs.Prelude.{nat_lt, nat_le, nat_eq}
 use Rattle.std.specs.List.{All, flat_map}
 use Rattle.std.proofs.lemmas.Bool.{lt-ltb, le-leb, ne_eqb}
@@ -9,8 +10,10 @@ use Rattle.zcore.specs.declared.next.Next.{Next}
 use Rattle.zcore.specs.Instruction.{Instruction, bytes_of, IsEncodable, FitsOperand}
 use Rattle.zcore.specs.State.{Frame, State, Out, done, halt, bound}
 use Rattle.zcore.specs.State as state
-use Rattle.zcore.specs.Parts.{read_variable, write_variable, read_in_place, write_in_place, test_variable, operand_value, operand_values, test_result, store_result, test_target, go, take_branch, branch_on}
-use Rattle.zcore.specs.Step.{give_result, perform, execute, step}
+use Rattle.zcore.specs.Parts.{read_variable, write_variable, read_in_place, write_in_place, test_variable}
+use Rattle.zcore.specs.Parts.{operand_value, operand_values, test_result, store_result, test_target, go, take_branch}
+use Rattle.zcore.specs.Parts.{branch_on}
+use Rattle.zcore.specs.Execution.{give_result, perform, execute, step}
 use Rattle.zcore.proofs.Encoding.{decode_bytes}
 use Rattle.zcore.proofs.Ahead.{decode_ahead}
 use Rattle.code.proofs.Behind.{Holds, holds_append}
@@ -24,7 +27,8 @@ point place fuel = record { program_counter = place; fuel = fuel }
 
 -- Runs of steps
 
-pub leads_then : (here mid next : Next) (s t u : State) → Leads here s mid t → Leads mid t next u → Leads here s next u
+pub leads_then : (here mid next : Next) (s t u : State) → Leads here s mid t → Leads mid t next u
+    → Leads here s next u
 leads_then here mid next s t u (stays h x) l = l
 leads_then here mid next s t u (moves h m n x y z e rest) l =
     moves h m next x y u e (leads_then m mid next y t u rest l)

@@ -10,8 +10,13 @@ use Rattle.zcore.specs.declared.place.Place.TheVariants as places
 use Rattle.zcore.specs.declared.place.Limit.TheVariants as limits
 use Rattle.zcore.specs.Instruction.{decode, bytes_of, opcode, operands, operand, byte, large, result_variable, branch}
 use Rattle.zcore.specs.Turn.{Whole, opening, plays, last_place, turn_from, weight}
-use Rattle.zcore.specs.Step.{step, perform, give_result, divide, load, increment, decrement, push_word, pull, store, jump, call_packed, return_popped, print_characters, print_inline, print_packed, print_character, text_at}
-use Rattle.zcore.specs.Parts.{read_in_place, write_in_place, push, pop, read_local, write_local, read_global, write_global, read_variable, write_variable, test_variable, test_pull, operand_value, operand_values, test_result, store_result, test_target, spend, go, test_routine, test_calls, enter, call, test_return, leave, give_back, take_branch, branch_on, print}
+use Rattle.zcore.specs.Execution.{step, perform, give_result, divide, load, increment, decrement, push_word, pull}
+use Rattle.zcore.specs.Execution.{store, jump, call_packed, return_popped, print_characters, print_inline}
+use Rattle.zcore.specs.Execution.{print_packed, print_character, text_at}
+use Rattle.zcore.specs.Parts.{read_in_place, write_in_place, push, pop, read_local, write_local, read_global}
+use Rattle.zcore.specs.Parts.{write_global, read_variable, write_variable, test_variable, test_pull, operand_value}
+use Rattle.zcore.specs.Parts.{operand_values, test_result, store_result, test_target, spend, go, test_routine}
+use Rattle.zcore.specs.Parts.{test_calls, enter, call, test_return, leave, give_back, take_branch, branch_on, print}
 use Rattle.zcore.specs.Text.{decoded, abbreviation, encoded}
 use Rattle.zcore.specs.Reading.{reads}
 use Rattle.zcore.specs.Words.{packed, unpacked_text}
@@ -24,7 +29,7 @@ use Rattle.checker.specs.Meaning.{routine_at, meaning}
 use Rattle.items.specs.Items.{routine_items}
 use Rattle.code.specs.Addresses.{Addresses}
 use Rattle.code.specs.Bytes.{code_bytes}
-use Rattle.code.specs.Standing.{start_code, fault_line}
+use Rattle.code.specs.HeldProgram.{start_code, fault_line}
 
 -- so many bytes, of which the first are these
 abbrev slot : ℕ → List ℕ → List ℕ
@@ -71,8 +76,8 @@ count_down = source.number_of (global 0) ∷ []
 abbrev pub quotient_of_seven : List source.Printed
 quotient_of_seven = source.number_of (source.binary binaries.Divide (source.number 7) (global 0)) ∷ []
 
--- [ Main; print "Hi^", f(20, 22), (char) 65; g = 3; while (g > 0) { print g; g--; } print 7 / g; ]; [ f a b; return a +
--- b; ];
+-- [ Main; print "Hi^", f(20, 22), (char) 65; g = 3; while (g > 0) { print g; g--; } print 7 / g; ]; [ f a b; return a
+-- + b; ];
 abbrev pub main : RoutineOf
 main = record {
   locals = 0;
@@ -109,11 +114,23 @@ means = refl
 
 played : texts (plays story 1000 []) ≡ (codes "Hi" ++ 10 ∷ codes "42A321" ++ 10 ∷ codes "[Fault: division by zero]"
     ++ 10 ∷ []) ∷ []
-unfolding bytes_of encoded packed spelling_of opening turn_from weight step perform give_result divide load increment decrement push_word pull store jump call_packed return_popped print_characters print_inline print_packed print_character text_at read_in_place write_in_place push pop read_local write_local read_global write_global read_variable write_variable test_variable test_pull operand_value operand_values test_result store_result test_target spend go test_routine test_calls enter call test_return leave give_back take_branch branch_on print decoded abbreviation reads unpacked_text decode opcode operands operand byte large result_variable branch signed_text decimal quotient
+unfolding bytes_of encoded packed spelling_of opening turn_from weight step perform give_result divide load increment
+    decrement push_word pull store jump call_packed return_popped print_characters print_inline print_packed
+    print_character text_at read_in_place write_in_place push pop read_local write_local read_global write_global
+    read_variable write_variable test_variable test_pull operand_value operand_values test_result store_result
+    test_target spend go test_routine test_calls enter call test_return leave give_back take_branch branch_on print
+    decoded abbreviation reads unpacked_text decode opcode operands operand byte large result_variable branch
+    signed_text decimal quotient
 played = refl
 
 ends : last_place (plays story 1000 []) ≡ places.Quit
-unfolding bytes_of encoded packed spelling_of opening turn_from weight step perform give_result divide load increment decrement push_word pull store jump call_packed return_popped print_characters print_inline print_packed print_character text_at read_in_place write_in_place push pop read_local write_local read_global write_global read_variable write_variable test_variable test_pull operand_value operand_values test_result store_result test_target spend go test_routine test_calls enter call test_return leave give_back take_branch branch_on print decoded abbreviation reads unpacked_text decode opcode operands operand byte large result_variable branch signed_text decimal quotient
+unfolding bytes_of encoded packed spelling_of opening turn_from weight step perform give_result divide load increment
+    decrement push_word pull store jump call_packed return_popped print_characters print_inline print_packed
+    print_character text_at read_in_place write_in_place push pop read_local write_local read_global write_global
+    read_variable write_variable test_variable test_pull operand_value operand_values test_result store_result
+    test_target spend go test_routine test_calls enter call test_return leave give_back take_branch branch_on print
+    decoded abbreviation reads unpacked_text decode opcode operands operand byte large result_variable branch
+    signed_text decimal quotient
 ends = refl
 
 -- with 4 units the call of Main, that of the other routine and two rounds of the loop are paid, and no third
@@ -126,7 +143,13 @@ means_stopped = refl
 
 stopped : texts (plays story 4 []) ≡ (codes "Hi" ++ 10 ∷ codes "42A321" ++ 10 ∷ codes "[Limit: turn too long]"
     ++ 10 ∷ []) ∷ []
-unfolding bytes_of encoded packed spelling_of opening turn_from weight step perform give_result divide load increment decrement push_word pull store jump call_packed return_popped print_characters print_inline print_packed print_character text_at read_in_place write_in_place push pop read_local write_local read_global write_global read_variable write_variable test_variable test_pull operand_value operand_values test_result store_result test_target spend go test_routine test_calls enter call test_return leave give_back take_branch branch_on print decoded abbreviation reads unpacked_text decode opcode operands operand byte large result_variable branch signed_text decimal quotient
+unfolding bytes_of encoded packed spelling_of opening turn_from weight step perform give_result divide load increment
+    decrement push_word pull store jump call_packed return_popped print_characters print_inline print_packed
+    print_character text_at read_in_place write_in_place push pop read_local write_local read_global write_global
+    read_variable write_variable test_variable test_pull operand_value operand_values test_result store_result
+    test_target spend go test_routine test_calls enter call test_return leave give_back take_branch branch_on print
+    decoded abbreviation reads unpacked_text decode opcode operands operand byte large result_variable branch
+    signed_text decimal quotient
 stopped = refl
 
 -- [ Main; f(1); ];  [ f a; return f(a); ];
@@ -154,7 +177,13 @@ means_endless = refl
 
 endless : texts (plays (story_of [] (routine_at calls_itself.routines 0) (routine_at calls_itself.routines 1)) 12 [])
     ≡ (10 ∷ codes "[Limit: turn too long]" ++ 10 ∷ []) ∷ []
-unfolding bytes_of encoded packed spelling_of opening turn_from weight step perform give_result divide load increment decrement push_word pull store jump call_packed return_popped print_characters print_inline print_packed print_character text_at read_in_place write_in_place push pop read_local write_local read_global write_global read_variable write_variable test_variable test_pull operand_value operand_values test_result store_result test_target spend go test_routine test_calls enter call test_return leave give_back take_branch branch_on print decoded abbreviation reads unpacked_text decode opcode operands operand byte large result_variable branch signed_text decimal quotient
+unfolding bytes_of encoded packed spelling_of opening turn_from weight step perform give_result divide load increment
+    decrement push_word pull store jump call_packed return_popped print_characters print_inline print_packed
+    print_character text_at read_in_place write_in_place push pop read_local write_local read_global write_global
+    read_variable write_variable test_variable test_pull operand_value operand_values test_result store_result
+    test_target spend go test_routine test_calls enter call test_return leave give_back take_branch branch_on print
+    decoded abbreviation reads unpacked_text decode opcode operands operand byte large result_variable branch
+    signed_text decimal quotient
 endless = refl
 
 -- [ Main; if (g == 3 or 9 && ~~0) print "yes~"; else print "no"; print -5, (char) 5; ];  with 9 in g
@@ -183,5 +212,11 @@ means_asked = refl
 
 asked : texts (plays (story_of (0 ∷ 9 ∷ []) asks sum_of_two) 100 [])
     ≡ (codes "yes" ++ 34 ∷ codes "-5" ++ 10 ∷ codes "[Fault: not a character]" ++ 10 ∷ []) ∷ []
-unfolding bytes_of encoded packed spelling_of opening turn_from weight step perform give_result divide load increment decrement push_word pull store jump call_packed return_popped print_characters print_inline print_packed print_character text_at read_in_place write_in_place push pop read_local write_local read_global write_global read_variable write_variable test_variable test_pull operand_value operand_values test_result store_result test_target spend go test_routine test_calls enter call test_return leave give_back take_branch branch_on print decoded abbreviation reads unpacked_text decode opcode operands operand byte large result_variable branch signed_text decimal quotient
+unfolding bytes_of encoded packed spelling_of opening turn_from weight step perform give_result divide load increment
+    decrement push_word pull store jump call_packed return_popped print_characters print_inline print_packed
+    print_character text_at read_in_place write_in_place push pop read_local write_local read_global write_global
+    read_variable write_variable test_variable test_pull operand_value operand_values test_result store_result
+    test_target spend go test_routine test_calls enter call test_return leave give_back take_branch branch_on print
+    decoded abbreviation reads unpacked_text decode opcode operands operand byte large result_variable branch
+    signed_text decimal quotient
 asked = refl

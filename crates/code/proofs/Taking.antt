@@ -1,5 +1,6 @@
 -- Operands of an item are taken: those that are pushed go to temporaries, but the first.
-use Rattle.std.proofs.Common.{◌≡◌, ℕ, zero, suc, ◌+◌, ◌-◌, ◌*◌, ◌<◌, ◌≤◌, ◌⊎◌, inl, inr, List, [], ◌∷◌, ◌++◌, length, drop, slice_index, refl, ap, ◌∙◌, subst, arith, length-append}
+use Rattle.std.proofs.Common.{◌≡◌, ℕ, zero, suc, ◌+◌, ◌-◌, ◌*◌, ◌<◌, ◌≤◌, ◌⊎◌, inl, inr, List, [], ◌∷◌, ◌++◌, length}
+use Rattle.std.proofs.Common.{drop, slice_index, refl, ap, ◌∙◌, subst, arith, length-append}
 use Rattle.std.specs.List.{All, flat_map}
 use Rattle.std.proofs.lemmas.Bool.{cases_lt}
 use Rattle.std.proofs.lemmas.Grind.{flat_map-append}
@@ -16,7 +17,8 @@ use Rattle.code.proofs.Play.{Leads, stays, moves}
 use Rattle.code.proofs.Memory.{word_of, with_variable}
 use Rattle.code.proofs.Parts.{machine as at_words, Reads, global_reads}
 use Rattle.code.proofs.Steps.{point, first_held, others_held}
-use Rattle.code.proofs.ItemOperands.{Gives, with_first, Temporaries, VariablesRead, ready, ready_values, first_on_top, gives_count}
+use Rattle.code.proofs.ItemOperands.{Gives, with_first, Temporaries, VariablesRead, ready, ready_values, first_on_top}
+use Rattle.code.proofs.ItemOperands.{gives_count}
 use Rattle.code.proofs.Arriving.{Running, around, here, situation_here}
 use Rattle.code.proofs.Variables.{variable_held}
 use Rattle.code.proofs.Temporaries.{Scratch, scratch_here, scratch_with, word_written, word_unwritten, pull_temporary}
@@ -144,9 +146,11 @@ module _ (c : Running) where
   pub record Apart (os : List items.Operand) (is : List Instruction) : Type 0 where
     pub takes_held : Holds m (here c) (flat_map bytes_of (takes os))
     pub others : Holds m (after_takes os) (flat_map bytes_of is)
-    pub sizes : length (flat_map bytes_of (takes os ++ is)) ≡ 3 * (pushed_count os - 1) + length (flat_map bytes_of is)
+    pub sizes : length (flat_map bytes_of (takes os ++ is))
+        ≡ 3 * (pushed_count os - 1) + length (flat_map bytes_of is)
 
-  pub apart : (os : List items.Operand) (is : List Instruction) → Holds m (here c) (flat_map bytes_of (takes os ++ is))
+  pub apart : (os : List items.Operand) (is : List Instruction)
+      → Holds m (here c) (flat_map bytes_of (takes os ++ is))
       → Apart os is
   apart os is h =
       let parts = flat_map-append bytes_of (takes os) is in

@@ -5,7 +5,7 @@ use Rattle.zcore.specs.Header.{static_base_of}
 use Rattle.zcore.specs.Instruction.{Instruction, bytes_of}
 use Rattle.zcore.specs.State.{done}
 use Rattle.zcore.specs.Parts.{operand_values}
-use Rattle.zcore.specs.Step.{step, perform}
+use Rattle.zcore.specs.Execution.{step, perform}
 use Rattle.code.proofs.Behind.{Holds, holds_on}
 use Rattle.code.specs.Instructions.{pull, copy}
 use Rattle.code.proofs.Play.{Stored}
@@ -48,7 +48,8 @@ module _ (c : Running) where
       (writes_ground (static_base_of story) other variable word scratch.ground (omega (arith, low)) small).is
       (global_reads (around c) (with_variable other variable word) locals variable (omega (arith, low)) small)
 
-  pub reads_other : (other : List ℕ) (variable word v x : ℕ) → Scratch other → 248 ≤ variable → variable < 256 → 248 ≤ v
+  pub reads_other : (other : List ℕ) (variable word v x : ℕ) → Scratch other → 248 ≤ variable → variable < 256
+      → 248 ≤ v
       → v < 256 → v ≢ variable → word_of other v ≡ x
       → Reads (around c) (with_variable other variable word) locals v x
   reads_other other variable word v x scratch low small low1 small1 differs is =
@@ -82,7 +83,8 @@ module _ (c : Running) where
       ≡ perform i.operation (point q world.fuel) (q + length (bytes_of i)) i.result i.branch values
       (at_words (around c) other locals s1 text)
   made other s s1 text q i values scratch from shaped h is =
-      step_is (point q world.fuel) (at_words (around c) other locals s text) (at_words (around c) other locals s1 text)
+      step_is (point q world.fuel) (at_words (around c) other locals s text)
+      (at_words (around c) other locals s1 text)
       i values
       (encodable i shaped (held_bytes (static_base_of story) q story m (bytes_of i) holds.byte_each (kept c)
       (omega (arith, high c, from)) h))
@@ -103,7 +105,8 @@ module _ (c : Running) where
   pub copy_temporary : (other s text : List ℕ) (q variable word : ℕ) → Scratch other → 248 ≤ variable → variable < 256
       → here c ≤ q → Holds m q (bytes_of (copy variable))
       → step (point q world.fuel) (at_words (around c) other locals (word ∷ s) text)
-      ≡ done (point (q + 3) world.fuel) (at_words (around c) (with_variable other variable word) locals (word ∷ s) text)
+      ≡ done (point (q + 3) world.fuel)
+      (at_words (around c) (with_variable other variable word) locals (word ∷ s) text)
   unfolding bytes_of
   copy_temporary other s text q variable word scratch low small from h =
       copy_step (around c) world.fuel other locals s text (with_variable other variable word) locals q variable word

@@ -1,5 +1,6 @@
 -- What a branch tests, and the instruction that tests it.
-use Rattle.std.proofs.Common.{◌≡◌, ℕ, ◌%◌, ◌<◌, ◌≤◌, List, [], ◌∷◌, length, Some, None, Bool, true, false, refl, arith}
+use Rattle.std.proofs.Common.{◌≡◌, ℕ, ◌%◌, ◌<◌, ◌≤◌, List, [], ◌∷◌, length, Some, None, Bool, true, false, refl}
+use Rattle.std.proofs.Common.{arith}
 use Rattle.std.specs.Prelude.{nat_lt, nat_le, if◌then◌else◌, not}
 use Rattle.std.specs.List.{All, flat_map}
 use Rattle.std.proofs.lemmas.Bool.{le-ltb, leb-true}
@@ -13,7 +14,7 @@ use Rattle.zcore.specs.Operations.{least_operands, most_operands, has_result, ha
 use Rattle.zcore.specs.Instruction.{bytes_of, FitsOperand, FitsResult, FitsBranch}
 use Rattle.zcore.specs.State.{State}
 use Rattle.zcore.specs.Parts.{branch_on}
-use Rattle.zcore.specs.Step.{perform}
+use Rattle.zcore.specs.Execution.{perform}
 use Rattle.zcore.specs.Arithmetic.{signed_less}
 use Rattle.checker.specs.Resolved.{ProgramOf}
 use Rattle.checker.specs.World.{Situation}

@@ -1,5 +1,6 @@
 -- What characters print, and texts that stand in a story.
-use Rattle.std.proofs.Common.{◌≡◌, ℕ, suc, ◌+◌, ◌-◌, ◌^◌, ◌<◌, ◌≤◌, List, [], ◌∷◌, ◌++◌, codes, length, Bool, true, false, Ok, refl, ap, ◌∙◌, arith}
+use Rattle.std.proofs.Common.{◌≡◌, ℕ, suc, ◌+◌, ◌-◌, ◌^◌, ◌<◌, ◌≤◌, List, [], ◌∷◌, ◌++◌, codes, length, Bool, true}
+use Rattle.std.proofs.Common.{false, Ok, refl, ap, ◌∙◌, arith}
 use Rattle.std.specs.Prelude.{nat_lt, nat_le, nat_eq, if◌then◌else◌, map, ◌&&◌, ◌||◌}
 use Rattle.std.specs.List.{All, flat_map, filter, list_all}
 use Rattle.std.proofs.lemmas.Bool.{le-leb, ne_eqb, ltb-true, leb-true, and_parts}
@@ -13,7 +14,7 @@ use Rattle.zcore.proofs.RoundTrip.{round_trip}
 use Rattle.checker.specs.World.{shown}
 use Rattle.code.specs.Bytes.{character_of}
 use Rattle.lexer.specs.Printable.{IsPrintable}
-use Rattle.code.specs.Standing.{fault_line}
+use Rattle.code.specs.HeldProgram.{fault_line}
 
 -- a character that prints itself
 prints_itself : (c : ℕ) → 14 ≤ c → transcribed c ≡ c ∷ []
@@ -165,7 +166,8 @@ character_line = record {
 }
 
 -- the line of a fault is read back
-pub line_read : (words story : List ℕ) (q : ℕ) → IsLine words → Holds story q (encoded (fault_line words)) → q < 524288
+pub line_read : (words story : List ℕ) (q : ℕ) → IsLine words → Holds story q (encoded (fault_line words))
+    → q < 524288
     → decoded story q ≡ Ok (fault_line words, q + length (encoded (fault_line words)))
 line_read words story q line h low =
     round_trip (fault_line words) (encoded (fault_line words)) story q line.bytes line.printable refl h

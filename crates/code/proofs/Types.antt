@@ -1,5 +1,6 @@
 -- The types of operands.
-use Rattle.std.proofs.Common.{◌≡◌, ℕ, zero, suc, ◌+◌, ◌*◌, ◌<◌, ◌≤◌, List, [], ◌∷◌, length, drop, slice_index, slice_index_or, refl, ap, ◌∙◌, arith, length-append}
+use Rattle.std.proofs.Common.{◌≡◌, ℕ, zero, suc, ◌+◌, ◌*◌, ◌<◌, ◌≤◌, List, [], ◌∷◌, length, drop, slice_index}
+use Rattle.std.proofs.Common.{slice_index_or, refl, ap, ◌∙◌, arith, length-append}
 use Rattle.std.specs.Prelude.{map, replicate}
 use Rattle.zcore.specs.declared.instruction.Operand.{Operand}
 use Rattle.zcore.specs.Instruction.{type_of, types_byte, types_to_write}

@@ -1,5 +1,6 @@
 -- The variables of the source in a running routine.
-use Rattle.std.proofs.Common.{◌≡◌, ℕ, ◌+◌, ◌%◌, ◌<◌, ◌≤◌, List, length, drop, slice_index, slice_set, refl, subst, arith}
+use Rattle.std.proofs.Common.{◌≡◌, ℕ, ◌+◌, ◌%◌, ◌<◌, ◌≤◌, List, length, drop, slice_index, slice_set, refl, subst}
+use Rattle.std.proofs.Common.{arith}
 use Rattle.std.proofs.lemmas.List.{length-set, get_or-set_same}
 use Rattle.zcore.specs.Header.{static_base_of}
 use Rattle.checker.specs.declared.resolved.Variable.{Variable}

@@ -1,11 +1,18 @@
 -- How items are written: the instructions that do them (Z-Machine Standards Document 1.1, sections 4 and 15). Numbers
--- and variables stand in place in an instruction; the other operands are on the stack of the routine's frame. Variables
--- from 248 on are the compiler's; none keeps its value beyond an item.
-use Rattle.std.specs.Prelude.{◌+◌, ◌-◌, ◌%◌, ◌==◌, not, ℕ, zero, suc, nat_le, nat_lt, Bool, true, false, if◌then◌else◌, List, [], ◌∷◌, ◌++◌, take, length, slice_index, Option, Some, None}
+-- and variables stand in place in an instruction; the other operands are on the stack of the routine's frame.
+-- Variables from 248 on are the compiler's; none keeps its value beyond an item.
+use Rattle.std.specs.Prelude.{◌+◌, ◌-◌, ◌%◌, ◌==◌, not, ℕ, zero, suc, nat_le, nat_lt, Bool, true, false}
+use Rattle.std.specs.Prelude.{if◌then◌else◌, List, [], ◌∷◌, ◌++◌, take, length, slice_index, Option, Some, None}
 use Rattle.zcore.specs.declared.instruction.Operand.{Operand}
 use Rattle.zcore.specs.declared.instruction.Operand.TheVariants.{Large, Small, Variable}
 use Rattle.zcore.specs.declared.instruction.Operation.{Operation}
-use Rattle.zcore.specs.declared.instruction.Operation.TheVariants.{JumpIfEqual, JumpIfLess, JumpIfGreater, Or, And, Store, Add, Sub, Mul, Div, Mod, JumpIfZero, Increment, Decrement, Call1s, Return, Jump, PrintPacked, Load, Call1n, ReturnTrue, ReturnFalse, Print, ReturnPopped, Quit, NewLine, CallVs, PrintCharacter, PrintNumber, Push, Pull, CallVs2, Not, CallVn, CallVn2}
+use Rattle.zcore.specs.declared.instruction.Operation.TheVariants.{JumpIfEqual, JumpIfLess, JumpIfGreater, Or, And}
+use Rattle.zcore.specs.declared.instruction.Operation.TheVariants.{Store, Add, Sub, Mul, Div, Mod, JumpIfZero}
+use Rattle.zcore.specs.declared.instruction.Operation.TheVariants.{Increment, Decrement, Call1s, Return, Jump}
+use Rattle.zcore.specs.declared.instruction.Operation.TheVariants.{PrintPacked, Load, Call1n, ReturnTrue, ReturnFalse}
+use Rattle.zcore.specs.declared.instruction.Operation.TheVariants.{Print, ReturnPopped, Quit, NewLine, CallVs}
+use Rattle.zcore.specs.declared.instruction.Operation.TheVariants.{PrintCharacter, PrintNumber, Push, Pull, CallVs2}
+use Rattle.zcore.specs.declared.instruction.Operation.TheVariants.{Not, CallVn, CallVn2}
 use Rattle.zcore.specs.Instruction.{Instruction}
 use Rattle.expressions.specs.declared.tree.Binary.{Binary}
 use Rattle.expressions.specs.declared.tree.Binary.TheVariants as binaries
@@ -120,7 +127,8 @@ operands (items.pushed ∷ os) = top ∷ named_from 0 os
 operands (items.number k ∷ os) = constant k ∷ operands os
 operands (items.variable x ∷ os) = Variable (number_of x) ∷ operands os
 
--- the most operands of an instruction that branches, and of a call beside its routine; an accepted program has no more
+-- the most operands of an instruction that branches, and of a call beside its routine; an accepted program has no
+-- more
 abbrev pub most_tested : ℕ
 most_tested = 4
 
@@ -256,8 +264,8 @@ branch_code test os when offset =
 
 -- Calls and returns
 
--- Up to three arguments have one byte of types, more have two; no argument has none (section 15, `call_1s` and others).
--- Beside a routine, whose address is a large constant, one argument would have a byte of types in each form.
+-- Up to three arguments have one byte of types, more have two; no argument has none (section 15, `call_1s` and
+-- others). Beside a routine, whose address is a large constant, one argument would have a byte of types in each form.
 abbrev pub call_operation : ℕ → Destination → Operation
 call_operation n items.nowhere = if n == 0 then Call1n else (if nat_le n 3 then CallVn else CallVn2)
 call_operation n d = if n == 0 then Call1s else (if nat_le n 3 then CallVs else CallVs2)

@@ -16,7 +16,7 @@ use Rattle.checker.specs.Accepted.{IsAccepted}
 use Rattle.checker.specs.Printable.{HasPrintableTexts}
 use Rattle.checker.specs.Meaning.{meaning}
 use Rattle.code.specs.Addresses.{Addresses}
-use Rattle.code.specs.Standing.{HoldsProgram}
+use Rattle.code.specs.HeldProgram.{HoldsProgram}
 use Rattle.code.specs.Sizes.{routine_size, routines_size}
 
 -- the machine's turns on a story print what a program means, and end where it ends, which is no machine fault
@@ -42,8 +42,8 @@ pub record IsShort (p : ProgramTree) (whole : Table) : Type 0 where
 abbrev pub CodeIsShort : Type 0
 CodeIsShort = (tokens : List Lexeme) (p : ProgramTree) → IsProgram tokens p → (whole : Table) → IsShort p whole
 
--- the code of a checked program is within the limits of a source's weight: 32,000 for a routine, and the version's for
--- all
+-- the code of a checked program is within the limits of a source's weight: 32,000 for a routine, and the version's
+-- for all
 pub record IsSmall (c : CheckedProgram) (version : Version) : Type 0 where
   pub each : All (λ (r : RoutineOf). routine_size r + 7 ≤ 32000) (program_of c).routines
   pub all : routines_size (program_of c).routines ≤ greatest_weight version

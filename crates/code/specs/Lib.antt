@@ -2,6 +2,6 @@ pub mod Addresses
 pub mod Instructions
 pub mod Bytes
 pub mod Sizes
-pub mod Standing
+pub mod HeldProgram
 pub mod Written
 pub mod Laws

@@ -12,81 +12,105 @@ use Rattle.expressions.specs.declared.tree.Equality.{Equality}
 use Rattle.expressions.specs.declared.tree.Prefix.TheVariants as op
 use Rattle.expressions.specs.declared.tree.Step.{Step}
 use Rattle.expressions.specs.Operators.{comparing, equating, stepping}
-use Rattle.expressions.specs.Tree.{NameTree, ExpressionTree, assign, call, compare, equal, parenthesised, prefixed, step_before, trees_of}
+use Rattle.expressions.specs.Tree.{NameTree, ExpressionTree, assign, call, compare, equal, parenthesised, prefixed}
+use Rattle.expressions.specs.Tree.{step_before, trees_of}
 use Rattle.expressions.specs.Nesting.{begins_expression}
-use Rattle.expressions.specs.Parse.{◌>>=◌, Fails, whole, negation, complement, prefix, operand, arguments, after_name, head, tail, is_sign, is_word, list, closed, step_on, nested, enclosed, primary, stepped, unary, complemented, sum, equated, comparison, negated, condition, assigned, expression, called}
-use Rattle.expressions.proofs.Nested.{nested_zero, nested_arguments, nested_whole, nested_negation, nested_complement, nested_prefix, nested_operand}
+use Rattle.expressions.specs.Parse.{◌>>=◌, Fails, whole, negation, complement, prefix, operand, arguments, after_name}
+use Rattle.expressions.specs.Parse.{head, tail, is_sign, is_word, list, closed, step_on, nested, enclosed, primary}
+use Rattle.expressions.specs.Parse.{stepped, unary, complemented, sum, equated, comparison, negated, condition}
+use Rattle.expressions.specs.Parse.{assigned, expression, called}
+use Rattle.expressions.proofs.Nested.{nested_zero, nested_arguments, nested_whole, nested_negation, nested_complement}
+use Rattle.expressions.proofs.Nested.{nested_prefix, nested_operand}
 
 module _ (d : ℕ) where
-  pub expression_assigns : (ts r us : List Lexeme) (a : ExpressionTree) (p : Position) → condition (nested d) ts ≡ Ok (a, r) → is_sign s.Assign (head r) ≡ true → us ≡ tail r → p ≡ position_of (head r)
+  pub expression_assigns : (ts r us : List Lexeme) (a : ExpressionTree) (p : Position)
+      → condition (nested d) ts ≡ Ok (a, r) → is_sign s.Assign (head r) ≡ true → us ≡ tail r
+      → p ≡ position_of (head r)
       → expression (nested d) ts ≡ (assigned (nested d) us >>= λ y. Ok (assign a p y.0, y.1))
   unfolding expression
   expression_assigns ts r us a p h e u q = rw (h, e, u, q) refl
 
-  pub comparison_compares : (ts r us : List Lexeme) (a : ExpressionTree) (o : Comparison) → sum (nested d) ts ≡ Ok (a, r) → comparing (head r) ≡ Some o → us ≡ tail r
+  pub comparison_compares : (ts r us : List Lexeme) (a : ExpressionTree) (o : Comparison)
+      → sum (nested d) ts ≡ Ok (a, r) → comparing (head r) ≡ Some o → us ≡ tail r
       → comparison (nested d) ts ≡ (sum (nested d) us >>= λ x. Ok (compare o a x.0, x.1))
   unfolding comparison
   comparison_compares ts r us a o h e u = rw (h, e, u) refl
 
-  pub comparison_equates : (ts r us : List Lexeme) (a : ExpressionTree) (o : Equality) → sum (nested d) ts ≡ Ok (a, r) → comparing (head r) ≡ None → equating (head r) ≡ Some o → us ≡ tail r
-      → comparison (nested d) ts ≡ (list (is_word w.Or) (sum (nested d)) us >>= λ x. Ok (equal o a (trees_of x.0), x.1))
+  pub comparison_equates : (ts r us : List Lexeme) (a : ExpressionTree) (o : Equality)
+      → sum (nested d) ts ≡ Ok (a, r) → comparing (head r) ≡ None → equating (head r) ≡ Some o → us ≡ tail r
+      → comparison (nested d) ts
+      ≡ (list (is_word w.Or) (sum (nested d)) us >>= λ x. Ok (equal o a (trees_of x.0), x.1))
   unfolding comparison equated
   comparison_equates ts r us a o h n e u = rw (h, n, e, u) refl
 
-  pub unary_steps : (ts : List Lexeme) → is_sign s.Minus (head ts) ≡ false → stepping (head ts) ≡ None → unary (nested d) ts ≡ (primary (nested d) ts >>= λ x. step_on x.0 x.1 (stepping (head x.1)))
+  pub unary_steps : (ts : List Lexeme) → is_sign s.Minus (head ts) ≡ false → stepping (head ts) ≡ None
+      → unary (nested d) ts ≡ (primary (nested d) ts >>= λ x. step_on x.0 x.1 (stepping (head x.1)))
   unfolding unary stepped
   unary_steps ts e o = rw (e, o) refl
 
-  pub called_with : (n : NameTree) (ts : List Lexeme) → is_sign s.CloseParenthesis (head ts) ≡ false → called (nested d) n ts ≡ (list (is_sign s.Comma) (expression (nested d)) ts >>= closed (λ xs. call n (trees_of xs)))
+  pub called_with : (n : NameTree) (ts : List Lexeme) → is_sign s.CloseParenthesis (head ts) ≡ false
+      → called (nested d) n ts
+      ≡ (list (is_sign s.Comma) (expression (nested d)) ts >>= closed (λ xs. call n (trees_of xs)))
   unfolding called
   called_with n ts e = rw e refl
 
-  pub expression_fails : (e : ParseError) (ts : List Lexeme) → Fails e (condition (nested d) ts) → Fails e (expression (nested d) ts)
+  pub expression_fails : (e : ParseError) (ts : List Lexeme) → Fails e (condition (nested d) ts)
+      → Fails e (expression (nested d) ts)
   unfolding expression
   expression_fails errors.Memory ts h = tt
   expression_fails (errors.Fault f line) ts h = rw h refl
 
-  pub expression_alone : (ts r : List Lexeme) (a : ExpressionTree) → condition (nested d) ts ≡ Ok (a, r) → is_sign s.Assign (head r) ≡ false → expression (nested d) ts ≡ Ok (a, r)
+  pub expression_alone : (ts r : List Lexeme) (a : ExpressionTree) → condition (nested d) ts ≡ Ok (a, r)
+      → is_sign s.Assign (head r) ≡ false → expression (nested d) ts ≡ Ok (a, r)
   unfolding expression
   expression_alone ts r a h e = rw (h, e) refl
 
-  pub comparison_fails : (e : ParseError) (ts : List Lexeme) → Fails e (sum (nested d) ts) → Fails e (comparison (nested d) ts)
+  pub comparison_fails : (e : ParseError) (ts : List Lexeme) → Fails e (sum (nested d) ts)
+      → Fails e (comparison (nested d) ts)
   unfolding comparison
   comparison_fails errors.Memory ts h = tt
   comparison_fails (errors.Fault f line) ts h = rw h refl
 
-  pub comparison_alone : (ts r : List Lexeme) (a : ExpressionTree) → sum (nested d) ts ≡ Ok (a, r) → comparing (head r) ≡ None → equating (head r) ≡ None → comparison (nested d) ts ≡ Ok (a, r)
+  pub comparison_alone : (ts r : List Lexeme) (a : ExpressionTree) → sum (nested d) ts ≡ Ok (a, r)
+      → comparing (head r) ≡ None → equating (head r) ≡ None → comparison (nested d) ts ≡ Ok (a, r)
   unfolding comparison
   comparison_alone ts r a h n e = rw (h, n, e) refl
 
 -- with one nesting more opened
 module _ (d k : ℕ) (more : d ≡ k + 1) where
-  pub negated_not : (ts us : List Lexeme) → is_sign s.Not (head ts) ≡ true → us ≡ tail ts → negated (nested d) ts ≡ (negated (nested k) us >>= λ x. Ok (prefixed op.Not x.0, x.1))
+  pub negated_not : (ts us : List Lexeme) → is_sign s.Not (head ts) ≡ true → us ≡ tail ts
+      → negated (nested d) ts ≡ (negated (nested k) us >>= λ x. Ok (prefixed op.Not x.0, x.1))
   unfolding negated
   negated_not ts us e u = rw (e, u, nested_negation d k (tail ts) more) refl
 
-  pub complemented_tilde : (ts us : List Lexeme) → is_sign s.Tilde (head ts) ≡ true → us ≡ tail ts → complemented (nested d) ts ≡ (complemented (nested k) us >>= λ x. Ok (prefixed op.Complement x.0, x.1))
+  pub complemented_tilde : (ts us : List Lexeme) → is_sign s.Tilde (head ts) ≡ true → us ≡ tail ts
+      → complemented (nested d) ts ≡ (complemented (nested k) us >>= λ x. Ok (prefixed op.Complement x.0, x.1))
   unfolding complemented
   complemented_tilde ts us e u = rw (e, u, nested_complement d k (tail ts) more) refl
 
-  pub unary_minus : (ts us : List Lexeme) → is_sign s.Minus (head ts) ≡ true → us ≡ tail ts → unary (nested d) ts ≡ (unary (nested k) us >>= λ x. Ok (prefixed op.Minus x.0, x.1))
+  pub unary_minus : (ts us : List Lexeme) → is_sign s.Minus (head ts) ≡ true → us ≡ tail ts
+      → unary (nested d) ts ≡ (unary (nested k) us >>= λ x. Ok (prefixed op.Minus x.0, x.1))
   unfolding unary
   unary_minus ts us e u = rw (e, u, nested_prefix d k (tail ts) more) refl
 
-  pub unary_step : (ts us : List Lexeme) (o : Step) (p : Position) → is_sign s.Minus (head ts) ≡ false → stepping (head ts) ≡ Some o → us ≡ tail ts → p ≡ position_of (head ts)
+  pub unary_step : (ts us : List Lexeme) (o : Step) (p : Position) → is_sign s.Minus (head ts) ≡ false
+      → stepping (head ts) ≡ Some o → us ≡ tail ts → p ≡ position_of (head ts)
       → unary (nested d) ts ≡ (primary (nested k) us >>= λ x. Ok (step_before o p x.0, x.1))
   unfolding unary
   unary_step ts us o p e h u q = rw (e, h, u, q, nested_operand d k (tail ts) more) refl
 
-  pub enclosed_whole : (ts us : List Lexeme) → us ≡ ts → enclosed (nested d) ts ≡ (expression (nested k) us >>= closed parenthesised)
+  pub enclosed_whole : (ts us : List Lexeme) → us ≡ ts
+      → enclosed (nested d) ts ≡ (expression (nested k) us >>= closed parenthesised)
   unfolding enclosed
   enclosed_whole ts us u = rw (u, nested_whole d k ts more) refl
 
-  pub assigned_whole : (ts : List Lexeme) → begins_expression (head ts) ≡ true → assigned (nested d) ts ≡ expression (nested k) ts
+  pub assigned_whole : (ts : List Lexeme) → begins_expression (head ts) ≡ true
+      → assigned (nested d) ts ≡ expression (nested k) ts
   unfolding assigned
   assigned_whole ts e = rw (e, nested_whole d k ts more) refl
 
-  pub after_name_called : (n : NameTree) (ts us : List Lexeme) → is_sign s.OpenParenthesis (head ts) ≡ true → us ≡ tail ts → after_name (nested d) n ts ≡ called (nested k) n us
+  pub after_name_called : (n : NameTree) (ts us : List Lexeme) → is_sign s.OpenParenthesis (head ts) ≡ true
+      → us ≡ tail ts → after_name (nested d) n ts ≡ called (nested k) n us
   unfolding after_name
   after_name_called n ts us e u = rw (e, u, nested_arguments d k n (tail ts) more) refl
 
@@ -96,7 +120,8 @@ module _ (e : ParseError) (d n : ℕ) (deep : (d ≡ 0) × (e ≡ errors.Fault D
   unfolding assigned
   assigned_deep ts is = rw deep.1 (rw (is, nested_zero d whole ts deep.0) refl)
 
-  pub after_name_deep : (name : NameTree) (ts : List Lexeme) → is_sign s.OpenParenthesis (head ts) ≡ true → Fails e (after_name (nested d) name ts)
+  pub after_name_deep : (name : NameTree) (ts : List Lexeme) → is_sign s.OpenParenthesis (head ts) ≡ true
+      → Fails e (after_name (nested d) name ts)
   unfolding after_name
   after_name_deep name ts is = rw deep.1 (rw (is, nested_zero d (arguments name) (tail ts) deep.0) refl)
 
@@ -116,6 +141,7 @@ module _ (e : ParseError) (d n : ℕ) (deep : (d ≡ 0) × (e ≡ errors.Fault D
   unfolding unary
   unary_deep ts is = rw deep.1 (rw (is, nested_zero d prefix (tail ts) deep.0) refl)
 
-  pub unary_step_deep : (ts : List Lexeme) (o : Step) → is_sign s.Minus (head ts) ≡ false → stepping (head ts) ≡ Some o → Fails e (unary (nested d) ts)
+  pub unary_step_deep : (ts : List Lexeme) (o : Step) → is_sign s.Minus (head ts) ≡ false
+      → stepping (head ts) ≡ Some o → Fails e (unary (nested d) ts)
   unfolding unary
   unary_step_deep ts o is step = rw deep.1 (rw (is, step, nested_zero d operand (tail ts) deep.0) refl)

@@ -3,7 +3,8 @@ use Rattle.std.proofs.Common.{◌≡◌, ℕ, zero, suc, ◌+◌, List, Err, ref
 use Rattle.lexer.specs.Token.{Lexeme}
 use Rattle.expressions.specs.declared.error.Fault.TheVariants.{Deep}
 use Rattle.expressions.specs.Tree.{NameTree}
-use Rattle.expressions.specs.Parse.{Level, whole, negation, complement, prefix, operand, arguments, nested, expression, negated, complemented, unary, primary, called}
+use Rattle.expressions.specs.Parse.{Level, whole, negation, complement, prefix, operand, arguments, nested}
+use Rattle.expressions.specs.Parse.{expression, negated, complemented, unary, primary, called}
 
 pub nested_zero : (d : ℕ) (l : Level) (ts : List Lexeme) → d ≡ 0 → nested d l ts ≡ Err Deep
 unfolding nested
@@ -35,7 +36,8 @@ unfolding nested
 nested_operand zero k ts h = absurd (omega arith)
 nested_operand (suc d) k ts h = let e : d ≡ k = omega arith in ap (λ j. primary (nested j) ts) e
 
-pub nested_arguments : (d k : ℕ) (n : NameTree) (ts : List Lexeme) → d ≡ k + 1 → nested d (arguments n) ts ≡ called (nested k) n ts
+pub nested_arguments : (d k : ℕ) (n : NameTree) (ts : List Lexeme) → d ≡ k + 1
+    → nested d (arguments n) ts ≡ called (nested k) n ts
 unfolding nested
 nested_arguments zero k n ts h = absurd (omega arith)
 nested_arguments (suc d) k n ts h = let e : d ≡ k = omega arith in ap (λ j. called (nested j) n ts) e

@@ -2,7 +2,12 @@
 use Rattle.std.proofs.Common.{◌<◌, List, length, arith}
 use Rattle.lexer.specs.Token.{Lexeme}
 use Rattle.expressions.specs.Tree.{ExpressionTree, ExpressionTrees}
-use Rattle.expressions.specs.Grammar.{IsE, e_plain, e_assign, IsE1, e1_plain, e1_logical, IsN1, n1_plain, n1_not, IsE2, e2_plain, e2_compare, e2_equal, IsChoice, choice_last, choice_or, IsE3, e3_plain, e3_add, IsE4, e4_plain, e4_scale, IsN4, n4_plain, n4_complement, IsU, u_plain, u_minus, u_before, u_after, IsP, p_number, p_character, p_true, p_false, p_nothing, p_name, p_call, p_call_with, p_parenthesised, IsArguments, arguments_last, arguments_comma}
+use Rattle.expressions.specs.Grammar.{IsE, e_plain, e_assign, IsE1, e1_plain, e1_logical, IsN1, n1_plain, n1_not}
+use Rattle.expressions.specs.Grammar.{IsE2, e2_plain, e2_compare, e2_equal, IsChoice, choice_last, choice_or, IsE3}
+use Rattle.expressions.specs.Grammar.{e3_plain, e3_add, IsE4, e4_plain, e4_scale, IsN4, n4_plain, n4_complement, IsU}
+use Rattle.expressions.specs.Grammar.{u_plain, u_minus, u_before, u_after, IsP, p_number, p_character, p_true}
+use Rattle.expressions.specs.Grammar.{p_false, p_nothing, p_name, p_call, p_call_with, p_parenthesised, IsArguments}
+use Rattle.expressions.specs.Grammar.{arguments_last, arguments_comma}
 
 mutual
   pub short_E : {ts r : List Lexeme} {e : ExpressionTree} → IsE ts e r → length r < length ts

@@ -1,17 +1,24 @@
 -- Which token stands where a test for a sign or a reserved word holds.
-use Rattle.std.proofs.Common.{◌≡◌, ℕ, Bool, true, false, cond, eqb, List, [], ◌∷◌, get_or, Result, Ok, Err, refl, sym, ap, ◌∙◌}
+use Rattle.std.proofs.Common.{◌≡◌, ℕ, Bool, true, false, cond, eqb, List, [], ◌∷◌, get_or, Result, Ok, Err, refl, sym}
+use Rattle.std.proofs.Common.{ap, ◌∙◌}
 use Rattle.std.proofs.lemmas.Bool.{eqb-true}
 use Rattle.lexer.specs.declared.token.Sign.{Sign}
 use Rattle.lexer.specs.declared.token.Sign.TheVariants as s
 use Rattle.lexer.specs.declared.token.Word.{Word}
 use Rattle.lexer.specs.declared.token.Word.TheVariants as w
-use Rattle.lexer.specs.Token.{Lexeme, name, number, text, character, dictionary_word, reserved, sign, end, position_of}
+use Rattle.lexer.specs.Token.{Lexeme, name, number, text, character, dictionary_word, reserved, sign, end}
+use Rattle.lexer.specs.Token.{position_of}
 use Rattle.expressions.specs.declared.error.Fault.{Fault}
 use Rattle.expressions.specs.declared.error.Fault.TheVariants.{Grammar, Deep}
 use Rattle.expressions.specs.Parse.{head, tail, sign_number, word_number, is_sign, is_word, expect, expect_word}
 
 sign_at : ℕ → Sign
-sign_at n = get_or (s.OpenParenthesis ∷ s.CloseParenthesis ∷ s.OpenBrace ∷ s.CloseBrace ∷ s.OpenBracket ∷ s.CloseBracket ∷ s.Semicolon ∷ s.Comma ∷ s.Colon ∷ s.Dot ∷ s.DotAmpersand ∷ s.DotHash ∷ s.Assign ∷ s.Equal ∷ s.NotEqual ∷ s.Not ∷ s.Tilde ∷ s.Greater ∷ s.GreaterOrEqual ∷ s.Less ∷ s.LessOrEqual ∷ s.AndAlso ∷ s.Ampersand ∷ s.OrElse ∷ s.Bar ∷ s.Plus ∷ s.Increment ∷ s.Minus ∷ s.Decrement ∷ s.Arrow ∷ s.LongArrow ∷ s.Star ∷ s.Slash ∷ s.Percent ∷ []) n s.Percent
+sign_at n = get_or
+    (s.OpenParenthesis ∷ s.CloseParenthesis ∷ s.OpenBrace ∷ s.CloseBrace ∷ s.OpenBracket ∷ s.CloseBracket
+    ∷ s.Semicolon ∷ s.Comma ∷ s.Colon ∷ s.Dot ∷ s.DotAmpersand ∷ s.DotHash ∷ s.Assign ∷ s.Equal ∷ s.NotEqual ∷ s.Not
+    ∷ s.Tilde ∷ s.Greater ∷ s.GreaterOrEqual ∷ s.Less ∷ s.LessOrEqual ∷ s.AndAlso ∷ s.Ampersand ∷ s.OrElse ∷ s.Bar
+    ∷ s.Plus ∷ s.Increment ∷ s.Minus ∷ s.Decrement ∷ s.Arrow ∷ s.LongArrow ∷ s.Star ∷ s.Slash ∷ s.Percent ∷ []) n
+    s.Percent
 
 sign_back : (s : Sign) → sign_at (sign_number s) ≡ s
 unfolding sign_at
@@ -54,7 +61,12 @@ pub same_sign : (r s : Sign) → eqb (sign_number r) (sign_number s) ≡ true �
 same_sign r s e = sym (sign_back r) ∙ ap sign_at (eqb-true _ _ e) ∙ sign_back s
 
 word_at : ℕ → Word
-word_at n = get_or (w.Abbreviate ∷ w.Array ∷ w.Attribute ∷ w.Break ∷ w.Char ∷ w.Child ∷ w.Constant ∷ w.Continue ∷ w.Default ∷ w.Do ∷ w.Else ∷ w.False ∷ w.For ∷ w.Give ∷ w.Global ∷ w.Has ∷ w.Hasnt ∷ w.If ∷ w.In ∷ w.Move ∷ w.NewLine ∷ w.Nothing ∷ w.Notin ∷ w.Object ∷ w.Objectloop ∷ w.Or ∷ w.Parent ∷ w.Print ∷ w.PrintRet ∷ w.Property ∷ w.Provides ∷ w.Quit ∷ w.Read ∷ w.Remove ∷ w.Return ∷ w.Rfalse ∷ w.Rtrue ∷ w.Sibling ∷ w.String ∷ w.Switch ∷ w.Table ∷ w.To ∷ w.True ∷ w.Until ∷ w.While ∷ w.With ∷ []) n w.With
+word_at n = get_or
+    (w.Abbreviate ∷ w.Array ∷ w.Attribute ∷ w.Break ∷ w.Char ∷ w.Child ∷ w.Constant ∷ w.Continue ∷ w.Default ∷ w.Do
+    ∷ w.Else ∷ w.False ∷ w.For ∷ w.Give ∷ w.Global ∷ w.Has ∷ w.Hasnt ∷ w.If ∷ w.In ∷ w.Move ∷ w.NewLine ∷ w.Nothing
+    ∷ w.Notin ∷ w.Object ∷ w.Objectloop ∷ w.Or ∷ w.Parent ∷ w.Print ∷ w.PrintRet ∷ w.Property ∷ w.Provides ∷ w.Quit
+    ∷ w.Read ∷ w.Remove ∷ w.Return ∷ w.Rfalse ∷ w.Rtrue ∷ w.Sibling ∷ w.String ∷ w.Switch ∷ w.Table ∷ w.To ∷ w.True
+    ∷ w.Until ∷ w.While ∷ w.With ∷ []) n w.With
 
 word_back : (w : Word) → word_at (word_number w) ≡ w
 unfolding word_at
@@ -108,7 +120,8 @@ word_back w.With = refl
 pub same_word : (r w : Word) → eqb (word_number r) (word_number w) ≡ true → r ≡ w
 same_word r w e = sym (word_back r) ∙ ap word_at (eqb-true _ _ e) ∙ word_back w
 
-pub at_sign : (s : Sign) (ts : List Lexeme) → is_sign s (head ts) ≡ true → ts ≡ sign s (position_of (head ts)) ∷ tail ts
+pub at_sign : (s : Sign) (ts : List Lexeme) → is_sign s (head ts) ≡ true
+    → ts ≡ sign s (position_of (head ts)) ∷ tail ts
 at_sign s [] e = absurd cc
 at_sign s (name f p ∷ ts) e = absurd cc
 at_sign s (number n p ∷ ts) e = absurd cc
@@ -119,7 +132,8 @@ at_sign s (reserved r p ∷ ts) e = absurd cc
 at_sign s (sign r p ∷ ts) e = ap (λ q. sign q p ∷ ts) (same_sign r s e)
 at_sign s (end p ∷ ts) e = absurd cc
 
-pub at_word : (w : Word) (ts : List Lexeme) → is_word w (head ts) ≡ true → ts ≡ reserved w (position_of (head ts)) ∷ tail ts
+pub at_word : (w : Word) (ts : List Lexeme) → is_word w (head ts) ≡ true
+    → ts ≡ reserved w (position_of (head ts)) ∷ tail ts
 at_word w [] e = absurd cc
 at_word w (name f p ∷ ts) e = absurd cc
 at_word w (number n p ∷ ts) e = absurd cc
@@ -161,7 +175,8 @@ pub expect_not_deep : (s : Sign) (ts : List Lexeme) → expect s ts ≡ Err Deep
 unfolding expect taken
 expect_not_deep s ts e = taken_deep (is_sign s (head ts)) (tail ts) e
 
-pub expect_word_ok : (w : Word) (ts r : List Lexeme) → expect_word w ts ≡ Ok r → ts ≡ reserved w (position_of (head ts)) ∷ r
+pub expect_word_ok : (w : Word) (ts r : List Lexeme) → expect_word w ts ≡ Ok r
+    → ts ≡ reserved w (position_of (head ts)) ∷ r
 unfolding expect_word taken
 expect_word_ok w ts r e =
     let p = taken_ok (is_word w (head ts)) (tail ts) r e in

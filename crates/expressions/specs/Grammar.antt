@@ -1,5 +1,5 @@
--- The grammar of expressions: a relation between the tokens from a place on, the tree, and the tokens after it, with one
--- case for each alternative.
+-- The grammar of expressions: a relation between the tokens from a place on, the tree, and the tokens after it, with
+-- one case for each alternative.
 use Rattle.std.specs.Prelude.{◌≡◌, ℕ, suc, max, List, ◌∷◌, Some}
 use Rattle.lexer.specs.declared.token.Position.{Position}
 use Rattle.lexer.specs.declared.token.Sign.TheVariants as s
@@ -10,7 +10,8 @@ use Rattle.expressions.specs.declared.tree.Comparison.{Comparison}
 use Rattle.expressions.specs.declared.tree.Equality.{Equality}
 use Rattle.expressions.specs.declared.tree.Prefix.TheVariants as prefix
 use Rattle.expressions.specs.declared.tree.Step.{Step}
-use Rattle.expressions.specs.Tree.{ExpressionTree, ExpressionTrees, constant, named, call, parenthesised, prefixed, step_before, step_after, binary, compare, equal, assign, none, more}
+use Rattle.expressions.specs.Tree.{ExpressionTree, ExpressionTrees, constant, named, call, parenthesised, prefixed}
+use Rattle.expressions.specs.Tree.{step_before, step_after, binary, compare, equal, assign, none, more}
 use Rattle.expressions.specs.Operators.{logical, comparing, equating, adding, scaling, stepping}
 
 mutual
@@ -84,7 +85,8 @@ mutual
     p_name : {r : List Lexeme} {p : Position} {n : List ℕ}
         → IsP (name n p ∷ r) (named (record { text = n; position = p })) r
     p_call : {r : List Lexeme} {p q o : Position} {n : List ℕ}
-        → IsP (name n p ∷ sign s.OpenParenthesis q ∷ sign s.CloseParenthesis o ∷ r) (call (record { text = n; position = p }) none) r
+        → IsP (name n p ∷ sign s.OpenParenthesis q ∷ sign s.CloseParenthesis o ∷ r)
+        (call (record { text = n; position = p }) none) r
     p_call_with : {m r : List Lexeme} {p q o : Position} {n : List ℕ} {es : ExpressionTrees}
         → IsArguments m es (sign s.CloseParenthesis o ∷ r)
         → IsP (name n p ∷ sign s.OpenParenthesis q ∷ m) (call (record { text = n; position = p }) es) r
@@ -97,8 +99,8 @@ mutual
     arguments_comma : {ts m r : List Lexeme} {p : Position} {e : ExpressionTree} {es : ExpressionTrees}
         → IsE ts e (sign s.Comma p ∷ m) → IsArguments m es r → IsArguments ts (more e es) r
 
--- How deep a tree is nested: a parenthesis, also that of a call, and an operator before its operand count from their own
--- token on, the right side of an assignment from its first token on.
+-- How deep a tree is nested: a parenthesis, also that of a call, and an operator before its operand count from their
+-- own token on, the right side of an assignment from its first token on.
 abbrev mutual
   pub nesting : ExpressionTree → ℕ
   nesting (constant n) = 0

@@ -39,7 +39,8 @@ ReadsWhatDerives =
     (d : ℕ) (ts r : List Lexeme) (e : ExpressionTree) → expression (nested d) ts ≡ Ok (e, r)
     → IsE ts e r × (nesting e ≤ d)
 
--- what derives, up to a token that does not go on with it, is read; or the fault is that it is nested too deep, which it is
+-- what derives, up to a token that does not go on with it, is read; or the fault is that it is nested too deep, which
+-- it is
 abbrev pub DerivesWhatIsRead : Type 0
 DerivesWhatIsRead = (d : ℕ) (ts r : List Lexeme) (e : ExpressionTree) → IsE ts e r → goes_on (head r) ≡ false
     → (nesting e ≤ d → expression (nested d) ts ≡ Ok (e, r)) × (d < nesting e → expression (nested d) ts ≡ Err Deep)

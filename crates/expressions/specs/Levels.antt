@@ -1,4 +1,5 @@
--- Words of proofs: the levels whose operators group to the left: E1, E3 and E4, each with its operators and its operands.
+-- Words of proofs: the levels whose operators group to the left: E1, E3 and E4, each with its operators and its
+-- operands.
 use Rattle.std.specs.Prelude.{Option}
 use Rattle.lexer.specs.Token.{Lexeme}
 use Rattle.expressions.specs.declared.tree.Binary.{Binary}

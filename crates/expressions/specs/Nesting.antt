@@ -1,9 +1,9 @@
--- How deep tokens stand: a relation between a number and the tokens from a place on, with one case for each place at which
--- a part can stand in an alternative of the grammar.
+-- How deep tokens stand: a relation between a number and the tokens from a place on, with one case for each place at
+-- which a part can stand in an alternative of the grammar.
 --
--- DeepE n ts: an expression that begins at ts can be read as far as a token that stands n nestings deep in it. What lies
--- before that token in its parts is complete. A parenthesis, also that of a call, and an operator before its operand
--- stand one deeper than what holds them, and so does the first token of the right side of an assignment.
+-- DeepE n ts: an expression that begins at ts can be read as far as a token that stands n nestings deep in it. What
+-- lies before that token in its parts is complete. A parenthesis, also that of a call, and an operator before its
+-- operand stand one deeper than what holds them, and so does the first token of the right side of an assignment.
 use Rattle.std.specs.Prelude.{◌≡◌, Bool, true, false, ℕ, suc, List, ◌∷◌, Some}
 use Rattle.lexer.specs.declared.token.Position.{Position}
 use Rattle.lexer.specs.declared.token.Sign.TheVariants as s

@@ -1,6 +1,7 @@
 -- Words of proofs: expressions, read from left to right, as functions from a list of tokens to a tree and the tokens
 -- after it.
-use Rattle.std.specs.Prelude.{◌≡◌, ◌==◌, if◌then◌else◌, Bool, false, ℕ, zero, suc, List, [], ◌∷◌, length, Option, Some, None, Result, Ok, Err}
+use Rattle.std.specs.Prelude.{◌≡◌, ◌==◌, if◌then◌else◌, Bool, false, ℕ, zero, suc, List, [], ◌∷◌, length, Option}
+use Rattle.std.specs.Prelude.{Some, None, Result, Ok, Err}
 use Rattle.lexer.specs.declared.token.Sign.{Sign}
 use Rattle.lexer.specs.declared.token.Sign.TheVariants as s
 use Rattle.lexer.specs.declared.token.Word.{Word}
@@ -15,7 +16,8 @@ use Rattle.expressions.specs.declared.error.Fault.{Fault}
 use Rattle.expressions.specs.declared.error.Fault.TheVariants.{Grammar, Deep}
 use Rattle.expressions.specs.declared.error.ParseError.{ParseError}
 use Rattle.expressions.specs.declared.error.ParseError.TheVariants as errors
-use Rattle.expressions.specs.Tree.{NameTree, ExpressionTree, constant, named, call, parenthesised, prefixed, step_before, step_after, binary, compare, equal, assign, none, trees_of}
+use Rattle.expressions.specs.Tree.{NameTree, ExpressionTree, constant, named, call, parenthesised, prefixed}
+use Rattle.expressions.specs.Tree.{step_before, step_after, binary, compare, equal, assign, none, trees_of}
 use Rattle.expressions.specs.Operators.{logical, comparing, equating, adding, scaling, stepping}
 use Rattle.expressions.specs.Nesting.{begins_expression}
 
@@ -41,12 +43,13 @@ abbrev pub Gives : {X Y : Type 0} → (X → Y) → Result X ParseError → Resu
 Gives view (Ok x) read = read ≡ Ok (view x)
 Gives view (Err e) read = Fails e read
 
--- From what reading a part gave to what reading the whole gives: where the whole is read by reading the part, and then by
--- a function of what that gives.
+-- From what reading a part gave to what reading the whole gives: where the whole is read by reading the part, and
+-- then by a function of what that gives.
 abbrev pub GoesOn : {X Y A B : Type 0} → (X → A) → Result X ParseError → (Y → B) → Result Y ParseError
     → (A → Result B Fault) → Type 0
 GoesOn {A = A} {B = B} view part view_whole whole next =
-    (read : Result A Fault) (read_whole : Result B Fault) → Gives view part read → read_whole ≡ (read >>= next) → Gives view_whole whole read_whole
+    (read : Result A Fault) (read_whole : Result B Fault) → Gives view part read → read_whole ≡ (read >>= next)
+    → Gives view_whole whole read_whole
 
 -- ---- one token
 
@@ -282,14 +285,16 @@ module _ (below : Level → Parse ExpressionTree) where
   unfoldable pub expression : Parse ExpressionTree
   expression ts = do
     x ← condition ts
-    if is_sign s.Assign (head x.1) then (assigned (tail x.1) >>= λ y. Ok (assign x.0 (position_of (head x.1)) y.0, y.1))
+    if is_sign s.Assign (head x.1)
+        then (assigned (tail x.1) >>= λ y. Ok (assign x.0 (position_of (head x.1)) y.0, y.1))
         else Ok x
 
   -- the arguments of a call, behind its parenthesis
   unfoldable pub called : NameTree → Parse ExpressionTree
   called n ts =
       if is_sign s.CloseParenthesis (head ts) then Ok (call n none, tail ts)
-      else (list (is_sign s.Comma) expression ts >>= λ x. expect s.CloseParenthesis x.1 >>= λ r. Ok (call n (trees_of x.0), r))
+      else (list (is_sign s.Comma) expression ts >>= λ x. expect s.CloseParenthesis x.1
+      >>= λ r. Ok (call n (trees_of x.0), r))
 
 -- each level, with so many nestings at most
 unfoldable pub nested : ℕ → Level → Parse ExpressionTree

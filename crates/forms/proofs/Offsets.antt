@@ -1,6 +1,7 @@
 -- The offset of a branch, from how many bytes are left, the last first.
 use Rattle.std.proofs.Common.{◌≡◌, ℕ, zero, suc, ◌+◌, ◌-◌, ◌<◌, ◌≤◌, List, [], ◌∷◌, ◌++◌, length, reverse, take, drop}
-use Rattle.std.proofs.Common.{slice_index, slice_index_or, Some, None, Option, Bool, true, false, refl, sym, ap, subst}
+use Rattle.std.proofs.Common.{slice_index, slice_index_or, Some, None, Option, Bool, true, false, refl, sym, ap}
+use Rattle.std.proofs.Common.{subst}
 use Rattle.std.proofs.Common.{◌∙◌, arith, length-drop, append_assoc, append-nil}
 use Rattle.std.specs.Prelude.{nat_lt, if◌then◌else◌}
 use Rattle.std.proofs.Math.Seq.{drop-cons, take-append_seam}
@@ -173,7 +174,8 @@ offset_at parts left number target over offset is h o e =
     e ∙ ap (offset_over over) (behind parts left number is h)
     ∙ ap (λ k. offset_over k (lefts (number + 1) (drop (number + 1) parts))) n
 
-pub left_length : (parts : List Part) (left : List ℕ) → left ≡ reverse (lefts 0 parts) → length left ≡ length parts + 1
+pub left_length : (parts : List Part) (left : List ℕ) → left ≡ reverse (lefts 0 parts)
+    → length left ≡ length parts + 1
 left_length parts left is = ap length is ∙ length-reverse (lefts 0 parts) ∙ lefts_length 0 parts
 
 -- The rule

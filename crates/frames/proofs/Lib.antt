@@ -1,4 +1,5 @@
 pub mod Lists
+pub mod Searching
 pub mod Steps
 pub mod Frames
 pub mod Kept
@@ -10,3 +11,12 @@ pub mod Storing
 pub mod Entering
 pub mod Beginning
 pub mod Lines
+pub mod Filling
+pub mod Words
+pub mod Buffers
+pub mod Settling
+pub mod OnRegisters
+pub mod Runs
+pub mod Returning
+pub mod Calling
+pub mod MemoryOnRegisters

@@ -4,3 +4,5 @@ pub mod States
 pub mod Went
 pub mod Playing
 pub mod Lines
+pub mod Settled
+pub mod Arguments

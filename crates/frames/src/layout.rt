@@ -16,6 +16,9 @@ pub(crate) const WAITING: usize = 5;
 /// The text buffer for the line.
 pub(crate) const TEXT_BUFFER: usize = 6;
 
+/// The parse buffer for its words, 0 for none.
+pub(crate) const PARSE_BUFFER: usize = 7;
+
 /// The variable for the line's result.
 pub(crate) const RESULT_VARIABLE: usize = 8;
 

@@ -1,11 +1,11 @@
 //! Waiting for a line, and the line that is then given.
 
-ghost use Rattle.std.specs.Prelude.{◌≡◌, ◌<◌, ◌≤◌, ◌+◌, ℕ, [], Some, length, map, slice_index, OnOk, OnErr};
+ghost use Rattle.std.specs.Prelude.{◌≡◌, ◌≢◌, ◌≤◌, ◌+◌, ◌*◌, ℕ, [], Some, length, map, take, slice_index, OnOk, OnErr};
 ghost use Rattle.zcore.specs.Header.{static_base_of};
-ghost use Rattle.zcore.specs.Parts.{is_text_buffer, test_text_buffer, wait};
+ghost use Rattle.zcore.specs.Parts.{is_text_buffer, test_text_buffer, is_parse_buffer, test_parse_buffer, wait};
 ghost use Rattle.zcore.specs.State.{Pending};
 ghost use Rattle.zcore.specs.Text as texts;
-ghost use Rattle.zcore.specs.Turn.{given, with_letters};
+ghost use Rattle.zcore.specs.Turn.{given, with_line};
 ghost use Rattle.frames.specs.Contents.{memory_of};
 ghost use Rattle.frames.specs.Lines.{Filled, WaitsNoMore};
 ghost use Rattle.frames.specs.Playing.{IsWaiting};
@@ -15,7 +15,9 @@ ghost use Rattle.frames.specs.Went.{GivenUp, Went, Told};
 use crate::calls::{variable_cell, variable_in};
 use crate::cells::{cell, long, put_all};
 use crate::end::End;
-use crate::layout::{MEMORY, RESULT_VARIABLE, RETURN_ADDRESS, TEXT_BUFFER, WAITING};
+use crate::fill::fill_counted;
+use crate::layout::{PARSE_BUFFER, RESULT_VARIABLE, RETURN_ADDRESS, TEXT_BUFFER, WAITING};
+use crate::parse::{WORDS_LENGTH, parse};
 use crate::results::store_result;
 use crate::store::Store;
 use journal::{NoMemory, Recorded};
@@ -23,6 +25,9 @@ use zcore::{Fault, Header, Next, Place};
 
 /// Where the header ends.
 const HEADER_LENGTH: usize = 64;
+
+/// As many letters as a text buffer can have room for.
+const MOST_LETTERS: usize = 255;
 
 /// The code of the key that ends a line.
 const NEW_LINE: u16 = 13;
@@ -59,6 +64,42 @@ fn is_text_buffer(memory: &[u8], static_base: u16, buffer: u16) -> bool
     at + 2 + room <= end && 1 <= room && memory[at + 1] == 0
 }
 
+/// Tests whether words can be written to a parse buffer, and changes nothing: it is 0, which stands for none, or lies in
+/// dynamic memory behind the header, with room for a word or more (Z-Machine Standards Document 1.1, section 15,
+/// `aread`).
+///
+/// # Errors
+///
+/// M12 where they cannot.
+pub fn test_parse_buffer(header: &Header, store: &Recorded<Store>, buffer: u16) -> Result<(), End>
+    requires { IsStoreOf header.now store.now.store }
+    ensures { Went result store.now store.now (test_parse_buffer buffer) }
+{
+    if is_parse_buffer(store.store().memory(), header.static_base, buffer) {
+        Ok(())
+    } else {
+        Err(End::Stop(Place::Fault(Fault::Buffer)))
+    }
+}
+
+/// Whether an address is 0 or that of a parse buffer, in a story with this static base.
+fn is_parse_buffer(memory: &[u8], static_base: u16, buffer: u16) -> bool
+    requires base { static_base ≡ static_base_of memory.now }
+    requires within { static_base ≤ length memory.now }
+    ensures { result ≡ is_parse_buffer memory.now buffer }
+{
+    if buffer == 0 {
+        return true;
+    }
+    let at = buffer as usize;
+    let end = static_base as usize;
+    if at < HEADER_LENGTH || at + 2 > end {
+        return false;
+    }
+    let room = memory[at] as usize;
+    at + 2 + 4 * room <= end && 1 <= room
+}
+
 /// Ends the turn: the machine waits for a line, with these buffers (the second 0 for none), the variable for the result
 /// and the address to go on at. It never answers `Ok`.
 ///
@@ -88,8 +129,8 @@ pub fn wait(
 }
 
 /// Gives a line to a store that waits for one, and answers where the turn goes on: the text buffer takes as many
-/// letters as it has room for, and the result is the code of the key that ended the line (Z-Machine Standards Document
-/// 1.1, section 15, `aread`).
+/// letters as it has room for, in lower case, the parse buffer as many of their words, and the result is the code of the
+/// key that ended the line (Z-Machine Standards Document 1.1, section 15, `aread`).
 ///
 /// # Errors
 ///
@@ -105,12 +146,15 @@ pub fn give_line(
     requires waiting { IsWaiting store.old.store }
     ensures { (pending : Pending) → pending_of (slice_index store.old.store.cells) ≡ Some pending → Told result store.old [] store.new [] (given pending line.now fuel) }
 {
-    let buffer = cell(store, TEXT_BUFFER) as usize;
+    let text_buffer = cell(store, TEXT_BUFFER) as usize;
+    let parse_buffer = cell(store, PARSE_BUFFER) as usize;
     let result_variable = variable_in(cell(store, RESULT_VARIABLE));
     let program_counter = long(store, RETURN_ADDRESS);
-    let most = store.store().memory()[buffer] as usize;
+    let most = store.store().memory()[text_buffer] as usize;
     let count = most.min(line.len());
-    fill_buffer(store, buffer, &line[..count])?;
+    let mut letters = [0; MOST_LETTERS];
+    lower(&line[..count], &mut letters);
+    fill_buffers(header, store, text_buffer, parse_buffer, &letters[..count])?;
     stop_waiting(store)?;
     store_result(header, store, result_variable, NEW_LINE)?;
     Ok(Next {
@@ -119,20 +163,48 @@ pub fn give_line(
     })
 }
 
-/// Fills a text buffer: the number of letters goes to its byte 1, the letters from byte 2 on, in lower case.
-fn fill_buffer(store: &mut Recorded<Store>, buffer: usize, letters: &[u8]) -> Result<(), NoMemory>
-    requires sound { IsSound store.old.store }
-    requires behind_header { 64 ≤ buffer }
-    requires room { buffer + 2 + length letters.now ≤ static_base_of (memory_of store.old.store) }
+/// Fills the buffers of a line, of which the parse buffer may be 0 for none. The words are found before a byte is
+/// written.
+fn fill_buffers(
+    header: &Header,
+    store: &mut Recorded<Store>,
+    text_buffer: usize,
+    parse_buffer: usize,
+    letters: &[u8],
+) -> Result<(), NoMemory>
+    requires store { IsStoreOf header.now store.old.store }
     requires few { length letters.now ≤ 255 }
-    ensures filled { OnOk result (Filled store.old store.new (with_letters (memory_of store.old.store) buffer (map texts.lower_case letters.now))) }
+    requires behind_header { 64 ≤ text_buffer }
+    requires room { text_buffer + 2 + length letters.now ≤ static_base_of (memory_of store.old.store) }
+    requires words_behind_header { parse_buffer ≢ 0 → 64 ≤ parse_buffer }
+    requires words_room { parse_buffer ≢ 0 → parse_buffer + 2 + 4 * slice_index (memory_of store.old.store) parse_buffer ≤ static_base_of (memory_of store.old.store) }
+    ensures filled { OnOk result (Filled store.old store.new (with_line (memory_of store.old.store) text_buffer parse_buffer letters.now)) }
     ensures given_up { OnErr result (GivenUp store.old store.new) }
 {
-    store.put(MEMORY + (buffer + 1), letters.len() as u16)?;
-    for (i, letter) in letters.iter().enumerate() {
-        store.put(MEMORY + (buffer + 2 + i), lower_case(*letter) as u16)?;
+    if parse_buffer == 0 {
+        return fill_counted(store, text_buffer + 1, letters.len() as u8, letters);
     }
-    Ok(())
+    let memory = store.store().memory();
+    let mut bytes = [0; WORDS_LENGTH];
+    let words = parse(
+        memory,
+        header.dictionary.address,
+        letters,
+        memory[parse_buffer],
+        &mut bytes,
+    );
+    fill_counted(store, text_buffer + 1, letters.len() as u8, letters)?;
+    fill_counted(store, parse_buffer + 1, words, &bytes[..4 * words as usize])
+}
+
+/// Writes the letters of a line in lower case to the front of a row.
+fn lower(line: &[u8], letters: &mut [u8; 255])
+    requires { length line.now ≤ 255 }
+    ensures { take (length line.now) letters.new ≡ map texts.lower_case line.now }
+{
+    for (i, letter) in line.iter().enumerate() {
+        letters[i] = lower_case(*letter);
+    }
 }
 
 /// A capital as a small letter.

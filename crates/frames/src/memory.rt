@@ -15,14 +15,14 @@ use zcore::{Fault, Header, Place};
 const READABLE: usize = 65_536;
 
 #[inline]
-fn is_readable(memory: &[u8], at: usize) -> bool
+pub(crate) fn is_readable(memory: &[u8], at: usize) -> bool
     ensures { result ≡ is_readable memory.now at }
 {
     at < memory.len() && at < READABLE
 }
 
 #[inline]
-fn is_readable_word(memory: &[u8], at: usize) -> bool
+pub(crate) fn is_readable_word(memory: &[u8], at: usize) -> bool
     requires { at ≤ 65535 }
     ensures { result ≡ is_readable memory.now at && is_readable memory.now (at + 1) }
 {
@@ -30,14 +30,14 @@ fn is_readable_word(memory: &[u8], at: usize) -> bool
 }
 
 #[inline]
-fn is_writable(header: &Header, at: usize) -> bool
+pub(crate) fn is_writable(header: &Header, at: usize) -> bool
     ensures { result ≡ nat_le 64 at && nat_lt at header.now.static_base }
 {
     64 <= at && at < header.static_base as usize
 }
 
 #[inline]
-fn is_writable_word(header: &Header, at: usize) -> bool
+pub(crate) fn is_writable_word(header: &Header, at: usize) -> bool
     requires { at ≤ 65535 }
     ensures { result ≡ nat_le 64 at && nat_lt (at + 1) header.now.static_base }
 {

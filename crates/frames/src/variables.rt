@@ -56,8 +56,8 @@ fn write_local(store: &mut Recorded<Store>, number: usize, word: u16) -> Result<
 }
 
 /// Where a global stands, from variable 16 on.
-#[inline]
-fn global_address(header: &Header, variable: u8) -> usize
+#[inline(always)]
+pub(crate) fn global_address(header: &Header, variable: u8) -> usize
     requires { 16 ≤ variable }
     ensures same { result ≡ header.now.globals + 2 * (variable - 16) }
     ensures within { result < 2 ^ 17 }

@@ -1,15 +1,18 @@
 -- What is written for `==` and `~=`, and for lists of expressions.
-use Rattle.std.proofs.Common.{◌≡◌, ℕ, zero, suc, ◌+◌, ◌-◌, ◌<◌, List, [], ◌∷◌, ◌++◌, length, map, drop, slice_index_or}
+use Rattle.std.proofs.Common.{◌≡◌, ℕ, zero, suc, ◌+◌, ◌-◌, ◌<◌, List, [], ◌∷◌, ◌++◌, length, map, drop}
+use Rattle.std.proofs.Common.{slice_index_or}
 use Rattle.std.proofs.Common.{Bool, true, false, refl, sym, ap, subst, ◌∙◌, arith, append_assoc, length-append}
 use Rattle.std.specs.Prelude.{nat_le, nat_lt, if◌then◌else◌}
 use Rattle.expressions.specs.declared.tree.Binary.{Binary}
 use Rattle.expressions.specs.declared.tree.Equality.{Equality}
-use Rattle.checker.specs.declared.resolved.Evaluation.{Evaluation}
+use Rattle.checker.specs.declared.resolved.Value as code_value
 use Rattle.checker.specs.Resolved.{Value, Values, none, more, value_of, values_of}
 use Rattle.checker.specs.Resolved as source
 use Rattle.checker.specs.Accepted.{count_of}
-use Rattle.items.specs.Items.{Item, Operand, pushed, Destination, push, Test, same, operand_of, operands_of, if_pushed}
-use Rattle.items.specs.Items.{is_few, branch_true, equality_when, value_count, operands_count, branch_count, many_count}
+use Rattle.items.specs.Items.{Item, Operand, pushed, Destination, push, Test, same, operand_of, operands_of}
+use Rattle.items.specs.Items.{if_pushed}
+use Rattle.items.specs.Items.{is_few, branch_true, equality_when, value_count, operands_count, branch_count}
+use Rattle.items.specs.Items.{many_count}
 use Rattle.items.specs.Items.{also_count, truth_items, value_items, operands_items, branch_items, many_items}
 use Rattle.items.specs.Items.{also_items}
 use Rattle.items.specs.Items as items
@@ -163,7 +166,7 @@ equal_more c c1 c2 c3 wanted op oa ob a b bs ea eb link wb wa = (link a b ea eb)
 
 -- Lists, from the last to the first
 
-operands_from : (xs : List Evaluation) (i : ℕ) (x : Evaluation) (at : ℕ) → i < length xs
+operands_from : (xs : List code_value.Value) (i : ℕ) (x : code_value.Value) (at : ℕ) → i < length xs
     → operands_items at (values_of (map value_of (drop i xs)))
     ≡ if_pushed (operand_of (value_of (slice_index_or xs i x)) (values_of (map value_of (drop (suc i) xs))))
     (value_items at (value_of (slice_index_or xs i x)) push) []
@@ -174,7 +177,8 @@ operands_from [] i x at h = absurd (omega (arith, h))
 operands_from (y ∷ xs) zero x at h = refl
 operands_from (y ∷ xs) (suc i) x at h = operands_from xs i x at (omega (arith, h))
 
-pub operand_next : (c c1 c2 : List Item) (xs : List Evaluation) (i : ℕ) (x : Evaluation) (o : Operand) → i < length xs
+pub operand_next : (c c1 c2 : List Item) (xs : List code_value.Value) (i : ℕ) (x : code_value.Value) (o : Operand)
+    → i < length xs
     → x ≡ slice_index_or xs i x → o ≡ operand_of (value_of x) (values_of (map value_of (drop (i + 1) xs)))
     → Written c c1 (λ n at. operands_items at (values_of (map value_of (drop (i + 1) xs))))
     → Written c1 c2 (pushes o (value_of x))
@@ -187,11 +191,11 @@ operand_next c c1 c2 xs i x o lt is eo many w =
     ∙ sym (operands_from xs i x at lt))
     (both (if_pushed o (value_count (value_of x) push) 0) (λ n at. pushes_length o (value_of x) n at) many w)
   where
-    item_at : Evaluation → Operand → ℕ → ℕ → List Item
+    item_at : code_value.Value → Operand → ℕ → ℕ → List Item
     item_at y p k at = if_pushed p (value_items at (value_of y) push) [] ++ operands_items
         (at + if_pushed p (value_count (value_of y) push) 0) (values_of (map value_of (drop k xs)))
 
-folded_from : (xs : List Evaluation) (i : ℕ) (x : Evaluation) (at : ℕ) → i < length xs
+folded_from : (xs : List code_value.Value) (i : ℕ) (x : code_value.Value) (at : ℕ) → i < length xs
     → folded_items at (values_of (map value_of (drop i xs)))
     ≡ value_items at (value_of (slice_index_or xs i x)) push ++ items.also_equal ∷ folded_items
     (at + value_count (value_of (slice_index_or xs i x)) push + 1) (values_of (map value_of (drop (suc i) xs)))
@@ -199,28 +203,30 @@ folded_from [] i x at h = absurd (omega (arith, h))
 folded_from (y ∷ xs) zero x at h = refl
 folded_from (y ∷ xs) (suc i) x at h = folded_from xs i x at (omega (arith, h))
 
-pub folded_next : (c c1 c2 c3 : List Item) (xs : List Evaluation) (i : ℕ) (x : Evaluation) → i < length xs → x
+pub folded_next : (c c1 c2 c3 : List Item) (xs : List code_value.Value) (i : ℕ) (x : code_value.Value)
+    → i < length xs → x
     ≡ slice_index_or xs i x → Written c c1 (λ n at. folded_items at (values_of (map value_of (drop (i + 1) xs))))
     → c2 ≡ c1 ++ items.also_equal ∷ [] → Written c2 c3 (wanted_items (Word destinations.Push) (value_of x))
     → Written c c3 (λ n at. folded_items at (values_of (map value_of (drop i xs))))
 folded_next c c1 c2 c3 xs i x lt is many e w =
     let j : i + 1 ≡ suc i = omega arith in
-    as_items (λ n at _. ap (λ k. item_at x k at) j ∙ ap (λ y. item_at y (suc i) at) is ∙ sym (folded_from xs i x at lt))
+    as_items
+    (λ n at _. ap (λ k. item_at x k at) j ∙ ap (λ y. item_at y (suc i) at) is ∙ sym (folded_from xs i x at lt))
     (both (value_count (value_of x) push) (λ n at. value_length (value_of x) push at)
     (then_one items.also_equal many e) w)
   where
-    item_at : Evaluation → ℕ → ℕ → List Item
+    item_at : code_value.Value → ℕ → ℕ → List Item
     item_at y k at = value_items at (value_of y) push ++ items.also_equal ∷ folded_items
         (at + value_count (value_of y) push + 1) (values_of (map value_of (drop k xs)))
 
-links_from : (xs : List (Binary × Evaluation)) (i : ℕ) (x : Binary × Evaluation) → i < length xs
+links_from : (xs : List (Binary × code_value.Value)) (i : ℕ) (x : Binary × code_value.Value) → i < length xs
     → map link_of (drop i xs) ≡ link_of (slice_index_or xs i x) ∷ map link_of (drop (suc i) xs)
 links_from [] i x h = absurd (omega (arith, h))
 links_from (y ∷ xs) zero x h = refl
 links_from (y ∷ xs) (suc i) x h = links_from xs i x (omega (arith, h))
 
-pub link_next : (c c1 c2 : List Item) (wanted w1 w2 : Wanted) (xs : List (Binary × Evaluation)) (i : ℕ)
-    (x : Binary × Evaluation) → i < length xs → x ≡ slice_index_or xs i x
+pub link_next : (c c1 c2 : List Item) (wanted w1 w2 : Wanted) (xs : List (Binary × code_value.Value)) (i : ℕ)
+    (x : Binary × code_value.Value) → i < length xs → x ≡ slice_index_or xs i x
     → ReducesLinks c c1 wanted w1 (map link_of (drop (i + 1) xs))
     → ReducesLink c1 c2 w1 w2 x.0 pushed (value_of x.1) → ReducesLinks c c2 wanted w2 (map link_of (drop i xs))
 link_next c c1 c2 wanted w1 w2 xs i x lt is many link =

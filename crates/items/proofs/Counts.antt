@@ -97,7 +97,8 @@ record Counted (v : Value) : Type 0 where
 
 prefixed_counted : (op : Prefix) (v : Value) → Counted v → Counted (source.prefixed op v)
 prefixed_counted prefixes.Not v c = record {
-  value = λ d at. truth_length at (branch_count v false) d (λ t. branch_items at v false t) (λ t. c.branch false at t);
+  value = λ d at. truth_length at (branch_count v false) d (λ t. branch_items at v false t)
+      (λ t. c.branch false at t);
   branch = λ when at t. c.branch (not when) at t;
 }
 prefixed_counted op v c = record {

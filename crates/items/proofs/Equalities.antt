@@ -56,7 +56,8 @@ module _ (now : Running) where
       let ha = split (code now) pc (if_pushed o (value_items pc a push) []) _ q (operand_count a o)
       (if_length o _ _ (value_length a push pc)) has in
       let hb = split (code now) m (operands_items m bs) _ q (operands_count bs) (operands_length bs m) ha.1 in
-      on now (evaluate (calls now) a) _ (operand_does now a bs oka s n pc m words ha.0 (omega (arith, le))) (λ x s1 e1.
+      on now (evaluate (calls now) a) _ (operand_does now a bs oka s n pc m words ha.0 (omega (arith, le)))
+      (λ x s1 e1.
       on now (evaluate_all (calls now) bs) _
       (okbs.all s1 n (length words) 1 m e (onto o x words) hb.0 (onto_length o x words) (omega (arith, le)))
       (λ ys s2 e2.
@@ -99,7 +100,8 @@ module _ (now : Running) where
         let m = pc + value_count v push in
         let hv = split (code now) pc (value_items pc v push) _ q (value_count v push) (value_length v push pc) has in
         regroup now (evaluate (calls now) v) _ (λ ys. give (word ys))
-        (on now (evaluate (calls now) v) _ (okv.value s n pc m (truth b ∷ x ∷ words) push hv.0 (omega (arith, two, le)))
+        (on now (evaluate (calls now) v) _
+        (okv.value s n pc m (truth b ∷ x ∷ words) push hv.0 (omega (arith, two, le)))
         (λ z s1 e1.
         steps now m (m + 1) (z ∷ truth b ∷ x ∷ words) (truth (b || x == z) ∷ x ∷ words) items.also_equal hv.1.0
         (ap (λ c. if nat_le (length (truth (c || x == z) ∷ x ∷ words)) 48 then stands now (m + 1)
@@ -132,7 +134,8 @@ module _ (now : Running) where
       (omega arith) (omega (arith, le, some)) (omega (arith, le))
       (λ ys. ap truth (sym (equated_is op x (y ∷ ys)))))))))
 
-  pub compare_ok : (op : Comparison) (a b : Value) → ValueOk now a → ValueOk now b → ValueOk now (source.compare op a b)
+  pub compare_ok : (op : Comparison) (a b : Value) → ValueOk now a → ValueOk now b
+      → ValueOk now (source.compare op a b)
   compare_ok op a b oka okb = record {
     value = λ s n pc q words dest has le.
         condition now (source.compare op a b) (operand_count a (left_of a b) + operand_count b (alone b) + 1)
@@ -185,7 +188,8 @@ module _ (now : Running) where
                 (operands_items (at + operand_count a o) bs) last,
           )
 
-  many_ok : (op : Equality) (a v : Value) (vs : Values) → ValueOk now a → ValueOk now v → AlsoOk vs → is_few (more v vs)
+  many_ok : (op : Equality) (a v : Value) (vs : Values) → ValueOk now a → ValueOk now v → AlsoOk vs
+      → is_few (more v vs)
       ≡ false → ValueOk now (source.equal op a (more v vs))
   many_ok op a v vs oka okv okvs few = record {
     value = λ s n pc q words dest has le.

@@ -87,7 +87,8 @@ module _ (now : Running) where
         let m = pc + operand_count v o in
         let h = split (code now) pc (if_pushed o (value_items pc v push) []) (operands_items m vs) q
         (operand_count v o) (if_length o _ _ (value_length v push pc)) has in
-        on now (evaluate (calls now) v) _ (operand_does v vs okv s n pc m words h.0 (omega (arith, e, le))) (λ x s1 e1.
+        on now (evaluate (calls now) v) _ (operand_does v vs okv s n pc m words h.0 (omega (arith, e, le)))
+        (λ x s1 e1.
         on now (evaluate_all (calls now) vs) _
         (okvs.all s1 n base (before + 1) m q (onto o x words) h.1 (omega (arith, e, onto_length o x words))
         (omega (arith, le))) (λ xs s2 e2.
@@ -114,7 +115,8 @@ module _ (now : Running) where
       → evaluate (calls now) b s1
       ≡ to y s2 → Held (left_of a b) x s2
   left_held a b s s1 s2 x y ea eb =
-      still_held a (more b none) s1 s2 x (λ z f. unchanged (calls now) keep z b s1 s2 y (left (changes z b) false f) eb)
+      still_held a (more b none) s1 s2 x
+      (λ z f. unchanged (calls now) keep z b s1 s2 y (left (changes z b) false f) eb)
       (operand_held a (more b none) s s1 x ea)
 
   -- two operands, and what follows them

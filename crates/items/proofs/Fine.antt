@@ -85,7 +85,8 @@ module _ (here : Bounds) where
 
   -- Parts
 
-  pub moved_fine : (o : Operand) (d : Destination) → IsOperand p locals o → IsDestination p locals d → Fine (moved o d)
+  pub moved_fine : (o : Operand) (d : Destination) → IsOperand p locals o → IsDestination p locals d
+      → Fine (moved o d)
   moved_fine o nowhere ho hd = nothing
   moved_fine o push ho hd = first _ _ (ho, hd) nothing
   moved_fine o (into x) ho hd = first _ _ (ho, hd) nothing
@@ -122,7 +123,8 @@ module _ (here : Bounds) where
   comparison_fine comparisons.LessOrEqual = refl
   comparison_fine comparisons.GreaterOrEqual = refl
 
-  pub branch_two : (op : Comparison) (a b : Operand) (when : Bool) (t : ℕ) → IsOperand p locals a → IsOperand p locals b
+  pub branch_two : (op : Comparison) (a b : Operand) (when : Bool) (t : ℕ) → IsOperand p locals a
+      → IsOperand p locals b
       → t < count → IsItem p locals count (items.branch (comparison_test op) (a ∷ b ∷ []) when t)
   branch_two op a b when t ha hb lt =
       (All-cons (IsOperand p locals) a (b ∷ []) ha (one_operand b hb), comparison_fine op, lt)
@@ -133,7 +135,8 @@ module _ (here : Bounds) where
   branch_same a bs when t few ha hbs lt =
       let n = operands_count_is bs in
       let m = few_are bs few in (
-        All-cons (IsOperand p locals) (operand_of a bs) (operands_of bs) (operand_fine a bs ha) (operands_fine bs hbs),
+        All-cons (IsOperand p locals) (operand_of a bs) (operands_of bs) (operand_fine a bs ha)
+            (operands_fine bs hbs),
         (omega arith, omega (arith, n, m)),
         lt,
       )

@@ -59,7 +59,8 @@ held_after (number n) v s last still h = h
 held_after (variable x) v s last still h = still x refl ∙ h
 
 -- a variable that stands in place is not changed by what is evaluated later
-pub not_changed : (v : Value) (later : Values) (x : Variable) → operand_of v later ≡ variable x → change x later ≡ false
+pub not_changed : (v : Value) (later : Values) (x : Variable) → operand_of v later ≡ variable x
+    → change x later ≡ false
 not_changed (source.read y) later x e = go (change y later) refl e
   where
     go : (b : Bool) → change y later ≡ b → (if b then pushed else variable y) ≡ variable x → change x later ≡ false

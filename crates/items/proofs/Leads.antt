@@ -54,7 +54,8 @@ module _ (now : Running) where
             (λ b end e2 low2. came_on s c behind k a last e low d b end e2));
       }
 
-  pub as_part : {A : Type 0} {s : Situation} {n : ℕ} {before : Next} {behind : A → Situation → Next} (c e : Comes A) → c
+  pub as_part : {A : Type 0} {s : Situation} {n : ℕ} {before : Next} {behind : A → Situation → Next} (c e : Comes A)
+      → c
       ≡ e → Leads s n before c behind → Leads s n before e behind
   as_part {s = s} {n = n} {before = before} {behind = behind} c e is l = subst (λ x. Leads s n before x behind) is l
 
@@ -85,7 +86,8 @@ module _ (now : Running) where
   delivers (into x) q words v s o le h = h
   delivers nowhere q words v s o le h = h
 
-  pub at_place : {A : Type 0} {s : Situation} {n : ℕ} {before : Next} {c : Comes A} (behind : ℕ → A → Situation → Next)
+  pub at_place : {A : Type 0} {s : Situation} {n : ℕ} {before : Next} {c : Comes A}
+      (behind : ℕ → A → Situation → Next)
       (q q' : ℕ) → q ≡ q' → Leads s n before c (behind q) → Leads s n before c (behind q')
   at_place {s = s} {n = n} {before = before} {c = c} behind q q' e h = subst (λ x. Leads s n before c (behind x)) e h
 

@@ -18,6 +18,7 @@ mod Assignments
 mod EachValue
 mod Statements
 mod Conditionals
+mod Loops
 mod Routines
 mod Follows
 mod Fine

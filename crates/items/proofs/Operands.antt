@@ -1,10 +1,11 @@
 -- Which operands stand in place.
-use Rattle.std.proofs.Common.{◌≡◌, ℕ, zero, suc, ◌+◌, ◌<◌, ◌≤◌, List, [], ◌∷◌, ◌++◌, length, map, drop, slice_index_or}
+use Rattle.std.proofs.Common.{◌≡◌, ℕ, zero, suc, ◌+◌, ◌<◌, ◌≤◌, List, [], ◌∷◌, ◌++◌, length, map, drop}
+use Rattle.std.proofs.Common.{slice_index_or}
 use Rattle.std.proofs.Common.{true, false, refl, sym, ap, ◌∙◌, arith, append_assoc, append-nil}
 use Rattle.std.proofs.lemmas.List.{map-append}
 use Rattle.std.specs.Prelude.{if◌then◌else◌}
 use Rattle.checker.specs.declared.resolved.Variable.{Variable}
-use Rattle.checker.specs.declared.resolved.Evaluation.{Evaluation}
+use Rattle.checker.specs.declared.resolved.Value as code_value
 use Rattle.checker.specs.Resolved.{Value, Values, none, more, value_of, values_of}
 use Rattle.checker.specs.Resolved as source
 use Rattle.items.specs.Items.{Operand, pushed, number, variable, operand_of, operands_of, alone, change}
@@ -40,10 +41,10 @@ before_kept v later x e h = sym (ap (λ b. if b then pushed else variable x) h) 
 
 -- Operands of a list
 
-abbrev all_operands : List Evaluation → List Operand
+abbrev all_operands : List code_value.Value → List Operand
 all_operands xs = operands_of (values_of (map value_of xs))
 
-operands_from : (xs : List Evaluation) (i : ℕ) (x : Evaluation) → i < length xs
+operands_from : (xs : List code_value.Value) (i : ℕ) (x : code_value.Value) → i < length xs
     → all_operands (drop i xs)
     ≡ operand_of (value_of (slice_index_or xs i x)) (values_of (map value_of (drop (suc i) xs))) ∷ all_operands
     (drop (suc i) xs)
@@ -51,7 +52,8 @@ operands_from [] i x h = absurd (omega (arith, h))
 operands_from (y ∷ xs) zero x h = refl
 operands_from (y ∷ xs) (suc i) x h = operands_from xs i x (omega (arith, h))
 
-pub operand_next : (os os' : List code.Operand) (xs : List Evaluation) (i : ℕ) (x : Evaluation) (o : code.Operand)
+pub operand_next : (os os' : List code.Operand) (xs : List code_value.Value) (i : ℕ) (x : code_value.Value)
+    (o : code.Operand)
     → i < length xs → x ≡ slice_index_or xs i x
     → as_operand o ≡ operand_of (value_of x) (values_of (map value_of (drop (i + 1) xs))) → os' ≡ os ++ o ∷ []
     → as_operands os' ++ operands_of (values_of (map value_of (drop (i + 1) xs)))
@@ -68,7 +70,7 @@ operand_next os os' xs i x o lt is e e' =
     ap (λ l. as_operands l ++ rest) e' ∙ ap (λ l. l ++ rest) (map-append as_operand os (o ∷ []))
     ∙ append_assoc (as_operands os) (as_operand o ∷ []) rest ∙ ap (λ l. as_operands os ++ l) (sym here)
 
-pub operands_end : (os : List Operand) (xs : List Evaluation) (i : ℕ) → length xs ≤ i
+pub operands_end : (os : List Operand) (xs : List code_value.Value) (i : ℕ) → length xs ≤ i
     → os ++ operands_of (values_of (map value_of (drop i xs))) ≡ os
 operands_end os [] zero h = append-nil os
 operands_end os [] (suc i) h = append-nil os

@@ -40,7 +40,8 @@ module _ (now : Running) where
       → Leads now s n (stands now pc words s) (evaluate (calls now) (source.prefixed op v) s)
       (lands now dest (m + 1) words)
   prefix_piece op v ok s n pc m words dest has h le =
-      on now (evaluate (calls now) v) _ (operand_does now v none ok s n pc m words has (omega (arith, le))) (λ x s1 e1.
+      on now (evaluate (calls now) v) _ (operand_does now v none ok s n pc m words has (omega (arith, le)))
+      (λ x s1 e1.
       one now m words dest (items.apply_prefix op (alone v) dest) (give (with_prefix op x)) (onto (alone v) x words) h
       (with_held (alone v) x s1 words (λ y rest. delivered dest (with_prefix op y) (here now (m + 1) rest s1))
       (operand_held now v none s s1 x e1)) (keeps_give full (with_prefix op x)) (omega (arith, le)))
@@ -66,7 +67,8 @@ module _ (now : Running) where
       (lands now dest (m + 1) words)
   call_piece rr vs ok s n pc m words dest has h le =
       let some = some_needed 0 (needs_of vs) in
-      on now (evaluate_all (calls now) vs) _ (ok.all s n (length words) 0 pc m words has (omega arith) le) (λ xs s1 e1.
+      on now (evaluate_all (calls now) vs) _ (ok.all s n (length words) 0 pc m words has (omega arith) le)
+      (λ xs s1 e1.
       let before = onto_all (operands_of vs) xs words in
       record {
         does = λ k _ hd.

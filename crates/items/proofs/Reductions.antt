@@ -76,7 +76,8 @@ truth_kept c c1 x left r v isc =
 pub stepped_nowhere : (c c1 c2 : List Item) (wanted : Wanted) (x : Variable) (op : Step)
     → ReducesWord c c1 wanted nowhere → c2 ≡ c1 ++ items.step op x nowhere ∷ []
     → Written c c2 (wanted_items wanted (source.step_after x op))
-stepped_nowhere c c1 c2 wanted x op r e = (r (source.step_after x op) (λ at t when. refl)).with_rest c2 (one c1 c2 _ e)
+stepped_nowhere c c1 c2 wanted x op r e = (r (source.step_after x op) (λ at t when. refl)).with_rest c2
+    (one c1 c2 _ e)
 
 pub stepped_pushed : (c c1 c2 c3 : List Item) (wanted : Wanted) (x : Variable) (op : Step)
     → ReducesWord c c1 wanted push → c2 ≡ c1 ++ items.step op x nowhere ∷ [] → c3

@@ -1,91 +1,114 @@
 -- A routine does what its body means.
-use Rattle.std.proofs.Common.{◌≡◌, ℕ, ◌+◌, [], ◌∷◌, length, Some, refl, ap, arith}
+use Rattle.std.proofs.Common.{◌≡◌, ℕ, ◌+◌, ◌≤◌, [], ◌∷◌, length, Some, refl, ap, arith}
 use Rattle.std.specs.Prelude.{slice_get, map}
 use Rattle.checker.specs.Resolved.{none, Action, Actions, stop, next}
 use Rattle.checker.specs.Resolved as source
 use Rattle.checker.specs.Accepted.{IsAction, AreActions}
 use Rattle.checker.specs.World.{Situation, to, ◌>>=◌, give, put, shown}
-use Rattle.checker.specs.Meaning.{put_line, evaluate, Ending, goes_on, returns, print_all, run, run_all, routine_at}
-use Rattle.checker.specs.Meaning.{word_of}
+use Rattle.checker.specs.Meaning.{put_line, evaluate, Ending, goes_on, breaks, continues, returns, print_all, run}
+use Rattle.checker.specs.Meaning.{run_all, routine_at, word_of}
 use Rattle.items.specs.Items.{nowhere, alone, operand_count, prints_count, action_count, actions_count, alone_items}
-use Rattle.items.specs.Items.{prints_items, return_true, action_items, actions_items}
+use Rattle.items.specs.Items.{prints_items, return_true, Exits, exits_to, action_items, actions_items}
 use Rattle.items.specs.Items as items
 use Rattle.items.specs.Stack.{Next, return_to, act}
 use Rattle.items.proofs.Counts.{alone_length}
 use Rattle.items.proofs.StatementCounts.{prints_length, action_length, actions_length}
 use Rattle.items.proofs.Acts.{keeps_put}
 use Rattle.items.proofs.Running.{ends_there, steps_on, Running, code, locals, calls}
-use Rattle.items.proofs.Standing.{HasAt, split, all_at}
-use Rattle.items.proofs.Leads.{Leads, on, given, here, stands}
+use Rattle.items.proofs.Standing.{HasAt, split, long, all_at}
+use Rattle.items.proofs.Leads.{Leads, on, given, here, stands, begins_at}
 use Rattle.items.proofs.Steps.{puts}
 use Rattle.items.proofs.Evaluated.{operand_held}
 use Rattle.items.proofs.EachValue.{value_ok}
 use Rattle.items.proofs.Statements.{ended_at, goes_at, follows_on, returns_by, alone_does, prints_do, line_does}
 use Rattle.items.proofs.Statements.{end_of_line}
-use Rattle.items.proofs.Conditionals.{ActionOk, if_does, else_does, while_does}
+use Rattle.items.proofs.Conditionals.{IsAhead, ActionOk, if_does, else_does}
+use Rattle.items.proofs.Loops.{while_does}
 
 module _ (now : Running) where
   open now use {p, full, routine, callers}
 
   mutual
     action_does : (a : Action) → IsAction p (locals now) a → ActionOk now a
-    action_does source.empty fine s n pc q has = goes_at now pc q has
-    action_does (source.block xs) fine s n pc q has = actions_do xs fine s n pc q has
-    action_does (source.text_alone bytes) fine s n pc q has =
+    action_does source.empty fine x s n pc q ahead has = goes_at now x pc q has
+    action_does (source.block xs) fine x s n pc q ahead has = actions_do xs fine x s n pc q ahead has
+    action_does (source.text_alone bytes) fine x s n pc q ahead has =
         on now (put (map shown bytes)) _
         (puts now pc [] (items.print_text bytes) (put (map shown bytes)) [] has.0 refl
-        (keeps_put full (map shown bytes))) (λ _ s1 _. end_of_line now (pc + 1) q has.1)
-    action_does (source.print is) fine s n pc q has =
-        on now (print_all (calls now) is) _ (prints_do now is fine s n pc q has)
-        (λ _ s1 _. goes_at now q q refl)
-    action_does (source.print_return is) fine s n pc q has =
+        (keeps_put full (map shown bytes))) (λ _ s1 _. end_of_line now x (pc + 1) q has.1)
+    action_does (source.print is) fine x s n pc q ahead has =
+        on now (print_all (calls now) is) _ (prints_do now x is fine s n pc q has)
+        (λ _ s1 _. goes_at now x q q refl)
+    action_does (source.print_return is) fine x s n pc q ahead has =
         let m = pc + prints_count is in
         let h = split (code now) pc (prints_items pc is) _ q (prints_count is) (prints_length is pc) has in
-        on now (print_all (calls now) is) _ (prints_do now is fine s n pc m h.0) (λ _ s1 _. end_of_line now m q h.1)
-    action_does source.new_line fine s n pc q has =
-        on now put_line _ (line_does now pc has.0) (λ _ s1 _. goes_at now (pc + 1) q has.1)
-    action_does (source.if_then v a) fine s n pc q has = if_does now v a fine.0 (action_does a fine.1) s n pc q has
-    action_does (source.if_else v a b) fine s n pc q has =
-        else_does now v a b fine.0 (action_does a fine.1) (action_does b fine.2) s n pc q has
-    action_does (source.while_do v a) fine s n pc q has = while_does now v a fine.0 (action_does a fine.1) s n pc q has
-    action_does (source.return_value v) fine s n pc q has =
+        on now (print_all (calls now) is) _ (prints_do now x is fine s n pc m h.0)
+        (λ _ s1 _. end_of_line now x m q h.1)
+    action_does source.new_line fine x s n pc q ahead has =
+        on now put_line _ (line_does now x pc has.0) (λ _ s1 _. goes_at now x (pc + 1) q has.1)
+    action_does (source.if_then v a) fine x s n pc q ahead has =
+        if_does now v a fine.0 (action_does a fine.1) x s n pc q ahead has
+    action_does (source.if_else v a b) fine x s n pc q ahead has =
+        else_does now v a b fine.0 (action_does a fine.1) (action_does b fine.2) x s n pc q ahead has
+    action_does (source.while_do v a) fine x s n pc q ahead has =
+        while_does now v a fine.0 (action_does a fine.1) x s n pc q
+        ahead has
+    action_does (source.return_value v) fine x s n pc q ahead has =
         let m = pc + operand_count v (alone v) in
         let h = split (code now) pc (alone_items pc v) _ q (operand_count v (alone v)) (alone_length v pc) has in
-        on now (evaluate (calls now) v) _ (alone_does now v fine s n pc m h.0)
-        (λ x s1 e1. returns_by now m q (alone v) x h.1.0 (operand_held now v none s s1 x e1))
-    action_does source.quit fine s n pc q has =
+        on now (evaluate (calls now) v) _ (alone_does now x v fine s n pc m h.0)
+        (λ w s1 e1. returns_by now x m q (alone v) w h.1.0 (operand_held now v none s s1 w e1))
+    action_does source.quit fine x s n pc q ahead has =
         record {
           does = λ k le d. steps_on p (here now pc [] s) _ _ (ap (λ x. act p x (here now pc [] s)) has.0)
               (ends_there p _);
         }
-    action_does (source.effect v) fine s n pc q has =
+    action_does (source.effect v) fine x s n pc q ahead has =
         on now (evaluate (calls now) v) _ ((value_ok now v).value s n pc q [] nowhere has (omega (arith, fine.1)))
-        (λ x s1 _. goes_at now q q refl)
+        (λ w s1 _. goes_at now x q q refl)
 
-    pub actions_do : (xs : Actions) → AreActions p (locals now) xs → (s : Situation) (n pc q : ℕ)
-        → HasAt (code now) pc (actions_items pc xs) q
+    pub actions_do : (xs : Actions) → AreActions p (locals now) xs → (x : Exits) (s : Situation) (n pc q : ℕ)
+        → IsAhead now q x → HasAt (code now) pc (actions_items x pc xs) q
         → Leads now s n (stands now pc [] s) (run_all (calls now) full xs s)
-        (ended_at now q)
-    actions_do stop fine s n pc q has = goes_at now pc q has
-    actions_do (next a rest) fine s n pc q has =
+        (ended_at now x q)
+    actions_do stop fine x s n pc q ahead has = goes_at now x pc q has
+    actions_do (next a rest) fine x s n pc q ahead has =
         let m = pc + action_count a in
-        let h = split (code now) pc (action_items pc a) (actions_items m rest) q (action_count a)
-        (action_length a pc) has in
-        follows_on now m q (run (calls now) full a) (run_all (calls now) full rest) (action_does a fine.0 s n pc m h.0)
-        (λ last. actions_do rest fine.1 last n m q h.1)
+        let h = split (code now) pc (action_items x pc a) (actions_items x m rest) q (action_count a)
+        (action_length x a pc) has in
+        let behind = long (code now) m (actions_items x m rest) q (actions_count rest)
+        (actions_length x rest m) h.1 in
+        let first = ahead.0 in
+        let second = ahead.1 in
+        let inner : IsAhead now m x = (omega (arith, first, behind), omega (arith, second, behind)) in
+        follows_on now x m q (run (calls now) full a) (run_all (calls now) full rest)
+        (action_does a fine.0 x s n pc m inner h.0)
+        (λ last. actions_do rest fine.1 x last n m q ahead h.1)
 
   -- the word that the routine returns
   abbrev hands : ℕ → Situation → Next
   hands v s = return_to callers v s.world
 
-  finishes : {s : Situation} {n : ℕ} (pc : ℕ) → slice_get (code now) pc ≡ Some return_true → (e : Ending)
-      → Leads now s n (ended_at now pc e s) (to (word_of e) s) hands
-  finishes {s = s} pc h goes_on =
-      record {
+  -- at its end, to which it leads also where it would break or continue
+  finishes : {s : Situation} {n : ℕ} (pc end : ℕ) → pc ≡ end → slice_get (code now) pc ≡ Some return_true
+      → (e : Ending)
+      → Leads now s n (ended_at now (exits_to end end) pc e s) (to (word_of e) s) hands
+  finishes {s = s} {n = n} pc end same h = go
+    where
+      true_there : Leads now s n (stands now pc [] s) (to 1 s) hands
+      true_there = record {
         does = λ k le d. steps_on p (here now pc [] s) (return_to callers 1 s.world) _
             (ap (λ x. act p x (here now pc [] s)) h) (d 1 s refl (omega arith));
       }
-  finishes pc h (returns v) = given now {behind = hands} v
+
+      at_end : Leads now s n (stands now end [] s) (to 1 s) hands
+      at_end = begins_at now pc end [] same true_there
+
+      go : (e : Ending) → Leads now s n (ended_at now (exits_to end end) pc e s) (to (word_of e) s) hands
+      go goes_on = true_there
+      go breaks = at_end
+      go continues = at_end
+      go (returns v) = given now {behind = hands} v
 
   pub routine_does : AreActions p (locals now) (routine_at p.routines routine).body → (s : Situation) (n : ℕ)
       → Leads now s n (stands now 0 [] s)
@@ -93,7 +116,9 @@ module _ (now : Running) where
   routine_does fine s n =
       let body = (routine_at p.routines routine).body in
       let count = actions_count body in
-      let h = split (code now) 0 (actions_items 0 body) (return_true ∷ []) (length (code now)) count
-      (actions_length body 0) (all_at (code now) []) in
-      on now (run_all (calls now) full body) (λ e. give (word_of e)) (actions_do body fine s n 0 (0 + count) h.0)
-      (λ e s1 _. finishes (0 + count) h.1.0 e)
+      let x = exits_to count count in
+      let h = split (code now) 0 (actions_items x 0 body) (return_true ∷ []) (length (code now)) count
+      (actions_length x body 0) (all_at (code now) []) in
+      on now (run_all (calls now) full body) (λ e. give (word_of e))
+      (actions_do body fine x s n 0 (0 + count) (omega arith, omega arith) h.0)
+      (λ e s1 _. finishes (0 + count) count (omega arith) h.1.0 e)

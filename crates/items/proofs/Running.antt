@@ -23,7 +23,8 @@ module _ (p : ProgramOf) where
   steps_on s n outcome e d = record { count = suc d.count; comes = ap (λ x. from x (exec p d.count)) e ∙ d.comes }
 
   pub fits : (s : State) (outcome : Outcome) → length s.stack ≤ 48 → Does (goes s) outcome → Does (within s) outcome
-  fits s outcome le d = subst (λ b. Does (if b then goes s else stuck) outcome) (sym (le-leb (length s.stack) 48 le)) d
+  fits s outcome le d = subst (λ b. Does (if b then goes s else stuck) outcome) (sym (le-leb (length s.stack) 48 le))
+      d
 
 -- the code of every call does what the call means, where so many more calls may be open
 abbrev pub CallsOk : ProgramOf → ℕ → ℕ → Type 0

@@ -29,10 +29,10 @@ p n = record { offset = n; line = 1 }
 abbrev the : ℕ → List ℕ → NameTree
 the n text = record { text = text; position = p n }
 
-abbrev item : ExpressionTree → s.ItemTree
+abbrev item : ExpressionTree → s.PrintItemTree
 item e = s.number_item (p 0) e
 
-abbrev words : List ℕ → s.ItemTree
+abbrev words : List ℕ → s.PrintItemTree
 words text = s.text_item text
 
 abbrev body : List StatementTree → StatementTrees
@@ -67,7 +67,8 @@ abbrev divides : ProgramTree
 divides = program
     (routine (codes "F") (the 1 (codes "x") ∷ [])
     (s.print (item (binary op.Divide (constant 1) (named (the 2 (codes "x")))) ∷ []) ∷ [])
-    ∷ routine (codes "Main") [] (s.print (words (codes "a") ∷ []) ∷ s.effect (p 3) (call (the 3 (codes "F")) none) ∷ [])
+    ∷ routine (codes "Main") []
+    (s.print (words (codes "a") ∷ []) ∷ s.effect (p 3) (call (the 3 (codes "F")) none) ∷ [])
     ∷ [])
 
 divides_do : runs 20 1000 (resolve_program divides)
@@ -92,7 +93,10 @@ unfolding resolve_program table_of key_of look_up
 deep_does = refl
 
 deep_in_short : runs 1001 10 (resolve_program deep)
-    ≡ Some (record { texts = (10 ∷ codes "[Limit: turn too long]" ++ 10 ∷ []) ∷ []; place = places.Limit limits.Fuel })
+    ≡ Some (record {
+      texts = (10 ∷ codes "[Limit: turn too long]" ++ 10 ∷ []) ∷ [];
+      place = places.Limit limits.Fuel;
+    })
 unfolding resolve_program table_of key_of look_up
 deep_in_short = refl
 

@@ -9,10 +9,12 @@ use Rattle.expressions.specs.declared.tree.Step.TheVariants as steps
 use Rattle.checker.specs.declared.resolved.Variable.{Variable}
 use Rattle.checker.specs.declared.resolved.Variable.TheVariants.{Local, Global}
 use Rattle.checker.specs.Resolved.{Value, none, more, read, number, call, compare, equal, binary, prefixed, assign}
-use Rattle.checker.specs.Resolved.{step_before, step_after, effect, if_then, if_else, while_do, return_value, text_alone}
+use Rattle.checker.specs.Resolved.{step_before, step_after, effect, if_then, if_else, while_do, return_value}
+use Rattle.checker.specs.Resolved.{text_alone}
 use Rattle.checker.specs.Resolved.{print, print_return, text, character_of, number_of}
 use Rattle.checker.specs.Resolved as source
-use Rattle.items.specs.Items.{Item, pushed, push, into, nowhere, less, same, is_zero, move, operate, step, branch, jump}
+use Rattle.items.specs.Items.{Item, pushed, push, into, nowhere, less, same, is_zero, move, operate, step, branch}
+use Rattle.items.specs.Items.{jump, Exits, exits_to}
 use Rattle.items.specs.Items.{back, print_text, print_character, print_number, new_line, quit, action_items}
 use Rattle.items.specs.Items.{apply_prefix, keep, first_equal, also_equal, drop_below, return_true}
 use Rattle.items.specs.Items as items
@@ -26,6 +28,10 @@ y = Local 1
 abbrev g : Variable
 g = Global 0
 
+-- outside of loops
+abbrev outside : Exits
+outside = exits_to 0 0
+
 -- F();
 abbrev called : Value
 called = call 7 none
@@ -33,36 +39,36 @@ called = call 7 none
 -- Expressions
 
 -- x = y + 5;
-sum_assigned : action_items 0 (effect (assign x (binary binaries.Add (read y) (number 5))))
+sum_assigned : action_items outside 0 (effect (assign x (binary binaries.Add (read y) (number 5))))
     ≡ operate binaries.Add (items.variable y) (items.number 5) (into x) ∷ []
 sum_assigned = refl
 
 -- x = -y;
-negated : action_items 0 (effect (assign x (prefixed prefixes.Minus (read y))))
+negated : action_items outside 0 (effect (assign x (prefixed prefixes.Minus (read y))))
     ≡ apply_prefix prefixes.Minus (items.variable y) (into x) ∷ []
 negated = refl
 
 -- ++x;
-stepped : action_items 0 (effect (step_before steps.Increment x)) ≡ step steps.Increment x nowhere ∷ []
+stepped : action_items outside 0 (effect (step_before steps.Increment x)) ≡ step steps.Increment x nowhere ∷ []
 stepped = refl
 
 -- x = x++; leaves x as it was
-own_step : action_items 0 (effect (assign x (step_after x steps.Increment)))
+own_step : action_items outside 0 (effect (assign x (step_after x steps.Increment)))
     ≡ move (items.variable x) push ∷ step steps.Increment x nowhere ∷ move pushed (into x) ∷ []
 own_step = refl
 
 -- x = y = 3;
-assigned_twice : action_items 0 (effect (assign x (assign y (number 3))))
+assigned_twice : action_items outside 0 (effect (assign x (assign y (number 3))))
     ≡ move (items.number 3) push ∷ keep y ∷ move pushed (into x) ∷ []
 assigned_twice = refl
 
 -- F(x, 1);
-called_alone : action_items 0 (effect (call 7 (more (read x) (more (number 1) none))))
+called_alone : action_items outside 0 (effect (call 7 (more (read x) (more (number 1) none))))
     ≡ items.call 7 (items.variable x ∷ items.number 1 ∷ []) nowhere ∷ []
 called_alone = refl
 
 -- print x - F(); where the call cannot change x
-kept_later : action_items 0 (print (number_of (binary binaries.Subtract (read x) called) ∷ []))
+kept_later : action_items outside 0 (print (number_of (binary binaries.Subtract (read x) called) ∷ []))
     ≡ items.call 7 [] push
     ∷ operate binaries.Subtract (items.variable x) pushed push
     ∷ print_number pushed
@@ -70,7 +76,7 @@ kept_later : action_items 0 (print (number_of (binary binaries.Subtract (read x)
 kept_later = refl
 
 -- print g - F(); where it may change g
-changed_later : action_items 0 (print (number_of (binary binaries.Subtract (read g) called) ∷ []))
+changed_later : action_items outside 0 (print (number_of (binary binaries.Subtract (read g) called) ∷ []))
     ≡ move (items.variable g) push
     ∷ items.call 7 [] push
     ∷ operate binaries.Subtract pushed pushed push
@@ -81,7 +87,7 @@ changed_later = refl
 -- Conditions
 
 -- if (x < y && g) y++;
-both_tested : action_items 0
+both_tested : action_items outside 0
     (if_then (binary binaries.AndAlso (compare comparisons.Less (read x) (read y)) (read g))
     (effect (step_after y steps.Increment)))
     ≡ branch less (items.variable x ∷ items.variable y ∷ []) false 3
@@ -91,7 +97,7 @@ both_tested : action_items 0
 both_tested = refl
 
 -- if (x >= y || ~~g) quit;
-one_tested : action_items 0
+one_tested : action_items outside 0
     (if_then (binary binaries.OrElse (compare comparisons.GreaterOrEqual (read x) (read y))
     (prefixed prefixes.Not (read g))) source.quit)
     ≡ branch less (items.variable x ∷ items.variable y ∷ []) false 2
@@ -101,7 +107,7 @@ one_tested : action_items 0
 one_tested = refl
 
 -- if (x) print "a"; else print "b";
-either_printed : action_items 0
+either_printed : action_items outside 0
     (if_else (read x) (print (text (codes "a") ∷ [])) (print (text (codes "b") ∷ [])))
     ≡ branch is_zero (items.variable x ∷ []) true 3
     ∷ print_text (codes "a")
@@ -111,7 +117,7 @@ either_printed : action_items 0
 either_printed = refl
 
 -- while (x ~= 1 or 2) x = F(x, g);
-called_again : action_items 0
+called_again : action_items outside 0
     (while_do (equal equalities.NotEqual (read x) (more (number 1) (more (number 2) none)))
     (effect (assign x (call 7 (more (read x) (more (read g) none))))))
     ≡ branch same (items.variable x ∷ items.number 1 ∷ items.number 2 ∷ []) true 3
@@ -121,11 +127,11 @@ called_again : action_items 0
 called_again = refl
 
 -- while (true) F();
-called_forever : action_items 0 (while_do (number 1) (effect called)) ≡ items.call 7 [] nowhere ∷ back 0 ∷ []
+called_forever : action_items outside 0 (while_do (number 1) (effect called)) ≡ items.call 7 [] nowhere ∷ back 0 ∷ []
 called_forever = refl
 
 -- x = y == 1;
-truth_assigned : action_items 0 (effect (assign x (equal equalities.Equal (read y) (more (number 1) none))))
+truth_assigned : action_items outside 0 (effect (assign x (equal equalities.Equal (read y) (more (number 1) none))))
     ≡ branch same (items.variable y ∷ items.number 1 ∷ []) true 3
     ∷ move (items.number 0) (into x)
     ∷ jump 4
@@ -134,7 +140,7 @@ truth_assigned : action_items 0 (effect (assign x (equal equalities.Equal (read 
 truth_assigned = refl
 
 -- if (x == 1 or 2 or 3 or 4) F();
-many_compared : action_items 0
+many_compared : action_items outside 0
     (if_then (equal equalities.Equal (read x)
     (more (number 1) (more (number 2) (more (number 3) (more (number 4) none))))) (effect called))
     ≡ move (items.variable x) push
@@ -155,19 +161,19 @@ many_compared = refl
 -- Other statements
 
 -- print (char) x, y;
-printed : action_items 0 (print (character_of (read x) ∷ number_of (read y) ∷ []))
+printed : action_items outside 0 (print (character_of (read x) ∷ number_of (read y) ∷ []))
     ≡ print_character (items.variable x) ∷ print_number (items.variable y) ∷ []
 printed = refl
 
 -- "a";
-printed_alone : action_items 0 (text_alone (codes "a")) ≡ print_text (codes "a") ∷ new_line ∷ return_true ∷ []
+printed_alone : action_items outside 0 (text_alone (codes "a")) ≡ print_text (codes "a") ∷ new_line ∷ return_true ∷ []
 printed_alone = refl
 
 -- print_ret x;
-printed_last : action_items 0 (print_return (number_of (read x) ∷ []))
+printed_last : action_items outside 0 (print_return (number_of (read x) ∷ []))
     ≡ print_number (items.variable x) ∷ new_line ∷ return_true ∷ []
 printed_last = refl
 
 -- return x;
-returned : action_items 0 (return_value (read x)) ≡ items.return (items.variable x) ∷ []
+returned : action_items outside 0 (return_value (read x)) ≡ items.return (items.variable x) ∷ []
 returned = refl

@@ -8,10 +8,10 @@ use Rattle.checker.specs.Resolved.{Value, none, Printed}
 use Rattle.checker.specs.Resolved as source
 use Rattle.checker.specs.Accepted.{IsWhole, IsPrinted}
 use Rattle.checker.specs.World.{Situation, to, Part, ◌>>=◌, give, put, shown}
-use Rattle.checker.specs.Meaning.{put_character, put_line, evaluate, Ending, goes_on, returns, print_one, print_all}
-use Rattle.checker.specs.Meaning.{follow}
+use Rattle.checker.specs.Meaning.{put_character, put_line, evaluate, Ending, goes_on, breaks, continues, returns}
+use Rattle.checker.specs.Meaning.{print_one, print_all, follow}
 use Rattle.items.specs.Items.{Operand, number, alone, operand_count, printed_count, alone_items, printed_items}
-use Rattle.items.specs.Items.{prints_items, return_true}
+use Rattle.items.specs.Items.{prints_items, return_true, Exits}
 use Rattle.items.specs.Items as items
 use Rattle.items.specs.Stack.{Next, prints, return_to, act}
 use Rattle.items.proofs.Counts.{alone_length}
@@ -25,12 +25,15 @@ use Rattle.items.proofs.Steps.{puts}
 use Rattle.items.proofs.Evaluated.{operand_held, operand_does}
 use Rattle.items.proofs.EachValue.{value_ok}
 
-module _ (now : Running) where
+-- a routine that runs, and where a statement of it leads that breaks or continues
+module _ (now : Running) (x : Exits) where
   open now use {p, full, routine, callers}
 
-  -- from here a statement's end goes on, or returns
+  -- where a statement's end leads, if it goes on from there
   abbrev pub ended_at : ℕ → Ending → Situation → Next
   ended_at q goes_on s = stands now q [] s
+  ended_at q breaks s = stands now x.breaks [] s
+  ended_at q continues s = stands now x.continues [] s
   ended_at q (returns v) s = return_to callers v s.world
 
   abbrev printed_at : ℕ → Unit {0} → Situation → Next
@@ -49,6 +52,8 @@ module _ (now : Running) where
     where
       go : (e : Ending) (last : Situation) → Leads now last n (ended_at q e last) (follow e rest last) (ended_at q')
       go goes_on last = hr last
+      go breaks last = given now {behind = ended_at q'} breaks
+      go continues last = given now {behind = ended_at q'} continues
       go (returns v) last = given now {behind = ended_at q'} (returns v)
 
   pub returns_by : {s : Situation} {n : ℕ} (m q : ℕ) (o : Operand) (v : ℕ) → slice_get (code now) m
@@ -72,7 +77,8 @@ module _ (now : Running) where
       → Leads now s n (stands now pc [] s) (print_one (calls now) i s) (printed_at q)
   printed_does (source.text bytes) fine s n pc q has =
       at_place now printed_at (pc + 1) q has.1
-      (puts now pc [] (items.print_text bytes) (put (map shown bytes)) [] has.0 refl (keeps_put full (map shown bytes)))
+      (puts now pc [] (items.print_text bytes) (put (map shown bytes)) [] has.0 refl
+      (keeps_put full (map shown bytes)))
   printed_does (source.character_of v) fine s n pc q has =
       let m = pc + operand_count v (alone v) in
       let h = split (code now) pc (alone_items pc v) _ q (operand_count v (alone v)) (alone_length v pc) has in

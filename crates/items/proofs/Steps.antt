@@ -21,9 +21,11 @@ module _ (now : Running) where
   open now use {p, full}
 
   -- one item that gives a word
-  pub one : {s : Situation} {n : ℕ} (m : ℕ) (words : List ℕ) (d : Destination) (i : Item) (f : Part ℕ) (before : List ℕ)
+  pub one : {s : Situation} {n : ℕ} (m : ℕ) (words : List ℕ) (d : Destination) (i : Item) (f : Part ℕ)
+      (before : List ℕ)
       → slice_get (code now) m ≡ Some i
-      → act p (Some i) (here now m before s) ≡ after_part (f s) (λ v last. delivered d v (here now (m + 1) words last))
+      → act p (Some i) (here now m before s) ≡ after_part (f s)
+      (λ v last. delivered d v (here now (m + 1) words last))
       → Keeps full f → length words + 1 ≤ 48 → Leads now s n (stands now m before s) (f s) (lands now d (m + 1) words)
   one {s = s} m words d i f before h e keeps le =
       record {
@@ -78,7 +80,8 @@ module _ (now : Running) where
   jumps {s = s} m t words h lt l = steps m t words words (items.jump t) h (leads_on m t words s lt) l
 
   -- one branch
-  pub branches : {A : Type 0} {s : Situation} {n : ℕ} {c : Comes A} {behind : A → Situation → Next} (m t : ℕ) (b : Bool)
+  pub branches : {A : Type 0} {s : Situation} {n : ℕ} {c : Comes A} {behind : A → Situation → Next} (m t : ℕ)
+      (b : Bool)
       (before words : List ℕ) (i : Item) → slice_get (code now) m ≡ Some i → m < t
       → act p (Some i) (here now m before s) ≡ stack.branch b t words (here now m before s)
       → Leads now s n (stands now (if b then t else m + 1) words s) c behind
@@ -129,7 +132,8 @@ module _ (now : Running) where
       (e (λ v rest. delivered (into x) v (here now (pc + 1) rest _))) (keeps_give full v) le)
 
   -- one item `move` of a number
-  pub number_does : {s : Situation} {n : ℕ} (w : ℕ) (d : Destination) (m : ℕ) (words : List ℕ) → slice_get (code now) m
+  pub number_does : {s : Situation} {n : ℕ} (w : ℕ) (d : Destination) (m : ℕ) (words : List ℕ)
+      → slice_get (code now) m
       ≡ Some (items.move (number w) d) → length words + 1 ≤ 48
       → Leads now s n (stands now m words s) (to w s) (lands now d (m + 1) words)
   number_does w d m words h le = one m words d (items.move (number w) d) (give w) words h refl (keeps_give full w) le
@@ -144,7 +148,8 @@ module _ (now : Running) where
       record {
         does = λ k le d. l.does k le
             (λ v last e low. steps_on p (here now m words (with_value x v last)) _ _
-            (ap (λ i. act p i (here now m words (with_value x v last))) h ∙ leads_on m t words (with_value x v last) lt)
+            (ap (λ i. act p i (here now m words (with_value x v last))) h
+            ∙ leads_on m t words (with_value x v last) lt)
             (d v last e low));
       }
   jumps_after {c = c} nowhere m t words h lt l =

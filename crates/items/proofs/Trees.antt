@@ -8,14 +8,15 @@ use Rattle.expressions.specs.declared.tree.Equality.{Equality}
 use Rattle.expressions.specs.declared.tree.Prefix.{Prefix}
 use Rattle.expressions.specs.declared.tree.Step.{Step}
 use Rattle.checker.specs.declared.resolved.Variable.{Variable}
-use Rattle.checker.specs.declared.resolved.Evaluation.{Evaluation}
-use Rattle.checker.specs.declared.resolved.Evaluation.TheVariants as v
-use Rattle.checker.specs.declared.resolved.Evaluation.TheFolds.{fold-roll-Evaluation}
-use Rattle.checker.specs.declared.resolved.CheckedItem.{CheckedItem}
-use Rattle.checker.specs.declared.resolved.CheckedStatement.{CheckedStatement}
-use Rattle.checker.specs.declared.resolved.CheckedStatement.TheVariants as s
-use Rattle.checker.specs.declared.resolved.CheckedStatement.TheFolds.{fold-roll-CheckedStatement}
-use Rattle.checker.specs.Resolved.{Value, number, read, call, prefixed, step_before, step_after, binary, compare, equal}
+use Rattle.checker.specs.declared.resolved.Value as code_value
+use Rattle.checker.specs.declared.resolved.Value.TheVariants as v
+use Rattle.checker.specs.declared.resolved.Value.TheFolds.{fold-roll-Value}
+use Rattle.checker.specs.declared.resolved.Printed as code_printed
+use Rattle.checker.specs.declared.resolved.Action as code_action
+use Rattle.checker.specs.declared.resolved.Action.TheVariants as s
+use Rattle.checker.specs.declared.resolved.Action.TheFolds.{fold-roll-Action}
+use Rattle.checker.specs.Resolved.{Value, number, read, call, prefixed, step_before, step_after, binary, compare}
+use Rattle.checker.specs.Resolved.{equal}
 use Rattle.checker.specs.Resolved.{assign, more, Action, block, text_alone, print, print_return, if_then, if_else}
 use Rattle.checker.specs.Resolved.{while_do, return_value, effect, values_of, actions_of, chained, value_of}
 use Rattle.checker.specs.Resolved.{value_layer, printed_of, action_of, action_layer}
@@ -23,87 +24,93 @@ use Rattle.checker.specs.Accepted.{count_of}
 use Rattle.items.specs.Items as items
 use Rattle.items.specs.Writing.{link_of, change_links}
 
-pub number_is : (e : Evaluation) (n : ℕ) → e ≡ v.Number n → value_of e ≡ number n
-number_is e n is = rw is (ap value_of (sym (v.rolls-Number n)) ∙ fold-roll-Evaluation Value value_layer _)
+pub number_is : (e : code_value.Value) (n : ℕ) → e ≡ v.Number n → value_of e ≡ number n
+number_is e n is = rw is (ap value_of (sym (v.rolls-Number n)) ∙ fold-roll-Value Value value_layer _)
 
-pub read_is : (e : Evaluation) (x : Variable) → e ≡ v.Read x → value_of e ≡ read x
-read_is e x is = rw is (ap value_of (sym (v.rolls-Read x)) ∙ fold-roll-Evaluation Value value_layer _)
+pub read_is : (e : code_value.Value) (x : Variable) → e ≡ v.Read x → value_of e ≡ read x
+read_is e x is = rw is (ap value_of (sym (v.rolls-Read x)) ∙ fold-roll-Value Value value_layer _)
 
-pub call_is : (e : Evaluation) (r : ℕ) (es : Vec Evaluation) → e ≡ v.Call r es → value_of e
+pub call_is : (e : code_value.Value) (r : ℕ) (es : Vec code_value.Value) → e ≡ v.Call r es → value_of e
     ≡ call r (values_of (map value_of es.items))
-call_is e r es is = rw is (ap value_of (sym (v.rolls-Call r es)) ∙ fold-roll-Evaluation Value value_layer _)
+call_is e r es is = rw is (ap value_of (sym (v.rolls-Call r es)) ∙ fold-roll-Value Value value_layer _)
 
-pub prefixed_is : (e : Evaluation) (op : Prefix) (b : Box Evaluation) → e ≡ v.Prefixed op b → value_of e
+pub prefixed_is : (e : code_value.Value) (op : Prefix) (b : Box code_value.Value) → e ≡ v.Prefixed op b → value_of e
     ≡ prefixed op (value_of b.value)
-prefixed_is e op b is = rw is (ap value_of (sym (v.rolls-Prefixed op b)) ∙ fold-roll-Evaluation Value value_layer _)
+prefixed_is e op b is = rw is (ap value_of (sym (v.rolls-Prefixed op b)) ∙ fold-roll-Value Value value_layer _)
 
-pub step_before_is : (e : Evaluation) (op : Step) (x : Variable) → e ≡ v.StepBefore op x → value_of e ≡ step_before op x
+pub step_before_is : (e : code_value.Value) (op : Step) (x : Variable) → e ≡ v.StepBefore op x
+    → value_of e ≡ step_before op x
 step_before_is e op x is =
-    rw is (ap value_of (sym (v.rolls-StepBefore op x)) ∙ fold-roll-Evaluation Value value_layer _)
+    rw is (ap value_of (sym (v.rolls-StepBefore op x)) ∙ fold-roll-Value Value value_layer _)
 
-pub step_after_is : (e : Evaluation) (x : Variable) (op : Step) → e ≡ v.StepAfter x op → value_of e ≡ step_after x op
-step_after_is e x op is = rw is (ap value_of (sym (v.rolls-StepAfter x op)) ∙ fold-roll-Evaluation Value value_layer _)
+pub step_after_is : (e : code_value.Value) (x : Variable) (op : Step) → e ≡ v.StepAfter x op
+    → value_of e ≡ step_after x op
+step_after_is e x op is = rw is (ap value_of (sym (v.rolls-StepAfter x op)) ∙ fold-roll-Value Value value_layer _)
 
-pub chain_is : (e : Evaluation) (a : Box Evaluation) (op : Binary) (b : Box Evaluation)
-    (ls : Vec (Binary × Evaluation)) → e ≡ v.Chain a op b ls
+pub chain_is : (e : code_value.Value) (a : Box code_value.Value) (op : Binary) (b : Box code_value.Value)
+    (ls : Vec (Binary × code_value.Value)) → e ≡ v.Chain a op b ls
     → value_of e ≡ chained (binary op (value_of a.value) (value_of b.value)) (map link_of ls.items)
-chain_is e a op b ls is = rw is (ap value_of (sym (v.rolls-Chain a op b ls)) ∙ fold-roll-Evaluation Value value_layer _)
+chain_is e a op b ls is = rw is (ap value_of (sym (v.rolls-Chain a op b ls)) ∙ fold-roll-Value Value value_layer _)
 
-pub compare_is : (e : Evaluation) (a : Box Evaluation) (op : Comparison) (b : Box Evaluation) → e ≡ v.Compare a op b
+pub compare_is : (e : code_value.Value) (a : Box code_value.Value) (op : Comparison) (b : Box code_value.Value)
+    → e ≡ v.Compare a op b
     → value_of e ≡ compare op (value_of a.value) (value_of b.value)
-compare_is e a op b is = rw is (ap value_of (sym (v.rolls-Compare a op b)) ∙ fold-roll-Evaluation Value value_layer _)
+compare_is e a op b is = rw is (ap value_of (sym (v.rolls-Compare a op b)) ∙ fold-roll-Value Value value_layer _)
 
-pub equal_is : (e : Evaluation) (a : Box Evaluation) (op : Equality) (b : Box Evaluation) (es : Vec Evaluation) → e
+pub equal_is : (e : code_value.Value) (a : Box code_value.Value) (op : Equality) (b : Box code_value.Value)
+    (es : Vec code_value.Value) → e
     ≡ v.Equal a op b es
     → value_of e ≡ equal op (value_of a.value) (more (value_of b.value) (values_of (map value_of es.items)))
-equal_is e a op b es is = rw is (ap value_of (sym (v.rolls-Equal a op b es)) ∙ fold-roll-Evaluation Value value_layer _)
+equal_is e a op b es is = rw is (ap value_of (sym (v.rolls-Equal a op b es)) ∙ fold-roll-Value Value value_layer _)
 
-pub assign_is : (e : Evaluation) (x : Variable) (b : Box Evaluation) → e ≡ v.Assign x b → value_of e
+pub assign_is : (e : code_value.Value) (x : Variable) (b : Box code_value.Value) → e ≡ v.Assign x b → value_of e
     ≡ assign x (value_of b.value)
-assign_is e x b is = rw is (ap value_of (sym (v.rolls-Assign x b)) ∙ fold-roll-Evaluation Value value_layer _)
+assign_is e x b is = rw is (ap value_of (sym (v.rolls-Assign x b)) ∙ fold-roll-Value Value value_layer _)
 
-pub block_is : (t : CheckedStatement) (xs : Vec CheckedStatement) → t ≡ s.Block xs → action_of t
+pub block_is : (t : code_action.Action) (xs : Vec code_action.Action) → t ≡ s.Block xs → action_of t
     ≡ block (actions_of (map action_of xs.items))
-block_is t xs is = rw is (ap action_of (sym (s.rolls-Block xs)) ∙ fold-roll-CheckedStatement Action action_layer _)
+block_is t xs is = rw is (ap action_of (sym (s.rolls-Block xs)) ∙ fold-roll-Action Action action_layer _)
 
-pub text_is : (t : CheckedStatement) (text : _) → t ≡ s.Text text → action_of t ≡ text_alone text.now
-text_is t text is = rw is (ap action_of (sym (s.rolls-Text text)) ∙ fold-roll-CheckedStatement Action action_layer _)
+pub text_is : (t : code_action.Action) (text : _) → t ≡ s.Text text → action_of t ≡ text_alone text.now
+text_is t text is = rw is (ap action_of (sym (s.rolls-Text text)) ∙ fold-roll-Action Action action_layer _)
 
-pub print_is : (t : CheckedStatement) (is : Vec CheckedItem) → t ≡ s.Print is → action_of t
+pub print_is : (t : code_action.Action) (is : Vec code_printed.Printed) → t ≡ s.Print is → action_of t
     ≡ print (map printed_of is.items)
 print_is t items is =
-    rw is (ap action_of (sym (s.rolls-Print items)) ∙ fold-roll-CheckedStatement Action action_layer _)
+    rw is (ap action_of (sym (s.rolls-Print items)) ∙ fold-roll-Action Action action_layer _)
 
-pub print_return_is : (t : CheckedStatement) (is : Vec CheckedItem) → t ≡ s.PrintReturn is → action_of t
+pub print_return_is : (t : code_action.Action) (is : Vec code_printed.Printed) → t ≡ s.PrintReturn is → action_of t
     ≡ print_return (map printed_of is.items)
 print_return_is t items is =
-    rw is (ap action_of (sym (s.rolls-PrintReturn items)) ∙ fold-roll-CheckedStatement Action action_layer _)
+    rw is (ap action_of (sym (s.rolls-PrintReturn items)) ∙ fold-roll-Action Action action_layer _)
 
-pub if_is : (t : CheckedStatement) (e : Evaluation) (x : Box CheckedStatement) → t ≡ s.If e x → action_of t
+pub if_is : (t : code_action.Action) (e : code_value.Value) (x : Box code_action.Action) → t ≡ s.If e x → action_of t
     ≡ if_then (value_of e) (action_of x.value)
-if_is t e x is = rw is (ap action_of (sym (s.rolls-If e x)) ∙ fold-roll-CheckedStatement Action action_layer _)
+if_is t e x is = rw is (ap action_of (sym (s.rolls-If e x)) ∙ fold-roll-Action Action action_layer _)
 
-pub if_else_is : (t : CheckedStatement) (e : Evaluation) (x y : Box CheckedStatement) → t ≡ s.IfElse e x y
+pub if_else_is : (t : code_action.Action) (e : code_value.Value) (x y : Box code_action.Action) → t ≡ s.IfElse e x y
     → action_of t ≡ if_else (value_of e) (action_of x.value) (action_of y.value)
 if_else_is t e x y is =
-    rw is (ap action_of (sym (s.rolls-IfElse e x y)) ∙ fold-roll-CheckedStatement Action action_layer _)
+    rw is (ap action_of (sym (s.rolls-IfElse e x y)) ∙ fold-roll-Action Action action_layer _)
 
-pub while_is : (t : CheckedStatement) (e : Evaluation) (x : Box CheckedStatement) → t ≡ s.While e x → action_of t
+pub while_is : (t : code_action.Action) (e : code_value.Value) (x : Box code_action.Action) → t ≡ s.While e x
+    → action_of t
     ≡ while_do (value_of e) (action_of x.value)
-while_is t e x is = rw is (ap action_of (sym (s.rolls-While e x)) ∙ fold-roll-CheckedStatement Action action_layer _)
+while_is t e x is = rw is (ap action_of (sym (s.rolls-While e x)) ∙ fold-roll-Action Action action_layer _)
 
-pub return_is : (t : CheckedStatement) (e : Evaluation) → t ≡ s.ReturnValue e → action_of t ≡ return_value (value_of e)
-return_is t e is = rw is (ap action_of (sym (s.rolls-ReturnValue e)) ∙ fold-roll-CheckedStatement Action action_layer _)
+pub return_is : (t : code_action.Action) (e : code_value.Value) → t ≡ s.ReturnValue e
+    → action_of t ≡ return_value (value_of e)
+return_is t e is = rw is (ap action_of (sym (s.rolls-ReturnValue e)) ∙ fold-roll-Action Action action_layer _)
 
-pub effect_is : (t : CheckedStatement) (e : Evaluation) → t ≡ s.Effect e → action_of t ≡ effect (value_of e)
-effect_is t e is = rw is (ap action_of (sym (s.rolls-Effect e)) ∙ fold-roll-CheckedStatement Action action_layer _)
+pub effect_is : (t : code_action.Action) (e : code_value.Value) → t ≡ s.Effect e → action_of t ≡ effect (value_of e)
+effect_is t e is = rw is (ap action_of (sym (s.rolls-Effect e)) ∙ fold-roll-Action Action action_layer _)
 
-pub few_counted : (xs : List Evaluation) → count_of (values_of (map value_of xs)) ≡ length xs
+pub few_counted : (xs : List code_value.Value) → count_of (values_of (map value_of xs)) ≡ length xs
 few_counted [] = refl
 few_counted (x ∷ xs) = omega (arith, few_counted xs)
 
-pub chain_pushed : (e : Evaluation) (a : Box Evaluation) (op : Binary) (b : Box Evaluation)
-    (ls : Vec (Binary × Evaluation)) → e ≡ v.Chain a op b ls → items.pushed ≡ items.alone (value_of e)
+pub chain_pushed : (e : code_value.Value) (a : Box code_value.Value) (op : Binary) (b : Box code_value.Value)
+    (ls : Vec (Binary × code_value.Value)) → e ≡ v.Chain a op b ls → items.pushed ≡ items.alone (value_of e)
 chain_pushed e a op b ls is = go (value_of a.value) op (value_of b.value) (map link_of ls.items)
     ∙ ap items.alone (sym (chain_is e a op b ls is))
   where
@@ -112,8 +119,9 @@ chain_pushed e a op b ls is = go (value_of a.value) op (value_of b.value) (map l
     go x op y [] = refl
     go x op y (l ∷ ls) = go (binary op x y) l.0 l.1 ls
 
-pub chain_changes : (z : Variable) (e : Evaluation) (a : Box Evaluation) (op : Binary) (b : Box Evaluation)
-    (ls : Vec (Binary × Evaluation)) → e ≡ v.Chain a op b ls
+pub chain_changes : (z : Variable) (e : code_value.Value) (a : Box code_value.Value) (op : Binary)
+    (b : Box code_value.Value)
+    (ls : Vec (Binary × code_value.Value)) → e ≡ v.Chain a op b ls
     → items.changes z (value_of e)
     ≡ ((items.changes z (value_of a.value) || items.changes z (value_of b.value)) || change_links z
     (map link_of ls.items))

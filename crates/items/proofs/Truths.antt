@@ -35,7 +35,8 @@ module _ (now : Running) where
       m = pc + count
 
       -- the word, where 0 stands at m and 1 behind it
-      word : (d : Destination) → slice_get (code now) m ≡ Some (items.move (number 0) d) → slice_get (code now) (m + 1)
+      word : (d : Destination) → slice_get (code now) m ≡ Some (items.move (number 0) d)
+          → slice_get (code now) (m + 1)
           ≡ Some (items.jump (pc + count + 3)) → slice_get (code now) (m + 1 + 1) ≡ Some (items.move (number 1) d)
           → (v : ℕ) (last : Situation) → (b : Bool) → is_true v ≡ b → truth b
           ≡ v → Leads now last n (stands now (if b then pc + count + 2 else m) words last) (to v last)

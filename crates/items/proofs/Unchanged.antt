@@ -11,7 +11,7 @@ use Rattle.checker.specs.declared.resolved.Variable.{Variable}
 use Rattle.checker.specs.declared.resolved.Variable.TheVariants as variables
 use Rattle.checker.specs.Resolved.{Value, Values, none, more}
 use Rattle.checker.specs.Resolved as source
-use Rattle.checker.specs.World.{Situation, Comes, to, over, Part, bound, ◌>>=◌, give, put, fault, stop, value_in}
+use Rattle.checker.specs.World.{Situation, Comes, to, over, Part, bound, ◌>>=◌, give, put, fault, ends, value_in}
 use Rattle.checker.specs.World.{with_value, write_variable}
 use Rattle.checker.specs.Meaning.{truth, is_true, operate, equated, compared, with_prefix, stepped, early, Calls}
 use Rattle.checker.specs.Meaning.{evaluate, evaluate_all}
@@ -62,7 +62,7 @@ leaves_put (variables.Global i) bytes s =
 
 leaves_fault : (x : Variable) (words : List ℕ) → Leaves x (fault {A = ℕ} words)
 leaves_fault x words = leaves_bound x (put (10 ∷ codes "[Fault: " ++ words ++ codes "]" ++ 10 ∷ []))
-    (λ _. stop {A = ℕ} places.Quit) (leaves_put x _) (λ _ s. tt)
+    (λ _. ends {A = ℕ} places.Quit) (leaves_put x _) (λ _ s. tt)
 
 leaves_operate : (op : Binary) (v w : ℕ) (x : Variable) → Leaves x (operate op v w)
 leaves_operate binaries.Divide v w x = leaves_either x (w == 0) (fault (codes "division by zero"))

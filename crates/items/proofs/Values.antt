@@ -23,7 +23,8 @@ use Rattle.items.specs.Writing.{ReducesLink, ReducesLinks, ReducesComparison}
 use Rattle.items.proofs.Counts.{value_length, branch_length, if_length, operands_length}
 use Rattle.items.proofs.Written.{nothing, one, counted, both, as_items, after_one}
 
-pub pushes_length : (o : Operand) (v : Value) (n at : ℕ) → length (pushes o v n at) ≡ if_pushed o (value_count v push) 0
+pub pushes_length : (o : Operand) (v : Value) (n at : ℕ)
+    → length (pushes o v n at) ≡ if_pushed o (value_count v push) 0
 pushes_length o v n at = if_length o (value_items at v push) (value_count v push) (value_length v push at)
 
 pub call_more : (c c1 c2 c3 : List Item) (wanted : Wanted) (d : Destination) (r : ℕ) (vs : Values)
@@ -45,7 +46,8 @@ step_more c c1 c2 wanted d op x reduces e = (reduces (source.step_before op x) (
 pub not_more : (c c1 c2 : List Item) (wanted : Wanted) (when : Bool) (left : ℕ) (v : Value)
     → ReducesTruth c c1 wanted when left → Written c1 c2 (wanted_items (Branch (not when) left) v)
     → Written c c2 (wanted_items wanted (source.prefixed prefixes.Not v))
-not_more c c1 c2 wanted when left v reduces w = (reduces (source.prefixed prefixes.Not v) (λ at d. refl)).with_rest c2 w
+not_more c c1 c2 wanted when left v reduces w = (reduces (source.prefixed prefixes.Not v) (λ at d. refl)).with_rest
+    c2 w
 
 -- an operator that is not `~~`
 module _ (op : Prefix) (v : Value)
@@ -55,7 +57,8 @@ module _ (op : Prefix) (v : Value)
     ≡ if_pushed (alone v) (value_items at v push) [] ++ items.apply_prefix op
     (alone v) push ∷ branch_true pushed when t ∷ []) where
   plain_prefix : (c c1 c2 c3 : List Item) (wanted : Wanted) (d : Destination) (o : Operand)
-      → ReducesWord c c1 wanted d → o ≡ alone v → c2 ≡ c1 ++ items.apply_prefix op o d ∷ [] → Written c2 c3 (pushes o v)
+      → ReducesWord c c1 wanted d → o ≡ alone v → c2 ≡ c1 ++ items.apply_prefix op o d ∷ []
+      → Written c2 c3 (pushes o v)
       → Written c c3 (wanted_items wanted (source.prefixed op v))
   plain_prefix c c1 c2 c3 wanted d o reduces eo e w =
       (reduces (source.prefixed op v)
@@ -94,7 +97,8 @@ and_link c c1 c2 wanted when target end o b reduces ee wb v _ =
     }
   where
     skip : (w : Bool) (n at : ℕ) → n - end ≡ at + branch_count v false + branch_count b when
-        → n - (if w then end else target) ≡ (if w then at + branch_count v false + branch_count b when else n - target)
+        → n - (if w then end else target)
+        ≡ (if w then at + branch_count v false + branch_count b when else n - target)
     skip true n at e = e
     skip false n at e = refl
 
@@ -206,7 +210,8 @@ pub links_none : (c : List Item) (wanted : Wanted) → ReducesLinks c c wanted w
 links_none c wanted v is = record { with_rest = λ end w. w }
 
 pub links_next : (c c1 c2 : List Item) (wanted w1 w2 : Wanted) (op : Binary) (b : Value) (ls : List (Binary × Value))
-    → ReducesLinks c c1 wanted w1 ls → ReducesLink c1 c2 w1 w2 op pushed b → ReducesLinks c c2 wanted w2 ((op, b) ∷ ls)
+    → ReducesLinks c c1 wanted w1 ls → ReducesLink c1 c2 w1 w2 op pushed b
+    → ReducesLinks c c2 wanted w2 ((op, b) ∷ ls)
 links_next c c1 c2 wanted w1 w2 op b ls many link v is =
     record {
       with_rest = λ end w. (many (source.binary op v b) (λ _. refl)).with_rest end

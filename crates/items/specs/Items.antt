@@ -17,8 +17,8 @@ use Rattle.checker.specs.Resolved as source
 use Rattle.checker.specs.Meaning.{is_true}
 use Rattle.checker.specs.Accepted.{count_of}
 
--- a word that an item takes: from the top of the stack, or one that stands in the instruction. A variable is read when
--- the item is done.
+-- a word that an item takes: from the top of the stack, or one that stands in the instruction. A variable is read
+-- when the item is done.
 pub data Operand : Type 0 where
   pushed : Operand
   number : ℕ → Operand
@@ -261,8 +261,8 @@ moved o nowhere = []
 moved o push = move o push ∷ []
 moved o (into x) = move o (into x) ∷ []
 
--- A condition as a word, where `count` items branch if it is true: 0, or 1. Only what it does is wanted where the word
--- goes nowhere.
+-- A condition as a word, where `count` items branch if it is true: 0, or 1. Only what it does is wanted where the
+-- word goes nowhere.
 abbrev pub truth_items : ℕ → ℕ → Destination → (ℕ → List Item) → List Item
 truth_items at count nowhere branch_to = branch_to (at + count)
 truth_items at count d branch_to =
@@ -445,35 +445,48 @@ prints_items at (i ∷ is) = printed_items at i ++ prints_items (at + printed_co
 abbrev pub return_true : Item
 return_true = return (number 1)
 
+-- the numbers of the items to which a statement that breaks leads, and one that continues
+pub record Exits : Type 0 where
+  pub breaks : ℕ
+  pub continues : ℕ
+
+-- for the body of a loop, of which the part behind the body and the end have these numbers
+abbrev pub exits_to : ℕ → ℕ → Exits
+exits_to behind end = record { breaks = end; continues = behind }
+
 abbrev mutual
   -- a statement
-  pub action_items : ℕ → Action → List Item
-  action_items at source.empty = []
-  action_items at (source.block xs) = actions_items at xs
-  action_items at (source.text_alone bytes) = print_text bytes ∷ new_line ∷ return_true ∷ []
-  action_items at (source.print is) = prints_items at is
-  action_items at (source.print_return is) = prints_items at is ++ new_line ∷ return_true ∷ []
-  action_items at source.new_line = new_line ∷ []
-  action_items at (source.if_then v a) =
+  pub action_items : Exits → ℕ → Action → List Item
+  action_items x at source.empty = []
+  action_items x at (source.block xs) = actions_items x at xs
+  action_items x at (source.text_alone bytes) = print_text bytes ∷ new_line ∷ return_true ∷ []
+  action_items x at (source.print is) = prints_items at is
+  action_items x at (source.print_return is) = prints_items at is ++ new_line ∷ return_true ∷ []
+  action_items x at source.new_line = new_line ∷ []
+  action_items x at (source.if_then v a) =
       branch_items at v false (at + branch_count v false + action_count a)
-      ++ action_items (at + branch_count v false) a
-  action_items at (source.if_else v a b) =
+      ++ action_items x (at + branch_count v false) a
+  action_items x at (source.if_else v a b) =
       branch_items at v false (at + branch_count v false + action_count a + 1)
-      ++ (action_items (at + branch_count v false) a
+      ++ (action_items x (at + branch_count v false) a
       ++ jump (at + branch_count v false + action_count a + 1 + action_count b)
-      ∷ action_items (at + branch_count v false + action_count a + 1) b)
-  action_items at (source.while_do v a) =
+      ∷ action_items x (at + branch_count v false + action_count a + 1) b)
+  action_items x at (source.while_do v a) =
       branch_items at v false (at + branch_count v false + action_count a + 1)
-      ++ (action_items (at + branch_count v false) a ++ back at ∷ [])
-  action_items at (source.return_value v) = alone_items at v ++ return (alone v) ∷ []
-  action_items at source.quit = quit ∷ []
-  action_items at (source.effect v) = value_items at v nowhere
+      ++ (action_items
+      (exits_to (at + branch_count v false + action_count a) (at + branch_count v false + action_count a + 1))
+      (at + branch_count v false) a ++ back at ∷ [])
+  action_items x at (source.return_value v) = alone_items at v ++ return (alone v) ∷ []
+  action_items x at source.quit = quit ∷ []
+  action_items x at (source.effect v) = value_items at v nowhere
 
   -- statements, one after another
-  pub actions_items : ℕ → Actions → List Item
-  actions_items at stop = []
-  actions_items at (next a rest) = action_items at a ++ actions_items (at + action_count a) rest
+  pub actions_items : Exits → ℕ → Actions → List Item
+  actions_items x at stop = []
+  actions_items x at (next a rest) = action_items x at a ++ actions_items x (at + action_count a) rest
 
--- a routine that runs off its end returns true
+-- A routine that runs off its end returns true. No statement of an accepted program breaks or continues outside of a
+-- loop; one would lead there too.
 abbrev pub routine_items : RoutineOf → List Item
-routine_items r = actions_items 0 r.body ++ return_true ∷ []
+routine_items r =
+    actions_items (exits_to (actions_count r.body) (actions_count r.body)) 0 r.body ++ return_true ∷ []

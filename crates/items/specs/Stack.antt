@@ -1,5 +1,6 @@
 -- The machine of items: a place in a routine, a stack of words, and the world of the source.
-use Rattle.std.specs.Prelude.{◌||◌, ◌+◌, ◌==◌, ℕ, zero, suc, nat_le, nat_lt, Bool, true, false, if◌then◌else◌, List, []}
+use Rattle.std.specs.Prelude.{◌||◌, ◌+◌, ◌==◌, ℕ, zero, suc, nat_le, nat_lt, Bool, true, false, if◌then◌else◌, List}
+use Rattle.std.specs.Prelude.{[]}
 use Rattle.std.specs.Prelude.{◌∷◌, length, map, Option, Some, None, slice_get}
 use Rattle.std.specs.List.{list_any}
 use Rattle.zcore.specs.Arithmetic.{signed_less, signed_text}
@@ -9,10 +10,12 @@ use Rattle.checker.specs.declared.resolved.Variable.{Variable}
 use Rattle.checker.specs.Resolved.{ProgramOf}
 use Rattle.checker.specs.World.{Outcome, World, Situation, Comes, to, over, Part, ended, put, shown, spend, value_in}
 use Rattle.checker.specs.World.{with_value}
-use Rattle.checker.specs.Meaning.{truth, is_true, with_prefix, stepped, put_character, put_line, locals_of, routine_at}
+use Rattle.checker.specs.Meaning.{truth, is_true, with_prefix, stepped, put_character, put_line, locals_of}
+use Rattle.checker.specs.Meaning.{routine_at}
 use Rattle.checker.specs.Meaning.{first_world}
 use Rattle.checker.specs.Meaning as meaning
-use Rattle.items.specs.Items.{Item, Operand, pushed, number, variable, Destination, push, into, nowhere, Test, is_zero}
+use Rattle.items.specs.Items.{Item, Operand, pushed, number, variable, Destination, push, into, nowhere, Test}
+use Rattle.items.specs.Items.{is_zero}
 use Rattle.items.specs.Items.{less, greater, same, agrees, routine_items}
 use Rattle.items.specs.Items as items
 

@@ -4,21 +4,22 @@ use Rattle.std.specs.Prelude.{length, map, reverse, slice_set}
 use Rattle.expressions.specs.declared.tree.Binary.{Binary}
 use Rattle.expressions.specs.declared.tree.Binary.TheVariants as binaries
 use Rattle.checker.specs.declared.resolved.Variable.{Variable}
-use Rattle.checker.specs.declared.resolved.Evaluation.{Evaluation}
+use Rattle.checker.specs.declared.resolved.Value as code_value
 use Rattle.expressions.specs.declared.tree.Comparison.{Comparison}
 use Rattle.expressions.specs.declared.tree.Equality.{Equality}
-use Rattle.checker.specs.declared.resolved.CheckedItem.{CheckedItem}
+use Rattle.checker.specs.declared.resolved.Printed as code_printed
 use Rattle.checker.specs.Resolved.{Value, Values, none, more, Action, value_of, values_of, chained, printed_of}
 use Rattle.checker.specs.Resolved as source
 use Rattle.items.specs.Items.{Item, Operand, pushed, changes, Destination, push, operand_of, operands_of, left_of}
 use Rattle.items.specs.Items.{if_pushed, is_few, branch_true, value_count, branch_count, truth_items, value_items}
-use Rattle.items.specs.Items.{operands_items, branch_items, moved, prints_items, action_items}
+use Rattle.items.specs.Items.{operands_items, branch_items, moved, prints_items, Exits, action_items}
 use Rattle.items.specs.Items as items
 use Rattle.items.specs.Code.{as_operand, as_operands, as_destination, item_of, items_of}
 use Rattle.items.specs.declared.item.Item as code_item
 use Rattle.items.specs.declared.item.Operand as code_operand
 use Rattle.items.specs.declared.item.Destination as code_destination
 use Rattle.items.specs.declared.draft.Draft.{Draft}
+use Rattle.items.specs.declared.exits.Exits as code_exits
 use Rattle.items.specs.declared.wanted.Wanted.{Wanted}
 use Rattle.items.specs.declared.wanted.Wanted.TheVariants.{Word, Branch}
 
@@ -37,8 +38,8 @@ numbered n i = i
 abbrev pub in_order : ℕ → List Item → List Item
 in_order n written = map (numbered n) (reverse written)
 
--- What was written between old and new: items that depend on how many there are in all, and on the number of the first
--- of them.
+-- What was written between old and new: items that depend on how many there are in all, and on the number of the
+-- first of them.
 pub record Written (old new : List Item) (items : ℕ → ℕ → List Item) : Type 0 where
   pub more : List Item
   pub is : new ≡ old ++ more
@@ -59,7 +60,8 @@ IsCondition v = (at : ℕ) (d : Destination) → value_items at v d
     ≡ truth_items at (branch_count v true) d (λ t. branch_items at v true t)
 
 abbrev pub IsWord : Value → Type 0
-IsWord v = (at t : ℕ) (when : Bool) → branch_items at v when t ≡ value_items at v push ++ branch_true pushed when t ∷ []
+IsWord v = (at t : ℕ) (when : Bool) → branch_items at v when t ≡ value_items at v push ++ branch_true pushed when t
+    ∷ []
 
 -- the items that push an operand
 abbrev pub pushes : Operand → Value → ℕ → ℕ → List Item
@@ -74,7 +76,7 @@ is_logical binaries.OrElse = true
 is_logical _ = false
 
 -- an operator with its second operand
-abbrev pub link_of : Binary × Evaluation → Binary × Value
+abbrev pub link_of : Binary × code_value.Value → Binary × Value
 link_of l = (l.0, value_of l.1)
 
 -- the first operand, where something is wanted of it
@@ -159,15 +161,15 @@ taken_items o i v n at = if_pushed o (value_items at v push) [] ++ numbered n i 
 -- The same of drafts, as the code has them
 
 -- expressions as values
-abbrev pub values_in : List Evaluation → Values
+abbrev pub values_in : List code_value.Value → Values
 values_in xs = values_of (map value_of xs)
 
 -- an expression before others
-abbrev pub more_in : Evaluation → List Evaluation → Values
+abbrev pub more_in : code_value.Value → List code_value.Value → Values
 more_in x xs = more (value_of x) (values_in xs)
 
 -- the operands for expressions that are evaluated one after another
-abbrev pub all_operands : List Evaluation → List Operand
+abbrev pub all_operands : List code_value.Value → List Operand
 all_operands xs = operands_of (values_in xs)
 
 -- these items were written before what stood
@@ -179,19 +181,19 @@ abbrev pub WritesValue : Draft → Draft → Wanted → Value → Type 0
 WritesValue old new wanted v = Writes old new (wanted_items wanted v)
 
 -- what pushes an operand
-abbrev pub WritesOperand : Draft → Draft → code_operand.Operand → Evaluation → Type 0
+abbrev pub WritesOperand : Draft → Draft → code_operand.Operand → code_value.Value → Type 0
 WritesOperand old new o v = Writes old new (pushes (as_operand o) (value_of v))
 
 -- what pushes the operands of a list
-abbrev pub WritesOperands : Draft → Draft → List Evaluation → Type 0
+abbrev pub WritesOperands : Draft → Draft → List code_value.Value → Type 0
 WritesOperands old new vs = Writes old new (λ n at. operands_items at (values_in vs))
 
 -- right sides that are folded into a flag
-abbrev pub WritesFolded : Draft → Draft → List Evaluation → Type 0
+abbrev pub WritesFolded : Draft → Draft → List code_value.Value → Type 0
 WritesFolded old new vs = Writes old new (λ n at. folded_items at (values_in vs))
 
 -- what `print` prints
-abbrev pub WritesPrinted : Draft → Draft → List CheckedItem → Type 0
+abbrev pub WritesPrinted : Draft → Draft → List code_printed.Printed → Type 0
 WritesPrinted old new is = Writes old new (λ n at. prints_items at (map printed_of is))
 
 -- what follows a value that has a word
@@ -207,40 +209,44 @@ abbrev pub WritesChoice : Draft → Draft → code_destination.Destination → �
 WritesChoice old new d left = ReducesChoice (written_in old) (written_in new) (as_destination d) left
 
 -- an operator with its second operand
-abbrev pub WritesLink : Draft → Draft → Wanted → Wanted → Binary → code_operand.Operand → Evaluation → Type 0
+abbrev pub WritesLink : Draft → Draft → Wanted → Wanted → Binary → code_operand.Operand → code_value.Value → Type 0
 WritesLink old new wanted rest op o b = ReducesLink (written_in old) (written_in new) wanted rest op (as_operand o)
     (value_of b)
 
 -- several of them
-abbrev pub WritesLinks : Draft → Draft → Wanted → Wanted → List (Binary × Evaluation) → Type 0
+abbrev pub WritesLinks : Draft → Draft → Wanted → Wanted → List (Binary × code_value.Value) → Type 0
 WritesLinks old new wanted rest ls = ReducesLinks (written_in old) (written_in new) wanted rest (map link_of ls)
 
 -- a comparison with its right side
-abbrev pub WritesComparison : Draft → Draft → Wanted → Comparison → code_operand.Operand → Evaluation → Type 0
+abbrev pub WritesComparison : Draft → Draft → Wanted → Comparison → code_operand.Operand → code_value.Value → Type 0
 WritesComparison old new wanted op o b =
     ReducesComparison (written_in old) (written_in new) wanted op (as_operand o) (value_of b)
 
 -- `==` or `~=` with the right sides behind the first
 abbrev pub WritesEquality : Draft → Draft → Wanted → Equality → code_operand.Operand → code_operand.Operand
-    → List Evaluation → Type 0
+    → List code_value.Value → Type 0
 WritesEquality old new wanted op oa ob bs =
     ReducesEquality (written_in old) (written_in new) wanted op (as_operand oa) (as_operand ob) (values_in bs)
 
 -- the first operand of an operation
-abbrev pub WritesFirst : Draft → Draft → Binary → code_operand.Operand → Wanted → Evaluation → Type 0
+abbrev pub WritesFirst : Draft → Draft → Binary → code_operand.Operand → Wanted → code_value.Value → Type 0
 WritesFirst old new op o wanted v = Writes old new (first_items op (as_operand o) wanted (value_of v))
 
 -- an item that takes an operand, and what pushes that
-abbrev pub WritesTaken : Draft → Draft → code_operand.Operand → code_item.Item → Evaluation → Type 0
+abbrev pub WritesTaken : Draft → Draft → code_operand.Operand → code_item.Item → code_value.Value → Type 0
 WritesTaken old new o i v = Writes old new (taken_items (as_operand o) (item_of i) (value_of v))
 
 -- an operand in place goes to a destination
 abbrev pub WritesMoved : Draft → Draft → code_operand.Operand → code_destination.Destination → Type 0
 WritesMoved old new o d = Writes old new (λ n at. moved (as_operand o) (as_destination d))
 
+-- where `break` and `continue` lead, told by how many items there are from there on, where there are n in all
+abbrev pub exits_of : ℕ → code_exits.Exits → Exits
+exits_of n x = record { breaks = n - x.breaks; continues = n - x.continues }
+
 -- a statement
-abbrev pub WritesAction : Draft → Draft → Action → Type 0
-WritesAction old new a = Writes old new (λ n at. action_items at a)
+abbrev pub WritesAction : Draft → Draft → code_exits.Exits → Action → Type 0
+WritesAction old new x a = Writes old new (λ n at. action_items (exits_of n x) at a)
 
 -- one item more, as it stands
 abbrev pub Puts : Draft → Draft → Item → Type 0
@@ -256,13 +262,13 @@ LeadsBack old new number =
     written_in new ≡ slice_set (written_in old) number (items.back (length (written_in old)))
 
 -- the operand for the left side of `==` or `~=`
-abbrev pub left_side : Evaluation → Evaluation → List Evaluation → Operand
+abbrev pub left_side : code_value.Value → code_value.Value → List code_value.Value → Operand
 left_side a b bs = first_operand (value_of a) (value_of b) (values_in bs)
 
 -- the one for the first right side
-abbrev pub right_side : Evaluation → List Evaluation → Operand
+abbrev pub right_side : code_value.Value → List code_value.Value → Operand
 right_side b bs = second_operand (value_of b) (values_in bs)
 
 -- behind other operands stand those for expressions that are evaluated one after another
-abbrev pub AddsOperands : List code_operand.Operand → List code_operand.Operand → List Evaluation → Type 0
+abbrev pub AddsOperands : List code_operand.Operand → List code_operand.Operand → List code_value.Value → Type 0
 AddsOperands old new xs = as_operands new ≡ as_operands old ++ all_operands xs

@@ -2,6 +2,7 @@
 #![tactic(auto)]
 
 mod draft;
+mod exits;
 mod item;
 mod laws;
 mod operand;

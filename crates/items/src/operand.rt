@@ -9,7 +9,7 @@ ghost use Rattle.items.specs.Writing.{change_links, link_of, values_in, more_in}
 ghost use Rattle.items.specs.Writing.{left_side, right_side, AddsOperands};
 
 use crate::item::Operand;
-use checker::{Evaluation, Variable};
+use checker::{Value, Variable};
 use expressions::Binary;
 use std::alloc::AllocError;
 
@@ -40,26 +40,26 @@ fn any_of(first: bool, second: bool, behind: bool) -> bool
 
 /// Whether the evaluation of an expression may change a variable.
 #[cycle(changes)]
-fn changes(variable: Variable, value: &Evaluation) -> bool
+fn changes(variable: Variable, value: &Value) -> bool
     ensures { result ≡ items.changes variable (value_of value.now) }
 {
     match value {
-        Evaluation::Number(_) | Evaluation::Read(_) => false,
-        Evaluation::Call(_, arguments) => is_global(variable) || change(variable, arguments),
-        Evaluation::Prefixed(_, operand) => changes(variable, operand),
-        Evaluation::StepBefore(_, stepped) => is_same(variable, *stepped),
-        Evaluation::StepAfter(stepped, _) => is_same(variable, *stepped),
-        Evaluation::Chain(first, _, second, links) => {
+        Value::Number(_) | Value::Read(_) => false,
+        Value::Call(_, arguments) => is_global(variable) || change(variable, arguments),
+        Value::Prefixed(_, operand) => changes(variable, operand),
+        Value::StepBefore(_, stepped) => is_same(variable, *stepped),
+        Value::StepAfter(stepped, _) => is_same(variable, *stepped),
+        Value::Chain(first, _, second, links) => {
             let first = changes(variable, first);
             let second = changes(variable, second);
             let behind = links_change(variable, links);
             any_of(first, second, behind)
         }
-        Evaluation::Compare(left, _, right) => changes(variable, left) || changes(variable, right),
-        Evaluation::Equal(left, _, right, others) => {
+        Value::Compare(left, _, right) => changes(variable, left) || changes(variable, right),
+        Value::Equal(left, _, right, others) => {
             changes(variable, left) || changes(variable, right) || change(variable, others)
         }
-        Evaluation::Assign(assigned, value) => {
+        Value::Assign(assigned, value) => {
             is_same(variable, *assigned) || changes(variable, value)
         }
     }
@@ -67,7 +67,7 @@ fn changes(variable: Variable, value: &Evaluation) -> bool
 
 /// Whether the evaluation of one of several may.
 #[cycle(changes)]
-fn change(variable: Variable, values: &[Evaluation]) -> bool
+fn change(variable: Variable, values: &[Value]) -> bool
     ensures { result ≡ items.change variable (values_in values.now) }
 {
     for value in values {
@@ -79,7 +79,7 @@ fn change(variable: Variable, values: &[Evaluation]) -> bool
 }
 
 #[cycle(changes)]
-fn links_change(variable: Variable, links: &[(Binary, Evaluation)]) -> bool
+fn links_change(variable: Variable, links: &[(Binary, Value)]) -> bool
     ensures { result ≡ change_links variable (map link_of links.now) }
 {
     for (_, operand) in links {
@@ -92,26 +92,26 @@ fn links_change(variable: Variable, links: &[(Binary, Evaluation)]) -> bool
 
 /// The operand for an expression after which none is evaluated.
 #[tactic(auto, using(crate::proofs::Trees::chain_pushed))]
-pub fn alone(value: &Evaluation) -> Operand
+pub fn alone(value: &Value) -> Operand
     ensures { as_operand result ≡ items.alone (value_of value.now) }
 {
     match value {
-        Evaluation::Number(number) => Operand::Number(*number),
-        Evaluation::Read(variable) => Operand::Variable(*variable),
-        Evaluation::Call(..)
-        | Evaluation::Prefixed(..)
-        | Evaluation::StepBefore(..)
-        | Evaluation::StepAfter(..)
-        | Evaluation::Chain(..)
-        | Evaluation::Compare(..)
-        | Evaluation::Equal(..)
-        | Evaluation::Assign(..) => Operand::Pushed,
+        Value::Number(number) => Operand::Number(*number),
+        Value::Read(variable) => Operand::Variable(*variable),
+        Value::Call(..)
+        | Value::Prefixed(..)
+        | Value::StepBefore(..)
+        | Value::StepAfter(..)
+        | Value::Chain(..)
+        | Value::Compare(..)
+        | Value::Equal(..)
+        | Value::Assign(..) => Operand::Pushed,
     }
 }
 
 /// The operand for an expression that is evaluated before others. A variable stands in place if those do not change it.
 #[tactic(auto, using(crate::proofs::Operands::before_pushed, crate::proofs::Operands::before_number, crate::proofs::Operands::before_changed, crate::proofs::Operands::before_kept))]
-pub fn before(value: &Evaluation, later: &[Evaluation]) -> Operand
+pub fn before(value: &Value, later: &[Value]) -> Operand
     ensures { as_operand result ≡ items.operand_of (value_of value.now) (values_in later.now) }
 {
     match alone(value) {
@@ -129,7 +129,7 @@ pub fn before(value: &Evaluation, later: &[Evaluation]) -> Operand
 
 /// The operand for an expression that is evaluated before another and then others.
 #[tactic(auto, using(crate::proofs::Operands::before_pushed, crate::proofs::Operands::before_number, crate::proofs::Operands::before_changed, crate::proofs::Operands::before_kept))]
-fn before_more(value: &Evaluation, next: &Evaluation, later: &[Evaluation]) -> Operand
+fn before_more(value: &Value, next: &Value, later: &[Value]) -> Operand
     ensures { as_operand result ≡ items.operand_of (value_of value.now) (more_in next.now later.now) }
 {
     match alone(value) {
@@ -147,7 +147,7 @@ fn before_more(value: &Evaluation, next: &Evaluation, later: &[Evaluation]) -> O
 }
 
 /// The operand for the left one of two expressions.
-pub fn left_of(left: &Evaluation, right: &Evaluation) -> Operand
+pub fn left_of(left: &Value, right: &Value) -> Operand
     ensures { as_operand result ≡ items.left_of (value_of left.now) (value_of right.now) }
 {
     before_more(left, right, &[])
@@ -158,11 +158,7 @@ const MOST_COMPARED: usize = 3;
 
 /// The operands for the left side of `==` or `~=` and for its first right side. Where there are too many right sides
 /// each is compared by itself, on the stack.
-pub fn side_operands(
-    left: &Evaluation,
-    right: &Evaluation,
-    others: &[Evaluation],
-) -> (Operand, Operand)
+pub fn side_operands(left: &Value, right: &Value, others: &[Value]) -> (Operand, Operand)
     ensures left { as_operand result.0 ≡ left_side left.now right.now others.now }
     ensures right { as_operand result.1 ≡ right_side right.now others.now }
 {
@@ -174,14 +170,14 @@ pub fn side_operands(
 
 /// Whether one instruction compares with the first right side and these others.
 #[tactic(auto, using(crate::proofs::Trees::few_counted))]
-pub fn are_few(others: &[Evaluation]) -> bool
+pub fn are_few(others: &[Value]) -> bool
     ensures { result ≡ nat_lt (count_of (values_in others.now)) 3 }
 {
     others.len() < MOST_COMPARED
 }
 
 /// Operands for expressions that are evaluated one after another, behind other operands.
-pub fn push_operands(operands: &mut Vec<Operand>, values: &[Evaluation]) -> Result<(), AllocError>
+pub fn push_operands(operands: &mut Vec<Operand>, values: &[Value]) -> Result<(), AllocError>
     ensures { OnOk result (AddsOperands operands.old.items operands.new.items values.now) }
 {
     for number in 0..values.len() {

@@ -5,7 +5,8 @@ ghost use Rattle.checker.specs.Resolved.{routine_of};
 ghost use Rattle.items.specs.Items as items;
 ghost use Rattle.items.specs.Code.{items_of};
 
-use crate::draft::{Draft, in_order, put};
+use crate::draft::{Draft, in_order, put, written};
+use crate::exits::Exits;
 use crate::item::{Item, Operand};
 use crate::statement::put_statements;
 use checker::CheckedRoutine;
@@ -25,6 +26,12 @@ pub fn routine_items<'a>(
     let items = Vec::new(alloc);
     let mut draft = Draft { alloc, items };
     put(&mut draft, Item::Return(Operand::Number(1)))?;
-    put_statements(&mut draft, &routine.body)?;
-    in_order(draft)
+    let end = written(&draft);
+    let outside = Exits {
+        breaks: end,
+        continues: end,
+    };
+    put_statements(&mut draft, outside, &routine.body)?;
+    let code = in_order(draft)?;
+    Ok(code)
 }

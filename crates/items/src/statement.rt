@@ -6,24 +6,26 @@ ghost use Rattle.items.specs.Items.{new_line, return_true, printed_items};
 ghost use Rattle.items.specs.Writing.{Writes, WritesAction, WritesPrinted, WritesTaken};
 
 use crate::draft::{Draft, lead_back, put, written};
+use crate::exits::Exits;
 use crate::item::{Destination, Item, Operand};
 use crate::operand::alone;
 use crate::value::{put_operand, put_value};
 use crate::wanted::Wanted;
-use checker::{CheckedItem, CheckedStatement, Evaluation};
+use checker::{Action, Printed, Value};
 use std::alloc::AllocError;
 
 /// The items of statements, one after another.
 #[cycle(statements)]
 pub fn put_statements<'a>(
     draft: &mut Draft<'a>,
-    statements: &[CheckedStatement<'a>],
+    exits: Exits,
+    statements: &[Action<'a>],
 ) -> Result<(), AllocError>
-    ensures { OnOk result (WritesAction draft.old draft.new (block (actions_of (map action_of statements.now)))) }
+    ensures { OnOk result (WritesAction draft.old draft.new exits (block (actions_of (map action_of statements.now)))) }
 {
     for done in 0..statements.len() {
         let statement = &statements[statements.len() - 1 - done];
-        put_statement(draft, statement)?;
+        put_statement(draft, exits, statement)?;
     }
     Ok(())
 }
@@ -32,36 +34,37 @@ pub fn put_statements<'a>(
 #[cycle(statements)]
 fn put_statement<'a>(
     draft: &mut Draft<'a>,
-    statement: &CheckedStatement<'a>,
+    exits: Exits,
+    statement: &Action<'a>,
 ) -> Result<(), AllocError>
-    ensures { OnOk result (WritesAction draft.old draft.new (action_of statement.now)) }
+    ensures { OnOk result (WritesAction draft.old draft.new exits (action_of statement.now)) }
 {
     match statement {
-        CheckedStatement::Empty => {}
-        CheckedStatement::Block(statements) => put_statements(draft, statements)?,
-        CheckedStatement::Text(text) => {
+        Action::Empty => {}
+        Action::Block(statements) => put_statements(draft, exits, statements)?,
+        Action::Text(text) => {
             put_end_of_line(draft)?;
             put(draft, Item::PrintText(text))?;
         }
-        CheckedStatement::Print(items) => put_prints(draft, items)?,
-        CheckedStatement::PrintReturn(items) => {
+        Action::Print(items) => put_prints(draft, items)?,
+        Action::PrintReturn(items) => {
             put_end_of_line(draft)?;
             put_prints(draft, items)?;
         }
-        CheckedStatement::NewLine => put(draft, Item::NewLine)?,
-        CheckedStatement::If(test, then) => put_if(draft, then, test)?,
-        CheckedStatement::IfElse(test, then, otherwise) => {
+        Action::NewLine => put(draft, Item::NewLine)?,
+        Action::If(test, then) => put_if(draft, exits, then, test)?,
+        Action::IfElse(test, then, otherwise) => {
             let end = written(draft);
-            put_statement(draft, otherwise)?;
+            put_statement(draft, exits, otherwise)?;
             let next = written(draft);
             put(draft, Item::Jump(end))?;
-            put_statement(draft, then)?;
+            put_statement(draft, exits, then)?;
             put_value(draft, test, Wanted::Branch(false, next))?;
         }
-        CheckedStatement::While(test, body) => put_while(draft, body, test)?,
-        CheckedStatement::ReturnValue(value) => put_return(draft, value)?,
-        CheckedStatement::Quit => put(draft, Item::Quit)?,
-        CheckedStatement::Effect(value) => {
+        Action::While(test, body) => put_while(draft, body, test)?,
+        Action::ReturnValue(value) => put_return(draft, value)?,
+        Action::Quit => put(draft, Item::Quit)?,
+        Action::Effect(value) => {
             put_value(draft, value, Wanted::Word(Destination::Nowhere))?;
         }
     }
@@ -73,13 +76,14 @@ fn put_statement<'a>(
 #[tactic(auto, using(crate::proofs::Actions::if_more))]
 fn put_if<'a>(
     draft: &mut Draft<'a>,
-    then: &CheckedStatement<'a>,
-    test: &Evaluation,
+    exits: Exits,
+    then: &Action<'a>,
+    test: &Value,
 ) -> Result<(), AllocError>
-    ensures { OnOk result (WritesAction draft.old draft.new (if_then (value_of test.now) (action_of then.now))) }
+    ensures { OnOk result (WritesAction draft.old draft.new exits (if_then (value_of test.now) (action_of then.now))) }
 {
     let end = written(draft);
-    put_statement(draft, then)?;
+    put_statement(draft, exits, then)?;
     put_value(draft, test, Wanted::Branch(false, end))?;
     Ok(())
 }
@@ -87,24 +91,24 @@ fn put_if<'a>(
 /// `while`: behind what the test guards it goes back to the test.
 #[cycle(statements)]
 #[tactic(auto, using(crate::proofs::Actions::while_more))]
-fn put_while<'a>(
-    draft: &mut Draft<'a>,
-    body: &CheckedStatement<'a>,
-    test: &Evaluation,
-) -> Result<(), AllocError>
-    ensures { OnOk result (WritesAction draft.old draft.new (while_do (value_of test.now) (action_of body.now))) }
+fn put_while<'a>(draft: &mut Draft<'a>, body: &Action<'a>, test: &Value) -> Result<(), AllocError>
+    ensures { OnOk result ((x : _) → WritesAction draft.old draft.new x (while_do (value_of test.now) (action_of body.now))) }
 {
     let end = written(draft);
     put(draft, Item::Back(0))?;
-    put_statement(draft, body)?;
+    let inside = Exits {
+        breaks: end,
+        continues: written(draft),
+    };
+    put_statement(draft, inside, body)?;
     put_value(draft, test, Wanted::Branch(false, end))?;
     lead_back(draft, end);
     Ok(())
 }
 
 #[tactic(auto, using(crate::proofs::Actions::return_more))]
-fn put_return(draft: &mut Draft<'_>, value: &Evaluation) -> Result<(), AllocError>
-    ensures { OnOk result (WritesAction draft.old draft.new (return_value (value_of value.now))) }
+fn put_return(draft: &mut Draft<'_>, value: &Value) -> Result<(), AllocError>
+    ensures { OnOk result ((x : _) → WritesAction draft.old draft.new x (return_value (value_of value.now))) }
 {
     let operand = alone(value);
     put_after(draft, value, operand, Item::Return(operand))?;
@@ -115,7 +119,7 @@ fn put_return(draft: &mut Draft<'_>, value: &Evaluation) -> Result<(), AllocErro
 #[tactic(auto, using(crate::proofs::Actions::after_more))]
 fn put_after<'a>(
     draft: &mut Draft<'a>,
-    value: &Evaluation,
+    value: &Value,
     operand: Operand,
     item: Item<'a>,
 ) -> Result<(), AllocError>
@@ -127,7 +131,7 @@ fn put_after<'a>(
 }
 
 /// The items of what `print` prints, from left to right.
-fn put_prints<'a>(draft: &mut Draft<'a>, items: &[CheckedItem<'a>]) -> Result<(), AllocError>
+fn put_prints<'a>(draft: &mut Draft<'a>, items: &[Printed<'a>]) -> Result<(), AllocError>
     ensures { OnOk result (WritesPrinted draft.old draft.new items.now) }
 {
     for done in 0..items.len() {
@@ -136,16 +140,16 @@ fn put_prints<'a>(draft: &mut Draft<'a>, items: &[CheckedItem<'a>]) -> Result<()
     Ok(())
 }
 
-fn put_printed<'a>(draft: &mut Draft<'a>, item: &CheckedItem<'a>) -> Result<(), AllocError>
+fn put_printed<'a>(draft: &mut Draft<'a>, item: &Printed<'a>) -> Result<(), AllocError>
     ensures { OnOk result (Writes draft.old draft.new (λ n at. printed_items at (printed_of item.now))) }
 {
     match item {
-        CheckedItem::Text(text) => put(draft, Item::PrintText(text))?,
-        CheckedItem::Character(value) => {
+        Printed::Text(text) => put(draft, Item::PrintText(text))?,
+        Printed::Character(value) => {
             let operand = alone(value);
             put_after(draft, value, operand, Item::PrintCharacter(operand))?;
         }
-        CheckedItem::Number(value) => {
+        Printed::Number(value) => {
             let operand = alone(value);
             put_after(draft, value, operand, Item::PrintNumber(operand))?;
         }

@@ -13,46 +13,42 @@ use crate::parts::{
     put_number, put_read, put_step_after, put_step_before, put_truth, put_word,
 };
 use crate::wanted::Wanted;
-use checker::{Evaluation, Variable};
+use checker::{Value, Variable};
 use expressions::{Binary, Comparison, Equality, Prefix};
 use std::alloc::AllocError;
 
 /// The items of an expression, which do what is wanted of it.
 #[cycle(values)]
-pub fn put_value<'a>(
-    draft: &mut Draft<'a>,
-    value: &Evaluation,
-    wanted: Wanted,
-) -> Result<(), AllocError>
+pub fn put_value<'a>(draft: &mut Draft<'a>, value: &Value, wanted: Wanted) -> Result<(), AllocError>
     ensures { OnOk result (WritesValue draft.old draft.new wanted (value_of value.now)) }
 {
     match value {
-        Evaluation::Number(number) => put_number(draft, *number, wanted)?,
-        Evaluation::Read(variable) => put_read(draft, *variable, wanted)?,
-        Evaluation::Call(routine, arguments) => put_call(draft, arguments, *routine, wanted)?,
-        Evaluation::Prefixed(prefix, operand) => put_prefixed(draft, operand, *prefix, wanted)?,
-        Evaluation::StepBefore(step, variable) => {
+        Value::Number(number) => put_number(draft, *number, wanted)?,
+        Value::Read(variable) => put_read(draft, *variable, wanted)?,
+        Value::Call(routine, arguments) => put_call(draft, arguments, *routine, wanted)?,
+        Value::Prefixed(prefix, operand) => put_prefixed(draft, operand, *prefix, wanted)?,
+        Value::StepBefore(step, variable) => {
             put_step_before(draft, *variable, *step, wanted)?;
         }
-        Evaluation::StepAfter(variable, step) => put_step_after(draft, *variable, *step, wanted)?,
-        Evaluation::Chain(first, operator, second, links) => {
+        Value::StepAfter(variable, step) => put_step_after(draft, *variable, *step, wanted)?,
+        Value::Chain(first, operator, second, links) => {
             let wanted = put_links(draft, links, wanted)?;
             let left = left_of(first, second);
             let wanted = put_link(draft, second, *operator, left, wanted)?;
             put_first(draft, first, *operator, left, wanted)?;
         }
-        Evaluation::Compare(left, comparison, right) => {
+        Value::Compare(left, comparison, right) => {
             let operand = left_of(left, right);
             put_comparison(draft, right, *comparison, operand, wanted)?;
             put_operand(draft, left, operand)?;
         }
-        Evaluation::Equal(left, equality, right, others) => {
+        Value::Equal(left, equality, right, others) => {
             let (first, second) = side_operands(left, right, others);
             put_others(draft, others, *equality, (first, second), wanted)?;
             put_operand(draft, right, second)?;
             put_operand(draft, left, first)?;
         }
-        Evaluation::Assign(variable, value) => put_assigned(draft, value, *variable, wanted)?,
+        Value::Assign(variable, value) => put_assigned(draft, value, *variable, wanted)?,
     }
     Ok(())
 }
@@ -61,7 +57,7 @@ pub fn put_value<'a>(
 #[cycle(values)]
 pub fn put_operand<'a>(
     draft: &mut Draft<'a>,
-    value: &Evaluation,
+    value: &Value,
     operand: Operand,
 ) -> Result<(), AllocError>
     ensures { OnOk result (WritesOperand draft.old draft.new operand value.now) }
@@ -75,7 +71,7 @@ pub fn put_operand<'a>(
 
 /// What pushes the operands of a list, from left to right.
 #[cycle(values)]
-fn put_operands<'a>(draft: &mut Draft<'a>, values: &[Evaluation]) -> Result<(), AllocError>
+fn put_operands<'a>(draft: &mut Draft<'a>, values: &[Value]) -> Result<(), AllocError>
     ensures { OnOk result (WritesOperands draft.old draft.new values.now) }
 {
     for done in 0..values.len() {
@@ -90,7 +86,7 @@ fn put_operands<'a>(draft: &mut Draft<'a>, values: &[Evaluation]) -> Result<(), 
 #[cycle(values)]
 fn put_call<'a>(
     draft: &mut Draft<'a>,
-    arguments: &[Evaluation],
+    arguments: &[Value],
     routine: usize,
     wanted: Wanted,
 ) -> Result<(), AllocError>
@@ -107,7 +103,7 @@ fn put_call<'a>(
 #[cycle(values)]
 fn put_prefixed<'a>(
     draft: &mut Draft<'a>,
-    value: &Evaluation,
+    value: &Value,
     prefix: Prefix,
     wanted: Wanted,
 ) -> Result<(), AllocError>
@@ -131,7 +127,7 @@ fn put_prefixed<'a>(
 #[cycle(values)]
 fn put_assigned<'a>(
     draft: &mut Draft<'a>,
-    value: &Evaluation,
+    value: &Value,
     variable: Variable,
     wanted: Wanted,
 ) -> Result<(), AllocError>
@@ -158,7 +154,7 @@ fn put_assigned<'a>(
 #[cycle(values)]
 fn put_links<'a>(
     draft: &mut Draft<'a>,
-    links: &[(Binary, Evaluation)],
+    links: &[(Binary, Value)],
     wanted: Wanted,
 ) -> Result<Wanted, AllocError>
     ensures { IfOk result (λ rest. WritesLinks draft.old draft.new wanted rest links.now) }
@@ -176,7 +172,7 @@ fn put_links<'a>(
 #[cycle(values)]
 fn put_link<'a>(
     draft: &mut Draft<'a>,
-    second: &Evaluation,
+    second: &Value,
     operator: Binary,
     left: Operand,
     wanted: Wanted,
@@ -210,7 +206,7 @@ fn put_link<'a>(
 #[cycle(values)]
 fn put_first<'a>(
     draft: &mut Draft<'a>,
-    first: &Evaluation,
+    first: &Value,
     operator: Binary,
     left: Operand,
     wanted: Wanted,
@@ -232,7 +228,7 @@ fn put_first<'a>(
 #[cycle(values)]
 fn put_comparison<'a>(
     draft: &mut Draft<'a>,
-    right: &Evaluation,
+    right: &Value,
     comparison: Comparison,
     left: Operand,
     wanted: Wanted,
@@ -254,7 +250,7 @@ fn put_comparison<'a>(
 #[cycle(values)]
 fn put_others<'a>(
     draft: &mut Draft<'a>,
-    others: &[Evaluation],
+    others: &[Value],
     equality: Equality,
     sides: (Operand, Operand),
     wanted: Wanted,
@@ -279,7 +275,7 @@ fn put_others<'a>(
 
 /// Right sides that are folded into a flag one after another.
 #[cycle(values)]
-fn put_folded<'a>(draft: &mut Draft<'a>, values: &[Evaluation]) -> Result<(), AllocError>
+fn put_folded<'a>(draft: &mut Draft<'a>, values: &[Value]) -> Result<(), AllocError>
     ensures { OnOk result (WritesFolded draft.old draft.new values.now) }
 {
     for done in 0..values.len() {

@@ -1,5 +1,6 @@
 -- The flags that tell which pages are kept.
-use Rattle.std.proofs.Common.{◌≡◌, ℕ, zero, suc, ◌+◌, ◌<◌, ◌≤◌, Bool, true, false, ◌||◌, eqb, List, [], ◌∷◌, ◌++◌, length, get_or, set, drop, refl, ap, sym, ◌∙◌, arith, inl, inr, drop_of_length-le}
+use Rattle.std.proofs.Common.{◌≡◌, ℕ, zero, suc, ◌+◌, ◌<◌, ◌≤◌, Bool, true, false, ◌||◌, eqb, List, [], ◌∷◌, ◌++◌}
+use Rattle.std.proofs.Common.{length, get_or, set, drop, refl, ap, sym, ◌∙◌, arith, inl, inr, drop_of_length-le}
 use Rattle.std.specs.List.{list_any}
 use Rattle.std.proofs.lemmas.Bool.{eq-eqb}
 use Rattle.std.proofs.lemmas.Bool.Decides.{eqb_tells}
@@ -14,8 +15,10 @@ flag_in (f ∷ fs) zero h = omega arith
 flag_in (f ∷ fs) (suc p) h = omega (arith, flag_in fs p h)
 
 -- each kept page has a flag
-pub marked_in : (flags : List Bool) (pages : List ℕ) (i : ℕ) → IsMarked flags pages → i < length pages → get_or pages i 0 < length flags
-marked_in flags pages i h lt = flag_in flags (get_or pages i 0) (h (get_or pages i 0) ∙ list_any_at (eqb (get_or pages i 0)) pages i 0 lt (eq-eqb _ _ refl))
+pub marked_in : (flags : List Bool) (pages : List ℕ) (i : ℕ) → IsMarked flags pages → i < length pages
+    → get_or pages i 0 < length flags
+marked_in flags pages i h lt = flag_in flags (get_or pages i 0)
+    (h (get_or pages i 0) ∙ list_any_at (eqb (get_or pages i 0)) pages i 0 lt (eq-eqb _ _ refl))
 
 -- pages from i on are all that may still have a flag
 pub record Unmarks (flags : List Bool) (pages : List ℕ) (i : ℕ) : Type 0 where
@@ -24,28 +27,40 @@ pub record Unmarks (flags : List Bool) (pages : List ℕ) (i : ℕ) : Type 0 whe
 pub unmark_starts : (flags : List Bool) (pages : List ℕ) → IsMarked flags pages → Unmarks flags pages 0
 unmark_starts flags pages h = record { rest = λ q t. sym (h q) ∙ t }
 
-pub unmark_more : (flags : List Bool) (pages : List ℕ) (i : ℕ) → Unmarks flags pages i → i < length pages → get_or pages i 0 < length flags → Unmarks (set flags (get_or pages i 0) false) pages (i + 1)
+pub unmark_more : (flags : List Bool) (pages : List ℕ) (i : ℕ) → Unmarks flags pages i → i < length pages
+    → get_or pages i 0 < length flags → Unmarks (set flags (get_or pages i 0) false) pages (i + 1)
 unmark_more flags pages i h lt in_flags =
     let p : ℕ = get_or pages i 0 in
     record {
       rest = λ q t. elim (eqb_tells q (get_or pages i 0)) as (λ _. list_any (eqb q) (drop (i + 1) pages) ≡ true) [
-        | inl s ↦ absurd (not_both _ t (ap (λ (k : ℕ). get_or (set flags (get_or pages i 0) false) k false) s.1 ∙ get_or-set_same flags (get_or pages i 0) false false in_flags))
+        | inl s ↦ absurd
+            (not_both _ t
+            (ap (λ (k : ℕ). get_or (set flags (get_or pages i 0) false) k false) s.1
+            ∙ get_or-set_same flags (get_or pages i 0) false false in_flags))
         | inr d ↦
-            let still : list_any (eqb q) (drop i pages) ≡ true = h.rest q (sym (get_or-set_other flags (get_or pages i 0) q false false d.1) ∙ t) in
-            let split : list_any (eqb q) (drop i pages) ≡ (eqb q (get_or pages i 0) || list_any (eqb q) (drop (i + 1) pages)) = ap (λ (xs : List ℕ). list_any (eqb q) xs) (drop_more pages i 0 lt) in
-            let no : (eqb q (get_or pages i 0) || list_any (eqb q) (drop (i + 1) pages)) ≡ list_any (eqb q) (drop (i + 1) pages) = ap (λ (k : Bool). k || list_any (eqb q) (drop (i + 1) pages)) d.0 in
+            let still : list_any (eqb q) (drop i pages)
+            ≡ true = h.rest q (sym (get_or-set_other flags (get_or pages i 0) q false false d.1) ∙ t) in
+            let split : list_any (eqb q) (drop i pages)
+            ≡ (eqb q (get_or pages i 0) || list_any (eqb q) (drop (i + 1) pages)) = ap
+            (λ (xs : List ℕ). list_any (eqb q) xs) (drop_more pages i 0 lt) in
+            let no : (eqb q (get_or pages i 0) || list_any (eqb q) (drop (i + 1) pages))
+            ≡ list_any (eqb q) (drop (i + 1) pages) = ap
+            (λ (k : Bool). k || list_any (eqb q) (drop (i + 1) pages)) d.0 in
             sym (split ∙ no) ∙ still
       ];
     }
 
-pub unmark_ends : (flags : List Bool) (pages : List ℕ) (i : ℕ) → Unmarks flags pages i → length pages ≤ i → IsMarked flags []
+pub unmark_ends : (flags : List Bool) (pages : List ℕ) (i : ℕ) → Unmarks flags pages i → length pages ≤ i
+    → IsMarked flags []
 unmark_ends flags pages i h le p =
     let none : drop i pages ≡ [] = drop_of_length-le pages le in
     false_if _ (λ t. not_both _ (h.rest p t) (ap (λ (xs : List ℕ). list_any (eqb p) xs) none))
 
-pub marked_push : (flags : List Bool) (pages : List ℕ) (p : ℕ) → IsMarked flags pages → p < length flags → IsMarked (set flags p true) (pages ++ p ∷ [])
+pub marked_push : (flags : List Bool) (pages : List ℕ) (p : ℕ) → IsMarked flags pages → p < length flags
+    → IsMarked (set flags p true) (pages ++ p ∷ [])
 marked_push flags pages p h lt q =
-    let split : keeps (pages ++ p ∷ []) q ≡ (keeps pages q || (eqb q p || false)) = list_any-append (eqb q) pages (p ∷ []) in
+    let split : keeps (pages ++ p ∷ []) q ≡ (keeps pages q || (eqb q p || false)) = list_any-append (eqb q) pages
+    (p ∷ []) in
     elim (eqb_tells q p) as (λ _. get_or (set flags p true) q false ≡ keeps (pages ++ p ∷ []) q) [
       | inl s ↦ ap (λ (k : ℕ). get_or (set flags p true) k false) s.1 ∙ get_or-set_same flags p true false lt
           ∙ sym (split ∙ ap (λ (k : Bool). keeps pages q || (k || false)) s.0 ∙ or_true (keeps pages q))

@@ -1,5 +1,6 @@
 -- The pages of a store: page p has the cells 64p to 64p + 63, as far as the store goes.
-use Rattle.std.specs.Prelude.{◌≡◌, ℕ, ◌-◌, ◌*◌, ◌<◌, min, Bool, false, eqb, List, [], ◌∷◌, ◌++◌, length, slice_index_or, if◌then◌else◌}
+use Rattle.std.specs.Prelude.{◌≡◌, ℕ, ◌-◌, ◌*◌, ◌<◌, min, Bool, false, eqb, List, [], ◌∷◌, ◌++◌, length}
+use Rattle.std.specs.Prelude.{slice_index_or, if◌then◌else◌}
 use Rattle.std.specs.List.{All, IsDistinct, flat_map, list_any, range_with_len, zip}
 use Rattle.journal.specs.Swap.{Fits}
 
@@ -37,7 +38,8 @@ pub record IsPaged (n : ℕ) (pages values : List ℕ) : Type 0 where
 abbrev pub IsMarked : List Bool → List ℕ → Type 0
 IsMarked flags pages = (p : ℕ) → slice_index_or flags p false ≡ keeps pages p
 
--- what a turn holds: distinct pages with a value for each cell, each value within its cell's bound, and flags that tell which pages these are
+-- what a turn holds: distinct pages with a value for each cell, each value within its cell's bound, and flags that
+-- tell which pages these are
 pub record IsHeld (n : ℕ) (bounds : ℕ → ℕ) (flags : List Bool) (pages values : List ℕ) : Type 0 where
   pub paged : IsPaged n pages values
   pub fits : Fits n bounds (entries_of n pages values)

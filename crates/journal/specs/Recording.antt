@@ -14,4 +14,6 @@ IsNothingKept {C} r = r.kept ≡ []
 
 -- a recording as a pair of pairs, which std's codes are made of
 abbrev pub recording_code : {C : Type 0} → Coded C → Coded (Recording C)
-recording_code {C} code = code_by (C × (List ℕ × List ℕ)) (coded× code (coded× (coded_list coded_ℕ) (coded_list coded_ℕ))) (λ r. (r.store, (r.beginning, r.kept))) (λ p. record { store = p.0; beginning = p.1.0; kept = p.1.1 }) (λ _. refl)
+recording_code {C} code = code_by (C × (List ℕ × List ℕ))
+    (coded× code (coded× (coded_list coded_ℕ) (coded_list coded_ℕ))) (λ r. (r.store, (r.beginning, r.kept)))
+    (λ p. record { store = p.0; beginning = p.1.0; kept = p.1.1 }) (λ _. refl)

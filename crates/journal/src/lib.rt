@@ -7,5 +7,5 @@ mod record;
 mod recorded;
 
 pub use cells::Cells;
-pub use record::{Record, swap_back, swap_forward};
+pub use record::{PAGE, Record, swap_back, swap_forward};
 pub use recorded::{NoMemory, Recorded};

@@ -9,7 +9,7 @@ use crate::cells::Cells;
 use std::marker::Model;
 
 /// How many cells a whole page has. Page n of a store is its cells 64n to 64n + 63, as far as they exist.
-pub(crate) const PAGE: usize = 64;
+pub const PAGE: usize = 64;
 
 /// What a turn overwrote: whole pages of a store, as they were when the turn began.
 /// `swap_back` takes the turn back, and `swap_forward` then does it again.

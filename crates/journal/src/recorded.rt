@@ -112,9 +112,46 @@ impl<C: Cells> Recorded<C> {
         Ok(())
     }
 
-    /// Whether the turn keeps a page.
-    #[inline]
-    fn is_kept(&self, page: usize) -> bool
+    /// Writes a value, which is within the cell's bound, into a cell if the turn keeps the cell's page, and says whether
+    /// it does. It takes no memory and keeps no page: where it answers `false`, nothing has changed.
+    #[inline(always)]
+    pub fn put_kept(&mut self, cell: usize, value: u16) -> bool
+        requires cell { cell < length (C.cells self.old.store) }
+        requires within { value ≤ C.bounds self.old.store cell }
+        ensures sure { result ≡ keeps self.old.kept (cell / 64) }
+        ensures same { result ≡ false → self.new ≡ self.old }
+        ensures cells { result ≡ true → C.cells self.new.store ≡ slice_set (C.cells self.old.store) cell value }
+        ensures kept { self.new.kept ≡ self.old.kept }
+        ensures beginning { self.new.beginning ≡ self.old.beginning }
+        ensures bounds { C.bounds self.new.store ≡ C.bounds self.old.store }
+        ensures fixed { C.fixed self.new.store ≡ C.fixed self.old.store }
+    {
+        if !self.is_kept(cell / PAGE) {
+            return false;
+        }
+        self.overwrite(cell, value);
+        true
+    }
+
+    /// Writes a value, which is within the cell's bound, into a cell of a page that the turn keeps. It takes no memory.
+    #[inline(always)]
+    pub fn overwrite(&mut self, cell: usize, value: u16)
+        requires cell { cell < length (C.cells self.old.store) }
+        requires within { value ≤ C.bounds self.old.store cell }
+        requires kept { keeps self.old.kept (cell / 64) ≡ true }
+        ensures cells { C.cells self.new.store ≡ slice_set (C.cells self.old.store) cell value }
+        ensures kept { self.new.kept ≡ self.old.kept }
+        ensures beginning { self.new.beginning ≡ self.old.beginning }
+        ensures bounds { C.bounds self.new.store ≡ C.bounds self.old.store }
+        ensures fixed { C.fixed self.new.store ≡ C.fixed self.old.store }
+    {
+        self.store.put(cell, value);
+    }
+
+    /// Whether the turn keeps a page: `put` then takes no memory there, and `put_kept` writes. Page n has the cells
+    /// from `PAGE` times n on.
+    #[inline(always)]
+    pub fn is_kept(&self, page: usize) -> bool
         ensures { result ≡ keeps self.now.kept page }
     {
         page < self.flags.len() && self.flags[page]

@@ -1,5 +1,6 @@
 -- What the first byte of a token says of it.
-use Rattle.std.proofs.Common.{◌≡◌, ℕ, ◌<◌, true, false, cond, eqb, ◌||◌, List, [], ◌∷◌, ◌++◌, length, get_or, refl, ap, ◌∙◌, arith}
+use Rattle.std.proofs.Common.{◌≡◌, ℕ, ◌<◌, true, false, cond, eqb, ◌||◌, List, [], ◌∷◌, ◌++◌, length, get_or, refl}
+use Rattle.std.proofs.Common.{ap, ◌∙◌, arith}
 use Rattle.std.proofs.lemmas.Bool.Decides.{nat_tests}
 use Rattle.lexer.specs.declared.bytes.Base.{Base}
 use Rattle.lexer.specs.declared.bytes.Base.TheVariants as bases
@@ -24,7 +25,9 @@ class_of (end p) = 0
 
 -- the class of the tokens that a byte begins
 pub class_at : ℕ → ℕ
-class_at b = cond (is_letter b) 1 (cond (is_digit b || eqb b 36) 2 (cond (eqb b 34) 3 (cond (eqb b 39) 4 (cond (is_divider b) 6 (cond (eqb b 33) 7 5)))))
+class_at b = cond (is_letter b) 1
+    (cond (is_digit b || eqb b 36) 2
+    (cond (eqb b 34) 3 (cond (eqb b 39) 4 (cond (is_divider b) 6 (cond (eqb b 33) 7 5)))))
 
 pub letter_class : (b : ℕ) → is_letter b ≡ true → class_at b ≡ 1
 unfolding class_at
@@ -47,13 +50,17 @@ quoted_class b e = rw e refl
 
 pub divider_class : (b : ℕ) → is_divider b ≡ true → class_at b ≡ 6
 unfolding class_at
-divider_class b e = let l : is_letter b ≡ false = grind (arith, nat_tests) in let n : (is_digit b || eqb b 36) ≡ false = grind (arith, nat_tests) in let t : eqb b 34 ≡ false = grind (arith, nat_tests) in let q : eqb b 39 ≡ false = grind (arith, nat_tests) in rw (l, n, t, q, e) refl
+divider_class b e = let l : is_letter b ≡ false = grind (arith, nat_tests) in
+    let n : (is_digit b || eqb b 36) ≡ false = grind (arith, nat_tests) in
+    let t : eqb b 34 ≡ false = grind (arith, nat_tests) in let q : eqb b 39 ≡ false = grind (arith, nat_tests) in
+    rw (l, n, t, q, e) refl
 
 pub comment_class : (b : ℕ) → b ≡ 33 → class_at b ≡ 7
 unfolding class_at
 comment_class b e = rw e refl
 
-pub sign_class : (b : ℕ) → is_letter b ≡ false → (is_digit b || eqb b 36) ≡ false → eqb b 34 ≡ false → eqb b 39 ≡ false → is_divider b ≡ false → eqb b 33 ≡ false → class_at b ≡ 5
+pub sign_class : (b : ℕ) → is_letter b ≡ false → (is_digit b || eqb b 36) ≡ false → eqb b 34 ≡ false
+    → eqb b 39 ≡ false → is_divider b ≡ false → eqb b 33 ≡ false → class_at b ≡ 5
 unfolding class_at
 sign_class b l n t q d c = rw (l, n, t, q, d, c) refl
 
@@ -100,7 +107,8 @@ sign_begins s.Percent = refl
 digit_begins : (b : ℕ) → is_digit_of bases.Decimal b ≡ true → (is_digit b || eqb b 36) ≡ true
 digit_begins b e = grind (arith, nat_tests)
 
-number_begins : (base : Base) (digits : List ℕ) (b : ℕ) (bs : List ℕ) → b ∷ bs ≡ prefix base ++ digits → 0 < length digits → Each (is_digit_of base) digits → (is_digit b || eqb b 36) ≡ true
+number_begins : (base : Base) (digits : List ℕ) (b : ℕ) (bs : List ℕ) → b ∷ bs ≡ prefix base ++ digits
+    → 0 < length digits → Each (is_digit_of base) digits → (is_digit b || eqb b 36) ≡ true
 number_begins bases.Decimal [] b bs e lt h = absurd (omega arith)
 number_begins bases.Decimal (d ∷ ds) b bs e lt h = rw (cons_is b d bs ds e) (digit_begins d h.0)
 number_begins bases.Hexadecimal digits b bs e lt h = rw (cons_is b 36 bs _ e) refl

@@ -1,5 +1,6 @@
 -- The longest token at the front of bytes is found by the class of its first byte.
-use Rattle.std.proofs.Common.{◌≡◌, ℕ, zero, suc, ◌<◌, ◌≤◌, Bool, true, false, cond, List, [], ◌∷◌, length, get_or, take, refl, ap, arith}
+use Rattle.std.proofs.Common.{◌≡◌, ℕ, zero, suc, ◌<◌, ◌≤◌, Bool, true, false, cond, List, [], ◌∷◌, length, get_or}
+use Rattle.std.proofs.Common.{take, refl, ap, arith}
 use Rattle.lexer.specs.Token.{Lexeme}
 use Rattle.lexer.specs.Bytes.{run, Each}
 use Rattle.lexer.specs.Spelling.{Spells}
@@ -48,7 +49,8 @@ unfolding run
 run_all p [] e = tt
 run_all p (b ∷ bs) e = go (p b) refl e (run_all p bs)
   where
-    go : (t : Bool) → p b ≡ t → cond t (suc (run p bs)) 0 ≡ suc (length bs) → (run p bs ≡ length bs → Each p bs) → Each p (b ∷ bs)
+    go : (t : Bool) → p b ≡ t → cond t (suc (run p bs)) 0 ≡ suc (length bs) → (run p bs ≡ length bs → Each p bs)
+        → Each p (b ∷ bs)
     go true h e more = (h, more (omega arith))
     go false h e more = absurd (omega arith)
 

@@ -32,16 +32,20 @@ token_prints (end p) bs h = tt
 abbrev Print : List SourceToken → Type 0
 Print ts = All HasPrintableText (map (λ (t : SourceToken). t.lexeme) ts)
 
-put_prints : (l : Lexeme) (s : List ℕ) (n : ℕ) (o : Outcome) → HasPrintableText l → IfOk o Print → IfOk (put (record { lexeme = l; text = s; end = n }) o) Print
+put_prints : (l : Lexeme) (s : List ℕ) (n : ℕ) (o : Outcome) → HasPrintableText l → IfOk o Print
+    → IfOk (put (record { lexeme = l; text = s; end = n }) o) Print
 put_prints l s n (Ok ts) h rest = All-cons HasPrintableText l (map (λ (t : SourceToken). t.lexeme) ts) h rest
 put_prints l s n (Err e) h rest = tt
 
 outcome_prints : {at line : ℕ} {bs : List ℕ} {o : Outcome} → Lexes at line bs o → IfOk o Print
-outcome_prints (at_end {at = at} {line = line}) = All-cons HasPrintableText (end (record { offset = at; line = line })) [] tt (All-nil HasPrintableText)
+outcome_prints (at_end {at = at} {line = line}) = All-cons HasPrintableText
+    (end (record { offset = at; line = line })) [] tt (All-nil HasPrintableText)
 outcome_prints (divider e h) = outcome_prints h
 outcome_prints (comment e h) = outcome_prints h
-outcome_prints (token {at = at} {n = n} {bs = bs} {lexeme = l} {o = o} place long good h) = put_prints l (take n bs) (at + n) o (token_prints l (take n bs) long.spelled) (outcome_prints h)
+outcome_prints (token {at = at} {n = n} {bs = bs} {lexeme = l} {o = o} place long good h) = put_prints l (take n bs)
+    (at + n) o (token_prints l (take n bs) long.spelled) (outcome_prints h)
 outcome_prints (fault g b) = tt
 
 pub printable_tokens : PrintableTokens
-printable_tokens source ts h = subst (λ (ls : List Lexeme). All HasPrintableText ls) (lexemes_are ts) (outcome_prints h)
+printable_tokens source ts h = subst (λ (ls : List Lexeme). All HasPrintableText ls) (lexemes_are ts)
+    (outcome_prints h)

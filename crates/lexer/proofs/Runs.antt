@@ -1,5 +1,6 @@
 -- Runs of bytes.
-use Rattle.std.proofs.Common.{◌≡◌, ℕ, zero, suc, ◌+◌, ◌*◌, ◌<◌, ◌≤◌, Bool, true, false, cond, List, [], ◌∷◌, length, get_or, drop, refl, arith, drop-cons, add-one}
+use Rattle.std.proofs.Common.{◌≡◌, ℕ, zero, suc, ◌+◌, ◌*◌, ◌<◌, ◌≤◌, Bool, true, false, cond, List, [], ◌∷◌, length}
+use Rattle.std.proofs.Common.{get_or, drop, refl, arith, drop-cons, add-one}
 use Rattle.lexer.specs.declared.bytes.Base.{Base}
 use Rattle.lexer.specs.declared.bytes.Base.TheVariants as bases
 use Rattle.lexer.specs.Bytes.{run, value_from, base_of, digit_value}
@@ -14,11 +15,13 @@ run_within p (b ∷ bs) = go (p b) (run_within p bs)
     go false le = omega arith
 
 -- one more byte of the run
-pub run_more : (p : ℕ → Bool) (bs : List ℕ) (n : ℕ) → n < length bs → p (get_or bs n 0) ≡ true → run p (drop n bs) ≡ suc (run p (drop (n + 1) bs))
+pub run_more : (p : ℕ → Bool) (bs : List ℕ) (n : ℕ) → n < length bs → p (get_or bs n 0) ≡ true
+    → run p (drop n bs) ≡ suc (run p (drop (n + 1) bs))
 unfolding run
 run_more p bs n lt e = rw (drop-cons bs n 0, e, add-one) refl
 
-pub run_stop : (p : ℕ → Bool) (bs : List ℕ) (n : ℕ) → n < length bs → p (get_or bs n 0) ≡ false → run p (drop n bs) ≡ 0
+pub run_stop : (p : ℕ → Bool) (bs : List ℕ) (n : ℕ) → n < length bs → p (get_or bs n 0) ≡ false
+    → run p (drop n bs) ≡ 0
 unfolding run
 run_stop p bs n lt e = rw (drop-cons bs n 0, e) refl
 
@@ -39,9 +42,12 @@ times bases.Binary n d = omega arith
 pub value_grows : (base : Base) (n : ℕ) (bs : List ℕ) → n ≤ value_from base n bs
 unfolding value_from
 value_grows base n [] = omega arith
-value_grows base n (b ∷ bs) = omega (arith, times base n (digit_value b), value_grows base (base_of base * n + digit_value b) bs)
+value_grows base n (b ∷ bs) = omega
+    (arith, times base n (digit_value b), value_grows base (base_of base * n + digit_value b) bs)
 
-pub value_more : (base : Base) (n : ℕ) (bs : List ℕ) (i : ℕ) → i < length bs → value_from base n (drop i bs) ≡ value_from base (base_of base * n + digit_value (get_or bs i 0)) (drop (i + 1) bs)
+pub value_more : (base : Base) (n : ℕ) (bs : List ℕ) (i : ℕ) → i < length bs
+    → value_from base n (drop i bs) ≡ value_from base (base_of base * n + digit_value (get_or bs i 0))
+    (drop (i + 1) bs)
 unfolding value_from
 value_more base n bs i lt = rw (drop-cons bs i 0, add-one) refl
 

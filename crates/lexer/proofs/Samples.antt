@@ -6,7 +6,8 @@ use Rattle.lexer.specs.declared.bytes.Base.TheVariants as bases
 use Rattle.lexer.specs.declared.token.Position.{Position}
 use Rattle.lexer.specs.declared.token.Sign.TheVariants as s
 use Rattle.lexer.specs.declared.token.Word.TheVariants as w
-use Rattle.lexer.specs.Bytes.{is_source_byte, is_letter, is_name_byte, is_text_byte, is_word_byte, is_character, is_comment_byte, is_digit_of, value_from, run}
+use Rattle.lexer.specs.Bytes.{is_source_byte, is_letter, is_name_byte, is_text_byte, is_word_byte, is_character}
+use Rattle.lexer.specs.Bytes.{is_comment_byte, is_digit_of, value_from, run}
 use Rattle.lexer.specs.Token.{text, end}
 use Rattle.lexer.specs.Spelling.{sign_spelling, IsReserved}
 use Rattle.lexer.specs.Tokens.{Lexes, at_end, divider, comment}
@@ -55,11 +56,13 @@ capitals : IsReserved w.PrintRet (codes "PRINT_Ret")
 capitals = refl
 
 -- a line feed begins a line, and a carriage return none
-last_line : Lexes 0 1 (13 ∷ 10 ∷ []) (Ok (record { lexeme = end (record { offset = 2; line = 2 }); text = []; end = 2 } ∷ []))
+last_line : Lexes 0 1 (13 ∷ 10 ∷ [])
+    (Ok (record { lexeme = end (record { offset = 2; line = 2 }); text = []; end = 2 } ∷ []))
 last_line = divider refl (divider refl at_end)
 
 -- a carriage return does not end a comment
-long_comment : Lexes 0 1 (codes "!a" ++ 13 ∷ codes "b") (Ok (record { lexeme = end (record { offset = 4; line = 1 }); text = []; end = 4 } ∷ []))
+long_comment : Lexes 0 1 (codes "!a" ++ 13 ∷ codes "b")
+    (Ok (record { lexeme = end (record { offset = 4; line = 1 }); text = []; end = 4 } ∷ []))
 unfolding run
 long_comment = comment refl at_end
 

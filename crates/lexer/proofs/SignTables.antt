@@ -1,5 +1,6 @@
 -- What holds of each sign.
-use Rattle.std.proofs.Common.{◌≡◌, ℕ, ◌<◌, cond, List, [], ◌∷◌, length, get_or, Option, Some, None, refl, sym, ◌⊎◌, inl, inr, ap, ◌∙◌, arith}
+use Rattle.std.proofs.Common.{◌≡◌, ℕ, ◌<◌, cond, List, [], ◌∷◌, length, get_or, Option, Some, None, refl, sym, ◌⊎◌}
+use Rattle.std.proofs.Common.{inl, inr, ap, ◌∙◌, arith}
 use Rattle.std.specs.Str.{bytes_eq}
 use Rattle.lexer.specs.declared.token.Sign.{Sign}
 use Rattle.lexer.specs.declared.token.Sign.TheVariants as s
@@ -10,7 +11,10 @@ find_sign [] bs = None
 find_sign (x ∷ xs) bs = cond (bytes_eq (sign_spelling x) bs) (Some x) (find_sign xs bs)
 
 abbrev all_signs : List Sign
-all_signs = s.OpenParenthesis ∷ s.CloseParenthesis ∷ s.OpenBrace ∷ s.CloseBrace ∷ s.OpenBracket ∷ s.CloseBracket ∷ s.Semicolon ∷ s.Comma ∷ s.Colon ∷ s.Dot ∷ s.DotAmpersand ∷ s.DotHash ∷ s.Assign ∷ s.Equal ∷ s.NotEqual ∷ s.Not ∷ s.Tilde ∷ s.Greater ∷ s.GreaterOrEqual ∷ s.Less ∷ s.LessOrEqual ∷ s.AndAlso ∷ s.Ampersand ∷ s.OrElse ∷ s.Bar ∷ s.Plus ∷ s.Increment ∷ s.Minus ∷ s.Decrement ∷ s.Arrow ∷ s.LongArrow ∷ s.Star ∷ s.Slash ∷ s.Percent ∷ []
+all_signs = s.OpenParenthesis ∷ s.CloseParenthesis ∷ s.OpenBrace ∷ s.CloseBrace ∷ s.OpenBracket ∷ s.CloseBracket
+    ∷ s.Semicolon ∷ s.Comma ∷ s.Colon ∷ s.Dot ∷ s.DotAmpersand ∷ s.DotHash ∷ s.Assign ∷ s.Equal ∷ s.NotEqual ∷ s.Not
+    ∷ s.Tilde ∷ s.Greater ∷ s.GreaterOrEqual ∷ s.Less ∷ s.LessOrEqual ∷ s.AndAlso ∷ s.Ampersand ∷ s.OrElse ∷ s.Bar
+    ∷ s.Plus ∷ s.Increment ∷ s.Minus ∷ s.Decrement ∷ s.Arrow ∷ s.LongArrow ∷ s.Star ∷ s.Slash ∷ s.Percent ∷ []
 
 sign_from : List ℕ → Option Sign
 sign_from bs = find_sign all_signs bs

@@ -1,5 +1,6 @@
 -- Reserved words, found among the words of a length.
-use Rattle.std.proofs.Common.{◌≡◌, ℕ, zero, suc, ◌<◌, Bool, false, List, [], ◌∷◌, length, get_or, sym, refl, ◌∙◌, ap, arith}
+use Rattle.std.proofs.Common.{◌≡◌, ℕ, zero, suc, ◌<◌, Bool, false, List, [], ◌∷◌, length, get_or, sym, refl, ◌∙◌, ap}
+use Rattle.std.proofs.Common.{arith}
 use Rattle.std.specs.Char.{to_ascii_lowercase}
 use Rattle.std.specs.List.{Contains}
 use Rattle.std.specs.Str.{str_eq_ignore_ascii_case}
@@ -17,11 +18,17 @@ any_default (w ∷ ws) zero d e lt = refl
 any_default (w ∷ ws) (suc k) d e lt = any_default ws k d e (omega arith)
 
 -- the word at a place is not spelled
-pub tested : (text : List ℕ) (ws : List Word) (i k : ℕ) (d e : Word) (r : Bool) → i < length ws → r ≡ str_eq_ignore_ascii_case text (word_spelling (get_or ws i e)) → r ≡ false → k ≡ i → str_eq_ignore_ascii_case text (word_spelling (get_or ws k d)) ≡ false
-tested text ws i k d e r lt h f q = ap (λ j. str_eq_ignore_ascii_case text (word_spelling (get_or ws j d))) q ∙ ap (λ w. str_eq_ignore_ascii_case text (word_spelling w)) (any_default ws i d e lt) ∙ sym h ∙ f
+pub tested : (text : List ℕ) (ws : List Word) (i k : ℕ) (d e : Word) (r : Bool) → i < length ws
+    → r ≡ str_eq_ignore_ascii_case text (word_spelling (get_or ws i e)) → r ≡ false → k ≡ i
+    → str_eq_ignore_ascii_case text (word_spelling (get_or ws k d)) ≡ false
+tested text ws i k d e r lt h f q = ap (λ j. str_eq_ignore_ascii_case text (word_spelling (get_or ws j d))) q
+    ∙ ap (λ w. str_eq_ignore_ascii_case text (word_spelling w)) (any_default ws i d e lt) ∙ sym h ∙ f
 
 -- none of the words of the text's length is spelled
-pub none_spelled : (text : List ℕ) (ws : List Word) → ((w : Word) → length (word_spelling w) ≡ length text → Contains ws w) → ((k : ℕ) (d : Word) → k < length ws → str_eq_ignore_ascii_case text (word_spelling (get_or ws k d)) ≡ false) → (w : Word) → IsReserved w text → ⊥
+pub none_spelled : (text : List ℕ) (ws : List Word)
+    → ((w : Word) → length (word_spelling w) ≡ length text → Contains ws w)
+    → ((k : ℕ) (d : Word) → k < length ws → str_eq_ignore_ascii_case text (word_spelling (get_or ws k d)) ≡ false)
+    → (w : Word) → IsReserved w text → ⊥
 none_spelled text ws all none w r =
     let at = all w (reserved_length w text r) in
     spelled_false text w (ap (λ x. str_eq_ignore_ascii_case text (word_spelling x)) (sym at.2) ∙ none at.0 w at.1) r

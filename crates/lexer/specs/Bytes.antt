@@ -1,5 +1,6 @@
 -- Classes of bytes, and runs of bytes of a class.
-use Rattle.std.specs.Prelude.{◌≡◌, ◌==◌, ◌&&◌, ◌||◌, ◌+◌, ◌-◌, ◌*◌, not, ℕ, suc, nat_le, nat_lt, Bool, true, if◌then◌else◌, List, [], ◌∷◌}
+use Rattle.std.specs.Prelude.{◌≡◌, ◌==◌, ◌&&◌, ◌||◌, ◌+◌, ◌-◌, ◌*◌, not, ℕ, suc, nat_le, nat_lt, Bool, true}
+use Rattle.std.specs.Prelude.{if◌then◌else◌, List, [], ◌∷◌}
 use Rattle.lexer.specs.declared.bytes.Base.{Base}
 use Rattle.lexer.specs.declared.bytes.Base.TheVariants as bases
 use Rattle.lexer.specs.declared.bytes.Class.{Class}

@@ -1,5 +1,6 @@
 -- Words of proofs: what the parts of a scan find at the front of bytes.
-use Rattle.std.specs.Prelude.{◌≡◌, ◌==◌, ◌≤◌, ℕ, Bool, true, false, if◌then◌else◌, List, length, take, drop, Result, Ok, Err}
+use Rattle.std.specs.Prelude.{◌≡◌, ◌==◌, ◌≤◌, ℕ, Bool, true, false, if◌then◌else◌, List, length, take, drop, Result}
+use Rattle.std.specs.Prelude.{Ok, Err}
 use Rattle.lexer.specs.declared.bytes.Base.{Base}
 use Rattle.lexer.specs.declared.bytes.Base.TheVariants as bases
 use Rattle.lexer.specs.declared.fault.LexicalFault.{LexicalFault}
@@ -61,4 +62,5 @@ HasNoSign bs = (s : Sign) (n : ℕ) → take n bs ≡ sign_spelling s → ⊥
 pub record IsLongestSign (s : Sign) (bs : List ℕ) : Type 0 where
   pub within : length (sign_spelling s) ≤ length bs
   pub spelled : take (length (sign_spelling s)) bs ≡ sign_spelling s
-  pub no_longer : (other : Sign) (n : ℕ) → take n bs ≡ sign_spelling other → n ≤ length bs → n ≤ length (sign_spelling s)
+  pub no_longer : (other : Sign) (n : ℕ) → take n bs ≡ sign_spelling other → n ≤ length bs
+      → n ≤ length (sign_spelling s)

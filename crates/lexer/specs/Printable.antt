@@ -16,4 +16,5 @@ HasPrintableText _ = Unit {0}
 
 -- the texts of the tokens that a source has print
 abbrev pub PrintableTokens : Type 0
-PrintableTokens = (source : List ℕ) (ts : List Token) → Lexes 0 1 source (Ok (source_tokens ts)) → All HasPrintableText (lexemes ts)
+PrintableTokens = (source : List ℕ) (ts : List Token) → Lexes 0 1 source (Ok (source_tokens ts))
+    → All HasPrintableText (lexemes ts)

@@ -8,7 +8,8 @@ use Rattle.lexer.specs.declared.token.Sign.{Sign}
 use Rattle.lexer.specs.declared.token.Sign.TheVariants as s
 use Rattle.lexer.specs.declared.token.Word.{Word}
 use Rattle.lexer.specs.declared.token.Word.TheVariants as w
-use Rattle.lexer.specs.Bytes.{is_letter, is_name_byte, is_text_byte, is_word_byte, is_character, is_digit_of, value_from, Each}
+use Rattle.lexer.specs.Bytes.{is_letter, is_name_byte, is_text_byte, is_word_byte, is_character, is_digit_of}
+use Rattle.lexer.specs.Bytes.{value_from, Each}
 use Rattle.lexer.specs.Token.{Lexeme, name, number, text, character, dictionary_word, reserved, sign, end}
 
 abbrev pub sign_spelling : Sign → List ℕ
@@ -112,7 +113,8 @@ prefix bases.Binary = codes "$$"
 
 -- the digits of a base, at least one, after its prefix
 abbrev pub IsNumber : ℕ → List ℕ → Type 0
-IsNumber v bs = (base : Base) × (digits : List ℕ) × (bs ≡ prefix base ++ digits) × (0 < length digits) × Each (is_digit_of base) digits × (v ≡ value_from base 0 digits)
+IsNumber v bs = (base : Base) × (digits : List ℕ) × (bs ≡ prefix base ++ digits) × (0 < length digits)
+    × Each (is_digit_of base) digits × (v ≡ value_from base 0 digits)
 
 -- a character, alone between quotes
 abbrev pub IsCharacter : ℕ → List ℕ → Type 0
@@ -120,7 +122,8 @@ IsCharacter c content = (is_character c ≡ true) × (content ≡ c ∷ [])
 
 -- at least one byte, and no two slashes in a row
 abbrev pub IsPlainWord : List ℕ → Type 0
-IsPlainWord s = (0 < length s) × Each is_word_byte s × ((i : ℕ) → slice_index s i ≡ 47 → slice_index s (i + 1) ≡ 47 → ⊥)
+IsPlainWord s = (0 < length s) × Each is_word_byte s
+    × ((i : ℕ) → slice_index s i ≡ 47 → slice_index s (i + 1) ≡ 47 → ⊥)
 
 -- a dictionary word between quotes: two bytes or more, the last two of which are dropped where they are `//`
 abbrev pub IsDictionaryWord : List ℕ → List ℕ → Type 0

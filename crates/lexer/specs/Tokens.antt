@@ -1,5 +1,6 @@
 -- The tokens of a source, or its first fault.
-use Rattle.std.specs.Prelude.{◌≡◌, ◌==◌, ◌≤◌, ◌<◌, ◌+◌, ℕ, true, false, if◌then◌else◌, List, [], ◌∷◌, length, take, drop, slice_index, Result, Ok, Err, ◌⊎◌}
+use Rattle.std.specs.Prelude.{◌≡◌, ◌==◌, ◌≤◌, ◌<◌, ◌+◌, ℕ, true, false, if◌then◌else◌, List, [], ◌∷◌, length, take}
+use Rattle.std.specs.Prelude.{drop, slice_index, Result, Ok, Err, ◌⊎◌}
 use Rattle.lexer.specs.declared.fault.LexicalFault.{LexicalFault}
 use Rattle.lexer.specs.declared.fault.LexicalFault.TheVariants as f
 use Rattle.lexer.specs.declared.fault.SourceFault.{SourceFault}
@@ -28,14 +29,16 @@ HasNoToken bs = (lexeme : Lexeme) (n : ℕ) → Spells lexeme (take n bs) → �
 abbrev pub Breaks : LexicalFault → List ℕ → Type 0
 -- a byte that begins no token and no comment, and divides none
 Breaks f.StrayByte [] = ⊥
-Breaks f.StrayByte (b ∷ bs) = (is_divider b ≡ false) × ((b == 33) ≡ false) × ((lexeme : Lexeme) (more : List ℕ) → Spells lexeme (b ∷ more) → ⊥)
+Breaks f.StrayByte (b ∷ bs) = (is_divider b ≡ false) × ((b == 33) ≡ false)
+    × ((lexeme : Lexeme) (more : List ℕ) → Spells lexeme (b ∷ more) → ⊥)
 -- a quote that begins no token here
 Breaks f.BadText [] = ⊥
 Breaks f.BadText (b ∷ bs) = ((b ≡ 34) ⊎ (b ≡ 39)) × HasNoToken (b ∷ bs)
 -- `$` that begins no number here, or a longest token that is too great a number or goes on with a byte of names
 Breaks f.BadNumber bs =
     ((slice_index bs 0 ≡ 36) × HasNoToken bs)
-    ⊎ ((v n : ℕ) × (p : Position) × IsLongest bs (number v p) n × ((65535 < v) ⊎ (is_name_byte (slice_index (drop n bs) 0) ≡ true)))
+    ⊎ ((v n : ℕ) × (p : Position) × IsLongest bs (number v p) n
+    × ((65535 < v) ⊎ (is_name_byte (slice_index (drop n bs) 0) ≡ true)))
 -- a longest token that is a name of more than 32 bytes
 Breaks f.NameTooLong bs = (s : List ℕ) × (n : ℕ) × (p : Position) × IsLongest bs (name s p) n × (32 < length s)
 
@@ -64,13 +67,19 @@ line_after line b = if b == 10 then line + 1 else line
 -- What the bytes from an offset on are, in a line: their tokens and the end of the source, or the first fault.
 -- A comment ends before a line feed, before a byte that may stand in no source, or with the source.
 pub data Lexes : ℕ → ℕ → List ℕ → Outcome → Type 0 where
-  at_end : {at line : ℕ} → Lexes at line [] (Ok (record { lexeme = end (record { offset = at; line = line }); text = []; end = at } ∷ []))
-  divider : {at line b : ℕ} {bs : List ℕ} {o : Outcome} → is_divider b ≡ true → Lexes (at + 1) (line_after line b) bs o → Lexes at line (b ∷ bs) o
-  comment : {at line b : ℕ} {bs : List ℕ} {o : Outcome} → b ≡ 33 → Lexes (at + 1 + run is_comment_byte bs) line (drop (run is_comment_byte bs) bs) o → Lexes at line (b ∷ bs) o
-  token : {at line n : ℕ} {bs : List ℕ} {lexeme : Lexeme} {o : Outcome} → position_of lexeme ≡ record { offset = at; line = line }
+  at_end : {at line : ℕ}
+      → Lexes at line []
+      (Ok (record { lexeme = end (record { offset = at; line = line }); text = []; end = at } ∷ []))
+  divider : {at line b : ℕ} {bs : List ℕ} {o : Outcome} → is_divider b ≡ true
+      → Lexes (at + 1) (line_after line b) bs o → Lexes at line (b ∷ bs) o
+  comment : {at line b : ℕ} {bs : List ℕ} {o : Outcome} → b ≡ 33
+      → Lexes (at + 1 + run is_comment_byte bs) line (drop (run is_comment_byte bs) bs) o → Lexes at line (b ∷ bs) o
+  token : {at line n : ℕ} {bs : List ℕ} {lexeme : Lexeme} {o : Outcome}
+      → position_of lexeme ≡ record { offset = at; line = line }
       → IsLongest bs lexeme n → IsAllowed lexeme (drop n bs) → Lexes (at + n) line (drop n bs) o
       → Lexes at line bs (put (record { lexeme = lexeme; text = take n bs; end = at + n }) o)
-  fault : {at line : ℕ} {bs : List ℕ} (broken : LexicalFault) → Breaks broken bs → Lexes at line bs (Err (record { number = number_of broken; line = line }))
+  fault : {at line : ℕ} {bs : List ℕ} (broken : LexicalFault) → Breaks broken bs
+      → Lexes at line bs (Err (record { number = number_of broken; line = line }))
 
 -- the last token is the end of the source, and no other is
 abbrev pub EndsOnce : List Lexeme → Type 0

@@ -5,3 +5,6 @@ pub mod Stepping
 pub mod Waiting
 pub mod Turning
 pub mod Loading
+pub mod Gliding
+pub mod Reading
+pub mod Variable

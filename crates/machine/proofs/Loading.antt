@@ -1,7 +1,7 @@
 -- The store of a story that was loaded.
 use Rattle.std.proofs.Common.{◌≡◌, ℕ, List, [], ap, sym, subst, Ok}
 use Rattle.zcore.specs.declared.header.Header.{Header}
-use Rattle.zcore.specs.Header.{Reads, IsHeaderOf}
+use Rattle.zcore.specs.Header.{Reads}
 use Rattle.zcore.specs.State.{State}
 use Rattle.zcore.specs.Turn.{first_state}
 use Rattle.frames.specs.Contents.{Contents, memory_of}
@@ -9,21 +9,28 @@ use Rattle.machine.specs.Loaded.{IsLoaded}
 use Rattle.frames.specs.States.{state_of, IsSound, IsHeadedBy}
 use Rattle.machine.specs.declared.turn.Machine.{Machine}
 
-headed_by : (story : List ℕ) (header : Header) → IsHeaderOf story header → IsHeadedBy header story
+headed_by : (story : List ℕ) (header : Header) → Reads story (Ok header) → IsHeadedBy header story
 headed_by story header h = record {
-  version = h.version;
-  static_base = h.static_base;
-  globals = h.globals;
-  defaults = h.defaults;
-  abbreviations = h.abbreviations;
-  dictionary = h.dictionary.address;
+  version = h.5.version;
+  static_base = h.5.static_base;
+  globals = h.5.globals;
+  defaults = h.5.defaults;
+  abbreviations = h.5.abbreviations;
+  dictionary = h.5.dictionary.address;
+  behind = h.3.dictionary;
+  searchable = h.4;
 }
 
-pub loaded : (story : List ℕ) (machine : Machine) (s : Contents) → Reads story (Ok machine.header) → IsSound s → state_of s [] ≡ first_state story → IsLoaded story machine s
+pub loaded : (story : List ℕ) (machine : Machine) (s : Contents) → Reads story (Ok machine.header) → IsSound s
+    → state_of s [] ≡ first_state story → IsLoaded story machine s
 loaded story machine s h sound e =
     let memory : memory_of s ≡ story = ap (λ (t : State). t.memory) e in
     record {
       header = h;
-      store = record { sound = sound; headed = subst (IsHeadedBy machine.header) (sym memory) (headed_by story machine.header h.5) };
+      store = record {
+        sound = sound;
+        headed = subst (IsHeadedBy machine.header) (sym memory)
+            (headed_by story machine.header h);
+      };
       state = e;
     }

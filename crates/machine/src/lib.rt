@@ -2,10 +2,14 @@
 #![tactic(auto)]
 
 mod decode;
+mod glide;
 mod load;
 mod perform;
+mod quick;
+mod quick_variable;
 mod step;
 mod turn;
+mod typed;
 
 pub use frames::Store;
 pub use load::LoadFault;

@@ -3,3 +3,9 @@ pub mod SignedWords
 pub mod Transcripts
 pub mod Operating
 pub mod Targets
+pub mod OnRegisters
+pub mod VariablesOnRegisters
+pub mod Naming
+pub mod Linking
+pub mod Listing
+pub mod Values

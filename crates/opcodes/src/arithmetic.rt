@@ -2,7 +2,7 @@
 
 ghost use Rattle.std.specs.Prelude.{◌≡◌, ◌≤◌, ℕ, MatchOption};
 ghost use Rattle.zcore.specs.Arithmetic.{magnitude, quotient, remainder, signed_less};
-ghost use Rattle.zcore.specs.Step.{equals_any, give_result, divide, modulo};
+ghost use Rattle.zcore.specs.Execution.{equals_any, give_result, divide, modulo};
 ghost use Rattle.frames.specs.States.{IsStoreOf};
 ghost use Rattle.frames.specs.Went.{Went};
 
@@ -103,7 +103,7 @@ pub fn modulo(
 }
 
 /// How far a signed word lies from 0.
-#[inline]
+#[inline(always)]
 pub(crate) fn magnitude(word: u16) -> u16
     ensures { result ≡ magnitude word }
 {
@@ -115,8 +115,8 @@ pub(crate) fn magnitude(word: u16) -> u16
 }
 
 /// The quotient of signed words, rounded towards zero; none by zero.
-#[inline]
-fn quotient(x: u16, y: u16) -> Option<u16>
+#[inline(always)]
+pub(crate) fn quotient(x: u16, y: u16) -> Option<u16>
     ensures { MatchOption result (y ≡ 0) (λ word. (1 ≤ y) × (word ≡ quotient x y)) }
 {
     if y == 0 {
@@ -131,8 +131,8 @@ fn quotient(x: u16, y: u16) -> Option<u16>
 }
 
 /// The remainder of signed words, with the sign of the dividend; none by zero.
-#[inline]
-fn remainder(x: u16, y: u16) -> Option<u16>
+#[inline(always)]
+pub(crate) fn remainder(x: u16, y: u16) -> Option<u16>
     ensures { MatchOption result (y ≡ 0) (λ word. (1 ≤ y) × (word ≡ remainder x y)) }
 {
     if y == 0 {

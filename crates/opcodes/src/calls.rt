@@ -3,7 +3,7 @@
 ghost use Rattle.std.specs.Prelude.{◌≡◌, ◌≤◌, ◌*◌, length};
 ghost use Rattle.zcore.specs.Header.{scale_of, longest_story};
 ghost use Rattle.zcore.specs.Parts.{call, give_back};
-ghost use Rattle.zcore.specs.Step.{call_packed, return_popped};
+ghost use Rattle.zcore.specs.Execution.{call_packed, return_popped};
 ghost use Rattle.frames.specs.States.{IsSound, IsStoreOf};
 ghost use Rattle.frames.specs.Went.{Went};
 

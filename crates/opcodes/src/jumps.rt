@@ -3,7 +3,7 @@
 ghost use Rattle.std.specs.Prelude.{◌≡◌, ◌≤◌};
 ghost use Rattle.zcore.specs.Header.{longest_story};
 ghost use Rattle.zcore.specs.Parts.{test_target, go, spend, jump_target, branch_target, take_branch, branch_on, test_taken, test_branch};
-ghost use Rattle.zcore.specs.Step.{jump, check_argument_count};
+ghost use Rattle.zcore.specs.Execution.{jump, check_argument_count};
 ghost use Rattle.opcodes.specs.Says.{Says};
 ghost use Rattle.frames.specs.States.{IsSound, IsStoreOf};
 ghost use Rattle.frames.specs.Went.{Went};
@@ -153,8 +153,8 @@ pub fn check_argument_count(
 }
 
 /// Where a jump goes: an offset counts from the address after the instruction, and 2 more. Below 0 is 0.
-#[inline]
-fn jump_target(after: u32, offset: u16) -> u32
+#[inline(always)]
+pub(crate) fn jump_target(after: u32, offset: u16) -> u32
     requires { after ≤ longest_story }
     ensures { result ≡ jump_target after offset }
 {
@@ -167,8 +167,8 @@ fn jump_target(after: u32, offset: u16) -> u32
 }
 
 /// Where a branch leads: an offset of 14 bits counts from the address after the branch, and 2 more. Below 0 is 0.
-#[inline]
-fn branch_target(after: u32, offset: u16) -> u32
+#[inline(always)]
+pub(crate) fn branch_target(after: u32, offset: u16) -> u32
     requires { after ≤ longest_story }
     ensures { result ≡ branch_target after offset }
 {

@@ -1,19 +1,19 @@
 //! Waiting for a line (Z-Machine Standards Document 1.1, section 15, `aread`).
 
-ghost use Rattle.zcore.specs.Step as steps;
+ghost use Rattle.zcore.specs.Execution as steps;
 ghost use Rattle.frames.specs.States.{IsStoreOf};
 ghost use Rattle.frames.specs.Went.{Went};
 
-use frames::{End, Store, test_result, test_text_buffer, wait};
+use frames::{End, Store, test_parse_buffer, test_result, test_text_buffer, wait};
 use journal::Recorded;
-use zcore::{Fault, Header, Next, Place};
+use zcore::{Header, Next};
 
 /// Waits for a line: `aread`.
 ///
 /// # Errors
 ///
-/// M1 with a parse buffer, M12 where the text buffer cannot take a line, then M6 and M4 of the result. `End::Memory`
-/// where memory was refused: the turn is given up.
+/// M12 where the text buffer cannot take a line or the parse buffer no words, then M6 and M4 of the result.
+/// `End::Memory` where memory was refused: the turn is given up.
 pub fn read(
     header: &Header,
     store: &mut Recorded<Store>,
@@ -26,10 +26,8 @@ pub fn read(
     requires { IsStoreOf header.now store.old.store }
     ensures { Went result store.old store.new (steps.read here after result_variable text_buffer parse_buffer) }
 {
-    if parse_buffer != 0 {
-        return Err(End::Stop(Place::Fault(Fault::Opcode)));
-    }
     test_text_buffer(header, store, text_buffer)?;
+    test_parse_buffer(header, store, parse_buffer)?;
     test_result(store, result_variable)?;
     wait(store, text_buffer, parse_buffer, result_variable, after)
 }

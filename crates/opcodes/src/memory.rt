@@ -1,7 +1,7 @@
 //! Reads and writes of arrays (Z-Machine Standards Document 1.1, section 15). An address is a sum of words.
 
 ghost use Rattle.std.specs.Prelude.{◌≡◌, ◌≤◌, ◌+◌, ◌*◌, ◌%◌};
-ghost use Rattle.zcore.specs.Step.{load_word, load_byte, store_word, store_byte};
+ghost use Rattle.zcore.specs.Execution.{load_word, load_byte, store_word, store_byte};
 ghost use Rattle.frames.specs.States.{IsStoreOf};
 ghost use Rattle.frames.specs.Went.{Went};
 
@@ -12,7 +12,7 @@ use zcore::{Header, Next};
 
 /// Where a word of an array stands.
 #[inline]
-fn word_address(array: u16, index: u16) -> usize
+pub(crate) fn word_address(array: u16, index: u16) -> usize
     ensures same { result ≡ (array + 2 * index) % 65536 }
     ensures within { result ≤ 65535 }
 {

@@ -2,7 +2,7 @@
 
 ghost use Rattle.std.specs.Prelude.{◌≡◌, ◌≤◌, ℕ, length, drop};
 ghost use Rattle.zcore.specs.Arithmetic.{signed_text};
-ghost use Rattle.zcore.specs.Step.{text_at, print_characters, print_inline, print_return, print_address, print_packed, is_output, print_character};
+ghost use Rattle.zcore.specs.Execution.{text_at, print_characters, print_inline, print_return, print_address, print_packed, is_output, print_character};
 ghost use Rattle.opcodes.specs.Seen.{seen};
 ghost use Rattle.opcodes.specs.Printed.{HasBegun, Grew};
 ghost use Rattle.frames.specs.States.{IsSound, IsStoreOf};
@@ -204,7 +204,11 @@ fn is_output(character: u16) -> bool
 }
 
 /// The text at an address, and the address after it. M3, M10.
-fn text_at(alloc: Global, store: &mut Recorded<Store>, address: u32) -> Result<(Vec<u8>, u32), End>
+pub(crate) fn text_at(
+    alloc: Global,
+    store: &mut Recorded<Store>,
+    address: u32,
+) -> Result<(Vec<u8>, u32), End>
     requires { IsSound store.old.store }
     ensures { Went (seen (λ x. (x.0.items, x.1)) result) store.old store.new (text_at address) }
 {

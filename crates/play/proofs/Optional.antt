@@ -1,5 +1,6 @@
 -- What a caller reads of an argument that may be left out, after a parse.
-use Rattle.std.proofs.Common.{◌++◌, ◌||◌, ◌≡◌, ◌⊎◌, ◌∙◌, ◌<◌, ◌≤◌, ap, suc, zero, ℕ, Bool, true, false, List, [], ◌∷◌, length, Option, Some, None, refl, sym, subst, inl, inr, arith, append-nil, append_assoc}
+use Rattle.std.proofs.Common.{◌++◌, ◌||◌, ◌≡◌, ◌⊎◌, ◌∙◌, ◌<◌, ◌≤◌, ap, suc, zero, ℕ, Bool, true, false, List, [], ◌∷◌}
+use Rattle.std.proofs.Common.{length, Option, Some, None, refl, sym, subst, inl, inr, arith, append-nil, append_assoc}
 use Rattle.std.specs.List.{All, slice_index_or}
 use Rattle.std.specs.Str.{bytes_eq}
 use Rattle.std.specs.Prelude.{option_map, slice_get, unwrap_or, pos, IfSome, Result, ◌^◌}
@@ -7,8 +8,10 @@ use Rattle.std.specs.Str.Parse.{ParsesUnsigned}
 use Rattle.std.specs.Borrow.{Bor}
 use Rattle.std.proofs.lemmas.Slice.Eq.{bytes_eq-Decides}
 use Rattle.std.proofs.lemmas.List.Elements.{All-get_or, All-nil, All-drop}
-use Rattle.clap.specs.Facts.{args_of, groups_of, IsParsed, Entry, EntryPasses, ValuesPass, PassesArg, HasReading, parser_of, parser_of_value}
-use Rattle.clap.specs.Built.{IsPlain, IsPlainArg, IsParsedFrom, IsAuto, AddsArg, AddsInTurn, SameRules, KeepsList, FitsChain, HasDistinctIds}
+use Rattle.clap.specs.Facts.{args_of, groups_of, IsParsed, Entry, EntryPasses, ValuesPass, PassesArg, HasReading}
+use Rattle.clap.specs.Facts.{parser_of, parser_of_value}
+use Rattle.clap.specs.Built.{IsPlain, IsPlainArg, IsParsedFrom, IsAuto, AddsArg, AddsInTurn, SameRules, KeepsList}
+use Rattle.clap.specs.Built.{FitsChain, HasDistinctIds}
 use Rattle.clap.specs.Matches.{matched_of, one_text, found_of, has_subcommand, ReadsOne}
 use Rattle.clap.specs.declared.parser.matches.Found.{Found}
 use Rattle.clap.specs.Values.{Accepts, read_as, reading_of}
@@ -30,10 +33,12 @@ MayRead f id Q how = (one_text f id ≡ None) ⊎ ((t : List ℕ) × (one_text f
 none_at : (f : Found) (id : List ℕ) → matched_of f id ≡ None → one_text f id ≡ None
 none_at f id found = rw found refl
 
-nothing_at : (f : Found) (id : List ℕ) (x : MatchedArg) → matched_of f id ≡ Some x → x.vals.items ≡ [] → one_text f id ≡ None
+nothing_at : (f : Found) (id : List ℕ) (x : MatchedArg) → matched_of f id ≡ Some x → x.vals.items ≡ []
+    → one_text f id ≡ None
 nothing_at f id x found e = rw (found, e) refl
 
-text_at : (f : Found) (id : List ℕ) (x : MatchedArg) (how : Reading) (v : Bor (List ℕ)) (vs : List (Bor (List ℕ))) → matched_of f id ≡ Some x → x.reading ≡ how
+text_at : (f : Found) (id : List ℕ) (x : MatchedArg) (how : Reading) (v : Bor (List ℕ)) (vs : List (Bor (List ℕ)))
+    → matched_of f id ≡ Some x → x.reading ≡ how
     → x.vals.items ≡ v ∷ vs → one_text f id ≡ Some (read_as how v.now)
 text_at f id x how v vs found is e = rw (found, is, e) refl
 
@@ -63,12 +68,14 @@ passes_read : (old : Command) (m : ArgMatches) (p : IsParsedFrom old m) (k : ℕ
     → (t : List ℕ) → PassesArg p.built (slice_index_or (args_of old) k d).id.now t
     → Accepts (slice_index_or (args_of old) k d).ignore_case q t
 passes_read old m p k d lt unique own q parser t pass =
-    accepts_of _ pass.1 q t (same_rules_by_id old m p k d lt unique own pass.0 pass.1 pass.2 pass.3 pass.4.0) parser pass.4.1
+    accepts_of _ pass.1 q t (same_rules_by_id old m p k d lt unique own pass.0 pass.1 pass.2 pass.3 pass.4.0) parser
+    pass.4.1
 
 -- what one entry gives
 read_of : (c : Command) (f : Found) (id : List ℕ) (Q : List ℕ → Type 0) (how : Reading) (x : MatchedArg) (e : Entry)
     → groups_of c ≡ [] → (id ≡ [] → ⊥) → ((r : Reading) → HasReading c id r → r ≡ how)
-    → ((t : List ℕ) → PassesArg c id t → Q t) → matched_of f id ≡ Some x → e.1 ≡ x → e.0.now ≡ id → EntryPasses c e → MayRead f id Q how
+    → ((t : List ℕ) → PassesArg c id t → Q t) → matched_of f id ≡ Some x → e.1 ≡ x → e.0.now ≡ id → EntryPasses c e
+    → MayRead f id Q how
 read_of c f id Q how x e no_groups named reads read found same_x key_id pass =
     let no_group : e.1.is_group ≡ true → ⊥ = λ g. elim (pass.3 g) [
       | inl empty ↦ named (sym key_id ∙ empty)
@@ -86,34 +93,46 @@ read_of c f id Q how x e no_groups named reads read found same_x key_id pass =
     ] in
     first x.vals.items refl all (ap (λ (y : MatchedArg). y.reading) (sym same_x) ∙ is)
   where
-    first : (vs : List (Bor (List ℕ))) → x.vals.items ≡ vs → All (λ v. PassesArg c id v.now) vs → x.reading ≡ how → MayRead f id Q how
+    first : (vs : List (Bor (List ℕ))) → x.vals.items ≡ vs → All (λ v. PassesArg c id v.now) vs → x.reading ≡ how
+        → MayRead f id Q how
     first [] e all is = inl (nothing_at f id x found e)
-    first (v ∷ vs) e all is = inr (v.now, text_at f id x how v vs found is e, read v.now (All-get_or (λ v. PassesArg c id v.now) (v ∷ vs) 0 v (omega arith) all))
+    first (v ∷ vs) e all is = inr (
+      v.now,
+      text_at f id x how v vs found is e,
+      read v.now
+          (All-get_or (λ v. PassesArg c id v.now) (v ∷ vs) 0 v (omega arith) all),
+    )
 
 -- what the entries give
-found_read : (c : Command) (f : Found) (id : List ℕ) (Q : List ℕ → Type 0) (how : Reading) → ValuesPass c f → groups_of c ≡ [] → (id ≡ [] → ⊥)
+found_read : (c : Command) (f : Found) (id : List ℕ) (Q : List ℕ → Type 0) (how : Reading) → ValuesPass c f
+    → groups_of c ≡ [] → (id ≡ [] → ⊥)
     → ((r : Reading) → HasReading c id r → r ≡ how) → ((t : List ℕ) → PassesArg c id t → Q t) → MayRead f id Q how
 found_read c f id Q how values no_groups named reads read = go (matched_of f id) refl
   where
-    step : (x : MatchedArg) → matched_of f id ≡ Some x → ((e : Entry) × (e.1 ≡ x) × (bytes_eq e.0.now id ≡ true) × EntryPasses c e) → MayRead f id Q how
-    step x found got = read_of c f id Q how x got.0 no_groups named reads read found got.1 ((bytes_eq-Decides got.0.0.now id).0 got.2) got.3
+    step : (x : MatchedArg) → matched_of f id ≡ Some x
+        → ((e : Entry) × (e.1 ≡ x) × (bytes_eq e.0.now id ≡ true) × EntryPasses c e) → MayRead f id Q how
+    step x found got = read_of c f id Q how x got.0 no_groups named reads read found got.1
+        ((bytes_eq-Decides got.0.0.now id).0 got.2) got.3
 
     go : (o : Option MatchedArg) → matched_of f id ≡ o → MayRead f id Q how
     go None e = inl (none_at f id e)
     go (Some x) e = step x e (entry_by_id (EntryPasses c) f.entries.items id x values e)
 
 -- an argument of the caller's is left out, or has a text that passed its parser, read as that parser says
-optional_reads : (old : Command) (m : ArgMatches) (p : IsParsedFrom old m) → IsPlain old → (out-Command old).has_globals ≡ false
+optional_reads : (old : Command) (m : ArgMatches) (p : IsParsedFrom old m) → IsPlain old
+    → (out-Command old).has_globals ≡ false
     → (k : ℕ) (d : Arg) → k < length (args_of old)
     → ((j : ℕ) (e : Arg) → j < length (args_of old)
     → bytes_eq (slice_index_or (args_of old) j e).id.now (slice_index_or (args_of old) k d).id.now ≡ true → j ≡ k)
     → ((slice_index_or (args_of old) k d).id.now ≡ [] → ⊥)
     → (IsAuto (slice_index_or (args_of old) k d) → ⊥)
     → (q : ValueParser) → (slice_index_or (args_of old) k d).value_parser ≡ Some q
-    → MayRead (found_of m) (slice_index_or (args_of old) k d).id.now (Accepts (slice_index_or (args_of old) k d).ignore_case q) (reading_of q)
+    → MayRead (found_of m) (slice_index_or (args_of old) k d).id.now
+    (Accepts (slice_index_or (args_of old) k d).ignore_case q) (reading_of q)
 optional_reads old m p plain globals k d lt unique named own q parser =
     let parsed = p.parsed (p.from.globals ∙ globals) in
-    found_read p.built (found_of m) (slice_index_or (args_of old) k d).id.now (Accepts (slice_index_or (args_of old) k d).ignore_case q) (reading_of q)
+    found_read p.built (found_of m) (slice_index_or (args_of old) k d).id.now
+    (Accepts (slice_index_or (args_of old) k d).ignore_case q) (reading_of q)
     parsed.values (p.from.plain plain).1 named
     (only_reading old m p k d lt unique own q parser)
     (λ t pass. passes_read old m p k d lt unique own q parser t pass)
@@ -124,14 +143,18 @@ all_rest P x xs h = λ k d lt. h (suc k) d (omega arith)
 
 chain_places : (x y : Arg) (xs ys : List Arg) → SameRules x y
     → ((k : ℕ) (e g : Arg) → k < length xs → SameRules (slice_index_or xs k e) (slice_index_or ys k g))
-    → (k : ℕ) (e g : Arg) → k < length (x ∷ xs) → SameRules (slice_index_or (x ∷ xs) k e) (slice_index_or (y ∷ ys) k g)
+    → (k : ℕ) (e g : Arg) → k < length (x ∷ xs) → SameRules (slice_index_or (x ∷ xs) k e)
+    (slice_index_or (y ∷ ys) k g)
 chain_places x y xs ys r rest zero e g lt = r
 chain_places x y xs ys r rest (suc n) e g lt = rest n e g (omega arith)
 
 -- what a chain of arguments keeps: the arguments that it adds, place by place, and a command of the same kind
-chain_facts : (c d : Command) (xs : List Arg) → AddsInTurn AddsArg c xs d → All FitsChain xs → IsPlain c → (out-Command c).has_globals ≡ false
-    → (ys : List Arg) × (args_of d ≡ args_of c ++ ys) × KeepsList xs ys × IsPlain d × ((out-Command d).has_globals ≡ false)
-chain_facts c d [] h all plain globals = ([], rw h (sym (append-nil _)), (refl, (λ k e f lt. absurd (omega arith))), rw (← h) plain, rw (← h) globals)
+chain_facts : (c d : Command) (xs : List Arg) → AddsInTurn AddsArg c xs d → All FitsChain xs → IsPlain c
+    → (out-Command c).has_globals ≡ false
+    → (ys : List Arg) × (args_of d ≡ args_of c ++ ys) × KeepsList xs ys × IsPlain d
+    × ((out-Command d).has_globals ≡ false)
+chain_facts c d [] h all plain globals =
+    ([], rw h (sym (append-nil _)), (refl, (λ k e f lt. absurd (omega arith))), rw (← h) plain, rw (← h) globals)
 chain_facts c d (x ∷ xs) h all plain globals =
     let added = h.1 in
     let fit = all 0 x (omega arith) in
@@ -146,10 +169,13 @@ chain_facts c d (x ∷ xs) h all plain globals =
     )
 
 -- an argument of a chain of `.arg(..)` calls, where nothing excludes anything and no two ids are one
-pub optional_in_chain : (start cmd : Command) (xs : List Arg) (k : ℕ) (d : Arg) (m : ArgMatches) → AddsInTurn AddsArg start xs cmd
-    → args_of start ≡ [] → groups_of start ≡ [] → (out-Command start).has_globals ≡ false → All FitsChain xs → HasDistinctIds xs → k < length xs
+pub optional_in_chain : (start cmd : Command) (xs : List Arg) (k : ℕ) (d : Arg) (m : ArgMatches)
+    → AddsInTurn AddsArg start xs cmd
+    → args_of start ≡ [] → groups_of start ≡ [] → (out-Command start).has_globals ≡ false → All FitsChain xs
+    → HasDistinctIds xs → k < length xs
     → (q : ValueParser) → (slice_index_or xs k d).value_parser ≡ Some q → IsParsedFrom cmd m
-    → MayRead (found_of m) (slice_index_or xs k d).id.now (Accepts (slice_index_or xs k d).ignore_case q) (reading_of q)
+    → MayRead (found_of m) (slice_index_or xs k d).id.now (Accepts (slice_index_or xs k d).ignore_case q)
+    (reading_of q)
 optional_in_chain start cmd xs k d m chain args groups globals all distinct lt q parser p =
     let start-plain : IsPlain start = (subst (All IsPlainArg) (sym args) (All-nil IsPlainArg), groups) in
     let f = chain_facts start cmd xs chain all start-plain globals in
@@ -165,7 +191,8 @@ optional_in_chain start cmd xs k d m chain args groups globals all distinct lt q
     let same-now : b.id.now ≡ a.id.now = ap (λ x. x.now) same-id in
     let same-case : b.ignore_case ≡ a.ignore_case = ap (λ x. x.ignore_case) elem ∙ rules.ignore_case in
     let same-parser : b.value_parser ≡ Some q = ap (λ x. x.value_parser) elem ∙ rules.parser q parser in
-    let only : (j : ℕ) (e : Arg) → j < length (args_of cmd) → bytes_eq (slice_index_or (args_of cmd) j e).id.now b.id.now ≡ true → j ≡ k =
+    let only : (j : ℕ) (e : Arg) → j < length (args_of cmd)
+    → bytes_eq (slice_index_or (args_of cmd) j e).id.now b.id.now ≡ true → j ≡ k =
     λ j e low same.
     let in-xs : j < length xs = omega arith in
     let there : (slice_index_or (args_of cmd) j e).id ≡ (slice_index_or xs j e).id =
@@ -180,16 +207,20 @@ optional_in_chain start cmd xs k d m chain args groups globals all distinct lt q
     (subst (λ c. MayRead (found_of m) b.id.now (Accepts c q) (reading_of q)) same-case read)
 
 -- what `get_one` gives of an argument with a range, where it has a value
-pub number_read : (E : Type 0) (G : List ℕ → Result ℕ E → Type 0) (bits low high : ℕ) (f : Found) (id : List ℕ) (any_case : Bool) (r : Option ℕ)
+pub number_read : (E : Type 0) (G : List ℕ → Result ℕ E → Type 0) (bits low high : ℕ) (f : Found) (id : List ℕ)
+    (any_case : Bool) (r : Option ℕ)
     → MayRead f id (Accepts any_case (Signed (pos low) (pos high))) (reading_of (Signed (pos low) (pos high)))
     → (one_text f id ≡ None → r ≡ None) → ((t : List ℕ) → one_text f id ≡ Some t → ReadsOne G t r)
-    → ((t : List ℕ) (x : Result ℕ E) → G t x → ParsesUnsigned bits 10 t x) → high < 2 ^ bits → IfSome r (λ n. (low ≤ n) × (n ≤ high))
-number_read E G bits low high f id any_case r (inl none) absent value only fits = subst (λ o. IfSome o (λ n. (low ≤ n) × (n ≤ high))) (sym (absent none)) tt
+    → ((t : List ℕ) (x : Result ℕ E) → G t x → ParsesUnsigned bits 10 t x) → high < 2 ^ bits
+    → IfSome r (λ n. (low ≤ n) × (n ≤ high))
+number_read E G bits low high f id any_case r (inl none) absent value only fits = subst
+    (λ o. IfSome o (λ n. (low ≤ n) × (n ≤ high))) (sym (absent none)) tt
 number_read E G bits low high f id any_case r (inr text) absent value only fits =
     let got = signed_reads E G bits low high text.0 r (value _ text.1) only fits text.2 in
     subst (λ o. IfSome o (λ n. (low ≤ n) × (n ≤ high))) (sym got.1) (got.2, got.3)
 
 -- a number, or another in the range
-pub number_or : (low high d : ℕ) (r : Option ℕ) → IfSome r (λ n. (low ≤ n) × (n ≤ high)) → low ≤ d → d ≤ high → (low ≤ unwrap_or r d) × (unwrap_or r d ≤ high)
+pub number_or : (low high d : ℕ) (r : Option ℕ) → IfSome r (λ n. (low ≤ n) × (n ≤ high)) → low ≤ d → d ≤ high
+    → (low ≤ unwrap_or r d) × (unwrap_or r d ≤ high)
 number_or low high d None h least most = (least, most)
 number_or low high d (Some n) h least most = h

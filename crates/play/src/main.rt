@@ -1,10 +1,12 @@
 //! Plays a story file.
 #![tactic(auto)]
 
+mod filling;
 mod words;
 
 ghost use Rattle.play.specs.Range.{IsInRange};
 
+use crate::filling::drop_filling;
 use crate::words::{Words, words_of};
 use session::{Session, run, status};
 use std::fmt::Display;
@@ -45,13 +47,14 @@ fn refuse<W: Display + Drop>(rt: &HostRuntime, why: W) -> ExitCode {
 }
 
 /// Plays a story file on the lines of standard input. The transcript goes to standard output, each reply as soon as its
-/// line was read.
+/// line was read. Zero bytes with which Inform 6 filled the file do not count.
 fn play(rt: &HostRuntime, words: Words<'_>) -> ExitCode
     requires { IsInRange words }
 {
-    let Ok(story) = fs::read(rt, words.story) else {
+    let Ok(mut story) = fs::read(rt, words.story) else {
         return refuse(rt, format_args!("cannot read {}", words.story));
     };
+    drop_filling(&mut story);
     let mut session = match Session::open_with(rt.alloc(), story, words.fuel, words.keep) {
         Ok(session) => session,
         Err(fault) => return refuse(rt, fault),

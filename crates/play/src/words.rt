@@ -55,7 +55,7 @@ fn story_argument<'a>(alloc: Global) -> Arg<'a>
 {
     Arg::new(alloc, "story")
         .value_name("STORY")
-        .help("A story file of version 5 or 8")
+        .help("A story file of version 5 or 8, which zero bytes may fill to a multiple of 512")
         .required(true)
         .action(ArgAction::Set)
 }

@@ -1,5 +1,6 @@
 -- What was heard, one part of the input after the other.
-use Rattle.std.proofs.Common.{◌≡◌, ℕ, ◌+◌, ◌<◌, ◌≤◌, false, Option, List, [], ◌∷◌, ◌++◌, length, get_or, take, drop, refl, ap, sym, ◌∙◌, subst, append_assoc, take-append-drop, ◌==◌}
+use Rattle.std.proofs.Common.{◌≡◌, ℕ, ◌+◌, ◌<◌, ◌≤◌, false, Option, List, [], ◌∷◌, ◌++◌, length, get_or, take, drop}
+use Rattle.std.proofs.Common.{refl, ap, sym, ◌∙◌, subst, append_assoc, take-append-drop, ◌==◌}
 use Rattle.std.proofs.lemmas.List.{take_all, map-append}
 use Rattle.std.specs.Io.KnownBytes.{Appends}
 use Rattle.std.proofs.KnownBytes.{Appends-nil, Appends-trans}
@@ -10,36 +11,47 @@ use Rattle.session.specs.Transcript.{Typed, lines_typed, answer, replies, after}
 use Rattle.session.specs.Heard.{Heard, Broke}
 use Rattle.session.proofs.Cutting.{whole_from-append, whole_ended, whole_going}
 
-pub replies-append : (game : Game) (s : Standing) (xs ys : List Typed) → replies game s (xs ++ ys) ≡ replies game s xs ++ replies game (after game s xs) ys
+pub replies-append : (game : Game) (s : Standing) (xs ys : List Typed)
+    → replies game s (xs ++ ys) ≡ replies game s xs ++ replies game (after game s xs) ys
 replies-append game s [] ys = refl
-replies-append game s (x ∷ xs) ys = ap (λ t. (answer game s x).reply ++ t) (replies-append game (answer game s x).standing xs ys)
-    ∙ sym (append_assoc (answer game s x).reply (replies game (answer game s x).standing xs) (replies game (after game (answer game s x).standing xs) ys))
+replies-append game s (x ∷ xs) ys = ap (λ t. (answer game s x).reply ++ t)
+    (replies-append game (answer game s x).standing xs ys)
+    ∙ sym (append_assoc (answer game s x).reply (replies game (answer game s x).standing xs)
+    (replies game (after game (answer game s x).standing xs) ys))
 
-pub after-append : (game : Game) (s : Standing) (xs ys : List Typed) → after game s (xs ++ ys) ≡ after game (after game s xs) ys
+pub after-append : (game : Game) (s : Standing) (xs ys : List Typed)
+    → after game s (xs ++ ys) ≡ after game (after game s xs) ys
 after-append game s [] ys = refl
 after-append game s (x ∷ xs) ys = after-append game (answer game s x).standing xs ys
 
-pub heard_none : (game : Game) (w : Option (List ℕ)) (s : Standing) (P : Standing → Type 0) → P s → Heard game w w s P []
+pub heard_none : (game : Game) (w : Option (List ℕ)) (s : Standing) (P : Standing → Type 0) → P s
+    → Heard game w w s P []
 heard_none game w s P p = record { typed = []; said = refl; wrote = Appends-nil w; stands = p }
 
 -- lines were heard, and then more
-pub heard_then : {game : Game} {w w1 w2 : Option (List ℕ)} {s : Standing} {P Q : Standing → Type 0} {ls ms : List (List ℕ)}
+pub heard_then : {game : Game} {w w1 w2 : Option (List ℕ)} {s : Standing} {P Q : Standing
+    → Type 0} {ls ms : List (List ℕ)}
     → Heard game w w1 s P ls → ((t : Standing) → P t → Heard game w1 w2 t Q ms) → Heard game w w2 s Q (ls ++ ms)
 heard_then {game} {w} {w1} {w2} {s} {P} {Q} {ls} {ms} h f =
     let k : Heard game w1 w2 (after game s h.typed) Q ms = f (after game s h.typed) h.stands in
     record {
       typed = h.typed ++ k.typed;
-      said = map-append (λ (x : Typed). x.line) h.typed k.typed ∙ ap (λ t. t ++ lines_typed k.typed) h.said ∙ ap (λ t. ls ++ t) k.said;
-      wrote = subst (Appends w w2) (sym (replies-append game s h.typed k.typed)) (Appends-trans w w1 w2 (replies game s h.typed) (replies game (after game s h.typed) k.typed) h.wrote k.wrote);
+      said = map-append (λ (x : Typed). x.line) h.typed k.typed ∙ ap (λ t. t ++ lines_typed k.typed) h.said
+          ∙ ap (λ t. ls ++ t) k.said;
+      wrote = subst (Appends w w2) (sym (replies-append game s h.typed k.typed))
+          (Appends-trans w w1 w2 (replies game s h.typed) (replies game (after game s h.typed) k.typed) h.wrote
+          k.wrote);
       stands = subst Q (sym (after-append game s h.typed k.typed)) k.stands;
     }
 
 -- lines were heard, and then writing failed
-pub heard_broke : {game : Game} {w w1 w2 : Option (List ℕ)} {s : Standing} {P Q : Standing → Type 0} {ls ms : List (List ℕ)}
+pub heard_broke : {game : Game} {w w1 w2 : Option (List ℕ)} {s : Standing} {P Q : Standing
+    → Type 0} {ls ms : List (List ℕ)}
     → Heard game w w1 s P ls → ((t : Standing) → P t → Broke game w1 w2 t Q ms) → Broke game w w2 s Q (ls ++ ms)
 heard_broke {game} {w} {w1} {w2} {s} {P} {Q} {ls} {ms} h f =
     let k : Broke game w1 w2 (after game s h.typed) Q ms = f (after game s h.typed) h.stands in
-    let there : after game (after game s h.typed) k.typed ≡ after game s (h.typed ++ k.typed) = sym (after-append game s h.typed k.typed) in
+    let there : after game (after game s h.typed) k.typed
+    ≡ after game s (h.typed ++ k.typed) = sym (after-append game s h.typed k.typed) in
     record {
       typed = h.typed ++ k.typed;
       last = k.last;
@@ -53,13 +65,16 @@ heard_broke {game} {w} {w1} {w2} {s} {P} {Q} {ls} {ms} h f =
       rest = k.rest;
       whole = k.whole ∙ ap (λ t. (answer game t k.last).reply) there;
       wrote = subst (Appends w w2)
-          (sym (append_assoc (replies game s h.typed) (replies game (after game s h.typed) k.typed) k.part) ∙ ap (λ t. t ++ k.part) (sym (replies-append game s h.typed k.typed)))
-          (Appends-trans w w1 w2 (replies game s h.typed) (replies game (after game s h.typed) k.typed ++ k.part) h.wrote k.wrote);
+          (sym (append_assoc (replies game s h.typed) (replies game (after game s h.typed) k.typed) k.part)
+          ∙ ap (λ t. t ++ k.part) (sym (replies-append game s h.typed k.typed)))
+          (Appends-trans w w1 w2 (replies game s h.typed) (replies game (after game s h.typed) k.typed ++ k.part)
+          h.wrote k.wrote);
       stands = subst (λ t. Q (answer game t k.last).standing) there k.stands;
     }
 
 -- more lines were there
-pub broke_more : {game : Game} {w w' : Option (List ℕ)} {s : Standing} {P : Standing → Type 0} {ls : List (List ℕ)} (ms : List (List ℕ))
+pub broke_more : {game : Game} {w w' : Option (List ℕ)} {s : Standing} {P : Standing → Type 0} {ls : List (List ℕ)}
+    (ms : List (List ℕ))
     → Broke game w w' s P ls → Broke game w w' s P (ls ++ ms)
 broke_more {game} {w} {w'} {s} {P} {ls} ms k = record {
   typed = k.typed;
@@ -76,27 +91,39 @@ broke_more {game} {w} {w'} {s} {P} {ls} ms k = record {
 -- ---- a chunk, byte by byte; `full` stands before it
 
 -- the next byte ends a line
-pub heard_end : (game : Game) (w w1 w2 : Option (List ℕ)) (s : Standing) (P Q : Standing → Type 0) (full chunk : List ℕ) (i d : ℕ)
+pub heard_end : (game : Game) (w w1 w2 : Option (List ℕ)) (s : Standing) (P Q : Standing → Type 0)
+    (full chunk : List ℕ) (i d : ℕ)
     → Heard game w w1 s P (whole_from full (take i chunk)) → i < length chunk → get_or chunk i d ≡ 10
-    → ((t : Standing) → P t → Heard game w1 w2 t Q (rest_from full (take i chunk) ∷ [])) → Heard game w w2 s Q (whole_from full (take (i + 1) chunk))
-heard_end game w w1 w2 s P Q full chunk i d h lt e k = subst (Heard game w w2 s Q) (whole_ended full chunk i d lt e) (heard_then h k)
+    → ((t : Standing) → P t → Heard game w1 w2 t Q (rest_from full (take i chunk) ∷ []))
+    → Heard game w w2 s Q (whole_from full (take (i + 1) chunk))
+heard_end game w w1 w2 s P Q full chunk i d h lt e k = subst (Heard game w w2 s Q) (whole_ended full chunk i d lt e)
+    (heard_then h k)
 
 -- the next byte goes to the line
-pub heard_byte : (game : Game) (w w1 : Option (List ℕ)) (s : Standing) (P : Standing → Type 0) (full chunk : List ℕ) (i d : ℕ)
-    → Heard game w w1 s P (whole_from full (take i chunk)) → i < length chunk → (get_or chunk i d == 10) ≡ false → Heard game w w1 s P (whole_from full (take (i + 1) chunk))
+pub heard_byte : (game : Game) (w w1 : Option (List ℕ)) (s : Standing) (P : Standing → Type 0) (full chunk : List ℕ)
+    (i d : ℕ)
+    → Heard game w w1 s P (whole_from full (take i chunk)) → i < length chunk → (get_or chunk i d == 10) ≡ false
+    → Heard game w w1 s P (whole_from full (take (i + 1) chunk))
 heard_byte game w w1 s P full chunk i d h lt e = subst (Heard game w w1 s P) (whole_going full chunk i d lt e) h
 
 -- all bytes of the chunk were heard
-pub heard_all : (game : Game) (w w1 : Option (List ℕ)) (s : Standing) (P : Standing → Type 0) (full chunk : List ℕ) (i : ℕ)
-    → Heard game w w1 s P (whole_from full (take i chunk)) → length chunk ≤ i → Heard game w w1 s P (whole_from full chunk)
-heard_all game w w1 s P full chunk i h le = subst (λ x. Heard game w w1 s P (whole_from full x)) (take_all i chunk le) h
+pub heard_all : (game : Game) (w w1 : Option (List ℕ)) (s : Standing) (P : Standing → Type 0) (full chunk : List ℕ)
+    (i : ℕ)
+    → Heard game w w1 s P (whole_from full (take i chunk)) → length chunk ≤ i
+    → Heard game w w1 s P (whole_from full chunk)
+heard_all game w w1 s P full chunk i h le = subst (λ x. Heard game w w1 s P (whole_from full x))
+    (take_all i chunk le) h
 
 -- the next byte ends a line, and writing fails
-pub heard_break : (game : Game) (w w1 w2 : Option (List ℕ)) (s : Standing) (P Q : Standing → Type 0) (full chunk : List ℕ) (i d : ℕ)
+pub heard_break : (game : Game) (w w1 w2 : Option (List ℕ)) (s : Standing) (P Q : Standing → Type 0)
+    (full chunk : List ℕ) (i d : ℕ)
     → Heard game w w1 s P (whole_from full (take i chunk)) → i < length chunk → get_or chunk i d ≡ 10
-    → ((t : Standing) → P t → Broke game w1 w2 t Q (rest_from full (take i chunk) ∷ [])) → Broke game w w2 s Q (whole_from full chunk)
+    → ((t : Standing) → P t → Broke game w1 w2 t Q (rest_from full (take i chunk) ∷ []))
+    → Broke game w w2 s Q (whole_from full chunk)
 heard_break game w w1 w2 s P Q full chunk i d h lt e k =
     let later = whole_from (rest_from full (take (i + 1) chunk)) (drop (i + 1) chunk) in
     let all : whole_from full (take (i + 1) chunk) ++ later ≡ whole_from full chunk
-    = sym (whole_from-append full (take (i + 1) chunk) (drop (i + 1) chunk)) ∙ ap (whole_from full) (take-append-drop (i + 1) chunk) in
-    subst (Broke game w w2 s Q) (ap (λ x. x ++ later) (whole_ended full chunk i d lt e) ∙ all) (broke_more later (heard_broke h k))
+    = sym (whole_from-append full (take (i + 1) chunk) (drop (i + 1) chunk))
+    ∙ ap (whole_from full) (take-append-drop (i + 1) chunk) in
+    subst (Broke game w w2 s Q) (ap (λ x. x ++ later) (whole_ended full chunk i d lt e) ∙ all)
+    (broke_more later (heard_broke h k))

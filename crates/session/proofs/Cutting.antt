@@ -1,5 +1,6 @@
 -- Lines of input, one part of it after the other.
-use Rattle.std.proofs.Common.{◌≡◌, ℕ, ◌+◌, ◌<◌, ◌≤◌, Bool, true, false, List, [], ◌∷◌, ◌++◌, length, get_or, take, refl, ap, sym, ◌∙◌, subst, append-nil, arith, if◌then◌else◌, ◌==◌}
+use Rattle.std.proofs.Common.{◌≡◌, ℕ, ◌+◌, ◌<◌, ◌≤◌, Bool, true, false, List, [], ◌∷◌, ◌++◌, length, get_or, take}
+use Rattle.std.proofs.Common.{refl, ap, sym, ◌∙◌, subst, append-nil, arith, if◌then◌else◌, ◌==◌}
 use Rattle.std.proofs.lemmas.List.{take_all, take_more}
 use Rattle.session.specs.Input.{whole_from, rest_from, last_line}
 use Rattle.session.specs.Kept.{IsKept}
@@ -7,26 +8,32 @@ use Rattle.session.specs.declared.line.Line.{Line}
 
 whole_step : (line : List ℕ) (b : ℕ) (bs ys : List ℕ) (t : Bool)
     → whole_from [] (bs ++ ys) ≡ whole_from [] bs ++ whole_from (rest_from [] bs) ys
-    → whole_from (line ++ b ∷ []) (bs ++ ys) ≡ whole_from (line ++ b ∷ []) bs ++ whole_from (rest_from (line ++ b ∷ []) bs) ys
+    → whole_from (line ++ b ∷ []) (bs ++ ys) ≡ whole_from (line ++ b ∷ []) bs
+    ++ whole_from (rest_from (line ++ b ∷ []) bs) ys
     → (if t then line ∷ whole_from [] (bs ++ ys) else whole_from (line ++ b ∷ []) (bs ++ ys))
-    ≡ (if t then line ∷ whole_from [] bs else whole_from (line ++ b ∷ []) bs) ++ whole_from (if t then rest_from [] bs else rest_from (line ++ b ∷ []) bs) ys
+    ≡ (if t then line ∷ whole_from [] bs else whole_from (line ++ b ∷ []) bs)
+    ++ whole_from (if t then rest_from [] bs else rest_from (line ++ b ∷ []) bs) ys
 whole_step line b bs ys true p q = ap (λ x. line ∷ x) p
 whole_step line b bs ys false p q = q
 
-pub whole_from-append : (line xs ys : List ℕ) → whole_from line (xs ++ ys) ≡ whole_from line xs ++ whole_from (rest_from line xs) ys
+pub whole_from-append : (line xs ys : List ℕ) → whole_from line (xs ++ ys) ≡ whole_from line xs
+    ++ whole_from (rest_from line xs) ys
 whole_from-append line [] ys = refl
-whole_from-append line (b ∷ bs) ys = whole_step line b bs ys (b == 10) (whole_from-append [] bs ys) (whole_from-append (line ++ b ∷ []) bs ys)
+whole_from-append line (b ∷ bs) ys = whole_step line b bs ys (b == 10) (whole_from-append [] bs ys)
+    (whole_from-append (line ++ b ∷ []) bs ys)
 
 rest_step : (line : List ℕ) (b : ℕ) (bs ys : List ℕ) (t : Bool)
     → rest_from [] (bs ++ ys) ≡ rest_from (rest_from [] bs) ys
     → rest_from (line ++ b ∷ []) (bs ++ ys) ≡ rest_from (rest_from (line ++ b ∷ []) bs) ys
-    → (if t then rest_from [] (bs ++ ys) else rest_from (line ++ b ∷ []) (bs ++ ys)) ≡ rest_from (if t then rest_from [] bs else rest_from (line ++ b ∷ []) bs) ys
+    → (if t then rest_from [] (bs ++ ys) else rest_from (line ++ b ∷ []) (bs ++ ys))
+    ≡ rest_from (if t then rest_from [] bs else rest_from (line ++ b ∷ []) bs) ys
 rest_step line b bs ys true p q = p
 rest_step line b bs ys false p q = q
 
 pub rest_from-append : (line xs ys : List ℕ) → rest_from line (xs ++ ys) ≡ rest_from (rest_from line xs) ys
 rest_from-append line [] ys = refl
-rest_from-append line (b ∷ bs) ys = rest_step line b bs ys (b == 10) (rest_from-append [] bs ys) (rest_from-append (line ++ b ∷ []) bs ys)
+rest_from-append line (b ∷ bs) ys = rest_step line b bs ys (b == 10) (rest_from-append [] bs ys)
+    (rest_from-append (line ++ b ∷ []) bs ys)
 
 pub whole_end : (line : List ℕ) (b : ℕ) → b ≡ 10 → whole_from line (b ∷ []) ≡ line ∷ []
 whole_end line b e = ap (λ x. whole_from line (x ∷ [])) e
@@ -45,27 +52,37 @@ rest_byte line b e = ap (λ t. if t then [] else line ++ b ∷ []) e
 pub whole_ended : (line chunk : List ℕ) (i d : ℕ) → i < length chunk → get_or chunk i d ≡ 10
     → whole_from line (take i chunk) ++ (rest_from line (take i chunk) ∷ []) ≡ whole_from line (take (i + 1) chunk)
 whole_ended line chunk i d lt e =
-    ap (λ x. whole_from line (take i chunk) ++ x) (sym (whole_end (rest_from line (take i chunk)) (get_or chunk i d) e))
+    ap (λ x. whole_from line (take i chunk) ++ x)
+    (sym (whole_end (rest_from line (take i chunk)) (get_or chunk i d) e))
     ∙ sym (whole_from-append line (take i chunk) (get_or chunk i d ∷ []))
     ∙ ap (whole_from line) (sym (take_more chunk i d lt))
 
-pub whole_going : (line chunk : List ℕ) (i d : ℕ) → i < length chunk → (get_or chunk i d == 10) ≡ false → whole_from line (take i chunk) ≡ whole_from line (take (i + 1) chunk)
+pub whole_going : (line chunk : List ℕ) (i d : ℕ) → i < length chunk → (get_or chunk i d == 10) ≡ false
+    → whole_from line (take i chunk) ≡ whole_from line (take (i + 1) chunk)
 whole_going line chunk i d lt e =
     sym (append-nil (whole_from line (take i chunk)))
-    ∙ ap (λ x. whole_from line (take i chunk) ++ x) (sym (whole_byte (rest_from line (take i chunk)) (get_or chunk i d) e))
+    ∙ ap (λ x. whole_from line (take i chunk) ++ x)
+    (sym (whole_byte (rest_from line (take i chunk)) (get_or chunk i d) e))
     ∙ sym (whole_from-append line (take i chunk) (get_or chunk i d ∷ []))
     ∙ ap (whole_from line) (sym (take_more chunk i d lt))
 
-pub kept_end : (full chunk : List ℕ) (line : Line) (i d : ℕ) → i < length chunk → get_or chunk i d ≡ 10 → IsKept line [] → IsKept line (rest_from full (take (i + 1) chunk))
+pub kept_end : (full chunk : List ℕ) (line : Line) (i d : ℕ) → i < length chunk → get_or chunk i d ≡ 10
+    → IsKept line [] → IsKept line (rest_from full (take (i + 1) chunk))
 kept_end full chunk line i d lt e = subst (IsKept line)
-    (sym (rest_end (rest_from full (take i chunk)) (get_or chunk i d) e) ∙ sym (rest_from-append full (take i chunk) (get_or chunk i d ∷ [])) ∙ ap (rest_from full) (sym (take_more chunk i d lt)))
+    (sym (rest_end (rest_from full (take i chunk)) (get_or chunk i d) e)
+    ∙ sym (rest_from-append full (take i chunk) (get_or chunk i d ∷ []))
+    ∙ ap (rest_from full) (sym (take_more chunk i d lt)))
 
 pub kept_byte : (full chunk : List ℕ) (line : Line) (i d : ℕ) → i < length chunk → (get_or chunk i d == 10) ≡ false
-    → IsKept line (rest_from full (take i chunk) ++ get_or chunk i d ∷ []) → IsKept line (rest_from full (take (i + 1) chunk))
+    → IsKept line (rest_from full (take i chunk) ++ get_or chunk i d ∷ [])
+    → IsKept line (rest_from full (take (i + 1) chunk))
 kept_byte full chunk line i d lt e = subst (IsKept line)
-    (sym (rest_byte (rest_from full (take i chunk)) (get_or chunk i d) e) ∙ sym (rest_from-append full (take i chunk) (get_or chunk i d ∷ [])) ∙ ap (rest_from full) (sym (take_more chunk i d lt)))
+    (sym (rest_byte (rest_from full (take i chunk)) (get_or chunk i d) e)
+    ∙ sym (rest_from-append full (take i chunk) (get_or chunk i d ∷ []))
+    ∙ ap (rest_from full) (sym (take_more chunk i d lt)))
 
-pub kept_all : (full chunk : List ℕ) (line : Line) (i : ℕ) → length chunk ≤ i → IsKept line (rest_from full (take i chunk)) → IsKept line (rest_from full chunk)
+pub kept_all : (full chunk : List ℕ) (line : Line) (i : ℕ) → length chunk ≤ i
+    → IsKept line (rest_from full (take i chunk)) → IsKept line (rest_from full chunk)
 kept_all full chunk line i le = subst (λ x. IsKept line (rest_from full x)) (take_all i chunk le)
 
 -- ---- the end of the input

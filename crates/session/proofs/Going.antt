@@ -1,5 +1,6 @@
 -- Steps of a run.
-use Rattle.std.proofs.Common.{◌≡◌, ℕ, ◌<◌, Option, None, Some, List, [], ◌∷◌, ◌++◌, refl, ap, sym, subst, append_assoc, inl, inr, Result, Ok, Err, IsErrAnd}
+use Rattle.std.proofs.Common.{◌≡◌, ℕ, ◌<◌, Option, None, Some, List, [], ◌∷◌, ◌++◌, refl, ap, sym, subst}
+use Rattle.std.proofs.Common.{append_assoc, inl, inr, Result, Ok, Err, IsErrAnd}
 use Rattle.std.specs.Io.KnownBytes.{Appends, Consumes, Keeps, IsAtEnd}
 use Rattle.std.proofs.KnownBytes.{Appends-trans, Consumes-nil, Consumes-trans, Consumes-kept}
 use Rattle.session.specs.declared.line.Line.{Line}
@@ -13,7 +14,8 @@ use Rattle.session.specs.Transcript.{replies, after, transcript}
 use Rattle.session.specs.Heard.{Heard, Broke}
 use Rattle.session.specs.Wrote.{WroteSome}
 use Rattle.session.specs.Kept.{IsKept}
-use Rattle.session.specs.Ran.{Streams, RanWhole, RanToRead, RanToWrite, LinesRead, in_opening, in_reply, RanToFault, Ran}
+use Rattle.session.specs.Ran.{Streams, RanWhole, RanToRead, RanToWrite, LinesRead, in_opening, in_reply, RanToFault}
+use Rattle.session.specs.Ran.{Ran}
 use Rattle.session.proofs.Cutting.{whole_from-append, rest_from-append, kept_some}
 use Rattle.session.proofs.Chaining.{heard_none, heard_then, heard_broke}
 
@@ -34,7 +36,8 @@ keeps_of None b p = tt
 keeps_of (Some x) None p = absurd p
 keeps_of (Some x) (Some y) p = sym p
 
-pub going_start : (game : Game) (r w w1 : Option (List ℕ)) (P : Standing → Type 0) (line : Line) → P nothing → Appends w w1 (text_on game []) → IsKept line [] → Going game r r w w1 P line
+pub going_start : (game : Game) (r w w1 : Option (List ℕ)) (P : Standing → Type 0) (line : Line) → P nothing
+    → Appends w w1 (text_on game []) → IsKept line [] → Going game r r w w1 P line
 going_start game r w w1 P line e p kept = record {
   input = [];
   opened = w1;
@@ -44,8 +47,10 @@ going_start game r w w1 P line e p kept = record {
   kept = kept;
 }
 
-pub going_on : (game : Game) (r r1 r2 w w1 w2 : Option (List ℕ)) (P Q : Standing → Type 0) (line line' : Line) (chunk : List ℕ)
-    → (h : Going game r r1 w w1 P line) → Consumes r1 r2 chunk → ((t : Standing) → P t → Heard game w1 w2 t Q (whole_from (rest_from [] h.input) chunk))
+pub going_on : (game : Game) (r r1 r2 w w1 w2 : Option (List ℕ)) (P Q : Standing → Type 0) (line line' : Line)
+    (chunk : List ℕ)
+    → (h : Going game r r1 w w1 P line) → Consumes r1 r2 chunk
+    → ((t : Standing) → P t → Heard game w1 w2 t Q (whole_from (rest_from [] h.input) chunk))
     → IsKept line' (rest_from (rest_from [] h.input) chunk) → Going game r r2 w w2 Q line'
 going_on game r r1 r2 w w1 w2 P Q line line' chunk h took k kept = record {
   input = h.input ++ chunk;
@@ -57,13 +62,16 @@ going_on game r r1 r2 w w1 w2 P Q line line' chunk h took k kept = record {
 }
 
 -- what was written of lines that were all heard
-played : (game : Game) (w opened w' : Option (List ℕ)) (P : Standing → Type 0) (lines : List (List ℕ)) → Appends w opened (text_on game []) → (h : Heard game opened w' nothing P lines)
+played : (game : Game) (w opened w' : Option (List ℕ)) (P : Standing → Type 0) (lines : List (List ℕ))
+    → Appends w opened (text_on game []) → (h : Heard game opened w' nothing P lines)
     → Appends w w' (transcript game h.typed)
-played game w opened w' P lines wrote h = Appends-trans w opened w' (text_on game []) (replies game nothing h.typed) wrote h.wrote
+played game w opened w' P lines wrote h = Appends-trans w opened w' (text_on game []) (replies game nothing h.typed)
+    wrote h.wrote
 
 -- the end of the input was reached
 pub ran_whole : (game : Game) (r r1 r2 w w1 w2 : Option (List ℕ)) (P Q : Standing → Type 0) (line : Line) (p : Place)
-    → (h : Going game r r1 w w1 P line) → Consumes r1 r2 [] → IsAtEnd r2 → ((t : Standing) → P t → Heard game w1 w2 t Q (last_line (rest_from [] h.input)))
+    → (h : Going game r r1 w w1 P line) → Consumes r1 r2 [] → IsAtEnd r2
+    → ((t : Standing) → P t → Heard game w1 w2 t Q (last_line (rest_from [] h.input)))
     → ((t : Standing) → Q t → p ≡ place_on game t.done) → RanWhole (telling_of game) game.keep (streams r r2 w w2) Q p
 ran_whole game r r1 r2 w w1 w2 P Q line p h took end k place =
     let all : Heard game h.opened w2 nothing Q (lines_of h.input) = heard_then h.heard k in
@@ -73,11 +81,18 @@ ran_whole game r r1 r2 w w1 w2 P Q line p h took end k place =
       took = Consumes-kept r r1 r2 h.input h.took (keeps_of r1 r2 took);
       ended = end;
       wrote = played game w h.opened w2 Q (lines_of h.input) h.wrote all;
-      played = record { typed = all.typed; said = all.said; wrote = refl; stands = (all.stands, place (after game nothing all.typed) all.stands) };
+      played =
+          record {
+            typed = all.typed;
+            said = all.said;
+            wrote = refl;
+            stands = (all.stands, place (after game nothing all.typed) all.stands);
+          };
     }
 
 -- a read failed
-pub ran_read : (game : Game) (r r1 r2 w w1 : Option (List ℕ)) (P : Standing → Type 0) (line : Line) → Going game r r1 w w1 P line → Keeps r1 r2 → RanToRead (telling_of game) game.keep (streams r r2 w w1) P
+pub ran_read : (game : Game) (r r1 r2 w w1 : Option (List ℕ)) (P : Standing → Type 0) (line : Line)
+    → Going game r r1 w w1 P line → Keeps r1 r2 → RanToRead (telling_of game) game.keep (streams r r2 w w1) P
 ran_read game r r1 r2 w w1 P line h keeps = record {
   input = h.input;
   written = transcript game h.heard.typed;
@@ -87,7 +102,8 @@ ran_read game r r1 r2 w w1 P line h keeps = record {
 }
 
 -- the reads came to no end
-pub ran_long : (game : Game) (r r1 w w1 : Option (List ℕ)) (P : Standing → Type 0) (line : Line) → Going game r r1 w w1 P line → RanToRead (telling_of game) game.keep (streams r r1 w w1) P
+pub ran_long : (game : Game) (r r1 w w1 : Option (List ℕ)) (P : Standing → Type 0) (line : Line)
+    → Going game r r1 w w1 P line → RanToRead (telling_of game) game.keep (streams r r1 w w1) P
 ran_long game r r1 w w1 P line h = record {
   input = h.input;
   written = transcript game h.heard.typed;
@@ -96,7 +112,9 @@ ran_long game r r1 w w1 P line h = record {
   played = record { typed = h.heard.typed; said = h.heard.said; wrote = refl; stands = h.heard.stands };
 }
 
-ran_broke : (game : Game) (r r2 w opened w2 : Option (List ℕ)) (P : Standing → Type 0) (input : List ℕ) (lines : List (List ℕ)) → Consumes r r2 input → LinesRead r2 input lines → Appends w opened (text_on game []) → Broke game opened w2 nothing P lines
+ran_broke : (game : Game) (r r2 w opened w2 : Option (List ℕ)) (P : Standing → Type 0) (input : List ℕ)
+    (lines : List (List ℕ)) → Consumes r r2 input → LinesRead r2 input lines → Appends w opened (text_on game [])
+    → Broke game opened w2 nothing P lines
     → RanToWrite (telling_of game) game.keep (streams r r2 w w2) P
 ran_broke game r r2 w opened w2 P input lines took read wrote k = in_reply (record {
   input = input;
@@ -108,25 +126,37 @@ ran_broke game r r2 w opened w2 P input lines took read wrote k = in_reply (reco
   part = k.part;
   rest = k.rest;
   whole = k.whole;
-  wrote = subst (Appends w w2) (sym (append_assoc (text_on game []) (replies game nothing k.typed) k.part)) (Appends-trans w opened w2 (text_on game []) (replies game nothing k.typed ++ k.part) wrote k.wrote);
+  wrote = subst (Appends w w2) (sym (append_assoc (text_on game []) (replies game nothing k.typed) k.part))
+      (Appends-trans w opened w2 (text_on game []) (replies game nothing k.typed ++ k.part) wrote k.wrote);
   stands = k.stands;
 })
 
 -- writing failed in a reply to a line of the chunk
-pub ran_broke_in : (game : Game) (r r1 r2 w w1 w2 : Option (List ℕ)) (P Q : Standing → Type 0) (line : Line) (chunk : List ℕ)
-    → (h : Going game r r1 w w1 P line) → Consumes r1 r2 chunk → ((t : Standing) → P t → Broke game w1 w2 t Q (whole_from (rest_from [] h.input) chunk)) → RanToWrite (telling_of game) game.keep (streams r r2 w w2) Q
+pub ran_broke_in : (game : Game) (r r1 r2 w w1 w2 : Option (List ℕ)) (P Q : Standing → Type 0) (line : Line)
+    (chunk : List ℕ)
+    → (h : Going game r r1 w w1 P line) → Consumes r1 r2 chunk
+    → ((t : Standing) → P t → Broke game w1 w2 t Q (whole_from (rest_from [] h.input) chunk))
+    → RanToWrite (telling_of game) game.keep (streams r r2 w w2) Q
 ran_broke_in game r r1 r2 w w1 w2 P Q line chunk h took k =
-    ran_broke game r r2 w h.opened w2 Q (h.input ++ chunk) (whole_lines h.input ++ whole_from (rest_from [] h.input) chunk) (Consumes-trans r r1 r2 h.input chunk h.took took)
+    ran_broke game r r2 w h.opened w2 Q (h.input ++ chunk)
+    (whole_lines h.input ++ whole_from (rest_from [] h.input) chunk)
+    (Consumes-trans r r1 r2 h.input chunk h.took took)
     (inl (sym (whole_from-append [] h.input chunk))) h.wrote (heard_broke h.heard k)
 
 -- writing failed in the reply to the last line
 pub ran_broke_last : (game : Game) (r r1 r2 w w1 w2 : Option (List ℕ)) (P Q : Standing → Type 0) (line : Line)
-    → (h : Going game r r1 w w1 P line) → Consumes r1 r2 [] → IsAtEnd r2 → 0 < line.len → ((t : Standing) → P t → Broke game w1 w2 t Q (rest_from [] h.input ∷ [])) → RanToWrite (telling_of game) game.keep (streams r r2 w w2) Q
+    → (h : Going game r r1 w w1 P line) → Consumes r1 r2 [] → IsAtEnd r2 → 0 < line.len
+    → ((t : Standing) → P t → Broke game w1 w2 t Q (rest_from [] h.input ∷ []))
+    → RanToWrite (telling_of game) game.keep (streams r r2 w w2) Q
 ran_broke_last game r r1 r2 w w1 w2 P Q line h took end some k =
-    ran_broke game r r2 w h.opened w2 Q h.input (whole_lines h.input ++ rest_from [] h.input ∷ []) (Consumes-kept r r1 r2 h.input h.took (keeps_of r1 r2 took))
-    (inr (end, ap (λ x. whole_lines h.input ++ x) (sym (kept_some line (rest_from [] h.input) h.kept some)))) h.wrote (heard_broke h.heard k)
+    ran_broke game r r2 w h.opened w2 Q h.input (whole_lines h.input ++ rest_from [] h.input ∷ [])
+    (Consumes-kept r r1 r2 h.input h.took (keeps_of r1 r2 took))
+    (inr (end, ap (λ x. whole_lines h.input ++ x) (sym (kept_some line (rest_from [] h.input) h.kept some)))) h.wrote
+    (heard_broke h.heard k)
 
-pub ran_err : (game : Game) (r r' w w' : Option (List ℕ)) (P : Standing → Type 0) (e : Result Place RunFault) → IsErrAnd e (λ x. x ≡ Writing) → RanToWrite (telling_of game) game.keep (streams r r' w w') P → Ran (telling_of game) game.keep (streams r r' w w') P e
+pub ran_err : (game : Game) (r r' w w' : Option (List ℕ)) (P : Standing → Type 0) (e : Result Place RunFault)
+    → IsErrAnd e (λ x. x ≡ Writing) → RanToWrite (telling_of game) game.keep (streams r r' w w') P
+    → Ran (telling_of game) game.keep (streams r r' w w') P e
 ran_err game r r' w w' P (Ok p) h k = absurd h
 ran_err game r r' w w' P (Err x) h k = subst (RanToFault (telling_of game) game.keep (streams r r' w w') P) (sym h) k
 
@@ -135,5 +165,8 @@ keeps_same None = tt
 keeps_same (Some x) = refl
 
 -- writing failed in the opening
-pub opening_broke : (game : Game) (r w w' : Option (List ℕ)) (P : Standing → Type 0) (e : Result Place RunFault) → IsErrAnd e (λ x. x ≡ Writing) → WroteSome w w' (text_on game []) → P nothing → Ran (telling_of game) game.keep (streams r r w w') P e
-opening_broke game r w w' P e h p q = ran_err game r r w w' P e h (in_opening (record { unread = keeps_same r; wrote = p; stands = q }))
+pub opening_broke : (game : Game) (r w w' : Option (List ℕ)) (P : Standing → Type 0) (e : Result Place RunFault)
+    → IsErrAnd e (λ x. x ≡ Writing) → WroteSome w w' (text_on game []) → P nothing
+    → Ran (telling_of game) game.keep (streams r r w w') P e
+opening_broke game r w w' P e h p q = ran_err game r r w w' P e h
+    (in_opening (record { unread = keeps_same r; wrote = p; stands = q }))

@@ -1,7 +1,9 @@
 -- What undo, redo, a turn and a bound make of the fields of a session.
-use Rattle.std.proofs.Common.{◌≡◌, ℕ, zero, suc, ◌+◌, ◌-◌, ◌≤◌, ◌<◌, List, [], ◌∷◌, length, get_or, set, drop, map, ap, sym, ◌∙◌, subst, arith, Option}
+use Rattle.std.proofs.Common.{◌≡◌, ℕ, zero, suc, ◌+◌, ◌-◌, ◌≤◌, ◌<◌, List, [], ◌∷◌, length, get_or, set, drop, map}
+use Rattle.std.proofs.Common.{ap, sym, ◌∙◌, subst, arith, Option}
 use Rattle.std.specs.List.{All}
-use Rattle.std.proofs.lemmas.List.{map-set, set-get_or, get_or-map, length-set, length-map, get_or-set_same, drop-map, get_or-drop}
+use Rattle.std.proofs.lemmas.List.{map-set, set-get_or, get_or-map, length-set, length-map, get_or-set_same, drop-map}
+use Rattle.std.proofs.lemmas.List.{get_or-drop}
 use Rattle.journal.specs.Recording.{Recording, IsNothingKept}
 use Rattle.journal.specs.Swap.{back, forward, Fits}
 use Rattle.zcore.specs.declared.header.Header.{Header}
@@ -13,35 +15,48 @@ use Rattle.frames.specs.States.{play_of}
 use Rattle.session.specs.declared.turns.Turn.{Turn}
 use Rattle.session.specs.Session.{Session, largest_record, all_cells, without_oldest}
 use Rattle.session.specs.Inside.{records_of, with_cells, places_of, view_of, IsReady, IsBetweenTurns}
-use Rattle.session.proofs.Moves.{cells_undo, cells_redo, cells_older, present_cells, length-all_cells, length-back, length-forward}
+use Rattle.session.proofs.Moves.{cells_undo, cells_redo, cells_older, present_cells, length-all_cells, length-back}
+use Rattle.session.proofs.Moves.{length-forward}
 
 -- a turn that is exchanged for one with the same part
-pub kept_by : {X : Type 0} (f : Turn → X) (turns : List Turn) (k : ℕ) (t u : Turn) → k < length turns → t ≡ get_or turns k t → f u ≡ f t → map f (set turns k u) ≡ map f turns
+pub kept_by : {X : Type 0} (f : Turn → X) (turns : List Turn) (k : ℕ) (t u : Turn) → k < length turns
+    → t ≡ get_or turns k t → f u ≡ f t → map f (set turns k u) ≡ map f turns
 kept_by f turns k t u lt is same =
-    map-set f turns k u ∙ ap (λ x. set (map f turns) k x) (same ∙ ap f is ∙ sym (get_or-map f turns k t (f t) lt)) ∙ set-get_or (map f turns) k (f t)
+    map-set f turns k u ∙ ap (λ x. set (map f turns) k x) (same ∙ ap f is ∙ sym (get_or-map f turns k t (f t) lt))
+    ∙ set-get_or (map f turns) k (f t)
 
 pub all_set : {X : Type 0} (P : X → Type 0) (xs : List X) (i : ℕ) (x : X) → All P xs → P x → All P (set xs i x)
 all_set P [] i x all p k d lt = absurd (omega arith)
 all_set P (y ∷ ys) zero x all p zero d lt = p
 all_set P (y ∷ ys) zero x all p (suc k) d lt = all (suc k) d lt
 all_set P (y ∷ ys) (suc i) x all p zero d lt = all 0 d (omega arith)
-all_set P (y ∷ ys) (suc i) x all p (suc k) d lt = all_set P ys i x (λ n e l. all (suc n) e (omega arith)) p k d (omega arith)
+all_set P (y ∷ ys) (suc i) x all p (suc k) d lt = all_set P ys i x (λ n e l. all (suc n) e (omega arith)) p k d
+    (omega arith)
 
 -- the record of a turn
-pub record_at : (turns : List Turn) (k : ℕ) (t : Turn) → k < length turns → t ≡ get_or turns k t → t.overwritten ≡ get_or (records_of turns) k t.overwritten
-record_at turns k t lt is = ap (λ (x : Turn). x.overwritten) is ∙ sym (get_or-map (λ x. x.overwritten) turns k t t.overwritten lt)
+pub record_at : (turns : List Turn) (k : ℕ) (t : Turn) → k < length turns → t ≡ get_or turns k t
+    → t.overwritten ≡ get_or (records_of turns) k t.overwritten
+record_at turns k t lt is = ap (λ (x : Turn). x.overwritten) is
+    ∙ sym (get_or-map (λ x. x.overwritten) turns k t t.overwritten lt)
 
-pub turn_fits : (P : List (ℕ × ℕ) → Type 0) (turns : List Turn) (k : ℕ) (t : Turn) → k < length turns → t ≡ get_or turns k t → All P (records_of turns) → P t.overwritten
-turn_fits P turns k t lt is all = subst P (sym (record_at turns k t lt is)) (all k t.overwritten (omega (arith, length-map turns (λ (x : Turn). x.overwritten))))
+pub turn_fits : (P : List (ℕ × ℕ) → Type 0) (turns : List Turn) (k : ℕ) (t : Turn) → k < length turns
+    → t ≡ get_or turns k t → All P (records_of turns) → P t.overwritten
+turn_fits P turns k t lt is all = subst P (sym (record_at turns k t lt is))
+    (all k t.overwritten (omega (arith, length-map turns (λ (x : Turn). x.overwritten))))
 
 abbrev states_with : List ℕ → List (List ℕ) → List StateOfPlay
 states_with fixed cells = map (λ c. play_of (record { cells = c; fixed = fixed })) cells
 
 -- the same session, in other fields
-same_view : (v : Session) (states : List StateOfPlay) (places : List Place) (texts lines : List (List ℕ)) (sizes : List ℕ) (present : ℕ) → states ≡ v.states → places ≡ v.places → texts ≡ v.texts → lines ≡ v.lines
-    → sizes ≡ v.sizes → record v { states = states; places = places; texts = texts; lines = lines; sizes = sizes; present = present } ≡ record v { present = present }
+same_view : (v : Session) (states : List StateOfPlay) (places : List Place) (texts lines : List (List ℕ))
+    (sizes : List ℕ) (present : ℕ) → states ≡ v.states → places ≡ v.places → texts ≡ v.texts → lines ≡ v.lines
+    → sizes ≡ v.sizes
+    → record
+    v { states = states; places = places; texts = texts; lines = lines; sizes = sizes; present = present }
+    ≡ record v { present = present }
 same_view v states places texts lines sizes present a b c d e =
-    ap (λ x. record v { states = x; places = places; texts = texts; lines = lines; sizes = sizes; present = present }) a
+    ap (λ x. record
+    v { states = x; places = places; texts = texts; lines = lines; sizes = sizes; present = present }) a
     ∙ ap (λ x. record v { places = x; texts = texts; lines = lines; sizes = sizes; present = present }) b
     ∙ ap (λ x. record v { texts = x; lines = lines; sizes = sizes; present = present }) c
     ∙ ap (λ x. record v { lines = x; sizes = sizes; present = present }) d
@@ -52,32 +67,49 @@ pub record Exchanged (t u : Turn) (entries : List (ℕ × ℕ)) : Type 0 where
   pub is : u ≡ record t { overwritten = entries }
   pub size : length entries ≡ length t.overwritten
 
-exchanged_view : (keep : Option ℕ) (fuel : ℕ) (header : Header) (opening : List ℕ) (store new : Contents) (first : Place) (turns : List Turn) (t u : Turn) (entries : List (ℕ × ℕ)) (k from to : ℕ) (given_up : List ℕ)
-    → k < length turns → t ≡ get_or turns k t → Exchanged t u entries → new.fixed ≡ store.fixed → all_cells new.cells (records_of (set turns k u)) to ≡ all_cells store.cells (records_of turns) from
-    → view_of keep fuel header opening new first (set turns k u) to given_up ≡ record (view_of keep fuel header opening store first turns from given_up) { present = to }
+exchanged_view : (keep : Option ℕ) (fuel : ℕ) (header : Header) (opening : List ℕ) (store new : Contents)
+    (first : Place) (turns : List Turn) (t u : Turn) (entries : List (ℕ × ℕ)) (k from to : ℕ) (given_up : List ℕ)
+    → k < length turns → t ≡ get_or turns k t → Exchanged t u entries → new.fixed ≡ store.fixed
+    → all_cells new.cells (records_of (set turns k u)) to ≡ all_cells store.cells (records_of turns) from
+    → view_of keep fuel header opening new first (set turns k u) to given_up
+    ≡ record (view_of keep fuel header opening store first turns from given_up) { present = to }
 unfolding view_of
 exchanged_view keep fuel header opening store new first turns t u entries k from to given_up lt is x fixed cells =
     same_view (view_of keep fuel header opening store first turns from given_up)
-    (states_with new.fixed (all_cells new.cells (records_of (set turns k u)) to)) (places_of first (set turns k u)) (map (λ y. y.text.items) (set turns k u)) (map (λ y. y.line.items) (set turns k u)) (map (λ y. length y.overwritten) (set turns k u)) to
-    (ap (λ f. states_with f (all_cells new.cells (records_of (set turns k u)) to)) fixed ∙ ap (states_with store.fixed) cells)
+    (states_with new.fixed (all_cells new.cells (records_of (set turns k u)) to)) (places_of first (set turns k u))
+    (map (λ y. y.text.items) (set turns k u)) (map (λ y. y.line.items) (set turns k u))
+    (map (λ y. length y.overwritten) (set turns k u)) to
+    (ap (λ f. states_with f (all_cells new.cells (records_of (set turns k u)) to)) fixed
+    ∙ ap (states_with store.fixed) cells)
     (ap (λ ps. first ∷ ps) (kept_by (λ y. y.place) turns k t u lt is (ap (λ (y : Turn). y.place) x.is)))
     (kept_by (λ y. y.text.items) turns k t u lt is (ap (λ (y : Turn). y.text.items) x.is))
     (kept_by (λ y. y.line.items) turns k t u lt is (ap (λ (y : Turn). y.line.items) x.is))
     (kept_by (λ y. length y.overwritten) turns k t u lt is (ap (λ (y : Turn). length y.overwritten) x.is ∙ x.size))
 
-ready_as : (header : Header) (f g : List ℕ) (cs ds : List (List ℕ)) (ps qs : List Place) (k : ℕ) → g ≡ f → ds ≡ cs → qs ≡ ps
-    → IsReady header (record { cells = get_or cs k []; fixed = f }) (get_or ps k places.Quit) → IsReady header (record { cells = get_or ds k []; fixed = g }) (get_or qs k places.Quit)
+ready_as : (header : Header) (f g : List ℕ) (cs ds : List (List ℕ)) (ps qs : List Place) (k : ℕ) → g ≡ f → ds ≡ cs
+    → qs ≡ ps
+    → IsReady header (record { cells = get_or cs k []; fixed = f }) (get_or ps k places.Quit)
+    → IsReady header (record { cells = get_or ds k []; fixed = g }) (get_or qs k places.Quit)
 ready_as header f g cs ds ps qs k a b c s =
-    let at = subst (λ x. IsReady header (record { cells = get_or cs k []; fixed = x }) (get_or ps k places.Quit)) (sym a) s in
-    let then_at = subst (λ x. IsReady header (record { cells = get_or x k []; fixed = g }) (get_or ps k places.Quit)) (sym b) at in
-    subst (λ x. IsReady header (record { cells = get_or ds k []; fixed = g }) (get_or x k places.Quit)) (sym c) then_at
+    let at = subst (λ x. IsReady header (record { cells = get_or cs k []; fixed = x }) (get_or ps k places.Quit))
+    (sym a) s in
+    let then_at = subst (λ x. IsReady header (record { cells = get_or x k []; fixed = g }) (get_or ps k places.Quit))
+    (sym b) at in
+    subst (λ x. IsReady header (record { cells = get_or ds k []; fixed = g }) (get_or x k places.Quit)) (sym c)
+    then_at
 
-exchanged_between : (header : Header) (store new : Recording Contents) (first : Place) (turns : List Turn) (t u : Turn) (entries : List (ℕ × ℕ)) (k from to : ℕ)
-    → k < length turns → t ≡ get_or turns k t → Exchanged t u entries → new.store.fixed ≡ store.store.fixed → all_cells new.store.cells (records_of (set turns k u)) to ≡ all_cells store.store.cells (records_of turns) from
-    → to ≤ length turns → IsNothingKept new → new.beginning ≡ new.store.cells → length new.store.cells ≡ length store.store.cells → Fits (length new.store.cells) bound_of u.overwritten
+exchanged_between : (header : Header) (store new : Recording Contents) (first : Place) (turns : List Turn)
+    (t u : Turn) (entries : List (ℕ × ℕ)) (k from to : ℕ)
+    → k < length turns → t ≡ get_or turns k t → Exchanged t u entries → new.store.fixed ≡ store.store.fixed
+    → all_cells new.store.cells (records_of (set turns k u)) to
+    ≡ all_cells store.store.cells (records_of turns) from
+    → to ≤ length turns → IsNothingKept new → new.beginning ≡ new.store.cells
+    → length new.store.cells ≡ length store.store.cells → Fits (length new.store.cells) bound_of u.overwritten
     → IsBetweenTurns header store first turns from → IsBetweenTurns header new first (set turns k u) to
-exchanged_between header store new first turns t u entries k from to lt is x fixed cells within idle begun size fits i =
-    let records : records_of (set turns k u) ≡ set (records_of turns) k u.overwritten = map-set (λ (y : Turn). y.overwritten) turns k u in
+exchanged_between header store new first turns t u entries k from to lt is x fixed cells within idle begun size fits
+    i =
+    let records : records_of (set turns k u) ≡ set (records_of turns) k u.overwritten = map-set
+    (λ (y : Turn). y.overwritten) turns k u in
     let long = length-set turns k u in
     let small : length u.overwritten ≤ largest_record header.static_base =
     let e : length u.overwritten ≡ length t.overwritten = ap (λ (y : Turn). length y.overwritten) x.is ∙ x.size in
@@ -86,10 +118,16 @@ exchanged_between header store new first turns t u entries k from to lt is x fix
       within = omega (arith, long);
       idle = idle;
       begun = begun;
-      fits = subst (λ rs. All (Fits (length new.store.cells) bound_of) rs) (sym records) (all_set (Fits (length new.store.cells) bound_of) (records_of turns) k u.overwritten (subst (λ n. All (Fits n bound_of) (records_of turns)) (sym size) i.fits) fits);
-      small = subst (λ rs. All (λ r. length r ≤ largest_record header.static_base) rs) (sym records) (all_set (λ r. length r ≤ largest_record header.static_base) (records_of turns) k u.overwritten i.small small);
-      ready = λ n le. ready_as header store.store.fixed new.store.fixed _ _ (places_of first turns) (places_of first (set turns k u)) n fixed cells
-          (ap (λ ps. first ∷ ps) (kept_by (λ y. y.place) turns k t u lt is (ap (λ (y : Turn). y.place) x.is))) (i.ready n (omega (arith, long)));
+      fits = subst (λ rs. All (Fits (length new.store.cells) bound_of) rs) (sym records)
+          (all_set (Fits (length new.store.cells) bound_of) (records_of turns) k u.overwritten
+          (subst (λ n. All (Fits n bound_of) (records_of turns)) (sym size) i.fits) fits);
+      small = subst (λ rs. All (λ r. length r ≤ largest_record header.static_base) rs) (sym records)
+          (all_set (λ r. length r ≤ largest_record header.static_base) (records_of turns) k u.overwritten i.small
+          small);
+      ready = λ n le. ready_as header store.store.fixed new.store.fixed _ _ (places_of first turns)
+          (places_of first (set turns k u)) n fixed cells
+          (ap (λ ps. first ∷ ps) (kept_by (λ y. y.place) turns k t u lt is (ap (λ (y : Turn). y.place) x.is)))
+          (i.ready n (omega (arith, long)));
     }
 
 -- a turn that was taken back
@@ -115,66 +153,91 @@ pub record IsIdle (store new : Recording Contents) (u : Turn) : Type 0 where
   pub size : length new.store.cells ≡ length store.store.cells
   pub fits : Fits (length new.store.cells) bound_of u.overwritten
 
-back_cells : (store new : Recording Contents) (turns : List Turn) (k : ℕ) (t u : Turn) → TakenBack store new turns k t u
-    → all_cells new.store.cells (records_of (set turns k u)) k ≡ all_cells store.store.cells (records_of turns) (k + 1)
+back_cells : (store new : Recording Contents) (turns : List Turn) (k : ℕ) (t u : Turn)
+    → TakenBack store new turns k t u
+    → all_cells new.store.cells (records_of (set turns k u)) k
+    ≡ all_cells store.store.cells (records_of turns) (k + 1)
 back_cells store new turns k t u h =
     ap (λ rs. all_cells new.store.cells rs k) (map-set (λ (y : Turn). y.overwritten) turns k u)
-    ∙ cells_undo store.store.cells new.store.cells t.overwritten u.overwritten (records_of turns) k (omega (arith, h.here, length-map turns (λ (x : Turn). x.overwritten))) (record_at turns k t h.here h.is)
+    ∙ cells_undo store.store.cells new.store.cells t.overwritten u.overwritten (records_of turns) k
+    (omega (arith, h.here, length-map turns (λ (x : Turn). x.overwritten))) (record_at turns k t h.here h.is)
     (ap (λ (s : Contents). s.cells) h.store) h.inverse
 
-again_cells : (store new : Recording Contents) (turns : List Turn) (k : ℕ) (t u : Turn) → DoneAgain store new turns k t u
-    → all_cells new.store.cells (records_of (set turns k u)) (k + 1) ≡ all_cells store.store.cells (records_of turns) k
+again_cells : (store new : Recording Contents) (turns : List Turn) (k : ℕ) (t u : Turn)
+    → DoneAgain store new turns k t u
+    → all_cells new.store.cells (records_of (set turns k u)) (k + 1)
+    ≡ all_cells store.store.cells (records_of turns) k
 again_cells store new turns k t u h =
     ap (λ rs. all_cells new.store.cells rs (k + 1)) (map-set (λ (y : Turn). y.overwritten) turns k u)
-    ∙ cells_redo store.store.cells new.store.cells t.overwritten u.overwritten (records_of turns) k (omega (arith, h.here, length-map turns (λ (x : Turn). x.overwritten))) (record_at turns k t h.here h.is)
+    ∙ cells_redo store.store.cells new.store.cells t.overwritten u.overwritten (records_of turns) k
+    (omega (arith, h.here, length-map turns (λ (x : Turn). x.overwritten))) (record_at turns k t h.here h.is)
     (ap (λ (s : Contents). s.cells) h.store) h.inverse
 
-back_turn : (store new : Recording Contents) (turns : List Turn) (k : ℕ) (t u : Turn) → TakenBack store new turns k t u → Exchanged t u (back store.store.cells t.overwritten).entries
+back_turn : (store new : Recording Contents) (turns : List Turn) (k : ℕ) (t u : Turn)
+    → TakenBack store new turns k t u → Exchanged t u (back store.store.cells t.overwritten).entries
 back_turn store new turns k t u h = record { is = h.turn; size = length-back store.store.cells t.overwritten }
 
-again_turn : (store new : Recording Contents) (turns : List Turn) (k : ℕ) (t u : Turn) → DoneAgain store new turns k t u → Exchanged t u (forward store.store.cells t.overwritten).entries
+again_turn : (store new : Recording Contents) (turns : List Turn) (k : ℕ) (t u : Turn)
+    → DoneAgain store new turns k t u → Exchanged t u (forward store.store.cells t.overwritten).entries
 again_turn store new turns k t u h = record { is = h.turn; size = length-forward store.store.cells t.overwritten }
 
-pub undo_view : (keep : Option ℕ) (fuel : ℕ) (header : Header) (opening : List ℕ) (store new : Recording Contents) (first : Place) (turns : List Turn) (t u : Turn) (k done : ℕ) (given_up : List ℕ) → k + 1 ≡ done
-    → TakenBack store new turns k t u → view_of keep fuel header opening new.store first (set turns k u) k given_up ≡ record (view_of keep fuel header opening store.store first turns done given_up) { present = k }
+pub undo_view : (keep : Option ℕ) (fuel : ℕ) (header : Header) (opening : List ℕ) (store new : Recording Contents)
+    (first : Place) (turns : List Turn) (t u : Turn) (k done : ℕ) (given_up : List ℕ) → k + 1 ≡ done
+    → TakenBack store new turns k t u → view_of keep fuel header opening new.store first (set turns k u) k given_up
+    ≡ record (view_of keep fuel header opening store.store first turns done given_up) { present = k }
 undo_view keep fuel header opening store new first turns t u k done given_up e h =
-    exchanged_view keep fuel header opening store.store new.store first turns t u (back store.store.cells t.overwritten).entries k done k given_up h.here h.is (back_turn store new turns k t u h) (ap (λ (s : Contents). s.fixed) h.store)
+    exchanged_view keep fuel header opening store.store new.store first turns t u
+    (back store.store.cells t.overwritten).entries k done k given_up h.here h.is
+    (back_turn store new turns k t u h) (ap (λ (s : Contents). s.fixed) h.store)
     (back_cells store new turns k t u h ∙ ap (all_cells store.store.cells (records_of turns)) e)
 
-pub undo_between : (header : Header) (store new : Recording Contents) (first : Place) (turns : List Turn) (t u : Turn) (k done : ℕ) → k + 1 ≡ done → TakenBack store new turns k t u → IsIdle store new u
+pub undo_between : (header : Header) (store new : Recording Contents) (first : Place) (turns : List Turn)
+    (t u : Turn) (k done : ℕ) → k + 1 ≡ done → TakenBack store new turns k t u → IsIdle store new u
     → IsBetweenTurns header store first turns done → IsBetweenTurns header new first (set turns k u) k
 undo_between header store new first turns t u k done e h idle i =
-    exchanged_between header store new first turns t u (back store.store.cells t.overwritten).entries k done k h.here h.is (back_turn store new turns k t u h) (ap (λ (s : Contents). s.fixed) h.store)
-    (back_cells store new turns k t u h ∙ ap (all_cells store.store.cells (records_of turns)) e) (omega (arith, h.here)) idle.idle idle.begun idle.size idle.fits i
+    exchanged_between header store new first turns t u (back store.store.cells t.overwritten).entries k done k h.here
+    h.is (back_turn store new turns k t u h) (ap (λ (s : Contents). s.fixed) h.store)
+    (back_cells store new turns k t u h ∙ ap (all_cells store.store.cells (records_of turns)) e)
+    (omega (arith, h.here)) idle.idle idle.begun idle.size idle.fits i
 
-pub redo_view : (keep : Option ℕ) (fuel : ℕ) (header : Header) (opening : List ℕ) (store new : Recording Contents) (first : Place) (turns : List Turn) (t u : Turn) (k : ℕ) (given_up : List ℕ) → DoneAgain store new turns k t u
-    → view_of keep fuel header opening new.store first (set turns k u) (k + 1) given_up ≡ record (view_of keep fuel header opening store.store first turns k given_up) { present = k + 1 }
+pub redo_view : (keep : Option ℕ) (fuel : ℕ) (header : Header) (opening : List ℕ) (store new : Recording Contents)
+    (first : Place) (turns : List Turn) (t u : Turn) (k : ℕ) (given_up : List ℕ) → DoneAgain store new turns k t u
+    → view_of keep fuel header opening new.store first (set turns k u) (k + 1) given_up
+    ≡ record (view_of keep fuel header opening store.store first turns k given_up) { present = k + 1 }
 redo_view keep fuel header opening store new first turns t u k given_up h =
-    exchanged_view keep fuel header opening store.store new.store first turns t u (forward store.store.cells t.overwritten).entries k k (k + 1) given_up h.here h.is (again_turn store new turns k t u h) (ap (λ (s : Contents). s.fixed) h.store)
+    exchanged_view keep fuel header opening store.store new.store first turns t u
+    (forward store.store.cells t.overwritten).entries k k (k + 1) given_up h.here h.is
+    (again_turn store new turns k t u h) (ap (λ (s : Contents). s.fixed) h.store)
     (again_cells store new turns k t u h)
 
-pub redo_between : (header : Header) (store new : Recording Contents) (first : Place) (turns : List Turn) (t u : Turn) (k : ℕ) → DoneAgain store new turns k t u → IsIdle store new u
+pub redo_between : (header : Header) (store new : Recording Contents) (first : Place) (turns : List Turn)
+    (t u : Turn) (k : ℕ) → DoneAgain store new turns k t u → IsIdle store new u
     → IsBetweenTurns header store first turns k → IsBetweenTurns header new first (set turns k u) (k + 1)
 redo_between header store new first turns t u k h idle i =
-    exchanged_between header store new first turns t u (forward store.store.cells t.overwritten).entries k k (k + 1) h.here h.is (again_turn store new turns k t u h) (ap (λ (s : Contents). s.fixed) h.store)
+    exchanged_between header store new first turns t u (forward store.store.cells t.overwritten).entries k k (k + 1)
+    h.here h.is (again_turn store new turns k t u h) (ap (λ (s : Contents). s.fixed) h.store)
     (again_cells store new turns k t u h) (omega (arith, h.here)) idle.idle idle.begun idle.size idle.fits i
 
 -- The parts of a session, as its view tells them
 
-pub first_place : (first : Place) (turns : List Turn) (done : ℕ) → done ≡ 0 → first ≡ get_or (places_of first turns) done places.Quit
+pub first_place : (first : Place) (turns : List Turn) (done : ℕ) → done ≡ 0
+    → first ≡ get_or (places_of first turns) done places.Quit
 first_place first turns done e = sym (ap (λ k. get_or (places_of first turns) k places.Quit) e)
 
-pub later_place : (first : Place) (turns : List Turn) (done : ℕ) (t : Turn) → 0 < done → done ≤ length turns → t ≡ get_or turns (done - 1) t → t.place ≡ get_or (places_of first turns) done places.Quit
+pub later_place : (first : Place) (turns : List Turn) (done : ℕ) (t : Turn) → 0 < done → done ≤ length turns
+    → t ≡ get_or turns (done - 1) t → t.place ≡ get_or (places_of first turns) done places.Quit
 later_place first turns done t some le is =
     let e : suc (done - 1) ≡ done = omega arith in
-    ap (λ (x : Turn). x.place) is ∙ sym (get_or-map (λ x. x.place) turns (done - 1) t places.Quit (omega arith)) ∙ ap (λ k. get_or (places_of first turns) k places.Quit) e
+    ap (λ (x : Turn). x.place) is ∙ sym (get_or-map (λ x. x.place) turns (done - 1) t places.Quit (omega arith))
+    ∙ ap (λ k. get_or (places_of first turns) k places.Quit) e
 
 -- where the view says how many turns are done, and how many there are
 pub record Counted (v : Session) (turns : List Turn) (done : ℕ) : Type 0 where
   pub present : done ≡ v.present
   pub size : length turns ≡ length v.lines
 
-pub counted : (keep : Option ℕ) (fuel : ℕ) (header : Header) (opening : List ℕ) (store : Contents) (first : Place) (turns : List Turn) (done : ℕ) (given_up : List ℕ) (v : Session)
+pub counted : (keep : Option ℕ) (fuel : ℕ) (header : Header) (opening : List ℕ) (store : Contents) (first : Place)
+    (turns : List Turn) (done : ℕ) (given_up : List ℕ) (v : Session)
     → view_of keep fuel header opening store first turns done given_up ≡ v → Counted v turns done
 unfolding view_of
 counted keep fuel header opening store first turns done given_up v is = record {
@@ -183,43 +246,64 @@ counted keep fuel header opening store first turns done given_up v is = record {
 }
 
 -- the text of a turn
-pub turn_text : (keep : Option ℕ) (fuel : ℕ) (header : Header) (opening : List ℕ) (store : Contents) (first : Place) (turns : List Turn) (done : ℕ) (given_up : List ℕ) (v : Session) (k : ℕ) (t : Turn)
-    → view_of keep fuel header opening store first turns done given_up ≡ v → k < length turns → t ≡ get_or turns k t → t.text.items ≡ get_or v.texts k []
+pub turn_text : (keep : Option ℕ) (fuel : ℕ) (header : Header) (opening : List ℕ) (store : Contents) (first : Place)
+    (turns : List Turn) (done : ℕ) (given_up : List ℕ) (v : Session) (k : ℕ) (t : Turn)
+    → view_of keep fuel header opening store first turns done given_up ≡ v → k < length turns → t ≡ get_or turns k t
+    → t.text.items ≡ get_or v.texts k []
 unfolding view_of
 turn_text keep fuel header opening store first turns done given_up v k t is lt at =
-    ap (λ (x : Turn). x.text.items) at ∙ sym (get_or-map (λ x. x.text.items) turns k t [] lt) ∙ ap (λ (w : Session). get_or w.texts k []) is
+    ap (λ (x : Turn). x.text.items) at ∙ sym (get_or-map (λ x. x.text.items) turns k t [] lt)
+    ∙ ap (λ (w : Session). get_or w.texts k []) is
 
 -- the size of a turn's record
-pub turn_size : (keep : Option ℕ) (fuel : ℕ) (header : Header) (opening : List ℕ) (store : Contents) (first : Place) (turns : List Turn) (done : ℕ) (given_up : List ℕ) (v : Session) (k : ℕ) (t : Turn)
-    → view_of keep fuel header opening store first turns done given_up ≡ v → k < length turns → t ≡ get_or turns k t → length t.overwritten ≡ get_or v.sizes k 0
+pub turn_size : (keep : Option ℕ) (fuel : ℕ) (header : Header) (opening : List ℕ) (store : Contents) (first : Place)
+    (turns : List Turn) (done : ℕ) (given_up : List ℕ) (v : Session) (k : ℕ) (t : Turn)
+    → view_of keep fuel header opening store first turns done given_up ≡ v → k < length turns → t ≡ get_or turns k t
+    → length t.overwritten ≡ get_or v.sizes k 0
 unfolding view_of
 turn_size keep fuel header opening store first turns done given_up v k t is lt at =
-    ap (λ (x : Turn). length x.overwritten) at ∙ sym (get_or-map (λ x. length x.overwritten) turns k t 0 lt) ∙ ap (λ (w : Session). get_or w.sizes k 0) is
+    ap (λ (x : Turn). length x.overwritten) at ∙ sym (get_or-map (λ x. length x.overwritten) turns k t 0 lt)
+    ∙ ap (λ (w : Session). get_or w.sizes k 0) is
 
-pub header_base : (keep : Option ℕ) (fuel : ℕ) (header : Header) (opening : List ℕ) (store : Contents) (first : Place) (turns : List Turn) (done : ℕ) (given_up : List ℕ) (v : Session)
+pub header_base : (keep : Option ℕ) (fuel : ℕ) (header : Header) (opening : List ℕ) (store : Contents)
+    (first : Place) (turns : List Turn) (done : ℕ) (given_up : List ℕ) (v : Session)
     → view_of keep fuel header opening store first turns done given_up ≡ v → header.static_base ≡ v.static_base
 unfolding view_of
 header_base keep fuel header opening store first turns done given_up v is = ap (λ (w : Session). w.static_base) is
 
 -- the text of a turn that was exchanged
-pub redone_text : (turns : List Turn) (k j : ℕ) (t u x : Turn) (entries : List (ℕ × ℕ)) → k < length turns → j ≡ k → x ≡ get_or (set turns k u) j x → u ≡ record t { overwritten = entries } → x.text.items ≡ t.text.items
+pub redone_text : (turns : List Turn) (k j : ℕ) (t u x : Turn) (entries : List (ℕ × ℕ)) → k < length turns → j ≡ k
+    → x ≡ get_or (set turns k u) j x → u ≡ record t { overwritten = entries } → x.text.items ≡ t.text.items
 redone_text turns k j t u x entries lt e at is =
-    ap (λ (y : Turn). y.text.items) (at ∙ ap (λ n. get_or (set turns k u) n x) e ∙ get_or-set_same turns k u x lt ∙ is)
+    ap (λ (y : Turn). y.text.items)
+    (at ∙ ap (λ n. get_or (set turns k u) n x) e ∙ get_or-set_same turns k u x lt ∙ is)
 
 -- The oldest turn is given up
 
-pub oldest_view : (keep : Option ℕ) (fuel : ℕ) (header : Header) (opening : List ℕ) (store : Contents) (first : Place) (turns rest : List Turn) (t : Turn) (done : ℕ) (given_up : List ℕ) → turns ≡ t ∷ rest → 0 < done
-    → view_of keep fuel header opening store t.place rest (done - 1) t.text.items ≡ without_oldest (view_of keep fuel header opening store first turns done given_up)
+pub oldest_view : (keep : Option ℕ) (fuel : ℕ) (header : Header) (opening : List ℕ) (store : Contents)
+    (first : Place) (turns rest : List Turn) (t : Turn) (done : ℕ) (given_up : List ℕ) → turns ≡ t ∷ rest → 0 < done
+    → view_of keep fuel header opening store t.place rest (done - 1) t.text.items
+    ≡ without_oldest (view_of keep fuel header opening store first turns done given_up)
 unfolding view_of
 oldest_view keep fuel header opening store first turns rest t done given_up is some =
-    let cells : all_cells store.cells (records_of rest) (done - 1) ≡ drop 1 (all_cells store.cells (records_of (t ∷ rest)) done) = cells_older store.cells t.overwritten (records_of rest) done some in
-    ap {A = List StateOfPlay} (λ x. record (without_oldest (view_of keep fuel header opening store first (t ∷ rest) done given_up)) { states = x })
-    (ap (states_with store.fixed) cells ∙ sym (drop-map (λ c. play_of (record { cells = c; fixed = store.fixed })) 1 (all_cells store.cells (records_of (t ∷ rest)) done)))
+    let cells : all_cells store.cells (records_of rest) (done - 1)
+    ≡ drop 1 (all_cells store.cells (records_of (t ∷ rest)) done) = cells_older store.cells t.overwritten
+    (records_of rest) done some in
+    ap {A = List StateOfPlay}
+    (λ x. record
+    (without_oldest (view_of keep fuel header opening store first (t ∷ rest) done given_up)) { states = x })
+    (ap (states_with store.fixed) cells
+    ∙ sym (drop-map (λ c. play_of (record { cells = c; fixed = store.fixed })) 1
+    (all_cells store.cells (records_of (t ∷ rest)) done)))
     ∙ ap (λ ts. without_oldest (view_of keep fuel header opening store first ts done given_up)) (sym is)
 
-oldest_by : (header : Header) (store : Recording Contents) (first : Place) (rest : List Turn) (t : Turn) (done : ℕ) → 0 < done → IsBetweenTurns header store first (t ∷ rest) done → IsBetweenTurns header store t.place rest (done - 1)
+oldest_by : (header : Header) (store : Recording Contents) (first : Place) (rest : List Turn) (t : Turn) (done : ℕ)
+    → 0 < done → IsBetweenTurns header store first (t ∷ rest) done
+    → IsBetweenTurns header store t.place rest (done - 1)
 oldest_by header store first rest t done some i =
-    let cells : all_cells store.store.cells (records_of rest) (done - 1) ≡ drop 1 (all_cells store.store.cells (records_of (t ∷ rest)) done) = cells_older store.store.cells t.overwritten (records_of rest) done some in
+    let cells : all_cells store.store.cells (records_of rest) (done - 1)
+    ≡ drop 1 (all_cells store.store.cells (records_of (t ∷ rest)) done) = cells_older store.store.cells
+    t.overwritten (records_of rest) done some in
     record {
       within = omega (arith, i.within);
       idle = i.idle;
@@ -228,47 +312,65 @@ oldest_by header store first rest t done some i =
       small = λ k d lt. i.small (suc k) d (omega arith);
       ready = λ k le.
           let e : 1 + k ≡ suc k = omega arith in
-          let at : get_or (all_cells store.store.cells (records_of rest) (done - 1)) k [] ≡ get_or (all_cells store.store.cells (records_of (t ∷ rest)) done) (suc k) [] =
-          ap (λ cs. get_or cs k []) cells ∙ get_or-drop 1 (all_cells store.store.cells (records_of (t ∷ rest)) done) k [] ∙ ap (λ n. get_or (all_cells store.store.cells (records_of (t ∷ rest)) done) n []) e in
-          subst (λ c. IsReady header (with_cells store.store c) (get_or (places_of t.place rest) k places.Quit)) (sym at) (i.ready (suc k) (omega arith));
+          let at : get_or (all_cells store.store.cells (records_of rest) (done - 1)) k []
+          ≡ get_or (all_cells store.store.cells (records_of (t ∷ rest)) done) (suc k) [] =
+          ap (λ cs. get_or cs k []) cells ∙ get_or-drop 1 (all_cells store.store.cells (records_of (t ∷ rest)) done)
+          k [] ∙ ap (λ n. get_or (all_cells store.store.cells (records_of (t ∷ rest)) done) n []) e in
+          subst (λ c. IsReady header (with_cells store.store c) (get_or (places_of t.place rest) k places.Quit))
+          (sym at) (i.ready (suc k) (omega arith));
     }
 
-pub oldest_between : (header : Header) (store : Recording Contents) (first : Place) (turns rest : List Turn) (t : Turn) (done : ℕ) → turns ≡ t ∷ rest → 0 < done → IsBetweenTurns header store first turns done → IsBetweenTurns header store t.place rest (done - 1)
-oldest_between header store first turns rest t done is some i = oldest_by header store first rest t done some (subst (λ ts. IsBetweenTurns header store first ts done) is i)
+pub oldest_between : (header : Header) (store : Recording Contents) (first : Place) (turns rest : List Turn)
+    (t : Turn) (done : ℕ) → turns ≡ t ∷ rest → 0 < done → IsBetweenTurns header store first turns done
+    → IsBetweenTurns header store t.place rest (done - 1)
+oldest_between header store first turns rest t done is some i = oldest_by header store first rest t done some
+    (subst (λ ts. IsBetweenTurns header store first ts done) is i)
 
 -- The present
 
-pub ready_now : (header : Header) (store : Recording Contents) (first : Place) (turns : List Turn) (done : ℕ) → IsBetweenTurns header store first turns done → IsReady header store.store (get_or (places_of first turns) done places.Quit)
+pub ready_now : (header : Header) (store : Recording Contents) (first : Place) (turns : List Turn) (done : ℕ)
+    → IsBetweenTurns header store first turns done
+    → IsReady header store.store (get_or (places_of first turns) done places.Quit)
 ready_now header store first turns done i =
     subst (λ c. IsReady header (with_cells store.store c) (get_or (places_of first turns) done places.Quit))
-    (present_cells store.store.cells (records_of turns) done [] (omega (arith, i.within, length-map turns (λ (x : Turn). x.overwritten)))) (i.ready done i.within)
+    (present_cells store.store.cells (records_of turns) done []
+    (omega (arith, i.within, length-map turns (λ (x : Turn). x.overwritten)))) (i.ready done i.within)
 
-pub view_place : (keep : Option ℕ) (fuel : ℕ) (header : Header) (opening : List ℕ) (store : Contents) (first : Place) (turns : List Turn) (done : ℕ) (given_up : List ℕ) (v : Session)
-    → view_of keep fuel header opening store first turns done given_up ≡ v → get_or (places_of first turns) done places.Quit ≡ get_or v.places v.present places.Quit
+pub view_place : (keep : Option ℕ) (fuel : ℕ) (header : Header) (opening : List ℕ) (store : Contents) (first : Place)
+    (turns : List Turn) (done : ℕ) (given_up : List ℕ) (v : Session)
+    → view_of keep fuel header opening store first turns done given_up ≡ v
+    → get_or (places_of first turns) done places.Quit ≡ get_or v.places v.present places.Quit
 unfolding view_of
-view_place keep fuel header opening store first turns done given_up v is = ap (λ (w : Session). get_or w.places w.present places.Quit) is
+view_place keep fuel header opening store first turns done given_up v is = ap
+    (λ (w : Session). get_or w.places w.present places.Quit) is
 
-pub view_state : (keep : Option ℕ) (fuel : ℕ) (header : Header) (opening : List ℕ) (store : Contents) (first : Place) (turns : List Turn) (done : ℕ) (given_up : List ℕ) (v : Session) (d : StateOfPlay)
-    → view_of keep fuel header opening store first turns done given_up ≡ v → done ≤ length turns → get_or v.states v.present d ≡ play_of store
+pub view_state : (keep : Option ℕ) (fuel : ℕ) (header : Header) (opening : List ℕ) (store : Contents) (first : Place)
+    (turns : List Turn) (done : ℕ) (given_up : List ℕ) (v : Session) (d : StateOfPlay)
+    → view_of keep fuel header opening store first turns done given_up ≡ v → done ≤ length turns
+    → get_or v.states v.present d ≡ play_of store
 unfolding view_of
 view_state keep fuel header opening store first turns done given_up v d is le =
     let rs = records_of turns in
     let in_reach : done ≤ length rs = omega (arith, length-map turns (λ (x : Turn). x.overwritten)) in
     ap (λ (w : Session). get_or w.states w.present d) (sym is)
-    ∙ get_or-map (λ c. play_of (record { cells = c; fixed = store.fixed })) (all_cells store.cells rs done) done [] d (omega (arith, length-all_cells store.cells rs done in_reach))
+    ∙ get_or-map (λ c. play_of (record { cells = c; fixed = store.fixed })) (all_cells store.cells rs done) done [] d
+    (omega (arith, length-all_cells store.cells rs done in_reach))
     ∙ ap (λ c. play_of (record { cells = c; fixed = store.fixed })) (present_cells store.cells rs done [] in_reach)
 
-pub view_fuel : (keep : Option ℕ) (fuel : ℕ) (header : Header) (opening : List ℕ) (store : Contents) (first : Place) (turns : List Turn) (done : ℕ) (given_up : List ℕ) (v : Session)
+pub view_fuel : (keep : Option ℕ) (fuel : ℕ) (header : Header) (opening : List ℕ) (store : Contents) (first : Place)
+    (turns : List Turn) (done : ℕ) (given_up : List ℕ) (v : Session)
     → view_of keep fuel header opening store first turns done given_up ≡ v → v.fuel ≡ fuel
 unfolding view_of
 view_fuel keep fuel header opening store first turns done given_up v is = ap (λ (w : Session). w.fuel) (sym is)
 
-pub view_keep : (keep : Option ℕ) (fuel : ℕ) (header : Header) (opening : List ℕ) (store : Contents) (first : Place) (turns : List Turn) (done : ℕ) (given_up : List ℕ) (v : Session)
+pub view_keep : (keep : Option ℕ) (fuel : ℕ) (header : Header) (opening : List ℕ) (store : Contents) (first : Place)
+    (turns : List Turn) (done : ℕ) (given_up : List ℕ) (v : Session)
     → view_of keep fuel header opening store first turns done given_up ≡ v → v.keep ≡ keep
 unfolding view_of
 view_keep keep fuel header opening store first turns done given_up v is = ap (λ (w : Session). w.keep) (sym is)
 
-pub view_given_up : (keep : Option ℕ) (fuel : ℕ) (header : Header) (opening : List ℕ) (store : Contents) (first : Place) (turns : List Turn) (done : ℕ) (given_up : List ℕ) (v : Session)
+pub view_given_up : (keep : Option ℕ) (fuel : ℕ) (header : Header) (opening : List ℕ) (store : Contents)
+    (first : Place) (turns : List Turn) (done : ℕ) (given_up : List ℕ) (v : Session)
     → view_of keep fuel header opening store first turns done given_up ≡ v → given_up ≡ v.given_up
 unfolding view_of
 view_given_up keep fuel header opening store first turns done given_up v is = ap (λ (w : Session). w.given_up) is

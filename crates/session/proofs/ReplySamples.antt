@@ -44,24 +44,35 @@ a = codes "a"
 
 -- replies
 
-nothing_undone : (game : Game) → transcript game ((record { line = codes "/undo"; refused = false }) ∷ []) ≡ text_on game [] ++ note (codes "[Nothing to undo.]")
+nothing_undone : (game : Game) → transcript game ((record { line = codes "/undo"; refused = false }) ∷ [])
+    ≡ text_on game [] ++ note (codes "[Nothing to undo.]")
 unfolding answer_of
 nothing_undone game = refl
 
-nothing_redone : (game : Game) (s : Standing) → answer game (record { done = s.done; undone = []; kept = s.kept }) (record { line = codes "/redo"; refused = false })
-    ≡ record { reply = note (codes "[Nothing to redo.]"); standing = record { done = s.done; undone = []; kept = s.kept } }
+nothing_redone : (game : Game) (s : Standing) → answer game (record { done = s.done; undone = []; kept = s.kept })
+    (record { line = codes "/redo"; refused = false })
+    ≡ record {
+      reply = note (codes "[Nothing to redo.]");
+      standing = record { done = s.done; undone = []; kept = s.kept };
+    }
 unfolding answer_of
 nothing_redone game s = refl
 
-redone_told : (game : Game) → answer game (record { done = []; undone = a ∷ []; kept = 0 }) (record { line = codes "/redo"; refused = false })
-    ≡ record { reply = note (codes "[Redone.]") ++ text_on game (a ∷ []); standing = record { done = a ∷ []; undone = []; kept = 1 } }
+redone_told : (game : Game) → answer game (record { done = []; undone = a ∷ []; kept = 0 })
+    (record { line = codes "/redo"; refused = false })
+    ≡ record {
+      reply = note (codes "[Redone.]") ++ text_on game (a ∷ []);
+      standing = record { done = a ∷ []; undone = []; kept = 1 };
+    }
 unfolding answer_of
 redone_told game = refl
 
-line_refused : (game : Game) (s : Standing) → answer game s (record { line = 195 ∷ []; refused = true }) ≡ record { reply = note (codes "[Line refused.]"); standing = s }
+line_refused : (game : Game) (s : Standing) → answer game s (record { line = 195 ∷ []; refused = true })
+    ≡ record { reply = note (codes "[Line refused.]"); standing = s }
 unfolding answer_of
 line_refused game s = refl
 
-command_with_a_space : (game : Game) (s : Standing) → (answer game s (record { line = codes "/undo\t"; refused = false })).reply ≡ note (codes "[Line refused.]")
+command_with_a_space : (game : Game) (s : Standing)
+    → (answer game s (record { line = codes "/undo\t"; refused = false })).reply ≡ note (codes "[Line refused.]")
 unfolding answer_of
 command_with_a_space game s = refl

@@ -1,5 +1,7 @@
 -- The reply to one line, case by case.
-use Rattle.std.proofs.Common.{◌≡◌, ℕ, ◌<◌, ◌≤◌, Bool, true, false, IsTrue, zero, suc, Option, List, [], ◌∷◌, ◌++◌, length, refl, ap, sym, ◌∙◌, subst, append-nil, arith, Result, Ok, Err, IsErr, bytes_eq, nat_le, ◌&&◌, codes, ◌==◌, if◌then◌else◌}
+use Rattle.std.proofs.Common.{◌≡◌, ℕ, ◌<◌, ◌≤◌, Bool, true, false, IsTrue, zero, suc, Option, List, [], ◌∷◌, ◌++◌}
+use Rattle.std.proofs.Common.{length, refl, ap, sym, ◌∙◌, subst, append-nil, arith, Result, Ok, Err, IsErr, bytes_eq}
+use Rattle.std.proofs.Common.{nat_le, ◌&&◌, codes, ◌==◌, if◌then◌else◌}
 use Rattle.std.proofs.lemmas.Slice.Eq.{bytes_eq-Decides}
 use Rattle.std.proofs.lemmas.Bool.Decides.{nat_tests}
 use Rattle.std.specs.List.{list_all}
@@ -11,17 +13,23 @@ use Rattle.session.specs.Transcript.{answer_of, Answer, answer, note, answer_und
 use Rattle.session.specs.Heard.{Heard, Broke, Hears}
 use Rattle.session.specs.Wrote.{Wrote, WroteSome}
 
-pub heard_ok : (game : Game) (w w' : Option (List ℕ)) (s : Standing) (P : Standing → Type 0) (line : List ℕ) (refused : Bool) (a : Answer)
-    → answer game s (record { line = line; refused = refused }) ≡ a → P a.standing → Appends w w' a.reply → Heard game w w' s P (line ∷ [])
+pub heard_ok : (game : Game) (w w' : Option (List ℕ)) (s : Standing) (P : Standing → Type 0) (line : List ℕ)
+    (refused : Bool) (a : Answer)
+    → answer game s (record { line = line; refused = refused }) ≡ a → P a.standing → Appends w w' a.reply
+    → Heard game w w' s P (line ∷ [])
 heard_ok game w w' s P line refused a e f p = record {
   typed = record { line = line; refused = refused } ∷ [];
   said = refl;
-  wrote = subst (Appends w w') (ap (λ (b : Answer). b.reply) (sym e) ∙ sym (append-nil (answer game s (record { line = line; refused = refused })).reply)) p;
+  wrote = subst (Appends w w')
+      (ap (λ (b : Answer). b.reply) (sym e) ∙ sym
+      (append-nil (answer game s (record { line = line; refused = refused })).reply)) p;
   stands = subst (λ (b : Answer). P b.standing) (sym e) f;
 }
 
-pub heard_err : (game : Game) (w w' : Option (List ℕ)) (s : Standing) (P : Standing → Type 0) (line : List ℕ) (refused : Bool) (a : Answer)
-    → answer game s (record { line = line; refused = refused }) ≡ a → P a.standing → WroteSome w w' a.reply → Broke game w w' s P (line ∷ [])
+pub heard_err : (game : Game) (w w' : Option (List ℕ)) (s : Standing) (P : Standing → Type 0) (line : List ℕ)
+    (refused : Bool) (a : Answer)
+    → answer game s (record { line = line; refused = refused }) ≡ a → P a.standing → WroteSome w w' a.reply
+    → Broke game w w' s P (line ∷ [])
 heard_err game w w' s P line refused a e f p = record {
   typed = [];
   last = record { line = line; refused = refused };
@@ -34,18 +42,22 @@ heard_err game w w' s P line refused a e f p = record {
   stands = subst (λ (b : Answer). P b.standing) (sym e) f;
 }
 
-pub heard_one : {A : Type 0} (game : Game) (w w' : Option (List ℕ)) (s : Standing) (P : Standing → Type 0) (line : List ℕ) (refused : Bool) (a : Answer) (r : Result (Unit {0}) A)
-    → answer game s (record { line = line; refused = refused }) ≡ a → P a.standing → Wrote w w' a.reply r → Hears game w w' s P (line ∷ []) r
+pub heard_one : {A : Type 0} (game : Game) (w w' : Option (List ℕ)) (s : Standing) (P : Standing → Type 0)
+    (line : List ℕ) (refused : Bool) (a : Answer) (r : Result (Unit {0}) A)
+    → answer game s (record { line = line; refused = refused }) ≡ a → P a.standing → Wrote w w' a.reply r
+    → Hears game w w' s P (line ∷ []) r
 heard_one game w w' s P line refused a (Ok done) e f p = heard_ok game w w' s P line refused a e f p
 heard_one game w w' s P line refused a (Err x) e f p = heard_err game w w' s P line refused a e f p
 
-pub hears_err : {A : Type 0} (game : Game) (w w' : Option (List ℕ)) (s : Standing) (P : Standing → Type 0) (lines : List (List ℕ)) (r : Result (Unit {0}) A)
+pub hears_err : {A : Type 0} (game : Game) (w w' : Option (List ℕ)) (s : Standing) (P : Standing → Type 0)
+    (lines : List (List ℕ)) (r : Result (Unit {0}) A)
     → IsErr r → Broke game w w' s P lines → Hears game w w' s P lines r
 hears_err game w w' s P lines (Ok done) h p = cc
 hears_err game w w' s P lines (Err x) h p = p
 
 -- what `==` said of a line
-pub tested : (line words : List ℕ) (slice : List ℕ) (r b : Bool) → slice ≡ words → r ≡ bytes_eq line slice → r ≡ b → bytes_eq line words ≡ b
+pub tested : (line words : List ℕ) (slice : List ℕ) (r b : Bool) → slice ≡ words → r ≡ bytes_eq line slice → r ≡ b
+    → bytes_eq line words ≡ b
 tested line words slice r b e f h = ap (bytes_eq line) (sym e) ∙ sym f ∙ h
 
 -- what a test that failed says of a number
@@ -53,23 +65,36 @@ pub absent : (n : ℕ) → (0 < n → IsTrue false) → n ≤ 0
 absent zero h = omega arith
 absent (suc n) h = let e : false ≡ true = h (omega arith) in cc
 
-pub at_undo : (game : Game) (s : Standing) (line : List ℕ) (m : Bool) → bytes_eq line (codes "/undo") ≡ true → answer game s (record { line = line; refused = m }) ≡ answer_undo s
+pub at_undo : (game : Game) (s : Standing) (line : List ℕ) (m : Bool) → bytes_eq line (codes "/undo") ≡ true
+    → answer game s (record { line = line; refused = m }) ≡ answer_undo s
 unfolding answer_of
-at_undo game s line m e = ap (λ b. if b then answer_undo s else (if bytes_eq line (codes "/redo") then answer_redo (telling_of game) s else answer_line (telling_of game) game.keep s (record { line = line; refused = m }))) e
+at_undo game s line m e = ap
+    (λ b. if b then answer_undo s
+    else (if bytes_eq line (codes "/redo") then answer_redo (telling_of game) s
+    else answer_line (telling_of game) game.keep s (record { line = line; refused = m }))) e
 
-pub at_redo : (game : Game) (s : Standing) (line : List ℕ) (m : Bool) → bytes_eq line (codes "/undo") ≡ false → bytes_eq line (codes "/redo") ≡ true
+pub at_redo : (game : Game) (s : Standing) (line : List ℕ) (m : Bool) → bytes_eq line (codes "/undo") ≡ false
+    → bytes_eq line (codes "/redo") ≡ true
     → answer game s (record { line = line; refused = m }) ≡ answer_redo (telling_of game) s
 unfolding answer_of
 at_redo game s line m d e =
-    ap (λ b. if b then answer_undo s else (if bytes_eq line (codes "/redo") then answer_redo (telling_of game) s else answer_line (telling_of game) game.keep s (record { line = line; refused = m }))) d
-    ∙ ap (λ b. if b then answer_redo (telling_of game) s else answer_line (telling_of game) game.keep s (record { line = line; refused = m })) e
+    ap (λ b. if b then answer_undo s
+    else (if bytes_eq line (codes "/redo") then answer_redo (telling_of game) s
+    else answer_line (telling_of game) game.keep s (record { line = line; refused = m }))) d
+    ∙ ap (λ b. if b then answer_redo (telling_of game) s
+    else answer_line (telling_of game) game.keep s (record { line = line; refused = m })) e
 
-pub at_line : (game : Game) (s : Standing) (line : List ℕ) (m : Bool) → bytes_eq line (codes "/undo") ≡ false → bytes_eq line (codes "/redo") ≡ false
-    → answer game s (record { line = line; refused = m }) ≡ answer_line (telling_of game) game.keep s (record { line = line; refused = m })
+pub at_line : (game : Game) (s : Standing) (line : List ℕ) (m : Bool) → bytes_eq line (codes "/undo") ≡ false
+    → bytes_eq line (codes "/redo") ≡ false
+    → answer game s (record { line = line; refused = m })
+    ≡ answer_line (telling_of game) game.keep s (record { line = line; refused = m })
 unfolding answer_of
 at_line game s line m d e =
-    ap (λ b. if b then answer_undo s else (if bytes_eq line (codes "/redo") then answer_redo (telling_of game) s else answer_line (telling_of game) game.keep s (record { line = line; refused = m }))) d
-    ∙ ap (λ b. if b then answer_redo (telling_of game) s else answer_line (telling_of game) game.keep s (record { line = line; refused = m })) e
+    ap (λ b. if b then answer_undo s
+    else (if bytes_eq line (codes "/redo") then answer_redo (telling_of game) s
+    else answer_line (telling_of game) game.keep s (record { line = line; refused = m }))) d
+    ∙ ap (λ b. if b then answer_redo (telling_of game) s
+    else answer_line (telling_of game) game.keep s (record { line = line; refused = m })) e
 
 some : (n : ℕ) → 0 < n → (n == 0) ≡ false
 some n h = grind (arith, nat_tests)
@@ -77,32 +102,63 @@ some n h = grind (arith, nat_tests)
 none_of : (n : ℕ) → n ≤ 0 → (n == 0) ≡ true
 none_of n h = grind (arith, nat_tests)
 
-pub undo_some : (s : Standing) → 0 < s.kept → answer_undo s ≡ record { reply = note (codes "[Undone.]"); standing = undo_of s }
-undo_some s h = ap (λ b. record { reply = if b then note (codes "[Nothing to undo.]") else note (codes "[Undone.]"); standing = undo_of s }) (some s.kept h)
+pub undo_some : (s : Standing) → 0 < s.kept → answer_undo s
+    ≡ record { reply = note (codes "[Undone.]"); standing = undo_of s }
+undo_some s h = ap
+    (λ b. record {
+      reply = if b then note (codes "[Nothing to undo.]") else note (codes "[Undone.]");
+      standing = undo_of s;
+    }) (some s.kept h)
 
-pub undo_none : (s : Standing) → s.kept ≤ 0 → answer_undo s ≡ record { reply = note (codes "[Nothing to undo.]"); standing = undo_of s }
-undo_none s h = ap (λ b. record { reply = if b then note (codes "[Nothing to undo.]") else note (codes "[Undone.]"); standing = undo_of s }) (none_of s.kept h)
+pub undo_none : (s : Standing) → s.kept ≤ 0 → answer_undo s
+    ≡ record { reply = note (codes "[Nothing to undo.]"); standing = undo_of s }
+undo_none s h = ap
+    (λ b. record {
+      reply = if b then note (codes "[Nothing to undo.]") else note (codes "[Undone.]");
+      standing = undo_of s;
+    }) (none_of s.kept h)
 
-pub redo_some : (game : Game) (s : Standing) → 0 < length s.undone → answer_redo (telling_of game) s ≡ record { reply = note (codes "[Redone.]") ++ text_on game (redo_of s).done; standing = redo_of s }
-redo_some game s h = ap (λ b. record { reply = if b then note (codes "[Nothing to redo.]") else note (codes "[Redone.]") ++ text_on game (redo_of s).done; standing = redo_of s }) (some (length s.undone) h)
+pub redo_some : (game : Game) (s : Standing) → 0 < length s.undone
+    → answer_redo (telling_of game) s
+    ≡ record { reply = note (codes "[Redone.]") ++ text_on game (redo_of s).done; standing = redo_of s }
+redo_some game s h = ap
+    (λ b. record {
+      reply = if b then note (codes "[Nothing to redo.]")
+          else note (codes "[Redone.]") ++ text_on game (redo_of s).done;
+      standing = redo_of s;
+    }) (some (length s.undone) h)
 
-pub redo_none : (game : Game) (s : Standing) → length s.undone ≤ 0 → answer_redo (telling_of game) s ≡ record { reply = note (codes "[Nothing to redo.]"); standing = redo_of s }
-redo_none game s h = ap (λ b. record { reply = if b then note (codes "[Nothing to redo.]") else note (codes "[Redone.]") ++ text_on game (redo_of s).done; standing = redo_of s }) (none_of (length s.undone) h)
+pub redo_none : (game : Game) (s : Standing) → length s.undone ≤ 0
+    → answer_redo (telling_of game) s ≡ record { reply = note (codes "[Nothing to redo.]"); standing = redo_of s }
+redo_none game s h = ap
+    (λ b. record {
+      reply = if b then note (codes "[Nothing to redo.]")
+          else note (codes "[Redone.]") ++ text_on game (redo_of s).done;
+      standing = redo_of s;
+    })
+    (none_of (length s.undone) h)
 
-pub line_taken : (game : Game) (s : Standing) (line : List ℕ) → is_typable line ≡ true → is_waiting (place_on game s.done) ≡ true
-    → answer_line (telling_of game) game.keep s (record { line = line; refused = false }) ≡ record { reply = text_on game (s.done ++ line ∷ []); standing = taken game.keep line s }
+pub line_taken : (game : Game) (s : Standing) (line : List ℕ) → is_typable line ≡ true
+    → is_waiting (place_on game s.done) ≡ true
+    → answer_line (telling_of game) game.keep s (record { line = line; refused = false })
+    ≡ record { reply = text_on game (s.done ++ line ∷ []); standing = taken game.keep line s }
 line_taken game s line d e = rw (d, e) refl
 
-pub line_unmet : (game : Game) (s : Standing) (line : List ℕ) → is_typable line ≡ true → is_waiting (place_on game s.done) ≡ true
-    → answer_line (telling_of game) game.keep s (record { line = line; refused = true }) ≡ record { reply = note (codes "[No memory: line not taken.]"); standing = s }
+pub line_unmet : (game : Game) (s : Standing) (line : List ℕ) → is_typable line ≡ true
+    → is_waiting (place_on game s.done) ≡ true
+    → answer_line (telling_of game) game.keep s (record { line = line; refused = true })
+    ≡ record { reply = note (codes "[No memory: line not taken.]"); standing = s }
 line_unmet game s line d e = rw (d, e) refl
 
-pub line_over : (game : Game) (s : Standing) (line : List ℕ) (m : Bool) → is_typable line ≡ true → is_waiting (place_on game s.done) ≡ false
-    → answer_line (telling_of game) game.keep s (record { line = line; refused = m }) ≡ record { reply = note (codes "[The story is over.]"); standing = s }
+pub line_over : (game : Game) (s : Standing) (line : List ℕ) (m : Bool) → is_typable line ≡ true
+    → is_waiting (place_on game s.done) ≡ false
+    → answer_line (telling_of game) game.keep s (record { line = line; refused = m })
+    ≡ record { reply = note (codes "[The story is over.]"); standing = s }
 line_over game s line m d e = rw (d, e) refl
 
 pub line_refused : (game : Game) (s : Standing) (line : List ℕ) (m : Bool) → is_typable line ≡ false
-    → answer_line (telling_of game) game.keep s (record { line = line; refused = m }) ≡ record { reply = note (codes "[Line refused.]"); standing = s }
+    → answer_line (telling_of game) game.keep s (record { line = line; refused = m })
+    ≡ record { reply = note (codes "[Line refused.]"); standing = s }
 line_refused game s line m d = rw d refl
 
 unequal_at : (xs ys : List ℕ) → (length xs ≡ length ys → ⊥) → (b : Bool) → bytes_eq xs ys ≡ b → b ≡ false
@@ -119,9 +175,12 @@ pub long_untypable : (line : List ℕ) → longest_line < length line → is_typ
 long_untypable line h = ap (λ b. b && list_all is_typable_byte line) (above (length line) longest_line h)
 
 -- a line of more than 1,000 bytes is refused
-pub answer_long : (game : Game) (s : Standing) (line : List ℕ) → longest_line < length line → answer game s (record { line = line; refused = false }) ≡ record { reply = note (codes "[Line refused.]"); standing = s }
+pub answer_long : (game : Game) (s : Standing) (line : List ℕ) → longest_line < length line
+    → answer game s (record { line = line; refused = false })
+    ≡ record { reply = note (codes "[Line refused.]"); standing = s }
 answer_long game s line h =
-    at_line game s line false (unequal line (codes "/undo") (λ e. omega arith)) (unequal line (codes "/redo") (λ e. omega arith))
+    at_line game s line false (unequal line (codes "/undo") (λ e. omega arith))
+    (unequal line (codes "/redo") (λ e. omega arith))
     ∙ line_refused game s line false (long_untypable line h)
 
 pub untrue : (n m : ℕ) → (n ≡ m → ⊥) → (n == m) ≡ false

@@ -1,16 +1,19 @@
 -- What a run's contract says where the reader and the writer tell their bytes.
-use Rattle.std.proofs.Common.{Option, None, Some, ◌≡◌, ℕ, false, List, [], ◌∷◌, ◌++◌, map, refl, ap, sym, ◌∙◌, subst, append_assoc, append-nil, Result, Ok, Err}
+use Rattle.std.proofs.Common.{Option, None, Some, ◌≡◌, ℕ, false, List, [], ◌∷◌, ◌++◌, map, refl, ap, sym, ◌∙◌, subst}
+use Rattle.std.proofs.Common.{append_assoc, append-nil, Result, Ok, Err}
 use Rattle.std.proofs.lemmas.List.{map-append}
 use Rattle.std.specs.Io.KnownBytes.{Appends, Consumes, IsAtEnd}
 use Rattle.zcore.specs.declared.place.Place.{Place}
 use Rattle.session.specs.Input.{lines_of}
 use Rattle.session.specs.Game.{telling_of, Game, Telling, text_on, place_on}
 use Rattle.session.specs.Standing.{Standing, nothing}
-use Rattle.session.specs.Transcript.{Typed, lines_typed, Answer, answer, answer_of, replies, replies_of, after, standing_after, transcript, transcript_of}
+use Rattle.session.specs.Transcript.{Typed, lines_typed, Answer, answer, answer_of, replies, replies_of, after}
+use Rattle.session.specs.Transcript.{standing_after, transcript, transcript_of}
 use Rattle.session.specs.declared.fault.RunFault.{RunFault}
 use Rattle.session.specs.declared.fault.RunFault.TheVariants.{Reading, Writing}
 use Rattle.session.specs.Wrote.{WroteSome}
-use Rattle.session.specs.Ran.{Streams, Played, RanWhole, RanToRead, LinesRead, BrokeInReply, RanToWrite, in_opening, in_reply, Ran}
+use Rattle.session.specs.Ran.{Streams, Played, RanWhole, RanToRead, LinesRead, BrokeInReply, RanToWrite, in_opening}
+use Rattle.session.specs.Ran.{in_reply, Ran}
 use Rattle.session.proofs.Chaining.{replies-append}
 use Rattle.session.proofs.Going.{streams}
 
@@ -19,17 +22,22 @@ pub input_known : (xs input : List ℕ) (r' : Option (List ℕ)) → Consumes (S
 input_known xs input None p q = absurd p
 input_known xs input (Some ys) p q = sym (p ∙ ap (λ y. input ++ y) q ∙ append-nil input)
 
--- a run without a fault: all of the reader's bytes were played, and the writer holds what was written beside what it held
+-- a run without a fault: all of the reader's bytes were played, and the writer holds what was written beside what it
+-- held
 pub record Told (game : Game) (input before later : List ℕ) (P : Standing → Type 0) (p : Place) : Type 0 where
   pub written : List ℕ
   pub wrote : later ≡ before ++ written
   pub played : Played (telling_of game) game.keep (lines_of input) written (λ s. P s × (p ≡ place_on game s.done))
 
-pub whole_told : (game : Game) (xs before later : List ℕ) (r' : Option (List ℕ)) (P : Standing → Type 0) (p : Place) → RanWhole (telling_of game) game.keep (streams (Some xs) r' (Some before) (Some later)) P p → Told game xs before later P p
+pub whole_told : (game : Game) (xs before later : List ℕ) (r' : Option (List ℕ)) (P : Standing → Type 0) (p : Place)
+    → RanWhole (telling_of game) game.keep (streams (Some xs) r' (Some before) (Some later)) P p
+    → Told game xs before later P p
 whole_told game xs before later r' P p h = record {
   written = h.written;
   wrote = h.wrote;
-  played = subst (λ x. Played (telling_of game) game.keep (lines_of x) h.written (λ s. P s × (p ≡ place_on game s.done))) (input_known xs h.input r' h.took h.ended) h.played;
+  played = subst
+      (λ x. Played (telling_of game) game.keep (lines_of x) h.written (λ s. P s × (p ≡ place_on game s.done)))
+      (input_known xs h.input r' h.took h.ended) h.played;
 }
 
 lines_unmarked : (ls : List (List ℕ)) → lines_typed (map (λ l. record { line = l; refused = false }) ls) ≡ ls
@@ -43,7 +51,9 @@ pub record Begins (game : Game) (r' : Option (List ℕ)) (input written : List �
   pub said : LinesRead r' input (lines_typed typed)
   pub begins : written ++ rest ≡ transcript game typed
 
-pub broke_begins : (game : Game) (r r' w w' : Option (List ℕ)) (P : Standing → Type 0) → (h : BrokeInReply (telling_of game) game.keep (streams r r' w w') P) → Begins game r' h.input (transcript game h.typed ++ h.part)
+pub broke_begins : (game : Game) (r r' w w' : Option (List ℕ)) (P : Standing → Type 0)
+    → (h : BrokeInReply (telling_of game) game.keep (streams r r' w w') P)
+    → Begins game r' h.input (transcript game h.typed ++ h.part)
 broke_begins game r r' w w' P h =
     let more : List Typed = map (λ l. record { line = l; refused = false }) h.more in
     let t : Standing = after game nothing h.typed in
@@ -51,10 +61,13 @@ broke_begins game r r' w w' P h =
     record {
       typed = h.typed ++ h.last ∷ more;
       rest = h.rest ++ tail;
-      said = subst (LinesRead r' h.input) (sym (map-append (λ (x : Typed). x.line) h.typed (h.last ∷ more) ∙ ap (λ l. lines_typed h.typed ++ h.last.line ∷ l) (lines_unmarked h.more))) h.said;
+      said = subst (LinesRead r' h.input)
+          (sym (map-append (λ (x : Typed). x.line) h.typed (h.last ∷ more)
+          ∙ ap (λ l. lines_typed h.typed ++ h.last.line ∷ l) (lines_unmarked h.more))) h.said;
       begins =
           append_assoc (transcript game h.typed) h.part (h.rest ++ tail)
-          ∙ ap (λ l. transcript game h.typed ++ l) (sym (append_assoc h.part h.rest tail) ∙ ap (λ l. l ++ tail) h.whole)
+          ∙ ap (λ l. transcript game h.typed ++ l)
+          (sym (append_assoc h.part h.rest tail) ∙ ap (λ l. l ++ tail) h.whole)
           ∙ append_assoc (text_on game []) (replies game nothing h.typed) ((answer game t h.last).reply ++ tail)
           ∙ ap (λ l. text_on game [] ++ l) (sym (replies-append game nothing h.typed (h.last ∷ more)));
     }
@@ -66,26 +79,33 @@ pub record Agree (a b : Telling) : Type 0 where
   pub texts : (ls : List (List ℕ)) → a.text ls ≡ b.text ls
   pub places : (ls : List (List ℕ)) → a.place ls ≡ b.place ls
 
-pub answer_same : (a b : Telling) (keep : Option ℕ) → Agree a b → (s : Standing) (x : Typed) → answer_of a keep s x ≡ answer_of b keep s x
+pub answer_same : (a b : Telling) (keep : Option ℕ) → Agree a b → (s : Standing) (x : Typed)
+    → answer_of a keep s x ≡ answer_of b keep s x
 unfolding answer_of
 answer_same a b keep same s x = simp (same.texts, same.places)
 
-pub replies_same : (a b : Telling) (keep : Option ℕ) → Agree a b → (s : Standing) (xs : List Typed) → replies_of a keep s xs ≡ replies_of b keep s xs
+pub replies_same : (a b : Telling) (keep : Option ℕ) → Agree a b → (s : Standing) (xs : List Typed)
+    → replies_of a keep s xs ≡ replies_of b keep s xs
 replies_same a b keep same s [] = refl
 replies_same a b keep same s (x ∷ xs) =
     ap (λ (t : Answer). t.reply ++ replies_of a keep t.standing xs) (answer_same a b keep same s x)
     ∙ ap (λ t. (answer_of b keep s x).reply ++ t) (replies_same a b keep same (answer_of b keep s x).standing xs)
 
-pub standing_same : (a b : Telling) (keep : Option ℕ) → Agree a b → (s : Standing) (xs : List Typed) → standing_after a keep s xs ≡ standing_after b keep s xs
+pub standing_same : (a b : Telling) (keep : Option ℕ) → Agree a b → (s : Standing) (xs : List Typed)
+    → standing_after a keep s xs ≡ standing_after b keep s xs
 standing_same a b keep same s [] = refl
 standing_same a b keep same s (x ∷ xs) =
     ap (λ (t : Answer). standing_after a keep t.standing xs) (answer_same a b keep same s x)
     ∙ standing_same a b keep same (answer_of b keep s x).standing xs
 
-pub transcript_same : (a b : Telling) (keep : Option ℕ) → Agree a b → (xs : List Typed) → transcript_of a keep xs ≡ transcript_of b keep xs
-transcript_same a b keep same xs = ap (λ t. t ++ replies_of a keep nothing xs) (same.texts []) ∙ ap (λ t. b.text [] ++ t) (replies_same a b keep same nothing xs)
+pub transcript_same : (a b : Telling) (keep : Option ℕ) → Agree a b → (xs : List Typed)
+    → transcript_of a keep xs ≡ transcript_of b keep xs
+transcript_same a b keep same xs = ap (λ t. t ++ replies_of a keep nothing xs) (same.texts [])
+    ∙ ap (λ t. b.text [] ++ t) (replies_same a b keep same nothing xs)
 
-played_same : (a b : Telling) (keep : Option ℕ) → Agree a b → (lines : List (List ℕ)) (written : List ℕ) (P : Standing → Type 0) → Played a keep lines written P → Played b keep lines written P
+played_same : (a b : Telling) (keep : Option ℕ) → Agree a b
+    → (lines : List (List ℕ)) (written : List ℕ) (P : Standing → Type 0) → Played a keep lines written P
+    → Played b keep lines written P
 played_same a b keep same lines written P h = record {
   typed = h.typed;
   said = h.said;
@@ -93,9 +113,11 @@ played_same a b keep same lines written P h = record {
   stands = subst P (standing_same a b keep same nothing h.typed) h.stands;
 }
 
-whole_same : (a b : Telling) (keep : Option ℕ) → Agree a b → (io : Streams) (P : Standing → Type 0) (p : Place) → RanWhole a keep io P p → RanWhole b keep io P p
+whole_same : (a b : Telling) (keep : Option ℕ) → Agree a b → (io : Streams) (P : Standing → Type 0) (p : Place)
+    → RanWhole a keep io P p → RanWhole b keep io P p
 whole_same a b keep same io P p h =
-    let q = subst (λ s. P s × (p ≡ a.place s.done)) (standing_same a b keep same nothing h.played.typed) h.played.stands in
+    let q = subst (λ s. P s × (p ≡ a.place s.done)) (standing_same a b keep same nothing h.played.typed)
+    h.played.stands in
     record {
       input = h.input;
       written = h.written;
@@ -110,7 +132,8 @@ whole_same a b keep same io P p h =
       };
     }
 
-read_same : (a b : Telling) (keep : Option ℕ) → Agree a b → (io : Streams) (P : Standing → Type 0) → RanToRead a keep io P → RanToRead b keep io P
+read_same : (a b : Telling) (keep : Option ℕ) → Agree a b → (io : Streams) (P : Standing → Type 0)
+    → RanToRead a keep io P → RanToRead b keep io P
 read_same a b keep same io P h = record {
   input = h.input;
   written = h.written;
@@ -119,15 +142,18 @@ read_same a b keep same io P h = record {
   played = played_same a b keep same _ h.written P h.played;
 }
 
-write_same : (a b : Telling) (keep : Option ℕ) → Agree a b → (io : Streams) (P : Standing → Type 0) → RanToWrite a keep io P → RanToWrite b keep io P
+write_same : (a b : Telling) (keep : Option ℕ) → Agree a b → (io : Streams) (P : Standing → Type 0)
+    → RanToWrite a keep io P → RanToWrite b keep io P
 write_same a b keep same io P (in_opening h) = in_opening (record {
   unread = h.unread;
   wrote = subst (WroteSome io.held_before io.held_after) (same.texts []) h.wrote;
   stands = h.stands;
 })
 write_same a b keep same io P (in_reply h) =
-    let e : answer_of a keep (standing_after a keep nothing h.typed) h.last ≡ answer_of b keep (standing_after b keep nothing h.typed) h.last =
-    ap (λ s. answer_of a keep s h.last) (standing_same a b keep same nothing h.typed) ∙ answer_same a b keep same (standing_after b keep nothing h.typed) h.last in
+    let e : answer_of a keep (standing_after a keep nothing h.typed) h.last
+    ≡ answer_of b keep (standing_after b keep nothing h.typed) h.last =
+    ap (λ s. answer_of a keep s h.last) (standing_same a b keep same nothing h.typed)
+    ∙ answer_same a b keep same (standing_after b keep nothing h.typed) h.last in
     in_reply (record {
       input = h.input;
       typed = h.typed;
@@ -138,12 +164,15 @@ write_same a b keep same io P (in_reply h) =
       part = h.part;
       rest = h.rest;
       whole = h.whole ∙ ap (λ (x : Answer). x.reply) e;
-      wrote = subst (λ t. Appends io.held_before io.held_after (t ++ h.part)) (transcript_same a b keep same h.typed) h.wrote;
+      wrote = subst (λ t. Appends io.held_before io.held_after (t ++ h.part)) (transcript_same a b keep same h.typed)
+          h.wrote;
       stands = subst (λ (x : Answer). P x.standing) e h.stands;
     })
 
 -- a run is what the one telling says, and so what the other says
-pub ran_same : (a b : Telling) (keep : Option ℕ) → Agree a b → (io : Streams) (P : Standing → Type 0) (result : Result Place RunFault) → Ran a keep io P result → Ran b keep io P result
+pub ran_same : (a b : Telling) (keep : Option ℕ) → Agree a b
+    → (io : Streams) (P : Standing → Type 0) (result : Result Place RunFault) → Ran a keep io P result
+    → Ran b keep io P result
 ran_same a b keep same io P (Ok place) h = whole_same a b keep same io P place h
 ran_same a b keep same io P (Err Reading) h = read_same a b keep same io P h
 ran_same a b keep same io P (Err Writing) h = write_same a b keep same io P h

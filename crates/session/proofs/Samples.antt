@@ -4,7 +4,8 @@ use Rattle.std.specs.Prelude.{codes, replicate}
 use Rattle.zcore.specs.declared.place.Place.TheVariants as places
 use Rattle.zcore.specs.Turn.{StateOfPlay, Whole}
 use Rattle.session.specs.Standing.{nothing, is_typable, undo_of, redo_of, taken, reached}
-use Rattle.session.specs.Session.{Session, all_cells, stepped_back, stepped_forward, with_turn, bounded, latest_text, latest_size}
+use Rattle.session.specs.Session.{Session, all_cells, stepped_back, stepped_forward, with_turn, bounded, latest_text}
+use Rattle.session.specs.Session.{latest_size}
 
 abbrev a : List ℕ
 a = codes "a"
@@ -46,13 +47,16 @@ one_undone = refl
 nothing_undone : undo_of nothing ≡ nothing
 nothing_undone = refl
 
-both_undone : undo_of (undo_of (taken None b (taken None a nothing))) ≡ record { done = []; undone = a ∷ b ∷ []; kept = 0 }
+both_undone : undo_of (undo_of (taken None b (taken None a nothing)))
+    ≡ record { done = []; undone = a ∷ b ∷ []; kept = 0 }
 both_undone = refl
 
-done_again : redo_of (undo_of (undo_of (taken None b (taken None a nothing)))) ≡ record { done = a ∷ []; undone = b ∷ []; kept = 1 }
+done_again : redo_of (undo_of (undo_of (taken None b (taken None a nothing))))
+    ≡ record { done = a ∷ []; undone = b ∷ []; kept = 1 }
 done_again = refl
 
-undone_no_further : undo_of (record { done = a ∷ []; undone = b ∷ []; kept = 0 }) ≡ record { done = a ∷ []; undone = b ∷ []; kept = 0 }
+undone_no_further : undo_of (record { done = a ∷ []; undone = b ∷ []; kept = 0 })
+    ≡ record { done = a ∷ []; undone = b ∷ []; kept = 0 }
 undone_no_further = refl
 
 nothing_done_again : redo_of (taken None a nothing) ≡ taken None a nothing
@@ -72,7 +76,8 @@ reached_lines = refl
 
 -- cells at all times: the first turn wrote 6 over 5, the second 8 over 7; the first of them is done
 
-all_times : all_cells (6 ∷ 7 ∷ []) (((0, 5) ∷ []) ∷ ((1, 8) ∷ []) ∷ []) 1 ≡ (5 ∷ 7 ∷ []) ∷ (6 ∷ 7 ∷ []) ∷ (6 ∷ 8 ∷ []) ∷ []
+all_times : all_cells (6 ∷ 7 ∷ []) (((0, 5) ∷ []) ∷ ((1, 8) ∷ []) ∷ []) 1 ≡ (5 ∷ 7 ∷ []) ∷ (6 ∷ 7 ∷ [])
+    ∷ (6 ∷ 8 ∷ []) ∷ []
 unfolding all_cells
 all_times = refl
 
@@ -132,9 +137,19 @@ latest_record : latest_size (bounded (with_turn b 128 second at_start)) ≡ 128
 latest_record = refl
 
 abbrev none_kept_yet : Session
-none_kept_yet = record at_start { keep = Some 0; states = state 0 ∷ []; places = places.Waiting ∷ []; texts = []; lines = []; sizes = []; present = 0 }
+none_kept_yet = record
+    at_start {
+      keep = Some 0;
+      states = state 0 ∷ [];
+      places = places.Waiting ∷ [];
+      texts = [];
+      lines = [];
+      sizes = [];
+      present = 0;
+    }
 
-turn_not_kept : bounded (with_turn b 128 second none_kept_yet) ≡ record none_kept_yet { states = state 2 ∷ []; places = places.Quit ∷ []; given_up = codes "2" }
+turn_not_kept : bounded (with_turn b 128 second none_kept_yet)
+    ≡ record none_kept_yet { states = state 2 ∷ []; places = places.Quit ∷ []; given_up = codes "2" }
 turn_not_kept = refl
 
 latest_not_kept : latest_text (bounded (with_turn b 128 second none_kept_yet)) ≡ codes "2"

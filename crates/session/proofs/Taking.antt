@@ -1,7 +1,10 @@
 -- What a line that is taken makes of a session.
-use Rattle.std.proofs.Common.{Option, None, Some, ◌≡◌, ℕ, zero, suc, ◌+◌, ◌-◌, ◌≤◌, min, List, [], ◌∷◌, ◌++◌, length, get_or, take, drop, map, refl, ap, sym, ◌∙◌, subst, arith, append-nil, length-append, add-one, true, inl, inr}
+use Rattle.std.proofs.Common.{Option, None, Some, ◌≡◌, ℕ, zero, suc, ◌+◌, ◌-◌, ◌≤◌, min, List, [], ◌∷◌, ◌++◌, length}
+use Rattle.std.proofs.Common.{get_or, take, drop, map, refl, ap, sym, ◌∙◌, subst, arith, append-nil, length-append}
+use Rattle.std.proofs.Common.{add-one, true, inl, inr}
 use Rattle.std.specs.Prelude.{IfSome}
-use Rattle.std.proofs.lemmas.List.{length-take-le, length-drop, length-map, map_push, take-map, drop-map, drop-drop, drop-take, drop-append-le, take_at, get_or_push, get_or-drop, length_push}
+use Rattle.std.proofs.lemmas.List.{length-take-le, length-drop, length-map, map_push, take-map, drop-map, drop-drop}
+use Rattle.std.proofs.lemmas.List.{drop-take, drop-append-le, take_at, get_or_push, get_or-drop, length_push}
 use Rattle.std.proofs.lemmas.List.Elements.{All-drop}
 use Rattle.std.proofs.Math.Nat.{eq-or-lt_of_le}
 use Rattle.zcore.specs.Header.{static_base_of}
@@ -13,38 +16,50 @@ use Rattle.session.specs.Sessions.{all_lines, IsSession}
 use Rattle.session.specs.Turned.{Turned}
 use Rattle.session.proofs.Turning.{all_taken}
 use Rattle.session.proofs.Plays.{plays_more, last_of, last_at}
-use Rattle.session.proofs.Sessions.{Unbounded, unbounded, with_bound, present_of, present_state, present_place, place_is, done_plays, some_whole, text_none, text_some, bound_none, bound_over, bound_under}
+use Rattle.session.proofs.Sessions.{Unbounded, unbounded, with_bound, present_of, present_state, present_place}
+use Rattle.session.proofs.Sessions.{place_is, done_plays, some_whole, text_none, text_some, bound_none, bound_over}
+use Rattle.session.proofs.Sessions.{bound_under}
 
 -- the lines that stand once one is taken, before the oldest turn may go
 abbrev longer : List ℕ → Standing → Standing
 longer line s = record { done = s.done ++ line ∷ []; undone = []; kept = s.kept + 1 }
 
 -- the whole states then
-longer_plays : (story : List ℕ) (units : ℕ) (s : Standing) (v : Session) (line : List ℕ) (whole : Whole) → Unbounded story units s v → is_waiting (present_of story units s).place ≡ true → turn_on line units (present_of story units s).state ≡ Some whole
-    → plays story units (all_lines (longer line s)) ≡ take (suc (length s.done)) (plays story units (all_lines s)) ++ whole ∷ []
+longer_plays : (story : List ℕ) (units : ℕ) (s : Standing) (v : Session) (line : List ℕ) (whole : Whole)
+    → Unbounded story units s v → is_waiting (present_of story units s).place ≡ true
+    → turn_on line units (present_of story units s).state ≡ Some whole
+    → plays story units (all_lines (longer line s)) ≡ take (suc (length s.done)) (plays story units (all_lines s))
+    ++ whole ∷ []
 unfolding present_of
 longer_plays story units s v line whole h waits turn =
     let ws = plays story units (all_lines s) in
     let n = length s.done in
     let front : plays story units s.done ≡ take (suc n) ws = done_plays story units s v h in
     let size : length (take (suc n) ws) ≡ suc n = length-take-le (suc n) ws (omega (arith, h.whole)) in
-    let last : last_of some_whole (plays story units s.done) ≡ get_or ws n some_whole = ap (last_of some_whole) front ∙ last_at ws n some_whole (omega (arith, h.whole)) in
+    let last : last_of some_whole (plays story units s.done) ≡ get_or ws n some_whole = ap (last_of some_whole) front
+    ∙ last_at ws n some_whole (omega (arith, h.whole)) in
     ap (plays story units) (append-nil (s.done ++ line ∷ []))
-    ∙ plays_more story units s.done line some_whole whole (get_or ws n some_whole) (ap length front ∙ size ∙ sym (add-one n)) last waits turn
+    ∙ plays_more story units s.done line some_whole whole (get_or ws n some_whole)
+    (ap length front ∙ size ∙ sym (add-one n)) last waits turn
     ∙ ap (λ xs. xs ++ whole ∷ []) front
 
 -- the front of what is reached
-reached_front : {A : Type 0} (ws : List A) (b kept n : ℕ) (x : A) → b + (kept + 1) ≡ suc n → suc n ≤ length ws → drop b (take (suc n) ws ++ x ∷ []) ≡ take (kept + 1) (drop b ws) ++ x ∷ []
+reached_front : {A : Type 0} (ws : List A) (b kept n : ℕ) (x : A) → b + (kept + 1) ≡ suc n → suc n ≤ length ws
+    → drop b (take (suc n) ws ++ x ∷ []) ≡ take (kept + 1) (drop b ws) ++ x ∷ []
 reached_front ws b kept n x is le =
     drop-append-le b (take (suc n) ws) (x ∷ []) (omega (arith, length-take-le (suc n) ws le))
     ∙ ap (λ m. drop b (take m ws) ++ x ∷ []) (sym is) ∙ ap (λ xs. xs ++ x ∷ []) (drop-take b (kept + 1) ws)
 
-reached_map : {A B : Type 0} (f : A → B) (xs : List B) (ws : List A) (p kept : ℕ) (x : A) → xs ≡ map f ws → p ≡ kept → take p xs ++ f x ∷ [] ≡ map f (take kept ws ++ x ∷ [])
+reached_map : {A B : Type 0} (f : A → B) (xs : List B) (ws : List A) (p kept : ℕ) (x : A) → xs ≡ map f ws → p ≡ kept
+    → take p xs ++ f x ∷ [] ≡ map f (take kept ws ++ x ∷ [])
 reached_map f xs ws p kept x e is =
-    ap (λ ys. take p ys ++ f x ∷ []) e ∙ ap (λ k. take k (map f ws) ++ f x ∷ []) is ∙ ap (λ ys. ys ++ f x ∷ []) (take-map f kept ws) ∙ sym (map_push f (take kept ws) x)
+    ap (λ ys. take p ys ++ f x ∷ []) e ∙ ap (λ k. take k (map f ws) ++ f x ∷ []) is
+    ∙ ap (λ ys. ys ++ f x ∷ []) (take-map f kept ws) ∙ sym (map_push f (take kept ws) x)
 
-pub session_longer : (story : List ℕ) (units : ℕ) (s : Standing) (v : Session) (line : List ℕ) (size : ℕ) (whole : Whole) → Unbounded story units s v → is_waiting (present_of story units s).place ≡ true
-    → turn_on line units (present_of story units s).state ≡ Some whole → size ≤ largest_record (static_base_of story) → Unbounded story units (longer line s) (with_turn line size whole v)
+pub session_longer : (story : List ℕ) (units : ℕ) (s : Standing) (v : Session) (line : List ℕ) (size : ℕ)
+    (whole : Whole) → Unbounded story units s v → is_waiting (present_of story units s).place ≡ true
+    → turn_on line units (present_of story units s).state ≡ Some whole → size ≤ largest_record (static_base_of story)
+    → Unbounded story units (longer line s) (with_turn line size whole v)
 session_longer story units s v line size whole h waits turn small =
     let ws = plays story units (all_lines s) in
     let n = length s.done in
@@ -54,40 +69,56 @@ session_longer story units s v line size whole h waits turn small =
     let split : b + (s.kept + 1) ≡ suc n = omega arith in
     let le : suc n ≤ length ws = omega (arith, h.whole) in
     let long : length (take (suc n) ws) ≡ suc n = length-take-le (suc n) ws le in
-    let all : plays story units (all_lines (longer line s)) ≡ take (suc n) ws ++ whole ∷ [] = longer_plays story units s v line whole h waits turn in
+    let all : plays story units (all_lines (longer line s)) ≡ take (suc n) ws
+    ++ whole ∷ [] = longer_plays story units s v line whole h waits turn in
     let back : length (s.done ++ line ∷ []) - (s.kept + 1) ≡ b = omega arith in
-    let states : reached (longer line s) (plays story units (all_lines (longer line s))) ≡ take (s.kept + 1) (drop b ws) ++ whole ∷ [] =
-    ap (λ k. drop k (plays story units (all_lines (longer line s)))) back ∙ ap (drop b) all ∙ reached_front ws b s.kept n whole split le in
-    let wide : length (take (s.kept + 1) (drop b ws)) ≡ s.kept + 1 = length-take-le (s.kept + 1) (drop b ws) (omega (arith, length-drop b ws)) in
+    let states : reached (longer line s) (plays story units (all_lines (longer line s)))
+    ≡ take (s.kept + 1) (drop b ws) ++ whole ∷ [] =
+    ap (λ k. drop k (plays story units (all_lines (longer line s)))) back ∙ ap (drop b) all
+    ∙ reached_front ws b s.kept n whole split le in
+    let wide : length (take (s.kept + 1) (drop b ws))
+    ≡ s.kept + 1 = length-take-le (s.kept + 1) (drop b ws) (omega (arith, length-drop b ws)) in
     let one : 1 + s.kept ≡ s.kept + 1 = omega arith in
-    let texts : drop 1 (reached (longer line s) (plays story units (all_lines (longer line s)))) ≡ take s.kept (drop 1 (drop b ws)) ++ whole ∷ [] =
+    let texts : drop 1 (reached (longer line s) (plays story units (all_lines (longer line s))))
+    ≡ take s.kept (drop 1 (drop b ws)) ++ whole ∷ [] =
     ap (drop 1) states ∙ drop-append-le 1 (take (s.kept + 1) (drop b ws)) (whole ∷ []) (omega arith)
-    ∙ ap (λ k. drop 1 (take k (drop b ws)) ++ whole ∷ []) (sym one) ∙ ap (λ xs. xs ++ whole ∷ []) (drop-take 1 s.kept (drop b ws)) in
+    ∙ ap (λ k. drop 1 (take k (drop b ws)) ++ whole ∷ []) (sym one)
+    ∙ ap (λ xs. xs ++ whole ∷ []) (drop-take 1 s.kept (drop b ws)) in
     let kept : b + s.kept ≡ n = omega arith in
     let old : take s.kept (reached s (all_lines s)) ≡ drop b s.done =
-    sym (drop-take b s.kept (s.done ++ s.undone)) ∙ ap (λ k. drop b (take k (s.done ++ s.undone))) kept ∙ ap (drop b) (take_at s.done s.undone n refl) in
+    sym (drop-take b s.kept (s.done ++ s.undone)) ∙ ap (λ k. drop b (take k (s.done ++ s.undone))) kept
+    ∙ ap (drop b) (take_at s.done s.undone n refl) in
     let lines : reached (longer line s) (all_lines (longer line s)) ≡ drop b s.done ++ line ∷ [] =
-    ap (λ k. drop k (all_lines (longer line s))) back ∙ ap (drop b) (append-nil (s.done ++ line ∷ [])) ∙ drop-append-le b s.done (line ∷ []) (omega arith) in
+    ap (λ k. drop k (all_lines (longer line s))) back ∙ ap (drop b) (append-nil (s.done ++ line ∷ []))
+    ∙ drop-append-le b s.done (line ∷ []) (omega arith) in
     let present : v.present + 1 ≡ s.kept + 1 = ap (λ k. k + 1) h.present in
     let room : v.present ≤ length v.sizes = omega (arith, h.records, h.present) in
-    let sizes : length (take v.present v.sizes ++ size ∷ []) ≡ v.present + 1 = length_push (take v.present v.sizes) size ∙ ap (λ k. k + 1) (length-take-le v.present v.sizes room) in
+    let sizes : length (take v.present v.sizes ++ size ∷ [])
+    ≡ v.present + 1 = length_push (take v.present v.sizes) size
+    ∙ ap (λ k. k + 1) (length-take-le v.present v.sizes room) in
     record {
       whole = ap length all ∙ omega (arith, length-append (take (suc n) ws) (whole ∷ []));
       reach = omega arith;
       fuel = h.fuel;
       static_base = h.static_base;
       opening = h.opening;
-      states = reached_map (λ (w : Whole). w.state) v.states (drop b ws) (v.present + 1) (s.kept + 1) whole h.states present ∙ ap (map (λ (w : Whole). w.state)) (sym states);
-      places = reached_map (λ (w : Whole). w.place) v.places (drop b ws) (v.present + 1) (s.kept + 1) whole h.places present ∙ ap (map (λ (w : Whole). w.place)) (sym states);
-      texts = reached_map (λ (w : Whole). w.text) v.texts (drop 1 (drop b ws)) v.present s.kept whole h.texts h.present ∙ ap (map (λ (w : Whole). w.text)) (sym texts);
-      lines = ap (λ xs. take v.present xs ++ line ∷ []) h.lines ∙ ap (λ k. take k (reached s (all_lines s)) ++ line ∷ []) h.present ∙ ap (λ xs. xs ++ line ∷ []) old ∙ sym lines;
+      states = reached_map (λ (w : Whole). w.state) v.states (drop b ws) (v.present + 1) (s.kept + 1) whole h.states
+          present ∙ ap (map (λ (w : Whole). w.state)) (sym states);
+      places = reached_map (λ (w : Whole). w.place) v.places (drop b ws) (v.present + 1) (s.kept + 1) whole h.places
+          present ∙ ap (map (λ (w : Whole). w.place)) (sym states);
+      texts = reached_map (λ (w : Whole). w.text) v.texts (drop 1 (drop b ws)) v.present s.kept whole h.texts
+          h.present ∙ ap (map (λ (w : Whole). w.text)) (sym texts);
+      lines = ap (λ xs. take v.present xs ++ line ∷ []) h.lines
+          ∙ ap (λ k. take k (reached s (all_lines s)) ++ line ∷ []) h.present ∙ ap (λ xs. xs ++ line ∷ []) old
+          ∙ sym lines;
       records = omega arith;
       small = all_taken (λ n. n ≤ largest_record (static_base_of story)) v.sizes v.present size room h.small small;
       present = present;
     }
 
 -- the oldest turn is given up
-pub session_older : (story : List ℕ) (units : ℕ) (s : Standing) (v : Session) (kept : ℕ) → kept + 1 ≡ s.kept → Unbounded story units s v → Unbounded story units (record s { kept = kept }) (without_oldest v)
+pub session_older : (story : List ℕ) (units : ℕ) (s : Standing) (v : Session) (kept : ℕ) → kept + 1 ≡ s.kept
+    → Unbounded story units s v → Unbounded story units (record s { kept = kept }) (without_oldest v)
 session_older story units s v kept e h =
     let ws = plays story units (all_lines s) in
     let b = length s.done - s.kept in
@@ -100,9 +131,12 @@ session_older story units s v kept e h =
       fuel = h.fuel;
       static_base = h.static_base;
       opening = h.opening;
-      states = ap (drop 1) h.states ∙ drop-map (λ (w : Whole). w.state) 1 (drop b ws) ∙ ap (map (λ (w : Whole). w.state)) states;
-      places = ap (drop 1) h.places ∙ drop-map (λ (w : Whole). w.place) 1 (drop b ws) ∙ ap (map (λ (w : Whole). w.place)) states;
-      texts = ap (drop 1) h.texts ∙ drop-map (λ (w : Whole). w.text) 1 (drop 1 (drop b ws)) ∙ ap (λ xs. map (λ (w : Whole). w.text) (drop 1 xs)) states;
+      states = ap (drop 1) h.states ∙ drop-map (λ (w : Whole). w.state) 1 (drop b ws)
+          ∙ ap (map (λ (w : Whole). w.state)) states;
+      places = ap (drop 1) h.places ∙ drop-map (λ (w : Whole). w.place) 1 (drop b ws)
+          ∙ ap (map (λ (w : Whole). w.place)) states;
+      texts = ap (drop 1) h.texts ∙ drop-map (λ (w : Whole). w.text) 1 (drop 1 (drop b ws))
+          ∙ ap (λ xs. map (λ (w : Whole). w.text) (drop 1 xs)) states;
       lines = ap (drop 1) h.lines ∙ drop-drop 1 b (all_lines s) ∙ ap (λ k. drop k (all_lines s)) back;
       records = omega (arith, length-drop 1 v.sizes, h.records);
       small = All-drop (λ size. size ≤ largest_record (static_base_of story)) 1 v.sizes h.small;
@@ -110,15 +144,19 @@ session_older story units s v kept e h =
     }
 
 -- the session and the text that is lent, under a bound
-pub record IsTaken (story : List ℕ) (units : ℕ) (most : Option ℕ) (line : List ℕ) (s : Standing) (v : Session) (text : List ℕ) : Type 0 where
+pub record IsTaken (story : List ℕ) (units : ℕ) (most : Option ℕ) (line : List ℕ) (s : Standing) (v : Session)
+    (text : List ℕ) : Type 0 where
   pub session : IsSession story units most (taken most line s) v
   pub lent : latest_text v ≡ text
 
 -- the text of the turn of the line
-longer_text : (v : Session) (line : List ℕ) (size : ℕ) (whole : Whole) → v.present ≤ length v.texts → get_or (take v.present v.texts ++ whole.text ∷ []) v.present [] ≡ whole.text
-longer_text v line size whole le = get_or_push (take v.present v.texts) whole.text [] v.present (length-take-le v.present v.texts le)
+longer_text : (v : Session) (line : List ℕ) (size : ℕ) (whole : Whole) → v.present ≤ length v.texts
+    → get_or (take v.present v.texts ++ whole.text ∷ []) v.present [] ≡ whole.text
+longer_text v line size whole le = get_or_push (take v.present v.texts) whole.text [] v.present
+    (length-take-le v.present v.texts le)
 
-taken_free : (story : List ℕ) (units : ℕ) (line : List ℕ) (s : Standing) (v : Session) (size : ℕ) (whole : Whole) → v.keep ≡ None → v.present ≤ length v.texts → Unbounded story units (longer line s) (with_turn line size whole v)
+taken_free : (story : List ℕ) (units : ℕ) (line : List ℕ) (s : Standing) (v : Session) (size : ℕ) (whole : Whole)
+    → v.keep ≡ None → v.present ≤ length v.texts → Unbounded story units (longer line s) (with_turn line size whole v)
     → IsTaken story units None line s (bounded (with_turn line size whole v)) whole.text
 taken_free story units line s v size whole keep le h =
     let w : Session = with_turn line size whole v in
@@ -128,19 +166,24 @@ taken_free story units line s v size whole keep le h =
     } in
     subst (λ x. IsTaken story units None line s x whole.text) (bound_none w keep) result
 
-taken_within : (story : List ℕ) (units n : ℕ) (line : List ℕ) (s : Standing) (v : Session) (size : ℕ) (whole : Whole) → v.keep ≡ Some n → v.present ≡ s.kept → s.kept + 1 ≤ n → v.present ≤ length v.texts
-    → Unbounded story units (longer line s) (with_turn line size whole v) → IsTaken story units (Some n) line s (bounded (with_turn line size whole v)) whole.text
+taken_within : (story : List ℕ) (units n : ℕ) (line : List ℕ) (s : Standing) (v : Session) (size : ℕ) (whole : Whole)
+    → v.keep ≡ Some n → v.present ≡ s.kept → s.kept + 1 ≤ n → v.present ≤ length v.texts
+    → Unbounded story units (longer line s) (with_turn line size whole v)
+    → IsTaken story units (Some n) line s (bounded (with_turn line size whole v)) whole.text
 taken_within story units n line s v size whole keep p room le h =
     let w : Session = with_turn line size whole v in
     let least : min (s.kept + 1) n ≡ s.kept + 1 = omega arith in
     let result : IsTaken story units (Some n) line s w whole.text = record {
-      session = subst (λ k. IsSession story units (Some n) (record { done = s.done ++ line ∷ []; undone = []; kept = k }) w) (sym least) (with_bound keep (omega arith) h);
+      session = subst
+          (λ k. IsSession story units (Some n) (record { done = s.done ++ line ∷ []; undone = []; kept = k }) w)
+          (sym least) (with_bound keep (omega arith) h);
       lent = sym (text_some w v.present refl) ∙ longer_text v line size whole le;
     } in
     subst (λ x. IsTaken story units (Some n) line s x whole.text) (bound_under w n keep (omega arith)) result
 
 -- where the oldest turn goes, the text is that of the turn before it, or it is the one that goes
-older_text : (v : Session) (present : ℕ) (text : List ℕ) → v.present ≡ present + 1 → get_or v.texts present [] ≡ text → latest_text (without_oldest v) ≡ text
+older_text : (v : Session) (present : ℕ) (text : List ℕ) → v.present ≡ present + 1 → get_or v.texts present [] ≡ text
+    → latest_text (without_oldest v) ≡ text
 older_text v zero text p e =
     let none : v.present - 1 ≡ 0 = omega arith in
     sym (text_none (without_oldest v) none) ∙ e
@@ -149,19 +192,27 @@ older_text v (suc k) text p e =
     let at : 1 + k ≡ suc k = omega arith in
     sym (text_some (without_oldest v) k some) ∙ get_or-drop 1 v.texts k [] ∙ ap (λ n. get_or v.texts n []) at ∙ e
 
-taken_over : (story : List ℕ) (units n : ℕ) (line : List ℕ) (s : Standing) (v : Session) (size : ℕ) (whole : Whole) → v.keep ≡ Some n → v.present ≡ s.kept → s.kept ≡ n → v.present ≤ length v.texts
-    → Unbounded story units (longer line s) (with_turn line size whole v) → IsTaken story units (Some n) line s (bounded (with_turn line size whole v)) whole.text
+taken_over : (story : List ℕ) (units n : ℕ) (line : List ℕ) (s : Standing) (v : Session) (size : ℕ) (whole : Whole)
+    → v.keep ≡ Some n → v.present ≡ s.kept → s.kept ≡ n → v.present ≤ length v.texts
+    → Unbounded story units (longer line s) (with_turn line size whole v)
+    → IsTaken story units (Some n) line s (bounded (with_turn line size whole v)) whole.text
 taken_over story units n line s v size whole keep p full le h =
     let w : Session = with_turn line size whole v in
     let least : min (s.kept + 1) n ≡ s.kept = omega arith in
     let result : IsTaken story units (Some n) line s (without_oldest w) whole.text = record {
-      session = subst (λ k. IsSession story units (Some n) (record { done = s.done ++ line ∷ []; undone = []; kept = k }) (without_oldest w)) (sym least) (with_bound keep (omega arith) (session_older story units (longer line s) w s.kept refl h));
+      session = subst
+          (λ k. IsSession story units (Some n) (record { done = s.done ++ line ∷ []; undone = []; kept = k })
+          (without_oldest w)) (sym least)
+          (with_bound keep (omega arith) (session_older story units (longer line s) w s.kept refl h));
       lent = older_text w v.present whole.text refl (longer_text v line size whole le);
     } in
     subst (λ x. IsTaken story units (Some n) line s x whole.text) (bound_over w n keep (omega arith)) result
 
-taken_by : (story : List ℕ) (units : ℕ) (most : Option ℕ) (line : List ℕ) (s : Standing) (v : Session) (size : ℕ) (whole : Whole) → v.keep ≡ most → IfSome most (λ n. s.kept + length s.undone ≤ n) → v.present ≡ s.kept → v.present ≤ length v.texts
-    → Unbounded story units (longer line s) (with_turn line size whole v) → IsTaken story units most line s (bounded (with_turn line size whole v)) whole.text
+taken_by : (story : List ℕ) (units : ℕ) (most : Option ℕ) (line : List ℕ) (s : Standing) (v : Session) (size : ℕ)
+    (whole : Whole) → v.keep ≡ most → IfSome most (λ n. s.kept + length s.undone ≤ n) → v.present ≡ s.kept
+    → v.present ≤ length v.texts
+    → Unbounded story units (longer line s) (with_turn line size whole v)
+    → IsTaken story units most line s (bounded (with_turn line size whole v)) whole.text
 taken_by story units None line s v size whole keep bound p le h = taken_free story units line s v size whole keep le h
 taken_by story units (Some n) line s v size whole keep bound p le h =
     let at : s.kept ≤ n = omega arith in
@@ -170,11 +221,13 @@ taken_by story units (Some n) line s v size whole keep bound p le h =
       | inr less ↦ taken_within story units n line s v size whole keep p (omega arith) le h
     ]
 
-kept_texts : (story : List ℕ) (units : ℕ) (s : Standing) (v : Session) → Unbounded story units s v → v.present ≤ length v.texts
+kept_texts : (story : List ℕ) (units : ℕ) (s : Standing) (v : Session) → Unbounded story units s v
+    → v.present ≤ length v.texts
 kept_texts story units s v h =
     let ws = plays story units (all_lines s) in
     let b = length s.done - s.kept in
-    let size : length v.texts ≡ length (drop 1 (drop b ws)) = ap length h.texts ∙ length-map (drop 1 (drop b ws)) (λ (w : Whole). w.text) in
+    let size : length v.texts ≡ length (drop 1 (drop b ws)) = ap length h.texts
+    ∙ length-map (drop 1 (drop b ws)) (λ (w : Whole). w.text) in
     omega (arith, size, length-drop 1 (drop b ws), length-drop b ws, h.whole, h.reach, h.present)
 
 last_push : (ws : List Whole) (w : Whole) → last_text (ws ++ w ∷ []) ≡ w.text
@@ -183,22 +236,32 @@ last_push (v ∷ []) w = refl
 last_push (v ∷ u ∷ us) w = last_push (u ∷ us) w
 
 -- a line that is taken
-pub session_taken : (story : List ℕ) (units : ℕ) (most : Option ℕ) (line : List ℕ) (s : Standing) (v mid new : Session) → IsSession story units most s v → get_or v.places v.present places.Quit ≡ places.Waiting → Turned line v mid → new ≡ bounded mid
-    → (is_waiting (last_place (plays story units s.done)) ≡ true) × IsSession story units most (taken most line s) new × (latest_text new ≡ last_text (plays story units (s.done ++ line ∷ [])))
+pub session_taken : (story : List ℕ) (units : ℕ) (most : Option ℕ) (line : List ℕ) (s : Standing)
+    (v mid new : Session) → IsSession story units most s v → get_or v.places v.present places.Quit ≡ places.Waiting
+    → Turned line v mid → new ≡ bounded mid
+    → (is_waiting (last_place (plays story units s.done)) ≡ true)
+    × IsSession story units most (taken most line s) new
+    × (latest_text new ≡ last_text (plays story units (s.done ++ line ∷ [])))
 session_taken story units most line s v mid new h waits t e =
     let f : Unbounded story units s v = unbounded h in
-    let here : (present_of story units s).place ≡ places.Waiting = sym (present_place story units s v places.Quit f) ∙ waits in
+    let here : (present_of story units s).place ≡ places.Waiting = sym (present_place story units s v places.Quit f)
+    ∙ waits in
     let waiting : is_waiting (present_of story units s).place ≡ true = ap is_waiting here in
     let turn : turn_on line units (present_of story units s).state ≡ Some t.whole =
-    sym (ap (λ n. turn_on line n (get_or v.states v.present some_whole.state)) f.fuel ∙ ap (turn_on line units) (present_state story units s v some_whole.state f)) ∙ t.turn some_whole.state in
-    let long = session_longer story units s v line t.size t.whole f waiting turn (omega (arith, t.small, h.static_base)) in
-    let result = taken_by story units most line s v t.size t.whole h.keep h.bound h.present (kept_texts story units s v f) long in
+    sym (ap (λ n. turn_on line n (get_or v.states v.present some_whole.state)) f.fuel
+    ∙ ap (turn_on line units) (present_state story units s v some_whole.state f)) ∙ t.turn some_whole.state in
+    let long = session_longer story units s v line t.size t.whole f waiting turn
+    (omega (arith, t.small, h.static_base)) in
+    let result = taken_by story units most line s v t.size t.whole h.keep h.bound h.present
+    (kept_texts story units s v f) long in
     let is : new ≡ bounded (with_turn line t.size t.whole v) = e ∙ ap {A = Session} bounded t.is in
     let ws = plays story units (all_lines s) in
     let n = length s.done in
     let size : length (take (suc n) ws) ≡ suc n = length-take-le (suc n) ws (omega (arith, f.whole)) in
     let text : last_text (plays story units (s.done ++ line ∷ [])) ≡ t.whole.text =
-    ap (λ ls. last_text (plays story units ls)) (sym (append-nil (s.done ++ line ∷ []))) ∙ ap last_text (longer_plays story units s v line t.whole f waiting turn) ∙ last_push (take (suc n) ws) t.whole in (
+    ap (λ ls. last_text (plays story units ls)) (sym (append-nil (s.done ++ line ∷ [])))
+    ∙ ap last_text (longer_plays story units s v line t.whole f waiting turn)
+    ∙ last_push (take (suc n) ws) t.whole in (
       ap is_waiting (place_is story units s v f) ∙ waiting,
       subst (IsSession story units most (taken most line s)) (sym is) result.session,
       ap {A = Session} latest_text is ∙ result.lent ∙ sym text,

@@ -1,5 +1,6 @@
 -- Steps of writing a text.
-use Rattle.std.proofs.Common.{◌≡◌, ℕ, ◌-◌, Option, List, [], ◌++◌, length, take, drop, refl, ap, sym, ◌∙◌, subst, append_assoc, append-nil, take-append-drop, Result, Ok, Err}
+use Rattle.std.proofs.Common.{◌≡◌, ℕ, ◌-◌, Option, List, [], ◌++◌, length, take, drop, refl, ap, sym, ◌∙◌, subst}
+use Rattle.std.proofs.Common.{append_assoc, append-nil, take-append-drop, Result, Ok, Err}
 use Rattle.std.proofs.Math.Seq.{take-length}
 use Rattle.std.proofs.lemmas.List.{length-drop}
 use Rattle.std.specs.Io.KnownBytes.{Appends, Keeps}
@@ -9,7 +10,8 @@ use Rattle.session.specs.Wrote.{Written, WroteSome, Wrote}
 pub written_start : (a : Option (List ℕ)) (text : List ℕ) → Written a a text text
 written_start a text = record { part = []; whole = refl; wrote = Appends-nil a }
 
-pub written_more : {a b c : Option (List ℕ)} {text rest : List ℕ} (n : ℕ) → Written a b text rest → Appends b c (take n rest) → Written a c text (drop n rest)
+pub written_more : {a b c : Option (List ℕ)} {text rest : List ℕ} (n : ℕ) → Written a b text rest
+    → Appends b c (take n rest) → Written a c text (drop n rest)
 written_more {a} {b} {c} {text} {rest} n h p = record {
   part = h.part ++ take n rest;
   whole = append_assoc h.part (take n rest) (drop n rest) ∙ ap (λ x. h.part ++ x) (take-append-drop n rest) ∙ h.whole;
@@ -17,18 +19,24 @@ written_more {a} {b} {c} {text} {rest} n h p = record {
 }
 
 pub written_end : {a b : Option (List ℕ)} {text rest : List ℕ} → rest ≡ [] → Written a b text rest → Appends a b text
-written_end {a} {b} {text} {rest} e h = subst (Appends a b) (sym (append-nil h.part) ∙ ap (λ x. h.part ++ x) (sym e) ∙ h.whole) h.wrote
+written_end {a} {b} {text} {rest} e h = subst (Appends a b)
+    (sym (append-nil h.part) ∙ ap (λ x. h.part ++ x) (sym e) ∙ h.whole) h.wrote
 
-pub written_broke : {a b c : Option (List ℕ)} {text rest : List ℕ} → Keeps b c → Written a b text rest → WroteSome a c text
-written_broke {a} {b} {c} {text} {rest} k h = record { part = h.part; rest = rest; whole = h.whole; wrote = Appends-kept a b c h.part h.wrote k }
+pub written_broke : {a b c : Option (List ℕ)} {text rest : List ℕ} → Keeps b c → Written a b text rest
+    → WroteSome a c text
+written_broke {a} {b} {c} {text} {rest} k h =
+    record { part = h.part; rest = rest; whole = h.whole; wrote = Appends-kept a b c h.part h.wrote k }
 
-pub written_on : {a b c : Option (List ℕ)} {text rest : List ℕ} (n : ℕ) → Written a b text rest → Appends b c (take n rest) → Written a c text (take (length rest - n) (drop n rest))
+pub written_on : {a b c : Option (List ℕ)} {text rest : List ℕ} (n : ℕ) → Written a b text rest
+    → Appends b c (take n rest) → Written a c text (take (length rest - n) (drop n rest))
 written_on {a} {b} {c} {text} {rest} n h p =
-    let e : take (length rest - n) (drop n rest) ≡ drop n rest = ap (λ k. take k (drop n rest)) (sym (length-drop n rest)) ∙ take-length (drop n rest) in
+    let e : take (length rest - n) (drop n rest)
+    ≡ drop n rest = ap (λ k. take k (drop n rest)) (sym (length-drop n rest)) ∙ take-length (drop n rest) in
     subst (Written a c text) (sym e) (written_more n h p)
 
 -- two texts, one after the other
-pub wrote_both : {A : Type 0} (a b c : Option (List ℕ)) (s t : List ℕ) (r : Result (Unit {0}) A) → Appends a b s → Wrote b c t r → Wrote a c (s ++ t) r
+pub wrote_both : {A : Type 0} (a b c : Option (List ℕ)) (s t : List ℕ) (r : Result (Unit {0}) A) → Appends a b s
+    → Wrote b c t r → Wrote a c (s ++ t) r
 wrote_both a b c s t (Ok done) p q = Appends-trans a b c s t p q
 wrote_both a b c s t (Err e) p q = record {
   part = s ++ q.part;
@@ -38,4 +46,11 @@ wrote_both a b c s t (Err e) p q = record {
 }
 
 pub wrote_first : {a b : Option (List ℕ)} {s : List ℕ} (t : List ℕ) → WroteSome a b s → WroteSome a b (s ++ t)
-wrote_first t q = record { part = q.part; rest = q.rest ++ t; whole = sym (append_assoc q.part q.rest t) ∙ ap (λ x. x ++ t) q.whole; wrote = q.wrote }
+wrote_first t q =
+    record {
+      part = q.part;
+      rest = q.rest ++ t;
+      whole = sym (append_assoc q.part q.rest t)
+          ∙ ap (λ x. x ++ t) q.whole;
+      wrote = q.wrote;
+    }

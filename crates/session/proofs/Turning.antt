@@ -1,8 +1,10 @@
 -- What a turn makes of the fields of a session.
-use Rattle.std.proofs.Common.{◌≡◌, ℕ, ◌+◌, ◌≤◌, List, [], ◌∷◌, ◌++◌, length, get_or, take, drop, map, refl, ap, sym, ◌∙◌, subst, arith, Option, Some, None, add-one, inl, inr}
+use Rattle.std.proofs.Common.{◌≡◌, ℕ, ◌+◌, ◌≤◌, List, [], ◌∷◌, ◌++◌, length, get_or, take, drop, map, refl, ap, sym}
+use Rattle.std.proofs.Common.{◌∙◌, subst, arith, Option, Some, None, add-one, inl, inr}
 use Rattle.std.specs.List.{All}
 use Rattle.std.specs.Prelude.{IfSome}
-use Rattle.std.proofs.lemmas.List.{take-map, map_push, length-map, length-take-le, length_push, get_or-take, get_or_append_left, get_or_push}
+use Rattle.std.proofs.lemmas.List.{take-map, map_push, length-map, length-take-le, length_push, get_or-take}
+use Rattle.std.proofs.lemmas.List.{get_or_append_left, get_or_push}
 use Rattle.std.proofs.Math.Nat.{eq-or-lt_of_le}
 use Rattle.journal.specs.Recording.{Recording, IsNothingKept}
 use Rattle.journal.specs.Swap.{back, Fits}
@@ -12,7 +14,8 @@ use Rattle.zcore.specs.declared.place.Place.{Place}
 use Rattle.zcore.specs.declared.place.Place.TheVariants as places
 use Rattle.zcore.specs.Header.{static_base_of}
 use Rattle.zcore.specs.State.{State, Out, done, halt}
-use Rattle.zcore.specs.Turn.{StateOfPlay, Whole, ended, after_step, turn_from, turn_on, turn_pending, given, resumed, opening, entries, plays, first_next, first_state, last_text}
+use Rattle.zcore.specs.Turn.{StateOfPlay, Whole, ended, after_step, turn_from, turn_on, turn_pending, given, resumed}
+use Rattle.zcore.specs.Turn.{opening, entries, plays, first_next, first_state, last_text}
 use Rattle.zcore.proofs.Turning.{turns_is}
 use Rattle.frames.specs.Contents.{Contents, memory_of, bound_of}
 use Rattle.frames.specs.Playing.{IsWaiting, IsOpening, Opens, whole_of, Follows, Answers}
@@ -30,135 +33,198 @@ use Rattle.session.proofs.Moves.{cells_taken, present_cells, length-all_cells}
 
 -- The turn as a function
 
-follows_turn : (o : Out Next) (stop : Place → State → Whole) (whole : Whole) → Follows o stop whole → after_step o turn_from (λ place s. Some (stop place s)) ≡ Some whole
+follows_turn : (o : Out Next) (stop : Place → State → Whole) (whole : Whole) → Follows o stop whole
+    → after_step o turn_from (λ place s. Some (stop place s)) ≡ Some whole
 follows_turn (done next s) stop whole h = turns_is next s whole h
 follows_turn (halt place s) stop whole h = ap (λ (w : Whole). Some w) (sym h)
 
-pub answers_turn : (line : List ℕ) (s : Contents) (fuel : ℕ) (whole : Whole) → Answers line s fuel whole → turn_on line fuel (play_of s) ≡ Some whole
+pub answers_turn : (line : List ℕ) (s : Contents) (fuel : ℕ) (whole : Whole) → Answers line s fuel whole
+    → turn_on line fuel (play_of s) ≡ Some whole
 unfolding turn_on
 answers_turn line s fuel whole h =
     ap (λ p. turn_pending p line fuel (play_of s)) h.1
-    ∙ follows_turn (given h.0 line fuel (resumed (play_of s))) (ended (record { program_counter = (play_of s).program_counter; fuel = fuel })) whole h.2
+    ∙ follows_turn (given h.0 line fuel (resumed (play_of s)))
+    (ended (record { program_counter = (play_of s).program_counter; fuel = fuel })) whole h.2
 
 -- a list cut behind its entry k, and one entry more
-pub all_taken : {X : Type 0} (P : X → Type 0) (xs : List X) (k : ℕ) (x : X) → k ≤ length xs → All P xs → P x → All P (take k xs ++ x ∷ [])
+pub all_taken : {X : Type 0} (P : X → Type 0) (xs : List X) (k : ℕ) (x : X) → k ≤ length xs → All P xs → P x
+    → All P (take k xs ++ x ∷ [])
 all_taken P xs k x le all p n d lt =
     let long : length (take k xs) ≡ k = length-take-le k xs le in
     let most : n ≤ k = omega (arith, long, length_push (take k xs) x) in
     elim (eq-or-lt_of_le most) [
       | inl e ↦ subst P (sym (get_or_push (take k xs) x d n (omega (arith, long)))) p
-      | inr less ↦ subst P (sym (get_or_append_left (take k xs) (x ∷ []) d n (omega (arith, long)) ∙ get_or-take k xs n d less)) (all n d (omega arith))
+      | inr less ↦ subst P
+          (sym (get_or_append_left (take k xs) (x ∷ []) d n (omega (arith, long)) ∙ get_or-take k xs n d less))
+          (all n d (omega arith))
     ]
 
 -- a turn whose line was given to a waiting store
-pub record IsPlayed (header : Header) (old new : Recording Contents) (line : List ℕ) (fuel : ℕ) (t : Turn) : Type 0 where
-  pub answers : Answers line old.store fuel (whole_of new.store t.place t.text.items)
-  pub waits : t.place ≡ places.Waiting → IsWaiting new.store
-  pub line_is : t.line.items ≡ line
-  pub store : IsStoreOf header new.store
-  pub fixed : new.store.fixed ≡ old.store.fixed
-  pub size : length new.store.cells ≡ length old.store.cells
-  pub back_is : (back new.store.cells t.overwritten).cells ≡ old.store.cells
-  pub fits : Fits (length new.store.cells) bound_of t.overwritten
-  pub small : length t.overwritten ≤ largest_record header.static_base
-  pub idle : IsNothingKept new
-  pub begun : new.beginning ≡ new.store.cells
+pub record IsPlayed (header : Header) (old new : Recording Contents) (line : List ℕ) (fuel : ℕ) (t : Turn) : Type 0
+  where
+    pub answers : Answers line old.store fuel (whole_of new.store t.place t.text.items)
+    pub waits : t.place ≡ places.Waiting → IsWaiting new.store
+    pub line_is : t.line.items ≡ line
+    pub store : IsStoreOf header new.store
+    pub fixed : new.store.fixed ≡ old.store.fixed
+    pub size : length new.store.cells ≡ length old.store.cells
+    pub back_is : (back new.store.cells t.overwritten).cells ≡ old.store.cells
+    pub fits : Fits (length new.store.cells) bound_of t.overwritten
+    pub small : length t.overwritten ≤ largest_record header.static_base
+    pub idle : IsNothingKept new
+    pub begun : new.beginning ≡ new.store.cells
 
-map_taken : {X : Type 0} (f : Turn → X) (turns : List Turn) (k : ℕ) (t : Turn) → map f (take k turns ++ t ∷ []) ≡ take k (map f turns) ++ f t ∷ []
+map_taken : {X : Type 0} (f : Turn → X) (turns : List Turn) (k : ℕ) (t : Turn)
+    → map f (take k turns ++ t ∷ []) ≡ take k (map f turns) ++ f t ∷ []
 map_taken f turns k t = map_push f (take k turns) t ∙ ap (λ xs. xs ++ f t ∷ []) (sym (take-map f k turns))
 
-taken_cells : (header : Header) (old new : Recording Contents) (line : List ℕ) (fuel : ℕ) (turns : List Turn) (k : ℕ) (t : Turn) → k ≤ length turns → IsPlayed header old new line fuel t
-    → all_cells new.store.cells (records_of (take k turns ++ t ∷ [])) (k + 1) ≡ take (k + 1) (all_cells old.store.cells (records_of turns) k) ++ new.store.cells ∷ []
+taken_cells : (header : Header) (old new : Recording Contents) (line : List ℕ) (fuel : ℕ) (turns : List Turn) (k : ℕ)
+    (t : Turn) → k ≤ length turns → IsPlayed header old new line fuel t
+    → all_cells new.store.cells (records_of (take k turns ++ t ∷ [])) (k + 1)
+    ≡ take (k + 1) (all_cells old.store.cells (records_of turns) k) ++ new.store.cells ∷ []
 taken_cells header old new line fuel turns k t le h =
     ap (λ rs. all_cells new.store.cells rs (k + 1)) (map_taken (λ x. x.overwritten) turns k t)
-    ∙ cells_taken old.store.cells new.store.cells t.overwritten (records_of turns) k (omega (arith, length-map turns (λ (x : Turn). x.overwritten))) h.back_is
+    ∙ cells_taken old.store.cells new.store.cells t.overwritten (records_of turns) k
+    (omega (arith, length-map turns (λ (x : Turn). x.overwritten))) h.back_is
 
-taken_places : (first : Place) (turns : List Turn) (k : ℕ) (t : Turn) → places_of first (take k turns ++ t ∷ []) ≡ take (k + 1) (places_of first turns) ++ t.place ∷ []
+taken_places : (first : Place) (turns : List Turn) (k : ℕ) (t : Turn)
+    → places_of first (take k turns ++ t ∷ []) ≡ take (k + 1) (places_of first turns) ++ t.place ∷ []
 taken_places first turns k t =
-    ap (λ ps. first ∷ ps) (map_taken (λ x. x.place) turns k t) ∙ ap (λ n. take n (places_of first turns) ++ t.place ∷ []) (sym (add-one k))
+    ap (λ ps. first ∷ ps) (map_taken (λ x. x.place) turns k t)
+    ∙ ap (λ n. take n (places_of first turns) ++ t.place ∷ []) (sym (add-one k))
 
 abbrev states_with : List ℕ → List (List ℕ) → List StateOfPlay
 states_with fixed cells = map (λ c. play_of (record { cells = c; fixed = fixed })) cells
 
-taken_states : (header : Header) (old new : Recording Contents) (line : List ℕ) (fuel : ℕ) (turns : List Turn) (k : ℕ) (t : Turn) → k ≤ length turns → IsPlayed header old new line fuel t
-    → states_with new.store.fixed (all_cells new.store.cells (records_of (take k turns ++ t ∷ [])) (k + 1)) ≡ take (k + 1) (states_with old.store.fixed (all_cells old.store.cells (records_of turns) k)) ++ play_of new.store ∷ []
+taken_states : (header : Header) (old new : Recording Contents) (line : List ℕ) (fuel : ℕ) (turns : List Turn)
+    (k : ℕ) (t : Turn) → k ≤ length turns → IsPlayed header old new line fuel t
+    → states_with new.store.fixed (all_cells new.store.cells (records_of (take k turns ++ t ∷ [])) (k + 1))
+    ≡ take (k + 1) (states_with old.store.fixed (all_cells old.store.cells (records_of turns) k))
+    ++ play_of new.store ∷ []
 taken_states header old new line fuel turns k t le h =
     let cells = all_cells old.store.cells (records_of turns) k in
     ap (states_with new.store.fixed) (taken_cells header old new line fuel turns k t le h)
     ∙ map_push (λ c. play_of (record { cells = c; fixed = new.store.fixed })) (take (k + 1) cells) new.store.cells
     ∙ ap (λ f. states_with f (take (k + 1) cells) ++ play_of new.store ∷ []) h.fixed
-    ∙ ap (λ xs. xs ++ play_of new.store ∷ []) (sym (take-map (λ c. play_of (record { cells = c; fixed = old.store.fixed })) (k + 1) cells))
+    ∙ ap (λ xs. xs ++ play_of new.store ∷ [])
+    (sym (take-map (λ c. play_of (record { cells = c; fixed = old.store.fixed })) (k + 1) cells))
 
-pub taken_view : (keep : Option ℕ) (units : ℕ) (header : Header) (opening : List ℕ) (old new : Recording Contents) (first : Place) (line : List ℕ) (turns : List Turn) (k : ℕ) (t : Turn) (given_up : List ℕ) → k ≤ length turns
+pub taken_view : (keep : Option ℕ) (units : ℕ) (header : Header) (opening : List ℕ) (old new : Recording Contents)
+    (first : Place) (line : List ℕ) (turns : List Turn) (k : ℕ) (t : Turn) (given_up : List ℕ) → k ≤ length turns
     → IsPlayed header old new line units t
     → view_of keep units header opening new.store first (take k turns ++ t ∷ []) (k + 1) given_up
-    ≡ with_turn line (length t.overwritten) (whole_of new.store t.place t.text.items) (view_of keep units header opening old.store first turns k given_up)
+    ≡ with_turn line (length t.overwritten) (whole_of new.store t.place t.text.items)
+    (view_of keep units header opening old.store first turns k given_up)
 unfolding view_of
 taken_view keep units header opening old new first line turns k t given_up le h =
     let more = take k turns ++ t ∷ [] in
-    let v : Session = with_turn line (length t.overwritten) (whole_of new.store t.place t.text.items) (view_of keep units header opening old.store first turns k given_up) in
+    let v : Session = with_turn line (length t.overwritten) (whole_of new.store t.place t.text.items)
+    (view_of keep units header opening old.store first turns k given_up) in
     let texts : List (List ℕ) = map (λ x. x.text.items) more in
     let lines : List (List ℕ) = map (λ x. x.line.items) more in
     let sizes : List ℕ = map (λ x. length x.overwritten) more in
-    ap {A = List StateOfPlay} (λ x. record v { states = x; places = places_of first more; texts = texts; lines = lines; sizes = sizes }) (taken_states header old new line units turns k t le h)
-    ∙ ap {A = List Place} (λ x. record v { places = x; texts = texts; lines = lines; sizes = sizes }) (taken_places first turns k t)
-    ∙ ap {A = List (List ℕ)} (λ x. record v { texts = x; lines = lines; sizes = sizes }) (map_taken (λ x. x.text.items) turns k t)
-    ∙ ap {A = List (List ℕ)} (λ x. record v { lines = x; sizes = sizes }) (map_taken (λ x. x.line.items) turns k t ∙ ap (λ l. take k (map (λ x. x.line.items) turns) ++ l ∷ []) h.line_is)
+    ap {A = List StateOfPlay}
+    (λ x. record v { states = x; places = places_of first more; texts = texts; lines = lines; sizes = sizes })
+    (taken_states header old new line units turns k t le h)
+    ∙ ap {A = List Place} (λ x. record v { places = x; texts = texts; lines = lines; sizes = sizes })
+    (taken_places first turns k t)
+    ∙ ap {A = List (List ℕ)} (λ x. record v { texts = x; lines = lines; sizes = sizes })
+    (map_taken (λ x. x.text.items) turns k t)
+    ∙ ap {A = List (List ℕ)} (λ x. record v { lines = x; sizes = sizes })
+    (map_taken (λ x. x.line.items) turns k t
+    ∙ ap (λ l. take k (map (λ x. x.line.items) turns) ++ l ∷ []) h.line_is)
     ∙ ap {A = List ℕ} (λ x. record v { sizes = x }) (map_taken (λ x. length x.overwritten) turns k t)
 
-taken_ready : (header : Header) (old new : Recording Contents) (first : Place) (line : List ℕ) (units : ℕ) (turns : List Turn) (k : ℕ) (t : Turn) → IsBetweenTurns header old first turns k → IsPlayed header old new line units t
-    → (n : ℕ) → n ≤ k + 1 → IsReady header (with_cells new.store (get_or (take (k + 1) (all_cells old.store.cells (records_of turns) k) ++ new.store.cells ∷ []) n [])) (get_or (take (k + 1) (places_of first turns) ++ t.place ∷ []) n places.Quit)
+taken_ready : (header : Header) (old new : Recording Contents) (first : Place) (line : List ℕ) (units : ℕ)
+    (turns : List Turn) (k : ℕ) (t : Turn) → IsBetweenTurns header old first turns k
+    → IsPlayed header old new line units t
+    → (n : ℕ) → n ≤ k + 1
+    → IsReady header
+    (with_cells new.store
+    (get_or (take (k + 1) (all_cells old.store.cells (records_of turns) k) ++ new.store.cells ∷ []) n []))
+    (get_or (take (k + 1) (places_of first turns) ++ t.place ∷ []) n places.Quit)
 taken_ready header old new first line units turns k t i h n le =
     let cells = all_cells old.store.cells (records_of turns) k in
     let ps = places_of first turns in
     let within = i.within in
-    let all : length cells ≡ length turns + 1 = length-all_cells old.store.cells (records_of turns) k (omega (arith, length-map turns (λ (x : Turn). x.overwritten))) ∙ ap (λ m. m + 1) (length-map turns (λ (x : Turn). x.overwritten)) in
+    let all : length cells ≡ length turns + 1 = length-all_cells old.store.cells (records_of turns) k
+    (omega (arith, length-map turns (λ (x : Turn). x.overwritten)))
+    ∙ ap (λ m. m + 1) (length-map turns (λ (x : Turn). x.overwritten)) in
     let long : length (take (k + 1) cells) ≡ k + 1 = length-take-le (k + 1) cells (omega arith) in
-    let spots : length (take (k + 1) ps) ≡ k + 1 = length-take-le (k + 1) ps (omega (arith, length-map turns (λ (x : Turn). x.place))) in
+    let spots : length (take (k + 1) ps) ≡ k + 1 = length-take-le (k + 1) ps
+    (omega (arith, length-map turns (λ (x : Turn). x.place))) in
     elim (eq-or-lt_of_le le) [
       | inl e ↦
-          let c : get_or (take (k + 1) cells ++ new.store.cells ∷ []) n [] ≡ new.store.cells = get_or_push (take (k + 1) cells) new.store.cells [] n (omega arith) in
-          let p : get_or (take (k + 1) ps ++ t.place ∷ []) n places.Quit ≡ t.place = get_or_push (take (k + 1) ps) t.place places.Quit n (omega arith) in
+          let c : get_or (take (k + 1) cells ++ new.store.cells ∷ []) n []
+          ≡ new.store.cells = get_or_push (take (k + 1) cells) new.store.cells [] n (omega arith) in
+          let p : get_or (take (k + 1) ps ++ t.place ∷ []) n places.Quit
+          ≡ t.place = get_or_push (take (k + 1) ps) t.place places.Quit n (omega arith) in
           let now : IsReady header new.store t.place = record { store = h.store; waits = h.waits } in
-          subst (λ x. IsReady header (with_cells new.store x) (get_or (take (k + 1) ps ++ t.place ∷ []) n places.Quit)) (sym c) (subst (λ x. IsReady header new.store x) (sym p) now)
+          subst (λ x. IsReady header (with_cells new.store x)
+          (get_or (take (k + 1) ps ++ t.place ∷ []) n places.Quit)) (sym c)
+          (subst (λ x. IsReady header new.store x) (sym p) now)
       | inr less ↦
-          let c : get_or (take (k + 1) cells ++ new.store.cells ∷ []) n [] ≡ get_or cells n [] = get_or_append_left (take (k + 1) cells) (new.store.cells ∷ []) [] n (omega arith) ∙ get_or-take (k + 1) cells n [] less in
-          let p : get_or (take (k + 1) ps ++ t.place ∷ []) n places.Quit ≡ get_or ps n places.Quit = get_or_append_left (take (k + 1) ps) (t.place ∷ []) places.Quit n (omega arith) ∙ get_or-take (k + 1) ps n places.Quit less in
-          let before : IsReady header (with_cells old.store (get_or cells n [])) (get_or ps n places.Quit) = i.ready n (omega arith) in
-          let fixed : IsReady header (with_cells new.store (get_or cells n [])) (get_or ps n places.Quit) = subst (λ f. IsReady header (record { cells = get_or cells n []; fixed = f }) (get_or ps n places.Quit)) (sym h.fixed) before in
-          subst (λ x. IsReady header (with_cells new.store x) (get_or (take (k + 1) ps ++ t.place ∷ []) n places.Quit)) (sym c) (subst (λ x. IsReady header (with_cells new.store (get_or cells n [])) x) (sym p) fixed)
+          let c : get_or (take (k + 1) cells ++ new.store.cells ∷ []) n []
+          ≡ get_or cells n [] = get_or_append_left (take (k + 1) cells) (new.store.cells ∷ []) [] n (omega arith)
+          ∙ get_or-take (k + 1) cells n [] less in
+          let p : get_or (take (k + 1) ps ++ t.place ∷ []) n places.Quit
+          ≡ get_or ps n places.Quit = get_or_append_left (take (k + 1) ps) (t.place ∷ []) places.Quit n
+          (omega arith) ∙ get_or-take (k + 1) ps n places.Quit less in
+          let before : IsReady header (with_cells old.store (get_or cells n [])) (get_or ps n places.Quit) = i.ready
+          n (omega arith) in
+          let fixed : IsReady header (with_cells new.store (get_or cells n [])) (get_or ps n places.Quit) = subst
+          (λ f. IsReady header (record { cells = get_or cells n []; fixed = f }) (get_or ps n places.Quit))
+          (sym h.fixed) before in
+          subst (λ x. IsReady header (with_cells new.store x)
+          (get_or (take (k + 1) ps ++ t.place ∷ []) n places.Quit)) (sym c)
+          (subst (λ x. IsReady header (with_cells new.store (get_or cells n [])) x) (sym p) fixed)
     ]
 
-pub taken_between : (header : Header) (old new : Recording Contents) (first : Place) (line : List ℕ) (units : ℕ) (turns : List Turn) (k : ℕ) (t : Turn) → IsBetweenTurns header old first turns k → IsPlayed header old new line units t
+pub taken_between : (header : Header) (old new : Recording Contents) (first : Place) (line : List ℕ) (units : ℕ)
+    (turns : List Turn) (k : ℕ) (t : Turn) → IsBetweenTurns header old first turns k
+    → IsPlayed header old new line units t
     → IsBetweenTurns header new first (take k turns ++ t ∷ []) (k + 1)
 taken_between header old new first line units turns k t i h =
-    let long : length (take k turns ++ t ∷ []) ≡ k + 1 = length_push (take k turns) t ∙ ap (λ m. m + 1) (length-take-le k turns i.within) in
+    let long : length (take k turns ++ t ∷ []) ≡ k + 1 = length_push (take k turns) t
+    ∙ ap (λ m. m + 1) (length-take-le k turns i.within) in
     let rs = records_of turns in
     let le : k ≤ length rs = omega (arith, i.within, length-map turns (λ (x : Turn). x.overwritten)) in
-    let records : records_of (take k turns ++ t ∷ []) ≡ take k rs ++ t.overwritten ∷ [] = map_taken (λ x. x.overwritten) turns k t in
+    let records : records_of (take k turns ++ t ∷ []) ≡ take k rs ++ t.overwritten
+    ∷ [] = map_taken (λ x. x.overwritten) turns k t in
     record {
       within = omega (arith, long);
       idle = h.idle;
       begun = h.begun;
       fits = subst (λ xs. All (Fits (length new.store.cells) bound_of) xs) (sym records)
-          (all_taken (Fits (length new.store.cells) bound_of) rs k t.overwritten le (subst (λ n. All (Fits n bound_of) rs) (sym h.size) i.fits) h.fits);
-      small = subst (λ xs. All (λ r. length r ≤ largest_record header.static_base) xs) (sym records) (all_taken (λ r. length r ≤ largest_record header.static_base) rs k t.overwritten le i.small h.small);
+          (all_taken (Fits (length new.store.cells) bound_of) rs k t.overwritten le
+          (subst (λ n. All (Fits n bound_of) rs) (sym h.size) i.fits) h.fits);
+      small = subst (λ xs. All (λ r. length r ≤ largest_record header.static_base) xs) (sym records)
+          (all_taken (λ r. length r ≤ largest_record header.static_base) rs k t.overwritten le i.small h.small);
       ready = λ n small.
-          subst (λ cs. IsReady header (with_cells new.store (get_or cs n [])) (get_or (places_of first (take k turns ++ t ∷ [])) n places.Quit)) (sym (taken_cells header old new line units turns k t i.within h))
-          (subst (λ ps. IsReady header (with_cells new.store (get_or (take (k + 1) (all_cells old.store.cells rs k) ++ new.store.cells ∷ []) n [])) (get_or ps n places.Quit)) (sym (taken_places first turns k t))
+          subst (λ cs. IsReady header (with_cells new.store (get_or cs n []))
+          (get_or (places_of first (take k turns ++ t ∷ [])) n places.Quit))
+          (sym (taken_cells header old new line units turns k t i.within h))
+          (subst (λ ps. IsReady header
+          (with_cells new.store
+          (get_or (take (k + 1) (all_cells old.store.cells rs k) ++ new.store.cells ∷ []) n []))
+          (get_or ps n places.Quit)) (sym (taken_places first turns k t))
           (taken_ready header old new first line units turns k t i h n (omega (arith, long))));
     }
 
 -- the session then is one turn on
-pub taken_turned : (keep : Option ℕ) (units : ℕ) (header : Header) (opening : List ℕ) (old new : Recording Contents) (first : Place) (line : List ℕ) (turns more : List Turn) (k : ℕ) (t : Turn) (given_up : List ℕ) (v : Session)
-    → view_of keep units header opening old.store first turns k given_up ≡ v → k ≤ length turns → IsPlayed header old new line units t → more ≡ take k turns ++ t ∷ []
+pub taken_turned : (keep : Option ℕ) (units : ℕ) (header : Header) (opening : List ℕ) (old new : Recording Contents)
+    (first : Place) (line : List ℕ) (turns more : List Turn) (k : ℕ) (t : Turn) (given_up : List ℕ) (v : Session)
+    → view_of keep units header opening old.store first turns k given_up ≡ v → k ≤ length turns
+    → IsPlayed header old new line units t → more ≡ take k turns ++ t ∷ []
     → Turned line v (view_of keep units header opening new.store first more (k + 1) given_up)
 taken_turned keep units header opening old new first line turns more k t given_up v is le h e = record {
   whole = whole_of new.store t.place t.text.items;
   size = length t.overwritten;
   turn = λ d.
-      ap (λ p. turn_on line v.fuel p) (view_state keep units header opening old.store first turns k given_up v d is le)
-      ∙ ap (λ n. turn_on line n (play_of old.store)) (view_fuel keep units header opening old.store first turns k given_up v is)
+      ap (λ p. turn_on line v.fuel p)
+      (view_state keep units header opening old.store first turns k given_up v d is le)
+      ∙ ap (λ n. turn_on line n (play_of old.store))
+      (view_fuel keep units header opening old.store first turns k given_up v is)
       ∙ answers_turn line old.store units (whole_of new.store t.place t.text.items) h.answers;
   small = omega (arith, h.small, header_base keep units header opening old.store first turns k given_up v is);
   is = ap (λ ts. view_of keep units header opening new.store first ts (k + 1) given_up) e
@@ -167,17 +233,25 @@ taken_turned keep units header opening old new first line turns more k t given_u
 }
 
 -- how long stores of one machine are
-pub store_size : (header : Header) (s : Contents) → IsStoreOf header s → length s.cells ≡ largest_record header.static_base
+pub store_size : (header : Header) (s : Contents) → IsStoreOf header s
+    → length s.cells ≡ largest_record header.static_base
 store_size header s h = h.sound.size ∙ ap (λ n. 72559 + n) (sym h.headed.static_base)
 
 -- what `turn` and `close` say, as a turn that was played
-pub played : (header : Header) (old mid new : Recording Contents) (line : List ℕ) (units : ℕ) (t : Turn) (text : List ℕ) → IsStoreOf header old.store → GoesOn old mid → Answers line old.store units (whole_of mid.store t.place text) → text ≡ t.text.items
-    → (t.place ≡ places.Waiting → IsWaiting mid.store) → t.line.items ≡ line → old.beginning ≡ old.store.cells → (back mid.store.cells t.overwritten).cells ≡ mid.beginning → Fits (length mid.store.cells) bound_of t.overwritten
-    → length t.overwritten ≤ length mid.store.cells → new ≡ record { store = mid.store; beginning = mid.store.cells; kept = [] } → IsPlayed header old new line units t
+pub played : (header : Header) (old mid new : Recording Contents) (line : List ℕ) (units : ℕ) (t : Turn)
+    (text : List ℕ) → IsStoreOf header old.store → GoesOn old mid
+    → Answers line old.store units (whole_of mid.store t.place text) → text ≡ t.text.items
+    → (t.place ≡ places.Waiting → IsWaiting mid.store) → t.line.items ≡ line → old.beginning ≡ old.store.cells
+    → (back mid.store.cells t.overwritten).cells ≡ mid.beginning
+    → Fits (length mid.store.cells) bound_of t.overwritten
+    → length t.overwritten ≤ length mid.store.cells
+    → new ≡ record { store = mid.store; beginning = mid.store.cells; kept = [] }
+    → IsPlayed header old new line units t
 played header old mid new line units t text o g answers words waits is begun was fits small e =
     let store : IsStoreOf header mid.store = store_after o g in
     let size : length mid.store.cells ≡ largest_record header.static_base = store_size header mid.store store in
-    let result : IsPlayed header old (record { store = mid.store; beginning = mid.store.cells; kept = [] }) line units t = record {
+    let result : IsPlayed header old (record { store = mid.store; beginning = mid.store.cells; kept = [] }) line
+    units t = record {
       answers = subst (λ x. Answers line old.store units (whole_of mid.store t.place x)) words answers;
       waits = waits;
       line_is = is;
@@ -194,11 +268,15 @@ played header old mid new line units t text o g answers words waits is begun was
 
 -- The opening
 
-pub opened_between : (header : Header) (new : Recording Contents) (first : Place) (turns : List Turn) → turns ≡ [] → IsStoreOf header new.store → (first ≡ places.Waiting → IsWaiting new.store) → IsNothingKept new → new.beginning ≡ new.store.cells
+pub opened_between : (header : Header) (new : Recording Contents) (first : Place) (turns : List Turn) → turns ≡ []
+    → IsStoreOf header new.store → (first ≡ places.Waiting → IsWaiting new.store) → IsNothingKept new
+    → new.beginning ≡ new.store.cells
     → IsBetweenTurns header new first turns 0
 opened_between header new first turns e o waits idle begun =
     let now : IsReady header new.store first = record { store = o; waits = waits } in
-    let start : IsReady header (with_cells new.store (get_or (all_cells new.store.cells [] 0) 0 [])) first = subst (λ c. IsReady header (with_cells new.store c) first) (sym (present_cells new.store.cells [] 0 [] (omega arith))) now in
+    let start : IsReady header (with_cells new.store (get_or (all_cells new.store.cells [] 0) 0 [])) first = subst
+    (λ c. IsReady header (with_cells new.store c) first)
+    (sym (present_cells new.store.cells [] 0 [] (omega arith))) now in
     let result : IsBetweenTurns header new first [] 0 = record {
       within = omega arith;
       idle = idle;
@@ -207,19 +285,24 @@ opened_between header new first turns e o waits idle begun =
       small = λ k d lt. absurd (omega arith);
       ready = λ k le.
           let z : k ≡ 0 = omega arith in
-          subst (λ n. IsReady header (with_cells new.store (get_or (all_cells new.store.cells [] 0) n [])) (get_or (places_of first []) n places.Quit)) (sym z) start;
+          subst (λ n. IsReady header (with_cells new.store (get_or (all_cells new.store.cells [] 0) n []))
+          (get_or (places_of first []) n places.Quit)) (sym z) start;
     } in
     subst (λ ts. IsBetweenTurns header new first ts 0) (sym e) result
 
-pub opened_turn : (story : List ℕ) (s : Contents) (fuel : ℕ) (whole : Whole) → memory_of s ≡ story → Opens s fuel whole → opening story fuel ≡ Some whole
+pub opened_turn : (story : List ℕ) (s : Contents) (fuel : ℕ) (whole : Whole) → memory_of s ≡ story
+    → Opens s fuel whole → opening story fuel ≡ Some whole
 unfolding opening
-opened_turn story s fuel whole e h = ap (λ m. turn_from (first_next m fuel) (first_state m)) (sym e) ∙ turns_is (first_next (memory_of s) fuel) (first_state (memory_of s)) whole h
+opened_turn story s fuel whole e h = ap (λ m. turn_from (first_next m fuel) (first_state m)) (sym e)
+    ∙ turns_is (first_next (memory_of s) fuel) (first_state (memory_of s)) whole h
 
 bound_start : (keep : Option ℕ) → IfSome keep (λ n. 0 + 0 ≤ n)
 bound_start None = tt
 bound_start (Some n) = omega arith
 
-opened_by : (story : List ℕ) (units : ℕ) (keep : Option ℕ) (header : Header) (new : Contents) (first : Place) (text given_up : List ℕ) → opening story units ≡ Some (whole_of new first text) → header.static_base ≡ static_base_of story
+opened_by : (story : List ℕ) (units : ℕ) (keep : Option ℕ) (header : Header) (new : Contents) (first : Place)
+    (text given_up : List ℕ) → opening story units ≡ Some (whole_of new first text)
+    → header.static_base ≡ static_base_of story
     → IsSession story units keep nothing (view_of keep units header text new first [] 0 given_up)
 unfolding view_of all_cells
 opened_by story units keep header new first text given_up e base =
@@ -242,13 +325,19 @@ opened_by story units keep header new first text given_up e base =
     }
 
 -- the session of a story that was opened
-pub session_opened : (story : List ℕ) (units : ℕ) (keep : Option ℕ) (header : Header) (old new : Contents) (first : Place) (turns : List Turn) (text words given_up : List ℕ) → turns ≡ [] → IsStoreOf header old → state_of old [] ≡ first_state story
-    → Opens old units (whole_of new first text) → text ≡ words → IsSession story units keep nothing (view_of keep units header words new first turns 0 given_up)
+pub session_opened : (story : List ℕ) (units : ℕ) (keep : Option ℕ) (header : Header) (old new : Contents)
+    (first : Place) (turns : List Turn) (text words given_up : List ℕ) → turns ≡ [] → IsStoreOf header old
+    → state_of old [] ≡ first_state story
+    → Opens old units (whole_of new first text) → text ≡ words
+    → IsSession story units keep nothing (view_of keep units header words new first turns 0 given_up)
 session_opened story units keep header old new first turns text words given_up none o state opens is =
     let memory : memory_of old ≡ story = ap (λ (s : State). s.memory) state in
-    let turn : opening story units ≡ Some (whole_of new first words) = opened_turn story old units (whole_of new first words) memory (subst (λ x. Opens old units (whole_of new first x)) is opens) in
-    subst (λ ts. IsSession story units keep nothing (view_of keep units header words new first ts 0 given_up)) (sym none)
-    (opened_by story units keep header new first words given_up turn (o.headed.static_base ∙ ap static_base_of memory))
+    let turn : opening story units ≡ Some (whole_of new first words) = opened_turn story old units
+    (whole_of new first words) memory (subst (λ x. Opens old units (whole_of new first x)) is opens) in
+    subst (λ ts. IsSession story units keep nothing (view_of keep units header words new first ts 0 given_up))
+    (sym none)
+    (opened_by story units keep header new first words given_up turn
+    (o.headed.static_base ∙ ap static_base_of memory))
 
 -- a loaded store begins its story
 pub loaded_opening : (story : List ℕ) (s : Contents) → state_of s [] ≡ first_state story → IsOpening s

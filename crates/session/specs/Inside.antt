@@ -68,8 +68,8 @@ pub record IsReady (header : Header) (s : Contents) (place : Place) : Type 0 whe
   pub store : IsStoreOf header s
   pub waits : place ≡ places.Waiting → IsWaiting s
 
--- Nothing is recorded between turns, each record fits the store, and at all times that the records reach the store was
--- one of this machine.
+-- Nothing is recorded between turns, each record fits the store, and at all times that the records reach the store
+-- was one of this machine.
 pub record IsBetweenTurns (header : Header) (store : Recording Contents) (first : Place) (turns : List Turn)
     (done : ℕ) : Type 0 where
   pub within : done ≤ length turns

@@ -19,8 +19,8 @@ pub record Streams : Type 0 where
   pub held_before : Option (List ℕ)
   pub held_after : Option (List ℕ)
 
--- The sentence: for one list of marks, what was written is the transcript of the lines, and `P` holds of the lines that
--- stand after them.
+-- The sentence: for one list of marks, what was written is the transcript of the lines, and `P` holds of the lines
+-- that stand after them.
 pub record Played (telling : Telling) (keep : Option ℕ) (lines : List (List ℕ)) (written : List ℕ)
     (P : Standing → Type 0) : Type 0 where
   pub typed : List Typed

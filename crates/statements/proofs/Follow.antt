@@ -6,22 +6,29 @@ use Rattle.lexer.specs.Token.{Lexeme, reserved, sign}
 use Rattle.expressions.specs.declared.tree.Step.{Step}
 use Rattle.expressions.specs.Operators.{stepping}
 use Rattle.expressions.specs.Tree.{ExpressionTree}
-use Rattle.expressions.specs.Grammar.{IsE, e_plain, e_assign, IsE1, e1_plain, e1_logical, IsN1, n1_plain, n1_not, IsE2, e2_plain, e2_compare, e2_equal, IsE3, e3_plain, e3_add, IsE4, e4_plain, e4_scale, IsN4, n4_plain, n4_complement, IsU, u_plain, u_minus, u_before, u_after, IsP, p_number, p_character, p_true, p_false, p_nothing, p_name, p_call, p_call_with, p_parenthesised}
+use Rattle.expressions.specs.Grammar.{IsE, e_plain, e_assign, IsE1, e1_plain, e1_logical, IsN1, n1_plain, n1_not}
+use Rattle.expressions.specs.Grammar.{IsE2, e2_plain, e2_compare, e2_equal, IsE3, e3_plain, e3_add, IsE4, e4_plain}
+use Rattle.expressions.specs.Grammar.{e4_scale, IsN4, n4_plain, n4_complement, IsU, u_plain, u_minus, u_before}
+use Rattle.expressions.specs.Grammar.{u_after, IsP, p_number, p_character, p_true, p_false, p_nothing, p_name, p_call}
+use Rattle.expressions.specs.Grammar.{p_call_with, p_parenthesised}
 use Rattle.expressions.specs.Nesting.{begins_expression}
 use Rattle.expressions.specs.Parse.{head, tail, is_sign, is_word, expression}
 use Rattle.expressions.proofs.Follow.{first_E}
 use Rattle.expressions.proofs.Short.{short_E}
-use Rattle.statements.specs.Tree.{ItemTree, StatementTree, StatementTrees}
-use Rattle.statements.specs.Grammar.{IsItem, item_text, item_character, item_number, IsItems, items_last, items_comma, IsS, s_empty, s_block, s_text, s_print, s_print_ret, s_new_line, s_if, s_if_else, s_while, s_return, s_return_value, s_rtrue, s_rfalse, s_quit, s_effect, IsSs, ss_stop, ss_next}
+use Rattle.statements.specs.Tree.{PrintItemTree, StatementTree, StatementTrees}
+use Rattle.statements.specs.Grammar.{IsItem, item_text, item_character, item_number, IsItems, items_last, items_comma}
+use Rattle.statements.specs.Grammar.{IsS, s_empty, s_block, s_text, s_print, s_print_ret, s_new_line, s_if, s_if_else}
+use Rattle.statements.specs.Grammar.{s_while, s_return, s_return_value, s_rtrue, s_rfalse, s_quit, s_effect, IsSs}
+use Rattle.statements.specs.Grammar.{ss_stop, ss_next}
 
 -- ---- each derivation takes a token
 
-pub short_Item : {ts r : List Lexeme} {i : ItemTree} → IsItem ts i r → length r < length ts
+pub short_Item : {ts r : List Lexeme} {i : PrintItemTree} → IsItem ts i r → length r < length ts
 short_Item item_text = omega arith
 short_Item (item_character a) = omega (arith, short_E a)
 short_Item (item_number a) = short_E a
 
-pub short_Items : {ts r : List Lexeme} {is : List ItemTree} → IsItems ts is r → length r < length ts
+pub short_Items : {ts r : List Lexeme} {is : List PrintItemTree} → IsItems ts is r → length r < length ts
 short_Items (items_last a) = short_Item a
 short_Items (items_comma a b) = omega (arith, short_Item a, short_Items b)
 
@@ -54,7 +61,8 @@ stepping_opens : (t : Lexeme) (op : Step) → stepping t ≡ Some op → is_sign
 stepping_opens (sign s.OpenParenthesis p) op e = absurd cc
 stepping_opens _ op e = refl
 
-second_P : {ts r : List Lexeme} {e : ExpressionTree} → IsP ts e r → is_sign s.OpenParenthesis (head ts) ≡ true → begins_expression (head (tail ts)) ≡ true
+second_P : {ts r : List Lexeme} {e : ExpressionTree} → IsP ts e r → is_sign s.OpenParenthesis (head ts) ≡ true
+    → begins_expression (head (tail ts)) ≡ true
 second_P p_number h = absurd cc
 second_P p_character h = absurd cc
 second_P p_true h = absurd cc
@@ -65,38 +73,46 @@ second_P p_call h = absurd cc
 second_P (p_call_with a) h = absurd cc
 second_P (p_parenthesised a) h = first_E a
 
-second_U : {ts r : List Lexeme} {e : ExpressionTree} → IsU ts e r → is_sign s.OpenParenthesis (head ts) ≡ true → begins_expression (head (tail ts)) ≡ true
+second_U : {ts r : List Lexeme} {e : ExpressionTree} → IsU ts e r → is_sign s.OpenParenthesis (head ts) ≡ true
+    → begins_expression (head (tail ts)) ≡ true
 second_U (u_plain a) h = second_P a h
 second_U (u_minus a) h = absurd cc
 second_U (u_before {t = t} {op = op} o a) h = let no = stepping_opens t op o in absurd cc
 second_U (u_after a o) h = second_P a h
 
-second_N4 : {ts r : List Lexeme} {e : ExpressionTree} → IsN4 ts e r → is_sign s.OpenParenthesis (head ts) ≡ true → begins_expression (head (tail ts)) ≡ true
+second_N4 : {ts r : List Lexeme} {e : ExpressionTree} → IsN4 ts e r → is_sign s.OpenParenthesis (head ts) ≡ true
+    → begins_expression (head (tail ts)) ≡ true
 second_N4 (n4_plain a) h = second_U a h
 second_N4 (n4_complement a) h = absurd cc
 
-second_E4 : {ts r : List Lexeme} {e : ExpressionTree} → IsE4 ts e r → is_sign s.OpenParenthesis (head ts) ≡ true → begins_expression (head (tail ts)) ≡ true
+second_E4 : {ts r : List Lexeme} {e : ExpressionTree} → IsE4 ts e r → is_sign s.OpenParenthesis (head ts) ≡ true
+    → begins_expression (head (tail ts)) ≡ true
 second_E4 (e4_plain a) h = second_N4 a h
 second_E4 (e4_scale a o b) h = second_E4 a h
 
-second_E3 : {ts r : List Lexeme} {e : ExpressionTree} → IsE3 ts e r → is_sign s.OpenParenthesis (head ts) ≡ true → begins_expression (head (tail ts)) ≡ true
+second_E3 : {ts r : List Lexeme} {e : ExpressionTree} → IsE3 ts e r → is_sign s.OpenParenthesis (head ts) ≡ true
+    → begins_expression (head (tail ts)) ≡ true
 second_E3 (e3_plain a) h = second_E4 a h
 second_E3 (e3_add a o b) h = second_E3 a h
 
-second_E2 : {ts r : List Lexeme} {e : ExpressionTree} → IsE2 ts e r → is_sign s.OpenParenthesis (head ts) ≡ true → begins_expression (head (tail ts)) ≡ true
+second_E2 : {ts r : List Lexeme} {e : ExpressionTree} → IsE2 ts e r → is_sign s.OpenParenthesis (head ts) ≡ true
+    → begins_expression (head (tail ts)) ≡ true
 second_E2 (e2_plain a) h = second_E3 a h
 second_E2 (e2_compare a o b) h = second_E3 a h
 second_E2 (e2_equal a o b) h = second_E3 a h
 
-second_N1 : {ts r : List Lexeme} {e : ExpressionTree} → IsN1 ts e r → is_sign s.OpenParenthesis (head ts) ≡ true → begins_expression (head (tail ts)) ≡ true
+second_N1 : {ts r : List Lexeme} {e : ExpressionTree} → IsN1 ts e r → is_sign s.OpenParenthesis (head ts) ≡ true
+    → begins_expression (head (tail ts)) ≡ true
 second_N1 (n1_plain a) h = second_E2 a h
 second_N1 (n1_not a) h = absurd cc
 
-second_E1 : {ts r : List Lexeme} {e : ExpressionTree} → IsE1 ts e r → is_sign s.OpenParenthesis (head ts) ≡ true → begins_expression (head (tail ts)) ≡ true
+second_E1 : {ts r : List Lexeme} {e : ExpressionTree} → IsE1 ts e r → is_sign s.OpenParenthesis (head ts) ≡ true
+    → begins_expression (head (tail ts)) ≡ true
 second_E1 (e1_plain a) h = second_N1 a h
 second_E1 (e1_logical a o b) h = second_E1 a h
 
-second_E : {ts r : List Lexeme} {e : ExpressionTree} → IsE ts e r → is_sign s.OpenParenthesis (head ts) ≡ true → begins_expression (head (tail ts)) ≡ true
+second_E : {ts r : List Lexeme} {e : ExpressionTree} → IsE ts e r → is_sign s.OpenParenthesis (head ts) ≡ true
+    → begins_expression (head (tail ts)) ≡ true
 second_E (e_plain a) h = second_E1 a h
 second_E (e_assign a b) h = second_E1 a h
 
@@ -109,5 +125,7 @@ either : (a b : Bool) → (a ≡ true → b ≡ false) → (a && b) ≡ false
 either true b h = h refl
 either false b h = refl
 
-pub no_cast : {ts r : List Lexeme} {e : ExpressionTree} → IsE ts e r → (is_sign s.OpenParenthesis (head ts) && is_word w.Char (head (tail ts))) ≡ false
-no_cast {ts} a = either (is_sign s.OpenParenthesis (head ts)) (is_word w.Char (head (tail ts))) (λ h. no_character (head (tail ts)) (second_E a h))
+pub no_cast : {ts r : List Lexeme} {e : ExpressionTree} → IsE ts e r
+    → (is_sign s.OpenParenthesis (head ts) && is_word w.Char (head (tail ts))) ≡ false
+no_cast {ts} a = either (is_sign s.OpenParenthesis (head ts)) (is_word w.Char (head (tail ts)))
+    (λ h. no_character (head (tail ts)) (second_E a h))

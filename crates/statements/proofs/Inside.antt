@@ -1,5 +1,6 @@
 -- One nesting further in.
-use Rattle.std.proofs.Common.{◌≡◌, ℕ, zero, suc, ◌+◌, ◌-◌, ◌<◌, true, false, List, [], ◌∷◌, Result, Ok, Err, refl, ap, arith}
+use Rattle.std.proofs.Common.{◌≡◌, ℕ, zero, suc, ◌+◌, ◌-◌, ◌<◌, true, false, List, [], ◌∷◌, Result, Ok, Err, refl, ap}
+use Rattle.std.proofs.Common.{arith}
 use Rattle.lexer.specs.Token.{Lexeme}
 use Rattle.expressions.specs.declared.error.Fault.{Fault}
 use Rattle.expressions.specs.declared.error.Fault.TheVariants.{Deep}
@@ -20,7 +21,8 @@ unfolding inside statement
 inside_below zero ts h = absurd (omega arith)
 inside_below (suc d) ts h = let same : d ≡ suc d - 1 = omega arith in ap (λ j. statement j ts) same
 
--- behind a brace: no nesting is left for it, or none for the statement that begins; nothing begins; a statement begins
+-- behind a brace: no nesting is left for it, or none for the statement that begins; nothing begins; a statement
+-- begins
 
 pub braces_zero : (d : ℕ) (ts : List Lexeme) → d ≡ 0 → braces d ts ≡ Err Deep
 unfolding braces

@@ -1,5 +1,6 @@
 -- The loops over items and statements, a turn at a time: what was read so far, and what is still to come.
-use Rattle.std.proofs.Common.{◌≡◌, ℕ, zero, suc, ◌+◌, ◌-◌, ◌<◌, ◌≤◌, Bool, true, false, List, [], ◌∷◌, ◌++◌, Result, Ok, Err, refl, sym, ap, ◌∙◌, arith}
+use Rattle.std.proofs.Common.{◌≡◌, ℕ, zero, suc, ◌+◌, ◌-◌, ◌<◌, ◌≤◌, Bool, true, false, List, [], ◌∷◌, ◌++◌, Result}
+use Rattle.std.proofs.Common.{Ok, Err, refl, sym, ap, ◌∙◌, arith}
 use Rattle.std.specs.Prelude.{map}
 use Rattle.lexer.specs.Token.{Lexeme}
 use Rattle.expressions.specs.declared.error.Fault.{Fault}
@@ -19,11 +20,13 @@ append_none : {A : Type 0} (xs : List A) → xs ++ [] ≡ xs
 append_none [] = refl
 append_none (x ∷ xs) = ap (λ ys. x ∷ ys) (append_none xs)
 
-map_push : {X A : Type 0} (view : X → A) (xs : List X) (x : X) (rest : List A) → map view xs ++ (view x ∷ rest) ≡ map view (xs ++ x ∷ []) ++ rest
+map_push : {X A : Type 0} (view : X → A) (xs : List X) (x : X) (rest : List A)
+    → map view xs ++ (view x ∷ rest) ≡ map view (xs ++ x ∷ []) ++ rest
 map_push view [] x rest = refl
 map_push view (y ∷ xs) x rest = ap (λ ys. view y ∷ ys) (map_push view xs x rest)
 
-joined_more : {X A : Type 0} (view : X → A) (front : List X) (x : X) (r : Result (List A × List Lexeme) Fault) → joined (map view front) (r >>= λ y. Ok (view x ∷ y.0, y.1)) ≡ joined (map view (front ++ x ∷ [])) r
+joined_more : {X A : Type 0} (view : X → A) (front : List X) (x : X) (r : Result (List A × List Lexeme) Fault)
+    → joined (map view front) (r >>= λ y. Ok (view x ∷ y.0, y.1)) ≡ joined (map view (front ++ x ∷ [])) r
 joined_more view front x (Ok y) = ap (λ z. Ok (z, y.1)) (map_push view front x y.0)
 joined_more view front x (Err f) = refl
 
@@ -31,21 +34,27 @@ joined_last : {A : Type 0} (front : List A) (ts : List Lexeme) → joined front 
 joined_last front ts = ap (λ z. Ok (z, ts)) (append_none front)
 
 module _ {X A : Type 0} (view : X → A) (begins : Lexeme → Bool) (p : Parse A) where
-  pub repeated_out : (n i : ℕ) (front : List X) (ts : List Lexeme) → n ≤ i → joined (map view front) (repeated begins p (n - i) ts) ≡ Ok (map view front, ts)
+  pub repeated_out : (n i : ℕ) (front : List X) (ts : List Lexeme) → n ≤ i
+      → joined (map view front) (repeated begins p (n - i) ts) ≡ Ok (map view front, ts)
   unfolding repeated
   repeated_out n i front ts le = let k : n - i ≡ 0 = omega arith in rw k (joined_last (map view front) ts)
 
-  pub repeated_done : (n : ℕ) (front : List X) (ts : List Lexeme) → begins (head ts) ≡ false → joined (map view front) (repeated begins p n ts) ≡ Ok (map view front, ts)
+  pub repeated_done : (n : ℕ) (front : List X) (ts : List Lexeme) → begins (head ts) ≡ false
+      → joined (map view front) (repeated begins p n ts) ≡ Ok (map view front, ts)
   unfolding repeated
   repeated_done zero front ts e = joined_last (map view front) ts
   repeated_done (suc n) front ts e = rw e (joined_last (map view front) ts)
 
-  pub repeated_more : (n i : ℕ) (front : List X) (ts : List Lexeme) (x : X) (r : List Lexeme) → i < n → begins (head ts) ≡ true → p ts ≡ Ok (view x, r)
-      → joined (map view front) (repeated begins p (n - i) ts) ≡ joined (map view (front ++ x ∷ [])) (repeated begins p (n - (i + 1)) r)
+  pub repeated_more : (n i : ℕ) (front : List X) (ts : List Lexeme) (x : X) (r : List Lexeme) → i < n
+      → begins (head ts) ≡ true → p ts ≡ Ok (view x, r)
+      → joined (map view front) (repeated begins p (n - i) ts)
+      ≡ joined (map view (front ++ x ∷ [])) (repeated begins p (n - (i + 1)) r)
   unfolding repeated
-  repeated_more n i front ts x r lt e h = let k : n - i ≡ suc (n - (i + 1)) = omega arith in rw (k, e, h) (joined_more view front x (repeated begins p (n - (i + 1)) r))
+  repeated_more n i front ts x r lt e h = let k : n - i ≡ suc (n - (i + 1)) = omega arith in
+      rw (k, e, h) (joined_more view front x (repeated begins p (n - (i + 1)) r))
 
-  pub repeated_fails : (e : ParseError) (n i : ℕ) (front : List X) (ts : List Lexeme) (total : Result (List A × List Lexeme) Fault) → i < n → begins (head ts) ≡ true → Fails e (p ts)
+  pub repeated_fails : (e : ParseError) (n i : ℕ) (front : List X) (ts : List Lexeme)
+      (total : Result (List A × List Lexeme) Fault) → i < n → begins (head ts) ≡ true → Fails e (p ts)
       → joined (map view front) (repeated begins p (n - i) ts) ≡ total → Fails e total
   unfolding repeated
   repeated_fails errors.Memory n i front ts total lt c h so_far = tt
@@ -54,21 +63,27 @@ module _ {X A : Type 0} (view : X → A) (begins : Lexeme → Bool) (p : Parse A
       let one : joined (map view front) (repeated begins p (n - i) ts) ≡ Err f = rw (k, c, h) refl in
       sym so_far ∙ one
 
-  pub further_out : (n i : ℕ) (front : List X) (ts : List Lexeme) → n ≤ i → joined (map view front) (further begins p (n - i) ts) ≡ Ok (map view front, ts)
+  pub further_out : (n i : ℕ) (front : List X) (ts : List Lexeme) → n ≤ i
+      → joined (map view front) (further begins p (n - i) ts) ≡ Ok (map view front, ts)
   unfolding further
   further_out n i front ts le = let k : n - i ≡ 0 = omega arith in rw k (joined_last (map view front) ts)
 
-  pub further_done : (n : ℕ) (front : List X) (ts : List Lexeme) → begins (head ts) ≡ false → joined (map view front) (further begins p n ts) ≡ Ok (map view front, ts)
+  pub further_done : (n : ℕ) (front : List X) (ts : List Lexeme) → begins (head ts) ≡ false
+      → joined (map view front) (further begins p n ts) ≡ Ok (map view front, ts)
   unfolding further
   further_done zero front ts e = joined_last (map view front) ts
   further_done (suc n) front ts e = rw e (joined_last (map view front) ts)
 
-  pub further_more : (n i : ℕ) (front : List X) (ts : List Lexeme) (x : X) (r : List Lexeme) → i < n → begins (head ts) ≡ true → p (tail ts) ≡ Ok (view x, r)
-      → joined (map view front) (further begins p (n - i) ts) ≡ joined (map view (front ++ x ∷ [])) (further begins p (n - (i + 1)) r)
+  pub further_more : (n i : ℕ) (front : List X) (ts : List Lexeme) (x : X) (r : List Lexeme) → i < n
+      → begins (head ts) ≡ true → p (tail ts) ≡ Ok (view x, r)
+      → joined (map view front) (further begins p (n - i) ts)
+      ≡ joined (map view (front ++ x ∷ [])) (further begins p (n - (i + 1)) r)
   unfolding further
-  further_more n i front ts x r lt e h = let k : n - i ≡ suc (n - (i + 1)) = omega arith in rw (k, e, h) (joined_more view front x (further begins p (n - (i + 1)) r))
+  further_more n i front ts x r lt e h = let k : n - i ≡ suc (n - (i + 1)) = omega arith in
+      rw (k, e, h) (joined_more view front x (further begins p (n - (i + 1)) r))
 
-  pub further_fails : (e : ParseError) (n i : ℕ) (front : List X) (ts : List Lexeme) (total : Result (List A × List Lexeme) Fault) → i < n → begins (head ts) ≡ true → Fails e (p (tail ts))
+  pub further_fails : (e : ParseError) (n i : ℕ) (front : List X) (ts : List Lexeme)
+      (total : Result (List A × List Lexeme) Fault) → i < n → begins (head ts) ≡ true → Fails e (p (tail ts))
       → joined (map view front) (further begins p (n - i) ts) ≡ total → Fails e total
   unfolding further
   further_fails errors.Memory n i front ts total lt c h so_far = tt

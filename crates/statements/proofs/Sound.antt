@@ -1,6 +1,7 @@
--- What is read derives in the grammar and is nested no deeper than was allowed; and where the fault is that a token stands
--- too deep, one does.
-use Rattle.std.proofs.Common.{◌≡◌, ◌&&◌, ℕ, zero, suc, ◌<◌, ◌≤◌, ◌⊎◌, Bool, true, false, List, [], ◌∷◌, length, refl, sym, ap, subst, ◌∙◌, inl, inr, arith}
+-- What is read derives in the grammar and is nested no deeper than was allowed; and where the fault is that a token
+-- stands too deep, one does.
+use Rattle.std.proofs.Common.{◌≡◌, ◌&&◌, ℕ, zero, suc, ◌<◌, ◌≤◌, ◌⊎◌, Bool, true, false, List, [], ◌∷◌, length, refl}
+use Rattle.std.proofs.Common.{sym, ap, subst, ◌∙◌, inl, inr, arith}
 use Rattle.lexer.specs.declared.token.Position.{Position}
 use Rattle.lexer.specs.declared.token.Sign.TheVariants as s
 use Rattle.lexer.specs.declared.token.Word.TheVariants as w
@@ -9,15 +10,30 @@ use Rattle.expressions.specs.Tree.{ExpressionTree}
 use Rattle.expressions.specs.Grammar.{IsE, nesting}
 use Rattle.expressions.specs.Nesting.{DeepE}
 use Rattle.expressions.specs.Parse.{Parse, head, tail, is_sign, is_word, expect}
-use Rattle.expressions.proofs.Judged.{Judged, judged_read, judged_grammar, judged_deep, judged_then, judged_after, judged_by, judged_as}
+use Rattle.expressions.proofs.Judged.{Judged, judged_read, judged_grammar, judged_deep, judged_then, judged_after}
+use Rattle.expressions.proofs.Judged.{judged_by, judged_as}
 use Rattle.expressions.proofs.Tokens.{at_sign, at_word, is_that_sign, expect_ok, expect_not_deep}
 use Rattle.expressions.proofs.Repeated.{list_judged}
 use Rattle.expressions.proofs.Short.{short_E}
 use Rattle.expressions.proofs.Sound.{judged_E, judged_whole}
-use Rattle.statements.specs.Tree.{ItemTree, text_item, character_item, number_item, StatementTree, trees_of, empty, block, text_alone, print, print_return, new_line, if_then, if_else, while_do, return_alone, return_value, return_true, return_false, quit, effect}
-use Rattle.statements.specs.Grammar.{has_effect, else_follows, IsItem, item_text, item_character, item_number, IsItems, items_last, items_comma, IsS, s_empty, s_block, s_text, s_print, s_print_ret, s_new_line, s_if, s_if_else, s_while, s_return, s_return_value, s_rtrue, s_rfalse, s_quit, s_effect, IsSs, ss_stop, ss_next, item_nesting, items_nesting, statement_nesting, inside_nesting, body_nesting}
-use Rattle.statements.specs.Nesting.{begins_statement, DeepItem, deep_item_parenthesis, deep_item_character, deep_item_number, DeepItems, deep_items_first, deep_items_next, DeepS, deep_s_brace, deep_s_block, deep_s_print, deep_s_print_ret, deep_s_if, deep_s_if_condition, deep_s_if_then, deep_s_if_else, deep_s_while, deep_s_while_condition, deep_s_while_do, deep_s_return, deep_s_effect, DeepInside, deep_inside_begins, deep_inside_first, deep_inside_next, DeepSs, deep_ss_first, deep_ss_next}
-use Rattle.statements.specs.Parse.{repeated, ended, character, value, item, items, printed, enclosed_condition, returned, alone, choice, repetition, braced, statement_over, inside, braces, statement, statements}
+use Rattle.statements.specs.Tree.{PrintItemTree, text_item, character_item, number_item, StatementTree, trees_of}
+use Rattle.statements.specs.Tree.{empty, block, text_alone, print, print_return, new_line, if_then, if_else, while_do}
+use Rattle.statements.specs.Tree.{return_alone, return_value, return_true, return_false, quit, effect}
+use Rattle.statements.specs.Grammar.{has_effect, else_follows, IsItem, item_text, item_character, item_number}
+use Rattle.statements.specs.Grammar.{IsItems, items_last, items_comma, IsS, s_empty, s_block, s_text, s_print}
+use Rattle.statements.specs.Grammar.{s_print_ret, s_new_line, s_if, s_if_else, s_while, s_return, s_return_value}
+use Rattle.statements.specs.Grammar.{s_rtrue, s_rfalse, s_quit, s_effect, IsSs, ss_stop, ss_next, item_nesting}
+use Rattle.statements.specs.Grammar.{items_nesting, statement_nesting, inside_nesting, body_nesting}
+use Rattle.statements.specs.Nesting.{begins_statement, DeepItem, deep_item_parenthesis, deep_item_character}
+use Rattle.statements.specs.Nesting.{deep_item_number, DeepItems, deep_items_first, deep_items_next, DeepS}
+use Rattle.statements.specs.Nesting.{deep_s_brace, deep_s_block, deep_s_print, deep_s_print_ret, deep_s_if}
+use Rattle.statements.specs.Nesting.{deep_s_if_condition, deep_s_if_then, deep_s_if_else, deep_s_while}
+use Rattle.statements.specs.Nesting.{deep_s_while_condition, deep_s_while_do, deep_s_return, deep_s_effect}
+use Rattle.statements.specs.Nesting.{DeepInside, deep_inside_begins, deep_inside_first, deep_inside_next, DeepSs}
+use Rattle.statements.specs.Nesting.{deep_ss_first, deep_ss_next}
+use Rattle.statements.specs.Parse.{repeated, ended, character, value, item, items, printed, enclosed_condition}
+use Rattle.statements.specs.Parse.{returned, alone, choice, repetition, braced, statement_over, inside, braces}
+use Rattle.statements.specs.Parse.{statement, statements}
 
 -- one nesting further in: at its first token, or behind that
 deeper : (D E : ℕ → Type 0) (d : ℕ) → E 1 → ((n : ℕ) → D n → E (suc n)) → (d ≡ 0) ⊎ D d → E (suc d)
@@ -30,9 +46,11 @@ both false b e = absurd cc
 
 -- ---- items, as long as one begins
 
-module _ {A : Type 0} (begins : Lexeme → Bool) (p : Parse A) (Q : List Lexeme → A → List Lexeme → Type 0) (L : List Lexeme → List A → List Lexeme → Type 0) (DQ DL : List Lexeme → Type 0)
+module _ {A : Type 0} (begins : Lexeme → Bool) (p : Parse A) (Q : List Lexeme → A → List Lexeme → Type 0)
+    (L : List Lexeme → List A → List Lexeme → Type 0) (DQ DL : List Lexeme → Type 0)
     (last : (r : List Lexeme) → L r [] r)
-    (onward : (ts : List Lexeme) (a : A) (m : List Lexeme) (xs : List A) (r : List Lexeme) → Q ts a m → L m xs r → L ts (a ∷ xs) r)
+    (onward : (ts : List Lexeme) (a : A) (m : List Lexeme) (xs : List A) (r : List Lexeme) → Q ts a m → L m xs r
+    → L ts (a ∷ xs) r)
     (deep_first : (ts : List Lexeme) → begins (head ts) ≡ true → DQ ts → DL ts)
     (deep_next : (ts : List Lexeme) (a : A) (m : List Lexeme) → Q ts a m → DL m → DL ts)
     (one : (ts : List Lexeme) → Judged (Q ts) (DQ ts) (p ts)) where
@@ -41,31 +59,41 @@ module _ {A : Type 0} (begins : Lexeme → Bool) (p : Parse A) (Q : List Lexeme 
   repeated_judged zero ts = judged_read [] ts (last ts)
   repeated_judged (suc n) ts =
       judged_by (begins (head ts)) _ _
-      (λ e. judged_then _ (one ts) (λ a r q. judged_then _ (repeated_judged n r) (λ xs u l. judged_read (a ∷ xs) u (onward ts a r xs u q l)) (λ x. deep_next ts a r q x)) (λ x. deep_first ts e x))
+      (λ e. judged_then _ (one ts)
+      (λ a r q. judged_then _ (repeated_judged n r) (λ xs u l. judged_read (a ∷ xs) u (onward ts a r xs u q l))
+      (λ x. deep_next ts a r q x)) (λ x. deep_first ts e x))
       (λ e. judged_read [] ts (last ts))
 
 -- ---- statements without statements inside them
 
-ended_judged : {P : StatementTree → List Lexeme → Type 0} {C : Type 0} (x : StatementTree) (ts : List Lexeme) → ((p : Position) (r : List Lexeme) → ts ≡ sign s.Semicolon p ∷ r → P x r) → Judged P C (ended x ts)
+ended_judged : {P : StatementTree → List Lexeme → Type 0} {C : Type 0} (x : StatementTree) (ts : List Lexeme)
+    → ((p : Position) (r : List Lexeme) → ts ≡ sign s.Semicolon p ∷ r → P x r) → Judged P C (ended x ts)
 unfolding ended
 ended_judged x ts make =
     judged_after (expect s.Semicolon ts) _
     (λ r e. judged_read x r (make (position_of (head ts)) r (expect_ok s.Semicolon ts r e)))
     (λ e. absurd (expect_not_deep s.Semicolon ts e))
 
-from_number : (ts : List Lexeme) (e : ExpressionTree) (r : List Lexeme) → IsE ts e r → IsItem ts (number_item (position_of (head ts)) e) r
+from_number : (ts : List Lexeme) (e : ExpressionTree) (r : List Lexeme) → IsE ts e r
+    → IsItem ts (number_item (position_of (head ts)) e) r
 from_number [] e r h = absurd (omega (arith, short_E h))
 from_number (t ∷ m) e r h = item_number h
 
-from_effect : (ts : List Lexeme) (e : ExpressionTree) (q : Position) (r : List Lexeme) → IsE ts e (sign s.Semicolon q ∷ r) → has_effect e ≡ true → IsS ts (effect (position_of (head ts)) e) r
+from_effect : (ts : List Lexeme) (e : ExpressionTree) (q : Position) (r : List Lexeme)
+    → IsE ts e (sign s.Semicolon q ∷ r) → has_effect e ≡ true → IsS ts (effect (position_of (head ts)) e) r
 from_effect [] e q r h f = absurd (omega (arith, short_E h))
 from_effect (t ∷ m) e q r h f = s_effect h f
 
-from_character : (p q o : Position) (ts : List Lexeme) (e : ExpressionTree) (r : List Lexeme) → IsE ts e r → IsItem (sign s.OpenParenthesis p ∷ reserved w.Char q ∷ sign s.CloseParenthesis o ∷ ts) (character_item (position_of (head ts)) e) r
+from_character : (p q o : Position) (ts : List Lexeme) (e : ExpressionTree) (r : List Lexeme) → IsE ts e r
+    → IsItem (sign s.OpenParenthesis p ∷ reserved w.Char q ∷ sign s.CloseParenthesis o ∷ ts)
+    (character_item (position_of (head ts)) e) r
 from_character p q o [] e r h = absurd (omega (arith, short_E h))
 from_character p q o (t ∷ m) e r h = item_character h
 
-character_judged : (d : ℕ) (p q : Position) (m : List Lexeme) → Judged (λ i r. IsItem (sign s.OpenParenthesis p ∷ reserved w.Char q ∷ m) i r × (item_nesting i ≤ d)) (DeepItem (suc d) (sign s.OpenParenthesis p ∷ reserved w.Char q ∷ m)) (character d (sign s.OpenParenthesis p ∷ reserved w.Char q ∷ m))
+character_judged : (d : ℕ) (p q : Position) (m : List Lexeme)
+    → Judged (λ i r. IsItem (sign s.OpenParenthesis p ∷ reserved w.Char q ∷ m) i r × (item_nesting i ≤ d))
+    (DeepItem (suc d) (sign s.OpenParenthesis p ∷ reserved w.Char q ∷ m))
+    (character d (sign s.OpenParenthesis p ∷ reserved w.Char q ∷ m))
 unfolding character
 character_judged zero p q m = judged_deep deep_item_parenthesis
 character_judged (suc d) p q m =
@@ -74,62 +102,84 @@ character_judged (suc d) p q m =
     let o = position_of (head m) in
     let at = expect_ok s.CloseParenthesis m r e in
     judged_then _ (judged_E (suc d) r)
-    (λ a u h. judged_read _ u (subst (λ v. IsItem (sign s.OpenParenthesis p ∷ reserved w.Char q ∷ v) (character_item (position_of (head r)) a) u) (sym at) (from_character p q o r a u h.0), omega (arith, h.1)))
-    (λ x. subst (λ v. DeepItem (suc (suc d)) (sign s.OpenParenthesis p ∷ reserved w.Char q ∷ v)) (sym at) (deep_item_character x)))
+    (λ a u h. judged_read _ u (
+      subst (λ v. IsItem (sign s.OpenParenthesis p ∷ reserved w.Char q ∷ v)
+          (character_item (position_of (head r)) a) u) (sym at) (from_character p q o r a u h.0),
+      omega (arith, h.1),
+    ))
+    (λ x. subst (λ v. DeepItem (suc (suc d)) (sign s.OpenParenthesis p ∷ reserved w.Char q ∷ v)) (sym at)
+    (deep_item_character x)))
     (λ e. absurd (expect_not_deep s.CloseParenthesis m e))
 
-value_judged : (d : ℕ) (ts : List Lexeme) → Judged (λ i r. IsItem ts i r × (item_nesting i ≤ d)) (DeepItem (suc d) ts) (value d ts)
+value_judged : (d : ℕ) (ts : List Lexeme) → Judged (λ i r. IsItem ts i r × (item_nesting i ≤ d))
+    (DeepItem (suc d) ts) (value d ts)
 unfolding value
 value_judged d ts =
     judged_by (is_sign s.OpenParenthesis (head ts) && is_word w.Char (head (tail ts))) _ _
     (λ e.
     let b = both (is_sign s.OpenParenthesis (head ts)) (is_word w.Char (head (tail ts))) e in
-    let at = at_sign s.OpenParenthesis ts b.0 ∙ ap (λ u. sign s.OpenParenthesis (position_of (head ts)) ∷ u) (at_word w.Char (tail ts) b.1) in
-    subst (λ us. Judged (λ i r. IsItem us i r × (item_nesting i ≤ d)) (DeepItem (suc d) us) (character d us)) (sym at) (character_judged d (position_of (head ts)) (position_of (head (tail ts))) (tail (tail ts))))
-    (λ e. judged_then _ (judged_E d ts) (λ a r h. judged_read _ r (from_number ts a r h.0, h.1)) (λ x. deep_item_number x))
+    let at = at_sign s.OpenParenthesis ts b.0 ∙ ap (λ u. sign s.OpenParenthesis (position_of (head ts)) ∷ u)
+    (at_word w.Char (tail ts) b.1) in
+    subst (λ us. Judged (λ i r. IsItem us i r × (item_nesting i ≤ d)) (DeepItem (suc d) us) (character d us))
+    (sym at) (character_judged d (position_of (head ts)) (position_of (head (tail ts))) (tail (tail ts))))
+    (λ e. judged_then _ (judged_E d ts) (λ a r h. judged_read _ r (from_number ts a r h.0, h.1))
+    (λ x. deep_item_number x))
 
-item_judged : (d : ℕ) (ts : List Lexeme) → Judged (λ i r. IsItem ts i r × (item_nesting i ≤ d)) (DeepItem (suc d) ts) (item d ts)
+item_judged : (d : ℕ) (ts : List Lexeme) → Judged (λ i r. IsItem ts i r × (item_nesting i ≤ d)) (DeepItem (suc d) ts)
+    (item d ts)
 unfolding item
 item_judged d (text bytes p ∷ ts) = judged_read (text_item bytes) ts (item_text, omega arith)
 item_judged d ts = value_judged d ts
 
-items_judged : (d : ℕ) (ts : List Lexeme) → Judged (λ is r. IsItems ts is r × (items_nesting is ≤ d)) (DeepItems (suc d) ts) (items d ts)
+items_judged : (d : ℕ) (ts : List Lexeme) → Judged (λ is r. IsItems ts is r × (items_nesting is ≤ d))
+    (DeepItems (suc d) ts) (items d ts)
 unfolding items
 items_judged d ts =
-    list_judged (is_sign s.Comma) (item d) (λ us i r. IsItem us i r × (item_nesting i ≤ d)) (λ us is r. IsItems us is r × (items_nesting is ≤ d)) (DeepItem (suc d)) (DeepItems (suc d))
+    list_judged (is_sign s.Comma) (item d) (λ us i r. IsItem us i r × (item_nesting i ≤ d))
+    (λ us is r. IsItems us is r × (items_nesting is ≤ d)) (DeepItem (suc d)) (DeepItems (suc d))
     refl
     (λ us i r h. (items_last h.0, omega (arith, h.1)))
-    (λ us i t m is r h e l. (items_comma (subst (λ x. IsItem us i (x ∷ m)) (is_that_sign s.Comma t e) h.0) l.0, omega (arith, h.1, l.1)))
+    (λ us i t m is r h e l.
+    (items_comma (subst (λ x. IsItem us i (x ∷ m)) (is_that_sign s.Comma t e) h.0) l.0, omega (arith, h.1, l.1)))
     (λ us x. deep_items_first x)
     (λ us i t m h e x. deep_items_next (subst (λ y. IsItem us i (y ∷ m)) (is_that_sign s.Comma t e) h.0) x)
     (item_judged d) ts
 
-printed_judged : (d : ℕ) (make : List ItemTree → StatementTree) (t : Lexeme) (ts : List Lexeme)
-    → ((is : List ItemTree) (q : Position) (r : List Lexeme) → IsItems ts is (sign s.Semicolon q ∷ r) → IsS (t ∷ ts) (make is) r)
-    → ((is : List ItemTree) → statement_nesting (make is) ≡ items_nesting is)
+printed_judged : (d : ℕ) (make : List PrintItemTree → StatementTree) (t : Lexeme) (ts : List Lexeme)
+    → ((is : List PrintItemTree) (q : Position) (r : List Lexeme) → IsItems ts is (sign s.Semicolon q ∷ r)
+    → IsS (t ∷ ts) (make is) r)
+    → ((is : List PrintItemTree) → statement_nesting (make is) ≡ items_nesting is)
     → (DeepItems (suc d) ts → DeepS (suc d) (t ∷ ts))
     → Judged (λ x r. IsS (t ∷ ts) x r × (statement_nesting x ≤ d)) (DeepS (suc d) (t ∷ ts)) (printed d make ts)
 unfolding printed
 printed_judged d make t ts build same up =
     judged_then _ (items_judged d ts)
-    (λ is r h. ended_judged (make is) r (λ p u e. (build is p u (subst (λ v. IsItems ts is v) e h.0), omega (arith, h.1, same is))))
+    (λ is r h. ended_judged (make is) r
+    (λ p u e. (build is p u (subst (λ v. IsItems ts is v) e h.0), omega (arith, h.1, same is))))
     up
 
-returned_judged : (d : ℕ) (p : Position) (ts : List Lexeme) → Judged (λ x r. IsS (reserved w.Return p ∷ ts) x r × (statement_nesting x ≤ d)) (DeepS (suc d) (reserved w.Return p ∷ ts)) (returned d p ts)
+returned_judged : (d : ℕ) (p : Position) (ts : List Lexeme)
+    → Judged (λ x r. IsS (reserved w.Return p ∷ ts) x r × (statement_nesting x ≤ d))
+    (DeepS (suc d) (reserved w.Return p ∷ ts)) (returned d p ts)
 unfolding returned
 returned_judged d p ts =
     judged_by (is_sign s.Semicolon (head ts)) _ _
-    (λ e. judged_read return_alone (tail ts) (subst (λ u. IsS (reserved w.Return p ∷ u) return_alone (tail ts)) (sym (at_sign s.Semicolon ts e)) s_return, omega arith))
+    (λ e. judged_read return_alone (tail ts) (
+      subst (λ u. IsS (reserved w.Return p ∷ u) return_alone (tail ts)) (sym (at_sign s.Semicolon ts e)) s_return,
+      omega arith,
+    ))
     (λ e. judged_then _ (judged_E d ts)
     (λ a r h. ended_judged (return_value p a) r (λ q u x. (s_return_value (subst (λ v. IsE ts a v) x h.0), h.1)))
     (λ x. deep_s_return x))
 
-alone_judged : (d : ℕ) (ts : List Lexeme) → Judged (λ x r. IsS ts x r × (statement_nesting x ≤ d)) (DeepS (suc d) ts) (alone d ts)
+alone_judged : (d : ℕ) (ts : List Lexeme) → Judged (λ x r. IsS ts x r × (statement_nesting x ≤ d)) (DeepS (suc d) ts)
+    (alone d ts)
 unfolding alone
 alone_judged d ts =
     judged_then _ (judged_E d ts)
     (λ a r h. judged_by (has_effect a) _ _
-    (λ f. ended_judged (effect (position_of (head ts)) a) r (λ q u x. (from_effect ts a q u (subst (λ v. IsE ts a v) x h.0) f, h.1)))
+    (λ f. ended_judged (effect (position_of (head ts)) a) r
+    (λ q u x. (from_effect ts a q u (subst (λ v. IsE ts a v) x h.0) f, h.1)))
     (λ f. judged_grammar))
     (λ x. deep_s_effect x)
 
@@ -149,13 +199,22 @@ pub record DeepCondition (d : ℕ) (ts : List Lexeme) : Type 0 where
   pub at : ts ≡ sign s.OpenParenthesis opens ∷ from
   pub deep : (d ≡ 0) ⊎ DeepE d from
 
-condition_judged : (d : ℕ) (ts : List Lexeme) → Judged (IsCondition d ts) (DeepCondition d ts) (enclosed_condition d ts)
+condition_judged : (d : ℕ) (ts : List Lexeme) → Judged (IsCondition d ts) (DeepCondition d ts)
+    (enclosed_condition d ts)
 unfolding enclosed_condition
 condition_judged d ts =
     judged_after (expect s.OpenParenthesis ts) _
     (λ m e. judged_then _ (judged_whole d m)
     (λ c r h. judged_after (expect s.CloseParenthesis r) _
-    (λ u f. judged_read c u (record { opens = position_of (head ts); closes = position_of (head r); from = m; at = expect_ok s.OpenParenthesis ts m e; derives = subst (λ v. IsE m c v) (expect_ok s.CloseParenthesis r u f) h.0; within = h.1 }))
+    (λ u f. judged_read c u
+    (record {
+      opens = position_of (head ts);
+      closes = position_of (head r);
+      from = m;
+      at = expect_ok s.OpenParenthesis ts m e;
+      derives = subst (λ v. IsE m c v) (expect_ok s.CloseParenthesis r u f) h.0;
+      within = h.1;
+    }))
     (λ f. absurd (expect_not_deep s.CloseParenthesis r f)))
     (λ x. record { opens = position_of (head ts); from = m; at = expect_ok s.OpenParenthesis ts m e; deep = x }))
     (λ e. absurd (expect_not_deep s.OpenParenthesis ts e))
@@ -168,11 +227,15 @@ at_else (t ∷ ts) e = absurd cc
 -- ---- one nesting further in
 
 pub record Inner (d : ℕ) : Type 0 where
-  pub in_statement : (ts : List Lexeme) → Judged (λ x r. IsS ts x r × (statement_nesting x < d)) ((d ≡ 0) ⊎ DeepS d ts) (inside d ts)
-  pub in_block : (ts : List Lexeme) → Judged (λ xs r. IsSs ts (trees_of xs) r × (inside_nesting (trees_of xs) < d)) ((d ≡ 0) ⊎ DeepInside d ts) (braces d ts)
+  pub in_statement : (ts : List Lexeme) → Judged (λ x r. IsS ts x r × (statement_nesting x < d))
+      ((d ≡ 0) ⊎ DeepS d ts) (inside d ts)
+  pub in_block : (ts : List Lexeme) → Judged (λ xs r. IsSs ts (trees_of xs) r × (inside_nesting (trees_of xs) < d))
+      ((d ≡ 0) ⊎ DeepInside d ts) (braces d ts)
 
 module _ (d : ℕ) (inner : Inner d) where
-  choice_judged : (p : Position) (ts : List Lexeme) → Judged (λ x r. IsS (reserved w.If p ∷ ts) x r × (statement_nesting x ≤ d)) (DeepS (suc d) (reserved w.If p ∷ ts)) (choice d (inside d) p ts)
+  choice_judged : (p : Position) (ts : List Lexeme)
+      → Judged (λ x r. IsS (reserved w.If p ∷ ts) x r × (statement_nesting x ≤ d))
+      (DeepS (suc d) (reserved w.If p ∷ ts)) (choice d (inside d) p ts)
   unfolding choice
   choice_judged p ts =
       judged_then _ (condition_judged d ts)
@@ -181,55 +244,95 @@ module _ (d : ℕ) (inner : Inner d) where
       (λ e.
       let at = subst (λ v. IsS r x v) (at_else u e) g.0 in
       judged_then _ (inner.in_statement (tail u))
-      (λ y v k. judged_read _ v (subst (λ us. IsS (reserved w.If p ∷ us) (if_else p c x y) v) (sym h.at) (s_if_else h.derives at k.0), omega (arith, h.within, g.1, k.1)))
-      (λ z. subst (λ us. DeepS (suc d) (reserved w.If p ∷ us)) (sym h.at) (deeper (λ n. DeepS n (tail u)) (λ n. DeepS n (reserved w.If p ∷ sign s.OpenParenthesis h.opens ∷ h.from)) d deep_s_if (λ n y. deep_s_if_else h.derives at y) z)))
-      (λ e. judged_read _ u (subst (λ us. IsS (reserved w.If p ∷ us) (if_then p c x) u) (sym h.at) (s_if h.derives g.0 e), omega (arith, h.within, g.1))))
-      (λ z. subst (λ us. DeepS (suc d) (reserved w.If p ∷ us)) (sym h.at) (deeper (λ n. DeepS n r) (λ n. DeepS n (reserved w.If p ∷ sign s.OpenParenthesis h.opens ∷ h.from)) d deep_s_if (λ n x. deep_s_if_then h.derives x) z)))
-      (λ h. subst (λ us. DeepS (suc d) (reserved w.If p ∷ us)) (sym h.at) (deeper (λ n. DeepE n h.from) (λ n. DeepS n (reserved w.If p ∷ sign s.OpenParenthesis h.opens ∷ h.from)) d deep_s_if (λ n x. deep_s_if_condition x) h.deep))
+      (λ y v k. judged_read _ v (
+        subst (λ us. IsS (reserved w.If p ∷ us) (if_else p c x y) v) (sym h.at) (s_if_else h.derives at k.0),
+        omega (arith, h.within, g.1, k.1),
+      ))
+      (λ z. subst (λ us. DeepS (suc d) (reserved w.If p ∷ us)) (sym h.at)
+      (deeper (λ n. DeepS n (tail u)) (λ n. DeepS n (reserved w.If p ∷ sign s.OpenParenthesis h.opens ∷ h.from))
+      d deep_s_if (λ n y. deep_s_if_else h.derives at y) z)))
+      (λ e. judged_read _ u (
+        subst (λ us. IsS (reserved w.If p ∷ us) (if_then p c x) u) (sym h.at) (s_if h.derives g.0 e),
+        omega
+            (arith, h.within, g.1),
+      )))
+      (λ z. subst (λ us. DeepS (suc d) (reserved w.If p ∷ us)) (sym h.at)
+      (deeper (λ n. DeepS n r) (λ n. DeepS n (reserved w.If p ∷ sign s.OpenParenthesis h.opens ∷ h.from)) d
+      deep_s_if (λ n x. deep_s_if_then h.derives x) z)))
+      (λ h. subst (λ us. DeepS (suc d) (reserved w.If p ∷ us)) (sym h.at)
+      (deeper (λ n. DeepE n h.from) (λ n. DeepS n (reserved w.If p ∷ sign s.OpenParenthesis h.opens ∷ h.from)) d
+      deep_s_if (λ n x. deep_s_if_condition x) h.deep))
 
-  repetition_judged : (p : Position) (ts : List Lexeme) → Judged (λ x r. IsS (reserved w.While p ∷ ts) x r × (statement_nesting x ≤ d)) (DeepS (suc d) (reserved w.While p ∷ ts)) (repetition d (inside d) p ts)
+  repetition_judged : (p : Position) (ts : List Lexeme)
+      → Judged (λ x r. IsS (reserved w.While p ∷ ts) x r × (statement_nesting x ≤ d))
+      (DeepS (suc d) (reserved w.While p ∷ ts)) (repetition d (inside d) p ts)
   unfolding repetition
   repetition_judged p ts =
       judged_then _ (condition_judged d ts)
       (λ c r h. judged_then _ (inner.in_statement r)
-      (λ x u g. judged_read _ u (subst (λ us. IsS (reserved w.While p ∷ us) (while_do p c x) u) (sym h.at) (s_while h.derives g.0), omega (arith, h.within, g.1)))
-      (λ z. subst (λ us. DeepS (suc d) (reserved w.While p ∷ us)) (sym h.at) (deeper (λ n. DeepS n r) (λ n. DeepS n (reserved w.While p ∷ sign s.OpenParenthesis h.opens ∷ h.from)) d deep_s_while (λ n x. deep_s_while_do h.derives x) z)))
-      (λ h. subst (λ us. DeepS (suc d) (reserved w.While p ∷ us)) (sym h.at) (deeper (λ n. DeepE n h.from) (λ n. DeepS n (reserved w.While p ∷ sign s.OpenParenthesis h.opens ∷ h.from)) d deep_s_while (λ n x. deep_s_while_condition x) h.deep))
+      (λ x u g. judged_read _ u (
+        subst (λ us. IsS (reserved w.While p ∷ us) (while_do p c x) u) (sym h.at) (s_while h.derives g.0),
+        omega
+            (arith, h.within, g.1),
+      ))
+      (λ z. subst (λ us. DeepS (suc d) (reserved w.While p ∷ us)) (sym h.at)
+      (deeper (λ n. DeepS n r) (λ n. DeepS n (reserved w.While p ∷ sign s.OpenParenthesis h.opens ∷ h.from)) d
+      deep_s_while (λ n x. deep_s_while_do h.derives x) z)))
+      (λ h. subst (λ us. DeepS (suc d) (reserved w.While p ∷ us)) (sym h.at)
+      (deeper (λ n. DeepE n h.from) (λ n. DeepS n (reserved w.While p ∷ sign s.OpenParenthesis h.opens ∷ h.from))
+      d deep_s_while (λ n x. deep_s_while_condition x) h.deep))
 
-  braced_judged : (p : Position) (ts : List Lexeme) → Judged (λ x r. IsS (sign s.OpenBrace p ∷ ts) x r × (statement_nesting x ≤ d)) (DeepS (suc d) (sign s.OpenBrace p ∷ ts)) (braced d (inside d) (braces d) ts)
+  braced_judged : (p : Position) (ts : List Lexeme)
+      → Judged (λ x r. IsS (sign s.OpenBrace p ∷ ts) x r × (statement_nesting x ≤ d))
+      (DeepS (suc d) (sign s.OpenBrace p ∷ ts)) (braced d (inside d) (braces d) ts)
   unfolding braced
   braced_judged p ts =
       judged_then _ (inner.in_block ts)
       (λ xs r h. judged_after (expect s.CloseBrace r) _
-      (λ u e. judged_read (block (trees_of xs)) u (s_block (subst (λ v. IsSs ts (trees_of xs) v) (expect_ok s.CloseBrace r u e) h.0), omega (arith, h.1)))
+      (λ u e. judged_read (block (trees_of xs)) u
+      (s_block (subst (λ v. IsSs ts (trees_of xs) v) (expect_ok s.CloseBrace r u e) h.0), omega (arith, h.1)))
       (λ e. absurd (expect_not_deep s.CloseBrace r e)))
-      (λ z. deeper (λ n. DeepInside n ts) (λ n. DeepS n (sign s.OpenBrace p ∷ ts)) d deep_s_brace (λ n x. deep_s_block x) z)
+      (λ z. deeper (λ n. DeepInside n ts) (λ n. DeepS n (sign s.OpenBrace p ∷ ts)) d deep_s_brace
+      (λ n x. deep_s_block x) z)
 
-  over_judged : (ts : List Lexeme) → Judged (λ x r. IsS ts x r × (statement_nesting x ≤ d)) (DeepS (suc d) ts) (statement_over d (inside d) (braces d) ts)
+  over_judged : (ts : List Lexeme) → Judged (λ x r. IsS ts x r × (statement_nesting x ≤ d)) (DeepS (suc d) ts)
+      (statement_over d (inside d) (braces d) ts)
   unfolding statement_over
   over_judged (sign s.Semicolon p ∷ ts) = judged_read empty ts (s_empty, omega arith)
   over_judged (sign s.OpenBrace p ∷ ts) = braced_judged p ts
-  over_judged (text bytes p ∷ ts) = ended_judged (text_alone bytes) ts (λ q r e. (subst (λ u. IsS (text bytes p ∷ u) (text_alone bytes) r) (sym e) s_text, omega arith))
-  over_judged (reserved w.Print p ∷ ts) = printed_judged d print (reserved w.Print p) ts (λ is q r h. s_print h) (λ is. refl) (λ x. deep_s_print x)
-  over_judged (reserved w.PrintRet p ∷ ts) = printed_judged d print_return (reserved w.PrintRet p) ts (λ is q r h. s_print_ret h) (λ is. refl) (λ x. deep_s_print_ret x)
-  over_judged (reserved w.NewLine p ∷ ts) = ended_judged new_line ts (λ q r e. (subst (λ u. IsS (reserved w.NewLine p ∷ u) new_line r) (sym e) s_new_line, omega arith))
+  over_judged (text bytes p ∷ ts) = ended_judged (text_alone bytes) ts
+      (λ q r e. (subst (λ u. IsS (text bytes p ∷ u) (text_alone bytes) r) (sym e) s_text, omega arith))
+  over_judged (reserved w.Print p ∷ ts) = printed_judged d print (reserved w.Print p) ts (λ is q r h. s_print h)
+      (λ is. refl) (λ x. deep_s_print x)
+  over_judged (reserved w.PrintRet p ∷ ts) = printed_judged d print_return (reserved w.PrintRet p) ts
+      (λ is q r h. s_print_ret h) (λ is. refl) (λ x. deep_s_print_ret x)
+  over_judged (reserved w.NewLine p ∷ ts) = ended_judged new_line ts
+      (λ q r e. (subst (λ u. IsS (reserved w.NewLine p ∷ u) new_line r) (sym e) s_new_line, omega arith))
   over_judged (reserved w.If p ∷ ts) = choice_judged p ts
   over_judged (reserved w.While p ∷ ts) = repetition_judged p ts
   over_judged (reserved w.Return p ∷ ts) = returned_judged d p ts
-  over_judged (reserved w.Rtrue p ∷ ts) = ended_judged return_true ts (λ q r e. (subst (λ u. IsS (reserved w.Rtrue p ∷ u) return_true r) (sym e) s_rtrue, omega arith))
-  over_judged (reserved w.Rfalse p ∷ ts) = ended_judged return_false ts (λ q r e. (subst (λ u. IsS (reserved w.Rfalse p ∷ u) return_false r) (sym e) s_rfalse, omega arith))
-  over_judged (reserved w.Quit p ∷ ts) = ended_judged quit ts (λ q r e. (subst (λ u. IsS (reserved w.Quit p ∷ u) quit r) (sym e) s_quit, omega arith))
+  over_judged (reserved w.Rtrue p ∷ ts) = ended_judged return_true ts
+      (λ q r e. (subst (λ u. IsS (reserved w.Rtrue p ∷ u) return_true r) (sym e) s_rtrue, omega arith))
+  over_judged (reserved w.Rfalse p ∷ ts) = ended_judged return_false ts
+      (λ q r e. (subst (λ u. IsS (reserved w.Rfalse p ∷ u) return_false r) (sym e) s_rfalse, omega arith))
+  over_judged (reserved w.Quit p ∷ ts) = ended_judged quit ts
+      (λ q r e. (subst (λ u. IsS (reserved w.Quit p ∷ u) quit r) (sym e) s_quit, omega arith))
   over_judged ts = alone_judged d ts
 
   -- the statement that begins is too deep, or something in it is
   begun : (ts : List Lexeme) → begins_statement (head ts) ≡ true → (d ≡ 0) ⊎ DeepS d ts → DeepInside (suc d) ts
   unfolding begins_statement
   begun [] e z = absurd cc
-  begun (t ∷ ts) e z = deeper (λ n. DeepS n (t ∷ ts)) (λ n. DeepInside n (t ∷ ts)) d (deep_inside_begins e) (λ n x. deep_inside_first x) z
+  begun (t ∷ ts) e z = deeper (λ n. DeepS n (t ∷ ts)) (λ n. DeepInside n (t ∷ ts)) d (deep_inside_begins e)
+      (λ n x. deep_inside_first x) z
 
-  block_judged : (n : ℕ) (ts : List Lexeme) → Judged (λ xs r. IsSs ts (trees_of xs) r × (inside_nesting (trees_of xs) ≤ d)) (DeepInside (suc d) ts) (repeated begins_statement (inside d) n ts)
+  block_judged : (n : ℕ) (ts : List Lexeme) → Judged
+      (λ xs r. IsSs ts (trees_of xs) r × (inside_nesting (trees_of xs) ≤ d)) (DeepInside (suc d) ts)
+      (repeated begins_statement (inside d) n ts)
   block_judged n ts =
-      repeated_judged begins_statement (inside d) (λ us x r. IsS us x r × (statement_nesting x < d)) (λ us xs r. IsSs us (trees_of xs) r × (inside_nesting (trees_of xs) ≤ d)) (λ us. (d ≡ 0) ⊎ DeepS d us) (DeepInside (suc d))
+      repeated_judged begins_statement (inside d) (λ us x r. IsS us x r × (statement_nesting x < d))
+      (λ us xs r. IsSs us (trees_of xs) r × (inside_nesting (trees_of xs) ≤ d)) (λ us. (d ≡ 0) ⊎ DeepS d us)
+      (DeepInside (suc d))
       (λ r. (ss_stop, omega arith))
       (λ us x m xs r q l. (ss_next q.0 l.0, omega (arith, q.1, l.1)))
       begun
@@ -240,20 +343,25 @@ inner_judged : (d : ℕ) → Inner d
 unfolding inside braces
 inner_judged zero = record { in_statement = λ ts. judged_deep (inl refl); in_block = λ ts. judged_deep (inl refl) }
 inner_judged (suc d) = record {
-  in_statement = λ ts. judged_as (over_judged d (inner_judged d) ts) (λ a r h. (h.0, omega (arith, h.1))) (λ h. inr h);
-  in_block = λ ts. judged_as (block_judged d (inner_judged d) (length ts) ts) (λ a r h. (h.0, omega (arith, h.1))) (λ h. inr h);
+  in_statement = λ ts. judged_as (over_judged d (inner_judged d) ts) (λ a r h. (h.0, omega (arith, h.1)))
+      (λ h. inr h);
+  in_block = λ ts. judged_as (block_judged d (inner_judged d) (length ts) ts) (λ a r h. (h.0, omega (arith, h.1)))
+      (λ h. inr h);
 }
 
 -- a statement
-pub judged_S : (d : ℕ) (ts : List Lexeme) → Judged (λ x r. IsS ts x r × (statement_nesting x ≤ d)) (DeepS (suc d) ts) (statement d ts)
+pub judged_S : (d : ℕ) (ts : List Lexeme) → Judged (λ x r. IsS ts x r × (statement_nesting x ≤ d)) (DeepS (suc d) ts)
+    (statement d ts)
 unfolding statement
 judged_S d ts = over_judged d (inner_judged d) ts
 
 -- statements directly in a routine
-pub judged_Ss : (d : ℕ) (ts : List Lexeme) → Judged (λ xs r. IsSs ts (trees_of xs) r × (body_nesting (trees_of xs) ≤ d)) (DeepSs (suc d) ts) (statements d ts)
+pub judged_Ss : (d : ℕ) (ts : List Lexeme) → Judged
+    (λ xs r. IsSs ts (trees_of xs) r × (body_nesting (trees_of xs) ≤ d)) (DeepSs (suc d) ts) (statements d ts)
 unfolding statements
 judged_Ss d ts =
-    repeated_judged begins_statement (statement d) (λ us x r. IsS us x r × (statement_nesting x ≤ d)) (λ us xs r. IsSs us (trees_of xs) r × (body_nesting (trees_of xs) ≤ d)) (DeepS (suc d)) (DeepSs (suc d))
+    repeated_judged begins_statement (statement d) (λ us x r. IsS us x r × (statement_nesting x ≤ d))
+    (λ us xs r. IsSs us (trees_of xs) r × (body_nesting (trees_of xs) ≤ d)) (DeepS (suc d)) (DeepSs (suc d))
     (λ r. (ss_stop, omega arith))
     (λ us x m xs r q l. (ss_next q.0 l.0, omega (arith, q.1, l.1)))
     (λ us e x. deep_ss_first x)

@@ -1,6 +1,6 @@
--- The grammar of statements: a relation between the tokens from a place on, the tree, and the tokens after it, with one
--- case for each alternative. An `else` belongs to the nearest `if`: an `if` without one stands only where no `else`
--- follows.
+-- The grammar of statements: a relation between the tokens from a place on, the tree, and the tokens after it, with
+-- one case for each alternative. An `else` belongs to the nearest `if`: an `if` without one stands only where no
+-- `else` follows.
 use Rattle.std.specs.Prelude.{◌≡◌, ℕ, suc, max, Bool, true, false, List, [], ◌∷◌}
 use Rattle.lexer.specs.declared.token.Position.{Position}
 use Rattle.lexer.specs.declared.token.Sign.TheVariants as s
@@ -8,7 +8,10 @@ use Rattle.lexer.specs.declared.token.Word.TheVariants as w
 use Rattle.lexer.specs.Token.{Lexeme, text, reserved, sign, position_of}
 use Rattle.expressions.specs.Tree.{ExpressionTree, call, parenthesised, step_before, step_after, assign}
 use Rattle.expressions.specs.Grammar.{IsE, nesting}
-use Rattle.statements.specs.Tree.{ItemTree, text_item, character_item, number_item, StatementTree, StatementTrees, empty, block, text_alone, print, print_return, new_line, if_then, if_else, while_do, return_alone, return_value, return_true, return_false, quit, effect, stop, next}
+use Rattle.statements.specs.Tree.{PrintItemTree, text_item, character_item, number_item, StatementTree}
+use Rattle.statements.specs.Tree.{StatementTrees, empty, block, text_alone, print, print_return, new_line, if_then}
+use Rattle.statements.specs.Tree.{if_else, while_do, return_alone, return_value, return_true, return_false, quit}
+use Rattle.statements.specs.Tree.{effect, stop, next}
 
 -- an expression that can stand alone: parentheses apart, its root is an assignment, a step or a call
 abbrev pub has_effect : ExpressionTree → Bool
@@ -25,50 +28,68 @@ else_follows (reserved w.Else p ∷ ts) = true
 else_follows _ = false
 
 -- Item = text | "(" "char" ")" E | E
-pub data IsItem : List Lexeme → ItemTree → List Lexeme → Type 0 where
+pub data IsItem : List Lexeme → PrintItemTree → List Lexeme → Type 0 where
   item_text : {r : List Lexeme} {p : Position} {bytes : List ℕ} → IsItem (text bytes p ∷ r) (text_item bytes) r
-  item_character : {m r : List Lexeme} {t : Lexeme} {p q o : Position} {e : ExpressionTree} → IsE (t ∷ m) e r → IsItem (sign s.OpenParenthesis p ∷ reserved w.Char q ∷ sign s.CloseParenthesis o ∷ t ∷ m) (character_item (position_of t) e) r
-  item_number : {m r : List Lexeme} {t : Lexeme} {e : ExpressionTree} → IsE (t ∷ m) e r → IsItem (t ∷ m) (number_item (position_of t) e) r
+  item_character : {m r : List Lexeme} {t : Lexeme} {p q o : Position} {e : ExpressionTree} → IsE (t ∷ m) e r
+      → IsItem (sign s.OpenParenthesis p ∷ reserved w.Char q ∷ sign s.CloseParenthesis o ∷ t ∷ m)
+      (character_item (position_of t) e) r
+  item_number : {m r : List Lexeme} {t : Lexeme} {e : ExpressionTree} → IsE (t ∷ m) e r
+      → IsItem (t ∷ m) (number_item (position_of t) e) r
 
 -- Item {"," Item}
-pub data IsItems : List Lexeme → List ItemTree → List Lexeme → Type 0 where
-  items_last : {ts r : List Lexeme} {i : ItemTree} → IsItem ts i r → IsItems ts (i ∷ []) r
-  items_comma : {ts m r : List Lexeme} {p : Position} {i : ItemTree} {is : List ItemTree} → IsItem ts i (sign s.Comma p ∷ m) → IsItems m is r → IsItems ts (i ∷ is) r
+pub data IsItems : List Lexeme → List PrintItemTree → List Lexeme → Type 0 where
+  items_last : {ts r : List Lexeme} {i : PrintItemTree} → IsItem ts i r → IsItems ts (i ∷ []) r
+  items_comma : {ts m r : List Lexeme} {p : Position} {i : PrintItemTree} {is : List PrintItemTree}
+      → IsItem ts i (sign s.Comma p ∷ m) → IsItems m is r → IsItems ts (i ∷ is) r
 
 mutual
   -- S = ";" | "{" {S} "}" | text ";" | ("print" | "print_ret") Item {"," Item} ";" | "new_line" ";"
-  --   | "if" "(" E ")" S ["else" S] | "while" "(" E ")" S | "return" [E] ";" | "rtrue" ";" | "rfalse" ";" | "quit" ";" | X ";"
+  -- | "if" "(" E ")" S ["else" S] | "while" "(" E ")" S | "return" [E] ";" | "rtrue" ";" | "rfalse" ";" | "quit" ";"
+  -- | X ";"
   pub data IsS : List Lexeme → StatementTree → List Lexeme → Type 0 where
     s_empty : {r : List Lexeme} {p : Position} → IsS (sign s.Semicolon p ∷ r) empty r
-    s_block : {m r : List Lexeme} {p q : Position} {xs : StatementTrees} → IsSs m xs (sign s.CloseBrace q ∷ r) → IsS (sign s.OpenBrace p ∷ m) (block xs) r
-    s_text : {r : List Lexeme} {p q : Position} {bytes : List ℕ} → IsS (text bytes p ∷ sign s.Semicolon q ∷ r) (text_alone bytes) r
-    s_print : {m r : List Lexeme} {p q : Position} {is : List ItemTree} → IsItems m is (sign s.Semicolon q ∷ r) → IsS (reserved w.Print p ∷ m) (print is) r
-    s_print_ret : {m r : List Lexeme} {p q : Position} {is : List ItemTree} → IsItems m is (sign s.Semicolon q ∷ r) → IsS (reserved w.PrintRet p ∷ m) (print_return is) r
+    s_block : {m r : List Lexeme} {p q : Position} {xs : StatementTrees} → IsSs m xs (sign s.CloseBrace q ∷ r)
+        → IsS (sign s.OpenBrace p ∷ m) (block xs) r
+    s_text : {r : List Lexeme} {p q : Position} {bytes : List ℕ}
+        → IsS (text bytes p ∷ sign s.Semicolon q ∷ r) (text_alone bytes) r
+    s_print : {m r : List Lexeme} {p q : Position} {is : List PrintItemTree} → IsItems m is (sign s.Semicolon q ∷ r)
+        → IsS (reserved w.Print p ∷ m) (print is) r
+    s_print_ret : {m r : List Lexeme} {p q : Position} {is : List PrintItemTree}
+        → IsItems m is (sign s.Semicolon q ∷ r) → IsS (reserved w.PrintRet p ∷ m) (print_return is) r
     s_new_line : {r : List Lexeme} {p q : Position} → IsS (reserved w.NewLine p ∷ sign s.Semicolon q ∷ r) new_line r
-    s_if : {m k r : List Lexeme} {p q o : Position} {c : ExpressionTree} {x : StatementTree} → IsE m c (sign s.CloseParenthesis o ∷ k) → IsS k x r → else_follows r ≡ false → IsS (reserved w.If p ∷ sign s.OpenParenthesis q ∷ m) (if_then p c x) r
-    s_if_else : {m k l r : List Lexeme} {p q o e : Position} {c : ExpressionTree} {x y : StatementTree} → IsE m c (sign s.CloseParenthesis o ∷ k) → IsS k x (reserved w.Else e ∷ l) → IsS l y r → IsS (reserved w.If p ∷ sign s.OpenParenthesis q ∷ m) (if_else p c x y) r
-    s_while : {m k r : List Lexeme} {p q o : Position} {c : ExpressionTree} {x : StatementTree} → IsE m c (sign s.CloseParenthesis o ∷ k) → IsS k x r → IsS (reserved w.While p ∷ sign s.OpenParenthesis q ∷ m) (while_do p c x) r
+    s_if : {m k r : List Lexeme} {p q o : Position} {c : ExpressionTree} {x : StatementTree}
+        → IsE m c (sign s.CloseParenthesis o ∷ k) → IsS k x r → else_follows r ≡ false
+        → IsS (reserved w.If p ∷ sign s.OpenParenthesis q ∷ m) (if_then p c x) r
+    s_if_else : {m k l r : List Lexeme} {p q o e : Position} {c : ExpressionTree} {x y : StatementTree}
+        → IsE m c (sign s.CloseParenthesis o ∷ k) → IsS k x (reserved w.Else e ∷ l) → IsS l y r
+        → IsS (reserved w.If p ∷ sign s.OpenParenthesis q ∷ m) (if_else p c x y) r
+    s_while : {m k r : List Lexeme} {p q o : Position} {c : ExpressionTree} {x : StatementTree}
+        → IsE m c (sign s.CloseParenthesis o ∷ k) → IsS k x r
+        → IsS (reserved w.While p ∷ sign s.OpenParenthesis q ∷ m) (while_do p c x) r
     s_return : {r : List Lexeme} {p q : Position} → IsS (reserved w.Return p ∷ sign s.Semicolon q ∷ r) return_alone r
-    s_return_value : {m r : List Lexeme} {p q : Position} {e : ExpressionTree} → IsE m e (sign s.Semicolon q ∷ r) → IsS (reserved w.Return p ∷ m) (return_value p e) r
+    s_return_value : {m r : List Lexeme} {p q : Position} {e : ExpressionTree} → IsE m e (sign s.Semicolon q ∷ r)
+        → IsS (reserved w.Return p ∷ m) (return_value p e) r
     s_rtrue : {r : List Lexeme} {p q : Position} → IsS (reserved w.Rtrue p ∷ sign s.Semicolon q ∷ r) return_true r
     s_rfalse : {r : List Lexeme} {p q : Position} → IsS (reserved w.Rfalse p ∷ sign s.Semicolon q ∷ r) return_false r
     s_quit : {r : List Lexeme} {p q : Position} → IsS (reserved w.Quit p ∷ sign s.Semicolon q ∷ r) quit r
-    s_effect : {m r : List Lexeme} {t : Lexeme} {q : Position} {e : ExpressionTree} → IsE (t ∷ m) e (sign s.Semicolon q ∷ r) → has_effect e ≡ true → IsS (t ∷ m) (effect (position_of t) e) r
+    s_effect : {m r : List Lexeme} {t : Lexeme} {q : Position} {e : ExpressionTree}
+        → IsE (t ∷ m) e (sign s.Semicolon q ∷ r) → has_effect e ≡ true → IsS (t ∷ m) (effect (position_of t) e) r
 
   -- {S}
   pub data IsSs : List Lexeme → StatementTrees → List Lexeme → Type 0 where
     ss_stop : {r : List Lexeme} → IsSs r stop r
-    ss_next : {ts m r : List Lexeme} {x : StatementTree} {xs : StatementTrees} → IsS ts x m → IsSs m xs r → IsSs ts (next x xs) r
+    ss_next : {ts m r : List Lexeme} {x : StatementTree} {xs : StatementTrees} → IsS ts x m → IsSs m xs r
+        → IsSs ts (next x xs) r
 
--- How deep a tree is nested: a brace, a statement inside a statement, and the parenthesis of a condition or of `(char)`
--- count beside the nesting of expressions. A statement directly in a routine does not count.
+-- How deep a tree is nested: a brace, a statement inside a statement, and the parenthesis of a condition or of
+-- `(char)` count beside the nesting of expressions. A statement directly in a routine does not count.
 
-abbrev pub item_nesting : ItemTree → ℕ
+abbrev pub item_nesting : PrintItemTree → ℕ
 item_nesting (text_item s) = 0
 item_nesting (character_item p e) = max 1 (nesting e)
 item_nesting (number_item p e) = nesting e
 
-abbrev pub items_nesting : List ItemTree → ℕ
+abbrev pub items_nesting : List PrintItemTree → ℕ
 items_nesting [] = 0
 items_nesting (i ∷ is) = max (item_nesting i) (items_nesting is)
 

@@ -1,4 +1,5 @@
--- Words of proofs: statements, read from left to right: functions from a list of tokens to a tree and the tokens after it.
+-- Words of proofs: statements, read from left to right: functions from a list of tokens to a tree and the tokens
+-- after it.
 use Rattle.std.specs.Prelude.{◌&&◌, if◌then◌else◌, Bool, ℕ, zero, suc, List, [], ◌∷◌, length, Result, Ok, Err}
 use Rattle.lexer.specs.declared.token.Position.{Position}
 use Rattle.lexer.specs.declared.token.Sign.TheVariants as s
@@ -7,8 +8,11 @@ use Rattle.lexer.specs.Token.{Lexeme, text, reserved, sign, position_of}
 use Rattle.expressions.specs.declared.error.Fault.{Fault}
 use Rattle.expressions.specs.declared.error.Fault.TheVariants.{Grammar, Deep}
 use Rattle.expressions.specs.Tree.{ExpressionTree}
-use Rattle.expressions.specs.Parse.{Parse, ◌>>=◌, head, tail, is_sign, is_word, expect, list, whole, nested, expression}
-use Rattle.statements.specs.Tree.{ItemTree, text_item, character_item, number_item, StatementTree, trees_of, empty, block, text_alone, print, print_return, new_line, if_then, if_else, while_do, return_alone, return_value, return_true, return_false, quit, effect}
+use Rattle.expressions.specs.Parse.{Parse, ◌>>=◌, head, tail, is_sign, is_word, expect, list, whole, nested}
+use Rattle.expressions.specs.Parse.{expression}
+use Rattle.statements.specs.Tree.{PrintItemTree, text_item, character_item, number_item, StatementTree, trees_of}
+use Rattle.statements.specs.Tree.{empty, block, text_alone, print, print_return, new_line, if_then, if_else, while_do}
+use Rattle.statements.specs.Tree.{return_alone, return_value, return_true, return_false, quit, effect}
 use Rattle.statements.specs.Grammar.{has_effect, else_follows}
 use Rattle.statements.specs.Nesting.{begins_statement}
 
@@ -35,25 +39,27 @@ block_of xs ts = expect s.CloseBrace ts >>= λ r. Ok (block (trees_of xs), r)
 -- where d nestings more may be opened
 module _ (d : ℕ) where
   -- `(char)` and a value
-  unfoldable pub character : Parse ItemTree
-  character ts = opened d (expect s.CloseParenthesis (tail (tail ts)) >>= λ r. expression (nested d) r >>= λ x. Ok (character_item (position_of (head r)) x.0, x.1))
+  unfoldable pub character : Parse PrintItemTree
+  character ts = opened d
+      (expect s.CloseParenthesis (tail (tail ts)) >>= λ r. expression (nested d) r
+      >>= λ x. Ok (character_item (position_of (head r)) x.0, x.1))
 
-  unfoldable pub value : Parse ItemTree
+  unfoldable pub value : Parse PrintItemTree
   value ts =
       if is_sign s.OpenParenthesis (head ts) && is_word w.Char (head (tail ts)) then character ts
       else (expression (nested d) ts >>= λ x. Ok (number_item (position_of (head ts)) x.0, x.1))
 
-  abbrev pub item_on : Lexeme → Parse ItemTree
+  abbrev pub item_on : Lexeme → Parse PrintItemTree
   item_on (text bytes p) ts = Ok (text_item bytes, tail ts)
   item_on _ ts = value ts
 
-  unfoldable pub item : Parse ItemTree
+  unfoldable pub item : Parse PrintItemTree
   item ts = item_on (head ts) ts
 
-  unfoldable pub items : Parse (List ItemTree)
+  unfoldable pub items : Parse (List PrintItemTree)
   items ts = list (is_sign s.Comma) item ts
 
-  unfoldable pub printed : (List ItemTree → StatementTree) → Parse StatementTree
+  unfoldable pub printed : (List PrintItemTree → StatementTree) → Parse StatementTree
   printed make ts = items ts >>= λ x. ended (make x.0) x.1
 
   -- a condition in parentheses

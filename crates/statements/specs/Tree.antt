@@ -2,23 +2,23 @@
 use Rattle.std.specs.Prelude.{ℕ, List, [], ◌∷◌, map}
 use Rattle.lexer.specs.declared.token.Position.{Position}
 use Rattle.expressions.specs.Tree.{ExpressionTree, expression_tree}
-use Rattle.statements.specs.declared.tree.Item.{Item}
-use Rattle.statements.specs.declared.tree.Item.TheVariants as items
+use Rattle.statements.specs.declared.tree.PrintItem.{PrintItem}
+use Rattle.statements.specs.declared.tree.PrintItem.TheVariants as items
 use Rattle.statements.specs.declared.tree.Statement.{Statement, fold-Statement}
 use Rattle.statements.specs.declared.tree.Statement.TheOpen.{Statement-F}
 
-pub data ItemTree : Type 0 where
-  text_item : List ℕ → ItemTree
-  character_item : Position → ExpressionTree → ItemTree
-  number_item : Position → ExpressionTree → ItemTree
+pub data PrintItemTree : Type 0 where
+  text_item : List ℕ → PrintItemTree
+  character_item : Position → ExpressionTree → PrintItemTree
+  number_item : Position → ExpressionTree → PrintItemTree
 
 mutual
   pub data StatementTree : Type 0 where
     empty : StatementTree
     block : StatementTrees → StatementTree
     text_alone : List ℕ → StatementTree
-    print : List ItemTree → StatementTree
-    print_return : List ItemTree → StatementTree
+    print : List PrintItemTree → StatementTree
+    print_return : List PrintItemTree → StatementTree
     new_line : StatementTree
     if_then : Position → ExpressionTree → StatementTree → StatementTree
     if_else : Position → ExpressionTree → StatementTree → StatementTree → StatementTree
@@ -36,7 +36,7 @@ mutual
 
 -- The tree of a statement of the code
 
-abbrev pub item_tree : Item → ItemTree
+abbrev pub item_tree : PrintItem → PrintItemTree
 item_tree (items.Text s) = text_item s.now
 item_tree (items.Character p e) = character_item p (expression_tree e)
 item_tree (items.Number p e) = number_item p (expression_tree e)

@@ -6,7 +6,7 @@ ghost use Rattle.expressions.specs.Parse.{Gives};
 ghost use Rattle.statements.specs.Tree.{item_tree};
 ghost use Rattle.statements.specs.Parse as spec;
 
-use crate::tree::Item;
+use crate::tree::PrintItem;
 use expressions::{ParseError, expect, expression, is_sign, is_word, open, peek, position, skip};
 use lexer::{Kind, Sign, Token, Word};
 use std::alloc::Global;
@@ -17,7 +17,7 @@ fn character<'t, 'a>(
     alloc: Global,
     depth: usize,
     tokens: &'t [Token<'a>],
-) -> Result<(Item<'a>, &'t [Token<'a>]), ParseError>
+) -> Result<(PrintItem<'a>, &'t [Token<'a>]), ParseError>
     ensures { Gives (λ x. (item_tree x.0, lexemes x.1.now)) result (spec.character depth (lexemes tokens.now)) }
 {
     open(depth, tokens)?;
@@ -25,7 +25,7 @@ fn character<'t, 'a>(
     match expression(alloc, depth, begin) {
         Ok((value, rest)) => {
             let value = Box::into_inner(value);
-            Ok((Item::Character(position(begin), value), rest))
+            Ok((PrintItem::Character(position(begin), value), rest))
         }
         Err(e) => Err(e),
     }
@@ -36,18 +36,21 @@ fn item<'t, 'a>(
     alloc: Global,
     depth: usize,
     tokens: &'t [Token<'a>],
-) -> Result<(Item<'a>, &'t [Token<'a>]), ParseError>
+) -> Result<(PrintItem<'a>, &'t [Token<'a>]), ParseError>
     ensures { Gives (λ x. (item_tree x.0, lexemes x.1.now)) result (spec.item depth (lexemes tokens.now)) }
 {
     let first = peek(tokens);
     if let Kind::Text(bytes) = first.kind {
-        return Ok((Item::Text(bytes), skip(tokens)));
+        return Ok((PrintItem::Text(bytes), skip(tokens)));
     }
     if is_sign(first, Sign::OpenParenthesis) && is_word(peek(skip(tokens)), Word::Char) {
         return character(alloc, depth, tokens);
     }
     match expression(alloc, depth, tokens) {
-        Ok((value, rest)) => Ok((Item::Number(first.position, Box::into_inner(value)), rest)),
+        Ok((value, rest)) => Ok((
+            PrintItem::Number(first.position, Box::into_inner(value)),
+            rest,
+        )),
         Err(e) => Err(e),
     }
 }
@@ -62,7 +65,7 @@ pub fn items<'t, 'a>(
     alloc: Global,
     depth: usize,
     tokens: &'t [Token<'a>],
-) -> Result<(Vec<Item<'a>>, &'t [Token<'a>]), ParseError>
+) -> Result<(Vec<PrintItem<'a>>, &'t [Token<'a>]), ParseError>
     ensures { Gives (λ x. (map item_tree x.0.items, lexemes x.1.now)) result (spec.items depth (lexemes tokens.now)) }
 {
     let mut found = Vec::new(alloc);

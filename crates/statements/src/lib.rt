@@ -8,4 +8,4 @@ mod simple;
 mod tree;
 
 pub use nested::statements;
-pub use tree::{Item, Statement};
+pub use tree::{PrintItem, Statement};

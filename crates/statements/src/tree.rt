@@ -5,7 +5,7 @@ use lexer::Position;
 
 /// What `print` prints.
 #[derive(Drop)]
-pub enum Item<'a> {
+pub enum PrintItem<'a> {
     /// The bytes between the quotes of a text.
     Text(&'a [u8]),
 
@@ -27,8 +27,8 @@ pub enum Statement<'a> {
     /// A text alone: it is printed with a new line, and the routine returns true.
     Text(&'a [u8]),
 
-    Print(Vec<Item<'a>>),
-    PrintReturn(Vec<Item<'a>>),
+    Print(Vec<PrintItem<'a>>),
+    PrintReturn(Vec<PrintItem<'a>>),
     NewLine,
     If(Position, Expression<'a>, Box<Statement<'a>>),
     IfElse(Position, Expression<'a>, Box<Statement<'a>>, Box<Statement<'a>>),

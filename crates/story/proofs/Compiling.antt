@@ -1,5 +1,6 @@
 -- What a source is compiled to, from what each part answers.
-use Rattle.std.proofs.Common.{◌≡◌, ◌⊎◌, inl, inr, ℕ, ◌≤◌, ◌<◌, List, [], ◌∷◌, Some, None, Result, Ok, Err, refl, sym, ap, ◌∙◌, subst}
+use Rattle.std.proofs.Common.{◌≡◌, ◌⊎◌, inl, inr, ℕ, ◌≤◌, ◌<◌, List, [], ◌∷◌, Some, None, Result, Ok, Err, refl, sym}
+use Rattle.std.proofs.Common.{ap, ◌∙◌, subst}
 use Rattle.std.specs.Prelude.{◌++◌}
 use Rattle.std.specs.List.{All}
 use Rattle.std.specs.Result.{IsErr, IsErrAnd}
@@ -25,7 +26,8 @@ use Rattle.checker.specs.Programs.{program_breaches, IsCheckedOf}
 use Rattle.checker.specs.Resolved.{CheckedProgram, program_of}
 use Rattle.checker.specs.Sizes as checked
 use Rattle.code.specs.Laws.{CodePlays, Plays, IsSmall, SmallSourcesHaveSmallCode}
-use Rattle.story.specs.Compiled.{IsTreeOf, IsStoryOf, Refuses, Compiles, lexemes_of, first_heavy, heavy_fault, size_fault, fault}
+use Rattle.story.specs.Compiled.{IsTreeOf, IsStoryOf, Refuses, Compiles, lexemes_of, first_heavy, heavy_fault}
+use Rattle.story.specs.Compiled.{size_fault, fault}
 use Rattle.story.specs.Compiled as spec
 use Rattle.story.specs.Layout.{addresses_in, story_of}
 use Rattle.story.specs.Laws.{StoriesHold}
@@ -70,7 +72,8 @@ module _ (source : List ℕ) (ts : List Token) (lexed : Lexes 0 1 source (Ok (so
         spec.too_deep (source_tokens ts) lexed (subst (DeepProgram 101) (sym (same_lexemes ts)) here.0)
         (λ p parsed. here.1 p (program_of_tokens p parsed)) five
     | inr others ↦ elim others [
-      | inl ten ↦ spec.not_in_grammar (source_tokens ts) lexed (λ p parsed. grammar ten p (program_of_tokens p parsed))
+      | inl ten ↦ spec.not_in_grammar (source_tokens ts) lexed
+          (λ p parsed. grammar ten p (program_of_tokens p parsed))
           ten
       | inr refused ↦ spec.no_memory refused
     ]
@@ -94,11 +97,13 @@ too_large version source p c f tree lawful is e = spec.too_large p tree lawful (
 
 -- Stories
 
-module _ (accepted_programs : AcceptedPrograms) (printable_tokens : PrintableTokens) (printable_trees : PrintableTrees)
+module _ (accepted_programs : AcceptedPrograms) (printable_tokens : PrintableTokens)
+    (printable_trees : PrintableTrees)
     (printable_programs : PrintablePrograms)
     (small_sources : SmallSourcesHaveSmallCode)
     (version : Version) (source : List ℕ) (ts : List Token) (p : ProgramTree) (c : CheckedProgram)
-    (lexed : Lexes 0 1 source (Ok (source_tokens ts))) (parsed : IsProgram (lexemes ts) p) (lawful : program_breaches p
+    (lexed : Lexes 0 1 source (Ok (source_tokens ts))) (parsed : IsProgram (lexemes ts) p)
+    (lawful : program_breaches p
     ≡ []) (is : IsCheckedOf p c)
     (sized : checked.size_fault c version ≡ None) where
   small : IsSmall c version

@@ -1,5 +1,6 @@
 -- Stories hold their programs.
-use Rattle.std.proofs.Common.{◌≡◌, ℕ, zero, suc, ◌+◌, ◌*◌, ◌/◌, ◌==◌, ◌<◌, ◌≤◌, List, [], ◌∷◌, ◌++◌, length, drop, refl, sym, ap, ◌∙◌, subst, arith}
+use Rattle.std.proofs.Common.{◌≡◌, ℕ, zero, suc, ◌+◌, ◌*◌, ◌/◌, ◌==◌, ◌<◌, ◌≤◌, List, [], ◌∷◌, ◌++◌, length, drop}
+use Rattle.std.proofs.Common.{refl, sym, ap, ◌∙◌, subst, arith}
 use Rattle.std.specs.Prelude.{codes, map, if◌then◌else◌, slice_index, slice_index_or}
 use Rattle.std.specs.List.{All}
 use Rattle.std.proofs.lemmas.List.{length-append, length-map, get_or-append-add}
@@ -13,13 +14,15 @@ use Rattle.zcore.specs.Text.{Holds, encoded}
 use Rattle.zcore.specs.Words.{packed}
 use Rattle.checker.specs.Resolved.{RoutineOf, ProgramOf}
 use Rattle.checker.specs.Accepted.{IsAccepted}
+use Rattle.checker.specs.Places.{routines_place}
 use Rattle.checker.specs.Meaning.{routine_at}
 use Rattle.items.specs.Items.{routine_items}
 use Rattle.code.specs.Addresses.{Addresses}
 use Rattle.code.specs.Bytes.{code_size}
-use Rattle.code.specs.Standing.{HoldsProgram, HoldsRoutine, HoldsText, fault_line, start_code}
+use Rattle.code.specs.HeldProgram.{HoldsProgram, HoldsRoutine, HoldsText, fault_line, start_code}
 use Rattle.code.specs.Sizes.{routine_size}
-use Rattle.story.specs.Layout.{addresses_in, fault_texts, first_address, packed_addresses, parts_from, addresses_from, low_bytes, routine_bytes, story_of}
+use Rattle.story.specs.Layout.{addresses_in, fault_texts, packed_addresses, parts_from, addresses_from}
+use Rattle.story.specs.Layout.{low_bytes, routine_bytes, story_of}
 use Rattle.story.specs.Laws.{IsShort, StoriesHold}
 use Rattle.story.proofs.Parts.{whole, HasPartAt, holds_first, parts_rise, parts_stand, addresses_count}
 use Rattle.story.proofs.Lengths.{routine_length, sizes_are}
@@ -29,7 +32,8 @@ use Rattle.story.proofs.Reading.{Says, behind_header, says, header_read, laid_le
 -- Packed addresses
 
 packed_is : (version : Version) (addresses : List ℕ) (k : ℕ) → k < length addresses
-    → slice_index (map (λ address. address / scale_of version) addresses) k ≡ slice_index addresses k / scale_of version
+    → slice_index (map (λ address. address / scale_of version) addresses) k
+    ≡ slice_index addresses k / scale_of version
 packed_is version [] k within = absurd (omega (arith, within))
 packed_is version (address ∷ addresses) zero within = refl
 packed_is version (address ∷ addresses) (suc k) within = packed_is version addresses k (omega (arith, within))
@@ -102,7 +106,7 @@ module _ (a : Addresses) where
 
 abbrev addresses_at : Version → ProgramOf → List ℕ
 addresses_at version p =
-    addresses_from (scale_of version) first_address (map routine_size p.routines ++ map length fault_texts)
+    addresses_from (scale_of version) (routines_place p) (map routine_size p.routines ++ map length fault_texts)
 
 abbrev parts_in : Version → ProgramOf → List (List ℕ)
 parts_in version p = parts_of (addresses_in (scale_of version) p) p.routines
@@ -120,32 +124,34 @@ record Lies (version : Version) (story : List ℕ) (packed : ℕ) (part : List �
 
 module _ (version : Version) (p : ProgramOf) (story : List ℕ)
     (said : Says version story) (long : 875 ≤ length story) (short : length story ≤ 65535 * scale_of version)
-    (high : drop 875 story ≡ parts_from (scale_of version) first_address (parts_in version p)) where
+    (high : drop 875 story ≡ parts_from (scale_of version) (routines_place p) (parts_in version p)) where
   sizes_same : map length (parts_in version p) ≡ map routine_size p.routines ++ map length fault_texts
   sizes_same = sizes_are (addresses_in (scale_of version) p) p.routines
 
   part_stands : (k : ℕ) → k < length (parts_in version p)
-      → HasPartAt version story first_address (slice_index (addresses_at version p) k)
+      → HasPartAt version story (routines_place p) (slice_index (addresses_at version p) k)
       (slice_index_or (parts_in version p) k [])
   part_stands k within =
-      subst (λ sizes. HasPartAt version story first_address
-      (slice_index (addresses_from (scale_of version) first_address sizes) k)
+      subst (λ sizes. HasPartAt version story (routines_place p)
+      (slice_index (addresses_from (scale_of version) (routines_place p) sizes) k)
       (slice_index_or (parts_in version p) k []))
-      sizes_same (parts_stand version story first_address (parts_in version p) long high k within)
+      sizes_same (parts_stand version story (routines_place p) (parts_in version p) long high k within)
 
   count_is : length (addresses_at version p) ≡ length (parts_in version p)
   count_is =
-      addresses_count version first_address (map routine_size p.routines ++ map length fault_texts)
+      addresses_count version (routines_place p) (map routine_size p.routines ++ map length fault_texts)
       ∙ ap length (sym sizes_same) ∙ length-map (parts_in version p) length
 
   unpacked_is : (k : ℕ) → k < length (parts_in version p)
       → unpacked story (slice_index (packed_in version p) k) ≡ slice_index (addresses_at version p) k
   unpacked_is k within =
       let stands = part_stands k within in
-      let fits = is_packed version (slice_index (addresses_at version p) k) (length story) stands.multiple stands.above
+      let fits = is_packed version (slice_index (addresses_at version p) k) (length story) stands.multiple
+      stands.above
       (omega (arith, stands.within)) short in
       ap (λ n. n * slice_index (packed_in version p) k) (scale_is version story said.version_byte)
-      ∙ ap (λ n. scale_of version * n) (packed_is version (addresses_at version p) k (omega (arith, within, count_is)))
+      ∙ ap (λ n. scale_of version * n)
+      (packed_is version (addresses_at version p) k (omega (arith, within, count_is)))
       ∙ fits.back
 
   part_lies : (k : ℕ) → k < length (parts_in version p)
@@ -156,7 +162,8 @@ module _ (version : Version) (p : ProgramOf) (story : List ℕ)
       unpacked_is k within in
       let f : slice_index (packed_in version p) k ≡ slice_index (addresses_at version p) k / scale_of version =
       packed_is version (addresses_at version p) k (omega (arith, within, count_is)) in
-      let fits = is_packed version (slice_index (addresses_at version p) k) (length story) stands.multiple stands.above
+      let fits = is_packed version (slice_index (addresses_at version p) k) (length story) stands.multiple
+      stands.above
       (omega (arith, stands.within)) short in
       record {
         bytes = subst (λ at. Holds story at (slice_index_or (parts_in version p) k [])) (sym e) stands.bytes;
@@ -175,10 +182,10 @@ module _ (version : Version) (p : ProgramOf) (story : List ℕ)
       let next = part_stands (suc k) within in
       let rises : slice_index (addresses_at version p) k + slice_index (map length (parts_in version p)) k
       ≤ slice_index (addresses_at version p) (suc k) =
-      subst (λ sizes. slice_index (addresses_from (scale_of version) first_address sizes) k
+      subst (λ sizes. slice_index (addresses_from (scale_of version) (routines_place p) sizes) k
       + slice_index (map length (parts_in version p)) k
-      ≤ slice_index (addresses_from (scale_of version) first_address sizes) (suc k))
-      sizes_same (parts_rise version first_address (map length (parts_in version p)) k
+      ≤ slice_index (addresses_from (scale_of version) (routines_place p) sizes) (suc k))
+      sizes_same (parts_rise version (routines_place p) (map length (parts_in version p)) k
       (omega (arith, within, length-map (parts_in version p) length))) in
       let size : slice_index (map length (parts_in version p)) k ≡ length (slice_index_or (parts_in version p) k []) =
       size_at (parts_in version p) k here in
@@ -232,19 +239,19 @@ module _ (version : Version) (p : ProgramOf) where
   main = slice_index (packed_in version p) p.main
 
   abbrev high : List ℕ
-  high = parts_from (scale_of version) first_address (parts_in version p)
+  high = parts_from (scale_of version) (routines_place p) (parts_in version p)
 
   abbrev story : List ℕ
-  story = laid_out version p.globals main (parts_in version p)
+  story = laid_out version p main (parts_in version p)
 
   body_stands : drop 64 story ≡ low_bytes p.globals main ++ high
-  body_stands = behind_header version (low_bytes p.globals main ++ high)
+  body_stands = behind_header version p (low_bytes p.globals main ++ high)
 
   said : Says version story
-  said = says version (low_bytes p.globals main ++ high)
+  said = says version p (low_bytes p.globals main ++ high)
 
   long : 875 ≤ length story
-  long = omega (arith, laid_length version p.globals main (parts_in version p))
+  long = omega (arith, laid_length version p main (parts_in version p))
 
   holds : IsAccepted p → All IsShort p.routines → length story ≤ 65535 * scale_of version → All (λ b. b < 256) story
       → HoldsProgram story a p
@@ -277,7 +284,7 @@ unfolding story_of
 stories_hold version p is = (
   (
     header_read version,
-    laid_read version p.globals (slice_index (packed_addresses (scale_of version) p) p.main) (parts_in version p),
+    laid_read version p (slice_index (packed_addresses (scale_of version) p) p.main) (parts_in version p),
   ),
   holds version p is.accepted is.short is.within is.bytes,
 )

@@ -1,5 +1,6 @@
 -- Bytes that follow one another make up the parts of a story.
-use Rattle.std.proofs.Common.{◌≡◌, ℕ, zero, suc, ◌+◌, ◌-◌, ◌*◌, ◌≤◌, List, [], ◌∷◌, ◌++◌, length, take, refl, sym, ap, ◌∙◌, arith, append_assoc}
+use Rattle.std.proofs.Common.{◌≡◌, ℕ, zero, suc, ◌+◌, ◌-◌, ◌*◌, ◌≤◌, List, [], ◌∷◌, ◌++◌, length, take, refl, sym, ap}
+use Rattle.std.proofs.Common.{◌∙◌, arith, append_assoc}
 use Rattle.std.specs.Prelude.{◌/◌, ◌%◌, codes, replicate, sum}
 use Rattle.std.specs.List.{flat_map}
 use Rattle.zcore.specs.Instruction.{bytes_of}
@@ -7,40 +8,41 @@ use Rattle.zcore.specs.Text.{encoded}
 use Rattle.zcore.specs.Words.{packed}
 use Rattle.zcore.specs.declared.header.Version.{Version}
 use Rattle.zcore.specs.Header.{scale_of, version_number}
-use Rattle.code.specs.Standing.{start_code}
-use Rattle.story.specs.Layout.{word, abbreviation_bytes, global_bytes, dictionary_bytes, low_bytes, aligned, parts_from, header_length, start_address, dictionary_address, defaults_address, globals_address, header_of}
+use Rattle.checker.specs.declared.places.Places.{Places}
+use Rattle.checker.specs.Places.{header_size}
+use Rattle.code.specs.HeldProgram.{start_code}
+use Rattle.story.specs.Layout.{word, abbreviation_bytes, global_bytes, dictionary_bytes, low_bytes, aligned}
+use Rattle.story.specs.Layout.{parts_from, header_of}
 
 -- The header
 
-abbrev first_words : List ℕ
-first_words =
-    1 ∷ start_address ∷ start_address ∷ dictionary_address ∷ defaults_address ∷ globals_address ∷ dictionary_address ∷ 0
-    ∷ []
+abbrev first_words : Places → List ℕ
+first_words at = 1 ∷ at.start ∷ at.start ∷ at.dictionary ∷ at.defaults ∷ at.globals ∷ at.dictionary ∷ 0 ∷ []
 
-abbrev header_with : ℕ → ℕ → ℕ → List ℕ
-header_with number long total =
-    number ∷ 0 ∷ (flat_map word first_words
-    ++ (codes "000000" ++ (flat_map word (header_length ∷ long ∷ total ∷ []) ++ replicate 34 0)))
+abbrev header_with : Places → ℕ → ℕ → ℕ → List ℕ
+header_with at number long total =
+    number ∷ 0 ∷ (flat_map word (first_words at)
+    ++ (codes "000000" ++ (flat_map word (header_size ∷ long ∷ total ∷ []) ++ replicate 34 0)))
 
-pub header_joined : (version : Version) (body b b1 b2 b3 b4 b5 b6 : List ℕ) (number long total : ℕ)
-    → number ≡ version_number version → long ≡ (header_length + length body) / scale_of version
+pub header_joined : (version : Version) (at : Places) (body b b1 b2 b3 b4 b5 b6 : List ℕ) (number long total : ℕ)
+    → number ≡ version_number version → long ≡ (header_size + length body) / scale_of version
     → total ≡ sum body % 65536
-    → b1 ≡ b ++ number ∷ [] → b2 ≡ b1 ++ 0 ∷ [] → b3 ≡ b2 ++ flat_map word first_words → b4 ≡ b3 ++ codes "000000"
-    → b5 ≡ b4 ++ flat_map word (header_length ∷ long ∷ total ∷ []) → b6 ≡ b5 ++ replicate 34 0
-    → b6 ≡ b ++ header_of version body
-header_joined version body b b1 b2 b3 b4 b5 b6 number long total en el et e1 e2 e3 e4 e5 e6 =
-    let words = flat_map word first_words in
-    let more = flat_map word (header_length ∷ long ∷ total ∷ []) in
+    → b1 ≡ b ++ number ∷ [] → b2 ≡ b1 ++ 0 ∷ [] → b3 ≡ b2 ++ flat_map word (first_words at) → b4 ≡ b3 ++ codes "000000"
+    → b5 ≡ b4 ++ flat_map word (header_size ∷ long ∷ total ∷ []) → b6 ≡ b5 ++ replicate 34 0
+    → b6 ≡ b ++ header_of version at body
+header_joined version at body b b1 b2 b3 b4 b5 b6 number long total en el et e1 e2 e3 e4 e5 e6 =
+    let words = flat_map word (first_words at) in
+    let more = flat_map word (header_size ∷ long ∷ total ∷ []) in
     let whole : b6 ≡ (((((b ++ number ∷ []) ++ 0 ∷ []) ++ words) ++ codes "000000") ++ more) ++ replicate 34 0 =
     e6 ∙ ap (λ z. z ++ replicate 34 0) (e5
     ∙ ap (λ z. z ++ more) (e4 ∙ ap (λ z. z ++ codes "000000") (e3
     ∙ ap (λ z. z ++ words) (e2 ∙ ap (λ z. z ++ 0 ∷ []) e1)))) in
     let flat : (((((b ++ number ∷ []) ++ 0 ∷ []) ++ words) ++ codes "000000") ++ more) ++ replicate 34 0 ≡ b
-    ++ header_with number long total = simp append_assoc in
+    ++ header_with at number long total = simp append_assoc in
     whole ∙ flat
-    ∙ ap (λ n. b ++ header_with n long total) en
-    ∙ ap (λ n. b ++ header_with (version_number version) n total) el
-    ∙ ap (λ n. b ++ header_with (version_number version) ((header_length + length body) / scale_of version) n) et
+    ∙ ap (λ n. b ++ header_with at n long total) en
+    ∙ ap (λ n. b ++ header_with at (version_number version) n total) el
+    ∙ ap (λ n. b ++ header_with at (version_number version) ((header_size + length body) / scale_of version) n) et
 
 pub start_joined : (main : ℕ) (b b1 b2 b3 : List ℕ) → b1 ≡ b ++ 143 ∷ [] → b2 ≡ b1 ++ word main → b3 ≡ b2 ++ 186 ∷ []
     → b3 ≡ b ++ start_code main
@@ -89,7 +91,8 @@ six_joined a x c d e f b b1 b2 b3 b4 b5 b6 e1 e2 e3 e4 e5 e6 =
     ∙ ap (λ z. z ++ d) (e3 ∙ ap (λ z. z ++ c) (e2 ∙ ap (λ z. z ++ x) e1)))) ∙ simp append_assoc
 
 pub low_joined : (globals : List ℕ) (main : ℕ) (b b1 b2 b3 b4 b5 b6 : List ℕ) → b1 ≡ b ++ abbreviation_bytes
-    → b2 ≡ b1 ++ word 38053 → b3 ≡ b2 ++ global_bytes globals → b4 ≡ b3 ++ replicate 126 0 → b5 ≡ b4 ++ dictionary_bytes
+    → b2 ≡ b1 ++ word 38053 → b3 ≡ b2 ++ global_bytes globals → b4 ≡ b3 ++ replicate 126 0
+    → b5 ≡ b4 ++ dictionary_bytes
     → b6 ≡ b5 ++ start_code main → b6 ≡ b ++ low_bytes globals main
 low_joined globals main b b1 b2 b3 b4 b5 b6 e1 e2 e3 e4 e5 e6 =
     six_joined abbreviation_bytes (encoded []) (global_bytes globals) (replicate 126 0) dictionary_bytes

@@ -1,5 +1,6 @@
 -- The code of routines, and where it is laid.
-use Rattle.std.proofs.Common.{◌≡◌, ℕ, zero, suc, ◌+◌, ◌-◌, ◌*◌, ◌<◌, ◌≤◌, List, [], ◌∷◌, ◌++◌, length, take, drop, refl, sym, ap, ◌∙◌, subst, arith, length-append}
+use Rattle.std.proofs.Common.{◌≡◌, ℕ, zero, suc, ◌+◌, ◌-◌, ◌*◌, ◌<◌, ◌≤◌, List, [], ◌∷◌, ◌++◌, length, take, drop}
+use Rattle.std.proofs.Common.{refl, sym, ap, ◌∙◌, subst, arith, length-append}
 use Rattle.std.proofs.lemmas.List.{length-replicate}
 use Rattle.std.specs.Prelude.{map, replicate, slice_index, slice_index_or}
 use Rattle.std.specs.List.{All}
@@ -9,10 +10,12 @@ use Rattle.zcore.specs.Header.{scale_of}
 use Rattle.checker.specs.Resolved.{RoutineOf, ProgramOf}
 use Rattle.checker.specs.Meaning.{routine_at}
 use Rattle.checker.specs.Accepted.{IsRoutine}
+use Rattle.checker.specs.Places.{routines_place, places_of}
 use Rattle.code.specs.Addresses.{Addresses}
 use Rattle.code.specs.Sizes.{routine_size}
 use Rattle.code.specs.Written.{CodeOf}
-use Rattle.story.specs.Layout.{aligned, parts_from, fault_texts, first_address, routine_bytes, packed_addresses, addresses_in, low_bytes, body_with, body_of, header_of, story_of}
+use Rattle.story.specs.Layout.{aligned, parts_from, fault_texts, routine_bytes, packed_addresses}
+use Rattle.story.specs.Layout.{addresses_in, low_bytes, body_with, body_of, header_of, story_of}
 use Rattle.story.specs.Written.{Fits, IsReady, code_of, code_part, part_size, packed_from, end_from}
 use Rattle.story.proofs.Parts.{aligned_above}
 use Rattle.story.proofs.Low.{low_length}
@@ -127,35 +130,35 @@ high_parts a p = map (routine_bytes a) p.routines ++ fault_texts
 
 -- how long the bytes behind the header are
 body_length : (version : Version) (p : ProgramOf)
-    → 64 + length (body_of version p) ≡ end_from (scale_of version) first_address (map routine_size p.routines
+    → 64 + length (body_of version p) ≡ end_from (scale_of version) (routines_place p) (map routine_size p.routines
     ++ map length fault_texts)
 body_length version p =
     let a : Addresses = addresses_in (scale_of version) p in
     let low : List ℕ = low_bytes p.globals (slice_index a.routines p.main) in
-    let high : List ℕ = parts_from (scale_of version) first_address (high_parts a p) in
-    let end : end_from (scale_of version) first_address (map routine_size p.routines ++ map length fault_texts)
-    ≡ first_address + length high =
-    ap (end_from (scale_of version) first_address) (sym (sizes_are a p.routines))
-    ∙ end_is version first_address (high_parts a p) in
+    let high : List ℕ = parts_from (scale_of version) (routines_place p) (high_parts a p) in
+    let end : end_from (scale_of version) (routines_place p) (map routine_size p.routines ++ map length fault_texts)
+    ≡ (routines_place p) + length high =
+    ap (end_from (scale_of version) (routines_place p)) (sym (sizes_are a p.routines))
+    ∙ end_is version (routines_place p) (high_parts a p) in
     omega (arith, end, low_length p.globals (slice_index a.routines p.main), length-append low high)
 
 pub body_within : (version : Version) (p : ProgramOf) (body : List ℕ) → Fits version p → body ≡ body_of version p
     → 64 + length body ≤ 65535 * scale_of version
 unfolding story_of
 body_within version p body fits e =
-    let whole = length-append (header_of version (body_of version p)) (body_of version p) in
-    let within : length (header_of version (body_of version p) ++ body_of version p) ≤ 65535 * scale_of version =
+    let whole = length-append (header_of version (places_of p) (body_of version p)) (body_of version p) in
+    let within : length (header_of version (places_of p) (body_of version p) ++ body_of version p) ≤ 65535 * scale_of version =
     fits.within in
     omega (arith, ap length e, whole, within)
 
 pub packed_within : (version : Version) (p : ProgramOf) (codes : List CodeOf) (first second : List ℕ) (m n : ℕ)
     → Fits version p → codes ≡ map code_of p.routines → first ∷ second ∷ [] ≡ fault_texts
     → m ≡ length first → n ≡ length second
-    → end_from (scale_of version) first_address (map part_size codes ++ m ∷ n ∷ []) ≤ 65535 * scale_of version
+    → end_from (scale_of version) (routines_place p) (map part_size codes ++ m ∷ n ∷ []) ≤ 65535 * scale_of version
 packed_within version p codes first second m n fits e t em en =
     let sizes = ap (λ k. map part_size codes ++ k ∷ n ∷ []) em
     ∙ ap (λ k. map part_size codes ++ length first ∷ k ∷ []) en ∙ all_sizes p codes first second e t in
-    let end = ap (end_from (scale_of version) first_address) sizes in
+    let end = ap (end_from (scale_of version) (routines_place p)) sizes in
     omega (arith, end, body_length version p, body_within version p (body_of version p) fits refl)
 
 -- The addresses of a story
@@ -163,12 +166,12 @@ packed_within version p codes first second m n fits e t em en =
 pub packed_are : (version : Version) (p : ProgramOf) (codes : List CodeOf) (first second packed : List ℕ) (m n : ℕ)
     → codes ≡ map code_of p.routines → first ∷ second ∷ [] ≡ fault_texts
     → m ≡ length first → n ≡ length second
-    → packed ≡ packed_from (scale_of version) first_address (map part_size codes ++ m ∷ n ∷ [])
+    → packed ≡ packed_from (scale_of version) (routines_place p) (map part_size codes ++ m ∷ n ∷ [])
     → packed ≡ packed_addresses (scale_of version) p
 packed_are version p codes first second packed m n e t em en h =
-    h ∙ ap (λ k. packed_from (scale_of version) first_address (map part_size codes ++ k ∷ n ∷ [])) em
-    ∙ ap (λ k. packed_from (scale_of version) first_address (map part_size codes ++ length first ∷ k ∷ [])) en
-    ∙ ap (packed_from (scale_of version) first_address) (all_sizes p codes first second e t)
+    h ∙ ap (λ k. packed_from (scale_of version) (routines_place p) (map part_size codes ++ k ∷ n ∷ [])) em
+    ∙ ap (λ k. packed_from (scale_of version) (routines_place p) (map part_size codes ++ length first ∷ k ∷ [])) en
+    ∙ ap (packed_from (scale_of version) (routines_place p)) (all_sizes p codes first second e t)
 
 packed_count : (version : Version) (at : ℕ) (sizes : List ℕ)
     → length (packed_from (scale_of version) at sizes) ≡ length sizes
@@ -180,11 +183,11 @@ sizes_count [] m n = refl
 sizes_count (x ∷ xs) m n = let e = sizes_count xs m n in omega (arith, e)
 
 -- an address for each routine and for each text
-pub packed_counted : (version : Version) (codes : List CodeOf) (packed : List ℕ) (m n : ℕ)
-    → packed ≡ packed_from (scale_of version) first_address (map part_size codes ++ m ∷ n ∷ [])
+pub packed_counted : (version : Version) (at : ℕ) (codes : List CodeOf) (packed : List ℕ) (m n : ℕ)
+    → packed ≡ packed_from (scale_of version) at (map part_size codes ++ m ∷ n ∷ [])
     → length packed ≡ length codes + 2
-packed_counted version codes packed m n e =
-    ap length e ∙ packed_count version first_address (map part_size codes ++ m ∷ n ∷ []) ∙ sizes_count codes m n
+packed_counted version at codes packed m n e =
+    ap length e ∙ packed_count version at (map part_size codes ++ m ∷ n ∷ []) ∙ sizes_count codes m n
 
 pub codes_counted : (p : ProgramOf) (codes : List CodeOf) → codes ≡ map code_of p.routines
     → length codes ≡ length p.routines
@@ -209,16 +212,16 @@ pub body_laid : (version : Version) (p : ProgramOf) (codes : List CodeOf) (a : A
     → b3 ≡ body_of version p
 body_laid version p codes a first second b b1 b2 b3 main e t at em e0 e1 e2 e3 =
     let low : b1 ≡ low_bytes p.globals main = e1 ∙ ap (λ z. z ++ low_bytes p.globals main) e0 in
-    let begin : 64 + length b1 ≡ first_address = omega (arith, ap length low, low_length p.globals main) in
+    let begin : 64 + length b1 ≡ (routines_place p) = omega (arith, ap length low, low_length p.globals main) in
     let parts : map (code_part a) codes ++ first ∷ second ∷ [] ≡ high_parts a p =
     ap (λ cs. map (code_part a) cs ++ first ∷ second ∷ []) e ∙ parts_are a p.routines (first ∷ second ∷ [])
     ∙ ap (λ ts. map (routine_bytes a) p.routines ++ ts) t in
     let with_these : b3 ≡ body_with (scale_of version) a p =
     e3 ∙ e2 (first ∷ second ∷ []) ∙ ap (λ n. b1 ++ parts_from (scale_of version) n (map (code_part a) codes
     ++ first ∷ second ∷ [])) begin
-    ∙ ap (λ ps. b1 ++ parts_from (scale_of version) first_address ps) parts
-    ∙ ap (λ z. z ++ parts_from (scale_of version) first_address (high_parts a p)) low
-    ∙ ap (λ n. low_bytes p.globals n ++ parts_from (scale_of version) first_address (high_parts a p)) em in
+    ∙ ap (λ ps. b1 ++ parts_from (scale_of version) (routines_place p) ps) parts
+    ∙ ap (λ z. z ++ parts_from (scale_of version) (routines_place p) (high_parts a p)) low
+    ∙ ap (λ n. low_bytes p.globals n ++ parts_from (scale_of version) (routines_place p) (high_parts a p)) em in
     with_these ∙ ap (λ x. body_with (scale_of version) x p) at
 
 -- the addresses are the story's
@@ -242,7 +245,7 @@ addresses_are version p a packed n e en h =
 -- The story
 
 pub story_laid : (version : Version) (p : ProgramOf) (body s s1 s2 : List ℕ) → body ≡ body_of version p → s ≡ []
-    → s1 ≡ s ++ header_of version body → s2 ≡ s1 ++ body → s2 ≡ story_of version p
+    → s1 ≡ s ++ header_of version (places_of p) body → s2 ≡ s1 ++ body → s2 ≡ story_of version p
 unfolding story_of
 story_laid version p body s s1 s2 e e0 e1 e2 =
-    e2 ∙ ap (λ z. z ++ body) (e1 ∙ ap (λ z. z ++ header_of version body) e0) ∙ ap (λ b. header_of version b ++ b) e
+    e2 ∙ ap (λ z. z ++ body) (e1 ∙ ap (λ z. z ++ header_of version (places_of p) body) e0) ∙ ap (λ b. header_of version (places_of p) b ++ b) e

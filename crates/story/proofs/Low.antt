@@ -1,14 +1,17 @@
 -- What stands below the routines of a story.
-use Rattle.std.proofs.Common.{◌≡◌, ℕ, zero, suc, ◌+◌, ◌*◌, ◌/◌, ◌%◌, ◌<◌, ◌≤◌, List, [], ◌∷◌, ◌++◌, length, take, drop, refl, sym, ap, ◌∙◌, arith}
+use Rattle.std.proofs.Common.{◌≡◌, ℕ, zero, suc, ◌+◌, ◌*◌, ◌/◌, ◌%◌, ◌<◌, ◌≤◌, List, [], ◌∷◌, ◌++◌, length, take}
+use Rattle.std.proofs.Common.{drop, refl, sym, ap, ◌∙◌, arith}
 use Rattle.std.specs.Prelude.{replicate, slice_index}
 use Rattle.std.specs.List.{flat_map}
-use Rattle.std.proofs.lemmas.List.{append_assoc, length-append, length-replicate, length-take-le, get_or-drop, get_or-take, get_or_append_left}
+use Rattle.std.proofs.lemmas.List.{append_assoc, length-append, length-replicate, length-take-le, get_or-drop}
+use Rattle.std.proofs.lemmas.List.{get_or-take, get_or_append_left}
 use Rattle.zcore.specs.declared.header.Version.{Version}
 use Rattle.zcore.specs.Bytes.{word_at}
 use Rattle.zcore.specs.Instruction.{bytes_of}
 use Rattle.zcore.specs.Text.{encoded}
 use Rattle.zcore.specs.Words.{packed}
-use Rattle.code.specs.Standing.{start_code}
+use Rattle.checker.specs.declared.places.Places.{Places}
+use Rattle.code.specs.HeldProgram.{start_code}
 use Rattle.story.specs.Layout.{word, abbreviation_bytes, global_bytes, dictionary_bytes, low_bytes, header_of}
 use Rattle.story.proofs.Parts.{behind_at}
 
@@ -48,8 +51,8 @@ word_behind at k story rest e =
 
 -- Lengths
 
-pub header_length : (version : Version) (body : List ℕ) → length (header_of version body) ≡ 64
-header_length version body = refl
+pub header_length : (version : Version) (at : Places) (body : List ℕ) → length (header_of version at body) ≡ 64
+header_length version at body = refl
 
 abbrev first_bytes : List ℕ
 first_bytes = abbreviation_bytes ++ encoded []
@@ -92,7 +95,8 @@ module _ (story globals high : List ℕ) (main : ℕ) (stands : drop 64 story �
   globals_stand =
       behind_at 64 194 story first_bytes (global_bytes globals
       ++ (replicate 126 0 ++ (dictionary_bytes ++ (start_code main ++ high))))
-      (stands ∙ regrouped first_bytes (global_bytes globals) (replicate 126 0) dictionary_bytes (start_code main) high)
+      (stands ∙ regrouped first_bytes (global_bytes globals) (replicate 126 0) dictionary_bytes (start_code main)
+      high)
       first_length
 
   defaults_stand : drop 738 story ≡ replicate 126 0 ++ (dictionary_bytes ++ (start_code main ++ high))

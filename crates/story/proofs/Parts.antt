@@ -1,7 +1,9 @@
 -- Parts that stand one behind another, each at a multiple of the scale of packed addresses.
-use Rattle.std.proofs.Common.{◌≡◌, ℕ, zero, suc, ◌+◌, ◌-◌, ◌*◌, ◌/◌, ◌<◌, ◌≤◌, List, [], ◌∷◌, ◌++◌, length, take, drop, refl, sym, ap, ◌∙◌, subst, arith}
+use Rattle.std.proofs.Common.{◌≡◌, ℕ, zero, suc, ◌+◌, ◌-◌, ◌*◌, ◌/◌, ◌<◌, ◌≤◌, List, [], ◌∷◌, ◌++◌, length, take}
+use Rattle.std.proofs.Common.{drop, refl, sym, ap, ◌∙◌, subst, arith}
 use Rattle.std.specs.Prelude.{map, replicate, slice_index, slice_index_or}
-use Rattle.std.proofs.lemmas.List.{append_assoc, length-append, length-replicate, length-drop, drop-drop, drop_at, take_at}
+use Rattle.std.proofs.lemmas.List.{append_assoc, length-append, length-replicate, length-drop, drop-drop, drop_at}
+use Rattle.std.proofs.lemmas.List.{take_at}
 use Rattle.zcore.specs.declared.header.Version.{Version}
 use Rattle.zcore.specs.declared.header.Version.TheVariants.{V5, V8}
 use Rattle.zcore.specs.Header.{scale_of}
@@ -14,7 +16,8 @@ use Rattle.story.specs.Layout.{aligned, addresses_from, parts_from}
 pub behind : (n m : ℕ) (xs ys : List ℕ) → length xs ≡ n → drop (n + m) (xs ++ ys) ≡ drop m ys
 behind n m xs ys e = sym (drop-drop m n (xs ++ ys)) ∙ ap (drop m) (drop_at xs ys n e)
 
-pub behind_at : (at n : ℕ) (story xs ys : List ℕ) → drop at story ≡ xs ++ ys → length xs ≡ n → drop (at + n) story ≡ ys
+pub behind_at : (at n : ℕ) (story xs ys : List ℕ) → drop at story ≡ xs ++ ys → length xs ≡ n
+    → drop (at + n) story ≡ ys
 behind_at at n story xs ys stands e = sym (drop-drop n at story) ∙ ap (drop n) stands ∙ drop_at xs ys n e
 
 pub holds_first : (at : ℕ) (story xs ys : List ℕ) → drop at story ≡ xs ++ ys → Holds story at xs
@@ -101,7 +104,8 @@ module _ (version : Version) (story : List ℕ) where
         within = first_within at part parts low stands;
       }
   parts_stand at (part ∷ parts) low stands (suc k) within =
-      let next = parts_stand (aligned (scale_of version) at + length part) parts (first_within at part parts low stands)
+      let next = parts_stand (aligned (scale_of version) at + length part) parts
+      (first_within at part parts low stands)
       (others_stand at part parts stands) k (omega (arith, within)) in
       record {
         bytes = next.bytes;

@@ -1,13 +1,18 @@
 -- Stories are read.
-use Rattle.std.proofs.Common.{◌≡◌, inr, ℕ, ◌+◌, ◌*◌, ◌/◌, ◌%◌, ◌≤◌, List, ◌++◌, length, drop, Ok, refl, sym, ap, ◌∙◌, subst, arith}
+use Rattle.std.proofs.Common.{◌≡◌, inr, ℕ, ◌+◌, ◌*◌, ◌/◌, ◌%◌, ◌≤◌, List, ◌++◌, length, drop, Ok, refl, sym, ap, ◌∙◌}
+use Rattle.std.proofs.Common.{subst, arith}
 use Rattle.std.specs.Prelude.{slice_index, sum}
 use Rattle.std.proofs.lemmas.List.{length-append, drop_at}
 use Rattle.zcore.specs.declared.header.Version.{Version}
 use Rattle.zcore.specs.declared.header.Header.{Header}
 use Rattle.zcore.specs.Bytes.{word_at}
-use Rattle.zcore.specs.Header.{IsDictionary, IsDictionaryOf, IsPlaced, Reads, StatesSum, abbreviations_of, defaults_of, dictionary_of, first_instruction_of, globals_of, high_memory_of, scale_of, entry_length_of, entry_count, static_base_of, version_number}
-use Rattle.code.specs.Standing.{start_code}
-use Rattle.story.specs.Layout.{header_of, low_bytes, dictionary_bytes, parts_from, first_address}
+use Rattle.zcore.specs.Header.{IsDictionary, IsDictionaryOf, IsPlaced, Reads, StatesSum, abbreviations_of}
+use Rattle.zcore.specs.Header.{defaults_of, dictionary_of, first_instruction_of, globals_of, high_memory_of, scale_of}
+use Rattle.zcore.specs.Header.{entry_length_of, entry_count, static_base_of, version_number}
+use Rattle.checker.specs.Places.{routines_place, places_of}
+use Rattle.checker.specs.Resolved.{ProgramOf}
+use Rattle.code.specs.HeldProgram.{start_code}
+use Rattle.story.specs.Layout.{header_of, low_bytes, dictionary_bytes, parts_from}
 use Rattle.story.proofs.Parts.{whole, parts_end}
 use Rattle.story.proofs.Low.{word_is, byte_behind, word_behind, low_length, dictionary_stands}
 
@@ -24,14 +29,14 @@ pub record Says (version : Version) (story : List ℕ) : Type 0 where
   pub stated_length : word_at story 0x1A ≡ length story / scale_of version
   pub stated_sum : StatesSum story
 
-module _ (version : Version) (body : List ℕ) where
-  whole_length : length (header_of version body ++ body) ≡ 64 + length body
-  whole_length = length-append (header_of version body) body
+module _ (version : Version) (p : ProgramOf) (body : List ℕ) where
+  whole_length : length (header_of version (places_of p) body ++ body) ≡ 64 + length body
+  whole_length = length-append (header_of version (places_of p) body) body
 
-  pub behind_header : drop 64 (header_of version body ++ body) ≡ body
-  behind_header = drop_at (header_of version body) body 64 refl
+  pub behind_header : drop 64 (header_of version (places_of p) body ++ body) ≡ body
+  behind_header = drop_at (header_of version (places_of p) body) body 64 refl
 
-  pub says : Says version (header_of version body ++ body)
+  pub says : Says version (header_of version (places_of p) body ++ body)
   says = record {
     version_byte = refl;
     high_memory = refl;
@@ -41,7 +46,8 @@ module _ (version : Version) (body : List ℕ) where
     globals = refl;
     static_base = refl;
     abbreviations = refl;
-    stated_length = word_is ((64 + length body) / scale_of version) ∙ ap (λ n. n / scale_of version) (sym whole_length);
+    stated_length = word_is ((64 + length body) / scale_of version)
+        ∙ ap (λ n. n / scale_of version) (sym whole_length);
     stated_sum = word_is (sum body % 65536) ∙ ap (λ bytes. sum bytes % 65536) (sym behind_header);
   }
 
@@ -84,7 +90,8 @@ header_read version = record {
   dictionary = record { address = 864; separators = 3; entry_length = 9; entries = 0 };
 }
 
-module _ (version : Version) (story rest : List ℕ) (said : Says version story) (multiple : whole version (length story))
+module _ (version : Version) (story rest : List ℕ) (said : Says version story)
+    (multiple : whole version (length story))
     (long : 875 ≤ length story) (stands : drop 864 story ≡ dictionary_bytes ++ rest) where
   is_placed : IsPlaced story
   is_placed = record {
@@ -127,26 +134,26 @@ module _ (version : Version) (story rest : List ℕ) (said : Says version story)
 
 -- Parts behind what stands below them
 
-module _ (version : Version) (globals : List ℕ) (main : ℕ) (parts : List (List ℕ)) where
+module _ (version : Version) (p : ProgramOf) (main : ℕ) (parts : List (List ℕ)) where
   abbrev high : List ℕ
-  high = parts_from (scale_of version) first_address parts
+  high = parts_from (scale_of version) (routines_place p) parts
 
   abbrev pub laid_out : List ℕ
-  laid_out = header_of version (low_bytes globals main ++ high) ++ (low_bytes globals main ++ high)
+  laid_out = header_of version (places_of p) (low_bytes p.globals main ++ high) ++ (low_bytes p.globals main ++ high)
 
   pub laid_length : length laid_out ≡ 875 + length high
   laid_length = omega (
     arith,
-    whole_length version (low_bytes globals main ++ high),
-    length-append (low_bytes globals main) high,
-    low_length globals main,
+    whole_length version p (low_bytes p.globals main ++ high),
+    length-append (low_bytes p.globals main) high,
+    low_length p.globals main,
   )
 
   pub laid_multiple : whole version (length laid_out)
-  laid_multiple = subst (whole version) (sym laid_length) (parts_end version first_address parts)
+  laid_multiple = subst (whole version) (sym laid_length) (parts_end version (routines_place p) parts)
 
   pub laid_read : Reads laid_out (Ok (header_read version))
   laid_read =
-      is_read version laid_out (start_code main ++ high) (says version (low_bytes globals main ++ high)) laid_multiple
+      is_read version laid_out (start_code main ++ high) (says version p (low_bytes p.globals main ++ high)) laid_multiple
       (omega (arith, laid_length))
-      (dictionary_stands laid_out globals high main (behind_header version (low_bytes globals main ++ high)))
+      (dictionary_stands laid_out p.globals high main (behind_header version p (low_bytes p.globals main ++ high)))

@@ -8,9 +8,13 @@ use Rattle.zcore.specs.declared.place.Place.TheVariants as places
 use Rattle.zcore.specs.Alphabets.{spelling_of}
 use Rattle.zcore.specs.Arithmetic.{signed_text, decimal}
 use Rattle.zcore.specs.Instruction.{decode, bytes_of, opcode, operands, operand, byte, large, result_variable, branch}
-use Rattle.zcore.specs.Parts.{read_in_place, write_in_place, push, pop, read_local, write_local, read_global, write_global, read_variable, write_variable, test_variable, test_pull, operand_value, operand_values, test_result, store_result, test_target, spend, go, test_routine, test_calls, enter, call, test_return, leave, give_back, take_branch, branch_on, print}
+use Rattle.zcore.specs.Parts.{read_in_place, write_in_place, push, pop, read_local, write_local, read_global}
+use Rattle.zcore.specs.Parts.{write_global, read_variable, write_variable, test_variable, test_pull, operand_value}
+use Rattle.zcore.specs.Parts.{operand_values, test_result, store_result, test_target, spend, go, test_routine}
+use Rattle.zcore.specs.Parts.{test_calls, enter, call, test_return, leave, give_back, take_branch, branch_on, print}
 use Rattle.zcore.specs.Reading.{reads}
-use Rattle.zcore.specs.Step.{step, perform, push_word, pull, call_packed, return_popped, print_characters, print_inline, print_packed, text_at}
+use Rattle.zcore.specs.Execution.{step, perform, push_word, pull, call_packed, return_popped, print_characters}
+use Rattle.zcore.specs.Execution.{print_inline, print_packed, text_at}
 use Rattle.zcore.specs.Text.{encoded, decoded, abbreviation}
 use Rattle.zcore.specs.Turn.{Whole, opening, turn_from, weight}
 use Rattle.zcore.specs.Words.{packed, unpacked_text}
@@ -19,7 +23,8 @@ use Rattle.syntax.specs.Tree.{ProgramTree, routine}
 use Rattle.expressions.specs.declared.tree.Binary.TheVariants as binaries
 use Rattle.checker.specs.declared.resolved.Variable.TheVariants as variables
 use Rattle.checker.specs.Meaning.{meaning}
-use Rattle.checker.specs.Resolved.{ProgramOf, binary, call as calls, effect, more, none, number, number_of, print as prints, read, stop, text, next}
+use Rattle.checker.specs.Resolved.{ProgramOf, binary, call as calls, effect, more, none, number, number_of}
+use Rattle.checker.specs.Resolved.{print as prints, read, stop, text, next}
 use Rattle.story.specs.Compiled.{size_fault}
 use Rattle.story.specs.Layout.{fault_texts, low_bytes, packed_addresses, story_of}
 
@@ -72,11 +77,15 @@ abbrev shown : Whole → Place × List ℕ
 shown whole = (whole.place, whole.text)
 
 nothing_played : option_map shown (opening (story_of V5 nothing) 1000000) ≡ Some (places.Quit, [])
-unfolding story_of bytes_of encoded packed spelling_of opening turn_from weight step perform call_packed decode opcode operands operand byte large result_variable branch operand_values operand_value read_in_place read_variable pop push test_routine test_calls enter call test_return leave give_back spend go store_result
+unfolding story_of bytes_of encoded packed spelling_of opening turn_from weight step perform call_packed decode
+    opcode operands operand byte large result_variable branch operand_values operand_value read_in_place
+    read_variable pop push test_routine test_calls enter call test_return leave give_back spend go store_result
 nothing_played = refl
 
 nothing_played_8 : option_map shown (opening (story_of V8 nothing) 1000000) ≡ Some (places.Quit, [])
-unfolding story_of bytes_of encoded packed spelling_of opening turn_from weight step perform call_packed decode opcode operands operand byte large result_variable branch operand_values operand_value read_in_place read_variable pop push test_routine test_calls enter call test_return leave give_back spend go store_result
+unfolding story_of bytes_of encoded packed spelling_of opening turn_from weight step perform call_packed decode
+    opcode operands operand byte large result_variable branch operand_values operand_value read_in_place
+    read_variable pop push test_routine test_calls enter call test_return leave give_back spend go store_result
 nothing_played_8 = refl
 
 nothing_meant : (meaning nothing 1000000 []).texts ≡ [] ∷ []
@@ -115,7 +124,11 @@ division_header = refl
 
 division_played : option_map shown (opening (story_of V5 division) 1000000)
     ≡ Some (places.Quit, 10 ∷ codes "[Fault: division by zero]" ++ 10 ∷ [])
-unfolding story_of bytes_of encoded packed spelling_of opening turn_from weight step perform call_packed push_word pull print_packed print_characters text_at decoded abbreviation reads unpacked_text decode opcode operands operand byte large result_variable branch operand_values operand_value read_in_place write_in_place read_variable write_variable read_global write_global pop push test_variable test_pull test_routine test_calls enter call test_return leave give_back spend go take_branch branch_on test_target print
+unfolding story_of bytes_of encoded packed spelling_of opening turn_from weight step perform call_packed push_word
+    pull print_packed print_characters text_at decoded abbreviation reads unpacked_text decode opcode operands
+    operand byte large result_variable branch operand_values operand_value read_in_place write_in_place read_variable
+    write_variable read_global write_global pop push test_variable test_pull test_routine test_calls enter call
+    test_return leave give_back spend go take_branch branch_on test_target print
 division_played = refl
 
 division_meant : (meaning division 1000000 []).texts ≡ (10 ∷ codes "[Fault: division by zero]" ++ 10 ∷ []) ∷ []
@@ -131,7 +144,11 @@ abbrev calling : ProgramOf
 calling = record {
   globals = [];
   routines = record { locals = 0; body = next (effect (calls 1 (more (number 3) none))) stop }
-      ∷ record { locals = 1; body = next (prints (number_of (read (variables.Local 0)) ∷ text (codes "!^") ∷ [])) stop }
+      ∷ record {
+        locals = 1;
+        body = next (prints (number_of (read (variables.Local 0)) ∷ text (codes "!^") ∷ []))
+            stop;
+      }
       ∷ [];
   main = 0;
 }
@@ -149,7 +166,12 @@ unfolding story_of bytes_of encoded packed spelling_of
 calling_code = refl
 
 calling_played : option_map shown (opening (story_of V8 calling) 1000000) ≡ Some (places.Quit, codes "3!" ++ 10 ∷ [])
-unfolding story_of bytes_of encoded packed spelling_of opening turn_from weight step perform call_packed push_word pull return_popped print_inline print_packed print_characters text_at decoded abbreviation reads unpacked_text decode opcode operands operand byte large result_variable branch operand_values operand_value read_in_place write_in_place read_variable write_variable read_local write_local read_global write_global pop push test_variable test_pull test_routine test_calls enter call test_return leave give_back spend go take_branch branch_on test_target test_result store_result print signed_text decimal
+unfolding story_of bytes_of encoded packed spelling_of opening turn_from weight step perform call_packed push_word
+    pull return_popped print_inline print_packed print_characters text_at decoded abbreviation reads unpacked_text
+    decode opcode operands operand byte large result_variable branch operand_values operand_value read_in_place
+    write_in_place read_variable write_variable read_local write_local read_global write_global pop push
+    test_variable test_pull test_routine test_calls enter call test_return leave give_back spend go take_branch
+    branch_on test_target test_result store_result print signed_text decimal
 calling_played = refl
 
 calling_meant : (meaning calling 1000000 []).texts ≡ (codes "3!" ++ 10 ∷ []) ∷ []

@@ -7,9 +7,10 @@ use Rattle.zcore.specs.declared.header.Version.TheVariants.{V5, V8}
 use Rattle.zcore.specs.Header.{scale_of}
 use Rattle.checker.specs.Resolved.{RoutineOf, ProgramOf}
 use Rattle.checker.specs.Accepted.{IsAccepted}
+use Rattle.checker.specs.Places.{routines_place}
 use Rattle.checker.specs.Sizes.{greatest_weight}
 use Rattle.code.specs.Sizes.{routine_size, routines_size}
-use Rattle.story.specs.Layout.{addresses_in, fault_texts, first_address, parts_from, story_of}
+use Rattle.story.specs.Layout.{addresses_in, fault_texts, parts_from, story_of}
 use Rattle.story.specs.Laws.{IsShort, IsStory, StoriesAreShort}
 use Rattle.story.proofs.Parts.{parts_short, room_for}
 use Rattle.story.proofs.Lengths.{sizes_are}
@@ -32,10 +33,10 @@ pub stories_are_short : StoriesAreShort
 unfolding story_of
 stories_are_short version p light =
     let a = addresses_in (scale_of version) p in
-    let long = laid_length version p.globals (slice_index a.routines p.main) (parts_of a p.routines) in
-    let parts : length (parts_from (scale_of version) first_address (parts_of a p.routines))
+    let long = laid_length version p (slice_index a.routines p.main) (parts_of a p.routines) in
+    let parts : length (parts_from (scale_of version) (routines_place p) (parts_of a p.routines))
     ≤ room_for (map length (parts_of a p.routines)) =
-    parts_short version first_address (parts_of a p.routines) in
+    parts_short version (routines_place p) (parts_of a p.routines) in
     let room : room_for (map length (parts_of a p.routines)) ≡ routines_size p.routines + 71 =
     ap room_for (sizes_are a p.routines) ∙ room_is p.routines in
     omega (arith, long, parts, room, fits version (routines_size p.routines) light)

@@ -1,7 +1,9 @@
 -- What a source is compiled to, and why it is refused.
-use Rattle.std.specs.Prelude.{◌≡◌, ◌≤◌, ◌<◌, ◌+◌, ℕ, nat_lt, if◌then◌else◌, List, [], ◌∷◌, map, Option, Some, None, Result, Ok, Err}
+use Rattle.std.specs.Prelude.{◌≡◌, ◌≤◌, ◌<◌, ◌+◌, ℕ, nat_lt, if◌then◌else◌, List, [], ◌∷◌, map, Option, Some, None}
+use Rattle.std.specs.Prelude.{Result, Ok, Err}
 use Rattle.lexer.specs.declared.fault.SourceFault.{SourceFault}
-use Rattle.lexer.specs.declared.fault.TheConstants.{NESTED_TOO_DEEP, NOT_IN_GRAMMAR, TABLES_TOO_LARGE, STORY_TOO_LARGE, ROUTINE_TOO_LARGE}
+use Rattle.lexer.specs.declared.fault.TheConstants.{NESTED_TOO_DEEP, NOT_IN_GRAMMAR, TABLES_TOO_LARGE}
+use Rattle.lexer.specs.declared.fault.TheConstants.{STORY_TOO_LARGE, ROUTINE_TOO_LARGE}
 use Rattle.lexer.specs.Results as faults
 use Rattle.lexer.specs.declared.token.Position.{Position}
 use Rattle.lexer.specs.Token.{Lexeme}
@@ -12,12 +14,13 @@ use Rattle.syntax.specs.Nesting.{DeepProgram}
 use Rattle.checker.specs.declared.breach.Breach.{Breach}
 use Rattle.checker.specs.Breaches.{IsAmong, IsFirst}
 use Rattle.checker.specs.Programs.{program_breaches, resolve_program, routine_trees}
+use Rattle.checker.specs.Places.{routines_place}
 use Rattle.checker.specs.Sizes.{greatest_weight}
 use Rattle.zcore.specs.declared.header.Version.{Version}
 use Rattle.zcore.specs.declared.header.Header.{Header}
 use Rattle.zcore.specs.Header.{Reads}
 use Rattle.code.specs.Laws.{Plays}
-use Rattle.story.specs.Layout.{story_of, first_address, greatest_word}
+use Rattle.story.specs.Layout.{story_of, greatest_word}
 
 -- the tokens of a source
 abbrev pub lexemes_of : List SourceToken → List Lexeme
@@ -55,7 +58,7 @@ heavy_fault (Some p) = Some (fault ROUTINE_TOO_LARGE p.line)
 -- E30 where the parts below the routines are too large, else E31 where the source is, else E32 where a routine is
 abbrev pub size_fault : Version → ProgramTree → Option SourceFault
 size_fault version p =
-    if nat_lt greatest_word first_address then Some (fault TABLES_TOO_LARGE 0)
+    if nat_lt greatest_word (routines_place (resolve_program p)) then Some (fault TABLES_TOO_LARGE 0)
     else (if nat_lt (greatest_weight version) p.weight then Some (fault STORY_TOO_LARGE 0)
     else heavy_fault (first_heavy (routine_trees p.directives)))
 

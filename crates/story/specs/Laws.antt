@@ -10,7 +10,7 @@ use Rattle.checker.specs.Sizes.{greatest_weight}
 use Rattle.items.specs.Items.{routine_items}
 use Rattle.code.specs.Bytes.{code_size}
 use Rattle.code.specs.Sizes.{routines_size}
-use Rattle.code.specs.Standing.{HoldsProgram}
+use Rattle.code.specs.HeldProgram.{HoldsProgram}
 use Rattle.story.specs.Layout.{addresses_in, greatest_length, story_of}
 
 -- the code of a routine can be reached by jumps

@@ -1,61 +1,22 @@
--- How a story is laid out (Z-Machine Standards Document 1.1, sections 1.1 and 11). Parts stand one behind another:
---
---     0    header
---     64   table of 96 abbreviations
---     256  empty text, which all abbreviations name
---     258  240 words of globals, the source's first
---     738  63 words of property defaults
---     864  dictionary, in which no word stands; static memory begins
---     871  the code that calls Main and then quits; high memory begins
---     875  the routines in order of definition, and then the texts of faults, each at the next packed address
---
--- Zero bytes fill what stands between them, and the end up to a multiple of the scale by which packed addresses count.
-use Rattle.std.specs.Prelude.{◌+◌, ◌-◌, ◌*◌, ◌/◌, ◌%◌, ℕ, List, [], ◌∷◌, ◌++◌, codes, length, map, replicate, take, slice_index, sum}
+-- How a story is laid out (Z-Machine Standards Document 1.1, sections 1.1 and 11): first the parts of `Places` of
+-- `checker`, then the routines in order of definition, and then the texts of faults, each at the next packed address.
+-- Zero bytes fill what stands between them, and the end up to a multiple of the scale by which packed addresses
+-- count.
+use Rattle.std.specs.Prelude.{◌+◌, ◌-◌, ◌*◌, ◌/◌, ◌%◌, ℕ, List, [], ◌∷◌, ◌++◌, codes, length, map, replicate, take}
+use Rattle.std.specs.Prelude.{slice_index, sum}
 use Rattle.std.specs.List.{flat_map}
 use Rattle.zcore.specs.declared.header.Version.{Version}
 use Rattle.zcore.specs.Header.{version_number, scale_of}
 use Rattle.zcore.specs.Text.{encoded}
+use Rattle.checker.specs.declared.places.Places.{Places}
+use Rattle.checker.specs.Places.{header_size, abbreviation_count, abbreviations_place, empty_text_place, global_count}
+use Rattle.checker.specs.Places.{default_count, routines_place, places_of}
 use Rattle.checker.specs.Resolved.{RoutineOf, ProgramOf}
 use Rattle.items.specs.Items.{routine_items}
 use Rattle.code.specs.Addresses.{Addresses}
 use Rattle.code.specs.Bytes.{code_bytes}
 use Rattle.code.specs.Sizes.{routine_size}
-use Rattle.code.specs.Standing.{start_code, fault_line}
-
--- Addresses, and how much stands at them
-
-abbrev pub header_length : ℕ
-header_length = 64
-
--- the table holds as many words
-abbrev pub abbreviation_count : ℕ
-abbreviation_count = 96
-
--- the empty text
-abbrev pub empty_text_address : ℕ
-empty_text_address = 256
-
-abbrev pub globals_address : ℕ
-globals_address = 258
-
-abbrev pub global_count : ℕ
-global_count = 240
-
-abbrev pub defaults_address : ℕ
-defaults_address = 738
-
-abbrev pub default_count : ℕ
-default_count = 63
-
-abbrev pub dictionary_address : ℕ
-dictionary_address = 864
-
-abbrev pub start_address : ℕ
-start_address = 871
-
--- where the first part at a packed address can stand
-abbrev pub first_address : ℕ
-first_address = 875
+use Rattle.code.specs.HeldProgram.{start_code, fault_line}
 
 -- the greatest address that a word holds, and the greatest packed address
 abbrev pub greatest_word : ℕ
@@ -72,7 +33,7 @@ word n = (n / 256) ∷ (n % 256) ∷ []
 
 -- the table holds addresses halved (3.3)
 abbrev pub abbreviation_bytes : List ℕ
-abbreviation_bytes = flat_map word (replicate abbreviation_count (empty_text_address / 2))
+abbreviation_bytes = flat_map word (replicate abbreviation_count (empty_text_place / 2))
 
 abbrev pub global_bytes : List ℕ → List ℕ
 global_bytes globals = flat_map word (take global_count (globals ++ replicate global_count 0))
@@ -113,7 +74,7 @@ routine_bytes a r = r.locals ∷ code_bytes a (routine_items r)
 
 abbrev pub packed_addresses : ℕ → ProgramOf → List ℕ
 packed_addresses scale p =
-    map (λ address. address / scale) (addresses_from scale first_address (map routine_size p.routines
+    map (λ address. address / scale) (addresses_from scale (routines_place p) (map routine_size p.routines
     ++ map length fault_texts))
 
 abbrev pub addresses_in : ℕ → ProgramOf → Addresses
@@ -123,21 +84,21 @@ addresses_in scale p = record {
   not_a_character = slice_index (packed_addresses scale p) (length p.routines + 1);
 }
 
-abbrev pub high_bytes : ℕ → Addresses → List RoutineOf → List ℕ
-high_bytes scale a routines = parts_from scale first_address (map (routine_bytes a) routines ++ fault_texts)
+abbrev pub high_bytes : ℕ → Addresses → ProgramOf → List ℕ
+high_bytes scale a p = parts_from scale (routines_place p) (map (routine_bytes a) p.routines ++ fault_texts)
 
 -- The story
 
 -- all bytes behind the header, with these addresses
 abbrev pub body_with : ℕ → Addresses → ProgramOf → List ℕ
-body_with scale a p = low_bytes p.globals (slice_index a.routines p.main) ++ high_bytes scale a p.routines
+body_with scale a p = low_bytes p.globals (slice_index a.routines p.main) ++ high_bytes scale a p
 
--- the header of the bytes behind it (11.1): release 1 and serial number 000000
-abbrev pub header_of : Version → List ℕ → List ℕ
-header_of version body =
-    version_number version ∷ 0 ∷ word 1 ++ word start_address ++ word start_address ++ word dictionary_address
-    ++ word defaults_address ++ word globals_address ++ word dictionary_address ++ word 0 ++ codes "000000"
-    ++ word header_length ++ word ((header_length + length body) / scale_of version) ++ word (sum body % 65536)
+-- the header of the bytes behind it, whose parts stand at these places (11.1): release 1 and serial number 000000
+abbrev pub header_of : Version → Places → List ℕ → List ℕ
+header_of version at body =
+    version_number version ∷ 0 ∷ word 1 ++ word at.start ++ word at.start ++ word at.dictionary
+    ++ word at.defaults ++ word at.globals ++ word at.dictionary ++ word 0 ++ codes "000000"
+    ++ word abbreviations_place ++ word ((header_size + length body) / scale_of version) ++ word (sum body % 65536)
     ++ replicate 34 0
 
 abbrev pub body_of : Version → ProgramOf → List ℕ
@@ -145,4 +106,4 @@ body_of version p = body_with (scale_of version) (addresses_in (scale_of version
 
 -- the story of a program
 unfoldable pub story_of : Version → ProgramOf → List ℕ
-story_of version p = header_of version (body_of version p) ++ body_of version p
+story_of version p = header_of version (places_of p) (body_of version p) ++ body_of version p

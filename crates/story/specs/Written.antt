@@ -1,6 +1,7 @@
 -- What the values of the code stand for.
 use Rattle.std.specs.Prelude.{◌+◌, ◌/◌, ◌≤◌, ◌<◌, ℕ, List, [], ◌∷◌, length, map}
 use Rattle.zcore.specs.declared.header.Version.{Version}
+use Rattle.checker.specs.declared.places.Places.{Places}
 use Rattle.checker.specs.Resolved.{RoutineOf, ProgramOf}
 use Rattle.checker.specs.Accepted.{IsAccepted}
 use Rattle.items.specs.Items.{routine_items}
@@ -13,6 +14,13 @@ use Rattle.story.specs.Layout.{aligned, addresses_from, greatest_length, story_o
 pub record Fits (version : Version) (p : ProgramOf) : Type 0 where
   pub accepted : IsAccepted p
   pub within : length (story_of version p) ≤ greatest_length version
+
+-- the places that a header tells
+pub record AreWords (at : Places) : Type 0 where
+  pub globals : at.globals < 65536
+  pub defaults : at.defaults < 65536
+  pub dictionary : at.dictionary < 65536
+  pub start : at.start < 65536
 
 -- the code of a routine, ready to be written
 abbrev pub code_of : RoutineOf → CodeOf

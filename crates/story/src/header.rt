@@ -2,9 +2,12 @@
 
 ghost use Rattle.std.specs.Prelude.{◌≡◌, ◌≤◌, ◌+◌, ◌/◌, ◌%◌, ◌++◌, OnOk, length, sum};
 ghost use Rattle.zcore.specs.Header.{scale_of, version_number};
-ghost use Rattle.story.specs.Layout.{greatest_length, header_length, header_of};
+ghost use Rattle.checker.specs.Places.{header_size};
+ghost use Rattle.story.specs.Layout.{greatest_length, header_of};
+ghost use Rattle.story.specs.Written.{AreWords};
 
 use crate::words::{put_words, put_zeros};
+use checker::Places;
 use std::alloc::AllocError;
 use zcore::Version;
 
@@ -13,18 +16,6 @@ const HEADER: usize = 64;
 
 /// The number of the release.
 const RELEASE: u16 = 1;
-
-/// The code that begins the story, where high memory begins too.
-const START_ADDRESS: u16 = 871;
-
-/// The dictionary, where static memory begins too.
-const DICTIONARY_ADDRESS: u16 = 864;
-
-/// The property defaults, with which the object table begins.
-const DEFAULTS_ADDRESS: u16 = 738;
-
-/// The globals.
-const GLOBALS_ADDRESS: u16 = 258;
 
 /// The table of abbreviations.
 const ABBREVIATIONS_ADDRESS: u16 = 64;
@@ -55,29 +46,37 @@ fn sum_of(bytes: &[u8]) -> u16
 
 /// How long a story with these bytes behind its header is, in the unit of its version.
 fn stated_length(version: Version, body: &[u8]) -> u16
-    requires { header_length + length body.now ≤ greatest_length version }
-    ensures { result ≡ (header_length + length body.now) / scale_of version }
+    requires { header_size + length body.now ≤ greatest_length version }
+    ensures { result ≡ (header_size + length body.now) / scale_of version }
 {
     ((HEADER + body.len()) / version.scale() as usize) as u16
 }
 
-/// The header of a story with these bytes behind it.
-pub fn put_header(story: &mut Vec<u8>, version: Version, body: &[u8]) -> Result<(), AllocError>
-    requires { header_length + length body.now ≤ greatest_length version }
-    ensures { OnOk result (story.new.items ≡ story.old.items ++ header_of version body.now) }
+/// The header of a story with these bytes behind it, whose parts stand at these places.
+pub fn put_header(
+    story: &mut Vec<u8>,
+    version: Version,
+    places: Places,
+    body: &[u8],
+) -> Result<(), AllocError>
+    requires words { AreWords places }
+    requires length { header_size + length body.now ≤ greatest_length version }
+    ensures { OnOk result (story.new.items ≡ story.old.items ++ header_of version places body.now) }
 {
+    let start = places.start as u16;
+    let dictionary = places.dictionary as u16;
     story.push(number_of(version))?;
     story.push(0)?;
     put_words(
         story,
         &[
             RELEASE,
-            START_ADDRESS,
-            START_ADDRESS,
-            DICTIONARY_ADDRESS,
-            DEFAULTS_ADDRESS,
-            GLOBALS_ADDRESS,
-            DICTIONARY_ADDRESS,
+            start,
+            start,
+            dictionary,
+            places.defaults as u16,
+            places.globals as u16,
+            dictionary,
             0,
         ],
     )?;

@@ -6,6 +6,7 @@ ghost use Rattle.zcore.specs.Alphabets.{is_printable};
 ghost use Rattle.zcore.specs.Header.{scale_of};
 ghost use Rattle.zcore.specs.Text.{encoded};
 ghost use Rattle.code.specs.Written.{addresses_of};
+ghost use Rattle.checker.specs.Places.{header_size};
 ghost use Rattle.story.specs.Layout as layout;
 ghost use Rattle.story.specs.Written.{IsReady, code_part};
 
@@ -32,7 +33,7 @@ pub fn z_text(alloc: Global, characters: &[u8]) -> Result<Vec<u8>, AllocError>
 
 /// Zero bytes up to an address to which a packed address leads.
 pub fn put_filling(body: &mut Vec<u8>, version: Version) -> Result<(), AllocError>
-    ensures { OnOk result (let at = layout.header_length + length body.old.items in
+    ensures { OnOk result (let at = header_size + length body.old.items in
         body.new.items ≡ body.old.items ++ replicate (layout.aligned (scale_of version) at - at) 0) }
 {
     let at = HEADER + body.len();
@@ -63,9 +64,9 @@ pub fn put_routines(
 ) -> Result<(), AllocError>
     requires { All IsReady codes.now }
     ensures { OnOk result ((parts : List (List ℕ))
-        → body.new.items ++ layout.parts_from (scale_of version) (layout.header_length + length body.new.items)
+        → body.new.items ++ layout.parts_from (scale_of version) (header_size + length body.new.items)
         parts ≡ body.old.items ++ layout.parts_from (scale_of version)
-        (layout.header_length + length body.old.items) (map (code_part (addresses_of addresses.now)) codes.now
+        (header_size + length body.old.items) (map (code_part (addresses_of addresses.now)) codes.now
         ++ parts)) }
 {
     for code in codes {
@@ -78,9 +79,9 @@ pub fn put_routines(
 /// A text at a packed address.
 fn put_text(body: &mut Vec<u8>, version: Version, text: &[u8]) -> Result<(), AllocError>
     ensures { OnOk result ((parts : List (List ℕ))
-        → body.new.items ++ layout.parts_from (scale_of version) (layout.header_length + length body.new.items)
+        → body.new.items ++ layout.parts_from (scale_of version) (header_size + length body.new.items)
         parts ≡ body.old.items ++ layout.parts_from (scale_of version)
-        (layout.header_length + length body.old.items) (text.now ∷ parts)) }
+        (header_size + length body.old.items) (text.now ∷ parts)) }
 {
     put_filling(body, version)?;
     body.extend_from_slice(text)
@@ -94,7 +95,7 @@ pub fn put_texts(
     second: &[u8],
 ) -> Result<(), AllocError>
     ensures { OnOk result (body.new.items ≡ body.old.items ++ layout.parts_from (scale_of version)
-        (layout.header_length + length body.old.items) (first.now ∷ second.now ∷ [])) }
+        (header_size + length body.old.items) (first.now ∷ second.now ∷ [])) }
 {
     put_text(body, version, first)?;
     put_text(body, version, second)?;

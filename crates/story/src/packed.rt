@@ -9,9 +9,6 @@ use code::Code;
 use std::alloc::{AllocError, Global};
 use zcore::Version;
 
-/// Where the first part at a packed address can stand.
-const FIRST_ADDRESS: usize = 875;
-
 /// The first address at or after another to which a packed address leads.
 pub fn aligned(version: Version, at: usize) -> usize
     requires { at + 8 < 2 ^ 64 }
@@ -38,21 +35,22 @@ fn add_address(
     Ok(address + size)
 }
 
-/// The packed addresses of routines, and then of two texts of these sizes.
+/// The packed addresses of routines that stand from an address on, and then of two texts of these sizes.
 pub fn packed_addresses(
     alloc: Global,
     version: Version,
+    place: usize,
     codes: &[Code<'_>],
     first: usize,
     second: usize,
 ) -> Result<Vec<u16>, AllocError>
-    requires { end_from (scale_of version) layout.first_address (map part_size codes.now ++ first ∷ second ∷ [])
+    requires { end_from (scale_of version) place (map part_size codes.now ++ first ∷ second ∷ [])
         ≤ layout.greatest_length version }
-    ensures { IfOk result (λ v. v.items ≡ packed_from (scale_of version) layout.first_address (map part_size codes.now
+    ensures { IfOk result (λ v. v.items ≡ packed_from (scale_of version) place (map part_size codes.now
         ++ first ∷ second ∷ [])) }
 {
     let mut addresses = Vec::new(alloc);
-    let mut at = FIRST_ADDRESS;
+    let mut at = place;
     for code in codes {
         at = add_address(&mut addresses, version, at, code.length())?;
     }

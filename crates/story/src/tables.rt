@@ -1,8 +1,9 @@
 //! What stands between the header of a story and its routines.
 
 ghost use Rattle.std.specs.Prelude.{◌≡◌, ◌≤◌, ◌++◌, OnOk, length};
-ghost use Rattle.code.specs.Standing.{start_code};
-ghost use Rattle.story.specs.Layout.{dictionary_bytes, global_bytes, global_count, low_bytes};
+ghost use Rattle.code.specs.HeldProgram.{start_code};
+ghost use Rattle.checker.specs.Places.{global_count};
+ghost use Rattle.story.specs.Layout.{dictionary_bytes, global_bytes, low_bytes};
 
 use crate::words::{put_word, put_words, put_zeros};
 use std::alloc::AllocError;

@@ -12,7 +12,7 @@ use crate::header::put_header;
 use crate::high::{put_routines, put_texts, z_text};
 use crate::packed::packed_addresses;
 use crate::tables::put_low;
-use checker::Checked;
+use checker::{Checked, part_places};
 use code::{Addresses, Code, CodeFault, routine_code};
 use std::alloc::{AllocError, Global};
 use zcore::Version;
@@ -85,6 +85,7 @@ fn body_of(alloc: Global, version: Version, checked: &Checked<'_>) -> Result<Vec
     let packed = packed_addresses(
         alloc,
         version,
+        part_places(checked).routines,
         &codes,
         texts.division_by_zero.len(),
         texts.not_a_character.len(),
@@ -113,7 +114,7 @@ pub fn write_story(
 {
     let body = body_of(alloc, version, checked)?;
     let mut story = Vec::new(alloc);
-    put_header(&mut story, version, &body)?;
+    put_header(&mut story, version, part_places(checked), &body)?;
     story.extend_from_slice(&body)?;
     Ok(story)
 }

@@ -1,5 +1,6 @@
 -- What has a tree is read as that tree, unless it is nested too deep.
-use Rattle.std.proofs.Common.{◌≡◌, ℕ, zero, suc, ◌-◌, ◌<◌, ◌≤◌, true, false, List, [], ◌∷◌, length, Some, None, Result, Ok, Err, refl, ap, arith}
+use Rattle.std.proofs.Common.{◌≡◌, ℕ, zero, suc, ◌-◌, ◌<◌, ◌≤◌, true, false, List, [], ◌∷◌, length, Some, None}
+use Rattle.std.proofs.Common.{Result, Ok, Err, refl, ap, arith}
 use Rattle.lexer.specs.declared.token.Position.{Position}
 use Rattle.lexer.specs.declared.token.Sign.TheVariants as s
 use Rattle.lexer.specs.declared.token.Word.TheVariants as w
@@ -14,13 +15,17 @@ use Rattle.statements.specs.Nesting.{begins_statement}
 use Rattle.statements.specs.Parse.{repeated, statements}
 use Rattle.statements.proofs.Complete.{listed, listed_back, at_Ss, repeated_stop, repeated_next}
 use Rattle.statements.proofs.Follow.{short_Ss}
-use Rattle.syntax.specs.Tree.{ValueTree, RoutineTree, DirectiveTree, global, constant, routine, ProgramTree}
-use Rattle.syntax.specs.Grammar.{weight_of, IsK, k_number, k_negative, k_character, k_true, k_false, k_nothing, k_name, IsNames, names_stop, names_next, IsDirective, d_global, d_global_value, d_constant, d_routine, IsDirectives, directives_stop, directives_next, IsProgram, program as program_is, directive_nesting, directives_nesting, program_nesting}
-use Rattle.syntax.specs.Parse.{named, is_name, names, value, ended, global_behind, constant_behind, goes_on, routine_at, directive, directives, program}
+use Rattle.syntax.specs.Tree.{LiteralTree, RoutineTree, DirectiveTree, global, constant, routine, ProgramTree}
+use Rattle.syntax.specs.Grammar.{weight_of, IsK, k_number, k_negative, k_character, k_true, k_false, k_nothing}
+use Rattle.syntax.specs.Grammar.{k_name, IsNames, names_stop, names_next, IsDirective, d_global, d_global_value}
+use Rattle.syntax.specs.Grammar.{d_constant, d_routine, IsDirectives, directives_stop, directives_next, IsProgram}
+use Rattle.syntax.specs.Grammar.{program as program_is, directive_nesting, directives_nesting, program_nesting}
+use Rattle.syntax.specs.Parse.{named, is_name, names, value, ended, global_behind, constant_behind, goes_on}
+use Rattle.syntax.specs.Parse.{routine_at, directive, directives, program}
 
 -- ---- names and values
 
-value_read : {ts r : List Lexeme} {k : ValueTree} → IsK ts k r → value ts ≡ Ok (k, r)
+value_read : {ts r : List Lexeme} {k : LiteralTree} → IsK ts k r → value ts ≡ Ok (k, r)
 unfolding value
 value_read k_number = refl
 value_read k_negative = refl
@@ -30,7 +35,7 @@ value_read k_false = refl
 value_read k_nothing = refl
 value_read k_name = refl
 
-short_K : {ts r : List Lexeme} {k : ValueTree} → IsK ts k r → length r < length ts
+short_K : {ts r : List Lexeme} {k : LiteralTree} → IsK ts k r → length r < length ts
 short_K k_number = omega arith
 short_K k_negative = omega arith
 short_K k_character = omega arith
@@ -39,14 +44,16 @@ short_K k_false = omega arith
 short_K k_nothing = omega arith
 short_K k_name = omega arith
 
-turns_Names : {ts r : List Lexeme} {ns : List NameTree} → IsNames ts ns r → is_name (head r) ≡ false → (n : ℕ) → length ts ≤ n → repeated is_name named n ts ≡ Ok (ns, r)
+turns_Names : {ts r : List Lexeme} {ns : List NameTree} → IsNames ts ns r → is_name (head r) ≡ false → (n : ℕ)
+    → length ts ≤ n → repeated is_name named n ts ≡ Ok (ns, r)
 unfolding repeated named
 turns_Names names_stop e zero le = refl
 turns_Names names_stop e (suc n) le = rw e refl
 turns_Names (names_next a) e zero le = absurd (omega arith)
 turns_Names (names_next a) e (suc n) le = rw (turns_Names a e n (omega arith)) refl
 
-names_read : {r : List Lexeme} {ns : List NameTree} (ts : List Lexeme) → IsNames ts ns r → is_name (head r) ≡ false → names ts ≡ Ok (ns, r)
+names_read : {r : List Lexeme} {ns : List NameTree} (ts : List Lexeme) → IsNames ts ns r → is_name (head r) ≡ false
+    → names ts ≡ Ok (ns, r)
 unfolding names
 names_read ts a e = turns_Names a e (length ts) (omega arith)
 
@@ -73,50 +80,88 @@ unfolding begins_statement
 bracket_stops p = refl
 
 module _ (d : ℕ) where
-  step_global : (p q o : Position) (n : List ℕ) (r : List Lexeme) → Limited (directive d (reserved w.Global p ∷ name n q ∷ sign s.Semicolon o ∷ r)) d 0 (global (record { text = n; position = q }) None) r
+  step_global : (p q o : Position) (n : List ℕ) (r : List Lexeme)
+      → Limited (directive d (reserved w.Global p ∷ name n q ∷ sign s.Semicolon o ∷ r)) d 0
+      (global (record { text = n; position = q }) None) r
   unfolding directive global_behind named ended expect
   step_global p q o n r = at_once refl
 
-  step_global_value : (p q o l : Position) (n : List ℕ) (k : ValueTree) (m r : List Lexeme) → value m ≡ Ok (k, sign s.Semicolon l ∷ r) → Limited (directive d (reserved w.Global p ∷ name n q ∷ sign s.Assign o ∷ m)) d 0 (global (record { text = n; position = q }) (Some k)) r
+  step_global_value : (p q o l : Position) (n : List ℕ) (k : LiteralTree) (m r : List Lexeme)
+      → value m ≡ Ok (k, sign s.Semicolon l ∷ r)
+      → Limited (directive d (reserved w.Global p ∷ name n q ∷ sign s.Assign o ∷ m)) d 0
+      (global (record { text = n; position = q }) (Some k)) r
   unfolding directive global_behind named ended expect
   step_global_value p q o l n k m r e = at_once (rw e refl)
 
-  step_constant : (p q o l : Position) (n : List ℕ) (k : ValueTree) (m r : List Lexeme) → value m ≡ Ok (k, sign s.Semicolon l ∷ r) → Limited (directive d (reserved w.Constant p ∷ name n q ∷ sign s.Assign o ∷ m)) d 0 (constant (record { text = n; position = q }) k) r
+  step_constant : (p q o l : Position) (n : List ℕ) (k : LiteralTree) (m r : List Lexeme)
+      → value m ≡ Ok (k, sign s.Semicolon l ∷ r)
+      → Limited (directive d (reserved w.Constant p ∷ name n q ∷ sign s.Assign o ∷ m)) d 0
+      (constant (record { text = n; position = q }) k) r
   unfolding directive constant_behind named ended expect
   step_constant p q o l n k m r e = at_once (rw e refl)
 
-  step_routine : {j : ℕ} (p q o l i : Position) (n : List ℕ) (ns : List NameTree) (xs : StatementTrees) (m k r : List Lexeme) → names m ≡ Ok (ns, sign s.Semicolon o ∷ k) → Limited (statements d k) d j (listed xs) (sign s.CloseBracket l ∷ sign s.Semicolon i ∷ r)
-      → Limited (routine_at d (sign s.OpenBracket p ∷ name n q ∷ m)) d j (record { name = record { text = n; position = q }; locals = ns; body = xs; weight = weight_of (sign s.OpenBracket p ∷ name n q ∷ m) - weight_of r }) r
+  step_routine : {j : ℕ} (p q o l i : Position) (n : List ℕ) (ns : List NameTree) (xs : StatementTrees)
+      (m k r : List Lexeme) → names m ≡ Ok (ns, sign s.Semicolon o ∷ k)
+      → Limited (statements d k) d j (listed xs) (sign s.CloseBracket l ∷ sign s.Semicolon i ∷ r)
+      → Limited (routine_at d (sign s.OpenBracket p ∷ name n q ∷ m)) d j
+      (record {
+        name = record { text = n; position = q };
+        locals = ns;
+        body = xs;
+        weight = weight_of (sign s.OpenBracket p ∷ name n q ∷ m) - weight_of r;
+      }) r
   unfolding routine_at named expect
   step_routine p q o l i n ns xs m k r e a =
-      let made : StatementTrees → Result (RoutineTree × List Lexeme) Fault = λ ys. Ok (record { name = record { text = n; position = q }; locals = ns; body = ys; weight = weight_of (sign s.OpenBracket p ∷ name n q ∷ m) - weight_of r }, r) in
+      let made : StatementTrees → Result (RoutineTree × List Lexeme) Fault = λ ys. Ok (
+        record {
+          name = record { text = n; position = q };
+          locals = ns;
+          body = ys;
+          weight = weight_of (sign s.OpenBracket p ∷ name n q ∷ m) - weight_of r;
+        },
+        r,
+      ) in
       rw e (then _ a (ap made (listed_back xs)))
 
-  step_directive : {j : ℕ} {x : RoutineTree} {r : List Lexeme} (p : Position) (m : List Lexeme) → Limited (routine_at d (sign s.OpenBracket p ∷ m)) d j x r → Limited (directive d (sign s.OpenBracket p ∷ m)) d j (routine x) r
+  step_directive : {j : ℕ} {x : RoutineTree} {r : List Lexeme} (p : Position) (m : List Lexeme)
+      → Limited (routine_at d (sign s.OpenBracket p ∷ m)) d j x r
+      → Limited (directive d (sign s.OpenBracket p ∷ m)) d j (routine x) r
   unfolding directive
   step_directive p m a = then _ a refl
 
-  at_Directive : {ts r : List Lexeme} {x : DirectiveTree} → IsDirective ts x r → Limited (directive d ts) d (directive_nesting x) x r
+  at_Directive : {ts r : List Lexeme} {x : DirectiveTree} → IsDirective ts x r
+      → Limited (directive d ts) d (directive_nesting x) x r
   at_Directive (d_global {r = r} {p = p} {q = q} {o = o} {n = n}) = step_global p q o n r
-  at_Directive (d_global_value {m = m} {r = r} {p = p} {q = q} {o = o} {l = l} {n = n} {k = k} a) = step_global_value p q o l n k m r (value_read a)
-  at_Directive (d_constant {m = m} {r = r} {p = p} {q = q} {o = o} {l = l} {n = n} {k = k} a) = step_constant p q o l n k m r (value_read a)
-  at_Directive (d_routine {m = m} {k = k} {r = r} {p = p} {q = q} {o = o} {l = l} {j = j} {n = n} {ns = ns} {xs = xs} b a) = step_directive p (name n q ∷ m) (step_routine p q o l j n ns xs m k r (names_read m b refl) (at_Ss k a (bracket_stops l) d))
+  at_Directive (d_global_value {m = m} {r = r} {p = p} {q = q} {o = o} {l = l} {n = n} {k = k} a) = step_global_value
+      p q o l n k m r (value_read a)
+  at_Directive (d_constant {m = m} {r = r} {p = p} {q = q} {o = o} {l = l} {n = n} {k = k} a) = step_constant p q o l
+      n k m r (value_read a)
+  at_Directive
+      (d_routine {m = m} {k = k} {r = r} {p = p} {q = q} {o = o} {l = l} {j = j} {n = n} {ns = ns} {xs = xs} b a) =
+      step_directive p (name n q ∷ m)
+      (step_routine p q o l j n ns xs m k r (names_read m b refl) (at_Ss k a (bracket_stops l) d))
 
-  turns_Directives : {ts : List Lexeme} {xs : List DirectiveTree} {p : Position} → IsDirectives ts xs (end p ∷ []) → (n : ℕ) → length ts ≤ n → Limited (repeated goes_on (directive d) n ts) d (directives_nesting xs) xs (end p ∷ [])
+  turns_Directives : {ts : List Lexeme} {xs : List DirectiveTree} {p : Position} → IsDirectives ts xs (end p ∷ [])
+      → (n : ℕ) → length ts ≤ n → Limited (repeated goes_on (directive d) n ts) d (directives_nesting xs) xs
+      (end p ∷ [])
   turns_Directives {p = p} directives_stop n le = repeated_stop goes_on (directive d) d n (end p ∷ []) refl
   turns_Directives (directives_next a b) zero le = absurd (omega (arith, short_Directive a))
-  turns_Directives {ts} (directives_next a b) (suc n) le = repeated_next goes_on (directive d) d n ts (first_Directive a) (at_Directive a) (turns_Directives b n (omega (arith, short_Directive a)))
+  turns_Directives {ts} (directives_next a b) (suc n) le = repeated_next goes_on (directive d) d n ts
+      (first_Directive a) (at_Directive a) (turns_Directives b n (omega (arith, short_Directive a)))
 
-  at_Directives : {xs : List DirectiveTree} {p : Position} (ts : List Lexeme) → IsDirectives ts xs (end p ∷ []) → Limited (directives d ts) d (directives_nesting xs) xs (end p ∷ [])
+  at_Directives : {xs : List DirectiveTree} {p : Position} (ts : List Lexeme) → IsDirectives ts xs (end p ∷ [])
+      → Limited (directives d ts) d (directives_nesting xs) xs (end p ∷ [])
   unfolding directives
   at_Directives ts a = turns_Directives a (length ts) (omega arith)
 
 -- ---- programs
 
-pub within : (d : ℕ) {ts : List Lexeme} {p : ProgramTree} → IsProgram ts p → program_nesting p ≤ d → program d ts ≡ Ok p
+pub within : (d : ℕ) {ts : List Lexeme} {p : ProgramTree} → IsProgram ts p → program_nesting p ≤ d
+    → program d ts ≡ Ok p
 unfolding program
 within d {ts} (program_is a) le = rw ((at_Directives d ts a).within le) refl
 
-pub beyond : (d : ℕ) {ts : List Lexeme} {p : ProgramTree} → IsProgram ts p → d < program_nesting p → program d ts ≡ Err Deep
+pub beyond : (d : ℕ) {ts : List Lexeme} {p : ProgramTree} → IsProgram ts p → d < program_nesting p
+    → program d ts ≡ Err Deep
 unfolding program
 beyond d {ts} (program_is a) lt = rw ((at_Directives d ts a).beyond lt) refl

@@ -1,5 +1,6 @@
 -- The laws of the public calls.
-use Rattle.std.proofs.Common.{◌≡◌, ℕ, suc, ◌<◌, ◌≤◌, ◌⊎◌, max, List, [], ◌∷◌, Option, Some, None, Result, Ok, Err, refl, sym, ap, subst, ◌∙◌, inl, inr, arith}
+use Rattle.std.proofs.Common.{◌≡◌, ℕ, suc, ◌<◌, ◌≤◌, ◌⊎◌, max, List, [], ◌∷◌, Option, Some, None, Result, Ok, Err}
+use Rattle.std.proofs.Common.{refl, sym, ap, subst, ◌∙◌, inl, inr, arith}
 use Rattle.std.proofs.lemmas.Bool.{cases_lt}
 use Rattle.lexer.specs.declared.fault.SourceFault.{SourceFault}
 use Rattle.lexer.specs.declared.token.Position.{Position}
@@ -13,7 +14,8 @@ use Rattle.expressions.specs.Errors.{source_fault}
 use Rattle.expressions.specs.Parse.{◌>>=◌, Fails}
 use Rattle.syntax.specs.declared.tree.Program.{Program}
 use Rattle.syntax.specs.Tree.{DirectiveTree, ProgramTree, program_tree}
-use Rattle.syntax.specs.Grammar.{weight_of, IsDirectives, IsProgram, program as program_is, directives_nesting, program_nesting}
+use Rattle.syntax.specs.Grammar.{weight_of, IsDirectives, IsProgram, program as program_is, directives_nesting}
+use Rattle.syntax.specs.Grammar.{program_nesting}
 use Rattle.syntax.specs.Nesting.{DeepProgram}
 use Rattle.syntax.specs.Parse.{end_alone, whole, directives, program}
 use Rattle.syntax.proofs.Sound.{directives_judged}
@@ -27,20 +29,25 @@ done_is x y e = cc
 
 -- ---- what is read
 
-finished : (d : ℕ) (ts : List Lexeme) (xs : List DirectiveTree) (r : List Lexeme) (p : ProgramTree) → IsDirectives ts xs r → directives_nesting xs ≤ d → whole ts xs (end_alone r) ≡ Ok p → IsProgram ts p × (program_nesting p ≤ d)
+finished : (d : ℕ) (ts : List Lexeme) (xs : List DirectiveTree) (r : List Lexeme) (p : ProgramTree)
+    → IsDirectives ts xs r → directives_nesting xs ≤ d → whole ts xs (end_alone r) ≡ Ok p
+    → IsProgram ts p × (program_nesting p ≤ d)
 finished d ts xs (end q ∷ []) p a le e =
-    subst (λ x. IsProgram ts x × (program_nesting x ≤ d)) (done_is (record { directives = xs; end = q; weight = weight_of ts }) p e) (program_is a, le)
+    subst (λ x. IsProgram ts x × (program_nesting x ≤ d))
+    (done_is (record { directives = xs; end = q; weight = weight_of ts }) p e) (program_is a, le)
 finished d ts xs _ p a le e = absurd cc
 
 not_deep : (ts : List Lexeme) (xs : List DirectiveTree) (o : Option Position) → whole ts xs o ≡ Err Deep → ⊥
 not_deep ts xs (Some q) e = absurd cc
 not_deep ts xs None e = absurd cc
 
-pub found : (d : ℕ) (ts : List Lexeme) (p : ProgramTree) → program d ts ≡ Ok p → IsProgram ts p × (program_nesting p ≤ d)
+pub found : (d : ℕ) (ts : List Lexeme) (p : ProgramTree) → program d ts ≡ Ok p
+    → IsProgram ts p × (program_nesting p ≤ d)
 unfolding program
 found d ts p e = go (directives d ts) refl e
   where
-    go : (R : Result (List DirectiveTree × List Lexeme) Fault) → directives d ts ≡ R → (R >>= λ x. whole ts x.0 (end_alone x.1)) ≡ Ok p → IsProgram ts p × (program_nesting p ≤ d)
+    go : (R : Result (List DirectiveTree × List Lexeme) Fault) → directives d ts ≡ R
+        → (R >>= λ x. whole ts x.0 (end_alone x.1)) ≡ Ok p → IsProgram ts p × (program_nesting p ≤ d)
     go (Ok x) q h = let a = (directives_judged d ts).read x q in finished d ts x.0 x.1 p a.0 a.1 h
     go (Err f) q h = absurd cc
 
@@ -48,7 +55,8 @@ pub too_deep : (d : ℕ) (ts : List Lexeme) → program d ts ≡ Err Deep → De
 unfolding program
 too_deep d ts e = go (directives d ts) refl e
   where
-    go : (R : Result (List DirectiveTree × List Lexeme) Fault) → directives d ts ≡ R → (R >>= λ x. whole ts x.0 (end_alone x.1)) ≡ Err Deep → DeepProgram (suc d) ts
+    go : (R : Result (List DirectiveTree × List Lexeme) Fault) → directives d ts ≡ R
+        → (R >>= λ x. whole ts x.0 (end_alone x.1)) ≡ Err Deep → DeepProgram (suc d) ts
     go (Ok x) q h = absurd (not_deep ts x.0 (end_alone x.1) h)
     go (Err Grammar) q h = absurd cc
     go (Err Deep) q h = (directives_judged d ts).deep q
@@ -60,7 +68,8 @@ no_program d ts e p a =
       | inr le ↦ let never = sym e ∙ within d a le in let no : ⊥ = cc in no
     ]
 
-none_within : (d : ℕ) (ts : List Lexeme) → program d ts ≡ Err Deep → (p : ProgramTree) → IsProgram ts p → d < program_nesting p
+none_within : (d : ℕ) (ts : List Lexeme) → program d ts ≡ Err Deep → (p : ProgramTree) → IsProgram ts p
+    → d < program_nesting p
 none_within d ts e p a =
     elim (cases_lt d (program_nesting p)) [
       | inl lt ↦ lt
@@ -69,26 +78,31 @@ none_within d ts e p a =
 
 -- ---- the clauses, by what was returned
 
-pub err_grammar : (e : ParseError) (f : SourceFault) (ts : List Lexeme) → Fails e (program 100 ts) → f ≡ source_fault e → f.number ≡ 10 → (p : ProgramTree) → IsProgram ts p → ⊥
+pub err_grammar : (e : ParseError) (f : SourceFault) (ts : List Lexeme) → Fails e (program 100 ts)
+    → f ≡ source_fault e → f.number ≡ 10 → (p : ProgramTree) → IsProgram ts p → ⊥
 err_grammar errors.Memory f ts h is n = absurd (omega (arith, ap (λ (x : SourceFault). x.number) is))
 err_grammar (errors.Fault Grammar line) f ts h is n = no_program 100 ts h
 err_grammar (errors.Fault Deep line) f ts h is n = absurd (omega (arith, ap (λ (x : SourceFault). x.number) is))
 
-pub err_deep : (e : ParseError) (f : SourceFault) (ts : List Lexeme) → Fails e (program 100 ts) → f ≡ source_fault e → f.number ≡ 5 → DeepProgram 101 ts × ((p : ProgramTree) → IsProgram ts p → 100 < program_nesting p)
+pub err_deep : (e : ParseError) (f : SourceFault) (ts : List Lexeme) → Fails e (program 100 ts) → f ≡ source_fault e
+    → f.number ≡ 5 → DeepProgram 101 ts × ((p : ProgramTree) → IsProgram ts p → 100 < program_nesting p)
 err_deep errors.Memory f ts h is n = absurd (omega (arith, ap (λ (x : SourceFault). x.number) is))
 err_deep (errors.Fault Grammar line) f ts h is n = absurd (omega (arith, ap (λ (x : SourceFault). x.number) is))
 err_deep (errors.Fault Deep line) f ts h is n = (too_deep 100 ts h, none_within 100 ts h)
 
-pub err_only : (e : ParseError) (f : SourceFault) (ts : List Lexeme) → Fails e (program 100 ts) → f ≡ source_fault e → (p : ProgramTree) → IsProgram ts p → program_nesting p ≤ 100 → f ≡ no_memory
+pub err_only : (e : ParseError) (f : SourceFault) (ts : List Lexeme) → Fails e (program 100 ts) → f ≡ source_fault e
+    → (p : ProgramTree) → IsProgram ts p → program_nesting p ≤ 100 → f ≡ no_memory
 err_only errors.Memory f ts h is p a le = is
 err_only (errors.Fault g line) f ts h is p a le = let never = sym h ∙ within 100 a le in absurd cc
 
-pub err_numbers : (e : ParseError) (f : SourceFault) → f ≡ source_fault e → (f.number ≡ 5) ⊎ (f.number ≡ 10) ⊎ (f ≡ no_memory)
+pub err_numbers : (e : ParseError) (f : SourceFault) → f ≡ source_fault e
+    → (f.number ≡ 5) ⊎ (f.number ≡ 10) ⊎ (f ≡ no_memory)
 err_numbers errors.Memory f is = inr (inr is)
 err_numbers (errors.Fault Grammar line) f is = inr (inl (ap (λ (x : SourceFault). x.number) is))
 err_numbers (errors.Fault Deep line) f is = inl (ap (λ (x : SourceFault). x.number) is)
 
-pub ok_only : (q : Program) (ts : List Lexeme) → program 100 ts ≡ Ok (program_tree q) → (p : ProgramTree) → IsProgram ts p → program_nesting p ≤ 100 → program_tree q ≡ p
+pub ok_only : (q : Program) (ts : List Lexeme) → program 100 ts ≡ Ok (program_tree q) → (p : ProgramTree)
+    → IsProgram ts p → program_nesting p ≤ 100 → program_tree q ≡ p
 ok_only q ts h p a le = done_is (program_tree q) p (sym h ∙ within 100 a le)
 
 pub law_one : (ts : List Lexeme) (a b : ProgramTree) → IsProgram ts a → IsProgram ts b → a ≡ b

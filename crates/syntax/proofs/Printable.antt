@@ -5,11 +5,17 @@ use Rattle.std.proofs.lemmas.List.Elements.{All-nil, All-cons, All-head, All-tai
 use Rattle.lexer.specs.declared.token.Position.{Position}
 use Rattle.lexer.specs.Token.{Lexeme, text}
 use Rattle.lexer.specs.Printable.{IsPrintable, HasPrintableText}
-use Rattle.statements.specs.Tree.{ItemTree, StatementTree, StatementTrees}
-use Rattle.statements.specs.Grammar.{IsItem, item_text, item_character, item_number, IsItems, items_last, items_comma, IsS, s_empty, s_block, s_text, s_print, s_print_ret, s_new_line, s_if, s_if_else, s_while, s_return, s_return_value, s_rtrue, s_rfalse, s_quit, s_effect, IsSs, ss_stop, ss_next}
-use Rattle.syntax.specs.Tree.{ValueTree, DirectiveTree, ProgramTree}
-use Rattle.syntax.specs.Grammar.{IsK, k_number, k_negative, k_character, k_true, k_false, k_nothing, k_name, IsDirective, d_global, d_global_value, d_constant, d_routine, IsDirectives, directives_stop, directives_next, IsProgram, program}
-use Rattle.syntax.specs.Printable.{IsPrintableItem, IsPrintableStatement, ArePrintableStatements, IsPrintableDirective, HasPrintableTexts}
+use Rattle.statements.specs.Tree.{PrintItemTree, StatementTree, StatementTrees}
+use Rattle.statements.specs.Grammar.{IsItem, item_text, item_character, item_number, IsItems, items_last, items_comma}
+use Rattle.statements.specs.Grammar.{IsS, s_empty, s_block, s_text, s_print, s_print_ret, s_new_line, s_if, s_if_else}
+use Rattle.statements.specs.Grammar.{s_while, s_return, s_return_value, s_rtrue, s_rfalse, s_quit, s_effect, IsSs}
+use Rattle.statements.specs.Grammar.{ss_stop, ss_next}
+use Rattle.syntax.specs.Tree.{LiteralTree, DirectiveTree, ProgramTree}
+use Rattle.syntax.specs.Grammar.{IsK, k_number, k_negative, k_character, k_true, k_false, k_nothing, k_name}
+use Rattle.syntax.specs.Grammar.{IsDirective, d_global, d_global_value, d_constant, d_routine, IsDirectives}
+use Rattle.syntax.specs.Grammar.{directives_stop, directives_next, IsProgram, program}
+use Rattle.syntax.specs.Printable.{IsPrintableItem, IsPrintableStatement, ArePrintableStatements}
+use Rattle.syntax.specs.Printable.{IsPrintableDirective, HasPrintableTexts}
 use Rattle.syntax.specs.Laws.{PrintableTrees}
 use Rattle.syntax.proofs.Spelled.{Spelled, spelled_E, spelled_Item, spelled_S, spelled_Ss, spelled_Names}
 
@@ -31,14 +37,15 @@ rest {r = r} a h = behind_front a.front r (subst Prints a.at h)
 printed : {bytes : List ℕ} {p : Position} {ts : List Lexeme} → Prints (text bytes p ∷ ts) → All IsPrintable bytes
 printed {bytes} {p} {ts} h = All-head HasPrintableText (text bytes p) ts h.all
 
-item_prints : {ts r : List Lexeme} {i : ItemTree} → IsItem ts i r → Prints ts → IsPrintableItem i
+item_prints : {ts r : List Lexeme} {i : PrintItemTree} → IsItem ts i r → Prints ts → IsPrintableItem i
 item_prints item_text h = printed h
 item_prints (item_character a) h = tt
 item_prints (item_number a) h = tt
 
-items_print : {ts r : List Lexeme} {is : List ItemTree} → IsItems ts is r → Prints ts → All IsPrintableItem is
+items_print : {ts r : List Lexeme} {is : List PrintItemTree} → IsItems ts is r → Prints ts → All IsPrintableItem is
 items_print (items_last {i = i} a) h = All-cons IsPrintableItem i [] (item_prints a h) (All-nil IsPrintableItem)
-items_print (items_comma {i = i} {is = is} a b) h = All-cons IsPrintableItem i is (item_prints a h) (items_print b (after (rest (spelled_Item a) h)))
+items_print (items_comma {i = i} {is = is} a b) h = All-cons IsPrintableItem i is (item_prints a h)
+    (items_print b (after (rest (spelled_Item a) h)))
 
 mutual
   statement_prints : {ts r : List Lexeme} {x : StatementTree} → IsS ts x r → Prints ts → IsPrintableStatement x
@@ -64,7 +71,7 @@ mutual
   statements_print ss_stop h = tt
   statements_print (ss_next a b) h = (statement_prints a h, statements_print b (rest (spelled_S a) h))
 
-after_value : {ts r : List Lexeme} {k : ValueTree} → IsK ts k r → Prints ts → Prints r
+after_value : {ts r : List Lexeme} {k : LiteralTree} → IsK ts k r → Prints ts → Prints r
 after_value k_number h = after h
 after_value k_negative h = after (after h)
 after_value k_character h = after h
@@ -83,11 +90,14 @@ after_directive : {ts r : List Lexeme} {d : DirectiveTree} → IsDirective ts d 
 after_directive d_global h = after (after (after h))
 after_directive (d_global_value a) h = after (after_value a (after (after (after h))))
 after_directive (d_constant a) h = after (after_value a (after (after (after h))))
-after_directive (d_routine a b) h = after (after (rest (spelled_Ss b) (after (rest (spelled_Names a) (after (after h))))))
+after_directive (d_routine a b) h = after
+    (after (rest (spelled_Ss b) (after (rest (spelled_Names a) (after (after h))))))
 
-directives_print : {ts r : List Lexeme} {ds : List DirectiveTree} → IsDirectives ts ds r → Prints ts → All IsPrintableDirective ds
+directives_print : {ts r : List Lexeme} {ds : List DirectiveTree} → IsDirectives ts ds r → Prints ts
+    → All IsPrintableDirective ds
 directives_print directives_stop h = All-nil IsPrintableDirective
-directives_print (directives_next {d = d} {ds = ds} a b) h = All-cons IsPrintableDirective d ds (directive_prints a h) (directives_print b (after_directive a h))
+directives_print (directives_next {d = d} {ds = ds} a b) h = All-cons IsPrintableDirective d ds
+    (directive_prints a h) (directives_print b (after_directive a h))
 
 program_prints : {ts : List Lexeme} {p : ProgramTree} → IsProgram ts p → Prints ts → HasPrintableTexts p
 program_prints (program a) h = directives_print a h

@@ -18,7 +18,13 @@ the text = record { text = text; position = p }
 
 -- [ Main a; print "no", a; ];
 abbrev main : DirectiveTree
-main = routine (record { name = the (codes "Main"); locals = the (codes "a") ∷ []; body = next (print (text_item (codes "no") ∷ number_item p (named (the (codes "a"))) ∷ [])) stop; weight = 358 })
+main = routine
+    (record {
+      name = the (codes "Main");
+      locals = the (codes "a") ∷ [];
+      body = next (print (text_item (codes "no") ∷ number_item p (named (the (codes "a"))) ∷ [])) stop;
+      weight = 358;
+    })
 
 -- 11 tokens, and 2 bytes of a text
 main_weighed : IsWeighed main

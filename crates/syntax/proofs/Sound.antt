@@ -1,6 +1,7 @@
--- What is read derives in the grammar and is nested no deeper than was allowed; and where the fault is that a token stands
--- too deep, one does.
-use Rattle.std.proofs.Common.{◌≡◌, ℕ, suc, ◌-◌, ◌%◌, ◌≤◌, List, ◌∷◌, length, Some, None, refl, sym, ap, subst, ◌∙◌, arith}
+-- What is read derives in the grammar and is nested no deeper than was allowed; and where the fault is that a token
+-- stands too deep, one does.
+use Rattle.std.proofs.Common.{◌≡◌, ℕ, suc, ◌-◌, ◌%◌, ◌≤◌, List, ◌∷◌, length, Some, None, refl, sym, ap, subst, ◌∙◌}
+use Rattle.std.proofs.Common.{arith}
 use Rattle.lexer.specs.declared.token.Position.{Position}
 use Rattle.lexer.specs.declared.token.Sign.TheVariants as s
 use Rattle.lexer.specs.declared.token.Word.TheVariants as w
@@ -12,9 +13,13 @@ use Rattle.statements.specs.Tree.{trees_of}
 use Rattle.statements.specs.Grammar.{IsSs, body_nesting}
 use Rattle.statements.proofs.Sound.{repeated_judged, judged_Ss}
 use Rattle.syntax.specs.Tree.{number_value, named_value, DirectiveTree, global, constant, routine}
-use Rattle.syntax.specs.Grammar.{weight_of, IsK, k_number, k_negative, k_character, k_true, k_false, k_nothing, k_name, IsNames, names_stop, names_next, IsDirective, d_global, d_global_value, d_constant, d_routine, IsDirectives, directives_stop, directives_next, directive_nesting, directives_nesting}
+use Rattle.syntax.specs.Grammar.{weight_of, IsK, k_number, k_negative, k_character, k_true, k_false, k_nothing}
+use Rattle.syntax.specs.Grammar.{k_name, IsNames, names_stop, names_next, IsDirective, d_global, d_global_value}
+use Rattle.syntax.specs.Grammar.{d_constant, d_routine, IsDirectives, directives_stop, directives_next}
+use Rattle.syntax.specs.Grammar.{directive_nesting, directives_nesting}
 use Rattle.syntax.specs.Nesting.{DeepDirective, deep_d_routine, DeepProgram, deep_program_first, deep_program_next}
-use Rattle.syntax.specs.Parse.{named, is_name, names, value, ended, global_behind, constant_behind, goes_on, routine_at, directive, directives}
+use Rattle.syntax.specs.Parse.{named, is_name, names, value, ended, global_behind, constant_behind, goes_on}
+use Rattle.syntax.specs.Parse.{routine_at, directive, directives}
 
 -- ---- names and values: in them no token stands too deep
 
@@ -26,7 +31,8 @@ named_judged _ = judged_grammar
 pub names_judged : (ts : List Lexeme) → Judged (λ ns r. IsNames ts ns r) ⊥ (names ts)
 unfolding names
 names_judged ts =
-    repeated_judged is_name named (λ us n r. us ≡ name n.text n.position ∷ r) (λ us ns r. IsNames us ns r) (λ us. ⊥) (λ us. ⊥)
+    repeated_judged is_name named (λ us n r. us ≡ name n.text n.position ∷ r) (λ us ns r. IsNames us ns r) (λ us. ⊥)
+    (λ us. ⊥)
     (λ r. names_stop)
     (λ us n m ns r q l. subst (λ v. IsNames v (n ∷ ns) r) (sym q) (names_next l))
     (λ us e x. x)
@@ -46,7 +52,8 @@ value_judged _ = judged_grammar
 
 -- ---- directives
 
-ended_judged : {P : DirectiveTree → List Lexeme → Type 0} {C : Type 0} (x : DirectiveTree) (ts : List Lexeme) → ((p : Position) (r : List Lexeme) → ts ≡ sign s.Semicolon p ∷ r → P x r) → Judged P C (ended x ts)
+ended_judged : {P : DirectiveTree → List Lexeme → Type 0} {C : Type 0} (x : DirectiveTree) (ts : List Lexeme)
+    → ((p : Position) (r : List Lexeme) → ts ≡ sign s.Semicolon p ∷ r → P x r) → Judged P C (ended x ts)
 unfolding ended
 ended_judged x ts make =
     judged_after (expect s.Semicolon ts) _
@@ -54,7 +61,9 @@ ended_judged x ts make =
     (λ e. absurd (expect_not_deep s.Semicolon ts e))
 
 module _ (d : ℕ) where
-  global_judged : (p : Position) (ts : List Lexeme) → Judged (λ x r. IsDirective (reserved w.Global p ∷ ts) x r × (directive_nesting x ≤ d)) (DeepDirective (suc d) (reserved w.Global p ∷ ts)) (global_behind ts)
+  global_judged : (p : Position) (ts : List Lexeme)
+      → Judged (λ x r. IsDirective (reserved w.Global p ∷ ts) x r × (directive_nesting x ≤ d))
+      (DeepDirective (suc d) (reserved w.Global p ∷ ts)) (global_behind ts)
   unfolding global_behind
   global_judged p ts =
       judged_then _ (named_judged ts)
@@ -62,12 +71,24 @@ module _ (d : ℕ) where
       (λ e.
       let at = q ∙ ap (λ u. name n.text n.position ∷ u) (at_sign s.Assign r e) in
       judged_then _ (value_judged (tail r))
-      (λ k u h. ended_judged (global n (Some k)) u (λ l v x. (subst (λ us. IsDirective (reserved w.Global p ∷ us) (global n (Some k)) v) (sym at) (d_global_value (subst (λ y. IsK (tail r) k y) x h)), omega arith)))
+      (λ k u h. ended_judged (global n (Some k)) u
+      (λ l v x. (
+        subst (λ us. IsDirective (reserved w.Global p ∷ us) (global n (Some k)) v) (sym at)
+            (d_global_value (subst (λ y. IsK (tail r) k y) x h)),
+        omega arith,
+      )))
       (λ x. absurd x))
-      (λ e. ended_judged (global n None) r (λ l v x. (subst (λ us. IsDirective (reserved w.Global p ∷ us) (global n None) v) (sym (q ∙ ap (λ u. name n.text n.position ∷ u) x)) d_global, omega arith))))
+      (λ e. ended_judged (global n None) r
+      (λ l v x. (
+        subst (λ us. IsDirective (reserved w.Global p ∷ us) (global n None) v)
+            (sym (q ∙ ap (λ u. name n.text n.position ∷ u) x)) d_global,
+        omega arith,
+      ))))
       (λ x. absurd x)
 
-  constant_judged : (p : Position) (ts : List Lexeme) → Judged (λ x r. IsDirective (reserved w.Constant p ∷ ts) x r × (directive_nesting x ≤ d)) (DeepDirective (suc d) (reserved w.Constant p ∷ ts)) (constant_behind ts)
+  constant_judged : (p : Position) (ts : List Lexeme)
+      → Judged (λ x r. IsDirective (reserved w.Constant p ∷ ts) x r × (directive_nesting x ≤ d))
+      (DeepDirective (suc d) (reserved w.Constant p ∷ ts)) (constant_behind ts)
   unfolding constant_behind
   constant_judged p ts =
       judged_then _ (named_judged ts)
@@ -75,12 +96,19 @@ module _ (d : ℕ) where
       (λ m e.
       let at = q ∙ ap (λ u. name n.text n.position ∷ u) (expect_ok s.Assign r m e) in
       judged_then _ (value_judged m)
-      (λ k u h. ended_judged (constant n k) u (λ l v x. (subst (λ us. IsDirective (reserved w.Constant p ∷ us) (constant n k) v) (sym at) (d_constant (subst (λ y. IsK m k y) x h)), omega arith)))
+      (λ k u h. ended_judged (constant n k) u
+      (λ l v x. (
+        subst (λ us. IsDirective (reserved w.Constant p ∷ us) (constant n k) v) (sym at)
+            (d_constant (subst (λ y. IsK m k y) x h)),
+        omega arith,
+      )))
       (λ x. absurd x))
       (λ e. absurd (expect_not_deep s.Assign r e)))
       (λ x. absurd x)
 
-  routine_judged : (p : Position) (ts : List Lexeme) → Judged (λ x r. IsDirective (sign s.OpenBracket p ∷ ts) (routine x) r × (body_nesting x.body ≤ d)) (DeepDirective (suc d) (sign s.OpenBracket p ∷ ts)) (routine_at d (sign s.OpenBracket p ∷ ts))
+  routine_judged : (p : Position) (ts : List Lexeme)
+      → Judged (λ x r. IsDirective (sign s.OpenBracket p ∷ ts) (routine x) r × (body_nesting x.body ≤ d))
+      (DeepDirective (suc d) (sign s.OpenBracket p ∷ ts)) (routine_at d (sign s.OpenBracket p ∷ ts))
   unfolding routine_at
   routine_judged p ts =
       judged_then _ (named_judged ts)
@@ -92,9 +120,20 @@ module _ (d : ℕ) where
       (λ xs c h. judged_after (expect s.CloseBracket c) _
       (λ u f. judged_after (expect s.Semicolon u) _
       (λ r g.
-      let closed = expect_ok s.CloseBracket c u f ∙ ap (λ v. sign s.CloseBracket (position_of (head c)) ∷ v) (expect_ok s.Semicolon u r g) in
-      judged_read _ r
-      (subst (λ us. IsDirective (sign s.OpenBracket p ∷ us) (routine (record { name = n; locals = ns; body = trees_of xs; weight = weight_of (sign s.OpenBracket p ∷ us) - weight_of r })) r) (sym q) (d_routine locals (subst (λ v. IsSs m (trees_of xs) v) closed h.0)), h.1))
+      let closed = expect_ok s.CloseBracket c u f
+      ∙ ap (λ v. sign s.CloseBracket (position_of (head c)) ∷ v) (expect_ok s.Semicolon u r g) in
+      judged_read _ r (
+        subst (λ us. IsDirective (sign s.OpenBracket p ∷ us)
+            (routine
+            (record {
+              name = n;
+              locals = ns;
+              body = trees_of xs;
+              weight = weight_of (sign s.OpenBracket p ∷ us) - weight_of r;
+            })) r) (sym q)
+            (d_routine locals (subst (λ v. IsSs m (trees_of xs) v) closed h.0)),
+        h.1,
+      ))
       (λ g. absurd (expect_not_deep s.Semicolon u g)))
       (λ f. absurd (expect_not_deep s.CloseBracket c f)))
       (λ x. subst (λ us. DeepDirective (suc d) (sign s.OpenBracket p ∷ us)) (sym q) (deep_d_routine locals x)))
@@ -102,17 +141,22 @@ module _ (d : ℕ) where
       (λ x. absurd x))
       (λ x. absurd x)
 
-  directive_judged : (ts : List Lexeme) → Judged (λ x r. IsDirective ts x r × (directive_nesting x ≤ d)) (DeepDirective (suc d) ts) (directive d ts)
+  directive_judged : (ts : List Lexeme) → Judged (λ x r. IsDirective ts x r × (directive_nesting x ≤ d))
+      (DeepDirective (suc d) ts) (directive d ts)
   unfolding directive
   directive_judged (reserved w.Global p ∷ ts) = global_judged p ts
   directive_judged (reserved w.Constant p ∷ ts) = constant_judged p ts
-  directive_judged (sign s.OpenBracket p ∷ ts) = judged_then _ (routine_judged p ts) (λ x r h. judged_read (routine x) r h) (λ x. x)
+  directive_judged (sign s.OpenBracket p ∷ ts) = judged_then _ (routine_judged p ts)
+      (λ x r h. judged_read (routine x) r h) (λ x. x)
   directive_judged _ = judged_grammar
 
-  pub directives_judged : (ts : List Lexeme) → Judged (λ xs r. IsDirectives ts xs r × (directives_nesting xs ≤ d)) (DeepProgram (suc d) ts) (directives d ts)
+  pub directives_judged : (ts : List Lexeme) → Judged (λ xs r. IsDirectives ts xs r × (directives_nesting xs ≤ d))
+      (DeepProgram (suc d) ts) (directives d ts)
   unfolding directives
   directives_judged ts =
-      repeated_judged goes_on (directive d) (λ us x r. IsDirective us x r × (directive_nesting x ≤ d)) (λ us xs r. IsDirectives us xs r × (directives_nesting xs ≤ d)) (DeepDirective (suc d)) (DeepProgram (suc d))
+      repeated_judged goes_on (directive d) (λ us x r. IsDirective us x r × (directive_nesting x ≤ d))
+      (λ us xs r. IsDirectives us xs r × (directives_nesting xs ≤ d)) (DeepDirective (suc d))
+      (DeepProgram (suc d))
       (λ r. (directives_stop, omega arith))
       (λ us x m xs r q l. (directives_next q.0 l.0, omega (arith, q.1, l.1)))
       (λ us e x. deep_program_first x)

@@ -4,7 +4,8 @@ use Rattle.std.specs.List.{All}
 use Rattle.std.proofs.lemmas.List.Elements.{All-nil, All-cons}
 use Rattle.lexer.specs.Token.{Lexeme}
 use Rattle.syntax.specs.Tree.{DirectiveTree, ProgramTree}
-use Rattle.syntax.specs.Grammar.{IsDirective, d_global, d_global_value, d_constant, d_routine, IsDirectives, directives_stop, directives_next, IsProgram, program}
+use Rattle.syntax.specs.Grammar.{IsDirective, d_global, d_global_value, d_constant, d_routine, IsDirectives}
+use Rattle.syntax.specs.Grammar.{directives_stop, directives_next, IsProgram, program}
 use Rattle.syntax.specs.Laws.{IsWeighed, WeighedRoutines}
 use Rattle.syntax.proofs.Spelled.{spelled_Names, weighs, weight_Ss}
 
@@ -16,7 +17,8 @@ directive_weighed (d_routine a b) = omega (arith, weighs (spelled_Names a), weig
 
 directives_weighed : {ts r : List Lexeme} {ds : List DirectiveTree} → IsDirectives ts ds r → All IsWeighed ds
 directives_weighed directives_stop = All-nil IsWeighed
-directives_weighed (directives_next {d = d} {ds = ds} a b) = All-cons IsWeighed d ds (directive_weighed a) (directives_weighed b)
+directives_weighed (directives_next {d = d} {ds = ds} a b) = All-cons IsWeighed d ds (directive_weighed a)
+    (directives_weighed b)
 
 program_weighed : {ts : List Lexeme} {p : ProgramTree} → IsProgram ts p → All IsWeighed p.directives
 program_weighed (program a) = directives_weighed a

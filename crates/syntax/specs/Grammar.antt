@@ -8,7 +8,8 @@ use Rattle.lexer.specs.Token.{Lexeme, name, number, text, character, reserved, s
 use Rattle.expressions.specs.Tree.{NameTree}
 use Rattle.statements.specs.Tree.{StatementTrees}
 use Rattle.statements.specs.Grammar.{IsSs, body_nesting}
-use Rattle.syntax.specs.Tree.{ValueTree, number_value, named_value, DirectiveTree, global, constant, routine, ProgramTree}
+use Rattle.syntax.specs.Tree.{LiteralTree, number_value, named_value, DirectiveTree, global, constant, routine}
+use Rattle.syntax.specs.Tree.{ProgramTree}
 
 -- The weight of tokens: 32 for each but the end, and 3 for each byte between the quotes of a text
 
@@ -22,7 +23,7 @@ weight_of [] = 0
 weight_of (t ∷ ts) = token_weight t + weight_of ts
 
 -- K = ["-"] number | char | name | "true" | "false" | "nothing"
-pub data IsK : List Lexeme → ValueTree → List Lexeme → Type 0 where
+pub data IsK : List Lexeme → LiteralTree → List Lexeme → Type 0 where
   k_number : {r : List Lexeme} {p : Position} {n : ℕ} → IsK (number n p ∷ r) (number_value n) r
   k_negative : {r : List Lexeme} {p q : Position} {n : ℕ}
       → IsK (sign s.Minus p ∷ number n q ∷ r) (number_value ((65536 - n) % 65536)) r
@@ -42,13 +43,16 @@ pub data IsNames : List Lexeme → List NameTree → List Lexeme → Type 0 wher
 -- Directive = "global" name ["=" K] ";" | "constant" name "=" K ";" | "[" name {name} ";" {S} "]" ";"
 pub data IsDirective : List Lexeme → DirectiveTree → List Lexeme → Type 0 where
   d_global : {r : List Lexeme} {p q o : Position} {n : List ℕ}
-      → IsDirective (reserved w.Global p ∷ name n q ∷ sign s.Semicolon o ∷ r) (global (record { text = n; position = q }) None) r
-  d_global_value : {m r : List Lexeme} {p q o l : Position} {n : List ℕ} {k : ValueTree}
+      → IsDirective (reserved w.Global p ∷ name n q ∷ sign s.Semicolon o ∷ r)
+      (global (record { text = n; position = q }) None) r
+  d_global_value : {m r : List Lexeme} {p q o l : Position} {n : List ℕ} {k : LiteralTree}
       → IsK m k (sign s.Semicolon l ∷ r)
-      → IsDirective (reserved w.Global p ∷ name n q ∷ sign s.Assign o ∷ m) (global (record { text = n; position = q }) (Some k)) r
-  d_constant : {m r : List Lexeme} {p q o l : Position} {n : List ℕ} {k : ValueTree}
+      → IsDirective (reserved w.Global p ∷ name n q ∷ sign s.Assign o ∷ m)
+      (global (record { text = n; position = q }) (Some k)) r
+  d_constant : {m r : List Lexeme} {p q o l : Position} {n : List ℕ} {k : LiteralTree}
       → IsK m k (sign s.Semicolon l ∷ r)
-      → IsDirective (reserved w.Constant p ∷ name n q ∷ sign s.Assign o ∷ m) (constant (record { text = n; position = q }) k) r
+      → IsDirective (reserved w.Constant p ∷ name n q ∷ sign s.Assign o ∷ m)
+      (constant (record { text = n; position = q }) k) r
   d_routine : {m k r : List Lexeme} {p q o l j : Position} {n : List ℕ} {ns : List NameTree} {xs : StatementTrees}
       → IsNames m ns (sign s.Semicolon o ∷ k) → IsSs k xs (sign s.CloseBracket l ∷ sign s.Semicolon j ∷ r)
       → IsDirective (sign s.OpenBracket p ∷ name n q ∷ m) (routine (record {

@@ -1,9 +1,9 @@
--- How deep tokens stand in programs: a relation between a number and the tokens from a place on, with one case for each
--- place at which a part can stand.
+-- How deep tokens stand in programs: a relation between a number and the tokens from a place on, with one case for
+-- each place at which a part can stand.
 --
--- DeepProgram n ts: directives that begin at ts can be read as far as a token that stands n nestings deep in one of them.
--- What lies before that token in its parts is complete. The brackets of a routine are no nesting, nor is a statement
--- directly in it.
+-- DeepProgram n ts: directives that begin at ts can be read as far as a token that stands n nestings deep in one of
+-- them. What lies before that token in its parts is complete. The brackets of a routine are no nesting, nor is a
+-- statement directly in it.
 use Rattle.std.specs.Prelude.{ℕ, List, ◌∷◌}
 use Rattle.lexer.specs.declared.token.Position.{Position}
 use Rattle.lexer.specs.declared.token.Sign.TheVariants as s

@@ -1,5 +1,7 @@
--- Words of proofs: programs, read from left to right: functions from a list of tokens to a tree and the tokens after it.
-use Rattle.std.specs.Prelude.{◌-◌, ◌%◌, if◌then◌else◌, Bool, true, false, ℕ, List, [], ◌∷◌, length, Option, Some, None, Result, Ok, Err}
+-- Words of proofs: programs, read from left to right: functions from a list of tokens to a tree and the tokens after
+-- it.
+use Rattle.std.specs.Prelude.{◌-◌, ◌%◌, if◌then◌else◌, Bool, true, false, ℕ, List, [], ◌∷◌, length, Option, Some}
+use Rattle.std.specs.Prelude.{None, Result, Ok, Err}
 use Rattle.lexer.specs.declared.token.Position.{Position}
 use Rattle.lexer.specs.declared.token.Sign.TheVariants as s
 use Rattle.lexer.specs.declared.token.Word.TheVariants as w
@@ -10,7 +12,8 @@ use Rattle.expressions.specs.Tree.{NameTree}
 use Rattle.expressions.specs.Parse.{Parse, ◌>>=◌, head, tail, is_sign, expect}
 use Rattle.statements.specs.Tree.{trees_of}
 use Rattle.statements.specs.Parse.{repeated, statements}
-use Rattle.syntax.specs.Tree.{ValueTree, number_value, named_value, RoutineTree, DirectiveTree, global, constant, routine, ProgramTree}
+use Rattle.syntax.specs.Tree.{LiteralTree, number_value, named_value, RoutineTree, DirectiveTree, global, constant}
+use Rattle.syntax.specs.Tree.{routine, ProgramTree}
 use Rattle.syntax.specs.Grammar.{weight_of}
 
 -- ---- names and values
@@ -29,11 +32,11 @@ is_name _ = false
 unfoldable pub names : Parse (List NameTree)
 names ts = repeated is_name named (length ts) ts
 
-abbrev pub negative_on : Lexeme → Parse ValueTree
+abbrev pub negative_on : Lexeme → Parse LiteralTree
 negative_on (number n p) ts = Ok (number_value ((65536 - n) % 65536), ts)
 negative_on _ ts = Err Grammar
 
-abbrev pub value_on : Lexeme → Parse ValueTree
+abbrev pub value_on : Lexeme → Parse LiteralTree
 value_on (number n p) ts = Ok (number_value n, ts)
 value_on (character c p) ts = Ok (number_value c, ts)
 value_on (reserved w.True p) ts = Ok (number_value 1, ts)
@@ -43,7 +46,7 @@ value_on (name n p) ts = Ok (named_value (record { text = n; position = p }), ts
 value_on (sign s.Minus p) ts = negative_on (head ts) (tail ts)
 value_on _ ts = Err Grammar
 
-unfoldable pub value : Parse ValueTree
+unfoldable pub value : Parse LiteralTree
 value ts = value_on (head ts) (tail ts)
 
 -- ---- directives, behind their first token

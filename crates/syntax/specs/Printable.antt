@@ -1,10 +1,11 @@
 -- Programs whose texts print: each of their bytes is one of 32 to 126.
 use Rattle.std.specs.List.{All}
 use Rattle.lexer.specs.Printable.{IsPrintable}
-use Rattle.statements.specs.Tree.{ItemTree, text_item, StatementTree, StatementTrees, block, text_alone, print, print_return, if_then, if_else, while_do, stop, next}
+use Rattle.statements.specs.Tree.{PrintItemTree, text_item, StatementTree, StatementTrees, block, text_alone, print}
+use Rattle.statements.specs.Tree.{print_return, if_then, if_else, while_do, stop, next}
 use Rattle.syntax.specs.Tree.{DirectiveTree, routine, ProgramTree}
 
-abbrev pub IsPrintableItem : ItemTree → Type 0
+abbrev pub IsPrintableItem : PrintItemTree → Type 0
 IsPrintableItem (text_item bytes) = All IsPrintable bytes
 IsPrintableItem _ = Unit {0}
 

@@ -3,16 +3,16 @@ use Rattle.std.specs.Prelude.{ℕ, List, map, Option, Some, None}
 use Rattle.lexer.specs.declared.token.Position.{Position}
 use Rattle.expressions.specs.Tree.{NameTree, name_tree}
 use Rattle.statements.specs.Tree.{StatementTrees, statement_tree, trees_of}
-use Rattle.syntax.specs.declared.tree.Value.{Value}
-use Rattle.syntax.specs.declared.tree.Value.TheVariants as values
+use Rattle.syntax.specs.declared.tree.Literal.{Literal}
+use Rattle.syntax.specs.declared.tree.Literal.TheVariants as values
 use Rattle.syntax.specs.declared.tree.Routine.{Routine}
 use Rattle.syntax.specs.declared.tree.Directive.{Directive}
 use Rattle.syntax.specs.declared.tree.Directive.TheVariants as directives
 use Rattle.syntax.specs.declared.tree.Program.{Program}
 
-pub data ValueTree : Type 0 where
-  number_value : ℕ → ValueTree
-  named_value : NameTree → ValueTree
+pub data LiteralTree : Type 0 where
+  number_value : ℕ → LiteralTree
+  named_value : NameTree → LiteralTree
 
 pub record RoutineTree : Type 0 where
   pub name : NameTree
@@ -21,8 +21,8 @@ pub record RoutineTree : Type 0 where
   pub weight : ℕ
 
 pub data DirectiveTree : Type 0 where
-  global : NameTree → Option ValueTree → DirectiveTree
-  constant : NameTree → ValueTree → DirectiveTree
+  global : NameTree → Option LiteralTree → DirectiveTree
+  constant : NameTree → LiteralTree → DirectiveTree
   routine : RoutineTree → DirectiveTree
 
 pub record ProgramTree : Type 0 where
@@ -32,21 +32,26 @@ pub record ProgramTree : Type 0 where
 
 -- The tree of a program of the code
 
-abbrev pub value_tree : Value → ValueTree
-value_tree (values.Number n) = number_value n
-value_tree (values.Named n) = named_value (name_tree n)
+abbrev pub literal_tree : Literal → LiteralTree
+literal_tree (values.Number n) = number_value n
+literal_tree (values.Named n) = named_value (name_tree n)
 
-abbrev pub optional_tree : Option Value → Option ValueTree
+abbrev pub optional_tree : Option Literal → Option LiteralTree
 optional_tree None = None
-optional_tree (Some v) = Some (value_tree v)
+optional_tree (Some v) = Some (literal_tree v)
 
 abbrev pub routine_tree : Routine → RoutineTree
 routine_tree r =
-    record { name = name_tree r.name; locals = map name_tree r.locals.items; body = trees_of (map statement_tree r.body.items); weight = r.weight }
+    record {
+      name = name_tree r.name;
+      locals = map name_tree r.locals.items;
+      body = trees_of (map statement_tree r.body.items);
+      weight = r.weight;
+    }
 
 abbrev pub directive_tree : Directive → DirectiveTree
 directive_tree (directives.Global n v) = global (name_tree n) (optional_tree v)
-directive_tree (directives.Constant n v) = constant (name_tree n) (value_tree v)
+directive_tree (directives.Constant n v) = constant (name_tree n) (literal_tree v)
 directive_tree (directives.Routine r) = routine (routine_tree r)
 
 abbrev pub program_tree : Program → ProgramTree

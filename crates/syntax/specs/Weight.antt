@@ -1,8 +1,12 @@
 -- The weight of a tree: that of the tokens it was read from. Each token weighs 32, and each byte of a text 3 more. An
 -- argument, a value of a comparison and an item count one token more, which stands before or after it.
 use Rattle.std.specs.Prelude.{◌+◌, ◌*◌, ℕ, List, [], ◌∷◌, length}
-use Rattle.expressions.specs.Tree.{ExpressionTree, ExpressionTrees, constant, named, call, parenthesised, prefixed, step_before, step_after, binary, compare, equal, assign, none, more}
-use Rattle.statements.specs.Tree.{ItemTree, text_item, character_item, number_item, StatementTree, StatementTrees, empty, block, text_alone, print, print_return, new_line, if_then, if_else, while_do, return_alone, return_value, return_true, return_false, quit, effect, stop, next}
+use Rattle.expressions.specs.Tree.{ExpressionTree, ExpressionTrees, constant, named, call, parenthesised, prefixed}
+use Rattle.expressions.specs.Tree.{step_before, step_after, binary, compare, equal, assign, none, more}
+use Rattle.statements.specs.Tree.{PrintItemTree, text_item, character_item, number_item, StatementTree}
+use Rattle.statements.specs.Tree.{StatementTrees, empty, block, text_alone, print, print_return, new_line, if_then}
+use Rattle.statements.specs.Tree.{if_else, while_do, return_alone, return_value, return_true, return_false, quit}
+use Rattle.statements.specs.Tree.{effect, stop, next}
 
 abbrev mutual
   pub expression_weight : ExpressionTree → ℕ
@@ -23,12 +27,12 @@ abbrev mutual
   expression_weights none = 0
   expression_weights (more e es) = expression_weight e + 32 + expression_weights es
 
-abbrev pub item_weight : ItemTree → ℕ
+abbrev pub item_weight : PrintItemTree → ℕ
 item_weight (text_item bytes) = 32 + 3 * length bytes
 item_weight (character_item p e) = 96 + expression_weight e
 item_weight (number_item p e) = expression_weight e
 
-abbrev pub item_weights : List ItemTree → ℕ
+abbrev pub item_weights : List PrintItemTree → ℕ
 item_weights [] = 0
 item_weights (i ∷ is) = item_weight i + 32 + item_weights is
 

@@ -12,5 +12,5 @@ pub use expressions::{Binary, Comparison, Equality, Expression, Name, Prefix, St
 pub use laws::{printable_trees, weighed_routines};
 pub use lexer::{Kind, Position, Sign, SourceFault, Token, Word, lex};
 pub use program::{one_tree, parse};
-pub use statements::{Item, Statement};
-pub use tree::{Directive, Program, Routine, Value};
+pub use statements::{PrintItem, Statement};
+pub use tree::{Directive, Literal, Program, Routine};

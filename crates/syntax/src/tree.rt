@@ -6,7 +6,7 @@ use statements::Statement;
 
 /// A value that is known before a story runs.
 #[derive(Clone, Copy)]
-pub enum Value<'a> {
+pub enum Literal<'a> {
     /// A number, with its sign as a word; a character; `true` is 1, `false` and `nothing` are 0.
     Number(u16),
 
@@ -29,10 +29,10 @@ pub struct Routine<'a> {
 #[derive(Drop)]
 pub enum Directive<'a> {
     /// A global variable, and the value that it begins with; 0 where none is given.
-    Global(Name<'a>, Option<Value<'a>>),
+    Global(Name<'a>, Option<Literal<'a>>),
 
     /// A name for a value.
-    Constant(Name<'a>, Value<'a>),
+    Constant(Name<'a>, Literal<'a>),
 
     Routine(Routine<'a>),
 }

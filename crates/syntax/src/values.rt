@@ -4,10 +4,10 @@ ghost use Rattle.std.specs.Prelude.{◌≡◌, map, MatchOption, false};
 ghost use Rattle.lexer.specs.Token.{lexeme, lexemes, name};
 ghost use Rattle.expressions.specs.Tree.{name_tree};
 ghost use Rattle.expressions.specs.Parse.{Gives, head, tail};
-ghost use Rattle.syntax.specs.Tree.{value_tree};
+ghost use Rattle.syntax.specs.Tree.{literal_tree};
 ghost use Rattle.syntax.specs.Parse as spec;
 
-use crate::tree::Value;
+use crate::tree::Literal;
 use expressions::{Fault, Name, ParseError, fault_at, peek, skip};
 use lexer::{Kind, Sign, Token, Word};
 use std::alloc::Global;
@@ -65,12 +65,12 @@ pub fn names<'t, 'a>(
 }
 
 // The number behind a `-`.
-fn negative<'t, 'a>(tokens: &'t [Token<'a>]) -> Result<(Value<'a>, &'t [Token<'a>]), ParseError>
-    ensures { Gives (λ x. (value_tree x.0, lexemes x.1.now)) result
+fn negative<'t, 'a>(tokens: &'t [Token<'a>]) -> Result<(Literal<'a>, &'t [Token<'a>]), ParseError>
+    ensures { Gives (λ x. (literal_tree x.0, lexemes x.1.now)) result
         (spec.negative_on (head (lexemes tokens.now)) (tail (lexemes tokens.now))) }
 {
     match peek(tokens).kind {
-        Kind::Number(number) => Ok((Value::Number(number.wrapping_neg()), skip(tokens))),
+        Kind::Number(number) => Ok((Literal::Number(number.wrapping_neg()), skip(tokens))),
         _ => Err(fault_at(Fault::Grammar, tokens)),
     }
 }
@@ -81,23 +81,23 @@ fn negative<'t, 'a>(tokens: &'t [Token<'a>]) -> Result<(Value<'a>, &'t [Token<'a
 ///
 /// `Fault::Grammar`: the tokens begin no value.
 #[tactic(auto, unfolding(crate::specs::Parse::value))]
-pub fn value<'t, 'a>(tokens: &'t [Token<'a>]) -> Result<(Value<'a>, &'t [Token<'a>]), ParseError>
-    ensures { Gives (λ x. (value_tree x.0, lexemes x.1.now)) result (spec.value (lexemes tokens.now)) }
+pub fn value<'t, 'a>(tokens: &'t [Token<'a>]) -> Result<(Literal<'a>, &'t [Token<'a>]), ParseError>
+    ensures { Gives (λ x. (literal_tree x.0, lexemes x.1.now)) result (spec.value (lexemes tokens.now)) }
 {
     let first = peek(tokens);
     let rest = skip(tokens);
     match first.kind {
-        Kind::Number(number) => Ok((Value::Number(number), rest)),
-        Kind::Character(character) => Ok((Value::Number(character as u16), rest)),
-        Kind::Reserved(Word::True) => Ok((Value::Number(1), rest)),
-        Kind::Reserved(Word::False) => Ok((Value::Number(0), rest)),
-        Kind::Reserved(Word::Nothing) => Ok((Value::Number(0), rest)),
+        Kind::Number(number) => Ok((Literal::Number(number), rest)),
+        Kind::Character(character) => Ok((Literal::Number(character as u16), rest)),
+        Kind::Reserved(Word::True) => Ok((Literal::Number(1), rest)),
+        Kind::Reserved(Word::False) => Ok((Literal::Number(0), rest)),
+        Kind::Reserved(Word::Nothing) => Ok((Literal::Number(0), rest)),
         Kind::Name(text) => {
             let name = Name {
                 text,
                 position: first.position,
             };
-            Ok((Value::Named(name), rest))
+            Ok((Literal::Named(name), rest))
         }
         Kind::Sign(Sign::Minus) => negative(rest),
         _ => Err(fault_at(Fault::Grammar, tokens)),

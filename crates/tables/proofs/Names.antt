@@ -1,5 +1,6 @@
 -- The short names of objects.
-use Rattle.std.proofs.Common.{◌≡◌, ◌==◌, ◌+◌, ◌*◌, ◌/◌, ◌<◌, ◌^◌, ℕ, true, false, List, [], ◌∷◌, length, slice_index, Some, Ok, refl, ap, ◌∙◌, arith}
+use Rattle.std.proofs.Common.{◌≡◌, ◌==◌, ◌+◌, ◌*◌, ◌/◌, ◌<◌, ◌^◌, ℕ, true, false, List, [], ◌∷◌, length, slice_index}
+use Rattle.std.proofs.Common.{Some, Ok, refl, ap, ◌∙◌, arith}
 use Rattle.std.specs.Prelude.{slice_get}
 use Rattle.std.specs.List.{list_all}
 use Rattle.std.proofs.lemmas.Bool.{and_parts}
@@ -27,12 +28,14 @@ name_even [] = refl
 name_even (c ∷ cs) = packed_even _
 
 -- the Z-text of a name that is not empty is too long
-pub name_long : (name bytes : List ℕ) → (length name == 0) ≡ false → bytes ≡ encoded name → 510 < length bytes → 255 < name_words name
+pub name_long : (name bytes : List ℕ) → (length name == 0) ≡ false → bytes ≡ encoded name → 510 < length bytes
+    → 255 < name_words name
 name_long [] bytes some is long = absurd (cc)
 name_long (c ∷ cs) bytes some is long = omega (arith, name_even (c ∷ cs), ap length is)
 
 -- a row whose name is refused
-pub row_refuses : (rows : List ObjectRow) (i at : ℕ) (row : ObjectRow) (fault : TableFault) → i < length rows → slice_get rows i ≡ Some row → RefusesName row.name.items fault → RefusesRows rows at fault
+pub row_refuses : (rows : List ObjectRow) (i at : ℕ) (row : ObjectRow) (fault : TableFault) → i < length rows
+    → slice_get rows i ≡ Some row → RefusesName row.name.items fault → RefusesRows rows at fault
 row_refuses rows i at row NameTooLong lt is why = (i, row, is, why)
 row_refuses rows i at row TooLarge lt is why = absurd why
 row_refuses rows i at row Memory lt is why = tt
@@ -48,8 +51,10 @@ are_bytes (c ∷ cs) h =
     (printable_byte c p.0, are_bytes cs p.1)
 
 -- a short name is read back
-pub name_read : (story : List ℕ) (properties : ℕ) (name : List ℕ) → list_all is_printable name ≡ true → slice_index story properties ≡ name_words name
-    → Holds story (properties + 1) (name_bytes name) → properties + 1 + length (name_bytes name) < 2 ^ 32 → ReadsName story properties name
+pub name_read : (story : List ℕ) (properties : ℕ) (name : List ℕ) → list_all is_printable name ≡ true
+    → slice_index story properties ≡ name_words name
+    → Holds story (properties + 1) (name_bytes name) → properties + 1 + length (name_bytes name) < 2 ^ 32
+    → ReadsName story properties name
 name_read story properties [] printable here held lt = here
 name_read story properties (c ∷ cs) printable here held lt = (
   here,

@@ -21,15 +21,18 @@ one_key : dictionary_bytes ((0x64 ∷ 0xD0 ∷ 0x28 ∷ 0xA5 ∷ 0x94 ∷ 0xA5 �
 one_key = refl
 
 -- the words `lamp` and `take` in a dictionary at 864
-take_number : key_number 864 (number_of_key (key_of (codes "lamp")) ∷ number_of_key (key_of (codes "take")) ∷ []) (number_of_key (key_of (codes "take"))) ≡ 880
+take_number : key_number 864 (number_of_key (key_of (codes "lamp")) ∷ number_of_key (key_of (codes "take")) ∷ [])
+    (number_of_key (key_of (codes "take"))) ≡ 880
 unfolding number_of_key key_of packed spelling_of
 take_number = refl
 
-lamp_number : key_number 864 (number_of_key (key_of (codes "lamp")) ∷ number_of_key (key_of (codes "take")) ∷ []) (number_of_key (key_of (codes "lamp"))) ≡ 871
+lamp_number : key_number 864 (number_of_key (key_of (codes "lamp")) ∷ number_of_key (key_of (codes "take")) ∷ [])
+    (number_of_key (key_of (codes "lamp"))) ≡ 871
 unfolding number_of_key key_of packed spelling_of
 lamp_number = refl
 
-box_number : key_number 864 (number_of_key (key_of (codes "lamp")) ∷ number_of_key (key_of (codes "take")) ∷ []) (number_of_key (key_of (codes "box"))) ≡ 0
+box_number : key_number 864 (number_of_key (key_of (codes "lamp")) ∷ number_of_key (key_of (codes "take")) ∷ [])
+    (number_of_key (key_of (codes "box"))) ≡ 0
 unfolding number_of_key key_of packed spelling_of
 box_number = refl
 
@@ -46,7 +49,8 @@ unfolding words_of
 no_words = refl
 
 -- a space is no word, also where the separators name it
-space_named : words_of (codes " ") (codes " a b") ≡ record { place = 1; bytes = codes "a" } ∷ record { place = 3; bytes = codes "b" } ∷ []
+space_named : words_of (codes " ") (codes " a b") ≡ record { place = 1; bytes = codes "a" }
+    ∷ record { place = 3; bytes = codes "b" } ∷ []
 unfolding words_of
 space_named = refl
 

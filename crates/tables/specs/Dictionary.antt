@@ -1,5 +1,7 @@
--- The dictionary of a story: what a look-up finds, and what is written (Z-Machine Standards Document 1.1, section 13).
-use Rattle.std.specs.Prelude.{◌≡◌, ◌==◌, ◌+◌, ◌*◌, ◌/◌, ◌%◌, ◌<◌, ◌≤◌, ℕ, false, if◌then◌else◌, List, [], ◌∷◌, ◌++◌, length, slice_range}
+-- The dictionary of a story: what a look-up finds, and what is written (Z-Machine Standards Document 1.1, section
+-- 13).
+use Rattle.std.specs.Prelude.{◌≡◌, ◌==◌, ◌+◌, ◌*◌, ◌/◌, ◌%◌, ◌<◌, ◌≤◌, ℕ, false, if◌then◌else◌, List, [], ◌∷◌, ◌++◌}
+use Rattle.std.specs.Prelude.{length, slice_range}
 use Rattle.std.specs.List.{flat_map}
 use Rattle.zcore.specs.Dictionary.{entry_of}
 use Rattle.zcore.specs.Header.{separator_count, entry_length_of, entry_count, first_entry, key_at, IsDictionary}
@@ -16,7 +18,8 @@ entry_address story dictionary k = first_entry story dictionary + k * entry_leng
 pub record Finds (story : List ℕ) (dictionary key result : ℕ) : Type 0 where
   pub found : (k : ℕ) → k < entry_count story dictionary → key_at story (entry_address story dictionary k) ≡ key
       → result ≡ entry_address story dictionary k
-  pub none : ((k : ℕ) → k < entry_count story dictionary → (key_at story (entry_address story dictionary k) == key) ≡ false)
+  pub none :
+      ((k : ℕ) → k < entry_count story dictionary → (key_at story (entry_address story dictionary k) == key) ≡ false)
       → result ≡ 0
   pub entry : result ≡ entry_of story dictionary key
 

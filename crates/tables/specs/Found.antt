@@ -1,5 +1,6 @@
 -- What the readers of properties answer, by what stands in a property list.
-use Rattle.std.specs.Prelude.{◌≡◌, ◌+◌, ◌<◌, ◌≤◌, ◌⊎◌, ℕ, true, false, List, length, slice_range, Option, Some, None, Result, Ok, Err}
+use Rattle.std.specs.Prelude.{◌≡◌, ◌+◌, ◌<◌, ◌≤◌, ◌⊎◌, ℕ, true, false, List, length, slice_range, Option, Some, None}
+use Rattle.std.specs.Prelude.{Result, Ok, Err}
 use Rattle.std.specs.List.{All}
 use Rattle.zcore.specs.Bytes.{word_at}
 use Rattle.zcore.specs.Entries.{has_entry, properties_place}
@@ -55,6 +56,7 @@ pub record PropertiesAre (story : List ℕ) (table object number : ℕ) : Type 0
   pub no_table : has_entry table (length story) object ≡ true → length story ≤ properties_of story table object
       → (property_of story table object number ≡ Err Outside) × (property_count_of story table object ≡ Err Outside)
   pub found : has_entry table (length story) object ≡ true → properties_of story table object < length story
-      → FindsIn story number (list_start story (properties_of story table object)) (property_of story table object number)
+      → FindsIn story number (list_start story (properties_of story table object))
+      (property_of story table object number)
   pub counted : has_entry table (length story) object ≡ true → properties_of story table object < length story
       → CountsIn story 0 (list_start story (properties_of story table object)) (property_count_of story table object)

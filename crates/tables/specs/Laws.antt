@@ -8,7 +8,8 @@ use Rattle.tables.specs.Found.{PropertiesAre}
 -- a line is cut into these words and no others
 abbrev pub LinesAreCutOneWay : Type 0
 LinesAreCutOneWay =
-    (separators line : List ℕ) (words : List Word) → IsCut separators 0 line words ↔ (words ≡ words_of separators line)
+    (separators line : List ℕ) (words : List Word)
+    → IsCut separators 0 line words ↔ (words ≡ words_of separators line)
 
 -- in a dictionary of ascending keys each has the number of its rank
 abbrev pub NumbersAreByRank : Type 0

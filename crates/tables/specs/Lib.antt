@@ -1,4 +1,5 @@
 pub mod Placed
+pub mod Links
 pub mod Objects
 pub mod Standing
 pub mod Rows

@@ -1,5 +1,6 @@
 -- Object tables as they are read (Z-Machine Standards Document 1.1, section 12).
-use Rattle.std.specs.Prelude.{◌+◌, ℕ, zero, suc, nat_le, nat_lt, Bool, if◌then◌else◌, List, length, slice_index, slice_range, Option, Some, None, Result, Ok, Err}
+use Rattle.std.specs.Prelude.{◌+◌, ℕ, zero, suc, nat_le, nat_lt, Bool, if◌then◌else◌, List, length, slice_index}
+use Rattle.std.specs.Prelude.{slice_range, Option, Some, None, Result, Ok, Err}
 use Rattle.zcore.specs.Bytes.{word_at}
 use Rattle.zcore.specs.Entries.{Link, owner, place_of, has_entry, properties_place, attribute_place, is_set}
 use Rattle.zcore.specs.Properties.{Standing, Terminator, Listed, Beyond, standing, list_start, property_in}
@@ -14,7 +15,8 @@ link_of story table link =
 
 abbrev pub attribute_of : List ℕ → ℕ → ℕ → ℕ → Result Bool TableRead
 attribute_of story table object attribute =
-    if has_entry table (length story) object then Ok (is_set (slice_index story (attribute_place table object attribute)) attribute)
+    if has_entry table (length story) object then Ok
+    (is_set (slice_index story (attribute_place table object attribute)) attribute)
     else Err Object
 
 -- Property lists (12.4)

@@ -2,11 +2,13 @@
 
 ghost use Rattle.std.specs.Prelude.{◌≡◌, ◌<◌, ◌≤◌, ◌+◌, ℕ, length, if◌then◌else◌, Ok, Err};
 ghost use Rattle.zcore.specs.Bytes.{word_at};
-ghost use Rattle.zcore.specs.Entries.{Parent, Sibling, Child, object_entry, has_entry};
+ghost use Rattle.zcore.specs.Entries.{Parent, Sibling, Child, object_entry, has_entry, place_of, properties_place, attribute_place, is_set};
+ghost use Rattle.tables.specs.Links.{as_link};
 ghost use Rattle.tables.specs.Objects.{link_of, attribute_of};
 ghost use Rattle.tables.specs.declared.fault.TableRead.TheVariants.{Object};
 
 use crate::fault::TableRead;
+use crate::link::Link;
 use byteorder::{BigEndian, ByteOrder};
 
 /// The bytes of the 63 words of property defaults, with which an object table begins (section 12.2).
@@ -34,12 +36,57 @@ pub(crate) fn entry(table: u16, object: u16) -> usize
     usize::from(table) + DEFAULTS_LENGTH + ENTRY_LENGTH * usize::from(object).saturating_sub(1)
 }
 
+/// Whether an object's number is not 0, and its entry lies before an end. The table is at the address of its property
+/// defaults, here and in all that follows.
+#[inline]
+pub fn has_entry(table: u16, end: usize, object: u16) -> bool
+    ensures { result ≡ has_entry table end object }
+{
+    object >= 1 && entry(table, object) + ENTRY_LENGTH <= end
+}
+
 /// Whether an object's number is not 0, and its entry lies in a story.
 #[inline]
 pub(crate) fn is_object(story: &[u8], table: u16, object: u16) -> bool
     ensures { result ≡ has_entry table (length story.now) object }
 {
-    object >= 1 && entry(table, object) + ENTRY_LENGTH <= story.len()
+    has_entry(table, story.len(), object)
+}
+
+/// Where a link of an object stands, a word.
+#[inline]
+pub fn link_place(table: u16, link: Link) -> usize
+    ensures { result ≡ place_of table (as_link link) }
+{
+    match link {
+        Link::Parent(object) => entry(table, object) + PARENT,
+        Link::Sibling(object) => entry(table, object) + SIBLING,
+        Link::Child(object) => entry(table, object) + CHILD,
+    }
+}
+
+/// Where the address of an object's property table stands, a word.
+#[inline]
+pub fn properties_place(table: u16, object: u16) -> usize
+    ensures { result ≡ properties_place table object }
+{
+    entry(table, object) + PROPERTIES
+}
+
+/// Where the byte stands in which an object has an attribute.
+#[inline]
+pub fn attribute_place(table: u16, object: u16, attribute: u8) -> usize
+    ensures { result ≡ attribute_place table object attribute }
+{
+    entry(table, object) + usize::from(attribute) / 8
+}
+
+/// Whether an attribute is set in its byte.
+#[inline]
+pub fn is_set(byte: u8, attribute: u8) -> bool
+    ensures { result ≡ is_set byte attribute }
+{
+    (byte >> (7 - attribute % 8)) % 2 == 1
 }
 
 /// The word at an address, its high byte first.
@@ -113,6 +160,6 @@ pub fn has_attribute(
     if !is_object(story, table, object) {
         return Err(TableRead::Object);
     }
-    let byte = story[entry(table, object) + usize::from(attribute) / 8];
-    Ok((byte >> (7 - attribute % 8)) % 2 == 1)
+    let byte = story[attribute_place(table, object, attribute)];
+    Ok(is_set(byte, attribute))
 }

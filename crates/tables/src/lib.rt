@@ -6,6 +6,7 @@ mod dictionary;
 mod entries;
 mod fault;
 mod laws;
+mod link;
 mod objects;
 mod properties;
 mod row;
@@ -13,10 +14,16 @@ mod words;
 
 pub use cutting::cut_line;
 pub use dictionary::{lookup, write_dictionary};
-pub use entries::{child, has_attribute, parent, sibling};
+pub use entries::{
+    attribute_place, child, has_attribute, has_entry, is_set, link_place, parent, properties_place,
+    sibling,
+};
 pub use fault::{TableFault, TableRead};
 pub use laws::{keys_are_numbered_by_rank, lines_are_cut_one_way, properties_are_read};
+pub use link::Link;
 pub use objects::write_objects;
-pub use properties::{property, property_count};
+pub use properties::{
+    ListedProperty, Standing, long_size, property, property_count, search_list, stands_at,
+};
 pub use row::ObjectRow;
 pub use words::{Word, Words};

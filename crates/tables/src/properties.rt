@@ -11,21 +11,21 @@ use crate::entries::{PROPERTIES, entry, is_object, read_word};
 use crate::fault::TableRead;
 
 /// A property of a list.
-#[derive(Clone, Copy)]
-struct ListedProperty {
+#[derive(Clone, Copy, Debug)]
+pub struct ListedProperty {
     /// From 0 to 63.
-    number: u8,
+    pub number: u8,
 
     /// Where its data stand.
-    address: usize,
+    pub address: usize,
 
     /// The bytes of its data.
-    size: usize,
+    pub size: usize,
 }
 
 /// What stands at an address of a property list.
-#[derive(Clone, Copy)]
-enum Standing {
+#[derive(Clone, Copy, Debug)]
+pub enum Standing {
     /// The zero byte behind the last property.
     Terminator,
 
@@ -38,7 +38,7 @@ enum Standing {
 
 /// What stands at an address of a property list.
 #[inline]
-fn stands_at(story: &[u8], at: usize) -> Standing
+pub fn stands_at(story: &[u8], at: usize) -> Standing
     ensures same { standing_of result ≡ standing story.now (length story.now) at }
     ensures within { (p : _) → result ≡ Listed p → p.address + p.size ≤ length story.now + 66 }
 {
@@ -66,9 +66,9 @@ fn stands_at(story: &[u8], at: usize) -> Standing
     })
 }
 
-/// The length that a second size byte tells.
+/// The length that a second size byte tells (section 12.4.2.1.1).
 #[inline]
-fn long_size(byte: u8) -> usize
+pub fn long_size(byte: u8) -> usize
     ensures same { result ≡ properties.long_size byte }
     ensures within { result ≤ 64 }
 {
@@ -92,8 +92,8 @@ fn list_start(story: &[u8], table: u16, object: u16) -> Result<usize, TableRead>
     Ok(properties + 1 + 2 * usize::from(story[properties]))
 }
 
-/// The first property of a number in the list at an address, or what ends the list before one.
-fn find(story: &[u8], number: u8, start: usize) -> Standing
+/// The first property of a number in the list at an address, or what ends the list before one. It takes no memory.
+pub fn search_list(story: &[u8], number: u8, start: usize) -> Standing
     ensures same { standing_of result ≡ property_in story.now (length story.now) number start }
     ensures within { (p : _) → result ≡ Listed p → p.address + p.size ≤ length story.now + 66 }
 {
@@ -135,7 +135,7 @@ pub fn property<'a>(
     ensures refused { IfErr result (λ cause. property_of story.now table object number ≡ Err cause) }
 {
     let start = list_start(story, table, object)?;
-    match find(story, number, start) {
+    match search_list(story, number, start) {
         Standing::Terminator => Ok(None),
         Standing::Listed(found) => {
             let end = found.address + found.size;

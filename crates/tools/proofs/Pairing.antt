@@ -6,7 +6,8 @@ use Rattle.zcore.specs.declared.header.Version.{Version}
 use Rattle.zcore.specs.declared.header.Version.TheVariants.{V5, V8}
 use Rattle.zcore.specs.declared.header.Header.{Header}
 use Rattle.zcore.specs.declared.header.HeaderFault.{HeaderFault}
-use Rattle.zcore.specs.declared.header.HeaderFault.TheVariants.{TooShort, UnknownVersion, WrongLength, WrongSum, WrongAddress}
+use Rattle.zcore.specs.declared.header.HeaderFault.TheVariants.{TooShort, UnknownVersion, WrongLength, WrongSum}
+use Rattle.zcore.specs.declared.header.HeaderFault.TheVariants.{WrongAddress}
 use Rattle.zcore.specs.Header.{Reads, IsOfVersion, StatesLength}
 use Rattle.checker.specs.Resolved.{ProgramOf}
 use Rattle.code.specs.Laws.{Plays}
@@ -25,7 +26,8 @@ last_said (w ∷ []) = refl
 last_said (w ∷ v ∷ ws) = last_said (v ∷ ws)
 
 -- a story that plays a program tells what the program means
-pub agrees : (game : Game) (p : ProgramOf) → ((lines : List (List ℕ)) → Plays game.story p game.fuel lines) → Agree (telling_of game) (meant_by p game.fuel)
+pub agrees : (game : Game) (p : ProgramOf) → ((lines : List (List ℕ)) → Plays game.story p game.fuel lines)
+    → Agree (telling_of game) (meant_by p game.fuel)
 agrees game p h = record {
   texts = λ lines. last_said (plays game.story game.fuel lines) ∙ ap last_of (h lines).texts;
   places = λ lines. (h lines).place;
@@ -42,12 +44,14 @@ one_version story V8 V5 e f = absurd (cc)
 read_whole : (story : List ℕ) (h : Header) (f : HeaderFault) → Reads story (Ok h) → Reads story (Err f) → ⊥
 read_whole story h TooShort p q = q p.0
 read_whole story h UnknownVersion p q = q.1 (h.version, p.5.version)
-read_whole story h WrongLength p q = q.1.2 (subst (StatesLength story) (one_version story h.version q.0 p.5.version q.1.1) p.1)
+read_whole story h WrongLength p q = q.1.2
+    (subst (StatesLength story) (one_version story h.version q.0 p.5.version q.1.1) p.1)
 read_whole story h WrongSum p q = q.1.3 p.2
 read_whole story h WrongAddress p q = q.1.4 (p.3, p.4)
 
 -- so memory was refused where it is not opened
-pub wants_memory : (story : List ℕ) (fuel : ℕ) (keep : Option ℕ) (h : Header) (f : OpenFault) → Reads story (Ok h) → Opens story fuel keep (Err f) → WantsMemory f
+pub wants_memory : (story : List ℕ) (fuel : ℕ) (keep : Option ℕ) (h : Header) (f : OpenFault) → Reads story (Ok h)
+    → Opens story fuel keep (Err f) → WantsMemory f
 wants_memory story fuel keep h (opens.Load (loads.Header f)) p q = absurd (read_whole story h f p q)
 wants_memory story fuel keep h (opens.Load loads.Memory) p q = inl refl
 wants_memory story fuel keep h opens.Memory p q = inr refl

@@ -5,17 +5,25 @@ pub mod Loops
 pub mod Keys
 pub mod RoundTrip
 mod Samples
+mod ObjectSamples
 pub mod KeepingReads
 pub mod Keeping
+pub mod KeepingObjects
 pub mod Ahead
 pub mod TextAhead
 pub mod FallsOfParts
+pub mod FallsOfEffects
+pub mod FallsOfObjects
 pub mod Falls
 pub mod Turning
 pub mod WaitingParts
+pub mod WaitingEffects
+pub mod WaitingObjects
 pub mod Waiting
 pub mod Holding
+pub mod Searching
 pub mod EncodingParts
 pub mod Encoding
 mod SmallRuns
 mod Runs
+mod LineSamples

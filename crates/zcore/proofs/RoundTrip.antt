@@ -1,5 +1,7 @@
 -- What was encoded is decoded.
-use Rattle.std.proofs.Common.{◌≡◌, ℕ, zero, suc, ◌+◌, ◌-◌, ◌*◌, ◌/◌, ◌%◌, ◌^◌, ◌<◌, ◌&&◌, Bool, true, false, cond, eqb, leb, ltb, List, [], ◌∷◌, ◌++◌, length, drop, Result, Ok, Err, refl, sym, ap, subst, ◌∙◌, append_assoc, arith}
+use Rattle.std.proofs.Common.{◌≡◌, ℕ, zero, suc, ◌+◌, ◌-◌, ◌*◌, ◌/◌, ◌%◌, ◌^◌, ◌<◌, ◌&&◌, Bool, true, false, cond}
+use Rattle.std.proofs.Common.{eqb, leb, ltb, List, [], ◌∷◌, ◌++◌, length, drop, Result, Ok, Err, refl, sym, ap, subst}
+use Rattle.std.proofs.Common.{◌∙◌, append_assoc, arith}
 use Rattle.std.specs.Prelude.{replicate}
 use Rattle.std.specs.List.{list_all}
 use Rattle.std.proofs.lemmas.Bool.{eqb-true, le-leb, lt-leb, lt-ltb, ne_eqb, and_parts}
@@ -14,7 +16,8 @@ use Rattle.zcore.proofs.Packing.{small_append}
 use Rattle.zcore.proofs.Spelling.{each_below, below_at, AreBytes, spelled_small, fives_small, printable_below}
 use Rattle.zcore.proofs.Loops.{before, before_more}
 
-bind_ok : {A B : Type 0} (r : Result A Cause) (f : A → Result B Cause) (y : B) → (r >>= f) ≡ Ok y → (x : A) × (r ≡ Ok x) × (f x ≡ Ok y)
+bind_ok : {A B : Type 0} (r : Result A Cause) (f : A → Result B Cause) (y : B) → (r >>= f) ≡ Ok y
+    → (x : A) × (r ≡ Ok x) × (f x ≡ Ok y)
 bind_ok (Ok x) f y e = (x, refl, e)
 bind_ok (Err d) f y e = absurd cc
 
@@ -75,28 +78,35 @@ module _ (expand : ℕ → Result (List ℕ) Cause) where
       let here = below_at prints_itself 127 c all_print (printable_below c e) in
       gives_is (runs Lower (spelling_of c)) c (rw e at here)
 
-  reads_one : (s : State) (z : ℕ) (zs text : List ℕ) → printed expand s z ≡ Ok text → reads expand s (z ∷ zs) ≡ before text (reads expand (next s z) zs)
+  reads_one : (s : State) (z : ℕ) (zs text : List ℕ) → printed expand s z ≡ Ok text
+      → reads expand s (z ∷ zs) ≡ before text (reads expand (next s z) zs)
   unfolding reads
   reads_one s z zs text e = rw e refl
 
-  reads_runs : (s t : State) (zs rest text : List ℕ) → runs s zs ≡ Ok (text, t) → reads expand s (zs ++ rest) ≡ before text (reads expand t rest)
+  reads_runs : (s t : State) (zs rest text : List ℕ) → runs s zs ≡ Ok (text, t)
+      → reads expand s (zs ++ rest) ≡ before text (reads expand t rest)
   unfolding reads
   reads_runs s t [] rest text e =
       let p = pair_is ([], s) (text, t) e in
-      subst (λ (x : List ℕ × State). reads expand s rest ≡ before x.0 (reads expand x.1 rest)) p (before_none (reads expand s rest))
+      subst (λ (x : List ℕ × State). reads expand s rest ≡ before x.0 (reads expand x.1 rest)) p
+      (before_none (reads expand s rest))
   reads_runs s t (z ∷ zs) rest text e =
       let a = bind_ok (printed expand s z) (λ got. runs (next s z) zs >>= λ y. Ok (got ++ y.0, y.1)) (text, t) e in
       let b = bind_ok (runs (next s z) zs) (λ y. Ok (a.0 ++ y.0, y.1)) (text, t) a.2 in
       let again = reads_runs (next s z) b.0.1 zs rest b.0.0 b.1 in
       let p = pair_is (a.0 ++ b.0.0, b.0.1) (text, t) b.2 in
-      reads_one s z (zs ++ rest) a.0 a.1 ∙ ap (before a.0) again ∙ before_more a.0 b.0.0 (reads expand b.0.1 rest) ∙ ap (λ (x : List ℕ × State). before x.0 (reads expand x.1 rest)) p
+      reads_one s z (zs ++ rest) a.0 a.1 ∙ ap (before a.0) again ∙ before_more a.0 b.0.0 (reads expand b.0.1 rest)
+      ∙ ap (λ (x : List ℕ × State). before x.0 (reads expand x.1 rest)) p
 
-  reads_spelled : (text rest : List ℕ) → list_all is_printable text ≡ true → reads expand Lower (spelled text ++ rest) ≡ before text (reads expand Lower rest)
+  reads_spelled : (text rest : List ℕ) → list_all is_printable text ≡ true
+      → reads expand Lower (spelled text ++ rest) ≡ before text (reads expand Lower rest)
   reads_spelled [] rest e = before_none (reads expand Lower rest)
   reads_spelled (c ∷ text) rest e =
       let parts = and_parts (is_printable c) (list_all is_printable text) e in
       let first = reads_runs Lower Lower (spelling_of c) (spelled text ++ rest) (c ∷ []) (prints c parts.0) in
-      ap (reads expand Lower) (append_assoc (spelling_of c) (spelled text) rest) ∙ first ∙ ap (before (c ∷ [])) (reads_spelled text rest parts.1) ∙ before_more (c ∷ []) text (reads expand Lower rest)
+      ap (reads expand Lower) (append_assoc (spelling_of c) (spelled text) rest) ∙ first
+      ∙ ap (before (c ∷ [])) (reads_spelled text rest parts.1)
+      ∙ before_more (c ∷ []) text (reads expand Lower rest)
 
   punctuation_fives : (k : ℕ) → reads expand Punctuation (replicate k 5) ≡ Ok []
   unfolding reads
@@ -108,13 +118,16 @@ module _ (expand : ℕ → Result (List ℕ) Cause) where
   lower_fives zero = refl
   lower_fives (suc k) = rw (punctuation_fives k) refl
 
-  reads_padded : (text : List ℕ) → list_all is_printable text ≡ true → reads expand Lower (padded (spelled text)) ≡ Ok text
+  reads_padded : (text : List ℕ) → list_all is_printable text ≡ true
+      → reads expand Lower (padded (spelled text)) ≡ Ok text
   reads_padded text e =
-      reads_spelled text (replicate (missing (length (spelled text))) 5) e ∙ ap (before text) (lower_fives (missing (length (spelled text)))) ∙ ap (λ y. Ok y) (append-nil text)
+      reads_spelled text (replicate (missing (length (spelled text))) 5) e
+      ∙ ap (before text) (lower_fives (missing (length (spelled text)))) ∙ ap (λ y. Ok y) (append-nil text)
 
 -- ---- words
 
-word_last : (a b c : ℕ) → a < 32 → b < 32 → c < 32 → three_of (128 + a * 4 + b / 8) ((b % 8) * 32 + c) ≡ a ∷ b ∷ c ∷ []
+word_last : (a b c : ℕ) → a < 32 → b < 32 → c < 32
+    → three_of (128 + a * 4 + b / 8) ((b % 8) * 32 + c) ≡ a ∷ b ∷ c ∷ []
 word_last a b c la lb lc =
     let p : ((128 + a * 4 + b / 8) / 4) % 32 ≡ a = omega arith in
     let q : ((128 + a * 4 + b / 8) % 4) * 8 + ((b % 8) * 32 + c) / 32 ≡ b = omega arith in
@@ -136,7 +149,8 @@ AreThrees (a ∷ b ∷ []) = ⊥
 AreThrees (a ∷ b ∷ c ∷ []) = Unit {0}
 AreThrees (a ∷ b ∷ c ∷ d ∷ rest) = AreThrees (d ∷ rest)
 
-unpacked_packed : (zs rest : List ℕ) (at : ℕ) → AreThrees zs → AreSmall zs → at + length (packed zs) < 2 ^ 32 → unpacked_text at (packed zs ++ rest) ≡ Ok (zs, at + length (packed zs))
+unpacked_packed : (zs rest : List ℕ) (at : ℕ) → AreThrees zs → AreSmall zs → at + length (packed zs) < 2 ^ 32
+    → unpacked_text at (packed zs ++ rest) ≡ Ok (zs, at + length (packed zs))
 unfolding packed unpacked_text
 unpacked_packed [] rest at h s lt = absurd h
 unpacked_packed (a ∷ []) rest at h s lt = absurd h
@@ -150,7 +164,9 @@ unpacked_packed (a ∷ b ∷ c ∷ d ∷ more) rest at h s lt =
     let n = length (packed (d ∷ more)) in
     let after : at + 2 + n ≡ at + suc (suc n) = omega arith in
     let again = unpacked_packed (d ∷ more) rest (at + 2) h s.1.1.1 (omega (arith, lt)) in
-    rw (top, again) (ap (λ (x : List ℕ). Ok (x ++ d ∷ more, at + 2 + n)) (word_inner a b c s.0 s.1.0 s.1.1.0) ∙ ap (λ k. Ok (a ∷ b ∷ c ∷ d ∷ more, k)) after)
+    rw (top, again)
+    (ap (λ (x : List ℕ). Ok (x ++ d ∷ more, at + 2 + n)) (word_inner a b c s.0 s.1.0 s.1.1.0)
+    ∙ ap (λ k. Ok (a ∷ b ∷ c ∷ d ∷ more, k)) after)
 
 threes : (k : ℕ) (zs : List ℕ) → length zs ≡ 3 * suc k → AreThrees zs
 threes k [] e = absurd (omega arith)
@@ -170,22 +186,33 @@ missing_fills (suc n) = ((suc n + (3 - suc n % 3) % 3) / 3 - 1, fills)
 padded_threes : (zs : List ℕ) → AreThrees (padded zs)
 padded_threes zs =
     let m = missing_fills (length zs) in
-    threes m.0 (padded zs) (omega (arith, length-append zs (replicate (missing (length zs)) 5), length-replicate {A = ℕ} (missing (length zs)) 5, m.1))
+    threes m.0 (padded zs)
+    (omega (
+      arith,
+      length-append zs (replicate (missing (length zs)) 5),
+      length-replicate {A = ℕ}
+          (missing (length zs)) 5,
+      m.1,
+    ))
 
 pub padded_small : (text : List ℕ) → AreBytes text → AreSmall (padded (spelled text))
-padded_small text h = small_append (spelled text) (replicate (missing (length (spelled text))) 5) (spelled_small text h) (fives_small (missing (length (spelled text))))
+padded_small text h = small_append (spelled text) (replicate (missing (length (spelled text))) 5)
+    (spelled_small text h) (fives_small (missing (length (spelled text))))
 
 -- ---- the round trip
 
-pub round_trip : (text bytes story : List ℕ) (at : ℕ) → AreBytes text → list_all is_printable text ≡ true → bytes ≡ encoded text → Holds story at bytes → at + length bytes < 2 ^ 32
+pub round_trip : (text bytes story : List ℕ) (at : ℕ) → AreBytes text → list_all is_printable text ≡ true
+    → bytes ≡ encoded text → Holds story at bytes → at + length bytes < 2 ^ 32
     → decoded story at ≡ Ok (text, at + length bytes)
 unfolding decoded encoded
 round_trip text bytes story at small e is held lt =
     let zs = padded (spelled text) in
     let rest = drop (length bytes) (drop at story) in
-    let whole : drop at story ≡ packed zs ++ rest = sym (take-append-drop (length bytes) (drop at story)) ∙ ap (λ bs. bs ++ rest) (held ∙ is) in
+    let whole : drop at story ≡ packed zs ++ rest = sym (take-append-drop (length bytes) (drop at story))
+    ∙ ap (λ bs. bs ++ rest) (held ∙ is) in
     let long : length bytes ≡ length (packed zs) = ap length is in
-    let words = unpacked_packed zs rest at (padded_threes (spelled text)) (padded_small text small) (omega (arith, long)) in
+    let words = unpacked_packed zs rest at (padded_threes (spelled text)) (padded_small text small)
+    (omega (arith, long)) in
     let back = reads_padded (abbreviation story) text e in
     ap (λ bs. unpacked_text at bs >>= λ x. reads (abbreviation story) Lower x.0 >>= λ got. Ok (got, x.1)) whole
     ∙ ap (λ r. r >>= λ x. reads (abbreviation story) Lower x.0 >>= λ got. Ok (got, x.1)) words

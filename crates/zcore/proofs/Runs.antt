@@ -1,22 +1,26 @@
 -- The definitions of the machine, computed at branches, arrays and calls.
-use Rattle.std.proofs.Common.{◌≡◌, ℕ, List, [], ◌∷◌, ◌++◌, Some, None, Ok, Err, true, false, refl}
+use Rattle.std.proofs.Common.{◌≡◌, ℕ, [], ◌∷◌, ◌++◌, Some, None, Ok, true, false, refl}
 use Rattle.std.specs.Prelude.{codes, replicate, option_map}
 use Rattle.zcore.specs.declared.place.Fault.TheVariants as faults
 use Rattle.zcore.specs.declared.place.Limit.TheVariants as limits
-use Rattle.zcore.specs.declared.place.Place.{Place}
 use Rattle.zcore.specs.declared.place.Place.TheVariants as places
-use Rattle.zcore.specs.declared.instruction.Operation.TheVariants.{JumpIfEqual, Add, Div, Mod, Jump, Call1n, PrintNumber}
-use Rattle.zcore.specs.declared.instruction.Operand.TheVariants.{Large, Small, Variable}
-use Rattle.zcore.specs.declared.next.Next.{Next}
-use Rattle.zcore.specs.Instruction.{decode, bytes_of, opcode, operands, operand, byte, large, result_variable, branch_at, branch, variable_types, types_bytes}
-use Rattle.zcore.specs.State.{Frame, State, done, halt}
-use Rattle.zcore.specs.Turn.{Whole, first_state, opening, turn_from, weight}
-use Rattle.zcore.specs.Step.{step, perform, give_result, divide, modulo, load, store, increment, decrement, write_and_branch, increment_check, decrement_check, pull, load_word, load_byte, store_word, jump, call_packed, check_argument_count, print_characters, print_character, print_inline, print_address, text_at}
-use Rattle.zcore.specs.Parts.{read_in_place, write_in_place, push, pop, read_byte, read_word, write_word, read_local, read_global, write_global, read_variable, write_variable, test_variable, test_pull, operand_value, operand_values, test_result, store_result, test_target, spend, go, test_routine, test_calls, enter, call, test_return, leave, give_back, take_branch, branch_on, test_taken, test_branch, print}
+use Rattle.zcore.specs.Instruction.{decode, opcode, operands, operand, byte, large, result_variable}
+use Rattle.zcore.specs.Instruction.{branch_at, branch}
+use Rattle.zcore.specs.State.{State, done, halt}
+use Rattle.zcore.specs.Turn.{first_state, opening, turn_from, weight}
+use Rattle.zcore.specs.Execution.{step, perform, give_result, store}
+use Rattle.zcore.specs.Execution.{write_and_branch, increment_check, decrement_check, load_word, load_byte}
+use Rattle.zcore.specs.Execution.{store_word, call_packed, check_argument_count, print_characters}
+use Rattle.zcore.specs.Execution.{print_character, print_address, text_at}
+use Rattle.zcore.specs.Parts.{read_in_place, write_in_place, push, read_byte, read_word, write_word, read_local}
+use Rattle.zcore.specs.Parts.{read_global, write_global, read_variable, write_variable, test_variable}
+use Rattle.zcore.specs.Parts.{operand_value, operand_values, test_result, store_result, test_target, spend, go}
+use Rattle.zcore.specs.Parts.{test_routine, test_calls, enter, call, test_return, leave, give_back, take_branch}
+use Rattle.zcore.specs.Parts.{branch_on, test_taken, test_branch, print}
 use Rattle.zcore.specs.Text.{decoded, abbreviation}
 use Rattle.zcore.specs.Reading.{reads}
 use Rattle.zcore.specs.Words.{unpacked_text}
-use Rattle.zcore.specs.Arithmetic.{remainder, decimal, signed_text}
+use Rattle.zcore.specs.Arithmetic.{decimal, signed_text}
 use Rattle.zcore.proofs.SmallRuns.{story_of, shown, frame_with, in_routine, at}
 
 -- Branches, from the address 80 after them. 0xCA: on true, 8 bytes further on.
@@ -25,11 +29,13 @@ branch_read : branch_at (0xCA ∷ []) 0 ≡ Ok (record { when = true; offset = 1
 unfolding byte
 branch_read = refl
 
-branch_taken : branch_on (at 70) 80 (Some (record { when = true; offset = 10 })) true in_routine ≡ done (at 88) in_routine
+branch_taken : branch_on (at 70) 80 (Some (record { when = true; offset = 10 })) true in_routine
+    ≡ done (at 88) in_routine
 unfolding branch_on take_branch test_target go
 branch_taken = refl
 
-branch_passed : branch_on (at 70) 80 (Some (record { when = true; offset = 10 })) false in_routine ≡ done (at 80) in_routine
+branch_passed : branch_on (at 70) 80 (Some (record { when = true; offset = 10 })) false in_routine
+    ≡ done (at 80) in_routine
 unfolding branch_on
 branch_passed = refl
 
@@ -38,7 +44,8 @@ next_read : branch_at (0x80 ∷ 0x02 ∷ []) 0 ≡ Ok (record { when = true; off
 unfolding byte
 next_read = refl
 
-next_taken : branch_on (at 70) 80 (Some (record { when = true; offset = 2 })) true in_routine ≡ done (at 80) in_routine
+next_taken : branch_on (at 70) 80 (Some (record { when = true; offset = 2 })) true in_routine
+    ≡ done (at 80) in_routine
 unfolding branch_on take_branch test_target go
 next_taken = refl
 
@@ -47,7 +54,8 @@ return_read : branch_at (0x40 ∷ []) 0 ≡ Ok (record { when = false; offset = 
 unfolding byte
 return_read = refl
 
-return_taken : branch_on (at 70) 80 (Some (record { when = false; offset = 0 })) false in_routine ≡ done (at 99) (record in_routine { frames = frame_with (0 ∷ []) ∷ [] })
+return_taken : branch_on (at 70) 80 (Some (record { when = false; offset = 0 })) false in_routine
+    ≡ done (at 99) (record in_routine { frames = frame_with (0 ∷ []) ∷ [] })
 unfolding branch_on take_branch give_back test_return leave store_result write_variable push
 return_taken = refl
 
@@ -56,12 +64,13 @@ back_read : branch_at (0xBF ∷ 0xFA ∷ []) 0 ≡ Ok (record { when = true; off
 unfolding byte
 back_read = refl
 
-back_taken : branch_on (record { program_counter = 76; fuel = 9 }) 80 (Some (record { when = true; offset = 16378 })) true in_routine ≡ done (record { program_counter = 72; fuel = 8 }) in_routine
+back_taken : branch_on (record { program_counter = 76; fuel = 9 }) 80 (Some (record { when = true; offset = 16378 }))
+    true in_routine ≡ done (record { program_counter = 72; fuel = 8 }) in_routine
 unfolding branch_on take_branch test_target go spend
 back_taken = refl
 
--- The opcodes that follow stand in states of 100 bytes, with one word on the stack of the first environment, or in a call
--- with so many arguments.
+-- The opcodes that follow stand in states of 100 bytes, with one word on the stack of the first environment, or in a
+-- call with so many arguments.
 
 abbrev one_top : ℕ → State
 one_top word = record { memory = replicate 100 0; frames = frame_with (word ∷ []) ∷ []; pending = None; text = [] }
@@ -69,7 +78,8 @@ one_top word = record { memory = replicate 100 0; frames = frame_with (word ∷ 
 abbrev in_call : ℕ → State
 in_call count = record {
   memory = replicate 100 0;
-  frames = record { locals = []; stack = []; arguments = count; return_address = 99; result = None } ∷ frame_with [] ∷ [];
+  frames = record { locals = []; stack = []; arguments = count; return_address = 99; result = None } ∷ frame_with []
+      ∷ [];
   pending = None;
   text = [];
 }
@@ -77,182 +87,280 @@ in_call count = record {
 -- Arrays
 
 -- storew, loadw and loadb at word 2 and byte 5 of an array at 600
-words_and_bytes : option_map shown (opening (story_of (0xE1 ∷ 0x13 ∷ 0x02 ∷ 0x58 ∷ 0x02 ∷ 0x12 ∷ 0x34 ∷ 0xCF ∷ 0x1F ∷ 0x02 ∷ 0x58 ∷ 0x02 ∷ 0x10 ∷ 0xD0 ∷ 0x1F ∷ 0x02 ∷ 0x58 ∷ 0x05 ∷ 0x11 ∷ 0xE6 ∷ 0xBF ∷ 0x10 ∷ 0xE6 ∷ 0xBF ∷ 0x11 ∷ 0xBA ∷ [])) 1000000) ≡ Some (places.Quit, codes "466052")
-unfolding opening turn_from weight step perform decode opcode operands operand byte large result_variable branch operand_values operand_value store_word write_word load_word read_word load_byte read_byte give_result test_result store_result write_variable write_global read_variable read_global print_characters print signed_text decimal
+words_and_bytes : option_map shown
+    (opening
+    (story_of
+    (0xE1 ∷ 0x13 ∷ 0x02 ∷ 0x58 ∷ 0x02 ∷ 0x12 ∷ 0x34 ∷ 0xCF ∷ 0x1F ∷ 0x02 ∷ 0x58 ∷ 0x02 ∷ 0x10 ∷ 0xD0 ∷ 0x1F ∷ 0x02
+    ∷ 0x58 ∷ 0x05 ∷ 0x11 ∷ 0xE6 ∷ 0xBF ∷ 0x10 ∷ 0xE6 ∷ 0xBF ∷ 0x11 ∷ 0xBA ∷ [])) 1000000)
+    ≡ Some (places.Quit, codes "466052")
+unfolding opening turn_from weight step perform decode opcode operands operand byte large result_variable branch
+    operand_values operand_value store_word write_word load_word read_word load_byte read_byte give_result
+    test_result store_result write_variable write_global read_variable read_global print_characters print signed_text
+    decimal
 words_and_bytes = refl
 
 -- loadw and loadb at sums modulo 65,536: global 16, of which byte 65 is the low one
-loaded_beyond_the_end : option_map shown (opening (story_of (0x0D ∷ 0x10 ∷ 0x07 ∷ 0xCF ∷ 0x1F ∷ 0xFF ∷ 0xFE ∷ 0x21 ∷ 0x11 ∷ 0xD0 ∷ 0x1F ∷ 0xFF ∷ 0xFF ∷ 0x42 ∷ 0x12 ∷ 0xE6 ∷ 0xBF ∷ 0x11 ∷ 0xE6 ∷ 0xBF ∷ 0x12 ∷ 0xBA ∷ [])) 1000000) ≡ Some (places.Quit, codes "77")
-unfolding opening turn_from weight step perform decode opcode operands operand byte large result_variable branch operand_values operand_value store test_variable write_in_place load_word read_word load_byte read_byte give_result test_result store_result write_variable write_global read_variable read_global print_characters print signed_text decimal
+loaded_beyond_the_end : option_map shown
+    (opening
+    (story_of
+    (0x0D ∷ 0x10 ∷ 0x07 ∷ 0xCF ∷ 0x1F ∷ 0xFF ∷ 0xFE ∷ 0x21 ∷ 0x11 ∷ 0xD0 ∷ 0x1F ∷ 0xFF ∷ 0xFF ∷ 0x42 ∷ 0x12 ∷ 0xE6
+    ∷ 0xBF ∷ 0x11 ∷ 0xE6 ∷ 0xBF ∷ 0x12 ∷ 0xBA ∷ [])) 1000000) ≡ Some (places.Quit, codes "77")
+unfolding opening turn_from weight step perform decode opcode operands operand byte large result_variable branch
+    operand_values operand_value store test_variable write_in_place load_word read_word load_byte read_byte
+    give_result test_result store_result write_variable write_global read_variable read_global print_characters print
+    signed_text decimal
 loaded_beyond_the_end = refl
 
 -- loadw of a word whose second byte lies past the story, which has 685 bytes
-word_past_the_story : option_map shown (opening (story_of (0xCF ∷ 0x1F ∷ 0x02 ∷ 0xAC ∷ 0x00 ∷ 0x10 ∷ 0xBA ∷ [])) 1000000) ≡ Some (places.Fault faults.Read, 10 ∷ codes "[Machine fault: M3]" ++ 10 ∷ [])
-unfolding opening turn_from weight step perform decode opcode operands operand byte large result_variable branch operand_values operand_value load_word read_word give_result test_result store_result write_variable write_global decimal
+word_past_the_story : option_map shown
+    (opening (story_of (0xCF ∷ 0x1F ∷ 0x02 ∷ 0xAC ∷ 0x00 ∷ 0x10 ∷ 0xBA ∷ [])) 1000000)
+    ≡ Some (places.Fault faults.Read, 10 ∷ codes "[Machine fault: M3]" ++ 10 ∷ [])
+unfolding opening turn_from weight step perform decode opcode operands operand byte large result_variable branch
+    operand_values operand_value load_word read_word give_result test_result store_result write_variable write_global
+    decimal
 word_past_the_story = refl
 
 -- loadb past the story
-byte_past_the_story : option_map shown (opening (story_of (0xD0 ∷ 0x1F ∷ 0xFF ∷ 0xFF ∷ 0x00 ∷ 0x10 ∷ [])) 1000000) ≡ Some (places.Fault faults.Read, 10 ∷ codes "[Machine fault: M3]" ++ 10 ∷ [])
-unfolding opening turn_from weight step perform decode opcode operands operand byte large result_variable branch operand_values operand_value load_byte read_byte decimal
+byte_past_the_story : option_map shown (opening (story_of (0xD0 ∷ 0x1F ∷ 0xFF ∷ 0xFF ∷ 0x00 ∷ 0x10 ∷ [])) 1000000)
+    ≡ Some (places.Fault faults.Read, 10 ∷ codes "[Machine fault: M3]" ++ 10 ∷ [])
+unfolding opening turn_from weight step perform decode opcode operands operand byte large result_variable branch
+    operand_values operand_value load_byte read_byte decimal
 byte_past_the_story = refl
 
 -- storew in the header, with its first byte alone
-word_in_the_header : option_map shown (opening (story_of (0xE1 ∷ 0x13 ∷ 0x00 ∷ 0x3F ∷ 0x00 ∷ 0x00 ∷ 0x01 ∷ [])) 1000000) ≡ Some (places.Fault faults.Write, 10 ∷ codes "[Machine fault: M4]" ++ 10 ∷ [])
-unfolding opening turn_from weight step perform decode opcode operands operand byte large result_variable branch operand_values operand_value store_word write_word decimal
+word_in_the_header : option_map shown
+    (opening (story_of (0xE1 ∷ 0x13 ∷ 0x00 ∷ 0x3F ∷ 0x00 ∷ 0x00 ∷ 0x01 ∷ [])) 1000000)
+    ≡ Some (places.Fault faults.Write, 10 ∷ codes "[Machine fault: M4]" ++ 10 ∷ [])
+unfolding opening turn_from weight step perform decode opcode operands operand byte large result_variable branch
+    operand_values operand_value store_word write_word decimal
 word_in_the_header = refl
 
 -- storew of a word whose second byte lies at static base
-word_across_static_base : option_map shown (opening (story_of (0xE1 ∷ 0x13 ∷ 0x02 ∷ 0x9D ∷ 0x00 ∷ 0x00 ∷ 0x01 ∷ [])) 1000000) ≡ Some (places.Fault faults.Write, 10 ∷ codes "[Machine fault: M4]" ++ 10 ∷ [])
-unfolding opening turn_from weight step perform decode opcode operands operand byte large result_variable branch operand_values operand_value store_word write_word decimal
+word_across_static_base : option_map shown
+    (opening (story_of (0xE1 ∷ 0x13 ∷ 0x02 ∷ 0x9D ∷ 0x00 ∷ 0x00 ∷ 0x01 ∷ [])) 1000000)
+    ≡ Some (places.Fault faults.Write, 10 ∷ codes "[Machine fault: M4]" ++ 10 ∷ [])
+unfolding opening turn_from weight step perform decode opcode operands operand byte large result_variable branch
+    operand_values operand_value store_word write_word decimal
 word_across_static_base = refl
 
 -- storew takes three operands
-storew_of_two_operands : option_map shown (opening (story_of (0xE1 ∷ 0x5F ∷ 0x01 ∷ 0x01 ∷ 0xBA ∷ [])) 1000000) ≡ Some (places.Fault faults.Opcode, 10 ∷ codes "[Machine fault: M1]" ++ 10 ∷ [])
-unfolding opening turn_from weight step perform decode opcode operands operand byte large result_variable branch operand_values operand_value decimal
+storew_of_two_operands : option_map shown (opening (story_of (0xE1 ∷ 0x5F ∷ 0x01 ∷ 0x01 ∷ 0xBA ∷ [])) 1000000)
+    ≡ Some (places.Fault faults.Opcode, 10 ∷ codes "[Machine fault: M1]" ++ 10 ∷ [])
+unfolding opening turn_from weight step perform decode opcode operands operand byte large result_variable branch
+    operand_values operand_value decimal
 storew_of_two_operands = refl
 
 -- a write of a word that is refused writes nothing
-nothing_written : store_word (at 700) 706 669 0 0x1234 (first_state (story_of [])) ≡ halt (places.Fault faults.Write) (first_state (story_of []))
+nothing_written : store_word (at 700) 706 669 0 0x1234 (first_state (story_of []))
+    ≡ halt (places.Fault faults.Write) (first_state (story_of []))
 unfolding store_word write_word
 nothing_written = refl
 
 -- a sum modulo 65,536 that lies in the header
-header_not_written : store_word (at 700) 706 65535 1 0x1234 (first_state (story_of [])) ≡ halt (places.Fault faults.Write) (first_state (story_of []))
+header_not_written : store_word (at 700) 706 65535 1 0x1234 (first_state (story_of []))
+    ≡ halt (places.Fault faults.Write) (first_state (story_of []))
 unfolding store_word write_word
 header_not_written = refl
 
 -- inc_chk and dec_chk: signed, in place, and tested before the variable changes
 
-up_and_taken : increment_check (at 70) 80 (Some (record { when = true; offset = 10 })) 0 65535 (one_top 65535) ≡ done (at 88) (one_top 0)
-unfolding increment_check test_variable read_in_place write_and_branch test_branch test_taken test_target write_in_place branch_on take_branch go
+up_and_taken : increment_check (at 70) 80 (Some (record { when = true; offset = 10 })) 0 65535 (one_top 65535)
+    ≡ done (at 88) (one_top 0)
+unfolding increment_check test_variable read_in_place write_and_branch test_branch test_taken test_target
+    write_in_place branch_on take_branch go
 up_and_taken = refl
 
-up_and_passed : increment_check (at 70) 80 (Some (record { when = true; offset = 10 })) 0 6 (one_top 5) ≡ done (at 80) (one_top 6)
+up_and_passed : increment_check (at 70) 80 (Some (record { when = true; offset = 10 })) 0 6 (one_top 5)
+    ≡ done (at 80) (one_top 6)
 unfolding increment_check test_variable read_in_place write_and_branch test_branch write_in_place branch_on
 up_and_passed = refl
 
-up_to_the_least : increment_check (at 70) 80 (Some (record { when = true; offset = 10 })) 0 32767 (one_top 32767) ≡ done (at 80) (one_top 32768)
+up_to_the_least : increment_check (at 70) 80 (Some (record { when = true; offset = 10 })) 0 32767 (one_top 32767)
+    ≡ done (at 80) (one_top 32768)
 unfolding increment_check test_variable read_in_place write_and_branch test_branch write_in_place branch_on
 up_to_the_least = refl
 
-down_and_taken : decrement_check (at 70) 80 (Some (record { when = true; offset = 10 })) 0 0 (one_top 0) ≡ done (at 88) (one_top 65535)
-unfolding decrement_check test_variable read_in_place write_and_branch test_branch test_taken test_target write_in_place branch_on take_branch go
+down_and_taken : decrement_check (at 70) 80 (Some (record { when = true; offset = 10 })) 0 0 (one_top 0)
+    ≡ done (at 88) (one_top 65535)
+unfolding decrement_check test_variable read_in_place write_and_branch test_branch test_taken test_target
+    write_in_place branch_on take_branch go
 down_and_taken = refl
 
-down_and_passed : decrement_check (at 70) 80 (Some (record { when = true; offset = 10 })) 0 4 (one_top 5) ≡ done (at 80) (one_top 4)
+down_and_passed : decrement_check (at 70) 80 (Some (record { when = true; offset = 10 })) 0 4 (one_top 5)
+    ≡ done (at 80) (one_top 4)
 unfolding decrement_check test_variable read_in_place write_and_branch test_branch write_in_place branch_on
 down_and_passed = refl
 
 -- a branch on false is taken where the condition does not hold
-down_and_taken_on_false : decrement_check (at 70) 80 (Some (record { when = false; offset = 10 })) 0 4 (one_top 5) ≡ done (at 88) (one_top 4)
-unfolding decrement_check test_variable read_in_place write_and_branch test_branch test_taken test_target write_in_place branch_on take_branch go
+down_and_taken_on_false : decrement_check (at 70) 80 (Some (record { when = false; offset = 10 })) 0 4 (one_top 5)
+    ≡ done (at 88) (one_top 4)
+unfolding decrement_check test_variable read_in_place write_and_branch test_branch test_taken test_target
+    write_in_place branch_on take_branch go
 down_and_taken_on_false = refl
 
 -- a target past the story, and a return from the first environment: the variable stays
-target_before_the_step : increment_check (at 70) 80 (Some (record { when = true; offset = 100 })) 0 0 (one_top 5) ≡ halt (places.Fault faults.Code) (one_top 5)
+target_before_the_step : increment_check (at 70) 80 (Some (record { when = true; offset = 100 })) 0 0 (one_top 5)
+    ≡ halt (places.Fault faults.Code) (one_top 5)
 unfolding increment_check test_variable read_in_place write_and_branch test_branch test_taken test_target
 target_before_the_step = refl
 
-return_before_the_step : increment_check (at 70) 80 (Some (record { when = true; offset = 1 })) 0 0 (one_top 5) ≡ halt (places.Fault faults.Return) (one_top 5)
+return_before_the_step : increment_check (at 70) 80 (Some (record { when = true; offset = 1 })) 0 0 (one_top 5)
+    ≡ halt (places.Fault faults.Return) (one_top 5)
 unfolding increment_check test_variable read_in_place write_and_branch test_branch test_taken test_return
 return_before_the_step = refl
 
 -- a target that is not gone to is not tested
-target_not_tested : increment_check (at 70) 80 (Some (record { when = true; offset = 100 })) 0 6 (one_top 5) ≡ done (at 80) (one_top 6)
+target_not_tested : increment_check (at 70) 80 (Some (record { when = true; offset = 100 })) 0 6 (one_top 5)
+    ≡ done (at 80) (one_top 6)
 unfolding increment_check test_variable read_in_place write_and_branch test_branch write_in_place branch_on
 target_not_tested = refl
 
 -- without fuel the variable has changed when the way back is refused
-no_fuel_after_the_step : decrement_check (record { program_counter = 76; fuel = 0 }) 80 (Some (record { when = true; offset = 16378 })) 0 9 (one_top 5) ≡ halt (places.Limit limits.Fuel) (one_top 4)
-unfolding decrement_check test_variable read_in_place write_and_branch test_branch test_taken test_target write_in_place branch_on take_branch go spend
+no_fuel_after_the_step : decrement_check (record { program_counter = 76; fuel = 0 }) 80
+    (Some (record { when = true; offset = 16378 })) 0 9 (one_top 5) ≡ halt (places.Limit limits.Fuel) (one_top 4)
+unfolding decrement_check test_variable read_in_place write_and_branch test_branch test_taken test_target
+    write_in_place branch_on take_branch go spend
 no_fuel_after_the_step = refl
 
-nothing_to_step : increment_check (at 70) 80 (Some (record { when = true; offset = 10 })) 0 0 (first_state []) ≡ halt (places.Fault faults.StackEmpty) (first_state [])
+nothing_to_step : increment_check (at 70) 80 (Some (record { when = true; offset = 10 })) 0 0 (first_state [])
+    ≡ halt (places.Fault faults.StackEmpty) (first_state [])
 unfolding increment_check test_variable read_in_place
 nothing_to_step = refl
 
-no_variable_to_step : decrement_check (at 70) 80 (Some (record { when = true; offset = 10 })) 256 0 (one_top 5) ≡ halt (places.Fault faults.Read) (one_top 5)
+no_variable_to_step : decrement_check (at 70) 80 (Some (record { when = true; offset = 10 })) 256 0 (one_top 5)
+    ≡ halt (places.Fault faults.Read) (one_top 5)
 unfolding decrement_check test_variable
 no_variable_to_step = refl
 
-no_local_to_step : decrement_check (at 70) 80 (Some (record { when = true; offset = 10 })) 1 0 (one_top 5) ≡ halt (places.Fault faults.Read) (one_top 5)
+no_local_to_step : decrement_check (at 70) 80 (Some (record { when = true; offset = 10 })) 1 0 (one_top 5)
+    ≡ halt (places.Fault faults.Read) (one_top 5)
 unfolding decrement_check test_variable read_in_place read_variable read_local
 no_local_to_step = refl
 
 -- inc_chk of global 16 with 1, back to itself while the global is not greater than 1; each way back is a unit
-counted_to_two : option_map shown (opening (story_of (0x05 ∷ 0x10 ∷ 0x01 ∷ 0x3F ∷ 0xFD ∷ 0xE6 ∷ 0xBF ∷ 0x10 ∷ 0xBA ∷ [])) 1) ≡ Some (places.Quit, codes "2")
-unfolding opening turn_from weight step perform decode opcode operands operand byte large result_variable branch operand_values operand_value increment_check test_variable read_in_place write_and_branch test_branch test_taken test_target write_in_place write_variable write_global branch_on take_branch go spend read_variable read_global print_characters print signed_text decimal
+counted_to_two : option_map shown
+    (opening (story_of (0x05 ∷ 0x10 ∷ 0x01 ∷ 0x3F ∷ 0xFD ∷ 0xE6 ∷ 0xBF ∷ 0x10 ∷ 0xBA ∷ [])) 1)
+    ≡ Some (places.Quit, codes "2")
+unfolding opening turn_from weight step perform decode opcode operands operand byte large result_variable branch
+    operand_values operand_value increment_check test_variable read_in_place write_and_branch test_branch test_taken
+    test_target write_in_place write_variable write_global branch_on take_branch go spend read_variable read_global
+    print_characters print signed_text decimal
 counted_to_two = refl
 
 -- dec_chk of global 16 with 0, in variable form, past a print_char
-counted_down : option_map shown (opening (story_of (0xC4 ∷ 0x5F ∷ 0x10 ∷ 0x00 ∷ 0xC5 ∷ 0xE5 ∷ 0x7F ∷ 0x78 ∷ 0xE6 ∷ 0xBF ∷ 0x10 ∷ 0xBA ∷ [])) 1000000) ≡ Some (places.Quit, codes "-1")
-unfolding opening turn_from weight step perform decode opcode operands operand byte large result_variable branch operand_values operand_value decrement_check test_variable read_in_place write_and_branch test_branch test_taken test_target write_in_place write_variable write_global branch_on take_branch go read_variable read_global print_characters print signed_text decimal
+counted_down : option_map shown
+    (opening (story_of (0xC4 ∷ 0x5F ∷ 0x10 ∷ 0x00 ∷ 0xC5 ∷ 0xE5 ∷ 0x7F ∷ 0x78 ∷ 0xE6 ∷ 0xBF ∷ 0x10 ∷ 0xBA ∷ []))
+    1000000) ≡ Some (places.Quit, codes "-1")
+unfolding opening turn_from weight step perform decode opcode operands operand byte large result_variable branch
+    operand_values operand_value decrement_check test_variable read_in_place write_and_branch test_branch test_taken
+    test_target write_in_place write_variable write_global branch_on take_branch go read_variable read_global
+    print_characters print signed_text decimal
 counted_down = refl
 
 -- test
 
 -- 13 has the bits 5, and not the bits 6
-bits_stand : option_map shown (opening (story_of (0x07 ∷ 0x0D ∷ 0x05 ∷ 0xC5 ∷ 0xE5 ∷ 0x7F ∷ 0x78 ∷ 0x07 ∷ 0x0D ∷ 0x06 ∷ 0xC5 ∷ 0xE5 ∷ 0x7F ∷ 0x79 ∷ 0xBA ∷ [])) 1000000) ≡ Some (places.Quit, codes "y")
-unfolding opening turn_from weight step perform decode opcode operands operand byte large result_variable branch operand_values operand_value branch_on take_branch test_target go print_character print_characters print
+bits_stand : option_map shown
+    (opening
+    (story_of
+    (0x07 ∷ 0x0D ∷ 0x05 ∷ 0xC5 ∷ 0xE5 ∷ 0x7F ∷ 0x78 ∷ 0x07 ∷ 0x0D ∷ 0x06 ∷ 0xC5 ∷ 0xE5 ∷ 0x7F ∷ 0x79 ∷ 0xBA ∷ []))
+    1000000) ≡ Some (places.Quit, codes "y")
+unfolding opening turn_from weight step perform decode opcode operands operand byte large result_variable branch
+    operand_values operand_value branch_on take_branch test_target go print_character print_characters print
 bits_stand = refl
 
 -- Calls with one argument or none, and what check_arg_count tells of them
 
 -- call_2s of a routine that returns its argument
-called_with_one : option_map shown (opening (story_of (0xD9 ∷ 0x1F ∷ 0x00 ∷ 0xAE ∷ 0x07 ∷ 0x10 ∷ 0xE6 ∷ 0xBF ∷ 0x10 ∷ 0xBA ∷ 0x00 ∷ 0x00 ∷ 0x00 ∷ 0x00 ∷ 0x00 ∷ 0x00 ∷ 0x00 ∷ 0x00 ∷ 0x00 ∷ 0x01 ∷ 0xAB ∷ 0x01 ∷ [])) 1000000) ≡ Some (places.Quit, codes "7")
-unfolding opening turn_from weight step perform decode opcode operands operand byte large result_variable branch operand_values operand_value call_packed call test_routine test_calls spend enter give_back test_return leave store_result write_variable write_global read_local read_variable read_global print_characters print signed_text decimal
+called_with_one : option_map shown
+    (opening
+    (story_of
+    (0xD9 ∷ 0x1F ∷ 0x00 ∷ 0xAE ∷ 0x07 ∷ 0x10 ∷ 0xE6 ∷ 0xBF ∷ 0x10 ∷ 0xBA ∷ 0x00 ∷ 0x00 ∷ 0x00 ∷ 0x00 ∷ 0x00 ∷ 0x00
+    ∷ 0x00 ∷ 0x00 ∷ 0x00 ∷ 0x01 ∷ 0xAB ∷ 0x01 ∷ [])) 1000000) ≡ Some (places.Quit, codes "7")
+unfolding opening turn_from weight step perform decode opcode operands operand byte large result_variable branch
+    operand_values operand_value call_packed call test_routine test_calls spend enter give_back test_return leave
+    store_result write_variable write_global read_local read_variable read_global print_characters print signed_text
+    decimal
 called_with_one = refl
 
 -- a routine without locals, which tells whether the call gave an argument: call_2s, and call_1s
-arguments_counted : option_map shown (opening (story_of (0xD9 ∷ 0x1F ∷ 0x00 ∷ 0xAE ∷ 0x07 ∷ 0x10 ∷ 0x88 ∷ 0x00 ∷ 0xAE ∷ 0x11 ∷ 0xE6 ∷ 0xBF ∷ 0x10 ∷ 0xE6 ∷ 0xBF ∷ 0x11 ∷ 0xBA ∷ 0x00 ∷ 0x00 ∷ 0x00 ∷ 0xFF ∷ 0x7F ∷ 0x01 ∷ 0xC1 ∷ 0xB1 ∷ [])) 1000000) ≡ Some (places.Quit, codes "10")
-unfolding opening turn_from weight step perform decode opcode operands operand byte large result_variable branch operand_values operand_value call_packed call test_routine test_calls spend enter give_back test_return leave store_result write_variable write_global check_argument_count branch_on take_branch read_variable read_global print_characters print signed_text decimal
+arguments_counted : option_map shown
+    (opening
+    (story_of
+    (0xD9 ∷ 0x1F ∷ 0x00 ∷ 0xAE ∷ 0x07 ∷ 0x10 ∷ 0x88 ∷ 0x00 ∷ 0xAE ∷ 0x11 ∷ 0xE6 ∷ 0xBF ∷ 0x10 ∷ 0xE6 ∷ 0xBF ∷ 0x11
+    ∷ 0xBA ∷ 0x00 ∷ 0x00 ∷ 0x00 ∷ 0xFF ∷ 0x7F ∷ 0x01 ∷ 0xC1 ∷ 0xB1 ∷ [])) 1000000) ≡ Some (places.Quit, codes "10")
+unfolding opening turn_from weight step perform decode opcode operands operand byte large result_variable branch
+    operand_values operand_value call_packed call test_routine test_calls spend enter give_back test_return leave
+    store_result write_variable write_global check_argument_count branch_on take_branch read_variable read_global
+    print_characters print signed_text decimal
 arguments_counted = refl
 
 -- call_2n of a routine that prints its argument
-result_thrown_away : option_map shown (opening (story_of (0xDA ∷ 0x1F ∷ 0x00 ∷ 0xAE ∷ 0x07 ∷ 0xBA ∷ 0x00 ∷ 0x00 ∷ 0x00 ∷ 0x00 ∷ 0x00 ∷ 0x00 ∷ 0x00 ∷ 0x00 ∷ 0x00 ∷ 0x00 ∷ 0x00 ∷ 0x00 ∷ 0x00 ∷ 0x01 ∷ 0xE6 ∷ 0xBF ∷ 0x01 ∷ 0xB0 ∷ [])) 1000000) ≡ Some (places.Quit, codes "7")
-unfolding opening turn_from weight step perform decode opcode operands operand byte large result_variable branch operand_values operand_value call_packed call test_routine test_calls spend enter give_back test_return leave store_result write_variable write_global read_local read_variable read_global print_characters print signed_text decimal
+result_thrown_away : option_map shown
+    (opening
+    (story_of
+    (0xDA ∷ 0x1F ∷ 0x00 ∷ 0xAE ∷ 0x07 ∷ 0xBA ∷ 0x00 ∷ 0x00 ∷ 0x00 ∷ 0x00 ∷ 0x00 ∷ 0x00 ∷ 0x00 ∷ 0x00 ∷ 0x00 ∷ 0x00
+    ∷ 0x00 ∷ 0x00 ∷ 0x00 ∷ 0x01 ∷ 0xE6 ∷ 0xBF ∷ 0x01 ∷ 0xB0 ∷ [])) 1000000) ≡ Some (places.Quit, codes "7")
+unfolding opening turn_from weight step perform decode opcode operands operand byte large result_variable branch
+    operand_values operand_value call_packed call test_routine test_calls spend enter give_back test_return leave
+    store_result write_variable write_global read_local read_variable read_global print_characters print signed_text
+    decimal
 result_thrown_away = refl
 
 -- call_1s of a routine past the story
-call_past_the_story : option_map shown (opening (story_of (0x88 ∷ 0xFF ∷ 0xFF ∷ 0x10 ∷ 0xBA ∷ [])) 1000000) ≡ Some (places.Fault faults.Code, 10 ∷ codes "[Machine fault: M2]" ++ 10 ∷ [])
-unfolding opening turn_from weight step perform decode opcode operands operand byte large result_variable branch operand_values operand_value call_packed call test_routine decimal
+call_past_the_story : option_map shown (opening (story_of (0x88 ∷ 0xFF ∷ 0xFF ∷ 0x10 ∷ 0xBA ∷ [])) 1000000)
+    ≡ Some (places.Fault faults.Code, 10 ∷ codes "[Machine fault: M2]" ++ 10 ∷ [])
+unfolding opening turn_from weight step perform decode opcode operands operand byte large result_variable branch
+    operand_values operand_value call_packed call test_routine decimal
 call_past_the_story = refl
 
 -- call_2s takes two operands
-call_of_three : option_map shown (opening (story_of (0xD9 ∷ 0x57 ∷ 0x01 ∷ 0x01 ∷ 0x01 ∷ 0x10 ∷ 0xBA ∷ [])) 1000000) ≡ Some (places.Fault faults.Opcode, 10 ∷ codes "[Machine fault: M1]" ++ 10 ∷ [])
-unfolding opening turn_from weight step perform decode opcode operands operand byte large result_variable branch operand_values operand_value decimal
+call_of_three : option_map shown (opening (story_of (0xD9 ∷ 0x57 ∷ 0x01 ∷ 0x01 ∷ 0x01 ∷ 0x10 ∷ 0xBA ∷ [])) 1000000)
+    ≡ Some (places.Fault faults.Opcode, 10 ∷ codes "[Machine fault: M1]" ++ 10 ∷ [])
+unfolding opening turn_from weight step perform decode opcode operands operand byte large result_variable branch
+    operand_values operand_value decimal
 call_of_three = refl
 
 -- no call gives argument 0, and the first environment has none
-argument_zero : check_argument_count (at 70) 80 (Some (record { when = true; offset = 10 })) 0 (in_call 2) ≡ done (at 80) (in_call 2)
+argument_zero : check_argument_count (at 70) 80 (Some (record { when = true; offset = 10 })) 0 (in_call 2)
+    ≡ done (at 80) (in_call 2)
 unfolding check_argument_count branch_on
 argument_zero = refl
 
-last_argument : check_argument_count (at 70) 80 (Some (record { when = true; offset = 10 })) 2 (in_call 2) ≡ done (at 88) (in_call 2)
+last_argument : check_argument_count (at 70) 80 (Some (record { when = true; offset = 10 })) 2 (in_call 2)
+    ≡ done (at 88) (in_call 2)
 unfolding check_argument_count branch_on take_branch test_target go
 last_argument = refl
 
-no_third_argument : check_argument_count (at 70) 80 (Some (record { when = true; offset = 10 })) 3 (in_call 2) ≡ done (at 80) (in_call 2)
+no_third_argument : check_argument_count (at 70) 80 (Some (record { when = true; offset = 10 })) 3 (in_call 2)
+    ≡ done (at 80) (in_call 2)
 unfolding check_argument_count branch_on
 no_third_argument = refl
 
-none_in_the_first_environment : check_argument_count (at 70) 80 (Some (record { when = true; offset = 10 })) 1 (one_top 5) ≡ done (at 80) (one_top 5)
+none_in_the_first_environment : check_argument_count (at 70) 80 (Some (record { when = true; offset = 10 })) 1
+    (one_top 5) ≡ done (at 80) (one_top 5)
 unfolding check_argument_count branch_on
 none_in_the_first_environment = refl
 
 -- print_addr and nop
 
 -- print_addr of the text behind the code, at 681
-printed_at_an_address : option_map shown (opening (story_of (0x87 ∷ 0x02 ∷ 0xA9 ∷ 0xBA ∷ 0x35 ∷ 0x51 ∷ 0xC6 ∷ 0x85 ∷ [])) 1000000) ≡ Some (places.Quit, codes "hello")
-unfolding opening turn_from weight step perform decode opcode operands operand byte large result_variable branch operand_values operand_value print_address print_characters text_at decoded abbreviation reads unpacked_text print
+printed_at_an_address : option_map shown
+    (opening (story_of (0x87 ∷ 0x02 ∷ 0xA9 ∷ 0xBA ∷ 0x35 ∷ 0x51 ∷ 0xC6 ∷ 0x85 ∷ [])) 1000000)
+    ≡ Some (places.Quit, codes "hello")
+unfolding opening turn_from weight step perform decode opcode operands operand byte large result_variable branch
+    operand_values operand_value print_address print_characters text_at decoded abbreviation reads unpacked_text print
 printed_at_an_address = refl
 
 -- print_addr past the story
-text_past_the_story : option_map shown (opening (story_of (0x87 ∷ 0xFF ∷ 0xFF ∷ 0xBA ∷ [])) 1000000) ≡ Some (places.Fault faults.Read, 10 ∷ codes "[Machine fault: M3]" ++ 10 ∷ [])
-unfolding opening turn_from weight step perform decode opcode operands operand byte large result_variable branch operand_values operand_value print_address text_at decoded unpacked_text decimal
+text_past_the_story : option_map shown (opening (story_of (0x87 ∷ 0xFF ∷ 0xFF ∷ 0xBA ∷ [])) 1000000)
+    ≡ Some (places.Fault faults.Read, 10 ∷ codes "[Machine fault: M3]" ++ 10 ∷ [])
+unfolding opening turn_from weight step perform decode opcode operands operand byte large result_variable branch
+    operand_values operand_value print_address text_at decoded unpacked_text decimal
 text_past_the_story = refl
 
 -- nop, twice
 nothing_done : option_map shown (opening (story_of (0xB4 ∷ 0xB4 ∷ 0xBA ∷ [])) 1000000) ≡ Some (places.Quit, [])
-unfolding opening turn_from weight step perform decode opcode operands operand byte large result_variable branch operand_values operand_value
+unfolding opening turn_from weight step perform decode opcode operands operand byte large result_variable branch
+    operand_values operand_value
 nothing_done = refl

@@ -64,7 +64,8 @@ escape_of_no_character = refl
 
 -- a story with a table at 64, whose first abbreviation at 256 is "hello", and a text at 260 that is it and "a"
 with_table : List ℕ
-with_table = replicate 24 0 ++ (0 ∷ 64 ∷ []) ++ replicate 38 0 ++ (0 ∷ 128 ∷ []) ++ replicate 190 0 ++ (0x35 ∷ 0x51 ∷ 0xC6 ∷ 0x85 ∷ 0x84 ∷ 0x06 ∷ [])
+with_table = replicate 24 0 ++ (0 ∷ 64 ∷ []) ++ replicate 38 0 ++ (0 ∷ 128 ∷ []) ++ replicate 190 0
+    ++ (0x35 ∷ 0x51 ∷ 0xC6 ∷ 0x85 ∷ 0x84 ∷ 0x06 ∷ [])
 
 abbreviation_decoded : decoded with_table 260 ≡ Ok (codes "helloa", 262)
 unfolding decoded abbreviation unpacked_text reads with_table
@@ -72,7 +73,8 @@ abbreviation_decoded = refl
 
 -- the same, where the abbreviation uses one itself
 with_nested : List ℕ
-with_nested = replicate 24 0 ++ (0 ∷ 64 ∷ []) ++ replicate 38 0 ++ (0 ∷ 128 ∷ []) ++ replicate 190 0 ++ (0x84 ∷ 0x06 ∷ [])
+with_nested = replicate 24 0 ++ (0 ∷ 64 ∷ []) ++ replicate 38 0 ++ (0 ∷ 128 ∷ []) ++ replicate 190 0
+    ++ (0x84 ∷ 0x06 ∷ [])
 
 nested_refused : decoded with_nested 256 ≡ Err Abbreviation
 unfolding decoded abbreviation unpacked_text reads with_nested

@@ -1,18 +1,27 @@
 -- The definitions of the machine, computed at a small story of 684 bytes and at single instructions.
-use Rattle.std.proofs.Common.{◌≡◌, ℕ, List, [], ◌∷◌, ◌++◌, Some, None, Ok, Err, true, false, refl}
+use Rattle.std.proofs.Common.{◌≡◌, ℕ, List, [], ◌∷◌, ◌++◌, Some, None, Ok, Err, true, refl}
 use Rattle.std.specs.Prelude.{codes, replicate, option_map}
 use Rattle.zcore.specs.declared.place.Fault.TheVariants as faults
 use Rattle.zcore.specs.declared.place.Limit.TheVariants as limits
 use Rattle.zcore.specs.declared.place.Place.{Place}
 use Rattle.zcore.specs.declared.place.Place.TheVariants as places
-use Rattle.zcore.specs.declared.instruction.Operation.TheVariants.{JumpIfEqual, Add, Div, Mod, Jump, Call1n, PrintNumber}
+use Rattle.zcore.specs.declared.instruction.Operation.TheVariants.{JumpIfEqual, Add, Div, Mod, Jump, Call1n}
+use Rattle.zcore.specs.declared.instruction.Operation.TheVariants.{PrintNumber}
 use Rattle.zcore.specs.declared.instruction.Operand.TheVariants.{Large, Small, Variable}
 use Rattle.zcore.specs.declared.next.Next.{Next}
-use Rattle.zcore.specs.Instruction.{decode, bytes_of, opcode, operands, operand, byte, large, result_variable, branch_at, branch, variable_types, types_bytes}
+use Rattle.zcore.specs.Instruction.{decode, bytes_of, opcode, operands, operand, byte, large, result_variable}
+use Rattle.zcore.specs.Instruction.{branch, variable_types, types_bytes}
 use Rattle.zcore.specs.State.{Frame, State, done, halt}
 use Rattle.zcore.specs.Turn.{Whole, first_state, opening, turn_from, weight}
-use Rattle.zcore.specs.Step.{step, perform, give_result, divide, modulo, load, store, increment, decrement, write_and_branch, increment_check, decrement_check, pull, load_word, load_byte, store_word, jump, call_packed, check_argument_count, print_characters, print_character, print_inline, print_address, text_at}
-use Rattle.zcore.specs.Parts.{read_in_place, write_in_place, push, pop, read_byte, read_word, write_word, read_local, read_global, write_global, read_variable, write_variable, test_variable, test_pull, operand_value, operand_values, test_result, store_result, test_target, spend, go, test_routine, test_calls, enter, call, test_return, leave, give_back, take_branch, branch_on, test_taken, test_branch, print}
+use Rattle.zcore.specs.Execution.{step, perform, give_result, divide, modulo, load, store, increment, decrement}
+use Rattle.zcore.specs.Execution.{pull}
+use Rattle.zcore.specs.Execution.{jump, call_packed, print_characters}
+use Rattle.zcore.specs.Execution.{print_inline, text_at}
+use Rattle.zcore.specs.Parts.{read_in_place, write_in_place, push, pop}
+use Rattle.zcore.specs.Parts.{read_global, write_global, read_variable, write_variable, test_variable, test_pull}
+use Rattle.zcore.specs.Parts.{operand_value, operand_values, test_result, store_result, test_target, spend, go}
+use Rattle.zcore.specs.Parts.{test_return, give_back}
+use Rattle.zcore.specs.Parts.{print}
 use Rattle.zcore.specs.Text.{decoded, abbreviation}
 use Rattle.zcore.specs.Reading.{reads}
 use Rattle.zcore.specs.Words.{unpacked_text}
@@ -29,99 +38,146 @@ story_of code =
 abbrev pub shown : Whole → Place × List ℕ
 shown whole = (whole.place, whole.text)
 
-hello : option_map shown (opening (story_of (0xB2 ∷ 0x35 ∷ 0x51 ∷ 0xC6 ∷ 0x85 ∷ 0xBA ∷ [])) 1000000) ≡ Some (places.Quit, codes "hello")
-unfolding opening turn_from weight step perform print_inline text_at decoded abbreviation reads unpacked_text decode opcode operands operand byte large result_variable branch print operand_values
+hello : option_map shown (opening (story_of (0xB2 ∷ 0x35 ∷ 0x51 ∷ 0xC6 ∷ 0x85 ∷ 0xBA ∷ [])) 1000000)
+    ≡ Some (places.Quit, codes "hello")
+unfolding opening turn_from weight step perform print_inline text_at decoded abbreviation reads unpacked_text decode
+    opcode operands operand byte large result_variable branch print operand_values
 hello = refl
 
-remainder_printed : option_map shown (opening (story_of (0xD8 ∷ 0x1F ∷ 0xFF ∷ 0xF3 ∷ 0x05 ∷ 0x00 ∷ 0xE6 ∷ 0xBF ∷ 0x00 ∷ 0xBA ∷ [])) 1000000) ≡ Some (places.Quit, codes "-3")
-unfolding opening turn_from weight step perform modulo print_characters decode opcode operands operand byte large result_variable branch print operand_values operand_value test_result store_result write_variable read_variable push pop remainder signed_text decimal
+remainder_printed : option_map shown
+    (opening (story_of (0xD8 ∷ 0x1F ∷ 0xFF ∷ 0xF3 ∷ 0x05 ∷ 0x00 ∷ 0xE6 ∷ 0xBF ∷ 0x00 ∷ 0xBA ∷ [])) 1000000)
+    ≡ Some (places.Quit, codes "-3")
+unfolding opening turn_from weight step perform modulo print_characters decode opcode operands operand byte large
+    result_variable branch print operand_values operand_value test_result store_result write_variable read_variable
+    push pop remainder signed_text decimal
 remainder_printed = refl
 
-sum_printed : option_map shown (opening (story_of (0x54 ∷ 0x10 ∷ 0x05 ∷ 0x11 ∷ 0xE6 ∷ 0xBF ∷ 0x11 ∷ 0xBA ∷ [])) 1000000) ≡ Some (places.Quit, codes "5")
-unfolding opening turn_from weight step perform give_result print_characters decode opcode operands operand byte large result_variable branch print operand_values operand_value test_result store_result write_variable write_global read_variable read_global signed_text decimal
+sum_printed : option_map shown
+    (opening (story_of (0x54 ∷ 0x10 ∷ 0x05 ∷ 0x11 ∷ 0xE6 ∷ 0xBF ∷ 0x11 ∷ 0xBA ∷ [])) 1000000)
+    ≡ Some (places.Quit, codes "5")
+unfolding opening turn_from weight step perform give_result print_characters decode opcode operands operand byte
+    large result_variable branch print operand_values operand_value test_result store_result write_variable
+    write_global read_variable read_global signed_text decimal
 sum_printed = refl
 
-endless_jump : option_map shown (opening (story_of (0x8C ∷ 0xFF ∷ 0xFF ∷ [])) 3) ≡ Some (places.Limit limits.Fuel, 10 ∷ codes "[Limit: turn too long]" ++ 10 ∷ [])
-unfolding opening turn_from weight step perform jump decode opcode operands operand byte large result_variable branch operand_values operand_value test_target go spend
+endless_jump : option_map shown (opening (story_of (0x8C ∷ 0xFF ∷ 0xFF ∷ [])) 3)
+    ≡ Some (places.Limit limits.Fuel, 10 ∷ codes "[Limit: turn too long]" ++ 10 ∷ [])
+unfolding opening turn_from weight step perform jump decode opcode operands operand byte large result_variable branch
+    operand_values operand_value test_target go spend
 endless_jump = refl
 
-divided_by_zero : option_map shown (opening (story_of (0x57 ∷ 0x10 ∷ 0x00 ∷ 0x11 ∷ [])) 1000000) ≡ Some (places.Fault faults.Division, 10 ∷ codes "[Machine fault: M7]" ++ 10 ∷ [])
-unfolding opening turn_from weight step perform divide decode opcode operands operand byte large result_variable branch operand_values operand_value read_variable read_global decimal
+divided_by_zero : option_map shown (opening (story_of (0x57 ∷ 0x10 ∷ 0x00 ∷ 0x11 ∷ [])) 1000000)
+    ≡ Some (places.Fault faults.Division, 10 ∷ codes "[Machine fault: M7]" ++ 10 ∷ [])
+unfolding opening turn_from weight step perform divide decode opcode operands operand byte large result_variable
+    branch operand_values operand_value read_variable read_global decimal
 divided_by_zero = refl
 
-returned_from_first : option_map shown (opening (story_of (0xB0 ∷ [])) 1000000) ≡ Some (places.Fault faults.Return, 10 ∷ codes "[Machine fault: M11]" ++ 10 ∷ [])
-unfolding opening turn_from weight step perform give_back test_return decode opcode operands operand byte large result_variable branch operand_values decimal
+returned_from_first : option_map shown (opening (story_of (0xB0 ∷ [])) 1000000)
+    ≡ Some (places.Fault faults.Return, 10 ∷ codes "[Machine fault: M11]" ++ 10 ∷ [])
+unfolding opening turn_from weight step perform give_back test_return decode opcode operands operand byte large
+    result_variable branch operand_values decimal
 returned_from_first = refl
 
-extended : option_map shown (opening (story_of (0xBE ∷ 0x00 ∷ [])) 1000000) ≡ Some (places.Fault faults.Opcode, 10 ∷ codes "[Machine fault: M1]" ++ 10 ∷ [])
+extended : option_map shown (opening (story_of (0xBE ∷ 0x00 ∷ [])) 1000000)
+    ≡ Some (places.Fault faults.Opcode, 10 ∷ codes "[Machine fault: M1]" ++ 10 ∷ [])
 unfolding opening turn_from weight step decode opcode byte decimal
 extended = refl
 
 -- an instruction below 64 is none, and at 64 it is one
-code_in_header : step (record { program_counter = 63; fuel = 5 }) (first_state (replicate 63 0 ++ 0xBA ∷ 0xBA ∷ [])) ≡ halt (places.Fault faults.Code) (first_state (replicate 63 0 ++ 0xBA ∷ 0xBA ∷ []))
+code_in_header : step (record { program_counter = 63; fuel = 5 }) (first_state (replicate 63 0 ++ 0xBA ∷ 0xBA ∷ []))
+    ≡ halt (places.Fault faults.Code) (first_state (replicate 63 0 ++ 0xBA ∷ 0xBA ∷ []))
 unfolding step
 code_in_header = refl
 
-code_behind_header : step (record { program_counter = 64; fuel = 5 }) (first_state (replicate 63 0 ++ 0xBA ∷ 0xBA ∷ [])) ≡ halt places.Quit (first_state (replicate 63 0 ++ 0xBA ∷ 0xBA ∷ []))
+code_behind_header : step (record { program_counter = 64; fuel = 5 })
+    (first_state (replicate 63 0 ++ 0xBA ∷ 0xBA ∷ []))
+    ≡ halt places.Quit (first_state (replicate 63 0 ++ 0xBA ∷ 0xBA ∷ []))
 unfolding step perform decode opcode operands byte result_variable branch operand_values
 code_behind_header = refl
 
-jumped_past : option_map shown (opening (story_of (0x8C ∷ 0x7F ∷ 0xFF ∷ [])) 1000000) ≡ Some (places.Fault faults.Code, 10 ∷ codes "[Machine fault: M2]" ++ 10 ∷ [])
-unfolding opening turn_from weight step perform jump decode opcode operands operand byte large result_variable branch operand_values operand_value test_target decimal
+jumped_past : option_map shown (opening (story_of (0x8C ∷ 0x7F ∷ 0xFF ∷ [])) 1000000)
+    ≡ Some (places.Fault faults.Code, 10 ∷ codes "[Machine fault: M2]" ++ 10 ∷ [])
+unfolding opening turn_from weight step perform jump decode opcode operands operand byte large result_variable branch
+    operand_values operand_value test_target decimal
 jumped_past = refl
 
-abbreviated_without_table : option_map shown (opening (story_of (0xB2 ∷ 0x84 ∷ 0x00 ∷ [])) 1000000) ≡ Some (places.Fault faults.Character, 10 ∷ codes "[Machine fault: M10]" ++ 10 ∷ [])
-unfolding opening turn_from weight step perform print_inline text_at decoded abbreviation reads unpacked_text decode opcode operands operand byte large result_variable branch operand_values decimal
+abbreviated_without_table : option_map shown (opening (story_of (0xB2 ∷ 0x84 ∷ 0x00 ∷ [])) 1000000)
+    ≡ Some (places.Fault faults.Character, 10 ∷ codes "[Machine fault: M10]" ++ 10 ∷ [])
+unfolding opening turn_from weight step perform print_inline text_at decoded abbreviation reads unpacked_text decode
+    opcode operands operand byte large result_variable branch operand_values decimal
 abbreviated_without_table = refl
 
 -- instructions, decoded and encoded
 
-number_decoded : decode (0xE6 ∷ 0xBF ∷ 0x10 ∷ []) 0 ≡ Ok (record { operation = PrintNumber; operands = Variable 16 ∷ []; result = None; branch = None }, 3)
+number_decoded : decode (0xE6 ∷ 0xBF ∷ 0x10 ∷ []) 0
+    ≡ Ok (record { operation = PrintNumber; operands = Variable 16 ∷ []; result = None; branch = None }, 3)
 unfolding decode opcode operands operand byte result_variable branch
 number_decoded = refl
 
-number_encoded : bytes_of (record { operation = PrintNumber; operands = Variable 16 ∷ []; result = None; branch = None }) ≡ 0xE6 ∷ 0xBF ∷ 0x10 ∷ []
+number_encoded : bytes_of
+    (record { operation = PrintNumber; operands = Variable 16 ∷ []; result = None; branch = None })
+    ≡ 0xE6 ∷ 0xBF ∷ 0x10 ∷ []
 unfolding bytes_of
 number_encoded = refl
 
-jump_decoded : decode (0x8C ∷ 0xFF ∷ 0xFF ∷ []) 0 ≡ Ok (record { operation = Jump; operands = Large 65535 ∷ []; result = None; branch = None }, 3)
+jump_decoded : decode (0x8C ∷ 0xFF ∷ 0xFF ∷ []) 0
+    ≡ Ok (record { operation = Jump; operands = Large 65535 ∷ []; result = None; branch = None }, 3)
 unfolding decode opcode operands operand large byte result_variable branch
 jump_decoded = refl
 
-jump_encoded : bytes_of (record { operation = Jump; operands = Large 65535 ∷ []; result = None; branch = None }) ≡ 0x8C ∷ 0xFF ∷ 0xFF ∷ []
+jump_encoded : bytes_of (record { operation = Jump; operands = Large 65535 ∷ []; result = None; branch = None })
+    ≡ 0x8C ∷ 0xFF ∷ 0xFF ∷ []
 unfolding bytes_of
 jump_encoded = refl
 
-long_decoded : decode (0x57 ∷ 0x10 ∷ 0x05 ∷ 0x11 ∷ []) 0 ≡ Ok (record { operation = Div; operands = Variable 16 ∷ Small 5 ∷ []; result = Some 17; branch = None }, 4)
+long_decoded : decode (0x57 ∷ 0x10 ∷ 0x05 ∷ 0x11 ∷ []) 0
+    ≡ Ok (record { operation = Div; operands = Variable 16 ∷ Small 5 ∷ []; result = Some 17; branch = None }, 4)
 unfolding decode opcode operands operand byte result_variable branch
 long_decoded = refl
 
-long_encoded : bytes_of (record { operation = Div; operands = Variable 16 ∷ Small 5 ∷ []; result = Some 17; branch = None }) ≡ 0x57 ∷ 0x10 ∷ 0x05 ∷ 0x11 ∷ []
+long_encoded : bytes_of
+    (record { operation = Div; operands = Variable 16 ∷ Small 5 ∷ []; result = Some 17; branch = None })
+    ≡ 0x57 ∷ 0x10 ∷ 0x05 ∷ 0x11 ∷ []
 unfolding bytes_of
 long_encoded = refl
 
-sum_decoded : decode (0x54 ∷ 0x10 ∷ 0x05 ∷ 0x11 ∷ []) 0 ≡ Ok (record { operation = Add; operands = Variable 16 ∷ Small 5 ∷ []; result = Some 17; branch = None }, 4)
+sum_decoded : decode (0x54 ∷ 0x10 ∷ 0x05 ∷ 0x11 ∷ []) 0
+    ≡ Ok (record { operation = Add; operands = Variable 16 ∷ Small 5 ∷ []; result = Some 17; branch = None }, 4)
 unfolding decode opcode operands operand byte result_variable branch
 sum_decoded = refl
 
-sum_encoded : bytes_of (record { operation = Add; operands = Variable 16 ∷ Small 5 ∷ []; result = Some 17; branch = None }) ≡ 0x54 ∷ 0x10 ∷ 0x05 ∷ 0x11 ∷ []
+sum_encoded : bytes_of
+    (record { operation = Add; operands = Variable 16 ∷ Small 5 ∷ []; result = Some 17; branch = None })
+    ≡ 0x54 ∷ 0x10 ∷ 0x05 ∷ 0x11 ∷ []
 unfolding bytes_of
 sum_encoded = refl
 
-call_decoded : decode (0x8F ∷ 0x00 ∷ 0x00 ∷ []) 0 ≡ Ok (record { operation = Call1n; operands = Large 0 ∷ []; result = None; branch = None }, 3)
+call_decoded : decode (0x8F ∷ 0x00 ∷ 0x00 ∷ []) 0
+    ≡ Ok (record { operation = Call1n; operands = Large 0 ∷ []; result = None; branch = None }, 3)
 unfolding decode opcode operands operand large byte result_variable branch
 call_decoded = refl
 
-call_encoded : bytes_of (record { operation = Call1n; operands = Large 0 ∷ []; result = None; branch = None }) ≡ 0x8F ∷ 0x00 ∷ 0x00 ∷ []
+call_encoded : bytes_of (record { operation = Call1n; operands = Large 0 ∷ []; result = None; branch = None })
+    ≡ 0x8F ∷ 0x00 ∷ 0x00 ∷ []
 unfolding bytes_of
 call_encoded = refl
 
 equal_decoded : decode (0xC1 ∷ 0x95 ∷ 0x10 ∷ 0x01 ∷ 0x02 ∷ 0x03 ∷ 0x80 ∷ 0x02 ∷ []) 0
-    ≡ Ok (record { operation = JumpIfEqual; operands = Variable 16 ∷ Small 1 ∷ Small 2 ∷ Small 3 ∷ []; result = None; branch = Some (record { when = true; offset = 2 }) }, 8)
+    ≡ Ok (
+      record {
+        operation = JumpIfEqual;
+        operands = Variable 16 ∷ Small 1 ∷ Small 2 ∷ Small 3 ∷ [];
+        result = None;
+        branch = Some (record { when = true; offset = 2 });
+      },
+      8,
+    )
 unfolding decode opcode operands operand byte result_variable branch
 equal_decoded = refl
 
-variable_encoded : bytes_of (record { operation = Mod; operands = Large 0xFFF3 ∷ Small 5 ∷ []; result = Some 0; branch = None }) ≡ 0xD8 ∷ 0x1F ∷ 0xFF ∷ 0xF3 ∷ 0x05 ∷ 0x00 ∷ []
+variable_encoded : bytes_of
+    (record { operation = Mod; operands = Large 0xFFF3 ∷ Small 5 ∷ []; result = Some 0; branch = None })
+    ≡ 0xD8 ∷ 0x1F ∷ 0xFF ∷ 0xF3 ∷ 0x05 ∷ 0x00 ∷ []
 unfolding bytes_of
 variable_encoded = refl
 
@@ -157,7 +213,8 @@ one_word word = with_words (word ∷ [])
 abbrev pub in_routine : State
 in_routine = record {
   memory = replicate 100 0;
-  frames = record { locals = []; stack = []; arguments = 0; return_address = 99; result = Some 0 } ∷ frame_with [] ∷ [];
+  frames = record { locals = []; stack = []; arguments = 0; return_address = 99; result = Some 0 } ∷ frame_with []
+      ∷ [];
   pending = None;
   text = [];
 }
@@ -207,6 +264,7 @@ unfolding load test_variable
 no_variable = refl
 
 -- a call of address 0 gives 0 without a unit
-called_nothing : call_packed (record { program_counter = 70; fuel = 0 }) 74 (Some 0) 0 [] (one_word 5) ≡ done (record { program_counter = 74; fuel = 0 }) (with_words (5 ∷ 0 ∷ []))
+called_nothing : call_packed (record { program_counter = 70; fuel = 0 }) 74 (Some 0) 0 [] (one_word 5)
+    ≡ done (record { program_counter = 74; fuel = 0 }) (with_words (5 ∷ 0 ∷ []))
 unfolding call_packed give_result test_result store_result write_variable push
 called_nothing = refl

@@ -1,9 +1,12 @@
 -- The spelling of characters.
-use Rattle.std.proofs.Common.{◌≡◌, ℕ, zero, suc, ◌+◌, ◌-◌, ◌/◌, ◌%◌, ◌<◌, ◌≤◌, ◌&&◌, ◌||◌, not, Bool, true, false, cond, eqb, leb, ltb, List, [], ◌∷◌, ◌++◌, Some, None, Option, refl, eqb-true, sym, ap, subst, ◌∙◌, arith, ◌⊎◌, inl, inr}
+use Rattle.std.proofs.Common.{◌≡◌, ℕ, zero, suc, ◌+◌, ◌-◌, ◌/◌, ◌%◌, ◌<◌, ◌≤◌, ◌&&◌, ◌||◌, not, Bool, true, false}
+use Rattle.std.proofs.Common.{cond, eqb, leb, ltb, List, [], ◌∷◌, ◌++◌, Some, None, Option, refl, eqb-true, sym, ap}
+use Rattle.std.proofs.Common.{subst, ◌∙◌, arith, ◌⊎◌, inl, inr}
 use Rattle.std.specs.Prelude.{replicate}
-use Rattle.std.proofs.lemmas.Bool.{leb-true, cases_lt, ne_eqb, and_parts}
+use Rattle.std.proofs.lemmas.Bool.{leb-true, cases_lt, and_parts}
 use Rattle.std.proofs.lemmas.Bool.Decides.{nat_tests}
-use Rattle.zcore.specs.Alphabets.{is_printable, lower_letters, upper_letters, punctuation, place_in, spelling_in_punctuation, spelling_of, spelled}
+use Rattle.zcore.specs.Alphabets.{is_printable, punctuation, place_in}
+use Rattle.zcore.specs.Alphabets.{spelling_in_punctuation, spelling_of, spelled}
 use Rattle.zcore.specs.TextParts.{AreSmall}
 use Rattle.zcore.proofs.Packing.{small_append}
 
@@ -17,7 +20,8 @@ pub below_at : (f : ℕ → Bool) (n b : ℕ) → each_below f n ≡ true → b 
 below_at f zero b e lt = absurd (omega arith)
 below_at f (suc n) b e lt =
     let parts = and_parts (f n) (each_below f n) e in
-    elim (cases_lt b n) [ inl less ↦ below_at f n b parts.1 less | inr le ↦ let is : b ≡ n = omega arith in rw is parts.0 ]
+    elim (cases_lt b n)
+    [ inl less ↦ below_at f n b parts.1 less | inr le ↦ let is : b ≡ n = omega arith in rw is parts.0 ]
 
 abbrev all_small : List ℕ → Bool
 all_small [] = true
@@ -25,7 +29,8 @@ all_small (z ∷ zs) = leb (suc z) 32 && all_small zs
 
 small_from : (zs : List ℕ) → all_small zs ≡ true → AreSmall zs
 small_from [] e = tt
-small_from (z ∷ zs) e = let p = and_parts (leb (suc z) 32) (all_small zs) e in (leb-true (suc z) 32 p.0, small_from zs p.1)
+small_from (z ∷ zs) e = let p = and_parts (leb (suc z) 32) (all_small zs) e in
+    (leb-true (suc z) 32 p.0, small_from zs p.1)
 
 -- ---- letters by arithmetic
 
@@ -46,11 +51,14 @@ same_is (x ∷ xs) (y ∷ ys) e =
 abbrev agree_from : (ℕ → List ℕ) → ℕ → ℕ → Bool
 agree_from f first last = each_below (λ n. same (f (first + n)) (spelling_of (first + n))) (suc last - first)
 
-agree_at : (f : ℕ → List ℕ) (first last c : ℕ) → agree_from f first last ≡ true → first ≤ c → c ≤ last → f c ≡ spelling_of c
+agree_at : (f : ℕ → List ℕ) (first last c : ℕ) → agree_from f first last ≡ true → first ≤ c → c ≤ last
+    → f c ≡ spelling_of c
 agree_at f first last c e low high =
     let there : first + (c - first) ≡ c = omega arith in
     subst (λ n. f n ≡ spelling_of n) there
-    (same_is _ _ (below_at (λ n. same (f (first + n)) (spelling_of (first + n))) (suc last - first) (c - first) e (omega arith)))
+    (same_is _ _
+    (below_at (λ n. same (f (first + n)) (spelling_of (first + n))) (suc last - first) (c - first) e
+    (omega arith)))
 
 lower_agree : agree_from (λ c. (c - 97 + 6) ∷ []) 97 122 ≡ true
 unfolding spelling_of
@@ -77,7 +85,8 @@ line_spelling = refl
 abbrev is_sign : ℕ → Bool
 is_sign c = not ((leb 97 c && leb c 122) || (leb 65 c && leb c 90) || eqb c 32 || eqb c 13)
 
-signs_agree : each_below (λ c. not (is_sign c) || same (spelling_in_punctuation (place_in punctuation c) c) (spelling_of c)) 256 ≡ true
+signs_agree : each_below
+    (λ c. not (is_sign c) || same (spelling_in_punctuation (place_in punctuation c) c) (spelling_of c)) 256 ≡ true
 unfolding spelling_of
 signs_agree = refl
 
@@ -92,15 +101,20 @@ is_sign_by c (inl a) (inr b) s l = let x = a.1 in grind (arith, nat_tests)
 is_sign_by c (inr a) (inl b) s l = let y = b.1 in grind (arith, nat_tests)
 is_sign_by c (inr a) (inr b) s l = grind (arith, nat_tests)
 
-pub sign_spelling : (c : ℕ) → c < 256 → is_sign c ≡ true → spelling_in_punctuation (place_in punctuation c) c ≡ spelling_of c
-sign_spelling c lt is = same_is _ _ (sign_same (is_sign c) _ (below_at (λ c. not (is_sign c) || same (spelling_in_punctuation (place_in punctuation c) c) (spelling_of c)) 256 c signs_agree lt) is)
+pub sign_spelling : (c : ℕ) → c < 256 → is_sign c ≡ true
+    → spelling_in_punctuation (place_in punctuation c) c ≡ spelling_of c
+sign_spelling c lt is = same_is _ _
+    (sign_same (is_sign c) _
+    (below_at (λ c. not (is_sign c) || same (spelling_in_punctuation (place_in punctuation c) c) (spelling_of c)) 256
+    c signs_agree lt) is)
 
 all_spelled_small : each_below (λ c. all_small (spelling_of c)) 256 ≡ true
 unfolding spelling_of
 all_spelled_small = refl
 
 pub spelling_small : (c : ℕ) → c < 256 → AreSmall (spelling_of c)
-spelling_small c lt = small_from (spelling_of c) (below_at (λ c. all_small (spelling_of c)) 256 c all_spelled_small lt)
+spelling_small c lt = small_from (spelling_of c)
+    (below_at (λ c. all_small (spelling_of c)) 256 c all_spelled_small lt)
 
 -- every element is a byte
 abbrev pub AreBytes : List ℕ → Type 0

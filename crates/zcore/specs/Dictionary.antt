@@ -16,4 +16,5 @@ entry_in story at bytes (suc count) key =
 -- the address of the entry that has the key, or 0
 unfoldable pub entry_of : List ℕ → ℕ → ℕ → ℕ
 entry_of story dictionary key =
-    entry_in story (first_entry story dictionary) (entry_length_of story dictionary) (entry_count story dictionary) key
+    entry_in story (first_entry story dictionary) (entry_length_of story dictionary) (entry_count story dictionary)
+    key

@@ -1,5 +1,6 @@
 -- Words for the contracts of the functions within the crate.
-use Rattle.std.specs.Prelude.{◌≡◌, ◌+◌, ◌*◌, ◌/◌, ◌%◌, ◌<◌, ℕ, zero, suc, min, Bool, true, false, List, [], ◌∷◌, ◌++◌, length, take, replicate, slice_index, Result, Ok, Err}
+use Rattle.std.specs.Prelude.{◌≡◌, ◌+◌, ◌*◌, ◌/◌, ◌%◌, ◌<◌, ℕ, zero, suc, min, Bool, true, false, List, [], ◌∷◌, ◌++◌}
+use Rattle.std.specs.Prelude.{length, take, replicate, slice_index, Result, Ok, Err}
 use Rattle.zcore.specs.declared.fault.TextFault.{TextFault}
 use Rattle.zcore.specs.declared.fault.TextFault.TheVariants as faults
 use Rattle.zcore.specs.declared.reading.State.TheVariants as code
@@ -7,7 +8,8 @@ use Rattle.zcore.specs.declared.reading.State as declared
 use Rattle.zcore.specs.declared.reading.Output.{Output}
 use Rattle.zcore.specs.declared.reading.Output.TheVariants as outputs
 use Rattle.zcore.specs.Results.{◌>>=◌}
-use Rattle.zcore.specs.Reading.{Cause, Character, State, Lower, Upper, Punctuation, EscapeHigh, EscapeLow, Abbreviated}
+use Rattle.zcore.specs.Reading.{Cause, Character, State, Lower, Upper, Punctuation, EscapeHigh, EscapeLow}
+use Rattle.zcore.specs.Reading.{Abbreviated}
 use Rattle.zcore.specs.Words.{three_of}
 use Rattle.zcore.specs.Text.{refused, abbreviation}
 
@@ -23,7 +25,8 @@ words_of (suc n) bytes = words_of n bytes ++ three_of (slice_index bytes (2 * n)
 
 -- the Z-character at a place of a text that stands at the front of bytes
 abbrev pub z_character_at : List ℕ → ℕ → ℕ
-z_character_at bytes place = slice_index (three_of (slice_index bytes (2 * (place / 3))) (slice_index bytes (2 * (place / 3) + 1))) (place % 3)
+z_character_at bytes place = slice_index
+    (three_of (slice_index bytes (2 * (place / 3))) (slice_index bytes (2 * (place / 3) + 1))) (place % 3)
 
 -- the state of the definitions that a state of the code is
 abbrev pub state_of : declared.State → State

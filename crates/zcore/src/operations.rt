@@ -61,12 +61,20 @@ impl Operation {
             Operation::JumpIfGreater => branching(Two, 3, 2, 2),
             Operation::DecrementCheck => branching(Two, 4, 2, 2),
             Operation::IncrementCheck => branching(Two, 5, 2, 2),
+            Operation::JumpIfIn => branching(Two, 6, 2, 2),
             Operation::TestBits => branching(Two, 7, 2, 2),
             Operation::Or => storing(Two, 8, 2, 2),
             Operation::And => storing(Two, 9, 2, 2),
+            Operation::TestAttribute => branching(Two, 10, 2, 2),
+            Operation::SetAttribute => plain(Two, 11, 2, 2),
+            Operation::ClearAttribute => plain(Two, 12, 2, 2),
             Operation::Store => plain(Two, 13, 2, 2),
+            Operation::InsertObject => plain(Two, 14, 2, 2),
             Operation::LoadWord => storing(Two, 15, 2, 2),
             Operation::LoadByte => storing(Two, 16, 2, 2),
+            Operation::GetProperty => storing(Two, 17, 2, 2),
+            Operation::GetPropertyAddress => storing(Two, 18, 2, 2),
+            Operation::GetNextProperty => storing(Two, 19, 2, 2),
             Operation::Add => storing(Two, 20, 2, 2),
             Operation::Sub => storing(Two, 21, 2, 2),
             Operation::Mul => storing(Two, 22, 2, 2),
@@ -75,10 +83,16 @@ impl Operation {
             Operation::Call2s => storing(Two, 25, 2, 2),
             Operation::Call2n => plain(Two, 26, 2, 2),
             Operation::JumpIfZero => branching(One, 0, 1, 1),
+            Operation::GetSibling => finding(One, 1, 1, 1),
+            Operation::GetChild => finding(One, 2, 1, 1),
+            Operation::GetParent => storing(One, 3, 1, 1),
+            Operation::GetPropertyLength => storing(One, 4, 1, 1),
             Operation::Increment => plain(One, 5, 1, 1),
             Operation::Decrement => plain(One, 6, 1, 1),
             Operation::PrintAddress => plain(One, 7, 1, 1),
             Operation::Call1s => storing(One, 8, 1, 1),
+            Operation::RemoveObject => plain(One, 9, 1, 1),
+            Operation::PrintObject => plain(One, 10, 1, 1),
             Operation::Return => plain(One, 11, 1, 1),
             Operation::Jump => plain(One, 12, 1, 1),
             Operation::PrintPacked => plain(One, 13, 1, 1),
@@ -95,6 +109,7 @@ impl Operation {
             Operation::CallVs => storing(Several, 0, 1, 4),
             Operation::StoreWord => plain(Several, 1, 3, 3),
             Operation::StoreByte => plain(Several, 2, 3, 3),
+            Operation::PutProperty => plain(Several, 3, 3, 3),
             Operation::Read => storing(Several, 4, 2, 2),
             Operation::PrintCharacter => plain(Several, 5, 1, 1),
             Operation::PrintNumber => plain(Several, 6, 1, 1),
@@ -185,12 +200,20 @@ impl Operation {
             3 => Some(Operation::JumpIfGreater),
             4 => Some(Operation::DecrementCheck),
             5 => Some(Operation::IncrementCheck),
+            6 => Some(Operation::JumpIfIn),
             7 => Some(Operation::TestBits),
             8 => Some(Operation::Or),
             9 => Some(Operation::And),
+            10 => Some(Operation::TestAttribute),
+            11 => Some(Operation::SetAttribute),
+            12 => Some(Operation::ClearAttribute),
             13 => Some(Operation::Store),
+            14 => Some(Operation::InsertObject),
             15 => Some(Operation::LoadWord),
             16 => Some(Operation::LoadByte),
+            17 => Some(Operation::GetProperty),
+            18 => Some(Operation::GetPropertyAddress),
+            19 => Some(Operation::GetNextProperty),
             20 => Some(Operation::Add),
             21 => Some(Operation::Sub),
             22 => Some(Operation::Mul),
@@ -210,10 +233,16 @@ impl Operation {
     {
         match number {
             0 => Some(Operation::JumpIfZero),
+            1 => Some(Operation::GetSibling),
+            2 => Some(Operation::GetChild),
+            3 => Some(Operation::GetParent),
+            4 => Some(Operation::GetPropertyLength),
             5 => Some(Operation::Increment),
             6 => Some(Operation::Decrement),
             7 => Some(Operation::PrintAddress),
             8 => Some(Operation::Call1s),
+            9 => Some(Operation::RemoveObject),
+            10 => Some(Operation::PrintObject),
             11 => Some(Operation::Return),
             12 => Some(Operation::Jump),
             13 => Some(Operation::PrintPacked),
@@ -252,6 +281,7 @@ impl Operation {
             0 => Some(Operation::CallVs),
             1 => Some(Operation::StoreWord),
             2 => Some(Operation::StoreByte),
+            3 => Some(Operation::PutProperty),
             4 => Some(Operation::Read),
             5 => Some(Operation::PrintCharacter),
             6 => Some(Operation::PrintNumber),
@@ -312,6 +342,22 @@ fn branching(
     OpcodeRow {
         has_branch: true,
         ..plain(count, number, least_operands, most_operands)
+    }
+}
+
+/// A row with a result and a branch.
+#[inline(always)]
+fn finding(
+    count: OperandCount,
+    number: u8,
+    least_operands: usize,
+    most_operands: usize,
+) -> OpcodeRow
+    ensures { result ≡ table.finding count number least_operands most_operands }
+{
+    OpcodeRow {
+        has_result: true,
+        ..branching(count, number, least_operands, most_operands)
     }
 }
 

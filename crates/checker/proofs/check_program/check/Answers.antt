@@ -5,9 +5,13 @@ use Rattle.checker.proofs.Noted.{first_law}
 use Rattle.checker.proofs.check_program.check.Goals as goal
 
 pub returns-in-None : goal.returns-in-None
-returns-in-None c = (first_law (program_breaches (program_tree c.args.program)) None (sym c.in-Ok.ensures.breaches ∙ c.in-None.is), c.in-Ok.ensures.value)
+returns-in-None c = (
+  first_law (program_breaches (program_tree c.args.program)) None (sym c.in-Ok.ensures.breaches ∙ c.in-None.is),
+  c.in-Ok.ensures.value,
+)
 
 pub returns-in-Ok : goal.returns-in-Ok
 returns-in-Ok c =
-    let l = first_law (program_breaches (program_tree c.args.program)) (Some c.in-Some.breach) (sym c.in-Ok.ensures.breaches ∙ c.in-Some.is) in
+    let l = first_law (program_breaches (program_tree c.args.program)) (Some c.in-Some.breach)
+    (sym c.in-Ok.ensures.breaches ∙ c.in-Some.is) in
     inr (c.in-Some.breach, l.0, l.1, refl, refl)

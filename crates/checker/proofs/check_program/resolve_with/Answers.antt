@@ -2,7 +2,7 @@ use Rattle.std.proofs.Common.{List, ap, ◌∙◌}
 use Rattle.std.specs.Prelude.{map}
 use Rattle.syntax.specs.declared.tree.Directive.{Directive}
 use Rattle.syntax.specs.Tree.{directive_tree}
-use Rattle.checker.specs.Names.{first_table, in_table}
+use Rattle.checker.specs.Names.{first_table, no_counts, in_table}
 use Rattle.checker.specs.Noted.{noted}
 use Rattle.checker.specs.Programs.{directives_breaches, main_breaches, main_key, first_routine}
 use Rattle.checker.proofs.Whole.{program_checked, program_break}
@@ -10,10 +10,18 @@ use Rattle.checker.proofs.check_program.resolve_with.Goals as goal
 
 pub returns-clause-value : goal.returns-clause-value
 returns-clause-value c =
-    program_checked c.args.program.now c.args.whole.now.entries c.deref.result.now c.in_ok-found.found c.main_number-main.result c.new.result c.requires c.deref.ensures.value c.in_ok-found.ensures.found c.main_number-main.ensures.value c.new.ensures
+    program_checked c.args.program.now c.args.whole.now.entries c.deref.result.now c.in_ok-found.found
+    c.main_number-main.result c.new.result c.requires c.deref.ensures.value c.in_ok-found.ensures.found
+    c.main_number-main.ensures.value c.new.ensures
 
 pub returns-clause-breaches : goal.returns-clause-breaches
 returns-clause-breaches c =
-    program_break c.args.least.now c.all_directives.new.least c.main_number-main.new.least c.args.program.now c.args.whole.now.entries c.requires
-    (c.in_ok-found.ensures.breaches ∙ ap (λ (ds : List Directive). noted c.args.least.now (directives_breaches c.args.whole.now.entries first_table 0 0 (map directive_tree ds))) c.deref.ensures.value)
-    (c.main_number-main.ensures.breaches ∙ ap (λ (ds : List Directive). noted c.all_directives.new.least (main_breaches c.args.program.now.end (first_routine (map directive_tree ds) main_key) (in_table c.args.whole.now.entries main_key))) c.deref-2.ensures.value)
+    program_break c.args.least.now c.all_directives.new.least c.main_number-main.new.least c.args.program.now
+    c.args.whole.now.entries c.requires
+    (c.in_ok-found.ensures.breaches
+    ∙ ap (λ (ds : List Directive). noted c.args.least.now
+    (directives_breaches c.args.whole.now.entries first_table no_counts (map directive_tree ds))) c.deref.ensures.value)
+    (c.main_number-main.ensures.breaches
+    ∙ ap (λ (ds : List Directive). noted c.all_directives.new.least
+    (main_breaches c.args.program.now.end (first_routine (map directive_tree ds) main_key)
+    (in_table c.args.whole.now.entries main_key))) c.deref-2.ensures.value)

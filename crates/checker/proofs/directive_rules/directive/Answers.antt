@@ -1,6 +1,7 @@
 use Rattle.std.proofs.Common.{◌≡◌, refl, sym, ap, ◌∙◌}
 use Rattle.expressions.specs.Tree.{name_tree}
-use Rattle.syntax.specs.Tree.{DirectiveTree, global, constant, routine, directive_tree, optional_tree, value_tree, routine_tree}
+use Rattle.syntax.specs.Tree.{DirectiveTree, global, constant, routine, directive_tree, optional_tree, literal_tree}
+use Rattle.syntax.specs.Tree.{routine_tree}
 use Rattle.checker.specs.Noted.{noted}
 use Rattle.checker.specs.Programs.{twice, named_breaches, routine_breaches, directive_breaches}
 use Rattle.checker.proofs.Noted.{noted_two}
@@ -9,32 +10,51 @@ use Rattle.checker.proofs.directive_rules.directive.Goals as goal
 
 pub returns-in_ok-push-in-Global-clause-added : goal.returns-in_ok-push-in-Global-clause-added
 returns-in_ok-push-in-Global-clause-added c =
-    added_global c.args.whole.now.entries (directive_tree c.args.directive.now) (name_tree c.in-Global.name) (optional_tree c.in-Global.value) c.args.found.now _ c.global.result
+    added_global c.args.whole.now.entries (directive_tree c.args.directive.now) (name_tree c.in-Global.name)
+    (optional_tree c.in-Global.value) c.args.found.now _ c.global.result
     (ap directive_tree c.in-Global.is) c.in_ok-push-in-Global.ensures.items c.global.ensures.value refl
 
 pub returns-in_ok-push-in-Global-clause-breaches : goal.returns-in_ok-push-in-Global-clause-breaches
 returns-in_ok-push-in-Global-clause-breaches c =
-    let v : directive_tree c.args.directive.now ≡ global (name_tree c.in-Global.name) (optional_tree c.in-Global.value) = ap directive_tree c.in-Global.is in
+    let v : directive_tree c.args.directive.now ≡ global (name_tree c.in-Global.name)
+    (optional_tree c.in-Global.value) = ap directive_tree c.in-Global.is in
     c.global.ensures.breaches
-    ∙ ap (λ (d : DirectiveTree). noted c.args.least.now (directive_breaches c.args.whole.now.entries c.args.names.now.table.entries c.args.names.now.globals d)) (sym v)
+    ∙ ap (λ (d : DirectiveTree). noted c.args.least.now
+    (directive_breaches c.args.whole.now.entries c.args.names.now.table.entries c.args.names.now.counts d))
+    (sym v)
 
 pub returns-in-Constant-clause-added : goal.returns-in-Constant-clause-added
 returns-in-Constant-clause-added c =
-    added_constant c.args.whole.now.entries (directive_tree c.args.directive.now) (name_tree c.in-Constant.name) (value_tree c.in-Constant.value) c.args.found.now (ap directive_tree c.in-Constant.is)
+    added_constant c.args.whole.now.entries (directive_tree c.args.directive.now) (name_tree c.in-Constant.name)
+    (literal_tree c.in-Constant.value) c.args.found.now (ap directive_tree c.in-Constant.is)
 
 pub returns-in-Constant-clause-breaches : goal.returns-in-Constant-clause-breaches
 returns-in-Constant-clause-breaches c =
-    let v : directive_tree c.args.directive.now ≡ constant (name_tree c.in-Constant.name) (value_tree c.in-Constant.value) = ap directive_tree c.in-Constant.is in
-    noted_two c.args.least.now c.twice.new.least c.constant_value.new.least (twice c.args.names.now.table.entries (name_tree c.in-Constant.name)) (named_breaches c.args.whole.now.entries c.args.names.now.table.entries (value_tree c.in-Constant.value)) c.twice.ensures c.constant_value.ensures
-    ∙ ap (λ (d : DirectiveTree). noted c.args.least.now (directive_breaches c.args.whole.now.entries c.args.names.now.table.entries c.args.names.now.globals d)) (sym v)
+    let v : directive_tree c.args.directive.now ≡ constant (name_tree c.in-Constant.name)
+    (literal_tree c.in-Constant.value) = ap directive_tree c.in-Constant.is in
+    noted_two c.args.least.now c.twice.new.least c.constant_value.new.least
+    (twice c.args.names.now.table.entries (name_tree c.in-Constant.name))
+    (named_breaches c.args.whole.now.entries c.args.names.now.table.entries (literal_tree c.in-Constant.value))
+    c.twice.ensures c.constant_value.ensures
+    ∙ ap (λ (d : DirectiveTree). noted c.args.least.now
+    (directive_breaches c.args.whole.now.entries c.args.names.now.table.entries c.args.names.now.counts d))
+    (sym v)
 
 pub returns-in_ok-push-in-Routine-clause-added : goal.returns-in_ok-push-in-Routine-clause-added
 returns-in_ok-push-in-Routine-clause-added c =
-    added_routine c.args.whole.now.entries (directive_tree c.args.directive.now) (routine_tree c.in-Routine.written) c.args.found.now _ c.in_ok-routine-in-Routine.field-0
-    (ap directive_tree c.in-Routine.is) c.in_ok-push-in-Routine.ensures.items c.in_ok-routine-in-Routine.ensures.value refl
+    added_routine c.args.whole.now.entries (directive_tree c.args.directive.now) (routine_tree c.in-Routine.written)
+    c.args.found.now _ c.in_ok-routine-in-Routine.field-0
+    (ap directive_tree c.in-Routine.is) c.in_ok-push-in-Routine.ensures.items
+    c.in_ok-routine-in-Routine.ensures.value refl
 
 pub returns-in_ok-push-in-Routine-clause-breaches : goal.returns-in_ok-push-in-Routine-clause-breaches
 returns-in_ok-push-in-Routine-clause-breaches c =
-    let v : directive_tree c.args.directive.now ≡ routine (routine_tree c.in-Routine.written) = ap directive_tree c.in-Routine.is in
-    noted_two c.args.least.now c.twice-in-Routine.new.least c.routine.new.least (twice c.args.names.now.table.entries (name_tree c.in-Routine.written.name)) (routine_breaches c.args.whole.now.entries (routine_tree c.in-Routine.written)) c.twice-in-Routine.ensures c.in_ok-routine-in-Routine.ensures.breaches
-    ∙ ap (λ (d : DirectiveTree). noted c.args.least.now (directive_breaches c.args.whole.now.entries c.args.names.now.table.entries c.args.names.now.globals d)) (sym v)
+    let v : directive_tree c.args.directive.now ≡ routine (routine_tree c.in-Routine.written) = ap directive_tree
+    c.in-Routine.is in
+    noted_two c.args.least.now c.twice-in-Routine.new.least c.routine.new.least
+    (twice c.args.names.now.table.entries (name_tree c.in-Routine.written.name))
+    (routine_breaches c.args.whole.now.entries (routine_tree c.in-Routine.written)) c.twice-in-Routine.ensures
+    c.in_ok-routine-in-Routine.ensures.breaches
+    ∙ ap (λ (d : DirectiveTree). noted c.args.least.now
+    (directive_breaches c.args.whole.now.entries c.args.names.now.table.entries c.args.names.now.counts d))
+    (sym v)

@@ -10,7 +10,8 @@ pub returns-clause-breaches : goal.returns-clause-breaches
 returns-clause-breaches c =
     let whole = c.args.whole.now.entries in
     let own = twice c.args.names.now.table.entries (name_tree c.args.name) in
-    let many = cond (nat_le 232 c.args.names.now.globals) (at c.args.name.position 24) [] in
+    let many = cond (nat_le 232 c.args.names.now.counts.globals) (at c.args.name.position 24) [] in
     let value = initial_breaches whole (optional_tree c.args.value.now) in
     noted_two c.args.least.now c.twice.new.least c.initial.new.least own (many ++ value) c.twice.ensures
-    (noted_two c.twice.new.least c.count_globals.new.least c.initial.new.least many value c.count_globals.ensures c.initial.ensures.breaches)
+    (noted_two c.twice.new.least c.count_globals.new.least c.initial.new.least many value c.count_globals.ensures
+    c.initial.ensures.breaches)

@@ -6,9 +6,15 @@ use Rattle.checker.proofs.directive_rules.locals.Goals as goal
 
 pub loop-number-preserved : goal.loop-number-preserved
 loop-number-preserved c = record {
-  table = table_next c.loop-number.table.entries c.define.new.table.entries c.args.names.now c.loop-number.number _ c.loop-number-test.true c.loop-number.invariant.table c.in_ok-define.ensures;
-  least = locals_next c.loop-number.least c.twice.new.least c.count_locals.new.least c.loop-number.table.entries c.args.names.now c.loop-number.number _ c.loop-number-test.true c.loop-number.invariant.table c.twice.ensures c.count_locals.ensures ∙ c.loop-number.invariant.least;
+  table = table_next c.loop-number.table.entries c.define.new.table.entries c.args.names.now c.loop-number.number _
+      c.loop-number-test.true c.loop-number.invariant.table c.in_ok-define.ensures;
+  least = locals_next c.loop-number.least c.twice.new.least c.count_locals.new.least c.loop-number.table.entries
+      c.args.names.now c.loop-number.number _ c.loop-number-test.true c.loop-number.invariant.table c.twice.ensures
+      c.count_locals.ensures ∙ c.loop-number.invariant.least;
 }
 
 pub returns-clause-breaches : goal.returns-clause-breaches
-returns-clause-breaches c = sym (locals_end c.loop-number.least c.args.names.now c.loop-number.number (map name_tree (take c.loop-number.number c.args.names.now)) c.loop-number-test.false) ∙ c.loop-number.invariant.least
+returns-clause-breaches c = sym
+    (locals_end c.loop-number.least c.args.names.now c.loop-number.number
+    (map name_tree (take c.loop-number.number c.args.names.now)) c.loop-number-test.false)
+    ∙ c.loop-number.invariant.least

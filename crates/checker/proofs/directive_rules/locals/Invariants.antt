@@ -9,6 +9,9 @@ use Rattle.checker.proofs.directive_rules.locals.Given as goal
 
 abbrev pub invariant-loop-number : goal.invariant-loop-number
 invariant-loop-number l = record {
-  table : (key : List ℕ) → in_table l.table.entries key ≡ local_binding (local_from 0 (map name_tree (take l.number l.names)) key);
-  least : noted l.least (locals_breaches (map name_tree (take l.number l.names)) (map name_tree (drop l.number l.names))) ≡ noted l.fn.least (locals_breaches [] (map name_tree l.names));
+  table : (key : List ℕ) → in_table l.table.entries key
+      ≡ local_binding (local_from 0 (map name_tree (take l.number l.names)) key);
+  least : noted l.least
+      (locals_breaches (map name_tree (take l.number l.names)) (map name_tree (drop l.number l.names)))
+      ≡ noted l.fn.least (locals_breaches [] (map name_tree l.names));
 }

@@ -6,6 +6,8 @@ use Rattle.checker.proofs.directive_rules.routine_in.Goals as goal
 
 pub returns : goal.returns
 returns c =
-    let count : c.len.result ≡ length c.args.routine.now.locals.items = omega (arith, c.len.ensures, c.args.routine.now.locals.ok.0) in
-    routine_walked (look_in c.args.scope.now) c.args.routine.now c.deref.result.now c.len.result (map action_of c.in_ok-body.body.items) c.args.least.now c.all_statements.new.least
+    let count : c.len.result ≡ length c.args.routine.now.locals.items = omega
+    (arith, c.len.ensures, c.args.routine.now.locals.ok.0) in
+    routine_walked (look_in c.args.scope.now) c.args.routine.now c.deref.result.now c.len.result
+    (map action_of c.in_ok-body.body.items) c.args.least.now c.all_statements.new.least
     c.deref.ensures.value count c.in_ok-body.ensures

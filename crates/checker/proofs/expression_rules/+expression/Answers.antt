@@ -15,8 +15,10 @@ use Rattle.checker.specs.Expressions.{breaches, value_breaches, value_of_binding
 use Rattle.checker.specs.Walk.{value_link, own_breaches, resolved, link_breaches, resolved_link}
 use Rattle.checker.proofs.Noted.{noted_none, noted_two}
 use Rattle.checker.proofs.Each.{each_next, each_end, value_next, value_end}
-use Rattle.checker.proofs.Shapes.{is_constant, is_named, is_call, is_parenthesised, is_prefixed, is_step_before, is_step_after, is_chain, is_compare, is_equal, is_assign}
-use Rattle.checker.proofs.Walks.{one, two, made_number, made_call, made_prefixed, made_step_before, made_step_after, made_chain, made_compare, made_equal, made_assign}
+use Rattle.checker.proofs.Shapes.{is_constant, is_named, is_call, is_parenthesised, is_prefixed, is_step_before}
+use Rattle.checker.proofs.Shapes.{is_step_after, is_chain, is_compare, is_equal, is_assign}
+use Rattle.checker.proofs.Walks.{one, two, made_number, made_call, made_prefixed, made_step_before, made_step_after}
+use Rattle.checker.proofs.Walks.{made_chain, made_compare, made_equal, made_assign}
 use Rattle.checker.proofs.Forms.{all_walked, chain_walked, call_walked}
 use Rattle.checker.proofs.expression_rules.+expression.Goals as goal
 
@@ -25,8 +27,12 @@ all_expressions-loop-e-preserved t c =
     let f = λ (x : Expression). own_breaches (look_in c.args.scope.now) x in
     let g = λ (x : Expression). resolved (look_in c.args.scope.now) x in
     record {
-      value = rw c.in_ok-push.ensures.items (value_next f g value_of c.loop-e.found.items c.in-Ok.resolved c.args.given.now c.loop-e.e-index c.e-item.result c.loop-e-test.true c.e-item.is c.loop-e.invariant.value c.in-Ok.ensures.value);
-      least = rw c.in-Ok.ensures.breaches (sym (each_next f g value_of c.loop-e.least c.args.given.now c.loop-e.e-index c.e-item.result c.loop-e-test.true c.e-item.is) ∙ c.loop-e.invariant.least);
+      value = rw c.in_ok-push.ensures.items
+          (value_next f g value_of c.loop-e.found.items c.in-Ok.resolved c.args.given.now c.loop-e.e-index
+          c.e-item.result c.loop-e-test.true c.e-item.is c.loop-e.invariant.value c.in-Ok.ensures.value);
+      least = rw c.in-Ok.ensures.breaches
+          (sym (each_next f g value_of c.loop-e.least c.args.given.now c.loop-e.e-index c.e-item.result
+          c.loop-e-test.true c.e-item.is) ∙ c.loop-e.invariant.least);
     }
 
 pub all_expressions-returns : goal.all_expressions-returns
@@ -35,7 +41,8 @@ all_expressions-returns t c =
     let g = λ (x : Expression). resolved (look_in c.args.scope.now) x in
     record {
       value = c.loop-e.invariant.value ∙ value_end f g value_of c.args.given.now c.loop-e.e-index c.loop-e-test.false;
-      breaches = sym (each_end f g value_of c.loop-e.least c.args.given.now c.loop-e.e-index c.loop-e-test.false) ∙ c.loop-e.invariant.least;
+      breaches = sym (each_end f g value_of c.loop-e.least c.args.given.now c.loop-e.e-index c.loop-e-test.false)
+          ∙ c.loop-e.invariant.least;
     }
 
 pub chain_links-loop-link-preserved : goal.chain_links-loop-link-preserved
@@ -43,8 +50,13 @@ chain_links-loop-link-preserved t c =
     let f = λ (x : Binary × Expression). link_breaches (look_in c.args.scope.now) x in
     let g = λ (x : Binary × Expression). resolved_link (look_in c.args.scope.now) x in
     record {
-      value = rw c.in_ok-push.ensures.items (value_next f g value_link c.loop-link.found.items (c.link-item.result.0, c.in-Ok.operand) c.args.links.now c.loop-link.link-index c.link-item.result c.loop-link-test.true c.link-item.is c.loop-link.invariant.value (ap (λ (v : Value). (c.link-item.result.0, v)) c.in-Ok.ensures.value));
-      least = rw c.in-Ok.ensures.breaches (sym (each_next f g value_link c.loop-link.least c.args.links.now c.loop-link.link-index c.link-item.result c.loop-link-test.true c.link-item.is) ∙ c.loop-link.invariant.least);
+      value = rw c.in_ok-push.ensures.items
+          (value_next f g value_link c.loop-link.found.items (c.link-item.result.0, c.in-Ok.operand) c.args.links.now
+          c.loop-link.link-index c.link-item.result c.loop-link-test.true c.link-item.is c.loop-link.invariant.value
+          (ap (λ (v : Value). (c.link-item.result.0, v)) c.in-Ok.ensures.value));
+      least = rw c.in-Ok.ensures.breaches
+          (sym (each_next f g value_link c.loop-link.least c.args.links.now c.loop-link.link-index c.link-item.result
+          c.loop-link-test.true c.link-item.is) ∙ c.loop-link.invariant.least);
     }
 
 pub chain_links-returns : goal.chain_links-returns
@@ -52,25 +64,36 @@ chain_links-returns t c =
     let f = λ (x : Binary × Expression). link_breaches (look_in c.args.scope.now) x in
     let g = λ (x : Binary × Expression). resolved_link (look_in c.args.scope.now) x in
     record {
-      value = c.loop-link.invariant.value ∙ value_end f g value_link c.args.links.now c.loop-link.link-index c.loop-link-test.false;
-      breaches = sym (each_end f g value_link c.loop-link.least c.args.links.now c.loop-link.link-index c.loop-link-test.false) ∙ c.loop-link.invariant.least;
+      value = c.loop-link.invariant.value ∙ value_end f g value_link c.args.links.now c.loop-link.link-index
+          c.loop-link-test.false;
+      breaches = sym
+          (each_end f g value_link c.loop-link.least c.args.links.now c.loop-link.link-index c.loop-link-test.false)
+          ∙ c.loop-link.invariant.least;
     }
 
 pub expression-returns-in-Constant : goal.expression-returns-in-Constant
 expression-returns-in-Constant t c =
-    rw (is_constant c.args.e.now c.in-Constant.number c.in-Constant.is, made_number c.in-Constant.number) (record { value = refl; breaches = sym (noted_none c.args.least.now) })
+    rw (is_constant c.args.e.now c.in-Constant.number c.in-Constant.is, made_number c.in-Constant.number)
+    (record { value = refl; breaches = sym (noted_none c.args.least.now) })
 
 pub expression-returns-in-Chain : goal.expression-returns-in-Chain
 expression-returns-in-Chain t c =
     let v = c.in-Chain in
-    rw (is_chain c.args.e.now v.first v.operator v.second v.links v.is, ← c.deref-in-Chain.ensures.value, ← c.deref-in-Chain-2.ensures, ← c.deref-in-Chain-3.ensures) c.chain.ensures
+    rw (
+      is_chain c.args.e.now v.first v.operator v.second v.links v.is,
+      ← c.deref-in-Chain.ensures.value,
+      ←
+          c.deref-in-Chain-2.ensures,
+      ← c.deref-in-Chain-3.ensures,
+    ) c.chain.ensures
 
 pub expression-returns-in-Named : goal.expression-returns-in-Named
 expression-returns-in-Named t c =
     let v = c.in-Named in
     rw (is_named c.args.e.now v.name v.is) (record {
       value = c.value.ensures.value ∙ ap value_of_binding c.look.ensures;
-      breaches = c.value.ensures.breaches ∙ ap (λ f. noted c.args.least.now (value_breaches v.name.position f)) c.look.ensures;
+      breaches = c.value.ensures.breaches ∙ ap (λ f. noted c.args.least.now (value_breaches v.name.position f))
+          c.look.ensures;
     })
 
 pub expression-returns-in-Call : goal.expression-returns-in-Call
@@ -91,67 +114,99 @@ expression-returns-in-Prefixed t c =
 pub expression-returns-in-StepBefore : goal.expression-returns-in-StepBefore
 expression-returns-in-StepBefore t c =
     let v = c.in-StepBefore in
-    rw (is_step_before c.args.e.now v.step v.position v.operand v.is, ← c.deref-in-StepBefore.ensures) c.step_before.ensures
+    rw (is_step_before c.args.e.now v.step v.position v.operand v.is, ← c.deref-in-StepBefore.ensures)
+    c.step_before.ensures
 
 pub expression-returns-in-StepAfter : goal.expression-returns-in-StepAfter
 expression-returns-in-StepAfter t c =
     let v = c.in-StepAfter in
-    rw (is_step_after c.args.e.now v.operand v.step v.position v.is, ← c.deref-in-StepAfter.ensures) c.step_after.ensures
+    rw (is_step_after c.args.e.now v.operand v.step v.position v.is, ← c.deref-in-StepAfter.ensures)
+    c.step_after.ensures
 
 pub expression-returns-in-Compare : goal.expression-returns-in-Compare
 expression-returns-in-Compare t c =
     let v = c.in-Compare in
-    rw (is_compare c.args.e.now v.left v.comparison v.right v.is, ← c.deref-in-Compare.ensures, ← c.deref-in-Compare-2.ensures) c.compare.ensures
+    rw (
+      is_compare c.args.e.now v.left v.comparison v.right v.is,
+      ← c.deref-in-Compare.ensures,
+      ←
+          c.deref-in-Compare-2.ensures,
+    ) c.compare.ensures
 
 pub expression-returns-in-Equal : goal.expression-returns-in-Equal
 expression-returns-in-Equal t c =
     let v = c.in-Equal in
-    rw (is_equal c.args.e.now v.left v.equality v.right v.others v.is, ← c.deref-in-Equal.ensures.value, ← c.deref-in-Equal-2.ensures, ← c.deref-in-Equal-3.ensures) c.equal.ensures
+    rw (
+      is_equal c.args.e.now v.left v.equality v.right v.others v.is,
+      ← c.deref-in-Equal.ensures.value,
+      ←
+          c.deref-in-Equal-2.ensures,
+      ← c.deref-in-Equal-3.ensures,
+    ) c.equal.ensures
 
 pub expression-returns-in-Assign : goal.expression-returns-in-Assign
 expression-returns-in-Assign t c =
     let v = c.in-Assign in
-    rw (is_assign c.args.e.now v.left v.position v.right v.is, ← c.deref-in-Assign.ensures, ← c.deref-in-Assign-2.ensures) c.assign.ensures
+    rw (
+      is_assign c.args.e.now v.left v.position v.right v.is,
+      ← c.deref-in-Assign.ensures,
+      ←
+          c.deref-in-Assign-2.ensures,
+    ) c.assign.ensures
 
 pub prefixed-returns : goal.prefixed-returns
-prefixed-returns t c = rw (made_prefixed c.args.prefix c.in-Ok.operand) (one (values.prefixed c.args.prefix) c.in-Ok.ensures)
+prefixed-returns t c = rw (made_prefixed c.args.prefix c.in-Ok.operand)
+    (one (values.prefixed c.args.prefix) c.in-Ok.ensures)
 
 pub step_before-returns : goal.step_before-returns
-step_before-returns t c = rw (made_step_before c.args.step c.in-Ok.variable) (one (values.step_before c.args.step) c.in-Ok.ensures)
+step_before-returns t c = rw (made_step_before c.args.step c.in-Ok.variable)
+    (one (values.step_before c.args.step) c.in-Ok.ensures)
 
 pub step_after-returns : goal.step_after-returns
-step_after-returns t c = rw (made_step_after c.in-Ok.variable c.args.step) (one (λ x. values.step_after x c.args.step) c.in-Ok.ensures)
+step_after-returns t c = rw (made_step_after c.in-Ok.variable c.args.step)
+    (one (λ x. values.step_after x c.args.step) c.in-Ok.ensures)
 
 pub variable-returns-in_ok-expression-in-None : goal.variable-returns-in_ok-expression-in-None
 variable-returns-in_ok-expression-in-None t c =
-    let is : name_of (expression_tree c.args.e.now) ≡ None = sym c.name_of.ensures ∙ ap (option_map name_tree) c.in-None.is in
+    let is : name_of (expression_tree c.args.e.now) ≡ None = sym c.name_of.ensures
+    ∙ ap (option_map name_tree) c.in-None.is in
     rw is (record {
       value = refl;
-      breaches = noted_two c.args.least.now c.expression.new.least c.note.new.least (breaches (look_in c.args.scope.now) (expression_tree c.args.e.now)) (at c.args.operator 26) c.in_ok-expression-in-None.ensures.breaches c.note.ensures;
+      breaches = noted_two c.args.least.now c.expression.new.least c.note.new.least
+          (breaches (look_in c.args.scope.now) (expression_tree c.args.e.now)) (at c.args.operator 26)
+          c.in_ok-expression-in-None.ensures.breaches c.note.ensures;
     })
 
 pub call-returns : goal.call-returns
 call-returns t c =
     rw (made_call c.routine-number.result c.in-Ok.given)
-    (call_walked (look_in c.args.scope.now) (name_tree c.args.name) c.routine-number.result (length c.args.given.now) c.look.result c.args.given.now (map value_of c.in-Ok.given.items)
+    (call_walked (look_in c.args.scope.now) (name_tree c.args.name) c.routine-number.result (length c.args.given.now)
+    c.look.result c.args.given.now (map value_of c.in-Ok.given.items)
     c.look.ensures refl c.routine-number.ensures.value c.routine-number.ensures.breaches c.in-Ok.ensures)
 
 pub chain-returns : goal.chain-returns
 chain-returns t c =
     rw (made_chain c.in-Ok.first c.args.operator c.in-Ok-boxed.second c.in-Ok-chain_links.links)
-    (chain_walked (look_in c.args.scope.now) (trees.binary c.args.operator (expression_tree c.args.first.now) (expression_tree c.args.second.now)) c.args.links.now
-    (values.binary c.args.operator (value_of c.in-Ok.first.value) (value_of c.in-Ok-boxed.second.value)) (map value_link c.in-Ok-chain_links.links.items)
+    (chain_walked (look_in c.args.scope.now)
+    (trees.binary c.args.operator (expression_tree c.args.first.now) (expression_tree c.args.second.now))
+    c.args.links.now
+    (values.binary c.args.operator (value_of c.in-Ok.first.value) (value_of c.in-Ok-boxed.second.value))
+    (map value_link c.in-Ok-chain_links.links.items)
     (two (values.binary c.args.operator) c.in-Ok.ensures c.in-Ok-boxed.ensures) c.in-Ok-chain_links.ensures)
 
 pub compare-returns : goal.compare-returns
 compare-returns t c =
-    rw (made_compare c.in-Ok.left c.args.comparison c.in-Ok-boxed.right) (two (values.compare c.args.comparison) c.in-Ok.ensures c.in-Ok-boxed.ensures)
+    rw (made_compare c.in-Ok.left c.args.comparison c.in-Ok-boxed.right)
+    (two (values.compare c.args.comparison) c.in-Ok.ensures c.in-Ok-boxed.ensures)
 
 pub equal-returns : goal.equal-returns
 equal-returns t c =
     rw (made_equal c.in-Ok.left c.args.equality c.in-Ok-boxed.right c.in-Ok-all_expressions.others)
     (two (values.equal c.args.equality) c.in-Ok.ensures
-    (two values.more c.in-Ok-boxed.ensures (all_walked (look_in c.args.scope.now) c.args.others.now (map value_of c.in-Ok-all_expressions.others.items) c.in-Ok-all_expressions.ensures)))
+    (two values.more c.in-Ok-boxed.ensures
+    (all_walked (look_in c.args.scope.now) c.args.others.now (map value_of c.in-Ok-all_expressions.others.items)
+    c.in-Ok-all_expressions.ensures)))
 
 pub assign-returns : goal.assign-returns
-assign-returns t c = rw (made_assign c.in-Ok.variable c.in-Ok-boxed.right) (two values.assign c.in-Ok.ensures c.in-Ok-boxed.ensures)
+assign-returns t c = rw (made_assign c.in-Ok.variable c.in-Ok-boxed.right)
+    (two values.assign c.in-Ok.ensures c.in-Ok-boxed.ensures)

@@ -9,4 +9,5 @@ pub returns-in-Chain : goal.returns-in-Chain
 returns-in-Chain t c =
     let v = c.in-Chain in
     rw (is_chain c.args.e.now v.field-0 v.field-1 v.field-2 v.field-3 v.is)
-    (sym (chain_name v.field-1 (expression_tree v.field-0.value) (expression_tree v.field-2.value) (map link v.field-3.items)))
+    (sym (chain_name v.field-1 (expression_tree v.field-0.value) (expression_tree v.field-2.value)
+    (map link v.field-3.items)))

@@ -9,5 +9,7 @@ use Rattle.checker.proofs.names.tabulate.Goals as goal
 pub returns : goal.returns
 unfolding table_of
 returns c =
-    ap (λ (ds : List Directive). table_from c.loop-directive.names.table.entries c.loop-directive.names.globals c.loop-directive.names.routines (map directive_tree ds)) (sym (drop_end c.args.directives.now c.loop-directive.directive-index c.loop-directive-test.false))
+    ap (λ (ds : List Directive). table_from c.loop-directive.names.table.entries c.loop-directive.names.counts
+    (map directive_tree ds))
+    (sym (drop_end c.args.directives.now c.loop-directive.directive-index c.loop-directive-test.false))
     ∙ c.loop-directive.invariant.entries

@@ -32,5 +32,6 @@ decreases-if_else l = 4 * max (size-Statement l.first.now.value) (size-Statement
 abbrev pub invariant-all_statements-loop-s : goal.invariant-all_statements-loop-s
 invariant-all_statements-loop-s l = record {
   value : map action_of l.found.items ≡ map (resolved_statement (look_in l.scope)) (take l.s-index l.all);
-  least : noted l.least (flat_map (own_statement_breaches (look_in l.scope)) (drop l.s-index l.all)) ≡ noted l.fn.least (flat_map (own_statement_breaches (look_in l.scope)) l.all);
+  least : noted l.least (flat_map (own_statement_breaches (look_in l.scope) l.around) (drop l.s-index l.all))
+      ≡ noted l.fn.least (flat_map (own_statement_breaches (look_in l.scope) l.around) l.all);
 }

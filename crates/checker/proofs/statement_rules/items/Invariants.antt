@@ -10,5 +10,6 @@ use Rattle.checker.proofs.statement_rules.items.Given as goal
 abbrev pub invariant-loop-x : goal.invariant-loop-x
 invariant-loop-x l = record {
   value : map printed_of l.found.items ≡ map (resolved_item (look_in l.scope)) (take l.x-index l.printed);
-  least : noted l.least (flat_map (own_item_breaches (look_in l.scope)) (drop l.x-index l.printed)) ≡ noted l.fn.least (flat_map (own_item_breaches (look_in l.scope)) l.printed);
+  least : noted l.least (flat_map (own_item_breaches (look_in l.scope)) (drop l.x-index l.printed))
+      ≡ noted l.fn.least (flat_map (own_item_breaches (look_in l.scope)) l.printed);
 }

@@ -7,4 +7,6 @@ use Rattle.checker.proofs.Forms.{items_walked}
 use Rattle.checker.proofs.statement_rules.print.Goals as goal
 
 pub returns : goal.returns
-returns c = rw (made_print c.in-Ok.found) (one values.print (items_walked (look_in c.args.scope.now) c.args.printed.now (map printed_of c.in-Ok.found.items) c.in-Ok.ensures))
+returns c around = rw (made_print c.in-Ok.found)
+    (one values.print
+    (items_walked (look_in c.args.scope.now) c.args.printed.now (map printed_of c.in-Ok.found.items) c.in-Ok.ensures))

@@ -7,4 +7,6 @@ use Rattle.checker.proofs.Forms.{items_walked}
 use Rattle.checker.proofs.statement_rules.print_return.Goals as goal
 
 pub returns : goal.returns
-returns c = rw (made_print_return c.in-Ok.found) (one values.print_return (items_walked (look_in c.args.scope.now) c.args.printed.now (map printed_of c.in-Ok.found.items) c.in-Ok.ensures))
+returns c around = rw (made_print_return c.in-Ok.found)
+    (one values.print_return
+    (items_walked (look_in c.args.scope.now) c.args.printed.now (map printed_of c.in-Ok.found.items) c.in-Ok.ensures))

@@ -23,8 +23,10 @@ decreases-links_fit l = 4 * goal.size-links_fit l + 1
 abbrev pub invariant-operands_fit-loop-operand : goal.invariant-operands_fit-loop-operand
 invariant-operands_fit-loop-operand l = record {
   room : l.left ≡ l.room - (l.before + l.operand-index);
-  same : nat_le (operands (l.before + l.operand-index) (operand_needs (drop l.operand-index l.given))) l.room ≡ nat_le (operands l.before (operand_needs l.given)) l.room;
+  same : nat_le (operands (l.before + l.operand-index) (operand_needs (drop l.operand-index l.given))) l.room
+      ≡ nat_le (operands l.before (operand_needs l.given)) l.room;
 }
 
 abbrev pub invariant-links_fit-loop-link : goal.invariant-links_fit-loop-link
-invariant-links_fit-loop-link l = nat_le (greatest (map link_need (drop l.link-index l.links))) (l.room - 1) ≡ nat_le (greatest (map link_need l.links)) (l.room - 1)
+invariant-links_fit-loop-link l = nat_le (greatest (map link_need (drop l.link-index l.links))) (l.room - 1)
+    ≡ nat_le (greatest (map link_need l.links)) (l.room - 1)

@@ -66,12 +66,19 @@ decreases-enclosed l = 17 * l.depth
 
 abbrev pub invariant-chain-loop-turn : goal.invariant-chain-loop-turn
 invariant-chain-loop-turn l =
-    spec.chain (operator_of l.operators) (operand_of (spec.nested l.depth) l.operators) (l.turns - l._turn) (chained (binary l.joining (expression_tree l.first.value) (expression_tree l.second.value)) (map link l.links.items)) (lexemes l.rest) ≡ chain_of (spec.nested l.depth) l.operators (lexemes l.fn.tokens)
+    spec.chain (operator_of l.operators) (operand_of (spec.nested l.depth) l.operators) (l.turns - l._turn)
+    (chained (binary l.joining (expression_tree l.first.value) (expression_tree l.second.value))
+    (map link l.links.items)) (lexemes l.rest) ≡ chain_of (spec.nested l.depth) l.operators (lexemes l.fn.tokens)
 
 abbrev pub invariant-values-loop-turn : goal.invariant-values-loop-turn
 invariant-values-loop-turn l =
-    joined (expression_tree l.first.value ∷ map expression_tree l.others.items) (spec.further (spec.is_word w.Or) (spec.sum (spec.nested l.depth)) (l._turn-end - l._turn) (lexemes l.rest)) ≡ spec.list (spec.is_word w.Or) (spec.sum (spec.nested l.depth)) (lexemes l.fn.tokens)
+    joined (expression_tree l.first.value ∷ map expression_tree l.others.items)
+    (spec.further (spec.is_word w.Or) (spec.sum (spec.nested l.depth)) (l._turn-end - l._turn) (lexemes l.rest))
+    ≡ spec.list (spec.is_word w.Or) (spec.sum (spec.nested l.depth)) (lexemes l.fn.tokens)
 
 abbrev pub invariant-arguments-loop-turn : goal.invariant-arguments-loop-turn
 invariant-arguments-loop-turn l =
-    joined (map expression_tree l.arguments.items) (spec.further (spec.is_sign s.Comma) (spec.expression (spec.nested l.depth)) (l._turn-end - l._turn) (lexemes l.rest)) ≡ spec.list (spec.is_sign s.Comma) (spec.expression (spec.nested l.depth)) (lexemes l.fn.tokens)
+    joined (map expression_tree l.arguments.items)
+    (spec.further (spec.is_sign s.Comma) (spec.expression (spec.nested l.depth)) (l._turn-end - l._turn)
+    (lexemes l.rest)) ≡ spec.list (spec.is_sign s.Comma) (spec.expression (spec.nested l.depth))
+    (lexemes l.fn.tokens)

@@ -6,11 +6,13 @@ use Rattle.frames.proofs.Steps.{went_err}
 use Rattle.frames.proofs.calls.test_return.Goals as goal
 
 pub returns-then-frames-eq1-clause-went : goal.returns-then-frames-eq1-clause-went
-returns-then-frames-eq1-clause-went c = returns_none _ c.cell-frames.result c.requires c.cell-frames.ensures c.if-frames-eq1.true
+returns-then-frames-eq1-clause-went c = returns_none _ c.cell-frames.result c.requires c.cell-frames.ensures
+    c.if-frames-eq1.true
 
 pub returns-in_err-test_caller-clause-went : goal.returns-in_err-test_caller-clause-went
 returns-in_err-test_caller-clause-went c =
-    let backs : Backs c.args.store.now.store c.cell-frames.result c.running-record.result c.long-return_address.result c.cell.result c.variable_in-result_variable.result = record {
+    let backs : Backs c.args.store.now.store c.cell-frames.result c.running-record.result
+    c.long-return_address.result c.cell.result c.variable_in-result_variable.result = record {
       count = c.cell-frames.ensures;
       called = c.if-frames-eq1.false;
       running = c.running-record.ensures;
@@ -23,7 +25,8 @@ returns-in_err-test_caller-clause-went c =
 pub returns-then-not-is_code-clause-went : goal.returns-then-not-is_code-clause-went
 returns-then-not-is_code-clause-went c =
     let memory = c.memory.ensures ∙ ap memory_of c.store.ensures in
-    let backs : Backs c.args.store.now.store c.cell-frames.result c.running-record.result c.long-return_address.result c.cell.result c.variable_in-result_variable.result = record {
+    let backs : Backs c.args.store.now.store c.cell-frames.result c.running-record.result
+    c.long-return_address.result c.cell.result c.variable_in-result_variable.result = record {
       count = c.cell-frames.ensures;
       called = c.if-frames-eq1.false;
       running = c.running-record.ensures;
@@ -31,12 +34,15 @@ returns-then-not-is_code-clause-went c =
       variable_read = c.cell.ensures;
       result_read = c.variable_in-result_variable.ensures;
     } in
-    back_outside _ _ _ _ _ _ c.requires backs c.in_ok-test_caller.ensures (ap (λ m. is_code m c.long-return_address.result) (sym memory) ∙ sym c.is_code.ensures ∙ c.if-not-is_code.true)
+    back_outside _ _ _ _ _ _ c.requires backs c.in_ok-test_caller.ensures
+    (ap (λ m. is_code m c.long-return_address.result) (sym memory) ∙ sym c.is_code.ensures
+    ∙ c.if-not-is_code.true)
 
 pub returns-clause-went : goal.returns-clause-went
 returns-clause-went c =
     let memory = c.memory.ensures ∙ ap memory_of c.store.ensures in
-    let backs : Backs c.args.store.now.store c.cell-frames.result c.running-record.result c.long-return_address.result c.cell.result c.variable_in-result_variable.result = record {
+    let backs : Backs c.args.store.now.store c.cell-frames.result c.running-record.result
+    c.long-return_address.result c.cell.result c.variable_in-result_variable.result = record {
       count = c.cell-frames.ensures;
       called = c.if-frames-eq1.false;
       running = c.running-record.ensures;
@@ -44,4 +50,6 @@ returns-clause-went c =
       variable_read = c.cell.ensures;
       result_read = c.variable_in-result_variable.ensures;
     } in
-    back_went _ _ _ _ _ _ c.requires backs c.in_ok-test_caller.ensures (ap (λ m. is_code m c.long-return_address.result) (sym memory) ∙ sym c.is_code.ensures ∙ c.if-not-is_code.false)
+    back_went _ _ _ _ _ _ c.requires backs c.in_ok-test_caller.ensures
+    (ap (λ m. is_code m c.long-return_address.result) (sym memory) ∙ sym c.is_code.ensures
+    ∙ c.if-not-is_code.false)

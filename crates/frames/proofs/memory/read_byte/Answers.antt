@@ -7,9 +7,12 @@ use Rattle.frames.proofs.memory.read_byte.Goals as goal
 pub returns-then-not-is_readable : goal.returns-then-not-is_readable
 returns-then-not-is_readable c =
     let memory = c.memory-memory.ensures ∙ ap memory_of c.store.ensures in
-    read_byte_none _ c.args.at c.requires (ap (λ m. is_readable m c.args.at) (sym memory) ∙ sym c.is_readable.ensures ∙ c.if-not-is_readable.true)
+    read_byte_none _ c.args.at c.requires
+    (ap (λ m. is_readable m c.args.at) (sym memory) ∙ sym c.is_readable.ensures ∙ c.if-not-is_readable.true)
 
 pub returns : goal.returns
 returns c =
     let memory = c.memory-memory.ensures ∙ ap memory_of c.store.ensures in
-    read_byte_went _ c.args.at _ c.requires (ap (λ m. is_readable m c.args.at) (sym memory) ∙ sym c.is_readable.ensures ∙ c.if-not-is_readable.false) (ap (λ m. slice_index m c.args.at) memory)
+    read_byte_went _ c.args.at _ c.requires
+    (ap (λ m. is_readable m c.args.at) (sym memory) ∙ sym c.is_readable.ensures ∙ c.if-not-is_readable.false)
+    (ap (λ m. slice_index m c.args.at) memory)

@@ -2,7 +2,7 @@ use Rattle.std.proofs.Common.{sym, ap, ◌∙◌}
 use Rattle.std.specs.Prelude.{◌||◌, map}
 use Rattle.expressions.specs.declared.tree.Binary.{Binary}
 use Rattle.std.proofs.Common.{List}
-use Rattle.checker.specs.declared.resolved.Evaluation.{Evaluation}
+use Rattle.checker.specs.declared.resolved.Value as code_value
 use Rattle.checker.specs.Resolved.{value_of}
 use Rattle.items.specs.Items as items
 use Rattle.items.specs.Writing.{change_links, link_of}
@@ -13,11 +13,11 @@ pub changes-returns-in-Chain : goal.changes-returns-in-Chain
 changes-returns-in-Chain t c =
     let z = c.args.variable in
     let first = c.changes-first.ensures
-    ∙ ap (λ (e : Evaluation). items.changes z (value_of e)) c.deref-in-Chain.ensures in
+    ∙ ap (λ (e : code_value.Value). items.changes z (value_of e)) c.deref-in-Chain.ensures in
     let second = c.changes-second.ensures
-    ∙ ap (λ (e : Evaluation). items.changes z (value_of e)) c.deref-in-Chain-2.ensures in
+    ∙ ap (λ (e : code_value.Value). items.changes z (value_of e)) c.deref-in-Chain-2.ensures in
     let behind = c.links_change-behind.ensures
-    ∙ ap (λ (ls : List (Binary × Evaluation)). change_links z (map link_of ls)) c.deref-in-Chain-3.ensures.value in
+    ∙ ap (λ (ls : List (Binary × code_value.Value)). change_links z (map link_of ls)) c.deref-in-Chain-3.ensures.value in
     c.any_of.ensures ∙ ap (λ b. (b || c.changes-second.result) || c.links_change-behind.result) first
     ∙ ap (λ b. (items.changes z (value_of c.in-Chain.first.value) || b) || c.links_change-behind.result) second
     ∙ ap (λ b. (items.changes z (value_of c.in-Chain.first.value) || items.changes z

@@ -1,8 +1,9 @@
-use Rattle.std.proofs.Common.{◌≡◌, ℕ, ◌+◌, ◌-◌, ◌<◌, List, [], ◌∷◌, ◌++◌, length, map, drop, ap, sym, subst, ◌∙◌, arith}
+use Rattle.std.proofs.Common.{◌≡◌, ℕ, ◌+◌, ◌-◌, ◌<◌, List, [], ◌∷◌, ◌++◌, length, map, drop, ap, sym, subst, ◌∙◌}
+use Rattle.std.proofs.Common.{arith}
 use Rattle.std.proofs.Common.{refl}
 use Rattle.std.proofs.lemmas.List.{take_rest}
 use Rattle.expressions.specs.declared.tree.Binary.{Binary}
-use Rattle.checker.specs.declared.resolved.Evaluation.{Evaluation}
+use Rattle.checker.specs.declared.resolved.Value as code_value
 use Rattle.checker.specs.Resolved.{Value, value_of, values_of}
 use Rattle.items.specs.Items.{pushed, branch_true, left_of, operand_of, operands_of, operands_items}
 use Rattle.items.specs.Items as items
@@ -94,10 +95,12 @@ put_link-returns-in_ok-put_value-in-OrElse t c =
     let when = c.in_ok-when-in-OrElse.when in
     let target = c.in_ok-when-in-OrElse.target in
     let end = c.written-end-in-OrElse.result in
-    let P : Wanted → Type 0 = λ w. ReducesLink (written_in c.args.draft.now) (written_in c.put_value-in-OrElse.new.draft)
+    let P : Wanted → Type 0 = λ w. ReducesLink (written_in c.args.draft.now)
+    (written_in c.put_value-in-OrElse.new.draft)
     c.args.wanted w c.args.operator (as_operand c.args.left) (value_of c.args.second.now) in
     subst P (sym c.first_of_or.ensures)
-    (or_link_at _ _ _ c.args.wanted when target end _ c.args.operator _ _ c.in-OrElse.is c.in_ok-when-in-OrElse.ensures
+    (or_link_at _ _ _ c.args.wanted when target end _ c.args.operator _ _ c.in-OrElse.is
+    c.in_ok-when-in-OrElse.ensures
     c.written-end-in-OrElse.ensures c.in_ok-put_value-in-OrElse.ensures refl)
 
 pub put_link-returns-in_ok-put_operand-in_default : goal.put_link-returns-in_ok-put_operand-in_default
@@ -151,13 +154,13 @@ put_value-returns-in_ok-put_first-in-Chain t c =
     let w2 = c.in_ok-wanted-in-Chain-2.wanted in
     let o = as_operand c.left_of-left.result in
     let P : Value → Type 0 = λ v. Written c0 c3 (wanted_items c.args.wanted v) in
-    let Q : List (Binary × Evaluation) → Type 0 = λ l. ReducesLinks c0 c1 c.args.wanted w1 (map link_of l) in
-    let R : Evaluation → Type 0 = λ e. ReducesLink c1 c2 w1 w2 x.operator o (value_of e) in
-    let S : Evaluation → Type 0 = λ e. Written c2 c3 (first_items x.operator o w2 (value_of e)) in
+    let Q : List (Binary × code_value.Value) → Type 0 = λ l. ReducesLinks c0 c1 c.args.wanted w1 (map link_of l) in
+    let R : code_value.Value → Type 0 = λ e. ReducesLink c1 c2 w1 w2 x.operator o (value_of e) in
+    let S : code_value.Value → Type 0 = λ e. Written c2 c3 (first_items x.operator o w2 (value_of e)) in
     let left = c.left_of-left.ensures
-    ∙ ap (λ (e : Evaluation). left_of (value_of e) (value_of c.deref-in-Chain-3.result.now))
+    ∙ ap (λ (e : code_value.Value). left_of (value_of e) (value_of c.deref-in-Chain-3.result.now))
     c.deref-in-Chain-2.ensures
-    ∙ ap (λ (e : Evaluation). left_of (value_of x.first.value) (value_of e)) c.deref-in-Chain-3.ensures in
+    ∙ ap (λ (e : code_value.Value). left_of (value_of x.first.value) (value_of e)) c.deref-in-Chain-3.ensures in
     subst P (sym (chain_is _ _ _ _ _ x.is))
     (chain_more c0 c1 c2 c3 c.args.wanted w1 w2 x.operator o (value_of x.first.value) (value_of x.second.value)
     (map link_of x.links.items)
@@ -178,20 +181,23 @@ put_value-returns-in_ok-put_operand-in-Equal-2 t c =
     let oa = as_operand c.side_operands-first.result.0 in
     let ob = as_operand c.side_operands-first.result.1 in
     let P : Value → Type 0 = λ v. Written c0 c3 (wanted_items c.args.wanted v) in
-    let Q : List Evaluation → Type 0 = λ l. ReducesEquality c0 c1 c.args.wanted x.equality oa ob
+    let Q : List code_value.Value → Type 0 = λ l. ReducesEquality c0 c1 c.args.wanted x.equality oa ob
     (values_of (map value_of l)) in
-    let R : Evaluation → Type 0 = λ e. Written c1 c2 (pushes ob (value_of e)) in
-    let S : Evaluation → Type 0 = λ e. Written c2 c3 (pushes oa (value_of e)) in
+    let R : code_value.Value → Type 0 = λ e. Written c1 c2 (pushes ob (value_of e)) in
+    let S : code_value.Value → Type 0 = λ e. Written c2 c3 (pushes oa (value_of e)) in
     let ea = c.side_operands-first.ensures.left
-    ∙ ap (λ (e : Evaluation). first_operand (value_of e) (value_of c.deref-in-Equal-2.result.now)
+    ∙ ap (λ (e : code_value.Value). first_operand (value_of e) (value_of c.deref-in-Equal-2.result.now)
     (values_of (map value_of c.deref-in-Equal-3.result.now))) c.deref-in-Equal.ensures
-    ∙ ap (λ (e : Evaluation). first_operand a (value_of e) (values_of (map value_of c.deref-in-Equal-3.result.now)))
+    ∙ ap (λ (e : code_value.Value). first_operand a (value_of e)
+    (values_of (map value_of c.deref-in-Equal-3.result.now)))
     c.deref-in-Equal-2.ensures
-    ∙ ap (λ (l : List Evaluation). first_operand a b (values_of (map value_of l))) c.deref-in-Equal-3.ensures.value in
+    ∙ ap (λ (l : List code_value.Value). first_operand a b (values_of (map value_of l)))
+    c.deref-in-Equal-3.ensures.value in
     let eb = c.side_operands-first.ensures.right
-    ∙ ap (λ (e : Evaluation). second_operand (value_of e)
+    ∙ ap (λ (e : code_value.Value). second_operand (value_of e)
     (values_of (map value_of c.deref-in-Equal-3.result.now))) c.deref-in-Equal-2.ensures
-    ∙ ap (λ (l : List Evaluation). second_operand b (values_of (map value_of l))) c.deref-in-Equal-3.ensures.value in
+    ∙ ap (λ (l : List code_value.Value). second_operand b (values_of (map value_of l)))
+    c.deref-in-Equal-3.ensures.value in
     subst P (sym (equal_is _ _ _ _ _ x.is))
     (equal_more c0 c1 c2 c3 c.args.wanted x.equality oa ob a b vs ea eb
     (subst Q c.deref-in-Equal-4.ensures.value c.in_ok-put_others-in-Equal.ensures)
@@ -224,7 +230,7 @@ put_operands-loop-done-preserved t c =
     let before : length xs - c.loop-done.done ≡ i + 1 = omega (arith, lt) in
     let after : i ≡ length xs - (c.loop-done.done + 1) = omega arith in
     let later = c.before-operand.ensures
-    ∙ ap (λ (l : List Evaluation). operand_of (value_of c.index-values-number.result)
+    ∙ ap (λ (l : List code_value.Value). operand_of (value_of c.index-values-number.result)
     (values_of (map value_of l))) (take_rest xs (i + 1)) in
     subst Q after (operand_next _ _ _ xs i _ _ (omega (arith, lt)) c.index-values-number.is later
     (subst P before c.loop-done.invariant) c.in_ok-put_operand.ensures)

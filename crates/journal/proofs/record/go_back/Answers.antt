@@ -11,22 +11,33 @@ pages-init g c =
     let b = g.C.Cells.bounds c.args.store.now in
     record {
       upto = omega arith;
-      at = omega (arith, c.requires.paged.size, ap (λ t. length (cells_of c.args.len t)) (take_all (length c.args.pages.now) c.args.pages.now (omega arith)));
-      back = back_starts n b (cells_of c.args.len c.args.pages.now) c.args.values.now.items (g.C.Cells.cells c.args.store.now) c.len-at.result c.requires.paged.size (omega arith) c.requires.fits;
+      at = omega (
+        arith,
+        c.requires.paged.size,
+        ap (λ t. length (cells_of c.args.len t))
+            (take_all (length c.args.pages.now) c.args.pages.now (omega arith)),
+      );
+      back = back_starts n b (cells_of c.args.len c.args.pages.now) c.args.values.now.items
+          (g.C.Cells.cells c.args.store.now) c.len-at.result c.requires.paged.size (omega arith) c.requires.fits;
       same_len = refl;
       same_bounds = refl;
       same_fixed = refl;
     }
 
 pub overflow_sub-at : goal.overflow_sub-at
-overflow_sub-at g c = (page_start c.args.len c.args.pages.now c.pages.slot c.pages.at c.page_size-size.result (omega arith) c.pages.invariant.upto c.pages.invariant.at c.page_size-size.ensures.result).0
+overflow_sub-at g c =
+    (page_start c.args.len c.args.pages.now c.pages.slot c.pages.at c.page_size-size.result (omega arith)
+    c.pages.invariant.upto c.pages.invariant.at c.page_size-size.ensures.result).0
 
 pub cells-init : goal.cells-init
 cells-init g c =
-    let start = page_start c.args.len c.args.pages.now c.pages.slot c.pages.at c.page_size-size.result (omega arith) c.pages.invariant.upto c.pages.invariant.at c.page_size-size.ensures.result in
+    let start = page_start c.args.len c.args.pages.now c.pages.slot c.pages.at c.page_size-size.result (omega arith)
+    c.pages.invariant.upto c.pages.invariant.at c.page_size-size.ensures.result in
     record {
       upto = omega arith;
-      back = gone_back_at {cs = cells_of c.args.len c.args.pages.now} c.pages.at (c.pages.at - c.page_size-size.result + c.page_size-size.result) (omega (arith, start.0)) c.pages.invariant.back;
+      back = gone_back_at {cs = cells_of c.args.len c.args.pages.now} c.pages.at
+          (c.pages.at - c.page_size-size.result + c.page_size-size.result) (omega (arith, start.0))
+          c.pages.invariant.back;
       same_len = c.pages.invariant.same_len;
       same_bounds = c.pages.invariant.same_bounds;
       same_fixed = c.pages.invariant.same_fixed;
@@ -34,11 +45,14 @@ cells-init g c =
 
 pub pages-preserved : goal.pages-preserved
 pages-preserved g c =
-    let start = page_start c.args.len c.args.pages.now c.pages.slot c.pages.at c.page_size-size.result (omega arith) c.pages.invariant.upto c.pages.invariant.at c.page_size-size.ensures.result in
+    let start = page_start c.args.len c.args.pages.now c.pages.slot c.pages.at c.page_size-size.result (omega arith)
+    c.pages.invariant.upto c.pages.invariant.at c.page_size-size.ensures.result in
     record {
       upto = omega arith;
       at = start.1;
-      back = gone_back_at {cs = cells_of c.args.len c.args.pages.now} (c.pages.at - c.page_size-size.result + c.cells.offset) (c.pages.at - c.page_size-size.result) (omega arith) c.cells.invariant.back;
+      back = gone_back_at {cs = cells_of c.args.len c.args.pages.now}
+          (c.pages.at - c.page_size-size.result + c.cells.offset) (c.pages.at - c.page_size-size.result)
+          (omega arith) c.cells.invariant.back;
       same_len = c.cells.invariant.same_len;
       same_bounds = c.cells.invariant.same_bounds;
       same_fixed = c.cells.invariant.same_fixed;
@@ -46,19 +60,28 @@ pages-preserved g c =
 
 pub index_mut-requires : goal.index_mut-requires
 index_mut-requires g c =
-    let here = place_back c.args.len c.args.pages.now c.pages.slot c.pages.at c.page_size-size.result c.cells.offset (omega arith) c.pages.invariant.upto c.pages.invariant.at c.page_size-size.ensures.result (omega arith) c.cells.invariant.upto in
+    let here = place_back c.args.len c.args.pages.now c.pages.slot c.pages.at c.page_size-size.result c.cells.offset
+    (omega arith) c.pages.invariant.upto c.pages.invariant.at c.page_size-size.ensures.result (omega arith)
+    c.cells.invariant.upto in
     omega (arith, here.0, c.cells.invariant.back.size)
 
 pub exchange-requires : goal.exchange-requires
 exchange-requires g c =
-    let here = place_back c.args.len c.args.pages.now c.pages.slot c.pages.at c.page_size-size.result c.cells.offset (omega arith) c.pages.invariant.upto c.pages.invariant.at c.page_size-size.ensures.result (omega arith) c.cells.invariant.upto in
-    let fit = fit_at (length (g.C.Cells.cells c.args.store.now)) (g.C.Cells.bounds c.args.store.now) (cells_of c.args.len c.args.pages.now) c.cells.values.items (c.pages.at - c.page_size-size.result + (c.cells.offset - 1))
-    (get_or c.args.pages.now (c.pages.slot - 1) 0 * 64 + (c.cells.offset - 1)) c.index_mut.result.now c.cells.invariant.back.size c.cells.invariant.back.fits here.0 here.1 c.index_mut.ensures.value in
+    let here = place_back c.args.len c.args.pages.now c.pages.slot c.pages.at c.page_size-size.result c.cells.offset
+    (omega arith) c.pages.invariant.upto c.pages.invariant.at c.page_size-size.ensures.result (omega arith)
+    c.cells.invariant.upto in
+    let fit = fit_at (length (g.C.Cells.cells c.args.store.now)) (g.C.Cells.bounds c.args.store.now)
+    (cells_of c.args.len c.args.pages.now) c.cells.values.items
+    (c.pages.at - c.page_size-size.result + (c.cells.offset - 1))
+    (get_or c.args.pages.now (c.pages.slot - 1) 0 * 64 + (c.cells.offset - 1)) c.index_mut.result.now
+    c.cells.invariant.back.size c.cells.invariant.back.fits here.0 here.1 c.index_mut.ensures.value in
     rw (c.cells.invariant.same_len, c.cells.invariant.same_bounds) fit
 
 pub cells-preserved : goal.cells-preserved
 cells-preserved g c =
-    let here = place_back c.args.len c.args.pages.now c.pages.slot c.pages.at c.page_size-size.result c.cells.offset (omega arith) c.pages.invariant.upto c.pages.invariant.at c.page_size-size.ensures.result (omega arith) c.cells.invariant.upto in
+    let here = place_back c.args.len c.args.pages.now c.pages.slot c.pages.at c.page_size-size.result c.cells.offset
+    (omega arith) c.pages.invariant.upto c.pages.invariant.at c.page_size-size.ensures.result (omega arith)
+    c.cells.invariant.upto in
     let n = length (g.C.Cells.cells c.args.store.now) in
     let b = g.C.Cells.bounds c.args.store.now in
     let cell = get_or c.args.pages.now (c.pages.slot - 1) 0 * 64 + (c.cells.offset - 1) in
@@ -67,9 +90,13 @@ cells-preserved g c =
     let fit : FitsCell n b (cell, c.exchange.new.value) = rw (len, bounds) c.exchange.ensures.fits in
     record {
       upto = omega arith;
-      back = gone_back_more n b (cells_of c.args.len c.args.pages.now) c.args.values.now.items (g.C.Cells.cells c.args.store.now) (c.pages.at - c.page_size-size.result + c.cells.offset) (c.pages.at - c.page_size-size.result + (c.cells.offset - 1))
-          (g.C.Cells.cells c.cells.store) c.cells.values.items cell c.index_mut.result.now c.exchange.new.value (g.C.Cells.cells c.exchange.new.store)
-          c.cells.invariant.back c.requires.paged.size (omega arith) here.0 here.1 c.index_mut.ensures.value c.exchange.ensures.cells c.exchange.ensures.value fit;
+      back = gone_back_more n b (cells_of c.args.len c.args.pages.now) c.args.values.now.items
+          (g.C.Cells.cells c.args.store.now) (c.pages.at - c.page_size-size.result + c.cells.offset)
+          (c.pages.at - c.page_size-size.result + (c.cells.offset - 1))
+          (g.C.Cells.cells c.cells.store) c.cells.values.items cell c.index_mut.result.now c.exchange.new.value
+          (g.C.Cells.cells c.exchange.new.store)
+          c.cells.invariant.back c.requires.paged.size (omega arith) here.0 here.1 c.index_mut.ensures.value
+          c.exchange.ensures.cells c.exchange.ensures.value fit;
       same_len = cc;
       same_bounds = cc;
       same_fixed = cc;

@@ -10,7 +10,8 @@ invariant-pages g l =
     record {
       upto : l.slot ≤ length l.pages;
       at : l.at ≡ length (cells_of l.len (take l.slot l.pages));
-      back : GoneBack (length (cells l.fn.store)) (bounds l.fn.store) (cells_of l.len l.pages) l.fn.values.items (cells l.fn.store) l.at (cells l.store) l.values.items;
+      back : GoneBack (length (cells l.fn.store)) (bounds l.fn.store) (cells_of l.len l.pages) l.fn.values.items
+          (cells l.fn.store) l.at (cells l.store) l.values.items;
       same_len : length (cells l.store) ≡ length (cells l.fn.store);
       same_bounds : bounds l.store ≡ bounds l.fn.store;
       same_fixed : g.C.Cells.fixed l.store ≡ g.C.Cells.fixed l.fn.store;
@@ -25,7 +26,8 @@ invariant-cells g l =
     let bounds = g.C.Cells.bounds in
     record {
       upto : l.offset ≤ l.size;
-      back : GoneBack (length (cells l.fn.store)) (bounds l.fn.store) (cells_of l.len l.pages) l.fn.values.items (cells l.fn.store) (l.at + l.offset) (cells l.store) l.values.items;
+      back : GoneBack (length (cells l.fn.store)) (bounds l.fn.store) (cells_of l.len l.pages) l.fn.values.items
+          (cells l.fn.store) (l.at + l.offset) (cells l.store) l.values.items;
       same_len : length (cells l.store) ≡ length (cells l.fn.store);
       same_bounds : bounds l.store ≡ bounds l.fn.store;
       same_fixed : g.C.Cells.fixed l.store ≡ g.C.Cells.fixed l.fn.store;

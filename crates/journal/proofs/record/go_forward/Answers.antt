@@ -1,13 +1,16 @@
 use Rattle.std.proofs.Common.{◌≡◌, ◌+◌, ◌*◌, length, get_or, refl, arith}
 use Rattle.journal.specs.Swap.{FitsCell}
 use Rattle.journal.specs.Pages.{cells_of}
-use Rattle.journal.proofs.Steps.{forward_ends_pages, fit_at, forward_starts, gone_forward_at, gone_forward_more, page_at, page_within, place}
+use Rattle.journal.proofs.Steps.{forward_ends_pages, fit_at, forward_starts, gone_forward_at, gone_forward_more}
+use Rattle.journal.proofs.Steps.{page_at, page_within, place}
 use Rattle.journal.proofs.record.go_forward.Goals as goal
 
 pub pages-init : goal.pages-init
 pages-init g c = record {
   at = refl;
-  forward = forward_starts (length (g.C.Cells.cells c.args.store.now)) (g.C.Cells.bounds c.args.store.now) (cells_of c.args.len c.args.pages.now) c.args.values.now.items (g.C.Cells.cells c.args.store.now) c.requires.paged.size c.requires.fits;
+  forward = forward_starts (length (g.C.Cells.cells c.args.store.now)) (g.C.Cells.bounds c.args.store.now)
+      (cells_of c.args.len c.args.pages.now) c.args.values.now.items (g.C.Cells.cells c.args.store.now)
+      c.requires.paged.size c.requires.fits;
   same_len = refl;
   same_bounds = refl;
   same_fixed = refl;
@@ -16,7 +19,8 @@ pages-init g c = record {
 pub cells-init : goal.cells-init
 cells-init g c =
     record {
-      forward = gone_forward_at {cs = cells_of c.args.len c.args.pages.now} c.pages.at (c.pages.at + 0) (omega arith) c.pages.invariant.forward;
+      forward = gone_forward_at {cs = cells_of c.args.len c.args.pages.now} c.pages.at (c.pages.at + 0) (omega arith)
+          c.pages.invariant.forward;
       same_len = c.pages.invariant.same_len;
       same_bounds = c.pages.invariant.same_bounds;
       same_fixed = c.pages.invariant.same_fixed;
@@ -24,14 +28,18 @@ cells-init g c =
 
 pub exchange-requires : goal.exchange-requires
 exchange-requires g c =
-    let here = place c.args.len c.args.pages.now c.pages.slot c.pages.at c.page_size-size.result c.cells.offset (omega arith) c.pages.invariant.at c.page_size-size.ensures.result (omega arith) in
-    let fit = fit_at (length (g.C.Cells.cells c.args.store.now)) (g.C.Cells.bounds c.args.store.now) (cells_of c.args.len c.args.pages.now) c.cells.values.items (c.pages.at + c.cells.offset)
-    (get_or c.args.pages.now c.pages.slot 0 * 64 + c.cells.offset) c.index_mut.result.now c.cells.invariant.forward.size c.cells.invariant.forward.fits here.0 here.1 c.index_mut.ensures.value in
+    let here = place c.args.len c.args.pages.now c.pages.slot c.pages.at c.page_size-size.result c.cells.offset
+    (omega arith) c.pages.invariant.at c.page_size-size.ensures.result (omega arith) in
+    let fit = fit_at (length (g.C.Cells.cells c.args.store.now)) (g.C.Cells.bounds c.args.store.now)
+    (cells_of c.args.len c.args.pages.now) c.cells.values.items (c.pages.at + c.cells.offset)
+    (get_or c.args.pages.now c.pages.slot 0 * 64 + c.cells.offset) c.index_mut.result.now
+    c.cells.invariant.forward.size c.cells.invariant.forward.fits here.0 here.1 c.index_mut.ensures.value in
     rw (c.cells.invariant.same_len, c.cells.invariant.same_bounds) fit
 
 pub cells-preserved : goal.cells-preserved
 cells-preserved g c =
-    let here = place c.args.len c.args.pages.now c.pages.slot c.pages.at c.page_size-size.result c.cells.offset (omega arith) c.pages.invariant.at c.page_size-size.ensures.result (omega arith) in
+    let here = place c.args.len c.args.pages.now c.pages.slot c.pages.at c.page_size-size.result c.cells.offset
+    (omega arith) c.pages.invariant.at c.page_size-size.ensures.result (omega arith) in
     let n = length (g.C.Cells.cells c.args.store.now) in
     let b = g.C.Cells.bounds c.args.store.now in
     let cell = get_or c.args.pages.now c.pages.slot 0 * 64 + c.cells.offset in
@@ -39,9 +47,12 @@ cells-preserved g c =
     let bounds : b ≡ g.C.Cells.bounds c.exchange.new.store = cc in
     let fit : FitsCell n b (cell, c.exchange.new.value) = rw (len, bounds) c.exchange.ensures.fits in
     record {
-      forward = gone_forward_more n b (cells_of c.args.len c.args.pages.now) c.args.values.now.items (g.C.Cells.cells c.args.store.now) (c.pages.at + (c.cells.offset + 1)) (c.pages.at + c.cells.offset)
-          (g.C.Cells.cells c.cells.store) c.cells.values.items cell c.index_mut.result.now c.exchange.new.value (g.C.Cells.cells c.exchange.new.store)
-          c.cells.invariant.forward c.requires.paged.size (omega arith) here.0 here.1 c.index_mut.ensures.value c.exchange.ensures.cells c.exchange.ensures.value fit;
+      forward = gone_forward_more n b (cells_of c.args.len c.args.pages.now) c.args.values.now.items
+          (g.C.Cells.cells c.args.store.now) (c.pages.at + (c.cells.offset + 1)) (c.pages.at + c.cells.offset)
+          (g.C.Cells.cells c.cells.store) c.cells.values.items cell c.index_mut.result.now c.exchange.new.value
+          (g.C.Cells.cells c.exchange.new.store)
+          c.cells.invariant.forward c.requires.paged.size (omega arith) here.0 here.1 c.index_mut.ensures.value
+          c.exchange.ensures.cells c.exchange.ensures.value fit;
       same_len = cc;
       same_bounds = cc;
       same_fixed = cc;
@@ -49,31 +60,49 @@ cells-preserved g c =
 
 pub overflow_add-at : goal.overflow_add-at
 overflow_add-at g c =
-    let here = place c.args.len c.args.pages.now c.pages.slot c.pages.at c.page_size-size.result c.cells.offset (omega arith) c.pages.invariant.at c.page_size-size.ensures.result (omega arith) in
+    let here = place c.args.len c.args.pages.now c.pages.slot c.pages.at c.page_size-size.result c.cells.offset
+    (omega arith) c.pages.invariant.at c.page_size-size.ensures.result (omega arith) in
     omega (arith, here.0, c.cells.invariant.forward.size)
 
 pub index_mut-requires : goal.index_mut-requires
 index_mut-requires g c =
-    let here = place c.args.len c.args.pages.now c.pages.slot c.pages.at c.page_size-size.result c.cells.offset (omega arith) c.pages.invariant.at c.page_size-size.ensures.result (omega arith) in
+    let here = place c.args.len c.args.pages.now c.pages.slot c.pages.at c.page_size-size.result c.cells.offset
+    (omega arith) c.pages.invariant.at c.page_size-size.ensures.result (omega arith) in
     omega (arith, here.0, c.cells.invariant.forward.size)
 
 pub overflow_add-at-in-pages : goal.overflow_add-at-in-pages
 overflow_add-at-in-pages g c =
-    omega (arith, page_within c.args.len c.args.pages.now c.pages.slot 0 (omega arith), c.pages.invariant.at, c.page_size-size.ensures.result, c.cells.invariant.forward.size)
+    omega (
+      arith,
+      page_within c.args.len c.args.pages.now c.pages.slot 0 (omega arith),
+      c.pages.invariant.at,
+      c.page_size-size.ensures.result,
+      c.cells.invariant.forward.size,
+    )
 
 pub pages-preserved : goal.pages-preserved
 pages-preserved g c =
     let same : c.cells.offset ≡ c.page_size-size.result = omega arith in
     record {
-      at = omega (arith, page_at c.args.len c.args.pages.now c.pages.slot 0 (omega arith), c.pages.invariant.at, c.page_size-size.ensures.result);
-      forward = gone_forward_at {cs = cells_of c.args.len c.args.pages.now} (c.pages.at + c.cells.offset) (c.pages.at + c.page_size-size.result) (omega arith) c.cells.invariant.forward;
+      at = omega (
+        arith,
+        page_at c.args.len c.args.pages.now c.pages.slot 0 (omega arith),
+        c.pages.invariant.at,
+        c.page_size-size.ensures.result,
+      );
+      forward = gone_forward_at {cs = cells_of c.args.len c.args.pages.now} (c.pages.at + c.cells.offset)
+          (c.pages.at + c.page_size-size.result) (omega arith) c.cells.invariant.forward;
       same_len = c.cells.invariant.same_len;
       same_bounds = c.cells.invariant.same_bounds;
       same_fixed = c.cells.invariant.same_fixed;
     }
 
 pub returns-clause-cells : goal.returns-clause-cells
-returns-clause-cells g c = (forward_ends_pages c.args.len c.args.pages.now c.pages.slot c.pages.at c.pages.invariant.forward c.requires.paged.size c.pages.invariant.at (omega arith)).0
+returns-clause-cells g c =
+    (forward_ends_pages c.args.len c.args.pages.now c.pages.slot c.pages.at c.pages.invariant.forward
+    c.requires.paged.size c.pages.invariant.at (omega arith)).0
 
 pub returns-clause-entries : goal.returns-clause-entries
-returns-clause-entries g c = (forward_ends_pages c.args.len c.args.pages.now c.pages.slot c.pages.at c.pages.invariant.forward c.requires.paged.size c.pages.invariant.at (omega arith)).1
+returns-clause-entries g c =
+    (forward_ends_pages c.args.len c.args.pages.now c.pages.slot c.pages.at c.pages.invariant.forward
+    c.requires.paged.size c.pages.invariant.at (omega arith)).1

@@ -9,7 +9,8 @@ invariant-pages g l =
     let bounds = g.C.Cells.bounds in
     record {
       at : l.at ≡ length (cells_of l.len (take l.slot l.pages));
-      forward : GoneForward (length (cells l.fn.store)) (bounds l.fn.store) (cells_of l.len l.pages) l.fn.values.items (cells l.fn.store) l.at (cells l.store) l.values.items;
+      forward : GoneForward (length (cells l.fn.store)) (bounds l.fn.store) (cells_of l.len l.pages)
+          l.fn.values.items (cells l.fn.store) l.at (cells l.store) l.values.items;
       same_len : length (cells l.store) ≡ length (cells l.fn.store);
       same_bounds : bounds l.store ≡ bounds l.fn.store;
       same_fixed : g.C.Cells.fixed l.store ≡ g.C.Cells.fixed l.fn.store;
@@ -20,7 +21,8 @@ invariant-cells g l =
     let cells = g.C.Cells.cells in
     let bounds = g.C.Cells.bounds in
     record {
-      forward : GoneForward (length (cells l.fn.store)) (bounds l.fn.store) (cells_of l.len l.pages) l.fn.values.items (cells l.fn.store) (l.at + l.offset) (cells l.store) l.values.items;
+      forward : GoneForward (length (cells l.fn.store)) (bounds l.fn.store) (cells_of l.len l.pages)
+          l.fn.values.items (cells l.fn.store) (l.at + l.offset) (cells l.store) l.values.items;
       same_len : length (cells l.store) ≡ length (cells l.fn.store);
       same_bounds : bounds l.store ≡ bounds l.fn.store;
       same_fixed : g.C.Cells.fixed l.store ≡ g.C.Cells.fixed l.fn.store;

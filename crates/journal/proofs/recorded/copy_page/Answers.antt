@@ -12,6 +12,8 @@ loop-offset-preserved g c =
     let f = slice_index (g.C.Cells.cells c.args.store.now) in
     record {
       upto = omega arith;
-      appended = items ∙ run_more f c.args.first c.loop-offset.offset c.get.result c.args.values.now.items c.loop-offset.values.items c.loop-offset.invariant.appended c.get.ensures.value;
-      within = below_next f (g.C.Cells.bounds c.args.store.now) c.args.first c.loop-offset.offset c.loop-offset.invariant.within (rw (c.get.ensures.value) at c.get.ensures.within);
+      appended = items ∙ run_more f c.args.first c.loop-offset.offset c.get.result c.args.values.now.items
+          c.loop-offset.values.items c.loop-offset.invariant.appended c.get.ensures.value;
+      within = below_next f (g.C.Cells.bounds c.args.store.now) c.args.first c.loop-offset.offset
+          c.loop-offset.invariant.within (rw (c.get.ensures.value) at c.get.ensures.within);
     }

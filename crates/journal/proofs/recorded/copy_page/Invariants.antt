@@ -7,6 +7,8 @@ invariant-loop-offset g l =
     let cells = g.C.Cells.cells in
     record {
       upto : l.offset ≤ l.count;
-      appended : l.values.items ≡ l.fn.values.items ++ map (slice_index (cells l.store)) (range_with_len l.first l.offset);
-      within : (k : ℕ) → l.first ≤ k → k < l.first + l.offset → slice_index (cells l.store) k ≤ g.C.Cells.bounds l.store k;
+      appended : l.values.items ≡ l.fn.values.items
+          ++ map (slice_index (cells l.store)) (range_with_len l.first l.offset);
+      within : (k : ℕ) → l.first ≤ k → k < l.first + l.offset
+          → slice_index (cells l.store) k ≤ g.C.Cells.bounds l.store k;
     }

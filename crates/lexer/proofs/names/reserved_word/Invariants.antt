@@ -5,4 +5,5 @@ use Rattle.lexer.specs.Spelling.{word_spelling}
 use Rattle.lexer.proofs.names.reserved_word.Given as goal
 
 abbrev pub invariant-loop-word : goal.invariant-loop-word
-invariant-loop-word l = (k : ℕ) (d : Word) → k < l.word-index → str_eq_ignore_ascii_case l.text (word_spelling (get_or l.word-items k d)) ≡ false
+invariant-loop-word l = (k : ℕ) (d : Word) → k < l.word-index
+    → str_eq_ignore_ascii_case l.text (word_spelling (get_or l.word-items k d)) ≡ false

@@ -5,7 +5,10 @@ use Rattle.lexer.specs.declared.token.Word.TheVariants as w
 use Rattle.lexer.specs.Spelling.{word_spelling}
 use Rattle.lexer.proofs.names.short_words.Goals as goal
 
-words_of_five : (x : Word) → length (word_spelling x) ≡ 5 → Contains (w.Array ∷ w.Break ∷ w.Child ∷ w.False ∷ w.Hasnt ∷ w.Notin ∷ w.Print ∷ w.Rtrue ∷ w.Table ∷ w.Until ∷ w.While ∷ []) x
+words_of_five : (x : Word) → length (word_spelling x) ≡ 5
+    → Contains
+    (w.Array ∷ w.Break ∷ w.Child ∷ w.False ∷ w.Hasnt ∷ w.Notin ∷ w.Print ∷ w.Rtrue ∷ w.Table ∷ w.Until ∷ w.While
+    ∷ []) x
 words_of_five w.Array e = (0, omega arith, refl)
 words_of_five w.Break e = (1, omega arith, refl)
 words_of_five w.Child e = (2, omega arith, refl)

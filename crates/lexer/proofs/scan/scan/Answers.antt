@@ -15,7 +15,11 @@ pub returns-then-first-eq39-clause-room : goal.returns-then-first-eq39-clause-ro
 returns-then-first-eq39-clause-room c = signs.room c.args.bytes.now c.quoted_token.result c.quoted_token.ensures
 
 pub returns-in-Some-clause-scanned : goal.returns-in-Some-clause-scanned
-returns-in-Some-clause-scanned c = signs.sign_found c.args.bytes.now c.in-Some.sign c.sign_length.result c.in-Some.ensures c.sign_length.ensures
+returns-in-Some-clause-scanned c = signs.sign_found c.args.bytes.now c.in-Some.sign c.sign_length.result
+    c.in-Some.ensures c.sign_length.ensures
 
 pub returns-in-None-clause-scanned : goal.returns-in-None-clause-scanned
-returns-in-None-clause-scanned c = signs.stray_found c.args.bytes.now c.requires.nonempty c.requires.no_divider c.requires.no_comment (sym c.is_letter.ensures ∙ c.if-is_letter.false) (sym c.begins_number.ensures ∙ c.if-begins_number.false) c.if-first-eq34.false c.if-first-eq39.false c.in-None.ensures
+returns-in-None-clause-scanned c = signs.stray_found c.args.bytes.now c.requires.nonempty c.requires.no_divider
+    c.requires.no_comment (sym c.is_letter.ensures ∙ c.if-is_letter.false)
+    (sym c.begins_number.ensures ∙ c.if-begins_number.false) c.if-first-eq34.false c.if-first-eq39.false
+    c.in-None.ensures

@@ -7,7 +7,8 @@ abbrev pub invariant-loop-offset : goal.invariant-loop-offset
 invariant-loop-offset l = record {
   within : l.offset ≤ length l.source;
   lines : l.line ≤ l.offset + 1;
-  rest : (o : Outcome) → Lexes l.offset l.line (drop l.offset l.source) o → Lexes 0 1 l.source (puts l.tokens.items o);
+  rest : (o : Outcome) → Lexes l.offset l.line (drop l.offset l.source) o
+      → Lexes 0 1 l.source (puts l.tokens.items o);
 }
 
 abbrev pub decreases-loop-offset : goal.decreases-loop-offset

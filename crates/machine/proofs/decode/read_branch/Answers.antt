@@ -5,7 +5,8 @@ use Rattle.machine.proofs.decode.read_branch.Goals as goal
 
 pub returns-in_err-branch-clause-branch : goal.returns-in_err-branch-clause-branch
 unfolding branch
-returns-in_err-branch-clause-branch c = seen_err _ _ _ _ c.from_residual.ensures.1 (rw (sym c.if-has_branch.ensures, sym c.in_err-branch.ensures.branch) refl)
+returns-in_err-branch-clause-branch c = seen_err _ _ _ _ c.from_residual.ensures.1
+    (rw (sym c.if-has_branch.ensures, sym c.in_err-branch.ensures.branch) refl)
 
 pub returns-in_ok-branch-clause-branch : goal.returns-in_ok-branch-clause-branch
 unfolding branch

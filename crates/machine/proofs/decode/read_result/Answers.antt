@@ -5,7 +5,8 @@ use Rattle.machine.proofs.decode.read_result.Goals as goal
 
 pub returns-in_err-read_byte-clause-variable : goal.returns-in_err-read_byte-clause-variable
 unfolding result_variable
-returns-in_err-read_byte-clause-variable c = seen_err _ _ _ _ c.from_residual.ensures.1 (rw (sym c.if-has_result.ensures, sym c.in_err-read_byte.ensures.byte) refl)
+returns-in_err-read_byte-clause-variable c = seen_err _ _ _ _ c.from_residual.ensures.1
+    (rw (sym c.if-has_result.ensures, sym c.in_err-read_byte.ensures.byte) refl)
 
 pub returns-in_ok-read_byte-clause-variable : goal.returns-in_ok-read_byte-clause-variable
 unfolding result_variable

@@ -1,5 +1,5 @@
 use Rattle.std.proofs.Common.{refl}
-use Rattle.zcore.specs.Step.{perform}
+use Rattle.zcore.specs.Execution.{perform}
 use Rattle.frames.proofs.Steps.{told_went, told_halt, told_still}
 use Rattle.machine.proofs.perform.perform_none.Goals as goal
 

@@ -1,4 +1,4 @@
-use Rattle.zcore.specs.Step.{perform}
+use Rattle.zcore.specs.Execution.{perform}
 use Rattle.frames.proofs.Steps.{told_went}
 use Rattle.machine.proofs.perform.perform_one.Goals as goal
 
@@ -41,3 +41,28 @@ returns-in-PrintAddress-clause-told c = rw c.in-PrintAddress.is (c.print_address
 pub returns-in-Call1s-clause-told : goal.returns-in-Call1s-clause-told
 unfolding perform
 returns-in-Call1s-clause-told c = rw c.in-Call1s.is (told_went _ _ c.call_packed.ensures)
+
+pub returns-in-GetSibling-clause-told : goal.returns-in-GetSibling-clause-told
+unfolding perform
+returns-in-GetSibling-clause-told c = rw c.in-GetSibling.is (told_went _ _ c.get_sibling.ensures)
+
+pub returns-in-GetChild-clause-told : goal.returns-in-GetChild-clause-told
+unfolding perform
+returns-in-GetChild-clause-told c = rw c.in-GetChild.is (told_went _ _ c.get_child.ensures)
+
+pub returns-in-GetParent-clause-told : goal.returns-in-GetParent-clause-told
+unfolding perform
+returns-in-GetParent-clause-told c = rw c.in-GetParent.is (told_went _ _ c.get_parent.ensures)
+
+pub returns-in-GetPropertyLength-clause-told : goal.returns-in-GetPropertyLength-clause-told
+unfolding perform
+returns-in-GetPropertyLength-clause-told c =
+    rw c.in-GetPropertyLength.is (told_went _ _ c.get_property_length.ensures)
+
+pub returns-in-RemoveObject-clause-told : goal.returns-in-RemoveObject-clause-told
+unfolding perform
+returns-in-RemoveObject-clause-told c = rw c.in-RemoveObject.is (told_went _ _ c.remove_object.ensures)
+
+pub returns-in-PrintObject-clause-told : goal.returns-in-PrintObject-clause-told
+unfolding perform
+returns-in-PrintObject-clause-told c = rw c.in-PrintObject.is (c.print_object.ensures.told)

@@ -1,16 +1,24 @@
 use Rattle.std.proofs.Common.{inl, inr, sym}
-use Rattle.zcore.specs.Step.{perform}
+use Rattle.zcore.specs.Execution.{perform}
 use Rattle.frames.proofs.Steps.{told_went}
 use Rattle.machine.proofs.Performing.{others}
 use Rattle.machine.proofs.perform.perform_several.Goals as goal
 
 pub returns-in-CallVs-clause-told : goal.returns-in-CallVs-clause-told
 unfolding perform
-returns-in-CallVs-clause-told c = elim c.in-CallVs.is [ inl e ↦ rw (e, sym (others c.args.values.now)) (told_went _ _ c.call_packed.ensures) | inr e ↦ rw (e, sym (others c.args.values.now)) (told_went _ _ c.call_packed.ensures) ]
+returns-in-CallVs-clause-told c = elim c.in-CallVs.is [
+  | inl e ↦ rw (e, sym (others c.args.values.now)) (told_went _ _ c.call_packed.ensures)
+  | inr e ↦ rw
+      (e, sym (others c.args.values.now)) (told_went _ _ c.call_packed.ensures)
+]
 
 pub returns-in-CallVn-clause-told : goal.returns-in-CallVn-clause-told
 unfolding perform
-returns-in-CallVn-clause-told c = elim c.in-CallVn.is [ inl e ↦ rw (e, sym (others c.args.values.now)) (told_went _ _ c.call_packed-in-CallVn.ensures) | inr e ↦ rw (e, sym (others c.args.values.now)) (told_went _ _ c.call_packed-in-CallVn.ensures) ]
+returns-in-CallVn-clause-told c = elim c.in-CallVn.is [
+  | inl e ↦ rw (e, sym (others c.args.values.now)) (told_went _ _ c.call_packed-in-CallVn.ensures)
+  | inr e ↦ rw
+      (e, sym (others c.args.values.now)) (told_went _ _ c.call_packed-in-CallVn.ensures)
+]
 
 pub returns-in-StoreByte-clause-told : goal.returns-in-StoreByte-clause-told
 unfolding perform
@@ -46,4 +54,9 @@ returns-in-StoreWord-clause-told c = rw c.in-StoreWord.is (told_went _ _ c.store
 
 pub returns-in-CheckArgumentCount-clause-told : goal.returns-in-CheckArgumentCount-clause-told
 unfolding perform
-returns-in-CheckArgumentCount-clause-told c = rw c.in-CheckArgumentCount.is (told_went _ _ c.check_argument_count.ensures)
+returns-in-CheckArgumentCount-clause-told c = rw c.in-CheckArgumentCount.is
+    (told_went _ _ c.check_argument_count.ensures)
+
+pub returns-in-PutProperty-clause-told : goal.returns-in-PutProperty-clause-told
+unfolding perform
+returns-in-PutProperty-clause-told c = rw c.in-PutProperty.is (told_went _ _ c.put_property.ensures)

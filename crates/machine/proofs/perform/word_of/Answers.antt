@@ -1,5 +1,5 @@
 use Rattle.std.proofs.Common.{◌≡◌, ◌+◌, ◌-◌, arith, refl}
-use Rattle.zcore.specs.Step.{perform}
+use Rattle.zcore.specs.Execution.{perform}
 use Rattle.machine.proofs.perform.word_of.Goals as goal
 
 pub returns-in-Or-clause-some : goal.returns-in-Or-clause-some

@@ -1,6 +1,6 @@
 use Rattle.std.proofs.Common.{arith}
 use Rattle.std.proofs.lemmas.Bool.{le-leb, lt-leb}
-use Rattle.zcore.specs.Step.{give_result, divide}
+use Rattle.zcore.specs.Execution.{give_result, divide}
 use Rattle.opcodes.proofs.Operating.{test_passed, test_failed, result_as}
 use Rattle.opcodes.proofs.arithmetic.divide.Goals as goal
 
@@ -10,4 +10,5 @@ returns-in_default c = test_failed _ _ _ _ c.requires.sound (lt-leb 1 c.args.y (
 
 pub returns : goal.returns
 unfolding divide give_result
-returns c = test_passed _ _ _ (le-leb 1 c.args.y (omega (arith, c.in-Some.ensures.0))) (result_as c.args.here c.args.after c.args.result_variable _ _ c.in-Some.ensures.1 c.give_result.ensures)
+returns c = test_passed _ _ _ (le-leb 1 c.args.y (omega (arith, c.in-Some.ensures.0)))
+    (result_as c.args.here c.args.after c.args.result_variable _ _ c.in-Some.ensures.1 c.give_result.ensures)

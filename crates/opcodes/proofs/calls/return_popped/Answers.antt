@@ -1,4 +1,4 @@
-use Rattle.zcore.specs.Step.{return_popped}
+use Rattle.zcore.specs.Execution.{return_popped}
 use Rattle.frames.proofs.Steps.{went_then, went_no_further, went_err}
 use Rattle.opcodes.proofs.calls.return_popped.Goals as goal
 

@@ -9,7 +9,10 @@ unfolding branch_on
 returns-in-None c = rw c.in-None.is (went_still _ _ c.requires.store.sound (λ t. refl))
 
 pub returns-then-branch-holds : goal.returns-then-branch-holds
-returns-then-branch-holds c = rw c.in-Some.is (branch_taken _ _ _ _ _ _ _ c.if-branch-holds.true c.take_branch.ensures)
+returns-then-branch-holds c = rw c.in-Some.is
+    (branch_taken _ _ _ _ _ _ _ c.if-branch-holds.true c.take_branch.ensures)
 
 pub returns-else-branch-holds : goal.returns-else-branch-holds
-returns-else-branch-holds c = rw c.in-Some.is (branch_passed c.args.here c.args.after _ _ _ _ _ c.if-branch-holds.false (went_still _ (goes_on c.args.after c.args.here.fuel) c.requires.store.sound (λ t. refl)))
+returns-else-branch-holds c = rw c.in-Some.is
+    (branch_passed c.args.here c.args.after _ _ _ _ _ c.if-branch-holds.false
+    (went_still _ (goes_on c.args.after c.args.here.fuel) c.requires.store.sound (λ t. refl)))

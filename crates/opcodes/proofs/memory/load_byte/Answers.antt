@@ -1,4 +1,4 @@
-use Rattle.zcore.specs.Step.{load_byte}
+use Rattle.zcore.specs.Execution.{load_byte}
 use Rattle.frames.proofs.Steps.{went_then, went_no_further, went_err}
 use Rattle.opcodes.proofs.memory.load_byte.Goals as goal
 

@@ -1,5 +1,5 @@
 use Rattle.std.proofs.Common.{refl}
-use Rattle.zcore.specs.Step.{store_byte}
+use Rattle.zcore.specs.Execution.{store_byte}
 use Rattle.frames.proofs.Steps.{went_then, went_no_further, went_err, went_sound, went_still}
 use Rattle.opcodes.proofs.memory.store_byte.Goals as goal
 
@@ -9,4 +9,5 @@ returns-in_err-write_byte c = went_err _ c.from_residual.ensures.1 (went_no_furt
 
 pub returns : goal.returns
 unfolding store_byte
-returns c = went_then _ (c.in_ok-write_byte.ensures) (went_still _ _ (went_sound c.in_ok-write_byte.ensures) (λ t. refl))
+returns c = went_then _ (c.in_ok-write_byte.ensures)
+    (went_still _ _ (went_sound c.in_ok-write_byte.ensures) (λ t. refl))

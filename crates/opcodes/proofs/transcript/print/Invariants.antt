@@ -6,6 +6,7 @@ use Rattle.opcodes.proofs.transcript.print.Given as goal
 
 abbrev pub invariant-loop-character : goal.invariant-loop-character
 invariant-loop-character l = record {
-  told : Told (Ok tt) l.fn.store (drop l.start l.fn.text.items) l.store (drop l.start l.text.items) (print (take l.character-index l.characters));
+  told : Told (Ok tt) l.fn.store (drop l.start l.fn.text.items) l.store (drop l.start l.text.items)
+      (print (take l.character-index l.characters));
   grew : Grew l.start l.fn.text.items l.text.items;
 }

@@ -1,4 +1,4 @@
-use Rattle.zcore.specs.Step.{write_and_branch}
+use Rattle.zcore.specs.Execution.{write_and_branch}
 use Rattle.frames.proofs.Steps.{went_then, went_no_further, went_err, went_store}
 use Rattle.opcodes.proofs.variables.write_and_branch.Goals as goal
 
@@ -11,7 +11,8 @@ returns-in_err-test_branch c = went_err _ c.from_residual.ensures.1 (went_no_fur
 
 pub returns-in_err-write_in_place : goal.returns-in_err-write_in_place
 unfolding write_and_branch
-returns-in_err-write_in_place c = went_err _ c.from_residual-in_err-write_in_place.ensures.1 (went_then _ c.in_ok-test_branch.ensures (went_no_further _ c.in_err-write_in_place.ensures))
+returns-in_err-write_in_place c = went_err _ c.from_residual-in_err-write_in_place.ensures.1
+    (went_then _ c.in_ok-test_branch.ensures (went_no_further _ c.in_err-write_in_place.ensures))
 
 pub returns : goal.returns
 unfolding write_and_branch

@@ -27,11 +27,17 @@ returns c =
     let u_plain = c.undo_argument.ensures.plain in
     let s_plain = c.story_argument.ensures in
     let fit : All FitsChain (f ∷ u ∷ s ∷ []) = all_three FitsChain f u s
-    (fits_chain f 102 (codes "uel") f_plain.1 f_plain.2 f_plain.0 (λ e. absurd (omega arith)) (λ e. absurd (omega arith)))
-    (fits_chain u 117 (codes "ndo") u_plain.1 u_plain.2 u_plain.0 (λ e. absurd (omega arith)) (λ e. absurd (omega arith)))
-    (fits_chain s 115 (codes "tory") s_plain.1 s_plain.2 s_plain.0 (λ e. absurd (omega arith)) (λ e. absurd (omega arith))) in
-    let chain : AddsInTurn AddsArg c.program.result (f ∷ u ∷ s ∷ []) c.in_ok-command.command =
-    (c.in_ok-arg.field-0, c.in_ok-arg.ensures, (c.in_ok-arg-2.field-0, c.in_ok-arg-2.ensures, (c.in_ok-command.command, c.in_ok-command.ensures, refl))) in
+    (fits_chain f 102 (codes "uel") f_plain.1 f_plain.2 f_plain.0 (λ e. absurd (omega arith))
+    (λ e. absurd (omega arith)))
+    (fits_chain u 117 (codes "ndo") u_plain.1 u_plain.2 u_plain.0 (λ e. absurd (omega arith))
+    (λ e. absurd (omega arith)))
+    (fits_chain s 115 (codes "tory") s_plain.1 s_plain.2 s_plain.0 (λ e. absurd (omega arith))
+    (λ e. absurd (omega arith))) in
+    let chain : AddsInTurn AddsArg c.program.result (f ∷ u ∷ s ∷ []) c.in_ok-command.command = (
+      c.in_ok-arg.field-0,
+      c.in_ok-arg.ensures,
+      (c.in_ok-arg-2.field-0, c.in_ok-arg-2.ensures, (c.in_ok-command.command, c.in_ok-command.ensures, refl)),
+    ) in
     let start = c.program.ensures in
     let ids = three_ids f u s f_plain.0 u_plain.0 s_plain.0 in
     let f_range : ValueParser = Signed (pos least_fuel) (pos most_fuel) in
@@ -39,16 +45,20 @@ returns c =
     let f_may : MayRead found (codes "fuel") (Accepts f.ignore_case f_range) (reading_of f_range) =
     subst (λ id. MayRead found id (Accepts f.ignore_case f_range) (reading_of f_range)) f_plain.0
     (optional_in_chain c.program.result c.in_ok-command.command (f ∷ u ∷ s ∷ []) 0 f c.in_ok-matches.matches chain
-    start.0 start.1 start.2 fit ids (omega arith) f_range c.fuel_argument.ensures.number c.in_ok-matches.ensures.parsed) in
+    start.0 start.1 start.2 fit ids (omega arith) f_range c.fuel_argument.ensures.number
+    c.in_ok-matches.ensures.parsed) in
     let u_may : MayRead found (codes "undo") (Accepts u.ignore_case u_range) (reading_of u_range) =
     subst (λ id. MayRead found id (Accepts u.ignore_case u_range) (reading_of u_range)) u_plain.0
     (optional_in_chain c.program.result c.in_ok-command.command (f ∷ u ∷ s ∷ []) 1 u c.in_ok-matches.matches chain
-    start.0 start.1 start.2 fit ids (omega arith) u_range c.undo_argument.ensures.number c.in_ok-matches.ensures.parsed) in
+    start.0 start.1 start.2 fit ids (omega arith) u_range c.undo_argument.ensures.number
+    c.in_ok-matches.ensures.parsed) in
     let fuel : IfSome c.get_one-fuel.result (λ n. (least_fuel ≤ n) × (n ≤ most_fuel)) =
-    number_read _ (λ bs r. ParsesUnsigned 32 10 bs r × ExplainsUnsignedError 10 bs r × HasUnsignedDigitsIfOk bs r) 32 least_fuel most_fuel found (codes "fuel") f.ignore_case c.get_one-fuel.result
+    number_read _ (λ bs r. ParsesUnsigned 32 10 bs r × ExplainsUnsignedError 10 bs r × HasUnsignedDigitsIfOk bs r) 32
+    least_fuel most_fuel found (codes "fuel") f.ignore_case c.get_one-fuel.result
     f_may c.get_one-fuel.ensures.none c.get_one-fuel.ensures.value (λ t x g. g.0) (omega arith) in
     let keep : IfSome c.get_one-keep.result (λ n. (0 ≤ n) × (n ≤ most_undo)) =
-    number_read _ (λ bs r. ParsesUnsigned 32 10 bs r × ExplainsUnsignedError 10 bs r × HasUnsignedDigitsIfOk bs r) 32 0 most_undo found (codes "undo") u.ignore_case c.get_one-keep.result
+    number_read _ (λ bs r. ParsesUnsigned 32 10 bs r × ExplainsUnsignedError 10 bs r × HasUnsignedDigitsIfOk bs r) 32
+    0 most_undo found (codes "undo") u.ignore_case c.get_one-keep.result
     u_may c.get_one-keep.ensures.none c.get_one-keep.ensures.value (λ t x g. g.0) (omega arith) in
     let both = number_or least_fuel most_fuel 1000000 c.get_one-fuel.result fuel (omega arith) (omega arith) in
     record {

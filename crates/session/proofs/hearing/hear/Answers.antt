@@ -18,10 +18,13 @@ returns-in_err-finish-clause-hears g c = λ game s full p kept.
     let w2 = g.W.Write.contents c.finish.new.writer in
     let chunk = c.args.chunk.now in
     let i = c.loop-byte.byte-index in
-    hears_err game w w2 s (λ t. IsSessionOf game t c.finish.new.session) (whole_from full chunk) c.from_residual.result c.from_residual.ensures.0
-    (heard_break game w w1 w2 s (λ t. IsSessionOf game t c.loop-byte.session) (λ t. IsSessionOf game t c.finish.new.session) full chunk i 0
+    hears_err game w w2 s (λ t. IsSessionOf game t c.finish.new.session) (whole_from full chunk)
+    c.from_residual.result c.from_residual.ensures.0
+    (heard_break game w w1 w2 s (λ t. IsSessionOf game t c.loop-byte.session)
+    (λ t. IsSessionOf game t c.finish.new.session) full chunk i 0
     (c.loop-byte.invariant.heard game s full p kept) (omega arith) c.if-byte-eq10.true
-    (λ t q. c.in_err-finish.ensures.hears game t (rest_from full (take i chunk)) q (c.loop-byte.invariant.kept full kept)))
+    (λ t q. c.in_err-finish.ensures.hears game t (rest_from full (take i chunk)) q
+    (c.loop-byte.invariant.kept full kept)))
 
 pub loop-byte-preserved : goal.loop-byte-preserved
 loop-byte-preserved g c =
@@ -33,30 +36,41 @@ loop-byte-preserved g c =
     elim c.if-byte-eq10.branch [
       | then-byte-eq10+in_ok-finish v ↦ record {
         within = subst (λ (x : Line). x.len ≤ longest_line) (sym v.line-is) v.finish.ensures.within;
-        kept = λ full kept. subst (λ x. IsKept x (rest_from full (take (i + 1) chunk))) (sym v.line-is) (kept_end full chunk v.finish.new.line i 0 (omega arith) v.if-byte-eq10.true v.in_ok-finish.ensures.line);
+        kept = λ full kept. subst (λ x. IsKept x (rest_from full (take (i + 1) chunk))) (sym v.line-is)
+            (kept_end full chunk v.finish.new.line i 0 (omega arith) v.if-byte-eq10.true v.in_ok-finish.ensures.line);
         heard = λ game s full p kept.
             let w2 = g.W.Write.contents v.finish.new.writer in
-            subst (λ x. Heard game w (g.W.Write.contents x) s (λ t. IsSessionOf game t now.session) (whole_from full (take (i + 1) chunk))) (sym v.writer-is)
-            (subst (λ x. Heard game w w2 s (λ t. IsSessionOf game t x) (whole_from full (take (i + 1) chunk))) (sym v.session-is)
-            (heard_end game w w1 w2 s (λ t. IsSessionOf game t c.loop-byte.session) (λ t. IsSessionOf game t v.finish.new.session) full chunk i 0
+            subst (λ x. Heard game w (g.W.Write.contents x) s (λ t. IsSessionOf game t now.session)
+            (whole_from full (take (i + 1) chunk))) (sym v.writer-is)
+            (subst (λ x. Heard game w w2 s (λ t. IsSessionOf game t x) (whole_from full (take (i + 1) chunk)))
+            (sym v.session-is)
+            (heard_end game w w1 w2 s (λ t. IsSessionOf game t c.loop-byte.session)
+            (λ t. IsSessionOf game t v.finish.new.session) full chunk i 0
             (c.loop-byte.invariant.heard game s full p kept) (omega arith) v.if-byte-eq10.true
-            (λ t q. v.in_ok-finish.ensures.hears game t (rest_from full (take i chunk)) q (c.loop-byte.invariant.kept full kept))));
+            (λ t q. v.in_ok-finish.ensures.hears game t (rest_from full (take i chunk)) q
+            (c.loop-byte.invariant.kept full kept))));
       }
       | else-byte-eq10 v ↦ record {
         within = subst (λ (x : Line). x.len ≤ longest_line) (sym v.line-is) v.push.ensures.within;
         kept = λ full kept. subst (λ x. IsKept x (rest_from full (take (i + 1) chunk))) (sym v.line-is)
-            (kept_byte full chunk v.push.new.self i 0 (omega arith) (untrue _ _ v.if-byte-eq10.false) (v.push.ensures.kept (rest_from full (take i chunk)) (c.loop-byte.invariant.kept full kept)));
+            (kept_byte full chunk v.push.new.self i 0 (omega arith) (untrue _ _ v.if-byte-eq10.false)
+            (v.push.ensures.kept (rest_from full (take i chunk)) (c.loop-byte.invariant.kept full kept)));
         heard = λ game s full p kept.
-            subst (λ x. Heard game w (g.W.Write.contents x) s (λ t. IsSessionOf game t now.session) (whole_from full (take (i + 1) chunk))) (sym v.writer-is)
-            (subst (λ x. Heard game w w1 s (λ t. IsSessionOf game t x) (whole_from full (take (i + 1) chunk))) (sym v.session-is)
-            (heard_byte game w w1 s (λ t. IsSessionOf game t c.loop-byte.session) full chunk i 0 (c.loop-byte.invariant.heard game s full p kept) (omega arith) (untrue _ _ v.if-byte-eq10.false)));
+            subst (λ x. Heard game w (g.W.Write.contents x) s (λ t. IsSessionOf game t now.session)
+            (whole_from full (take (i + 1) chunk))) (sym v.writer-is)
+            (subst (λ x. Heard game w w1 s (λ t. IsSessionOf game t x) (whole_from full (take (i + 1) chunk)))
+            (sym v.session-is)
+            (heard_byte game w w1 s (λ t. IsSessionOf game t c.loop-byte.session) full chunk i 0
+            (c.loop-byte.invariant.heard game s full p kept) (omega arith) (untrue _ _ v.if-byte-eq10.false)));
       }
     ]
 
 pub returns-clause-hears : goal.returns-clause-hears
 returns-clause-hears g c = λ game s full p kept.
-    heard_all game (g.W.Write.contents c.args.writer.now) (g.W.Write.contents c.loop-byte.writer) s (λ t. IsSessionOf game t c.loop-byte.session) full c.args.chunk.now c.loop-byte.byte-index
+    heard_all game (g.W.Write.contents c.args.writer.now) (g.W.Write.contents c.loop-byte.writer) s
+    (λ t. IsSessionOf game t c.loop-byte.session) full c.args.chunk.now c.loop-byte.byte-index
     (c.loop-byte.invariant.heard game s full p kept) (omega arith)
 
 pub returns-clause-line : goal.returns-clause-line
-returns-clause-line g c = λ full kept. kept_all full c.args.chunk.now c.loop-byte.line c.loop-byte.byte-index (omega arith) (c.loop-byte.invariant.kept full kept)
+returns-clause-line g c = λ full kept. kept_all full c.args.chunk.now c.loop-byte.line c.loop-byte.byte-index
+    (omega arith) (c.loop-byte.invariant.kept full kept)

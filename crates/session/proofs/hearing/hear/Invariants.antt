@@ -11,5 +11,6 @@ invariant-loop-byte g l = record {
   within : l.line.len ≤ longest_line;
   kept : (full : List ℕ) → IsKept l.fn.line full → IsKept l.line (rest_from full (take l.byte-index l.chunk));
   heard : (game : Game) (s : Standing) (full : List ℕ) → IsSessionOf game s l.fn.session → IsKept l.fn.line full
-      → Heard game (g.W.Write.contents l.fn.writer) (g.W.Write.contents l.writer) s (λ t. IsSessionOf game t l.session) (whole_from full (take l.byte-index l.chunk));
+      → Heard game (g.W.Write.contents l.fn.writer) (g.W.Write.contents l.writer) s
+      (λ t. IsSessionOf game t l.session) (whole_from full (take l.byte-index l.chunk));
 }

@@ -9,4 +9,6 @@ use Rattle.statements.proofs.items.items.Given as goal
 
 abbrev pub invariant-loop-turn : goal.invariant-loop-turn
 invariant-loop-turn l =
-    joined (map item_tree l.found.items) (further (is_sign s.Comma) (spec.item l.depth) (l._turn-end - l._turn) (lexemes l.rest)) ≡ spec.items l.depth (lexemes l.fn.tokens)
+    joined (map item_tree l.found.items)
+    (further (is_sign s.Comma) (spec.item l.depth) (l._turn-end - l._turn) (lexemes l.rest))
+    ≡ spec.items l.depth (lexemes l.fn.tokens)

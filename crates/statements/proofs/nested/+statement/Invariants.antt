@@ -29,4 +29,6 @@ decreases-repetition l = 4 * l.depth + 1
 
 abbrev pub invariant-statements-loop-turn : goal.invariant-statements-loop-turn
 invariant-statements-loop-turn l =
-    joined (map statement_tree l.found.items) (spec.repeated begins_statement (spec.statement l.depth) (l._turn-end - l._turn) (lexemes l.rest)) ≡ spec.statements l.depth (lexemes l.fn.tokens)
+    joined (map statement_tree l.found.items)
+    (spec.repeated begins_statement (spec.statement l.depth) (l._turn-end - l._turn) (lexemes l.rest))
+    ≡ spec.statements l.depth (lexemes l.fn.tokens)

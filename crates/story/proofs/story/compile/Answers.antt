@@ -55,7 +55,8 @@ write_story-requires c =
     let checked = c.in_ok-checked.ensures in
     fits c.accepted_programs.ensures c.printable_tokens.ensures c.printable_trees.ensures c.printable_programs.ensures
     c.small_sources_have_small_code.ensures
-    V5 c.args.source.now c.deref.result.now (program_tree c.in_ok-program.program) c.in_ok-checked.checked lexed found.0
+    V5 c.args.source.now c.deref.result.now (program_tree c.in_ok-program.program) c.in_ok-checked.checked lexed
+    found.0
     checked.0 checked.1 (sym c.in_ok-test_sizes.ensures)
 
 pub returns : goal.returns
@@ -67,7 +68,8 @@ returns c =
     let checked = c.in_ok-checked.ensures in
     compiled c.accepted_programs.ensures c.printable_tokens.ensures c.printable_trees.ensures
     c.printable_programs.ensures c.small_sources_have_small_code.ensures
-    V5 c.args.source.now c.deref.result.now (program_tree c.in_ok-program.program) c.in_ok-checked.checked lexed found.0
+    V5 c.args.source.now c.deref.result.now (program_tree c.in_ok-program.program) c.in_ok-checked.checked lexed
+    found.0
     checked.0 checked.1 (sym c.in_ok-test_sizes.ensures)
     c.stories_hold.ensures c.code_plays.ensures c.of_bytes.result c.of_bytes.ensures.small (c.of_bytes.ensures.value
     ∙ c.in_ok-bytes.ensures) found.1

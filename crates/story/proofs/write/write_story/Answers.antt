@@ -1,11 +1,22 @@
-use Rattle.std.proofs.Common.{◌≡◌, ◌++◌, ap, ◌∙◌}
+use Rattle.std.proofs.Common.{◌≡◌, ◌++◌, ap, sym, subst, ◌∙◌, arith}
+use Rattle.checker.specs.declared.places.Places.{Places}
 use Rattle.checker.specs.Resolved.{program_of}
-use Rattle.story.specs.Layout.{body_of}
+use Rattle.story.specs.Layout.{body_of, header_of}
+use Rattle.story.specs.Written.{AreWords}
 use Rattle.story.proofs.Laid.{body_within, story_laid}
 use Rattle.story.proofs.write.write_story.Goals as goal
 
-pub put_header-requires : goal.put_header-requires
-put_header-requires c =
+pub put_header-requires-clause-words : goal.put_header-requires-clause-words
+put_header-requires-clause-words c =
+    subst AreWords (sym c.part_places.ensures) (record {
+      globals = omega arith;
+      defaults = omega arith;
+      dictionary = omega arith;
+      start = omega arith;
+    })
+
+pub put_header-requires-clause-length : goal.put_header-requires-clause-length
+put_header-requires-clause-length c =
     body_within c.args.version (program_of c.args.checked.now) c.deref.result.now c.requires (c.deref.ensures.value
     ∙ c.in_ok-body.ensures)
 
@@ -16,5 +27,7 @@ returns c =
     let again : c.deref-2.result.now ≡ c.deref.result.now = cc in
     story_laid c.args.version (program_of c.args.checked.now) c.deref.result.now c.new-story.result.items
     c.put_header.new.story.items c.extend_from_slice.new.self.items
-    body c.new-story.ensures.items c.in_ok-put_header.ensures
+    body c.new-story.ensures.items
+    (c.in_ok-put_header.ensures ∙ ap (λ (at : Places). c.new-story.result.items
+    ++ header_of c.args.version at c.deref.result.now) c.part_places.ensures)
     (c.in_ok-extend_from_slice.ensures.items ∙ ap (λ z. c.put_header.new.story.items ++ z) again)

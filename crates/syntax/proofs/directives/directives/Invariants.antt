@@ -8,4 +8,6 @@ use Rattle.syntax.proofs.directives.directives.Given as goal
 
 abbrev pub invariant-loop-turn : goal.invariant-loop-turn
 invariant-loop-turn l =
-    joined (map directive_tree l.found.items) (repeated spec.goes_on (spec.directive 100) (l._turn-end - l._turn) (lexemes l.rest)) ≡ spec.directives 100 (lexemes l.fn.tokens)
+    joined (map directive_tree l.found.items)
+    (repeated spec.goes_on (spec.directive 100) (l._turn-end - l._turn) (lexemes l.rest))
+    ≡ spec.directives 100 (lexemes l.fn.tokens)

@@ -6,7 +6,8 @@ use Rattle.syntax.proofs.program.parse.Goals as goal
 pub returns-in_err-found-clause-only : goal.returns-in_err-found-clause-only
 returns-in_err-found-clause-only c =
     let p = err_from_is_err_and c.from_residual.result c.from_residual.ensures.1 in
-    λ q a le. rw p.1 (err_only c.in_err-found.field-0.0 p.0 (lexemes c.args.tokens.now) c.in_err-found.ensures p.2 q a le)
+    λ q a le. rw p.1
+    (err_only c.in_err-found.field-0.0 p.0 (lexemes c.args.tokens.now) c.in_err-found.ensures p.2 q a le)
 
 pub returns-in_err-found-clause-grammar : goal.returns-in_err-found-clause-grammar
 returns-in_err-found-clause-grammar c =

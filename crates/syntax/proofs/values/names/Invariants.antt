@@ -8,4 +8,5 @@ use Rattle.syntax.proofs.values.names.Given as goal
 
 abbrev pub invariant-loop-turn : goal.invariant-loop-turn
 invariant-loop-turn l =
-    joined (map name_tree l.found.items) (repeated spec.is_name spec.named (l._turn-end - l._turn) (lexemes l.rest)) ≡ spec.names (lexemes l.fn.tokens)
+    joined (map name_tree l.found.items) (repeated spec.is_name spec.named (l._turn-end - l._turn) (lexemes l.rest))
+    ≡ spec.names (lexemes l.fn.tokens)

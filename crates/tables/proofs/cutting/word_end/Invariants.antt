@@ -5,4 +5,5 @@ use Rattle.tables.proofs.cutting.word_end.Given as goal
 
 -- the bytes so far are a run
 abbrev pub invariant-loop-i : goal.invariant-loop-i
-invariant-loop-i l = words_from l.separators l.start [] (drop l.start l.line) ≡ words_from l.separators l.start (slice_range l.line l.start l.i) (drop l.i l.line)
+invariant-loop-i l = words_from l.separators l.start [] (drop l.start l.line)
+    ≡ words_from l.separators l.start (slice_range l.line l.start l.i) (drop l.i l.line)

@@ -17,36 +17,43 @@ pub returns-in-Err-open_with : goal.returns-in-Err-open_with
 returns-in-Err-open_with g c = (
   (c.in-Ok.story, c.in-Ok.ensures),
   wants_memory c.into_bytes.result.items c.args.fuel c.args.keep c.in-Ok.ensures.reads.0 c.in-Err-open_with.fault
-      (subst (λ b. Reads b (Ok c.in-Ok.ensures.reads.0)) (sym c.into_bytes.ensures) c.in-Ok.ensures.reads.1) c.in-Err-open_with.ensures,
+      (subst (λ b. Reads b (Ok c.in-Ok.ensures.reads.0)) (sym c.into_bytes.ensures) c.in-Ok.ensures.reads.1)
+      c.in-Err-open_with.ensures,
   (keeps_all _, keeps_all _),
 )
 
 pub returns-in-Ok-run : goal.returns-in-Ok-run
 returns-in-Ok-run g c =
-    let io = streams (g.R.Read.remaining c.args.reader.now) (g.R.Read.remaining c.run.new.reader) (g.W.Write.contents c.args.writer.now) (g.W.Write.contents c.run.new.writer) in
+    let io = streams (g.R.Read.remaining c.args.reader.now) (g.R.Read.remaining c.run.new.reader)
+    (g.W.Write.contents c.args.writer.now) (g.W.Write.contents c.run.new.writer) in
     let game : Game = record { story = c.in-Ok.story; fuel = c.args.fuel; keep = c.args.keep } in
-    let opened = subst (λ b. IsSession b c.args.fuel c.args.keep nothing c.in-Ok-open_with.session) c.into_bytes.ensures c.in-Ok-open_with.ensures.session in (
+    let opened = subst (λ b. IsSession b c.args.fuel c.args.keep nothing c.in-Ok-open_with.session)
+    c.into_bytes.ensures c.in-Ok-open_with.ensures.session in (
       c.in-Ok-run._place,
       record {
         story = c.in-Ok.story;
         compiled = c.in-Ok.ensures;
         ran = ran_same (telling_of game) (meant_by (resolve_program c.in-Ok.ensures.tree) c.args.fuel) c.args.keep
             (agrees game (resolve_program c.in-Ok.ensures.tree) (c.in-Ok.ensures.plays c.args.fuel)) io
-            (λ s. IsSession c.in-Ok.story c.args.fuel c.args.keep s c.run.new.session) (Ok c.in-Ok-run._place) (c.in-Ok-run.ensures game opened);
+            (λ s. IsSession c.in-Ok.story c.args.fuel c.args.keep s c.run.new.session) (Ok c.in-Ok-run._place)
+            (c.in-Ok-run.ensures game opened);
       },
     )
 
 pub returns-in-Err-run : goal.returns-in-Err-run
 returns-in-Err-run g c =
-    let io = streams (g.R.Read.remaining c.args.reader.now) (g.R.Read.remaining c.run.new.reader) (g.W.Write.contents c.args.writer.now) (g.W.Write.contents c.run.new.writer) in
+    let io = streams (g.R.Read.remaining c.args.reader.now) (g.R.Read.remaining c.run.new.reader)
+    (g.W.Write.contents c.args.writer.now) (g.W.Write.contents c.run.new.writer) in
     let game : Game = record { story = c.in-Ok.story; fuel = c.args.fuel; keep = c.args.keep } in
-    let opened = subst (λ b. IsSession b c.args.fuel c.args.keep nothing c.in-Ok-open_with.session) c.into_bytes.ensures c.in-Ok-open_with.ensures.session in (
+    let opened = subst (λ b. IsSession b c.args.fuel c.args.keep nothing c.in-Ok-open_with.session)
+    c.into_bytes.ensures c.in-Ok-open_with.ensures.session in (
       c.run.new.session,
       record {
         story = c.in-Ok.story;
         compiled = c.in-Ok.ensures;
         ran = ran_same (telling_of game) (meant_by (resolve_program c.in-Ok.ensures.tree) c.args.fuel) c.args.keep
             (agrees game (resolve_program c.in-Ok.ensures.tree) (c.in-Ok.ensures.plays c.args.fuel)) io
-            (λ s. IsSession c.in-Ok.story c.args.fuel c.args.keep s c.run.new.session) (Err c.in-Err-run.fault) (c.in-Err-run.ensures game opened);
+            (λ s. IsSession c.in-Ok.story c.args.fuel c.args.keep s c.run.new.session) (Err c.in-Err-run.fault)
+            (c.in-Err-run.ensures game opened);
       },
     )

@@ -6,9 +6,11 @@ use Rattle.zcore.specs.Reading.{printed}
 use Rattle.zcore.specs.Text.{read_with, refused}
 use Rattle.zcore.specs.Faults.{Fails}
 use Rattle.zcore.specs.TextParts.{state_of, expansion}
-use Rattle.zcore.proofs.Loops.{fault_at, done_at, turn_at, printed_fails, nothing, one, named, refused_within, no_table, expanded, grown, fails_alone}
+use Rattle.zcore.proofs.Loops.{fault_at, done_at, turn_at, printed_fails, nothing, one, named, refused_within}
+use Rattle.zcore.proofs.Loops.{no_table, expanded, grown, fails_alone}
 use Rattle.zcore.proofs.reading.+put_text.Goals as goal
-use Rattle.zcore.proofs.reading.+put_text.Goals.{in-Nothing, in-Character+in_ok-push-in-Character, in-Abbreviation+else-is_abbreviation+in_ok-abbreviation_address-in-Abbreviation+in_ok-put_text-in-Abbreviation}
+use Rattle.zcore.proofs.reading.+put_text.Goals.{in-Nothing, in-Character+in_ok-push-in-Character}
+use Rattle.zcore.proofs.reading.+put_text.Goals.{in-Abbreviation+else-is_abbreviation+in_ok-abbreviation_address-in-Abbreviation+in_ok-put_text-in-Abbreviation}
 
 pub returns-in_err-printed : goal.returns-in_err-printed
 returns-in_err-printed t c =
@@ -20,7 +22,10 @@ returns-in_err-printed t c =
     let z = c.z_character-z.result in
     let fault = c.in_err-printed.field-0.0 in
     let p = err_from_is_err_and c.from_residual-in_err-printed.result c.from_residual-in_err-printed.ensures.1 in
-    rw (p.1, p.2) (fault_at expand fault story bytes c.args.at words z c.args.text.now.items c.loop-place.text.items state c.loop-place.place c.bytes_from-bytes.ensures c.in_ok-words.ensures.words c.z_character-z.ensures (omega arith) c.loop-place.invariant.so_far
+    rw (p.1, p.2)
+    (fault_at expand fault story bytes c.args.at words z c.args.text.now.items c.loop-place.text.items state
+    c.loop-place.place c.bytes_from-bytes.ensures c.in_ok-words.ensures.words c.z_character-z.ensures
+    (omega arith) c.loop-place.invariant.so_far
     (printed_fails expand (printed expand state z) fault (c.in_err-printed.ensures expand)))
 
 pub returns-then-is_abbreviation : goal.returns-then-is_abbreviation
@@ -32,8 +37,11 @@ returns-then-is_abbreviation t c =
     let state = state_of c.loop-place.state in
     let z = c.z_character-z.result in
     let number = c.in-Abbreviation.number in
-    let is = named expand (printed expand state z) c.in_ok-printed.field-0 number c.in-Abbreviation.is (c.in_ok-printed.ensures expand) in
-    fault_at expand faults.Abbreviation story bytes c.args.at words z c.args.text.now.items c.loop-place.text.items state c.loop-place.place c.bytes_from-bytes.ensures c.in_ok-words.ensures.words c.z_character-z.ensures (omega arith) c.loop-place.invariant.so_far
+    let is = named expand (printed expand state z) c.in_ok-printed.field-0 number c.in-Abbreviation.is
+    (c.in_ok-printed.ensures expand) in
+    fault_at expand faults.Abbreviation story bytes c.args.at words z c.args.text.now.items c.loop-place.text.items
+    state c.loop-place.place c.bytes_from-bytes.ensures c.in_ok-words.ensures.words c.z_character-z.ensures
+    (omega arith) c.loop-place.invariant.so_far
     (is.0 ∙ refused_within story number c.args.is_abbreviation c.if-is_abbreviation.true)
 
 pub abbreviation_address-requires : goal.abbreviation_address-requires
@@ -42,7 +50,8 @@ abbreviation_address-requires t c =
     let expand = expansion c.args.is_abbreviation story in
     let state = state_of c.loop-place.state in
     let z = c.z_character-z.result in
-    let is = named expand (printed expand state z) c.in_ok-printed.field-0 c.in-Abbreviation.number c.in-Abbreviation.is (c.in_ok-printed.ensures expand) in
+    let is = named expand (printed expand state z) c.in_ok-printed.field-0 c.in-Abbreviation.number
+    c.in-Abbreviation.is (c.in_ok-printed.ensures expand) in
     is.1
 
 pub returns-in_err-abbreviation_address-in-Abbreviation : goal.returns-in_err-abbreviation_address-in-Abbreviation
@@ -55,11 +64,17 @@ returns-in_err-abbreviation_address-in-Abbreviation t c =
     let z = c.z_character-z.result in
     let number = c.in-Abbreviation.number in
     let fault = c.in_err-abbreviation_address-in-Abbreviation.field-0.0 in
-    let is = named expand (printed expand state z) c.in_ok-printed.field-0 number c.in-Abbreviation.is (c.in_ok-printed.ensures expand) in
+    let is = named expand (printed expand state z) c.in_ok-printed.field-0 number c.in-Abbreviation.is
+    (c.in_ok-printed.ensures expand) in
     let lost = c.in_err-abbreviation_address-in-Abbreviation.ensures in
-    let p = err_from_is_err_and c.from_residual-in_err-abbreviation_address-in-Abbreviation.result c.from_residual-in_err-abbreviation_address-in-Abbreviation.ensures.1 in
-    rw (p.1, p.2) (fault_at expand fault story bytes c.args.at words z c.args.text.now.items c.loop-place.text.items state c.loop-place.place c.bytes_from-bytes.ensures c.in_ok-words.ensures.words c.z_character-z.ensures (omega arith) c.loop-place.invariant.so_far
-    (no_table fault story number c.args.is_abbreviation (printed expand state z) c.if-is_abbreviation.false is.0 lost.0 lost.1))
+    let p = err_from_is_err_and c.from_residual-in_err-abbreviation_address-in-Abbreviation.result
+    c.from_residual-in_err-abbreviation_address-in-Abbreviation.ensures.1 in
+    rw (p.1, p.2)
+    (fault_at expand fault story bytes c.args.at words z c.args.text.now.items c.loop-place.text.items state
+    c.loop-place.place c.bytes_from-bytes.ensures c.in_ok-words.ensures.words c.z_character-z.ensures
+    (omega arith) c.loop-place.invariant.so_far
+    (no_table fault story number c.args.is_abbreviation (printed expand state z) c.if-is_abbreviation.false is.0
+    lost.0 lost.1))
 
 pub returns-in_err-put_text-in-Abbreviation : goal.returns-in_err-put_text-in-Abbreviation
 returns-in_err-put_text-in-Abbreviation t c =
@@ -72,12 +87,20 @@ returns-in_err-put_text-in-Abbreviation t c =
     let number = c.in-Abbreviation.number in
     let place = c.in_ok-abbreviation_address-in-Abbreviation.field-0 in
     let fault = c.in_err-put_text-in-Abbreviation.field-0.0 in
-    let is = named expand (printed expand state z) c.in_ok-printed.field-0 number c.in-Abbreviation.is (c.in_ok-printed.ensures expand) in
+    let is = named expand (printed expand state z) c.in_ok-printed.field-0 number c.in-Abbreviation.is
+    (c.in_ok-printed.ensures expand) in
     let table = c.in_ok-abbreviation_address-in-Abbreviation.ensures in
-    let read = expanded story number place c.args.is_abbreviation (printed expand state z) c.if-is_abbreviation.false is.0 table.0 table.1 in
-    let p = err_from_is_err_and c.from_residual-in_err-put_text-in-Abbreviation.result c.from_residual-in_err-put_text-in-Abbreviation.ensures.1 in
-    rw (p.1, p.2) (fault_at expand fault story bytes c.args.at words z c.args.text.now.items c.loop-place.text.items state c.loop-place.place c.bytes_from-bytes.ensures c.in_ok-words.ensures.words c.z_character-z.ensures (omega arith) c.loop-place.invariant.so_far
-    (subst (Fails fault) (sym read) (fails_alone fault c.loop-place.text.items (read_with refused story place) c.in_err-put_text-in-Abbreviation.ensures)))
+    let read = expanded story number place c.args.is_abbreviation (printed expand state z) c.if-is_abbreviation.false
+    is.0 table.0 table.1 in
+    let p = err_from_is_err_and c.from_residual-in_err-put_text-in-Abbreviation.result
+    c.from_residual-in_err-put_text-in-Abbreviation.ensures.1 in
+    rw (p.1, p.2)
+    (fault_at expand fault story bytes c.args.at words z c.args.text.now.items c.loop-place.text.items state
+    c.loop-place.place c.bytes_from-bytes.ensures c.in_ok-words.ensures.words c.z_character-z.ensures
+    (omega arith) c.loop-place.invariant.so_far
+    (subst (Fails fault) (sym read)
+    (fails_alone fault c.loop-place.text.items (read_with refused story place)
+    c.in_err-put_text-in-Abbreviation.ensures)))
 
 pub loop-place-preserved : goal.loop-place-preserved
 loop-place-preserved t c =
@@ -98,22 +121,32 @@ loop-place-preserved t c =
     record {
       row = c.next-state.ensures.row;
       so_far = elim c.match-branch-3.branch [
-        | in-Nothing w ↦ turn_at expand bytes words z old text [] now state after place c.z_character-z.ensures (omega arith) c.loop-place.invariant.so_far (nothing expand read output w.in-Nothing.is meant) (ap (λ v. v.items) w.text-is ∙ sym (append-nil text)) c.next-state.ensures.next
+        | in-Nothing w ↦ turn_at expand bytes words z old text [] now state after place c.z_character-z.ensures
+            (omega arith) c.loop-place.invariant.so_far (nothing expand read output w.in-Nothing.is meant)
+            (ap (λ v. v.items) w.text-is ∙ sym (append-nil text)) c.next-state.ensures.next
         | in-Character+in_ok-push-in-Character w ↦
             let got = w.in-Character.c ∷ [] in
-            turn_at expand bytes words z old text got now state after place c.z_character-z.ensures (omega arith) c.loop-place.invariant.so_far (one expand read output w.in-Character.c w.in-Character.is meant) (ap (λ v. v.items) w.text-is ∙ w.in_ok-push-in-Character.ensures.items) c.next-state.ensures.next
+            turn_at expand bytes words z old text got now state after place c.z_character-z.ensures (omega arith)
+            c.loop-place.invariant.so_far (one expand read output w.in-Character.c w.in-Character.is meant)
+            (ap (λ v. v.items) w.text-is ∙ w.in_ok-push-in-Character.ensures.items) c.next-state.ensures.next
         | in-Abbreviation+else-is_abbreviation+in_ok-abbreviation_address-in-Abbreviation+in_ok-put_text-in-Abbreviation w ↦
             let number = w.in-Abbreviation.number in
             let address = w.in_ok-abbreviation_address-in-Abbreviation.field-0 in
             let table = w.in_ok-abbreviation_address-in-Abbreviation.ensures in
             let is = named expand read output number w.in-Abbreviation.is meant in
-            let inner = grown text w.put_text.new.text.items w.in_ok-put_text-in-Abbreviation.field-0 (read_with refused story address) w.in_ok-put_text-in-Abbreviation.ensures in
-            let whole = expanded story number address c.args.is_abbreviation read w.if-is_abbreviation.false is.0 table.0 table.1 in
-            turn_at expand bytes words z old text inner.0 now state after place c.z_character-z.ensures (omega arith) c.loop-place.invariant.so_far (whole ∙ inner.1) (ap (λ v. v.items) w.text-is ∙ inner.2) c.next-state.ensures.next
+            let inner = grown text w.put_text.new.text.items w.in_ok-put_text-in-Abbreviation.field-0
+            (read_with refused story address) w.in_ok-put_text-in-Abbreviation.ensures in
+            let whole = expanded story number address c.args.is_abbreviation read w.if-is_abbreviation.false is.0
+            table.0 table.1 in
+            turn_at expand bytes words z old text inner.0 now state after place c.z_character-z.ensures (omega arith)
+            c.loop-place.invariant.so_far (whole ∙ inner.1) (ap (λ v. v.items) w.text-is ∙ inner.2)
+            c.next-state.ensures.next
       ];
     }
 
 pub returns : goal.returns
 returns t c =
-    done_at (expansion c.args.is_abbreviation c.args.story.now) c.args.story.now c.bytes_from-bytes.result.now c.args.at c.in_ok-words.words c.args.text.now.items c.loop-place.text.items (state_of c.loop-place.state) c.loop-place.place
+    done_at (expansion c.args.is_abbreviation c.args.story.now) c.args.story.now c.bytes_from-bytes.result.now
+    c.args.at c.in_ok-words.words c.args.text.now.items c.loop-place.text.items (state_of c.loop-place.state)
+    c.loop-place.place
     c.bytes_from-bytes.ensures c.in_ok-words.ensures.words (omega arith) c.loop-place.invariant.so_far

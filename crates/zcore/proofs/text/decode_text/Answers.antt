@@ -12,14 +12,19 @@ unfolding decoded
 returns-in_err-after-clause-text c =
     let read = read_with (abbreviation c.args.story.now) c.args.story.now c.args.at in
     let p = err_from_is_err_and c.from_residual.result c.from_residual.ensures.1 in
-    rw (p.1, p.2) (subst (Fails c.in_err-after.field-0.0) (ap (λ ts. after_text ts read) c.new-text.ensures.items ∙ joined_none read) c.in_err-after.ensures)
+    rw (p.1, p.2)
+    (subst (Fails c.in_err-after.field-0.0)
+    (ap (λ ts. after_text ts read) c.new-text.ensures.items ∙ joined_none read) c.in_err-after.ensures)
 
 pub returns-in_err-after-clause-cause : goal.returns-in_err-after-clause-cause
 unfolding decoded
 returns-in_err-after-clause-cause c =
     let read = read_with (abbreviation c.args.story.now) c.args.story.now c.args.at in
     let p = err_from_is_err_and c.from_residual.result c.from_residual.ensures.1 in
-    rw (p.1, p.2) (has_cause c.args.story.now c.args.at c.in_err-after.field-0.0 (subst (Fails c.in_err-after.field-0.0) (ap (λ ts. after_text ts read) c.new-text.ensures.items ∙ joined_none read) c.in_err-after.ensures))
+    rw (p.1, p.2)
+    (has_cause c.args.story.now c.args.at c.in_err-after.field-0.0
+    (subst (Fails c.in_err-after.field-0.0)
+    (ap (λ ts. after_text ts read) c.new-text.ensures.items ∙ joined_none read) c.in_err-after.ensures))
 
 pub returns-clause-text : goal.returns-clause-text
 unfolding decoded

@@ -14,13 +14,15 @@ loop-z-preserved c =
         so_far = λ zs h.
             subst (λ n. IsFilled (zs ++ take (i + 1) items) n c.if-filled-lt9.key) (sym w.filled-is)
             (subst (λ k. IsFilled (zs ++ take (i + 1) items) (c.loop-z.filled + 1) k) (sym w.key-is)
-            (turn_within zs items c.loop-z.key i c.loop-z.filled (omega arith) (c.loop-z.invariant.so_far zs h) w.if-filled-lt9.true));
+            (turn_within zs items c.loop-z.key i c.loop-z.filled (omega arith) (c.loop-z.invariant.so_far zs h)
+            w.if-filled-lt9.true));
       }
       | else-filled-lt9 w ↦ record {
         room = omega arith;
         so_far = λ zs h.
             subst (λ n. IsFilled (zs ++ take (i + 1) items) n c.if-filled-lt9.key) (sym w.filled-is)
             (subst (λ k. IsFilled (zs ++ take (i + 1) items) c.loop-z.filled k) (sym w.key-is)
-            (turn_beyond zs items c.loop-z.key i c.loop-z.filled (omega arith) (c.loop-z.invariant.so_far zs h) w.if-filled-lt9.false));
+            (turn_beyond zs items c.loop-z.key i c.loop-z.filled (omega arith) (c.loop-z.invariant.so_far zs h)
+            w.if-filled-lt9.false));
       }
     ]

@@ -14,22 +14,35 @@ pub invariant_of-result : goal.invariant_of-result
 invariant_of-result c =
     let l = c.in-Ok.ensures in
     let header = c.in-Ok.loaded.0.header in
-    let same : c.new-store.result.store ≡ c.in-Ok.loaded.1 = ap (λ (r : Recording Contents). r.store) c.new-store.ensures in
+    let same : c.new-store.result.store ≡ c.in-Ok.loaded.1 = ap (λ (r : Recording Contents). r.store)
+    c.new-store.ensures in
     let before : IsStoreOf header c.new-store.result.store = subst (IsStoreOf header) (sym same) l.store in
     subst (λ r. IsBetweenTurns header r c.in-Ok-turn.first c.new.result.items 0) (sym c.close.ensures.new)
-    (opened_between header (record { store = c.turn.new.store.store; beginning = c.turn.new.store.store.cells; kept = [] }) c.in-Ok-turn.first c.new.result.items c.new.ensures.items (store_after before c.in-Ok-turn.ensures.goes_on) c.in-Ok-turn.ensures.waits refl refl)
+    (opened_between header
+    (record { store = c.turn.new.store.store; beginning = c.turn.new.store.store.cells; kept = [] })
+    c.in-Ok-turn.first c.new.result.items c.new.ensures.items (store_after before c.in-Ok-turn.ensures.goes_on)
+    c.in-Ok-turn.ensures.waits refl refl)
 
 pub returns-in-Ok-turn : goal.returns-in-Ok-turn
 returns-in-Ok-turn c =
     let l = c.in-Ok.ensures in
     let header = c.in-Ok.loaded.0.header in
     let story = c.args.story.items in
-    let same : c.new-store.result.store ≡ c.in-Ok.loaded.1 = ap (λ (r : Recording Contents). r.store) c.new-store.ensures in
+    let same : c.new-store.result.store ≡ c.in-Ok.loaded.1 = ap (λ (r : Recording Contents). r.store)
+    c.new-store.ensures in
     let before : IsStoreOf header c.new-store.result.store = subst (IsStoreOf header) (sym same) l.store in
     let state : state_of c.new-store.result.store [] ≡ first_state story = ap (λ s. state_of s []) same ∙ l.state in
-    let words : drop (length c.new-opening.result.items) c.turn.new.text.items ≡ c.turn.new.text.items = ap (λ (x : List ℕ). drop (length x) c.turn.new.text.items) c.new-opening.ensures.items in
-    let closed : c.close.new.self.store ≡ c.turn.new.store.store = ap (λ (r : Recording Contents). r.store) c.close.ensures.new in
-    let session = subst (λ s. IsSession story c.args.fuel c.args.keep nothing (view_of c.args.keep c.args.fuel header c.turn.new.text.items s c.in-Ok-turn.first c.new.result.items 0 c.new-in-Ok-turn.result.items)) (sym closed)
-    (session_opened story c.args.fuel c.args.keep header c.new-store.result.store c.turn.new.store.store c.in-Ok-turn.first c.new.result.items (drop (length c.new-opening.result.items) c.turn.new.text.items) c.turn.new.text.items c.new-in-Ok-turn.result.items
+    let words : drop (length c.new-opening.result.items) c.turn.new.text.items
+    ≡ c.turn.new.text.items = ap (λ (x : List ℕ). drop (length x) c.turn.new.text.items)
+    c.new-opening.ensures.items in
+    let closed : c.close.new.self.store ≡ c.turn.new.store.store = ap (λ (r : Recording Contents). r.store)
+    c.close.ensures.new in
+    let session = subst
+    (λ s. IsSession story c.args.fuel c.args.keep nothing
+    (view_of c.args.keep c.args.fuel header c.turn.new.text.items s c.in-Ok-turn.first c.new.result.items 0
+    c.new-in-Ok-turn.result.items)) (sym closed)
+    (session_opened story c.args.fuel c.args.keep header c.new-store.result.store c.turn.new.store.store
+    c.in-Ok-turn.first c.new.result.items (drop (length c.new-opening.result.items) c.turn.new.text.items)
+    c.turn.new.text.items c.new-in-Ok-turn.result.items
     c.new.ensures.items before state c.in-Ok-turn.ensures.opens words) in
     record { header = header; reads = l.header; session = session }

@@ -10,16 +10,21 @@ pub returns-then-self-eq0-clause-present : goal.returns-then-self-eq0-clause-pre
 unfolding view_of
 returns-then-self-eq0-clause-present c =
     let i = c.self.inside in
-    first_place i.first i.turns.items i.done c.if-self-eq0.true ∙ ap (λ (v : Session). get_or v.places v.present places.Quit) c.self.view_is
+    first_place i.first i.turns.items i.done c.if-self-eq0.true
+    ∙ ap (λ (v : Session). get_or v.places v.present places.Quit) c.self.view_is
 
 pub returns-else-self-eq0-clause-present : goal.returns-else-self-eq0-clause-present
 unfolding view_of
 returns-else-self-eq0-clause-present c =
     let i = c.self.inside in
-    later_place i.first i.turns.items i.done c.index.result.now (omega arith) (omega (arith, c.self.invariant.within)) c.index.ensures ∙ ap (λ (v : Session). get_or v.places v.present places.Quit) c.self.view_is
+    later_place i.first i.turns.items i.done c.index.result.now (omega arith)
+    (omega (arith, c.self.invariant.within)) c.index.ensures
+    ∙ ap (λ (v : Session). get_or v.places v.present places.Quit) c.self.view_is
 
 pub returns-then-self-eq0-clause-place : goal.returns-then-self-eq0-clause-place
-returns-then-self-eq0-clause-place c = λ story fuel keep s h. session_place story fuel keep s c.args.self.now c.self.inside.first (returns-then-self-eq0-clause-present c) h
+returns-then-self-eq0-clause-place c = λ story fuel keep s h. session_place story fuel keep s c.args.self.now
+    c.self.inside.first (returns-then-self-eq0-clause-present c) h
 
 pub returns-else-self-eq0-clause-place : goal.returns-else-self-eq0-clause-place
-returns-else-self-eq0-clause-place c = λ story fuel keep s h. session_place story fuel keep s c.args.self.now c.index.result.now.place (returns-else-self-eq0-clause-present c) h
+returns-else-self-eq0-clause-place c = λ story fuel keep s h. session_place story fuel keep s c.args.self.now
+    c.index.result.now.place (returns-else-self-eq0-clause-present c) h

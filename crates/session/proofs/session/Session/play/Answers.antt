@@ -14,26 +14,51 @@ pub turn-requires-clause-waiting : goal.turn-requires-clause-waiting
 turn-requires-clause-waiting c =
     let i = c.self.inside in
     (ready_now i.machine.header i.store i.first i.turns.items i.done c.self.invariant).waits
-    (view_place i.keep i.fuel i.machine.header i.opening.items i.store.store i.first i.turns.items i.done i.given_up.items c.args.self.now c.self.view_is ∙ c.requires)
+    (view_place i.keep i.fuel i.machine.header i.opening.items i.store.store i.first i.turns.items i.done
+    i.given_up.items c.args.self.now c.self.view_is ∙ c.requires)
 
 pub invariant_of-self-2 : goal.invariant_of-self-2
 invariant_of-self-2 c =
     let i = c.self.inside in
     let s = (ready_now i.machine.header i.store i.first i.turns.items i.done c.self.invariant).store in
-    let t : Turn = record { line = c.in_ok-copy.copy; text = c.turn.new.text; place = c.in_ok-place.place; overwritten = c.close.result } in
+    let t : Turn =
+    record {
+      line = c.in_ok-copy.copy;
+      text = c.turn.new.text;
+      place = c.in_ok-place.place;
+      overwritten = c.close.result;
+    } in
     let h : IsPlayed i.machine.header i.store c.close.new.self c.args.line.now i.fuel t =
-    played i.machine.header i.store c.turn.new.store c.close.new.self c.args.line.now i.fuel t (drop (length c.new-text.result.items) c.turn.new.text.items) s c.in_ok-place.ensures.goes_on c.in_ok-place.ensures.answers
-    (ap (λ (x : List ℕ). drop (length x) c.turn.new.text.items) c.new-text.ensures.items) c.in_ok-place.ensures.waits c.in_ok-copy.ensures.copy c.self.invariant.begun c.close.ensures.back c.close.ensures.fits c.close.ensures.bound c.close.ensures.new in
+    played i.machine.header i.store c.turn.new.store c.close.new.self c.args.line.now i.fuel t
+    (drop (length c.new-text.result.items) c.turn.new.text.items) s c.in_ok-place.ensures.goes_on
+    c.in_ok-place.ensures.answers
+    (ap (λ (x : List ℕ). drop (length x) c.turn.new.text.items) c.new-text.ensures.items) c.in_ok-place.ensures.waits
+    c.in_ok-copy.ensures.copy c.self.invariant.begun c.close.ensures.back c.close.ensures.fits
+    c.close.ensures.bound c.close.ensures.new in
     let more = c.put_turn.ensures ∙ ap (λ (ts : List Turn). take i.done ts ++ t ∷ []) c.make_room.ensures.items in
-    subst (λ ts. IsBetweenTurns i.machine.header c.close.new.self i.first ts (i.done + 1)) (sym more) (taken_between i.machine.header i.store c.close.new.self i.first c.args.line.now i.fuel i.turns.items i.done t c.self.invariant h)
+    subst (λ ts. IsBetweenTurns i.machine.header c.close.new.self i.first ts (i.done + 1)) (sym more)
+    (taken_between i.machine.header i.store c.close.new.self i.first c.args.line.now i.fuel i.turns.items i.done
+    t c.self.invariant h)
 
 pub returns-clause-turned : goal.returns-clause-turned
 returns-clause-turned c =
     let i = c.self.inside in
     let s = (ready_now i.machine.header i.store i.first i.turns.items i.done c.self.invariant).store in
-    let t : Turn = record { line = c.in_ok-copy.copy; text = c.turn.new.text; place = c.in_ok-place.place; overwritten = c.close.result } in
+    let t : Turn =
+    record {
+      line = c.in_ok-copy.copy;
+      text = c.turn.new.text;
+      place = c.in_ok-place.place;
+      overwritten = c.close.result;
+    } in
     let h : IsPlayed i.machine.header i.store c.close.new.self c.args.line.now i.fuel t =
-    played i.machine.header i.store c.turn.new.store c.close.new.self c.args.line.now i.fuel t (drop (length c.new-text.result.items) c.turn.new.text.items) s c.in_ok-place.ensures.goes_on c.in_ok-place.ensures.answers
-    (ap (λ (x : List ℕ). drop (length x) c.turn.new.text.items) c.new-text.ensures.items) c.in_ok-place.ensures.waits c.in_ok-copy.ensures.copy c.self.invariant.begun c.close.ensures.back c.close.ensures.fits c.close.ensures.bound c.close.ensures.new in
+    played i.machine.header i.store c.turn.new.store c.close.new.self c.args.line.now i.fuel t
+    (drop (length c.new-text.result.items) c.turn.new.text.items) s c.in_ok-place.ensures.goes_on
+    c.in_ok-place.ensures.answers
+    (ap (λ (x : List ℕ). drop (length x) c.turn.new.text.items) c.new-text.ensures.items) c.in_ok-place.ensures.waits
+    c.in_ok-copy.ensures.copy c.self.invariant.begun c.close.ensures.back c.close.ensures.fits
+    c.close.ensures.bound c.close.ensures.new in
     let more = c.put_turn.ensures ∙ ap (λ (ts : List Turn). take i.done ts ++ t ∷ []) c.make_room.ensures.items in
-    taken_turned i.keep i.fuel i.machine.header i.opening.items i.store c.close.new.self i.first c.args.line.now i.turns.items c.put_turn.new.turns.items i.done t i.given_up.items c.args.self.now c.self.view_is c.self.invariant.within h more
+    taken_turned i.keep i.fuel i.machine.header i.opening.items i.store c.close.new.self i.first c.args.line.now
+    i.turns.items c.put_turn.new.turns.items i.done t i.given_up.items c.args.self.now c.self.view_is
+    c.self.invariant.within h more

@@ -11,13 +11,18 @@ use Rattle.session.proofs.session.Session.redo.Goals as goal
 pub returns-then-self-len : goal.returns-then-self-len
 returns-then-self-len c =
     let i = c.self.inside in
-    let n = counted i.keep i.fuel i.machine.header i.opening.items i.store.store i.first i.turns.items i.done i.given_up.items c.args.self.now c.self.view_is in
+    let n = counted i.keep i.fuel i.machine.header i.opening.items i.store.store i.first i.turns.items i.done
+    i.given_up.items c.args.self.now c.self.view_is in
     let all : length i.turns.items ≡ i.done = omega (arith, i.turns.ok.0, c.len.ensures, c.if-self-len.true) in
     let same = c.self.view_is ∙ forward_none c.args.self.now (omega (arith, all, n.present, n.size)) in (
       (
         refl,
         (λ _. tt),
-        record { stepped = same; stands = λ story fuel keep s h. subst (IsSession story fuel keep (redo_of s)) (sym same) (session_redo story fuel keep s c.args.self.now h) },
+        record {
+          stepped = same;
+          stands = λ story fuel keep s h. subst (IsSession story fuel keep (redo_of s))
+              (sym same) (session_redo story fuel keep s c.args.self.now h);
+        },
       ),
       record {
         rests = tt;
@@ -31,43 +36,60 @@ returns-then-self-len c =
 pub do_again-requires-clause-fits : goal.do_again-requires-clause-fits
 do_again-requires-clause-fits c =
     let i = c.self.inside in
-    let here : i.done < length i.turns.items = omega (arith, i.turns.ok.0, c.len.ensures, c.if-self-len.false, c.self.invariant.within) in
-    turn_fits (Fits (length i.store.store.cells) bound_of) i.turns.items i.done c.index_mut.result.now here c.index_mut.ensures.value c.self.invariant.fits
+    let here : i.done < length i.turns.items = omega
+    (arith, i.turns.ok.0, c.len.ensures, c.if-self-len.false, c.self.invariant.within) in
+    turn_fits (Fits (length i.store.store.cells) bound_of) i.turns.items i.done c.index_mut.result.now here
+    c.index_mut.ensures.value c.self.invariant.fits
 
 pub invariant_of-self-2 : goal.invariant_of-self-2
 invariant_of-self-2 c =
     let i = c.self.inside in
-    let here : i.done < length i.turns.items = omega (arith, i.turns.ok.0, c.len.ensures, c.if-self-len.false, c.self.invariant.within) in
+    let here : i.done < length i.turns.items = omega
+    (arith, i.turns.ok.0, c.len.ensures, c.if-self-len.false, c.self.invariant.within) in
     let b = c.do_again.ensures in
-    redo_between i.machine.header i.store c.do_again.new.store i.first i.turns.items c.index_mut.result.now c.do_again.new.turn i.done
+    redo_between i.machine.header i.store c.do_again.new.store i.first i.turns.items c.index_mut.result.now
+    c.do_again.new.turn i.done
     (record { here = here; is = c.index_mut.ensures.value; store = b.store; turn = b.turn; inverse = b.inverse })
     (record { idle = b.idle; begun = b.begun; size = b.length; fits = b.fits }) c.self.invariant
 
 pub returns : goal.returns
 returns c =
     let i = c.self.inside in
-    let n = counted i.keep i.fuel i.machine.header i.opening.items i.store.store i.first i.turns.items i.done i.given_up.items c.args.self.now c.self.view_is in
-    let here : i.done < length i.turns.items = omega (arith, i.turns.ok.0, c.len.ensures, c.if-self-len.false, c.self.invariant.within) in
+    let n = counted i.keep i.fuel i.machine.header i.opening.items i.store.store i.first i.turns.items i.done
+    i.given_up.items c.args.self.now c.self.view_is in
+    let here : i.done < length i.turns.items = omega
+    (arith, i.turns.ok.0, c.len.ensures, c.if-self-len.false, c.self.invariant.within) in
     let b = c.do_again.ensures in
-    let h : DoneAgain i.store c.do_again.new.store i.turns.items i.done c.index_mut.result.now c.do_again.new.turn = record { here = here; is = c.index_mut.ensures.value; store = b.store; turn = b.turn; inverse = b.inverse } in
-    let is = redo_view i.keep i.fuel i.machine.header i.opening.items i.store c.do_again.new.store i.first i.turns.items c.index_mut.result.now c.do_again.new.turn i.done i.given_up.items h
+    let h : DoneAgain i.store c.do_again.new.store i.turns.items i.done c.index_mut.result.now c.do_again.new.turn =
+    record { here = here; is = c.index_mut.ensures.value; store = b.store; turn = b.turn; inverse = b.inverse } in
+    let is = redo_view i.keep i.fuel i.machine.header i.opening.items i.store c.do_again.new.store i.first
+    i.turns.items c.index_mut.result.now c.do_again.new.turn i.done i.given_up.items h
     ∙ ap {A = Session} (λ v. record v { present = i.done + 1 }) c.self.view_is
-    ∙ ap {A = ℕ} (λ k. record c.args.self.now { present = k + 1 }) n.present ∙ forward_some c.args.self.now (omega (arith, here, n.present, n.size)) in
+    ∙ ap {A = ℕ} (λ k. record c.args.self.now { present = k + 1 }) n.present
+    ∙ forward_some c.args.self.now (omega (arith, here, n.present, n.size)) in
     let e : i.done + 1 - 1 ≡ i.done = omega arith in
-    let text = c.deref.ensures.value ∙ redone_text i.turns.items i.done (i.done + 1 - 1) c.index_mut.result.now c.do_again.new.turn c.index.result.now _ here e c.index.ensures b.turn
-    ∙ turn_text i.keep i.fuel i.machine.header i.opening.items i.store.store i.first i.turns.items i.done i.given_up.items c.args.self.now i.done c.index_mut.result.now c.self.view_is here c.index_mut.ensures.value in
-    let undone = λ (story : List ℕ) (fuel : ℕ) (keep : Option ℕ) (s : Standing) (h : IsSession story fuel keep s c.args.self.now). (
+    let text = c.deref.ensures.value ∙ redone_text i.turns.items i.done (i.done + 1 - 1) c.index_mut.result.now
+    c.do_again.new.turn c.index.result.now _ here e c.index.ensures b.turn
+    ∙ turn_text i.keep i.fuel i.machine.header i.opening.items i.store.store i.first i.turns.items i.done
+    i.given_up.items c.args.self.now i.done c.index_mut.result.now c.self.view_is here c.index_mut.ensures.value in
+    let undone = λ (story : List ℕ) (fuel : ℕ) (keep : Option ℕ) (s : Standing)
+    (h : IsSession story fuel keep s c.args.self.now). (
     let u = session_undone story fuel keep s c.args.self.now i.done (length i.turns.items) n.present n.size h in
     let some : 0 < length s.undone = omega (arith, here, u.0, u.1) in
     some) in (
       (
         refl,
         (λ _. tt),
-        record { stepped = is; stands = λ story fuel keep s h. subst (IsSession story fuel keep (redo_of s)) (sym is) (session_redo story fuel keep s c.args.self.now h) },
+        record {
+          stepped = is;
+          stands = λ story fuel keep s h. subst (IsSession story fuel keep (redo_of s)) (sym is)
+              (session_redo story fuel keep s c.args.self.now h);
+        },
       ),
       record {
         rests = tt;
         found = λ story fuel keep s h. ((λ p. undone story fuel keep s h), (λ p. refl));
-        text = λ story fuel keep s h. session_again story fuel keep s c.args.self.now i.done _ n.present (undone story fuel keep s h) text h;
+        text = λ story fuel keep s h. session_again story fuel keep s c.args.self.now i.done _ n.present
+            (undone story fuel keep s h) text h;
       },
     )

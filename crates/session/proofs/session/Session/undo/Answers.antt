@@ -23,13 +23,15 @@ returns-then-self-eq0-clause-stepped c =
 
 pub returns-then-self-eq0-clause-undone : goal.returns-then-self-eq0-clause-undone
 returns-then-self-eq0-clause-undone c = λ story fuel keep s h.
-    subst (IsSession story fuel keep (undo_of s)) (sym (returns-then-self-eq0-clause-stepped c)) (session_undo story fuel keep s c.args.self.now h)
+    subst (IsSession story fuel keep (undo_of s)) (sym (returns-then-self-eq0-clause-stepped c))
+    (session_undo story fuel keep s c.args.self.now h)
 
 pub take_back-requires-clause-fits : goal.take_back-requires-clause-fits
 take_back-requires-clause-fits c =
     let i = c.self.inside in
     let here : i.done - 1 < length i.turns.items = omega (arith, c.self.invariant.within) in
-    turn_fits (Fits (length i.store.store.cells) bound_of) i.turns.items (i.done - 1) c.index_mut.result.now here c.index_mut.ensures.value c.self.invariant.fits
+    turn_fits (Fits (length i.store.store.cells) bound_of) i.turns.items (i.done - 1) c.index_mut.result.now here
+    c.index_mut.ensures.value c.self.invariant.fits
 
 pub invariant_of-self : goal.invariant_of-self
 invariant_of-self c =
@@ -37,7 +39,8 @@ invariant_of-self c =
     let here : i.done - 1 < length i.turns.items = omega (arith, c.self.invariant.within) in
     let e : i.done - 1 + 1 ≡ i.done = omega arith in
     let b = c.take_back.ensures in
-    undo_between i.machine.header i.store c.take_back.new.store i.first i.turns.items c.index_mut.result.now c.take_back.new.turn (i.done - 1) i.done e
+    undo_between i.machine.header i.store c.take_back.new.store i.first i.turns.items c.index_mut.result.now
+    c.take_back.new.turn (i.done - 1) i.done e
     (record { here = here; is = c.index_mut.ensures.value; store = b.store; turn = b.turn; inverse = b.inverse })
     (record { idle = b.idle; begun = b.begun; size = b.length; fits = b.fits }) c.self.invariant
 
@@ -54,10 +57,12 @@ returns-clause-stepped c =
     let here : i.done - 1 < length i.turns.items = omega (arith, c.self.invariant.within) in
     let e : i.done - 1 + 1 ≡ i.done = omega arith in
     let b = c.take_back.ensures in
-    undo_view i.keep i.fuel i.machine.header i.opening.items i.store c.take_back.new.store i.first i.turns.items c.index_mut.result.now c.take_back.new.turn (i.done - 1) i.done i.given_up.items e
+    undo_view i.keep i.fuel i.machine.header i.opening.items i.store c.take_back.new.store i.first i.turns.items
+    c.index_mut.result.now c.take_back.new.turn (i.done - 1) i.done i.given_up.items e
     (record { here = here; is = c.index_mut.ensures.value; store = b.store; turn = b.turn; inverse = b.inverse })
     ∙ ap {A = Session} stepped_back c.self.view_is
 
 pub returns-clause-undone : goal.returns-clause-undone
 returns-clause-undone c = λ story fuel keep s h.
-    subst (IsSession story fuel keep (undo_of s)) (sym (returns-clause-stepped c)) (session_undo story fuel keep s c.args.self.now h)
+    subst (IsSession story fuel keep (undo_of s)) (sym (returns-clause-stepped c))
+    (session_undo story fuel keep s c.args.self.now h)

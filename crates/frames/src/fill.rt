@@ -1,0 +1,44 @@
+//! Bytes that are written to dynamic memory one behind another.
+
+ghost use Rattle.std.specs.Prelude.{◌≡◌, ◌+◌, ◌≤◌, ◌∷◌, length, take, OnOk, OnErr};
+ghost use Rattle.zcore.specs.Header.{static_base_of};
+ghost use Rattle.zcore.specs.Turn.{with_bytes};
+ghost use Rattle.frames.specs.Contents.{memory_of};
+ghost use Rattle.frames.specs.Lines.{Filled};
+ghost use Rattle.frames.specs.States.{IsSound};
+ghost use Rattle.frames.specs.Went.{GivenUp};
+
+use crate::layout::MEMORY;
+use crate::store::Store;
+use journal::{NoMemory, Recorded};
+
+/// Writes a byte with a count, and the bytes behind it.
+pub(crate) fn fill_counted(
+    store: &mut Recorded<Store>,
+    at: usize,
+    count: u8,
+    bytes: &[u8],
+) -> Result<(), NoMemory>
+    requires sound { IsSound store.old.store }
+    requires behind_header { 64 ≤ at }
+    requires room { at + 1 + length bytes.now ≤ static_base_of (memory_of store.old.store) }
+    ensures filled { OnOk result (Filled store.old store.new (with_bytes (memory_of store.old.store) at (count ∷ bytes.now))) }
+    ensures given_up { OnErr result (GivenUp store.old store.new) }
+{
+    fill(store, at, &[count])?;
+    fill(store, at + 1, bytes)
+}
+
+/// Writes bytes one behind another to dynamic memory behind the header.
+fn fill(store: &mut Recorded<Store>, at: usize, bytes: &[u8]) -> Result<(), NoMemory>
+    requires sound { IsSound store.old.store }
+    requires behind_header { 64 ≤ at }
+    requires room { at + length bytes.now ≤ static_base_of (memory_of store.old.store) }
+    ensures filled { OnOk result (Filled store.old store.new (with_bytes (memory_of store.old.store) at bytes.now)) }
+    ensures given_up { OnErr result (GivenUp store.old store.new) }
+{
+    for (i, byte) in bytes.iter().enumerate() {
+        store.put(MEMORY + (at + i), *byte as u16)?;
+    }
+    Ok(())
+}

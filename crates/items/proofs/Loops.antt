@@ -1,0 +1,127 @@
+-- Loops.
+use Rattle.std.proofs.Common.{◌≡◌, ℕ, zero, suc, ◌+◌, ◌<◌, ◌≤◌, [], Some, Bool, true, false, refl, ap, ◌∙◌, arith}
+use Rattle.std.specs.Prelude.{if◌then◌else◌, slice_get}
+use Rattle.std.proofs.lemmas.Bool.{le-leb}
+use Rattle.zcore.specs.declared.place.Place.TheVariants as places
+use Rattle.zcore.specs.declared.place.Limit.TheVariants as limits
+use Rattle.checker.specs.Resolved.{Value, Action}
+use Rattle.checker.specs.Resolved as source
+use Rattle.checker.specs.Accepted.{IsWhole}
+use Rattle.checker.specs.World.{Situation, Comes, Part, bound, ◌>>=◌, give, ended, spend, units}
+use Rattle.checker.specs.World as world
+use Rattle.checker.specs.Meaning.{is_true, evaluate, Ending, goes_on, breaks, continues, returns, behind_body, round}
+use Rattle.checker.specs.Meaning.{rounds, run}
+use Rattle.items.specs.Items.{agrees, branch_count, branch_items, action_count, Exits, exits_to, action_items}
+use Rattle.items.specs.Items as items
+use Rattle.items.specs.Stack.{Next, stuck, after_part, act}
+use Rattle.items.proofs.Acts.{hand, spends}
+use Rattle.items.proofs.Counts.{branch_length}
+use Rattle.items.proofs.StatementCounts.{action_length}
+use Rattle.items.proofs.Running.{Does, ends_there, steps_on, Running, code, locals, calls}
+use Rattle.items.proofs.Standing.{HasAt, split}
+use Rattle.items.proofs.Leads.{Leads, on, given, here, stands, goes_by, at_place}
+use Rattle.items.proofs.EachValue.{value_ok}
+use Rattle.items.proofs.Statements.{ended_at, goes_at}
+use Rattle.items.proofs.Conditionals.{ActionOk}
+
+module _ (now : Running) where
+  open now use {p, full}
+
+  -- a loop cannot go back with no unit left
+  no_more : {s : Situation} (x : Exits) (b t q : ℕ) → slice_get (code now) b ≡ Some (items.back t) → t ≤ b
+      → Leads now s 0 (stands now b [] s) (world.ends (places.Limit limits.Fuel) s) (ended_at now x q)
+  no_more {s = s} x b t q h le = record {
+    does = λ k none d.
+        let P : Comes (Unit {0}) → Type 0 = λ c. Does p (after_part c (λ _ last. stands now t [] last))
+        (ended (places.Limit limits.Fuel) s.world) in
+        let there = spends full s P (λ e. ends_there p _) (λ last low is. absurd (omega (arith, none, low))) in
+        steps_on p (here now b [] s) _ _
+        (ap (λ x. act p x (here now b [] s)) h
+        ∙ ap (λ c. if c then after_part (spend s) (λ _ last. stands now t [] last) else stuck) (le-leb t b le))
+        there;
+  }
+
+  -- it goes back with one unit less
+  goes_back : {s : Situation} (x : Exits) (n b t q : ℕ) (again : Part Ending)
+      → slice_get (code now) b ≡ Some (items.back t)
+      → t ≤ b → ((last : Situation) → Leads now last n (stands now t [] last) (again last) (ended_at now x q))
+      → Leads now s (suc n) (stands now b [] s) ((spend >>= λ _. again) s) (ended_at now x q)
+  goes_back {s = s} x n b t q again h le ha = record {
+    does = λ k most d.
+        let P : Comes (Unit {0}) → Type 0 = λ c. spend s ≡ c → Does p (after_part c (λ _ last. stands now t [] last))
+        (hand (bound c (λ _. again)) k) in
+        let there : P (spend s) =
+        spends full s P (λ e _. ends_there p _)
+        (λ last low is e. (ha last).does k (omega (arith, most, low))
+        (λ a later e2 low2. d a later (ap (λ c. bound c (λ _. again)) e ∙ e2) (omega (arith, low, low2)))) in
+        steps_on p (here now b [] s) _ _
+        (ap (λ x. act p x (here now b [] s)) h
+        ∙ ap (λ c. if c then after_part (spend s) (λ _ last. stands now t [] last) else stuck) (le-leb t b le))
+        (there refl);
+  }
+
+  -- A loop whose test stands at `top`: its body, the part behind the body, and the item that goes back stand at these
+  -- places, and the loop ends at `end`.
+  module _ (test : Part ℕ) (body : Part Ending) (behind : Part Bool) (top inside close back end : ℕ)
+      (tests : (s : Situation) (n : ℕ) → Leads now s n (stands now top [] s) (test s)
+      (goes_by now false end inside []))
+      (runs : (s : Situation) (n : ℕ) → Leads now s n (stands now inside [] s) (body s)
+      (ended_at now (exits_to close end) close))
+      (closes : (s : Situation) (n : ℕ) → Leads now s n (stands now close [] s) (behind s)
+      (λ wanted last. stands now (if wanted then back else end) [] last)) where
+    -- one round, and then again
+    round_does : (x : Exits) (n : ℕ) (s : Situation) (again : Part Ending)
+        → ((last : Situation) → Leads now last n (stands now back [] last) (again last) (ended_at now x end))
+        → Leads now s n (stands now top [] s) (round test body behind again s) (ended_at now x end)
+    round_does x n s again ha = on now test _ (tests s n) (λ v last _. entered (is_true v) last)
+      where
+        told : (wanted : Bool) (last : Situation)
+            → Leads now last n (stands now (if wanted then back else end) [] last)
+            ((if wanted then again else give goes_on) last) (ended_at now x end)
+        told true last = ha last
+        told false last = goes_at now x end end refl
+
+        closing : (last : Situation) → Leads now last n (stands now close [] last)
+            ((behind >>= λ wanted. if wanted then again else give goes_on) last) (ended_at now x end)
+        closing last = on now behind _ (closes last n) (λ wanted later _. told wanted later)
+
+        left : (e : Ending) (last : Situation) → Leads now last n (ended_at now (exits_to close end) close e last)
+            (behind_body e (behind >>= λ wanted. if wanted then again else give goes_on) last) (ended_at now x end)
+        left goes_on last = closing last
+        left breaks last = goes_at now x end end refl
+        left continues last = closing last
+        left (returns v) last = given now {behind = ended_at now x end} (returns v)
+
+        entered : (b : Bool) (last : Situation) → Leads now last n
+            (stands now (if agrees b false then end else inside) [] last)
+            ((if b then (body >>= λ e. behind_body e (behind >>= λ wanted. if wanted then again else give goes_on))
+            else give goes_on) last) (ended_at now x end)
+        entered true last = on now body _ (runs last n) (λ e later _. left e later)
+        entered false last = goes_at now x end end refl
+
+    -- at most n goings back, where no more units are left
+    pub rounds_do : slice_get (code now) back ≡ Some (items.back top) → top ≤ back → (x : Exits) (n : ℕ)
+        (s : Situation)
+        → Leads now s n (stands now top [] s) (rounds n test body behind s) (ended_at now x end)
+    rounds_do h le x zero s = round_does x zero s _ (λ last. no_more x back top end h le)
+    rounds_do h le x (suc n) s = round_does x (suc n) s _
+        (λ last. goes_back x n back top end (rounds n test body behind) h le (λ later. rounds_do h le x n later))
+
+  pub while_does : (v : Value) (a : Action) → IsWhole p (locals now) v → ActionOk now a
+      → ActionOk now (source.while_do v a)
+  while_does v a fine oka x s n pc q ahead has =
+      let m = pc + branch_count v false in
+      let e = m + action_count a in
+      let inside = exits_to e (e + 1) in
+      let h = split (code now) pc (branch_items pc v false (e + 1)) _ q (branch_count v false)
+      (branch_length v false pc (e + 1)) has in
+      let ha = split (code now) m (action_items inside m a) _ q (action_count a) (action_length inside a m) h.1 in
+      at_place now (ended_at now x) (e + 1) q ha.1.1
+      (record {
+        does = λ k le d. (rounds_do (evaluate (calls now) v) (run (calls now) full a) (give true) pc m e e
+            (e + 1)
+            (λ s1 n1. (value_ok now v).branch s1 n1 pc (e + 1) m [] false h.0 (omega arith) (omega (arith, fine.1)))
+            (λ s1 n1. oka inside s1 n1 m e (omega arith, omega arith) ha.0)
+            (λ s1 n1. given now {behind = λ wanted last. stands now (if wanted then e else e + 1) [] last} true)
+            ha.1.0 (omega arith) x (units full s.world) s).does k (omega arith) d;
+      })

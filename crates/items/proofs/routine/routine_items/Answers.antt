@@ -1,0 +1,21 @@
+use Rattle.std.proofs.Common.{List, [], ◌∷◌, ◌++◌, map, ap, ◌∙◌, subst}
+use Rattle.checker.specs.declared.resolved.Action as code_action
+use Rattle.checker.specs.Resolved.{action_of, actions_of}
+use Rattle.items.specs.Items.{actions_items, return_true}
+use Rattle.items.specs.Code.{items_of}
+use Rattle.items.specs.Writing.{written_in, Written, exits_of}
+use Rattle.items.proofs.Actions.{routine_more}
+use Rattle.items.proofs.routine.routine_items.Goals as goal
+
+pub returns : goal.returns
+returns c =
+    let Q : List code_action.Action → Type 0 = λ xs. Written (written_in c.put.new.draft)
+    (written_in c.put_statements.new.draft)
+    (λ n at. actions_items
+    (exits_of n (record { breaks = c.written-end.result; continues = c.written-end.result })) at
+    (actions_of (map action_of xs))) in
+    routine_more _ _ _ _ c.args.routine.now.locals
+    (actions_of (map action_of c.args.routine.now.body.items))
+    (c.in_ok-put.ensures ∙ ap (λ xs. items_of xs ++ return_true ∷ []) c.new-items.ensures.items)
+    (subst Q c.deref.ensures.value c.in_ok-put_statements.ensures) c.written-end.ensures c.written-end.ensures
+    c.in_ok-code.ensures
