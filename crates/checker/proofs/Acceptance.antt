@@ -6,7 +6,7 @@ use Rattle.std.proofs.lemmas.Bool.Decides.{nat_tests}
 use Rattle.std.proofs.lemmas.List.Elements.{All-nil, All-cons}
 use Rattle.lexer.specs.declared.token.Position.{Position}
 use Rattle.expressions.specs.Tree.{NameTree}
-use Rattle.syntax.specs.Tree.{RoutineTree, DirectiveTree, global, constant, routine}
+use Rattle.syntax.specs.Tree.{RoutineTree, DirectiveTree, global, constant, array, routine}
 use Rattle.checker.specs.declared.binding.Binding.{Binding}
 use Rattle.checker.specs.declared.binding.Binding.TheVariants as bindings
 use Rattle.checker.specs.Breaches.{at}
@@ -16,13 +16,17 @@ use Rattle.checker.specs.Names.{look_up}
 use Rattle.checker.specs.Resolved.{ProgramOf}
 use Rattle.checker.specs.Meaning.{routine_at}
 use Rattle.checker.specs.Statements.{outside, statements_breaches}
-use Rattle.checker.specs.Programs.{twice, initial_breaches, has_local, locals_breaches, routine_breaches}
+use Rattle.checker.specs.Literals.{initial_breaches}
+use Rattle.checker.specs.Arrays.{array_breaches, array_bytes}
+use Rattle.checker.specs.Programs.{twice, has_local, locals_breaches, routine_breaches}
 use Rattle.checker.specs.Programs.{directive_breaches, directives_breaches, main_key, first_routine, position_or}
-use Rattle.checker.specs.Programs.{main_breaches, program_breaches, globals_of, resolve_routine, routines_of}
+use Rattle.checker.specs.Programs.{main_breaches, program_breaches, globals_of, arrays_of, resolve_routine}
+use Rattle.checker.specs.Programs.{routines_of}
 use Rattle.checker.specs.Programs.{routine_number, resolve_program}
-use Rattle.checker.specs.Accepted.{IsRoutine, IsAccepted}
+use Rattle.checker.specs.Accepted.{IsRoutine, IsArray, IsAccepted}
 use Rattle.checker.specs.Laws.{AcceptedPrograms}
 use Rattle.checker.proofs.Whole.{made}
+use Rattle.checker.proofs.ArrayBytes.{array_short}
 use Rattle.checker.proofs.Unbroken.{left_empty, right_empty, kept, IsMeant, statements_within}
 use Rattle.checker.proofs.Bindings.{AreEntries, file_entries, found_meant, name_meant}
 
@@ -64,15 +68,49 @@ globals_few whole t counts (constant n v ∷ ds) few h =
     globals_few whole (with_directive t counts d) counts ds few
     (right_empty (directive_breaches whole t counts d)
     (directives_breaches whole (with_directive t counts d) counts ds) h)
+globals_few whole t counts (array a ∷ ds) few h =
+    let d = array a in
+    globals_few whole (with_directive t counts d) (counts_after counts d) ds few
+    (right_empty (directive_breaches whole t counts d)
+    (directives_breaches whole (with_directive t counts d) (counts_after counts d) ds) h)
 globals_few whole t counts (routine r ∷ ds) few h =
     let d = routine r in
     globals_few whole (with_directive t counts d) (counts_after counts d) ds few
     (right_empty (directive_breaches whole t counts d)
     (directives_breaches whole (with_directive t counts d) (counts_after counts d) ds) h)
 
+-- Arrays
+
+arrays_within : (whole t : Table) (counts : Counts) (ds : List DirectiveTree)
+    → directives_breaches whole t counts ds ≡ [] → All IsArray (arrays_of whole ds)
+arrays_within whole t counts [] h = All-nil IsArray
+arrays_within whole t counts (global n v ∷ ds) h =
+    let d = global n v in
+    arrays_within whole (with_directive t counts d) (counts_after counts d) ds
+    (right_empty (directive_breaches whole t counts d)
+    (directives_breaches whole (with_directive t counts d) (counts_after counts d) ds) h)
+arrays_within whole t counts (constant n v ∷ ds) h =
+    let d = constant n v in
+    arrays_within whole (with_directive t counts d) counts ds
+    (right_empty (directive_breaches whole t counts d)
+    (directives_breaches whole (with_directive t counts d) counts ds) h)
+arrays_within whole t counts (array a ∷ ds) h =
+    let d = array a in
+    let own = directive_breaches whole t counts d in
+    let rest = directives_breaches whole (with_directive t counts d) (counts_after counts d) ds in
+    All-cons IsArray (array_bytes whole a) (arrays_of whole ds)
+    (array_short whole a (right_empty (twice t a.name) (array_breaches whole a) (left_empty own rest h)))
+    (arrays_within whole (with_directive t counts d) (counts_after counts d) ds (right_empty own rest h))
+arrays_within whole t counts (routine r ∷ ds) h =
+    let d = routine r in
+    arrays_within whole (with_directive t counts d) (counts_after counts d) ds
+    (right_empty (directive_breaches whole t counts d)
+    (directives_breaches whole (with_directive t counts d) (counts_after counts d) ds) h)
+
 -- Routines
 
-module _ (p : ProgramOf) (whole : Table) (entries : AreEntries (length p.globals) p.routines whole) where
+module _ (p : ProgramOf) (whole : Table)
+    (entries : AreEntries (length p.globals) (length p.arrays) p.routines whole) where
   routine_within : (r : RoutineTree) → routine_breaches whole r ≡ [] → IsRoutine p (resolve_routine whole r)
   routine_within r h =
       let names = locals_breaches [] r.locals in
@@ -96,6 +134,11 @@ module _ (p : ProgramOf) (whole : Table) (entries : AreEntries (length p.globals
       routines_within (with_directive t counts d) counts ds
       (right_empty (directive_breaches whole t counts d)
       (directives_breaches whole (with_directive t counts d) counts ds) h)
+  routines_within t counts (array a ∷ ds) h =
+      let d = array a in
+      routines_within (with_directive t counts d) (counts_after counts d) ds
+      (right_empty (directive_breaches whole t counts d)
+      (directives_breaches whole (with_directive t counts d) (counts_after counts d) ds) h)
   routines_within t counts (routine r ∷ ds) h =
       let d = routine r in
       let own = directive_breaches whole t counts d in
@@ -115,6 +158,7 @@ module _ (p : ProgramOf) (whole : Table) (entries : AreEntries (length p.globals
   main_within end name None m h = absurd cc
   main_within end name (Some (bindings.Constant n)) m h = absurd cc
   main_within end name (Some (bindings.Global g)) m h = absurd cc
+  main_within end name (Some (bindings.Array a kind)) m h = absurd cc
   main_within end name (Some (bindings.Routine r n)) m h =
       let none = below 1 n (kept (nat_le 1 n) (position_or end name) 21 h) in
       let same = m.1 in
@@ -126,13 +170,15 @@ module _ (p : ProgramOf) (whole : Table) (entries : AreEntries (length p.globals
 
 accepted : (ds : List DirectiveTree) (end : Position) (name : Option NameTree) (whole : Table) → whole ≡ table_of ds
     → directives_breaches whole first_table no_counts ds ++ main_breaches end name (in_table whole main_key) ≡ []
-    → IsAccepted (made (globals_of whole ds) (routines_of whole ds) (routine_number (in_table whole main_key)))
+    → IsAccepted
+    (made (globals_of whole ds) (arrays_of whole ds) (routines_of whole ds)
+    (routine_number (in_table whole main_key)))
 accepted ds end name whole is h =
-    let p : ProgramOf = made (globals_of whole ds) (routines_of whole ds)
+    let p : ProgramOf = made (globals_of whole ds) (arrays_of whole ds) (routines_of whole ds)
     (routine_number (in_table whole main_key)) in
-    let entries : AreEntries (length p.globals) p.routines whole = subst
-    (λ (t : Table). AreEntries (length p.globals) p.routines t) (sym is)
-    (file_entries (length p.globals) p.routines whole ds refl refl) in
+    let entries : AreEntries (length p.globals) (length p.arrays) p.routines whole = subst
+    (λ (t : Table). AreEntries (length p.globals) (length p.arrays) p.routines t) (sym is)
+    (file_entries (length p.globals) (length p.arrays) p.routines whole ds refl refl refl) in
     let all = directives_breaches whole first_table no_counts ds in
     let main = main_breaches end name (in_table whole main_key) in
     let kept_main = main_within p whole entries end name (in_table whole main_key)
@@ -140,6 +186,7 @@ accepted ds end name whole is h =
     let few = globals_few whole first_table no_counts ds (omega arith) (left_empty all main h) in
     record {
       globals = omega (arith, few);
+      arrays = arrays_within whole first_table no_counts ds (left_empty all main h);
       routines = routines_within p whole entries first_table no_counts ds (left_empty all main h);
       main = kept_main.there;
       alone = kept_main.alone;

@@ -2,15 +2,15 @@
 use Rattle.std.proofs.Common.{◌≡◌, ℕ, ◌+◌, ◌<◌, ◌≤◌, Bool, true, false, List, [], ◌∷◌, ◌++◌, length, Option, Some}
 use Rattle.std.proofs.Common.{None, cond, is_some, refl, sym, ap, ◌∙◌, append_assoc, length-append, arith}
 use Rattle.expressions.specs.Tree.{NameTree}
-use Rattle.syntax.specs.Tree.{DirectiveTree, global, constant, routine}
+use Rattle.syntax.specs.Tree.{DirectiveTree, global, constant, array, routine}
 use Rattle.checker.specs.declared.binding.Binding.{Binding}
 use Rattle.checker.specs.declared.binding.Binding.TheVariants as bindings
 use Rattle.checker.specs.declared.counts.Counts.{Counts}
-use Rattle.checker.specs.Names.{Table, key_of, same_key, in_table, first_table, value_so_far, with_name, no_counts}
+use Rattle.checker.specs.Names.{Table, key_of, same_key, in_table, first_table, literal_value, with_name, no_counts}
 use Rattle.checker.specs.Names.{counts_after, with_directive, table_from, table_of, local_from, local_first, look_up}
 use Rattle.checker.specs.Resolved.{RoutineOf, ProgramOf}
 use Rattle.checker.specs.Meaning.{routine_at}
-use Rattle.checker.specs.Programs.{globals_of, resolve_routine, routines_of}
+use Rattle.checker.specs.Programs.{globals_of, arrays_of, resolve_routine, routines_of}
 use Rattle.checker.proofs.Unbroken.{IsMeant}
 
 routine_here : (front : List RoutineOf) (r : RoutineOf) (rest : List RoutineOf)
@@ -18,11 +18,12 @@ routine_here : (front : List RoutineOf) (r : RoutineOf) (rest : List RoutineOf)
 routine_here [] r rest = refl
 routine_here (s ∷ front) r rest = routine_here front r rest
 
--- in a file with so many globals and these routines
-module _ (globals : ℕ) (routines : List RoutineOf) where
+-- in a file with so many globals and arrays and these routines
+module _ (globals arrays : ℕ) (routines : List RoutineOf) where
   abbrev pub IsEntry : Binding → Type 0
   IsEntry (bindings.Constant n) = Unit {0}
   IsEntry (bindings.Global g) = g < globals
+  IsEntry (bindings.Array a kind) = a < arrays
   IsEntry (bindings.Routine r n) = (r < length routines) × ((routine_at routines r).locals ≡ n)
   IsEntry bindings.Property = Unit {0}
   IsEntry (bindings.Local l) = ⊥
@@ -45,17 +46,22 @@ module _ (globals : ℕ) (routines : List RoutineOf) where
 
   -- the table of a file, from a place on, before which there are these routines
   table_entries : (whole t : Table) (counts : Counts) (front : List RoutineOf) (ds : List DirectiveTree)
-      → AreEntries t → counts.globals + length (globals_of whole ds) ≡ globals → counts.routines ≡ length front
+      → AreEntries t → counts.globals + length (globals_of whole ds) ≡ globals
+      → counts.arrays + length (arrays_of whole ds) ≡ arrays → counts.routines ≡ length front
       → front ++ routines_of whole ds ≡ routines → AreEntries (table_from t counts ds)
-  table_entries whole t counts front [] h g n r = h
-  table_entries whole t counts front (global name v ∷ ds) h g n r =
+  table_entries whole t counts front [] h g a n r = h
+  table_entries whole t counts front (global name v ∷ ds) h g a n r =
       let d = global name v in
       table_entries whole (with_directive t counts d) (counts_after counts d) front ds
-      (name_more t name (bindings.Global counts.globals) h (omega (arith, g))) (omega (arith, g)) n r
-  table_entries whole t counts front (constant name v ∷ ds) h g n r =
+      (name_more t name (bindings.Global counts.globals) h (omega (arith, g))) (omega (arith, g)) a n r
+  table_entries whole t counts front (constant name v ∷ ds) h g a n r =
       table_entries whole (with_directive t counts (constant name v)) counts front ds
-      (name_more t name (bindings.Constant (value_so_far t v)) h tt) g n r
-  table_entries whole t counts front (routine x ∷ ds) h g n r =
+      (name_more t name (bindings.Constant (literal_value t v)) h tt) g a n r
+  table_entries whole t counts front (array x ∷ ds) h g a n r =
+      let d = array x in
+      table_entries whole (with_directive t counts d) (counts_after counts d) front ds
+      (name_more t x.name (bindings.Array counts.arrays x.kind) h (omega (arith, a))) g (omega (arith, a)) n r
+  table_entries whole t counts front (routine x ∷ ds) h g a n r =
       let d = routine x in
       let number : ℕ = counts.routines in
       let made : RoutineOf = resolve_routine whole x in
@@ -66,13 +72,14 @@ module _ (globals : ℕ) (routines : List RoutineOf) where
       ∙ ap (λ (m : ℕ). (routine_at (front ++ made ∷ rest) m).locals) n
       ∙ ap (λ (s : RoutineOf). s.locals) (routine_here front made rest) in
       table_entries whole (with_directive t counts d) (counts_after counts d)
-      (front ++ made ∷ []) ds (name_more t x.name (bindings.Routine number (length x.locals)) h (there, same)) g
+      (front ++ made ∷ []) ds (name_more t x.name (bindings.Routine number (length x.locals)) h (there, same)) g a
       (omega (arith, n, length-append front (made ∷ []))) (append_assoc front (made ∷ []) rest ∙ r)
 
   pub file_entries : (whole : Table) (ds : List DirectiveTree) → length (globals_of whole ds) ≡ globals
-      → routines_of whole ds ≡ routines → AreEntries (table_of ds)
+      → length (arrays_of whole ds) ≡ arrays → routines_of whole ds ≡ routines → AreEntries (table_of ds)
   unfolding table_of
-  file_entries whole ds g r = table_entries whole first_table no_counts [] ds (tt, tt) (omega (arith, g)) refl r
+  file_entries whole ds g a r = table_entries whole first_table no_counts [] ds (tt, tt) (omega (arith, g))
+      (omega (arith, a)) refl r
 
 -- What is found
 
@@ -91,9 +98,10 @@ locals_below limit n (l ∷ ls) key h = below_either (same_key (key_of l.text) k
     (omega (arith, h)) (locals_below limit (n + 1) ls key (omega (arith, h)))
 
 module _ (p : ProgramOf) (locals : ℕ) where
-  entry_meant : (b : Binding) → IsEntry (length p.globals) p.routines b → IsMeant p locals (Some b)
+  entry_meant : (b : Binding) → IsEntry (length p.globals) (length p.arrays) p.routines b → IsMeant p locals (Some b)
   entry_meant (bindings.Constant n) h = tt
   entry_meant (bindings.Global g) h = h
+  entry_meant (bindings.Array a kind) h = h
   entry_meant (bindings.Routine r n) h = h
   entry_meant bindings.Property h = tt
   entry_meant (bindings.Local l) h = absurd h
@@ -103,7 +111,7 @@ module _ (p : ProgramOf) (locals : ℕ) where
   meant_either true b o h i = h
   meant_either false b o h i = i
 
-  pub found_meant : (t : Table) (key : List ℕ) → AreEntries (length p.globals) p.routines t
+  pub found_meant : (t : Table) (key : List ℕ) → AreEntries (length p.globals) (length p.arrays) p.routines t
       → IsMeant p locals (in_table t key)
   found_meant [] key h = tt
   found_meant (e ∷ es) key h = meant_either (same_key e.0 key) e.1 (in_table es key) (entry_meant e.1 h.0)
@@ -116,7 +124,7 @@ module _ (p : ProgramOf) (locals : ℕ) where
 
 -- what a name stands for in a routine is there
 pub name_meant : (p : ProgramOf) (t : Table) (ls : List NameTree) (name : List ℕ)
-    → AreEntries (length p.globals) p.routines t → IsMeant p (length ls) (look_up t ls name)
+    → AreEntries (length p.globals) (length p.arrays) p.routines t → IsMeant p (length ls) (look_up t ls name)
 unfolding look_up
 name_meant p t ls name h =
     local_meant p (length ls) (local_from 0 ls (key_of name)) (in_table t (key_of name))

@@ -1,9 +1,12 @@
 -- Lists of trees and chains: what they break and what they resolve to, part by part.
-use Rattle.std.proofs.Common.{◌≡◌, ℕ, List, [], ◌∷◌, ◌++◌, length, Option, None, refl, sym, ap, ◌∙◌, arith}
+use Rattle.std.proofs.Common.{◌≡◌, ℕ, List, [], ◌∷◌, ◌++◌, length, Bool, true, false, cond, Option, Some, None}
+use Rattle.std.proofs.Common.{refl, sym, ap, ◌∙◌, arith}
 use Rattle.std.specs.Prelude.{map}
 use Rattle.std.specs.List.{flat_map}
 use Rattle.expressions.specs.declared.tree.Binary.{Binary}
 use Rattle.expressions.specs.declared.tree.Expression.{Expression}
+use Rattle.expressions.specs.declared.tree.Width.{Width}
+use Rattle.lexer.specs.declared.token.Position.{Position}
 use Rattle.expressions.specs.Tree as trees
 use Rattle.expressions.specs.Tree.{NameTree, ExpressionTree, expression_tree, trees_of, chained, link}
 use Rattle.statements.specs.declared.tree.Statement.{Statement}
@@ -14,16 +17,20 @@ use Rattle.checker.specs.declared.around.Around.{Around}
 use Rattle.checker.specs.declared.binding.Binding.{Binding}
 use Rattle.checker.specs.declared.breach.Breach.{Breach}
 use Rattle.checker.specs.Noted.{noted}
-use Rattle.checker.specs.Names.{name_of}
+use Rattle.checker.specs.Names.{name_of, is_entry}
 use Rattle.checker.specs.Resolved as values
 use Rattle.checker.specs.Resolved.{Value, Printed, Action, Actions, values_of, actions_of}
 use Rattle.checker.specs.Expressions.{breaches, all_breaches, resolve, resolve_all, count, call_breaches}
-use Rattle.checker.specs.Expressions.{routine_of_binding}
+use Rattle.checker.specs.Expressions.{routine_of_binding, value_of_binding, array_name_breaches, array_of_binding}
+use Rattle.checker.specs.Expressions.{target_breaches, assigned_breaches, assigned}
+use Rattle.checker.specs.declared.resolved.Variable.TheVariants as variables
+use Rattle.checker.specs.Breaches.{at}
 use Rattle.checker.specs.Statements.{item_breaches, resolve_item, statements_breaches, resolve_statements}
 use Rattle.checker.specs.Walk.{own_breaches, resolved, link_breaches, resolved_link, IsWalked, IsResolved}
-use Rattle.checker.specs.Walk.{AreResolved, AreLinks, AreItems, AreActions, own_item_breaches, resolved_item}
+use Rattle.checker.specs.Walk.{AreResolved, IsAssigned, AreLinks, AreItems, AreActions, own_item_breaches}
+use Rattle.checker.specs.Walk.{resolved_item}
 use Rattle.checker.specs.Walk.{own_statement_breaches, resolved_statement}
-use Rattle.checker.proofs.Noted.{noted_none, noted_append}
+use Rattle.checker.proofs.Noted.{noted_none, noted_append, noted_two}
 use Rattle.checker.proofs.Walks.{two}
 
 pub count_all : (es : List Expression) → count (trees_of (map expression_tree es)) ≡ length es
@@ -36,7 +43,36 @@ pub chain_name : (op : Binary) (a b : ExpressionTree) (ls : List (Binary × Expr
 chain_name op a b [] = refl
 chain_name op a b (l ∷ ls) = chain_name l.0 (trees.binary op a b) l.1 ls
 
+-- nor is there an assignment to it
+pub chain_assigned : (op : Binary) (a b : Value) (ls : List (Binary × Value)) (v : Value)
+    → assigned (values.chained (values.binary op a b) ls) v ≡ values.assign (variables.Local 0) v
+chain_assigned op a b [] v = refl
+chain_assigned op a b (l ∷ ls) v = chain_assigned l.0 (values.binary op a b) l.1 ls v
+
+-- and is no entry
+pub chain_entry : (op : Binary) (a b : ExpressionTree) (ls : List (Binary × ExpressionTree))
+    → is_entry (chained (trees.binary op a b) ls) ≡ false
+chain_entry op a b [] = refl
+chain_entry op a b (l ∷ ls) = chain_entry l.0 (trees.binary op a b) l.1 ls
+
 module _ (look : List ℕ → Option Binding) where
+  -- what a name resolves to, in parentheses or not
+  pub named_resolves : (e : ExpressionTree) (n : NameTree) → name_of e ≡ Some n
+      → resolve look e ≡ value_of_binding (look n.text)
+  named_resolves (trees.constant m) n h = absurd cc
+  named_resolves (trees.named m) n h =
+      let same : m ≡ n = cc in ap (λ (x : NameTree). value_of_binding (look x.text)) same
+  named_resolves (trees.call m es) n h = absurd cc
+  named_resolves (trees.index m w e) n h = absurd cc
+  named_resolves (trees.parenthesised e) n h = named_resolves e n h
+  named_resolves (trees.prefixed op e) n h = absurd cc
+  named_resolves (trees.step_before op p e) n h = absurd cc
+  named_resolves (trees.step_after e op p) n h = absurd cc
+  named_resolves (trees.binary op a b) n h = absurd cc
+  named_resolves (trees.compare op a b) n h = absurd cc
+  named_resolves (trees.equal op a bs) n h = absurd cc
+  named_resolves (trees.assign a p b) n h = absurd cc
+
   pub all_break : (es : List Expression) → all_breaches look (trees_of (map expression_tree es))
       ≡ flat_map (own_breaches look) es
   all_break [] = refl
@@ -116,6 +152,48 @@ module _ (look : List ℕ → Option Binding) where
             ∙ ap (λ x. noted m (call_breaches name.position x (look name.text))) (g ∙ sym (count_all es));
       } in
       two values.call own (all_walked es vs w)
+
+  pub index_walked : (name : NameTree) (w : Width) (number : ℕ) (found : Option Binding) (e : ExpressionTree)
+      (v : Value) {m o p : Option Breach}
+      → found ≡ look name.text → number ≡ array_of_binding found
+      → o ≡ noted m (array_name_breaches name.position found) → IsResolved look e o p v
+      → IsResolved look (trees.index name w e) m p (values.entry w number v)
+  index_walked name w number found e v {m = m} {o = o} f n b x =
+      let own : IsWalked (array_name_breaches name.position (look name.text)) m o number
+      (array_of_binding (look name.text)) = record {
+        value = n ∙ ap array_of_binding f;
+        breaches = b ∙ ap (λ y. noted m (array_name_breaches name.position y)) f;
+      } in
+      two (values.entry w) own x
+
+  -- the left side of an assignment
+
+  pub name_assigned : (operator : Position) (e : ExpressionTree) (name : NameTree) (found : Option Binding)
+      (v : Value) {m o : Option Breach} → name_of e ≡ Some name → found ≡ look name.text → v ≡ value_of_binding found
+      → o ≡ noted m (target_breaches name.position operator found)
+      → IsAssigned look operator e m o v
+  name_assigned operator e name found v {m = m} is f n b = record {
+    value = n ∙ ap value_of_binding f ∙ sym (named_resolves e name is);
+    breaches = b ∙ ap (λ y. noted m (target_breaches name.position operator y)) f
+        ∙ ap (λ (y : Option NameTree). noted m (assigned_breaches look operator y (is_entry e) (breaches look e)))
+        (sym is);
+  }
+
+  no_name_breaks : (operator : Position) (c : Bool) (inside : List Breach) (m o q : Option Breach)
+      → o ≡ noted m inside → q ≡ noted o (cond c [] (at operator 26))
+      → q ≡ noted m (assigned_breaches look operator None c inside)
+  no_name_breaks operator true inside m o q a b = b ∙ noted_none o ∙ a
+  no_name_breaks operator false inside m o q a b = noted_two m o q inside (at operator 26) a b
+
+  pub part_assigned : (operator : Position) (e : ExpressionTree) (c : Bool) (v : Value) {m o q : Option Breach}
+      → name_of e ≡ None → c ≡ is_entry e → IsResolved look e m o v → q ≡ noted o (cond c [] (at operator 26))
+      → IsAssigned look operator e m q v
+  part_assigned operator e c v {m = m} {o = o} {q = q} none one w b = record {
+    value = w.value;
+    breaches = no_name_breaks operator c (breaches look e) m o q w.breaches b
+        ∙ ap (λ (y : Option NameTree). noted m (assigned_breaches look operator y c (breaches look e))) (sym none)
+        ∙ ap (λ (y : Bool). noted m (assigned_breaches look operator (name_of e) y (breaches look e))) one;
+  }
 
   pub statements_walked : (around : Around) (ss : List Statement) (found : List Action) {m n : Option Breach}
       → AreActions look around ss m n found

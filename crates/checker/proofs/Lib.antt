@@ -1,4 +1,5 @@
-mod Samples
+pub mod Samples
+mod ArraySamples
 pub mod Noted
 pub mod Keys
 pub mod Each
@@ -9,8 +10,11 @@ pub mod Needs
 pub mod Forms
 pub mod Directives
 pub mod Locals
+pub mod Cutting
 pub mod Whole
+pub mod NeedsBelow
 pub mod Unbroken
+pub mod ArrayBytes
 pub mod Bindings
 pub mod Acceptance
 pub mod Printable

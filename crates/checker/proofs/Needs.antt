@@ -19,6 +19,7 @@ pub need_one : (e : ExpressionTree) → 1 ≤ need e
 need_one (trees.constant n) = omega arith
 need_one (trees.named n) = omega arith
 need_one (trees.call n es) = operands_one 0 (needs es)
+need_one (trees.index n width e) = operands_one 0 (need e ∷ [])
 need_one (trees.parenthesised e) = need_one e
 need_one (trees.prefixed op e) = operands_one 0 (need e ∷ [])
 need_one (trees.step_before op p e) = operands_one 0 (need e ∷ [])

@@ -7,7 +7,7 @@ use Rattle.statements.specs.Tree.{PrintItemTree, text_item, character_item, numb
 use Rattle.statements.specs.Tree.{StatementTrees, empty, block, text_alone, print, print_return, new_line, if_then}
 use Rattle.statements.specs.Tree.{if_else, while_do, return_alone, return_value, return_true, return_false, quit}
 use Rattle.statements.specs.Tree.{effect, stop, next}
-use Rattle.syntax.specs.Tree.{DirectiveTree, global, constant, routine}
+use Rattle.syntax.specs.Tree.{DirectiveTree, global, constant, array, routine}
 use Rattle.syntax.specs.Printable as source
 use Rattle.checker.specs.declared.binding.Binding.{Binding}
 use Rattle.checker.specs.Names.{Table, table_of, look_up}
@@ -61,6 +61,8 @@ routines_print whole (global n v ∷ ds) h = routines_print whole ds
     (All-tail source.IsPrintableDirective (global n v) ds h)
 routines_print whole (constant n v ∷ ds) h = routines_print whole ds
     (All-tail source.IsPrintableDirective (constant n v) ds h)
+routines_print whole (array a ∷ ds) h = routines_print whole ds
+    (All-tail source.IsPrintableDirective (array a) ds h)
 routines_print whole (routine r ∷ ds) h =
     All-cons IsPrintableRoutine (resolve_routine whole r) (routines_of whole ds)
     (statements_print (look_up whole r.locals) r.body (All-head source.IsPrintableDirective (routine r) ds h))

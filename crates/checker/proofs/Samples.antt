@@ -24,29 +24,29 @@ use Rattle.checker.specs.World.{Outcome}
 use Rattle.checker.specs.Meaning.{meaning}
 
 -- the position of a token, by its number
-abbrev p : ℕ → Position
+abbrev pub p : ℕ → Position
 p n = record { offset = n; line = 1 }
 
-abbrev the : ℕ → List ℕ → NameTree
+abbrev pub the : ℕ → List ℕ → NameTree
 the n text = record { text = text; position = p n }
 
-abbrev item : ExpressionTree → s.PrintItemTree
+abbrev pub item : ExpressionTree → s.PrintItemTree
 item e = s.number_item (p 0) e
 
-abbrev words : List ℕ → s.PrintItemTree
+abbrev pub words : List ℕ → s.PrintItemTree
 words text = s.text_item text
 
 abbrev body : List StatementTree → StatementTrees
 body xs = s.trees_of xs
 
-abbrev routine : List ℕ → List NameTree → List StatementTree → DirectiveTree
+abbrev pub routine : List ℕ → List NameTree → List StatementTree → DirectiveTree
 routine name locals xs = d.routine (record { name = the 0 name; locals = locals; body = body xs; weight = 0 })
 
-abbrev program : List DirectiveTree → ProgramTree
+abbrev pub program : List DirectiveTree → ProgramTree
 program ds = record { directives = ds; end = p 999; weight = 0 }
 
 -- the transcript of one turn
-abbrev says : List ℕ → Outcome
+abbrev pub says : List ℕ → Outcome
 says text = record { texts = text ∷ []; place = places.Quit }
 
 -- [ Main; print 32767 + 1, " ", -13 % 5, "^"; ];

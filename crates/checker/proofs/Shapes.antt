@@ -9,6 +9,7 @@ use Rattle.expressions.specs.declared.tree.Comparison.{Comparison}
 use Rattle.expressions.specs.declared.tree.Equality.{Equality}
 use Rattle.expressions.specs.declared.tree.Prefix.{Prefix}
 use Rattle.expressions.specs.declared.tree.Step.{Step}
+use Rattle.expressions.specs.declared.tree.Width.{Width}
 use Rattle.expressions.specs.declared.tree.Expression.{Expression}
 use Rattle.expressions.specs.declared.tree.Expression.TheVariants as from
 use Rattle.expressions.specs.declared.tree.Expression.TheFolds.{fold-roll-Expression}
@@ -33,6 +34,11 @@ is_named e n same = ap expression_tree (same ∙ sym (from.rolls-Named n)) ∙ f
 pub is_call : (e : Expression) (n : Name) (es : Vec Expression) → e ≡ from.Call n es
     → expression_tree e ≡ trees.call (name_tree n) (trees_of (map expression_tree es.items))
 is_call e n es same = ap expression_tree (same ∙ sym (from.rolls-Call n es))
+    ∙ fold-roll-Expression ExpressionTree layer _
+
+pub is_index : (e : Expression) (n : Name) (w : Width) (i : Box Expression) → e ≡ from.Index n w i
+    → expression_tree e ≡ trees.index (name_tree n) w (expression_tree i.value)
+is_index e n w i same = ap expression_tree (same ∙ sym (from.rolls-Index n w i))
     ∙ fold-roll-Expression ExpressionTree layer _
 
 pub is_parenthesised : (e : Expression) (i : Box Expression) → e ≡ from.Parenthesised i
@@ -110,19 +116,19 @@ pub is_new_line_statement : (s : Statement) → s ≡ said.NewLine → statement
 is_new_line_statement s same = ap statement_tree (same ∙ sym said.rolls-NewLine)
     ∙ fold-roll-Statement StatementTree written.layer _
 
-pub is_if_statement : (s : Statement) (p : Position) (c : Expression) (x : Box Statement) → s ≡ said.If p c x
-    → statement_tree s ≡ written.if_then p (expression_tree c) (statement_tree x.value)
+pub is_if_statement : (s : Statement) (p : Position) (c : Box Expression) (x : Box Statement) → s ≡ said.If p c x
+    → statement_tree s ≡ written.if_then p (expression_tree c.value) (statement_tree x.value)
 is_if_statement s p c x same = ap statement_tree (same ∙ sym (said.rolls-If p c x))
     ∙ fold-roll-Statement StatementTree written.layer _
 
-pub is_if_else_statement : (s : Statement) (p : Position) (c : Expression) (x y : Box Statement)
+pub is_if_else_statement : (s : Statement) (p : Position) (c : Box Expression) (x y : Box Statement)
     → s ≡ said.IfElse p c x y → statement_tree s
-    ≡ written.if_else p (expression_tree c) (statement_tree x.value) (statement_tree y.value)
+    ≡ written.if_else p (expression_tree c.value) (statement_tree x.value) (statement_tree y.value)
 is_if_else_statement s p c x y same = ap statement_tree (same ∙ sym (said.rolls-IfElse p c x y))
     ∙ fold-roll-Statement StatementTree written.layer _
 
-pub is_while_statement : (s : Statement) (p : Position) (c : Expression) (x : Box Statement) → s ≡ said.While p c x
-    → statement_tree s ≡ written.while_do p (expression_tree c) (statement_tree x.value)
+pub is_while_statement : (s : Statement) (p : Position) (c : Box Expression) (x : Box Statement)
+    → s ≡ said.While p c x → statement_tree s ≡ written.while_do p (expression_tree c.value) (statement_tree x.value)
 is_while_statement s p c x same = ap statement_tree (same ∙ sym (said.rolls-While p c x))
     ∙ fold-roll-Statement StatementTree written.layer _
 
@@ -130,8 +136,8 @@ pub is_return_statement : (s : Statement) → s ≡ said.Return → statement_tr
 is_return_statement s same = ap statement_tree (same ∙ sym said.rolls-Return)
     ∙ fold-roll-Statement StatementTree written.layer _
 
-pub is_return_value_statement : (s : Statement) (p : Position) (e : Expression) → s ≡ said.ReturnValue p e
-    → statement_tree s ≡ written.return_value p (expression_tree e)
+pub is_return_value_statement : (s : Statement) (p : Position) (e : Box Expression) → s ≡ said.ReturnValue p e
+    → statement_tree s ≡ written.return_value p (expression_tree e.value)
 is_return_value_statement s p e same = ap statement_tree (same ∙ sym (said.rolls-ReturnValue p e))
     ∙ fold-roll-Statement StatementTree written.layer _
 
@@ -147,7 +153,7 @@ pub is_quit_statement : (s : Statement) → s ≡ said.Quit → statement_tree s
 is_quit_statement s same = ap statement_tree (same ∙ sym said.rolls-Quit)
     ∙ fold-roll-Statement StatementTree written.layer _
 
-pub is_effect_statement : (s : Statement) (p : Position) (e : Expression) → s ≡ said.Effect p e
-    → statement_tree s ≡ written.effect p (expression_tree e)
+pub is_effect_statement : (s : Statement) (p : Position) (e : Box Expression) → s ≡ said.Effect p e
+    → statement_tree s ≡ written.effect p (expression_tree e.value)
 is_effect_statement s p e same = ap statement_tree (same ∙ sym (said.rolls-Effect p e))
     ∙ fold-roll-Statement StatementTree written.layer _

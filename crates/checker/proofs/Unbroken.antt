@@ -1,6 +1,6 @@
 -- Expressions and statements that break no rule: what they resolve to is within the limits.
 use Rattle.std.proofs.Common.{◌≡◌, ℕ, ◌+◌, ◌<◌, ◌≤◌, nat_lt, Bool, true, false, List, [], ◌∷◌, ◌++◌, length, Option}
-use Rattle.std.proofs.Common.{Some, None, cond, refl, ap, arith}
+use Rattle.std.proofs.Common.{Some, None, cond, refl, sym, subst, arith}
 use Rattle.std.specs.Prelude.{map}
 use Rattle.std.specs.List.{flat_map, All}
 use Rattle.std.proofs.lemmas.Bool.Decides.{nat_tests}
@@ -15,17 +15,20 @@ use Rattle.checker.specs.declared.binding.Binding.{Binding}
 use Rattle.checker.specs.declared.binding.Binding.TheVariants as bindings
 use Rattle.checker.specs.declared.breach.Breach.{Breach}
 use Rattle.checker.specs.Breaches.{at}
-use Rattle.checker.specs.Names.{name_of}
-use Rattle.checker.specs.Temporaries.{need, needs, operands, left_needs}
-use Rattle.checker.specs.Resolved.{ProgramOf}
+use Rattle.checker.specs.Names.{name_of, is_entry}
+use Rattle.checker.specs.Temporaries.{need}
+use Rattle.checker.specs.Resolved.{Value, ProgramOf}
 use Rattle.checker.specs.Expressions.{value_breaches, call_breaches, target_breaches, count, value_of_binding}
 use Rattle.checker.specs.Expressions.{variable_of_binding, routine_of_binding, left_breaches, breaches, all_breaches}
-use Rattle.checker.specs.Expressions.{target, resolve, resolve_all}
+use Rattle.checker.specs.Expressions.{target, resolve, resolve_all, array_name_breaches, array_of_binding, assigned}
+use Rattle.checker.specs.Expressions.{assigned_breaches}
 use Rattle.checker.specs.Statements.{in_loop, whole_breaches, item_breaches, statement_breaches}
 use Rattle.checker.specs.Statements.{statements_breaches, resolve_item, resolve_statement, resolve_statements}
 use Rattle.checker.specs.Meaning.{routine_at}
-use Rattle.checker.specs.Accepted.{count_of, need_of, needs_of, IsVariable, IsValue, AreValues, IsWhole, IsPrinted}
+use Rattle.checker.specs.Accepted.{IsVariable, IsValue, AreValues, IsWhole, IsPrinted}
 use Rattle.checker.specs.Accepted.{IsAction, AreActions}
+use Rattle.checker.proofs.Forms.{named_resolves}
+use Rattle.checker.proofs.NeedsBelow.{count_same, need_below}
 
 -- Lists of broken rules that are empty
 
@@ -45,61 +48,6 @@ kept false p n h = refl
 at_most : (limit n : ℕ) → nat_lt limit n ≡ false → n ≤ limit
 at_most limit n h = grind (arith, nat_tests)
 
--- Temporaries
-
-pub count_same : (look : List ℕ → Option Binding) (es : ExpressionTrees) → count_of (resolve_all look es) ≡ count es
-count_same look trees.none = refl
-count_same look (trees.more e es) = ap (λ (n : ℕ). n + 1) (count_same look es)
-
-need_named : (o : Option Binding) → need_of (value_of_binding o) ≡ 1
-need_named None = refl
-need_named (Some (bindings.Constant n)) = refl
-need_named (Some (bindings.Global g)) = refl
-need_named (Some (bindings.Routine r n)) = refl
-need_named (Some bindings.Property) = refl
-need_named (Some (bindings.Local l)) = refl
-
--- the right side of an assignment needs no more than both
-right_below : (left : Option NameTree) (a b n : ℕ) → n ≤ b
-    → operands 0 (n ∷ []) ≤ operands 0 (left_needs left a ++ b ∷ [])
-right_below (Some x) a b n h = omega (arith, h)
-right_below None a b n h = omega (arith, h)
-
--- each of the second needs is at least that of the first
-abbrev pub AreBelow : List ℕ → List ℕ → Type 0
-AreBelow [] [] = Unit {0}
-AreBelow [] (n ∷ ns) = ⊥
-AreBelow (m ∷ ms) [] = ⊥
-AreBelow (m ∷ ms) (n ∷ ns) = (m ≤ n) × AreBelow ms ns
-
-operands_below : (b : ℕ) (ms ns : List ℕ) → AreBelow ms ns → operands b ms ≤ operands b ns
-operands_below b [] [] h = omega arith
-operands_below b [] (n ∷ ns) h = absurd h
-operands_below b (m ∷ ms) [] h = absurd h
-operands_below b (m ∷ ms) (n ∷ ns) h = let first = h.0 in let rest = operands_below (b + 1) ms ns h.1 in
-    omega (arith, first, rest)
-
-module _ (look : List ℕ → Option Binding) where
-  mutual
-    pub need_below : (e : ExpressionTree) → need_of (resolve look e) ≤ need e
-    need_below (trees.constant n) = omega arith
-    need_below (trees.named n) = let one = need_named (look n.text) in omega (arith, one)
-    need_below (trees.call n es) = operands_below 0 (needs_of (resolve_all look es)) (needs es) (needs_below es)
-    need_below (trees.parenthesised e) = need_below e
-    need_below (trees.prefixed op e) = let h = need_below e in omega (arith, h)
-    need_below (trees.step_before op p e) = omega arith
-    need_below (trees.step_after e op p) = omega arith
-    need_below (trees.binary op a b) = let h = need_below a in let k = need_below b in omega (arith, h, k)
-    need_below (trees.compare op a b) = let h = need_below a in let k = need_below b in omega (arith, h, k)
-    need_below (trees.equal op a bs) = operands_below 0 (need_of (resolve look a) ∷ needs_of (resolve_all look bs))
-        (need a ∷ needs bs) (need_below a, needs_below bs)
-    need_below (trees.assign a p b) = right_below (name_of a) (need a) (need b) (need_of (resolve look b))
-        (need_below b)
-
-    pub needs_below : (es : ExpressionTrees) → AreBelow (needs_of (resolve_all look es)) (needs es)
-    needs_below trees.none = tt
-    needs_below (trees.more e es) = (need_below e, needs_below es)
-
 -- What names stand for
 
 -- in a routine with so many locals of this program
@@ -108,6 +56,7 @@ module _ (p : ProgramOf) (locals : ℕ) where
   IsMeant None = Unit {0}
   IsMeant (Some (bindings.Constant n)) = Unit {0}
   IsMeant (Some (bindings.Global g)) = g < length p.globals
+  IsMeant (Some (bindings.Array a kind)) = a < length p.arrays
   IsMeant (Some (bindings.Routine r n)) = (r < length p.routines) × ((routine_at p.routines r).locals ≡ n)
   IsMeant (Some bindings.Property) = Unit {0}
   IsMeant (Some (bindings.Local l)) = l < locals
@@ -117,6 +66,7 @@ module _ (p : ProgramOf) (locals : ℕ) where
   named_within position None m h = absurd cc
   named_within position (Some (bindings.Constant n)) m h = tt
   named_within position (Some (bindings.Global g)) m h = m
+  named_within position (Some (bindings.Array a kind)) m h = absurd cc
   named_within position (Some (bindings.Routine r n)) m h = absurd cc
   named_within position (Some bindings.Property) m h = absurd cc
   named_within position (Some (bindings.Local l)) m h = m
@@ -126,9 +76,32 @@ module _ (p : ProgramOf) (locals : ℕ) where
   target_within position operator None m h = absurd cc
   target_within position operator (Some (bindings.Constant n)) m h = absurd cc
   target_within position operator (Some (bindings.Global g)) m h = m
+  target_within position operator (Some (bindings.Array a kind)) m h = absurd cc
   target_within position operator (Some (bindings.Routine r n)) m h = absurd cc
   target_within position operator (Some bindings.Property) m h = absurd cc
   target_within position operator (Some (bindings.Local l)) m h = m
+
+  array_within : (position : Position) (o : Option Binding) → IsMeant o → array_name_breaches position o ≡ []
+      → array_of_binding o < length p.arrays
+  array_within position None m h = absurd cc
+  array_within position (Some (bindings.Constant n)) m h = absurd cc
+  array_within position (Some (bindings.Global g)) m h = absurd cc
+  array_within position (Some (bindings.Array a kind)) m h = m
+  array_within position (Some (bindings.Routine r n)) m h = absurd cc
+  array_within position (Some bindings.Property) m h = absurd cc
+  array_within position (Some (bindings.Local l)) m h = absurd cc
+
+  -- an assignment to a name
+  name_assigned : (position operator : Position) (o : Option Binding) (v : Value) → IsMeant o
+      → target_breaches position operator o ≡ [] → IsValue p locals v
+      → IsValue p locals (assigned (value_of_binding o) v)
+  name_assigned position operator None v m h k = absurd cc
+  name_assigned position operator (Some (bindings.Constant n)) v m h k = absurd cc
+  name_assigned position operator (Some (bindings.Global g)) v m h k = (m, k)
+  name_assigned position operator (Some (bindings.Array a kind)) v m h k = absurd cc
+  name_assigned position operator (Some (bindings.Routine r n)) v m h k = absurd cc
+  name_assigned position operator (Some bindings.Property) v m h k = absurd cc
+  name_assigned position operator (Some (bindings.Local l)) v m h k = (m, k)
 
   record IsCall (r given : ℕ) : Type 0 where
     there : r < length p.routines
@@ -140,6 +113,7 @@ module _ (p : ProgramOf) (locals : ℕ) where
   call_within position given None m h = absurd cc
   call_within position given (Some (bindings.Constant n)) m h = absurd cc
   call_within position given (Some (bindings.Global g)) m h = absurd cc
+  call_within position given (Some (bindings.Array a kind)) m h = absurd cc
   call_within position given (Some (bindings.Routine r n)) m h =
       let seven = at_most 7 given
       (kept (nat_lt 7 given) position 24
@@ -164,6 +138,32 @@ module _ (p : ProgramOf) (locals : ℕ) where
     left_within operator (Some n) inside h = target_within n.position operator (look n.text) (meant n.text) h
     left_within operator None inside h = absurd (not_empty inside operator h)
 
+    -- an assignment to an entry
+    entry_assigned : (e : ExpressionTree) (v : Value) → is_entry e ≡ true → IsValue p locals (resolve look e)
+        → IsValue p locals v → IsValue p locals (assigned (resolve look e) v)
+    entry_assigned (trees.constant n) v h i k = absurd cc
+    entry_assigned (trees.named n) v h i k = absurd cc
+    entry_assigned (trees.call n es) v h i k = absurd cc
+    entry_assigned (trees.index n width e) v h i k = (i.0, i.1, k)
+    entry_assigned (trees.parenthesised e) v h i k = entry_assigned e v h i k
+    entry_assigned (trees.prefixed op e) v h i k = absurd cc
+    entry_assigned (trees.step_before op q e) v h i k = absurd cc
+    entry_assigned (trees.step_after e op q) v h i k = absurd cc
+    entry_assigned (trees.binary op a b) v h i k = absurd cc
+    entry_assigned (trees.compare op a b) v h i k = absurd cc
+    entry_assigned (trees.equal op a bs) v h i k = absurd cc
+    entry_assigned (trees.assign a q b) v h i k = absurd cc
+
+    assigned_within : (operator : Position) (e : ExpressionTree) (o : Option NameTree) → name_of e ≡ o → (c : Bool)
+        → is_entry e ≡ c → (v : Value) → assigned_breaches look operator o c (breaches look e) ≡ []
+        → (breaches look e ≡ [] → IsValue p locals (resolve look e)) → IsValue p locals v
+        → IsValue p locals (assigned (resolve look e) v)
+    assigned_within operator e (Some n) is c one v h i k =
+        subst (λ (w : Value). IsValue p locals (assigned w v)) (sym (named_resolves look e n is))
+        (name_assigned n.position operator (look n.text) v (meant n.text) h k)
+    assigned_within operator e None is true one v h i k = entry_assigned e v one (i h) k
+    assigned_within operator e None is false one v h i k = absurd (not_empty (breaches look e) operator h)
+
     mutual
       pub value_within : (e : ExpressionTree) → breaches look e ≡ [] → IsValue p locals (resolve look e)
       value_within (trees.constant n) h = tt
@@ -179,6 +179,12 @@ module _ (p : ProgramOf) (locals : ℕ) where
             values_within es
                 (right_empty own (all_breaches look es) h),
           )
+      value_within (trees.index n width e) h = (
+        array_within n.position (look n.text) (meant n.text)
+            (left_empty (array_name_breaches n.position (look n.text)) (breaches look e) h),
+        value_within e
+            (right_empty (array_name_breaches n.position (look n.text)) (breaches look e) h),
+      )
       value_within (trees.parenthesised e) h = value_within e h
       value_within (trees.prefixed op e) h = value_within e h
       value_within (trees.step_before op q e) h = left_within q (name_of e) (breaches look e) h
@@ -199,11 +205,9 @@ module _ (p : ProgramOf) (locals : ℕ) where
             (right_empty (breaches look a) (all_breaches look bs) h),
       )
       value_within (trees.assign a q b) h =
-          let left = left_breaches look q (name_of a) (breaches look a) in (
-            left_within q (name_of a) (breaches look a) (left_empty left (breaches look b) h),
-            value_within b
-                (right_empty left (breaches look b) h),
-          )
+          let left = assigned_breaches look q (name_of a) (is_entry a) (breaches look a) in
+          assigned_within q a (name_of a) refl (is_entry a) refl (resolve look b)
+          (left_empty left (breaches look b) h) (value_within a) (value_within b (right_empty left (breaches look b) h))
 
       pub values_within : (es : ExpressionTrees) → all_breaches look es ≡ []
           → AreValues p locals (resolve_all look es)

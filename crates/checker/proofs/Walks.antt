@@ -7,6 +7,7 @@ use Rattle.expressions.specs.declared.tree.Comparison.{Comparison}
 use Rattle.expressions.specs.declared.tree.Equality.{Equality}
 use Rattle.expressions.specs.declared.tree.Prefix.{Prefix}
 use Rattle.expressions.specs.declared.tree.Step.{Step}
+use Rattle.expressions.specs.declared.tree.Width.{Width}
 use Rattle.checker.specs.declared.breach.Breach.{Breach}
 use Rattle.checker.specs.declared.resolved.Variable.{Variable}
 use Rattle.checker.specs.declared.resolved.Value as code_value
@@ -82,6 +83,14 @@ made_equal a op b vs = ap value_of (sym (made.rolls-Equal a op b vs)) ∙ fold-r
 pub made_assign : (x : Variable) (v : Box code_value.Value)
     → value_of (made.Assign x v) ≡ values.assign x (value_of v.value)
 made_assign x v = ap value_of (sym (made.rolls-Assign x v)) ∙ fold-roll-Value Value value_layer _
+
+pub made_entry : (w : Width) (a : ℕ) (i : Box code_value.Value)
+    → value_of (made.Entry w a i) ≡ values.entry w a (value_of i.value)
+made_entry w a i = ap value_of (sym (made.rolls-Entry w a i)) ∙ fold-roll-Value Value value_layer _
+
+pub made_assign_entry : (w : Width) (a : ℕ) (i v : Box code_value.Value)
+    → value_of (made.AssignEntry w a i v) ≡ values.assign_entry w a (value_of i.value) (value_of v.value)
+made_assign_entry w a i v = ap value_of (sym (made.rolls-AssignEntry w a i v)) ∙ fold-roll-Value Value value_layer _
 
 pub made_block : (all : Vec code_action.Action) → action_of (done.Block all)
     ≡ values.block (values.actions_of (map action_of all.items))

@@ -1,5 +1,5 @@
 -- The rules that an expression can break, and what it resolves to.
-use Rattle.std.specs.Prelude.{◌+◌, ℕ, nat_lt, if◌then◌else◌, List, [], ◌++◌, Option, Some, None}
+use Rattle.std.specs.Prelude.{◌+◌, ℕ, nat_lt, Bool, true, false, if◌then◌else◌, List, [], ◌++◌, Option, Some, None}
 use Rattle.lexer.specs.declared.token.Position.{Position}
 use Rattle.expressions.specs.Tree as trees
 use Rattle.expressions.specs.Tree.{NameTree, ExpressionTree, ExpressionTrees}
@@ -9,15 +9,16 @@ use Rattle.checker.specs.declared.breach.Breach.{Breach}
 use Rattle.checker.specs.declared.resolved.Variable.{Variable}
 use Rattle.checker.specs.declared.resolved.Variable.TheVariants as variables
 use Rattle.checker.specs.Breaches.{at}
-use Rattle.checker.specs.Names.{name_of}
+use Rattle.checker.specs.Names.{name_of, is_entry}
 use Rattle.checker.specs.Resolved.{Value, Values, number, read, call, prefixed, step_before, step_after, binary}
-use Rattle.checker.specs.Resolved.{compare, equal, assign, none, more}
+use Rattle.checker.specs.Resolved.{compare, equal, assign, entry, assign_entry, none, more}
 
--- a name as a value: E20 where it is unknown, E23 where it is a routine or a property
+-- a name as a value: E20 where it is unknown, E23 where it is an array, a routine or a property
 abbrev pub value_breaches : Position → Option Binding → List Breach
 value_breaches p None = at p 20
 value_breaches p (Some (bindings.Constant n)) = []
 value_breaches p (Some (bindings.Global g)) = []
+value_breaches p (Some (bindings.Array a kind)) = at p 23
 value_breaches p (Some (bindings.Routine r locals)) = at p 23
 value_breaches p (Some bindings.Property) = at p 23
 value_breaches p (Some (bindings.Local l)) = []
@@ -32,16 +33,28 @@ abbrev pub call_breaches : Position → ℕ → Option Binding → List Breach
 call_breaches p given None = at p 20
 call_breaches p given (Some (bindings.Constant n)) = at p 23
 call_breaches p given (Some (bindings.Global g)) = at p 23
+call_breaches p given (Some (bindings.Array a kind)) = at p 23
 call_breaches p given (Some (bindings.Routine r locals)) = argument_breaches p given locals
 call_breaches p given (Some bindings.Property) = at p 23
 call_breaches p given (Some (bindings.Local l)) = at p 23
 
+-- a name before `->` or `-->`: E20 where it is unknown, E23 where it is no array
+abbrev pub array_name_breaches : Position → Option Binding → List Breach
+array_name_breaches p None = at p 20
+array_name_breaches p (Some (bindings.Constant n)) = at p 23
+array_name_breaches p (Some (bindings.Global g)) = at p 23
+array_name_breaches p (Some (bindings.Array a kind)) = []
+array_name_breaches p (Some (bindings.Routine r locals)) = at p 23
+array_name_breaches p (Some bindings.Property) = at p 23
+array_name_breaches p (Some (bindings.Local l)) = at p 23
+
 -- A name that is assigned to or stepped, with the operator's position: E20 where it is unknown; E26 at the operator
--- where it is no variable, and E23 at a routine or a property too.
+-- where it is no variable, and E23 at an array, a routine or a property too.
 abbrev pub target_breaches : Position → Position → Option Binding → List Breach
 target_breaches p operator None = at p 20
 target_breaches p operator (Some (bindings.Constant n)) = at operator 26
 target_breaches p operator (Some (bindings.Global g)) = []
+target_breaches p operator (Some (bindings.Array a kind)) = at p 23 ++ at operator 26
 target_breaches p operator (Some (bindings.Routine r locals)) = at p 23 ++ at operator 26
 target_breaches p operator (Some bindings.Property) = at p 23 ++ at operator 26
 target_breaches p operator (Some (bindings.Local l)) = []
@@ -56,6 +69,7 @@ abbrev pub value_of_binding : Option Binding → Value
 value_of_binding None = number 0
 value_of_binding (Some (bindings.Constant n)) = number n
 value_of_binding (Some (bindings.Global g)) = read (variables.Global g)
+value_of_binding (Some (bindings.Array a kind)) = number 0
 value_of_binding (Some (bindings.Routine r locals)) = number 0
 value_of_binding (Some bindings.Property) = number 0
 value_of_binding (Some (bindings.Local l)) = read (variables.Local l)
@@ -64,6 +78,7 @@ abbrev pub variable_of_binding : Option Binding → Variable
 variable_of_binding None = variables.Local 0
 variable_of_binding (Some (bindings.Constant n)) = variables.Local 0
 variable_of_binding (Some (bindings.Global g)) = variables.Global g
+variable_of_binding (Some (bindings.Array a kind)) = variables.Local 0
 variable_of_binding (Some (bindings.Routine r locals)) = variables.Local 0
 variable_of_binding (Some bindings.Property) = variables.Local 0
 variable_of_binding (Some (bindings.Local l)) = variables.Local l
@@ -72,22 +87,54 @@ abbrev pub routine_of_binding : Option Binding → ℕ
 routine_of_binding None = 0
 routine_of_binding (Some (bindings.Constant n)) = 0
 routine_of_binding (Some (bindings.Global g)) = 0
+routine_of_binding (Some (bindings.Array a kind)) = 0
 routine_of_binding (Some (bindings.Routine r locals)) = r
 routine_of_binding (Some bindings.Property) = 0
 routine_of_binding (Some (bindings.Local l)) = 0
 
+abbrev pub array_of_binding : Option Binding → ℕ
+array_of_binding None = 0
+array_of_binding (Some (bindings.Constant n)) = 0
+array_of_binding (Some (bindings.Global g)) = 0
+array_of_binding (Some (bindings.Array a kind)) = a
+array_of_binding (Some (bindings.Routine r locals)) = 0
+array_of_binding (Some bindings.Property) = 0
+array_of_binding (Some (bindings.Local l)) = 0
+
+-- an assignment, by what its left side resolves to
+abbrev pub assigned : Value → Value → Value
+assigned (number n) v = assign (variables.Local 0) v
+assigned (read x) v = assign x v
+assigned (call r vs) v = assign (variables.Local 0) v
+assigned (prefixed op w) v = assign (variables.Local 0) v
+assigned (step_before op x) v = assign (variables.Local 0) v
+assigned (step_after x op) v = assign (variables.Local 0) v
+assigned (binary op a b) v = assign (variables.Local 0) v
+assigned (compare op a b) v = assign (variables.Local 0) v
+assigned (equal op a bs) v = assign (variables.Local 0) v
+assigned (assign x w) v = assign (variables.Local 0) v
+assigned (entry width a i) v = assign_entry width a i v
+assigned (assign_entry width a i w) v = assign (variables.Local 0) v
+
 -- `look` tells what a name stands for
 module _ (look : List ℕ → Option Binding) where
-  -- What is assigned to or stepped, by the name that it is; `inside` are the rules that it breaks as an expression.
+  -- What is stepped, by the name that it is; `inside` are the rules that it breaks as an expression.
   abbrev pub left_breaches : Position → Option NameTree → List Breach → List Breach
   left_breaches operator (Some n) inside = target_breaches n.position operator (look n.text)
   left_breaches operator None inside = inside ++ at operator 26
+
+  -- What is assigned to, by the name that it is, and by whether it is an entry.
+  abbrev pub assigned_breaches : Position → Option NameTree → Bool → List Breach → List Breach
+  assigned_breaches operator (Some n) is_one inside = target_breaches n.position operator (look n.text)
+  assigned_breaches operator None true inside = inside
+  assigned_breaches operator None false inside = inside ++ at operator 26
 
   abbrev mutual
     pub breaches : ExpressionTree → List Breach
     breaches (trees.constant n) = []
     breaches (trees.named n) = value_breaches n.position (look n.text)
     breaches (trees.call n es) = call_breaches n.position (count es) (look n.text) ++ all_breaches es
+    breaches (trees.index n width e) = array_name_breaches n.position (look n.text) ++ breaches e
     breaches (trees.parenthesised e) = breaches e
     breaches (trees.prefixed op e) = breaches e
     breaches (trees.step_before op p e) = left_breaches p (name_of e) (breaches e)
@@ -95,7 +142,7 @@ module _ (look : List ℕ → Option Binding) where
     breaches (trees.binary op a b) = breaches a ++ breaches b
     breaches (trees.compare op a b) = breaches a ++ breaches b
     breaches (trees.equal op a bs) = breaches a ++ all_breaches bs
-    breaches (trees.assign a p b) = left_breaches p (name_of a) (breaches a) ++ breaches b
+    breaches (trees.assign a p b) = assigned_breaches p (name_of a) (is_entry a) (breaches a) ++ breaches b
 
     pub all_breaches : ExpressionTrees → List Breach
     all_breaches trees.none = []
@@ -112,6 +159,7 @@ module _ (look : List ℕ → Option Binding) where
     resolve (trees.constant n) = number n
     resolve (trees.named n) = value_of_binding (look n.text)
     resolve (trees.call n es) = call (routine_of_binding (look n.text)) (resolve_all es)
+    resolve (trees.index n width e) = entry width (array_of_binding (look n.text)) (resolve e)
     resolve (trees.parenthesised e) = resolve e
     resolve (trees.prefixed op e) = prefixed op (resolve e)
     resolve (trees.step_before op p e) = step_before op (target (name_of e))
@@ -119,7 +167,7 @@ module _ (look : List ℕ → Option Binding) where
     resolve (trees.binary op a b) = binary op (resolve a) (resolve b)
     resolve (trees.compare op a b) = compare op (resolve a) (resolve b)
     resolve (trees.equal op a bs) = equal op (resolve a) (resolve_all bs)
-    resolve (trees.assign a p b) = assign (target (name_of a)) (resolve b)
+    resolve (trees.assign a p b) = assigned (resolve a) (resolve b)
 
     pub resolve_all : ExpressionTrees → Values
     resolve_all trees.none = none

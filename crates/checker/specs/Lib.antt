@@ -4,6 +4,8 @@ pub mod Resolved
 pub mod Temporaries
 pub mod Expressions
 pub mod Statements
+pub mod Literals
+pub mod Arrays
 pub mod Programs
 pub mod Places
 pub mod Sizes

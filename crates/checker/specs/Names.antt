@@ -1,11 +1,11 @@
 -- What names stand for. Case is ignored; all names of a file share one space, and a local hides a name of the file in
 -- its whole routine.
-use Rattle.std.specs.Prelude.{◌&&◌, ◌+◌, ◌<◌, ℕ, zero, suc, nat_eq, nat_le, Bool, if◌then◌else◌, List, [], ◌∷◌, ◌++◌}
-use Rattle.std.specs.Prelude.{codes, length, Option, Some, None, is_some}
+use Rattle.std.specs.Prelude.{◌&&◌, ◌+◌, ◌<◌, ℕ, zero, suc, nat_eq, nat_le, Bool, true, false, if◌then◌else◌, List}
+use Rattle.std.specs.Prelude.{[], ◌∷◌, ◌++◌, codes, length, Option, Some, None, is_some}
 use Rattle.std.specs.Cmp.Lexicographic.{pointwise}
 use Rattle.expressions.specs.Tree as trees
 use Rattle.expressions.specs.Tree.{NameTree, ExpressionTree}
-use Rattle.syntax.specs.Tree.{LiteralTree, number_value, named_value, DirectiveTree, global, constant, routine}
+use Rattle.syntax.specs.Tree.{LiteralTree, number_value, named_value, DirectiveTree, global, constant, array, routine}
 use Rattle.checker.specs.declared.binding.Binding.{Binding}
 use Rattle.checker.specs.declared.binding.Binding.TheVariants as bindings
 use Rattle.checker.specs.declared.counts.Counts.{Counts}
@@ -28,6 +28,7 @@ abbrev pub name_of : ExpressionTree → Option NameTree
 name_of (trees.constant n) = None
 name_of (trees.named n) = Some n
 name_of (trees.call n es) = None
+name_of (trees.index n width e) = None
 name_of (trees.parenthesised e) = name_of e
 name_of (trees.prefixed op e) = None
 name_of (trees.step_before op p e) = None
@@ -36,6 +37,21 @@ name_of (trees.binary op a b) = None
 name_of (trees.compare op a b) = None
 name_of (trees.equal op a bs) = None
 name_of (trees.assign a p b) = None
+
+-- an expression is an entry of an array, parentheses apart
+abbrev pub is_entry : ExpressionTree → Bool
+is_entry (trees.constant n) = false
+is_entry (trees.named n) = false
+is_entry (trees.call n es) = false
+is_entry (trees.index n width e) = true
+is_entry (trees.parenthesised e) = is_entry e
+is_entry (trees.prefixed op e) = false
+is_entry (trees.step_before op p e) = false
+is_entry (trees.step_after e op p) = false
+is_entry (trees.binary op a b) = false
+is_entry (trees.compare op a b) = false
+is_entry (trees.equal op a bs) = false
+is_entry (trees.assign a p b) = false
 
 abbrev pub same_key : List ℕ → List ℕ → Bool
 same_key = pointwise nat_eq
@@ -60,37 +76,48 @@ with_name table name binding =
 abbrev pub first_table : Table
 first_table = (key_of (codes "name"), bindings.Property) ∷ []
 
-abbrev pub constant_or_zero : Option Binding → ℕ
-constant_or_zero None = 0
-constant_or_zero (Some (bindings.Constant n)) = n
-constant_or_zero (Some (bindings.Global g)) = 0
-constant_or_zero (Some (bindings.Routine r locals)) = 0
-constant_or_zero (Some bindings.Property) = 0
-constant_or_zero (Some (bindings.Local l)) = 0
+-- the number that a name stands for, where it is a constant
+abbrev pub constant_number : Option Binding → Option ℕ
+constant_number None = None
+constant_number (Some (bindings.Constant n)) = Some n
+constant_number (Some (bindings.Global g)) = None
+constant_number (Some (bindings.Array a kind)) = None
+constant_number (Some (bindings.Routine r locals)) = None
+constant_number (Some bindings.Property) = None
+constant_number (Some (bindings.Local l)) = None
 
--- the value of a constant: the name in it stands earlier
-abbrev pub value_so_far : Table → LiteralTree → ℕ
-value_so_far table (number_value n) = n
-value_so_far table (named_value n) = constant_or_zero (in_table table (key_of n.text))
+-- the number that a literal is, among these names
+abbrev pub literal_number : Table → LiteralTree → Option ℕ
+literal_number table (number_value n) = Some n
+literal_number table (named_value n) = constant_number (in_table table (key_of n.text))
+
+abbrev pub or_zero : Option ℕ → ℕ
+or_zero None = 0
+or_zero (Some n) = n
+
+abbrev pub literal_value : Table → LiteralTree → ℕ
+literal_value table v = or_zero (literal_number table v)
 
 -- what is defined before the first directive
 abbrev pub no_counts : Counts
-no_counts = record { globals = 0; routines = 0 }
+no_counts = record { globals = 0; arrays = 0; routines = 0 }
 
 -- fewer of each kind
 abbrev pub AreFewer : ℕ → Counts → Type 0
-AreFewer n counts = (counts.globals < n) × (counts.routines < n)
+AreFewer n counts = (counts.globals < n) × (counts.arrays < n) × (counts.routines < n)
 
 -- how many definitions there are after a directive
 abbrev pub counts_after : Counts → DirectiveTree → Counts
 counts_after counts (global n v) = record counts { globals = counts.globals + 1 }
 counts_after counts (constant n v) = counts
+counts_after counts (array a) = record counts { arrays = counts.arrays + 1 }
 counts_after counts (routine r) = record counts { routines = counts.routines + 1 }
 
--- the names of a file after a directive, where so much was defined before
+-- the names of a file after a directive, where so much was defined before; a name in a constant's value stands earlier
 abbrev pub with_directive : Table → Counts → DirectiveTree → Table
 with_directive table counts (global n v) = with_name table n (bindings.Global counts.globals)
-with_directive table counts (constant n v) = with_name table n (bindings.Constant (value_so_far table v))
+with_directive table counts (constant n v) = with_name table n (bindings.Constant (literal_value table v))
+with_directive table counts (array a) = with_name table a.name (bindings.Array counts.arrays a.kind)
 with_directive table counts (routine r) = with_name table r.name (bindings.Routine counts.routines (length r.locals))
 
 abbrev pub table_from : Table → Counts → List DirectiveTree → Table

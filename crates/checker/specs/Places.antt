@@ -3,7 +3,8 @@
 --     header; table of 96 abbreviations; empty text, which all of them name; 240 words of globals; arrays;
 --     63 words of property defaults; objects; property tables; dictionary, with which static memory begins; and the code
 --     that begins the story, with which high memory begins.
-use Rattle.std.specs.Prelude.{◌+◌, ◌*◌, ℕ}
+use Rattle.std.specs.Prelude.{◌+◌, ◌*◌, ℕ, length}
+use Rattle.std.specs.List.{concat}
 use Rattle.checker.specs.Resolved.{ProgramOf}
 use Rattle.checker.specs.declared.places.Places.{Places}
 
@@ -21,14 +22,13 @@ empty_text_size = 2
 abbrev pub global_count : ℕ
 global_count = 240
 
--- a program has no arrays
 abbrev pub arrays_size : ProgramOf → ℕ
-arrays_size p = 0
+arrays_size p = length (concat p.arrays)
 
 abbrev pub default_count : ℕ
 default_count = 63
 
--- nor objects
+-- a program has no objects
 abbrev pub object_count : ProgramOf → ℕ
 object_count p = 0
 

@@ -3,62 +3,23 @@ use Rattle.std.specs.Prelude.{◌≡◌, ℕ, nat_le, map, Bool, true, false, if
 use Rattle.std.specs.Prelude.{length, Option, Some, None, is_some}
 use Rattle.lexer.specs.declared.token.Position.{Position}
 use Rattle.expressions.specs.Tree.{NameTree}
-use Rattle.syntax.specs.Tree.{LiteralTree, number_value, named_value, RoutineTree, DirectiveTree, global, constant}
-use Rattle.syntax.specs.Tree.{routine, ProgramTree}
+use Rattle.syntax.specs.Tree.{LiteralTree, RoutineTree, DirectiveTree, global, constant, array, routine, ProgramTree}
 use Rattle.checker.specs.declared.binding.Binding.{Binding}
 use Rattle.checker.specs.declared.binding.Binding.TheVariants as bindings
 use Rattle.checker.specs.declared.breach.Breach.{Breach}
 use Rattle.checker.specs.Breaches.{at}
 use Rattle.checker.specs.declared.counts.Counts.{Counts}
 use Rattle.checker.specs.Names.{Table, key_of, same_key, in_table, first_table, no_counts, with_directive}
-use Rattle.checker.specs.Names.{counts_after, table_of, look_up, constant_or_zero}
+use Rattle.checker.specs.Names.{counts_after, table_of, look_up}
+use Rattle.checker.specs.Literals.{initial_breaches, named_breaches, initial_value}
+use Rattle.checker.specs.Arrays.{array_breaches, array_bytes}
 use Rattle.checker.specs.Statements.{outside, statements_breaches, resolve_statements}
 use Rattle.checker.specs.Resolved.{RoutineOf, ProgramOf, CheckedProgram, program_of, title_of}
-
--- Values of globals and constants
-
--- what a global begins with: a name in it is a constant of the file
-abbrev pub global_breaches : Position → Option Binding → List Breach
-global_breaches p None = at p 20
-global_breaches p (Some (bindings.Constant n)) = []
-global_breaches p (Some (bindings.Global g)) = at p 23
-global_breaches p (Some (bindings.Routine r locals)) = at p 23
-global_breaches p (Some bindings.Property) = at p 23
-global_breaches p (Some (bindings.Local l)) = at p 23
-
--- a name in a constant's value that is no constant there, by what it stands for in the file: a later constant is
--- unknown
-abbrev pub later_breaches : Position → Option Binding → List Breach
-later_breaches p None = at p 20
-later_breaches p (Some (bindings.Constant n)) = at p 20
-later_breaches p (Some (bindings.Global g)) = at p 23
-later_breaches p (Some (bindings.Routine r locals)) = at p 23
-later_breaches p (Some bindings.Property) = at p 23
-later_breaches p (Some (bindings.Local l)) = at p 23
-
--- a name in a constant's value: `before` is what it stands for there, `anywhere` what it stands for in the file
-abbrev pub constant_breaches : Position → Option Binding → Option Binding → List Breach
-constant_breaches p None anywhere = later_breaches p anywhere
-constant_breaches p (Some (bindings.Constant n)) anywhere = []
-constant_breaches p (Some (bindings.Global g)) anywhere = later_breaches p anywhere
-constant_breaches p (Some (bindings.Routine r locals)) anywhere = later_breaches p anywhere
-constant_breaches p (Some bindings.Property) anywhere = later_breaches p anywhere
-constant_breaches p (Some (bindings.Local l)) anywhere = later_breaches p anywhere
 
 -- Definitions: E22 at a name that is defined already, E24 at the 233rd global
 
 abbrev pub twice : Table → NameTree → List Breach
 twice table name = if is_some (in_table table (key_of name.text)) then at name.position 22 else []
-
-abbrev pub initial_breaches : Table → Option LiteralTree → List Breach
-initial_breaches whole None = []
-initial_breaches whole (Some (number_value n)) = []
-initial_breaches whole (Some (named_value n)) = global_breaches n.position (in_table whole (key_of n.text))
-
-abbrev pub named_breaches : Table → Table → LiteralTree → List Breach
-named_breaches whole table (number_value n) = []
-named_breaches whole table (named_value n) = constant_breaches n.position (in_table table (key_of n.text))
-    (in_table whole (key_of n.text))
 
 -- Locals: E22 at the second of two, E24 at the 16th
 
@@ -85,6 +46,7 @@ global_directive_breaches whole table counts n v =
 abbrev pub directive_breaches : Table → Table → Counts → DirectiveTree → List Breach
 directive_breaches whole table counts (global n v) = global_directive_breaches whole table counts n v
 directive_breaches whole table counts (constant n v) = twice table n ++ named_breaches whole table v
+directive_breaches whole table counts (array a) = twice table a.name ++ array_breaches whole a
 directive_breaches whole table counts (routine r) = twice table r.name ++ routine_breaches whole r
 
 abbrev pub directives_breaches : Table → Table → Counts → List DirectiveTree → List Breach
@@ -103,6 +65,7 @@ abbrev pub first_routine : List DirectiveTree → List ℕ → Option NameTree
 first_routine [] key = None
 first_routine (global n v ∷ ds) key = first_routine ds key
 first_routine (constant n v ∷ ds) key = first_routine ds key
+first_routine (array a ∷ ds) key = first_routine ds key
 first_routine (routine r ∷ ds) key = if same_key (key_of r.name.text) key then Some r.name else first_routine ds key
 
 abbrev pub position_or : Position → Option NameTree → Position
@@ -113,6 +76,7 @@ abbrev pub main_breaches : Position → Option NameTree → Option Binding → L
 main_breaches end name None = at end 21
 main_breaches end name (Some (bindings.Constant n)) = at end 21
 main_breaches end name (Some (bindings.Global g)) = at end 21
+main_breaches end name (Some (bindings.Array a kind)) = at end 21
 main_breaches end name (Some (bindings.Routine r locals)) = if nat_le 1 locals then at (position_or end name) 21
     else []
 main_breaches end name (Some bindings.Property) = at end 21
@@ -126,16 +90,19 @@ program_breaches p =
 
 -- Resolving
 
-abbrev pub initial_value : Table → Option LiteralTree → ℕ
-initial_value whole None = 0
-initial_value whole (Some (number_value n)) = n
-initial_value whole (Some (named_value n)) = constant_or_zero (in_table whole (key_of n.text))
-
 abbrev pub globals_of : Table → List DirectiveTree → List ℕ
 globals_of whole [] = []
 globals_of whole (global n v ∷ ds) = initial_value whole v ∷ globals_of whole ds
 globals_of whole (constant n v ∷ ds) = globals_of whole ds
+globals_of whole (array a ∷ ds) = globals_of whole ds
 globals_of whole (routine r ∷ ds) = globals_of whole ds
+
+abbrev pub arrays_of : Table → List DirectiveTree → List (List ℕ)
+arrays_of whole [] = []
+arrays_of whole (global n v ∷ ds) = arrays_of whole ds
+arrays_of whole (constant n v ∷ ds) = arrays_of whole ds
+arrays_of whole (array a ∷ ds) = array_bytes whole a ∷ arrays_of whole ds
+arrays_of whole (routine r ∷ ds) = arrays_of whole ds
 
 -- where `look` tells what a name stands for
 abbrev pub resolve_body : (List ℕ → Option Binding) → RoutineTree → RoutineOf
@@ -148,12 +115,14 @@ abbrev pub routines_of : Table → List DirectiveTree → List RoutineOf
 routines_of whole [] = []
 routines_of whole (global n v ∷ ds) = routines_of whole ds
 routines_of whole (constant n v ∷ ds) = routines_of whole ds
+routines_of whole (array a ∷ ds) = routines_of whole ds
 routines_of whole (routine r ∷ ds) = resolve_routine whole r ∷ routines_of whole ds
 
 abbrev pub routine_number : Option Binding → ℕ
 routine_number None = 0
 routine_number (Some (bindings.Constant n)) = 0
 routine_number (Some (bindings.Global g)) = 0
+routine_number (Some (bindings.Array a kind)) = 0
 routine_number (Some (bindings.Routine r locals)) = r
 routine_number (Some bindings.Property) = 0
 routine_number (Some (bindings.Local l)) = 0
@@ -161,6 +130,7 @@ routine_number (Some (bindings.Local l)) = 0
 unfoldable pub resolve_program : ProgramTree → ProgramOf
 resolve_program p = record {
   globals = globals_of (table_of p.directives) p.directives;
+  arrays = arrays_of (table_of p.directives) p.directives;
   routines = routines_of (table_of p.directives) p.directives;
   main = routine_number (in_table (table_of p.directives) main_key);
 }
@@ -172,6 +142,7 @@ abbrev pub routine_trees : List DirectiveTree → List RoutineTree
 routine_trees [] = []
 routine_trees (global n v ∷ ds) = routine_trees ds
 routine_trees (constant n v ∷ ds) = routine_trees ds
+routine_trees (array a ∷ ds) = routine_trees ds
 routine_trees (routine r ∷ ds) = r ∷ routine_trees ds
 
 -- a routine's name and weight

@@ -1,9 +1,11 @@
 -- How many temporaries an expression needs. A constant or variable needs 1; a form with operands e1, e2, .. in order
 -- of evaluation needs the greatest of (i - 1) + need(ei), and at least 1. What `++` or `--` steps is an operand. So
 -- is the left side of an assignment where, parentheses apart, it is no name; a name that is assigned is no operand.
+-- An entry of an array needs what its index needs, also as the left side of an assignment.
 use Rattle.std.specs.Prelude.{◌+◌, ℕ, max, List, [], ◌∷◌, ◌++◌, Option, Some, None}
-use Rattle.expressions.specs.Tree.{NameTree, ExpressionTree, ExpressionTrees, constant, named, call, parenthesised}
-use Rattle.expressions.specs.Tree.{prefixed, step_before, step_after, binary, compare, equal, assign, none, more}
+use Rattle.expressions.specs.Tree.{NameTree, ExpressionTree, ExpressionTrees, constant, named, call, index}
+use Rattle.expressions.specs.Tree.{parenthesised, prefixed, step_before, step_after, binary, compare, equal, assign}
+use Rattle.expressions.specs.Tree.{none, more}
 use Rattle.checker.specs.Names.{name_of}
 
 -- of operands with these needs, so many operands before them
@@ -21,6 +23,7 @@ abbrev mutual
   need (constant n) = 1
   need (named n) = 1
   need (call n es) = operands 0 (needs es)
+  need (index n width e) = operands 0 (need e ∷ [])
   need (parenthesised e) = need e
   need (prefixed op e) = operands 0 (need e ∷ [])
   need (step_before op p e) = operands 0 (need e ∷ [])

@@ -1,29 +1,36 @@
 -- Words of proofs: what a walk over a part of a tree finds, and what it notes.
-use Rattle.std.specs.Prelude.{◌≡◌, ℕ, List, ◌++◌, Option, map}
-use Rattle.std.specs.List.{flat_map}
+use Rattle.std.specs.Prelude.{◌≡◌, ℕ, List, [], ◌∷◌, ◌++◌, length, Option, map}
+use Rattle.std.specs.List.{flat_map, concat}
 use Rattle.lexer.specs.declared.token.Position.{Position}
 use Rattle.expressions.specs.declared.tree.Binary.{Binary}
 use Rattle.expressions.specs.declared.tree.Expression.{Expression}
+use Rattle.expressions.specs.declared.tree.Width.{Width}
+use Rattle.expressions.specs.declared.tree.Width.TheVariants as widths
 use Rattle.expressions.specs.Tree.{NameTree, ExpressionTree, expression_tree}
 use Rattle.statements.specs.declared.tree.PrintItem.{PrintItem}
 use Rattle.statements.specs.declared.tree.Statement.{Statement}
 use Rattle.statements.specs.Tree.{PrintItemTree, StatementTree, item_tree, statement_tree}
-use Rattle.syntax.specs.Tree.{RoutineTree, DirectiveTree}
+use Rattle.syntax.specs.declared.tree.ArrayKind.{ArrayKind}
+use Rattle.syntax.specs.declared.tree.ArrayKind.TheVariants as kinds
+use Rattle.syntax.specs.declared.tree.ArrayValue.{ArrayValue}
+use Rattle.syntax.specs.Tree.{RoutineTree, DirectiveTree, value_tree}
 use Rattle.checker.specs.declared.around.Around.{Around}
+use Rattle.checker.specs.declared.arrays.Arrays.{Arrays}
 use Rattle.checker.specs.declared.binding.Binding.{Binding}
 use Rattle.checker.specs.declared.breach.Breach.{Breach}
 use Rattle.checker.specs.declared.resolved.Variable.{Variable}
 use Rattle.checker.specs.declared.resolved.Value as code_value
 use Rattle.checker.specs.declared.checked.CheckedRoutine.{CheckedRoutine}
 use Rattle.checker.specs.declared.directive_rules.Found.{Found}
-use Rattle.checker.specs.Names.{Table, name_of}
+use Rattle.checker.specs.Names.{Table, name_of, is_entry}
+use Rattle.checker.specs.Arrays.{entry_bytes, entry_value, entry_breaches}
 use Rattle.checker.specs.Noted.{noted}
 use Rattle.checker.specs.Resolved.{Value, Printed, Action, RoutineOf, value_of, routine_of, title_of}
-use Rattle.checker.specs.Expressions.{breaches, left_breaches, target, resolve}
+use Rattle.checker.specs.Expressions.{breaches, left_breaches, assigned_breaches, target, resolve}
 use Rattle.checker.specs.Statements.{whole_breaches, item_breaches, resolve_item, statement_breaches}
 use Rattle.checker.specs.Statements.{outside, statements_breaches, resolve_statement}
 use Rattle.checker.specs.Programs.{routine_breaches, resolve_body, resolve_routine, routine_trees, title, globals_of}
-use Rattle.checker.specs.Programs.{routines_of}
+use Rattle.checker.specs.Programs.{arrays_of, routines_of}
 
 -- what is found is what is meant, and the broken rules are noted over what was noted before
 pub record IsWalked {A : Type 0} (broken : List Breach) (before after : Option Breach) (found meant : A) : Type 0
@@ -73,10 +80,16 @@ module _ (look : List ℕ → Option Binding) where
   abbrev pub AreLinks : List (Binary × Expression) → Option Breach → Option Breach → List (Binary × Value) → Type 0
   AreLinks ls before after vs = IsWalked (flat_map link_breaches ls) before after vs (map resolved_link ls)
 
-  -- what is assigned to or stepped by an operator there
+  -- what is stepped by an operator there
   abbrev pub IsTarget : Position → ExpressionTree → Option Breach → Option Breach → Variable → Type 0
   IsTarget operator e before after x =
       IsWalked (left_breaches look operator (name_of e) (breaches look e)) before after x (target look (name_of e))
+
+  -- the left side of an assignment there
+  abbrev pub IsAssigned : Position → ExpressionTree → Option Breach → Option Breach → Value → Type 0
+  IsAssigned operator e before after v =
+      IsWalked (assigned_breaches look operator (name_of e) (is_entry e) (breaches look e)) before after v
+      (resolve look e)
 
   -- a whole expression of what begins there
   abbrev pub IsWhole : Position → ExpressionTree → Option Breach → Option Breach → Value → Type 0
@@ -110,21 +123,60 @@ IsRoutineOf whole r before after c =
     IsWalked {A = RoutineOf × (NameTree × ℕ)} (routine_breaches whole r) before after (routine_of c, title_of c)
     (resolve_routine whole r, title r)
 
+-- Arrays
+
+-- bytes that arrays of these sizes have, one behind another
+abbrev pub AreArrays : List ℕ → List ℕ → Type 0
+AreArrays sizes bytes = (arrays : List (List ℕ)) × (sizes ≡ map length arrays) × (bytes ≡ concat arrays)
+
+-- the most entries that an array may have
+abbrev pub most : ArrayKind → ℕ
+most kinds.Bytes = 32000
+most kinds.Words = 16000
+most kinds.String = 255
+most kinds.Table = 15999
+
+-- the number of the entries, where the kind has it in front
+abbrev pub number_bytes : ArrayKind → ℕ → List ℕ
+number_bytes kinds.Bytes n = []
+number_bytes kinds.Words n = []
+number_bytes kinds.String n = entry_bytes widths.Byte n
+number_bytes kinds.Table n = entry_bytes widths.Word n
+
+abbrev pub own_entry_bytes : Table → Width → ArrayValue → List ℕ
+own_entry_bytes whole width v = entry_bytes width (entry_value whole (value_tree v))
+
+abbrev pub own_entry_breaches : Table → Width → ArrayValue → List Breach
+own_entry_breaches whole width v = entry_breaches whole width (value_tree v)
+
+-- these bytes are added as one array
+pub record IsArrayAdded (bytes : List ℕ) (old new : Arrays) : Type 0 where
+  pub bytes_added : new.bytes.items ≡ old.bytes.items ++ bytes
+  pub size_added : new.sizes.items ≡ old.sizes.items ++ length bytes ∷ []
+
 -- what these directives resolve to
 pub record IsFound (whole : Table) (ds : List DirectiveTree) (found : Found) : Type 0 where
   pub globals : found.globals.items ≡ globals_of whole ds
+  pub bytes : found.arrays.bytes.items ≡ concat (arrays_of whole ds)
+  pub sizes : found.arrays.sizes.items ≡ map length (arrays_of whole ds)
   pub routines : map routine_of found.routines.items ≡ routines_of whole ds
   pub titles : map title_of found.routines.items ≡ map title (routine_trees ds)
 
 -- it is added to what was found before
 pub record IsAdded (whole : Table) (ds : List DirectiveTree) (old new : Found) : Type 0 where
   pub globals : new.globals.items ≡ old.globals.items ++ globals_of whole ds
+  pub bytes : new.arrays.bytes.items ≡ old.arrays.bytes.items ++ concat (arrays_of whole ds)
+  pub sizes : new.arrays.sizes.items ≡ old.arrays.sizes.items ++ map length (arrays_of whole ds)
   pub routines : map routine_of new.routines.items ≡ map routine_of old.routines.items ++ routines_of whole ds
   pub titles : map title_of new.routines.items ≡ map title_of old.routines.items ++ map title (routine_trees ds)
 
 -- with what the rest adds, what was found becomes what all add to what was found first
 pub record IsAdding (whole : Table) (rest all : List DirectiveTree) (first found : Found) : Type 0 where
   pub globals : found.globals.items ++ globals_of whole rest ≡ first.globals.items ++ globals_of whole all
+  pub bytes : found.arrays.bytes.items ++ concat (arrays_of whole rest) ≡ first.arrays.bytes.items
+      ++ concat (arrays_of whole all)
+  pub sizes : found.arrays.sizes.items ++ map length (arrays_of whole rest) ≡ first.arrays.sizes.items
+      ++ map length (arrays_of whole all)
   pub routines : map routine_of found.routines.items ++ routines_of whole rest ≡ map routine_of first.routines.items
       ++ routines_of whole all
   pub titles : map title_of found.routines.items ++ map title (routine_trees rest)

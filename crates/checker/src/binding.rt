@@ -1,5 +1,7 @@
 //! What names stand for.
 
+use syntax::ArrayKind;
+
 /// What a name stands for in a routine.
 #[derive(Clone, Copy)]
 pub enum Binding {
@@ -8,6 +10,9 @@ pub enum Binding {
 
     /// A global variable, numbered from 0 in order of definition.
     Global(usize),
+
+    /// An array, numbered from 0 in order of definition, and its kind.
+    Array(usize, ArrayKind),
 
     /// A routine, numbered from 0 in order of definition, and how many locals it has.
     Routine(usize, usize),

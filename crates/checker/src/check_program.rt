@@ -32,6 +32,7 @@ fn resolve_with<'a>(
     let main = main_number(&program.directives, program.end, whole, least);
     Ok(Checked::new(
         found.globals,
+        found.arrays,
         found.routines,
         main,
         program.weight,
@@ -57,7 +58,8 @@ fn resolve<'a>(
 ///
 /// The fault is that at the smallest place, and of several there the one with the smallest number: E20 an unknown name,
 /// E21 no proper `Main`, E22 a name that is defined twice, E23 a name of the wrong kind, E24 too many globals, locals or
-/// arguments, E25 more arguments than the routine has locals, E26 an assignment to what is no variable, E29 an expression
+/// arguments, E25 more arguments than the routine has locals, E26 an assignment to what is
+/// neither a variable nor an entry of an array, E28 an entry or a size that an array may not have, E29 an expression
 /// that needs too many temporaries. E99, with line 0: memory was refused.
 pub fn check<'a>(alloc: Global, program: Program<'a>) -> Result<Checked<'a>, SourceFault>
     ensures { Answers result (program_breaches (program_tree program.entry)) (λ c. IsCheckedOf (program_tree program.entry) c) }

@@ -1,13 +1,16 @@
 //! Programs that break no rule.
 
-ghost use Rattle.std.specs.Prelude.{◌≡◌, ◌<◌, length, slice_get, Some};
+ghost use Rattle.std.specs.Prelude.{◌≡◌, ◌<◌, length, map, slice_get, Some};
+ghost use Rattle.std.specs.List.{concat};
 ghost use Rattle.std.specs.Option.{option_map};
 ghost use Rattle.std.specs.Coded.{codes};
 ghost use denote.Signature.{static_lft};
 ghost use Rattle.checker.specs.contracts.resolved.Action as statement;
-ghost use Rattle.checker.specs.Resolved.{CheckedProgram, routine_of, program_of};
+ghost use Rattle.checker.specs.Resolved.{CheckedProgram, routine_of, program_of, cut};
+ghost use Rattle.checker.specs.Walk.{AreArrays};
 ghost use Rattle.checker.specs.Meaning.{routine_at};
 
+use crate::arrays::Arrays;
 use crate::resolved::Action;
 use expressions::Name;
 use std::marker::Model;
@@ -27,6 +30,7 @@ pub struct CheckedRoutine<'a> {
 #[derive(Drop)]
 pub struct Checked<'a> {
     globals: Vec<u16>,
+    arrays: Arrays,
     routines: Vec<CheckedRoutine<'a>>,
     main: usize,
     weight: u128,
@@ -38,23 +42,28 @@ impl<'a> Model for Checked<'a> {
 
     ghost coded = { Prim.hlevel (codes, (statement.the_row static_lft).coded) };
 
-    ghost view = { λ c. record { globals = c.globals.items; routines = c.routines.items; main = c.main; weight = c.weight; end_line = c.end_line } };
+    ghost view = { λ c. record { globals = c.globals.items; arrays = cut c.arrays.sizes.items c.arrays.bytes.items; routines = c.routines.items; main = c.main; weight = c.weight; end_line = c.end_line } };
+
+    ghost invariant = { λ c. AreArrays c.arrays.sizes.items c.arrays.bytes.items };
 }
 
 impl<'a> Checked<'a> {
-    /// A program with these globals and routines in order of definition, the number of `Main`, the weight of its source,
+    /// A program with these globals, arrays and routines in order of definition, the number of `Main`, the weight of its source,
     /// and the line where the source ends.
     pub(crate) fn new(
         globals: Vec<u16>,
+        arrays: Arrays,
         routines: Vec<CheckedRoutine<'a>>,
         main: usize,
         weight: u128,
         end_line: usize,
     ) -> Self
-        ensures { result ≡ record { globals = globals.items; routines = routines.entry.items; main = main; weight = weight; end_line = end_line } }
+        requires arrays { AreArrays arrays.sizes.items arrays.bytes.items }
+        ensures { result ≡ record { globals = globals.items; arrays = cut arrays.sizes.items arrays.bytes.items; routines = routines.entry.items; main = main; weight = weight; end_line = end_line } }
     {
         Checked {
             globals,
+            arrays,
             routines,
             main,
             weight,
@@ -67,6 +76,20 @@ impl<'a> Checked<'a> {
         ensures { result.now ≡ self.now.globals }
     {
         &self.globals
+    }
+
+    /// The bytes that the arrays begin with, one array behind another in order of definition.
+    pub fn array_bytes(&self) -> &[u8]
+        ensures { result.now ≡ concat self.now.arrays }
+    {
+        &self.arrays.bytes
+    }
+
+    /// How many bytes each array has.
+    pub fn array_sizes(&self) -> &[usize]
+        ensures { result.now ≡ map length self.now.arrays }
+    {
+        &self.arrays.sizes
     }
 
     /// How many routines there are.

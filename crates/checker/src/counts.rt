@@ -4,6 +4,7 @@
 #[derive(Clone, Copy)]
 pub struct Counts {
     pub globals: usize,
+    pub arrays: usize,
     pub routines: usize,
 }
 
@@ -17,6 +18,7 @@ impl Counts {
     {
         Counts {
             globals: 0,
+            arrays: 0,
             routines: 0,
         }
     }

@@ -2,107 +2,31 @@
 
 ghost use Rattle.std.specs.Prelude.{◌≡◌, ◌∷◌, [], ℕ, List, IfOk, OnOk, map, nat_le, if◌then◌else◌};
 ghost use Rattle.expressions.specs.Tree.{name_tree};
-ghost use Rattle.syntax.specs.Tree.{literal_tree, optional_tree, routine_tree, directive_tree};
+ghost use Rattle.syntax.specs.Tree.{optional_tree, routine_tree, directive_tree};
 ghost use Rattle.checker.specs.Names.{in_table, local_from, first_table, no_counts};
 ghost use Rattle.checker.specs.Breaches.{at};
-ghost use Rattle.checker.specs.Names as names;
+ghost use Rattle.checker.specs.Literals.{initial_value};
 ghost use Rattle.checker.specs.Noted.{noted};
 ghost use Rattle.checker.specs.Scope.{look_in, local_binding};
 ghost use Rattle.checker.specs.Walk.{IsRoutineIn, IsRoutineOf, IsAdded, IsFound};
 ghost use Rattle.checker.specs.Programs as spec;
 
 use crate::around::OUTSIDE;
+use crate::array_rules::array;
+use crate::arrays::Arrays;
 use crate::binding::Binding;
 use crate::breach::Breach;
 use crate::checked::CheckedRoutine;
+use crate::literal_rules::{constant_value, initial};
 use crate::names::Names;
 use crate::note::note;
 use crate::statement_rules::all_statements;
 use crate::table::{Scope, Table, define, find};
 use expressions::Name;
 use indexmap::IndexMap;
-use lexer::{DEFINED_TWICE, Position, TOO_MANY, UNKNOWN_NAME, WRONG_KIND};
+use lexer::{DEFINED_TWICE, Position, TOO_MANY};
 use std::alloc::{AllocError, Global};
 use syntax::{Directive, Literal, Routine};
-
-// The name of what a global begins with, and what it stands for.
-#[tactic(auto, using(crate::proofs::Noted::noted_none))]
-fn global_name(position: Position, found: Option<Binding>, least: &mut Option<Breach>) -> u16
-    ensures value { result ≡ names.constant_or_zero found }
-    ensures breaches { least.new ≡ noted least.old (spec.global_breaches position found) }
-{
-    match found {
-        None => note(least, UNKNOWN_NAME, position),
-        Some(Binding::Constant(number)) => return number,
-        Some(Binding::Global(_)) => note(least, WRONG_KIND, position),
-        Some(Binding::Routine(_, _)) => note(least, WRONG_KIND, position),
-        Some(Binding::Property) => note(least, WRONG_KIND, position),
-        Some(Binding::Local(_)) => note(least, WRONG_KIND, position),
-    }
-    0
-}
-
-// What a global begins with.
-#[tactic(auto, using(crate::proofs::Noted::noted_none))]
-fn initial(value: &Option<Literal<'_>>, whole: &Table, least: &mut Option<Breach>) -> u16
-    ensures value { result ≡ spec.initial_value whole.now.entries (optional_tree value.now) }
-    ensures breaches { least.new ≡ noted least.old (spec.initial_breaches whole.now.entries (optional_tree value.now)) }
-{
-    match value {
-        None => 0,
-        Some(Literal::Number(number)) => *number,
-        Some(Literal::Named(name)) => global_name(name.position, find(whole, name.text), least),
-    }
-}
-
-// A name in a constant's value that is no constant there: what it stands for in the file.
-#[tactic(auto, using(crate::proofs::Noted::noted_none))]
-fn later_name(position: Position, anywhere: Option<Binding>, least: &mut Option<Breach>)
-    ensures { least.new ≡ noted least.old (spec.later_breaches position anywhere) }
-{
-    match anywhere {
-        None => note(least, UNKNOWN_NAME, position),
-        Some(Binding::Constant(_)) => note(least, UNKNOWN_NAME, position),
-        Some(Binding::Global(_)) => note(least, WRONG_KIND, position),
-        Some(Binding::Routine(_, _)) => note(least, WRONG_KIND, position),
-        Some(Binding::Property) => note(least, WRONG_KIND, position),
-        Some(Binding::Local(_)) => note(least, WRONG_KIND, position),
-    }
-}
-
-// A name in a constant's value: what it stands for there, and in the file.
-#[tactic(auto, using(crate::proofs::Noted::noted_none))]
-fn constant_name(
-    position: Position,
-    before: Option<Binding>,
-    anywhere: Option<Binding>,
-    least: &mut Option<Breach>,
-)
-    ensures { least.new ≡ noted least.old (spec.constant_breaches position before anywhere) }
-{
-    match before {
-        None => later_name(position, anywhere, least),
-        Some(Binding::Constant(_)) => {}
-        Some(Binding::Global(_)) => later_name(position, anywhere, least),
-        Some(Binding::Routine(_, _)) => later_name(position, anywhere, least),
-        Some(Binding::Property) => later_name(position, anywhere, least),
-        Some(Binding::Local(_)) => later_name(position, anywhere, least),
-    }
-}
-
-#[tactic(auto, using(crate::proofs::Noted::noted_none))]
-fn constant_value(value: &Literal<'_>, whole: &Table, table: &Table, least: &mut Option<Breach>)
-    ensures { least.new ≡ noted least.old (spec.named_breaches whole.now.entries table.now.entries (literal_tree value.now)) }
-{
-    if let Literal::Named(name) = value {
-        constant_name(
-            name.position,
-            find(table, name.text),
-            find(whole, name.text),
-            least,
-        );
-    }
-}
 
 // A name that is defined where these names are defined.
 #[tactic(auto, using(crate::proofs::Noted::noted_none))]
@@ -182,6 +106,9 @@ pub struct Found<'a> {
     /// What the global variables begin with, in order of definition.
     pub globals: Vec<u16>,
 
+    /// What the arrays begin with.
+    pub arrays: Arrays,
+
     /// The routines in order of definition.
     pub routines: Vec<CheckedRoutine<'a>>,
 }
@@ -202,7 +129,7 @@ fn global(
     value: &Option<Literal<'_>>,
     least: &mut Option<Breach>,
 ) -> u16
-    ensures value { result ≡ spec.initial_value whole.now.entries (optional_tree value.now) }
+    ensures value { result ≡ initial_value whole.now.entries (optional_tree value.now) }
     ensures breaches { least.new ≡ noted least.old (spec.global_directive_breaches whole.now.entries names.now.table.entries names.now.counts (name_tree name.entry) (optional_tree value.now)) }
 {
     twice(&names.table, name, least);
@@ -232,6 +159,11 @@ fn directive<'a>(
         Directive::Constant(name, value) => {
             twice(&names.table, *name, least);
             constant_value(value, whole, &names.table, least);
+            Ok(())
+        }
+        Directive::Array(written) => {
+            twice(&names.table, written.name, least);
+            array(written, whole, &mut found.arrays, least)?;
             Ok(())
         }
         Directive::Routine(written) => {
@@ -280,6 +212,7 @@ pub fn all_directives<'a>(
     let mut names = Names::new(alloc)?;
     let mut found = Found {
         globals: Vec::new(alloc),
+        arrays: Arrays::none(alloc),
         routines: Vec::new(alloc),
     };
     add_all(alloc, whole, directives, &mut names, &mut found, least)?;

@@ -1,6 +1,6 @@
 //! Expressions: the rules that they can break, and what they resolve to.
 
-ghost use Rattle.std.specs.Prelude.{◌≡◌, ◌++◌, IfOk, map};
+ghost use Rattle.std.specs.Prelude.{◌≡◌, ◌++◌, [], if◌then◌else◌, IfOk, map};
 ghost use Rattle.std.specs.Option.{option_map};
 ghost use Rattle.expressions.specs.Tree as trees;
 ghost use Rattle.expressions.specs.Tree.{expression_tree, name_tree, trees_of, link};
@@ -8,34 +8,56 @@ ghost use Rattle.checker.specs.Breaches.{at};
 ghost use Rattle.checker.specs.Noted.{noted};
 ghost use Rattle.checker.specs.Scope.{look_in};
 ghost use Rattle.checker.specs.Resolved.{value_of};
-ghost use Rattle.checker.specs.Expressions.{value_breaches, argument_breaches, call_breaches, target_breaches, value_of_binding, variable_of_binding, routine_of_binding};
+ghost use Rattle.checker.specs.Expressions.{value_breaches, argument_breaches, call_breaches, array_name_breaches, target_breaches, value_of_binding, variable_of_binding, routine_of_binding, array_of_binding, assigned};
 ghost use Rattle.checker.specs.Names as names;
-ghost use Rattle.checker.specs.Walk.{IsResolved, AreResolved, AreLinks, IsTarget, value_link};
+ghost use Rattle.checker.specs.Walk.{IsResolved, AreResolved, AreLinks, IsTarget, IsAssigned, value_link};
 
 use crate::binding::Binding;
 use crate::breach::Breach;
 use crate::note::note;
 use crate::resolved::{Value, Variable};
 use crate::table::Scope;
-use expressions::{Binary, Comparison, Equality, Expression, Name, Prefix, Step};
+use expressions::{Binary, Comparison, Equality, Expression, Name, Prefix, Step, Width};
 use lexer::{NOT_ASSIGNABLE, Position, TOO_MANY, TOO_MANY_ARGUMENTS, UNKNOWN_NAME, WRONG_KIND};
 use std::alloc::{AllocError, Global};
 
-// A name as a value.
+// What a name is as a value; any number will do where it is none.
+fn named(found: Option<Binding>) -> Value
+    ensures { value_of result ≡ value_of_binding found }
+{
+    match found {
+        None => Value::Number(0),
+        Some(Binding::Constant(number)) => Value::Number(number),
+        Some(Binding::Global(number)) => Value::Read(Variable::Global(number)),
+        Some(Binding::Array(_, _)) => Value::Number(0),
+        Some(Binding::Routine(_, _)) => Value::Number(0),
+        Some(Binding::Property) => Value::Number(0),
+        Some(Binding::Local(number)) => Value::Read(Variable::Local(number)),
+    }
+}
+
 #[tactic(auto, using(crate::proofs::Noted::noted_none))]
+fn value_rules(position: Position, found: Option<Binding>, least: &mut Option<Breach>)
+    ensures { least.new ≡ noted least.old (value_breaches position found) }
+{
+    match found {
+        None => note(least, UNKNOWN_NAME, position),
+        Some(Binding::Constant(_)) => {}
+        Some(Binding::Global(_)) => {}
+        Some(Binding::Array(_, _)) => note(least, WRONG_KIND, position),
+        Some(Binding::Routine(_, _)) => note(least, WRONG_KIND, position),
+        Some(Binding::Property) => note(least, WRONG_KIND, position),
+        Some(Binding::Local(_)) => {}
+    }
+}
+
+// A name as a value.
 fn value(name: Name<'_>, found: Option<Binding>, least: &mut Option<Breach>) -> Value
     ensures value { value_of result ≡ value_of_binding found }
     ensures breaches { least.new ≡ noted least.old (value_breaches name.entry.position found) }
 {
-    match found {
-        None => note(least, UNKNOWN_NAME, name.position),
-        Some(Binding::Routine(_, _)) => note(least, WRONG_KIND, name.position),
-        Some(Binding::Property) => note(least, WRONG_KIND, name.position),
-        Some(Binding::Constant(number)) => return Value::Number(number),
-        Some(Binding::Global(number)) => return Value::Read(Variable::Global(number)),
-        Some(Binding::Local(number)) => return Value::Read(Variable::Local(number)),
-    }
-    Value::Number(0)
+    value_rules(name.position, found, least);
+    named(found)
 }
 
 #[tactic(auto, using(crate::proofs::Noted::noted_none, crate::proofs::Noted::noted_append))]
@@ -50,7 +72,7 @@ fn arguments(position: Position, given: usize, locals: usize, least: &mut Option
     }
 }
 
-// A name that is called and is no routine; any number will do for it.
+// A name of another kind than is called or indexed; any number will do for it.
 #[tactic(auto, using(crate::proofs::Noted::noted_none))]
 fn wrong_kind(position: Position, least: &mut Option<Breach>) -> usize
     ensures value { result ≡ 0 }
@@ -82,6 +104,27 @@ fn routine(
         }
         Some(Binding::Constant(_)) => wrong_kind(name.position, least),
         Some(Binding::Global(_)) => wrong_kind(name.position, least),
+        Some(Binding::Array(_, _)) => wrong_kind(name.position, least),
+        Some(Binding::Property) => wrong_kind(name.position, least),
+        Some(Binding::Local(_)) => wrong_kind(name.position, least),
+    }
+}
+
+// A name before `->` or `-->`.
+#[tactic(auto, using(crate::proofs::Noted::noted_none))]
+fn array(name: Name<'_>, found: Option<Binding>, least: &mut Option<Breach>) -> usize
+    ensures value { result ≡ array_of_binding found }
+    ensures breaches { least.new ≡ noted least.old (array_name_breaches name.entry.position found) }
+{
+    match found {
+        None => {
+            note(least, UNKNOWN_NAME, name.position);
+            0
+        }
+        Some(Binding::Array(number, _)) => number,
+        Some(Binding::Constant(_)) => wrong_kind(name.position, least),
+        Some(Binding::Global(_)) => wrong_kind(name.position, least),
+        Some(Binding::Routine(_, _)) => wrong_kind(name.position, least),
         Some(Binding::Property) => wrong_kind(name.position, least),
         Some(Binding::Local(_)) => wrong_kind(name.position, least),
     }
@@ -109,6 +152,7 @@ fn target_of(
     match found {
         None => note(least, UNKNOWN_NAME, name.position),
         Some(Binding::Constant(_)) => note(least, NOT_ASSIGNABLE, operator),
+        Some(Binding::Array(_, _)) => no_target(name.position, operator, least),
         Some(Binding::Routine(_, _)) => no_target(name.position, operator, least),
         Some(Binding::Property) => no_target(name.position, operator, least),
         Some(Binding::Global(number)) => return Variable::Global(number),
@@ -126,6 +170,7 @@ pub fn name_of<'a>(e: &Expression<'a>) -> Option<Name<'a>>
         Expression::Parenthesised(inside) => name_of(inside),
         Expression::Constant(_) => None,
         Expression::Call(_, _) => None,
+        Expression::Index(_, _, _) => None,
         Expression::Prefixed(_, _) => None,
         Expression::StepBefore(_, _, _) => None,
         Expression::StepAfter(_, _, _) => None,
@@ -133,6 +178,56 @@ pub fn name_of<'a>(e: &Expression<'a>) -> Option<Name<'a>>
         Expression::Compare(_, _, _) => None,
         Expression::Equal(_, _, _, _) => None,
         Expression::Assign(_, _, _) => None,
+    }
+}
+
+// Whether an expression is an entry of an array, parentheses apart.
+fn is_entry(e: &Expression<'_>) -> bool
+    ensures { result ≡ names.is_entry (expression_tree e.now) }
+{
+    match e {
+        Expression::Index(_, _, _) => true,
+        Expression::Parenthesised(inside) => is_entry(inside),
+        Expression::Named(_) => false,
+        Expression::Constant(_) => false,
+        Expression::Call(_, _) => false,
+        Expression::Prefixed(_, _) => false,
+        Expression::StepBefore(_, _, _) => false,
+        Expression::StepAfter(_, _, _) => false,
+        Expression::Chain(_, _, _, _) => false,
+        Expression::Compare(_, _, _) => false,
+        Expression::Equal(_, _, _, _) => false,
+        Expression::Assign(_, _, _) => false,
+    }
+}
+
+// What is assigned to and is no name, by whether it is an entry.
+#[tactic(auto, using(crate::proofs::Noted::noted_none))]
+fn not_entry(entry: bool, operator: Position, least: &mut Option<Breach>)
+    ensures { least.new ≡ noted least.old (if entry then [] else at operator 26) }
+{
+    if !entry {
+        note(least, NOT_ASSIGNABLE, operator);
+    }
+}
+
+// An assignment to what the left side was resolved to; where that is no place, any will do.
+fn assignment(left: Value, right: Box<Value>) -> Value
+    ensures { value_of result ≡ assigned (value_of left) (value_of right.value) }
+{
+    match left {
+        Value::Read(variable) => Value::Assign(variable, right),
+        Value::Entry(width, array, index) => Value::AssignEntry(width, array, index, right),
+        Value::Number(_) => Value::Assign(Variable::Local(0), right),
+        Value::Call(_, _) => Value::Assign(Variable::Local(0), right),
+        Value::Prefixed(_, _) => Value::Assign(Variable::Local(0), right),
+        Value::StepBefore(_, _) => Value::Assign(Variable::Local(0), right),
+        Value::StepAfter(_, _) => Value::Assign(Variable::Local(0), right),
+        Value::Chain(_, _, _, _) => Value::Assign(Variable::Local(0), right),
+        Value::Compare(_, _, _) => Value::Assign(Variable::Local(0), right),
+        Value::Equal(_, _, _, _) => Value::Assign(Variable::Local(0), right),
+        Value::Assign(_, _) => Value::Assign(Variable::Local(0), right),
+        Value::AssignEntry(_, _, _, _) => Value::Assign(Variable::Local(0), right),
     }
 }
 
@@ -154,6 +249,9 @@ pub fn expression(
         Expression::Constant(number) => Ok(Value::Number(*number)),
         Expression::Named(name) => Ok(value(*name, scope.look(name.text), least)),
         Expression::Call(name, given) => call(alloc, scope, given, *name, least),
+        Expression::Index(name, width, operand) => {
+            index(alloc, scope, operand, *name, *width, least)
+        }
         Expression::Parenthesised(inside) => expression(alloc, scope, inside, least),
         Expression::Prefixed(prefix, operand) => prefixed(alloc, scope, operand, *prefix, least),
         Expression::StepBefore(step, position, operand) => {
@@ -232,7 +330,7 @@ fn chain_links(
     Ok(found)
 }
 
-// What is assigned to or stepped, by an operator at this position.
+// What is stepped, by an operator at this position.
 #[cycle(expression)]
 fn variable(
     alloc: Global,
@@ -268,6 +366,24 @@ fn call(
         return Err(AllocError);
     };
     Ok(Value::Call(number, given))
+}
+
+#[cycle(expression)]
+fn index(
+    alloc: Global,
+    scope: &Scope<'_>,
+    operand: &Expression<'_>,
+    name: Name<'_>,
+    width: Width,
+    least: &mut Option<Breach>,
+) -> Result<Value, AllocError>
+    ensures { IfOk result (λ v. IsResolved (look_in scope.now) (trees.index (name_tree name.entry) width (expression_tree operand.now)) least.old least.new (value_of v)) }
+{
+    let number = array(name, scope.look(name.text), least);
+    let Ok(operand) = boxed(alloc, scope, operand, least) else {
+        return Err(AllocError);
+    };
+    Ok(Value::Entry(width, number, operand))
 }
 
 #[cycle(expression)]
@@ -388,6 +504,31 @@ fn equal(
     Ok(Value::Equal(left, equality, right, others))
 }
 
+// The left side of an assignment, whose operator stands at this position.
+#[cycle(expression)]
+fn left_side(
+    alloc: Global,
+    scope: &Scope<'_>,
+    e: &Expression<'_>,
+    operator: Position,
+    least: &mut Option<Breach>,
+) -> Result<Value, AllocError>
+    ensures { IfOk result (λ v. IsAssigned (look_in scope.now) operator (expression_tree e.now) least.old least.new (value_of v)) }
+{
+    match name_of(e) {
+        Some(name) => {
+            let found = scope.look(name.text);
+            target_of(name, operator, found, least);
+            Ok(named(found))
+        }
+        None => {
+            let left = expression(alloc, scope, e, least)?;
+            not_entry(is_entry(e), operator, least);
+            Ok(left)
+        }
+    }
+}
+
 #[cycle(expression)]
 fn assign(
     alloc: Global,
@@ -399,11 +540,12 @@ fn assign(
 ) -> Result<Value, AllocError>
     ensures { IfOk result (λ v. IsResolved (look_in scope.now) (trees.assign (expression_tree left.now) position (expression_tree right.now)) least.old least.new (value_of v)) }
 {
-    let Ok(variable) = variable(alloc, scope, left, position, least) else {
+    let Ok(left) = left_side(alloc, scope, left, position, least) else {
         return Err(AllocError);
     };
     let Ok(right) = boxed(alloc, scope, right, least) else {
+        drop(left);
         return Err(AllocError);
     };
-    Ok(Value::Assign(variable, right))
+    Ok(assignment(left, right))
 }

@@ -2,8 +2,11 @@
 #![tactic(auto)]
 
 mod around;
+mod array_rules;
+mod arrays;
 mod binding;
 mod breach;
+mod cause;
 mod check_program;
 mod checked;
 mod counts;
@@ -11,6 +14,7 @@ mod directive_rules;
 mod expression_rules;
 mod key;
 mod laws;
+mod literal_rules;
 mod main_rules;
 mod names;
 mod note;
@@ -21,6 +25,8 @@ mod statement_rules;
 mod table;
 mod temporaries;
 
+pub use arrays::Arrays;
+pub use cause::Cause;
 pub use check_program::check;
 pub use checked::{Checked, CheckedRoutine};
 pub use laws::{accepted_programs, printable_programs};

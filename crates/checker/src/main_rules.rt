@@ -62,6 +62,7 @@ pub fn main_number(
         None => note(least, NO_PROPER_MAIN, end),
         Some(Binding::Constant(_)) => note(least, NO_PROPER_MAIN, end),
         Some(Binding::Global(_)) => note(least, NO_PROPER_MAIN, end),
+        Some(Binding::Array(_, _)) => note(least, NO_PROPER_MAIN, end),
         Some(Binding::Property) => note(least, NO_PROPER_MAIN, end),
         Some(Binding::Local(_)) => note(least, NO_PROPER_MAIN, end),
     }

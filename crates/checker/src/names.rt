@@ -21,26 +21,37 @@ pub struct Names {
     pub counts: Counts,
 }
 
-fn constant_or_zero(found: Option<Binding>) -> u16
-    ensures { result ≡ spec.constant_or_zero found }
+fn constant_number(found: Option<Binding>) -> Option<u16>
+    ensures { result ≡ spec.constant_number found }
 {
     match found {
-        None => 0,
-        Some(Binding::Constant(number)) => number,
-        Some(Binding::Global(_)) => 0,
-        Some(Binding::Routine(_, _)) => 0,
-        Some(Binding::Property) => 0,
-        Some(Binding::Local(_)) => 0,
+        None => None,
+        Some(Binding::Constant(number)) => Some(number),
+        Some(Binding::Global(_)) => None,
+        Some(Binding::Array(_, _)) => None,
+        Some(Binding::Routine(_, _)) => None,
+        Some(Binding::Property) => None,
+        Some(Binding::Local(_)) => None,
     }
 }
 
-// The value of a constant: a name in it is looked up among the names before it.
-fn value_so_far(table: &Table, value: &Literal<'_>) -> u16
-    ensures { result ≡ spec.value_so_far table.now.entries (literal_tree value.now) }
+/// The number that a literal is, where a name in it is a constant of a table.
+pub fn literal_number(table: &Table, value: &Literal<'_>) -> Option<u16>
+    ensures { result ≡ spec.literal_number table.now.entries (literal_tree value.now) }
 {
     match value {
-        Literal::Number(number) => *number,
-        Literal::Named(name) => constant_or_zero(find(table, name.text)),
+        Literal::Number(number) => Some(*number),
+        Literal::Named(name) => constant_number(find(table, name.text)),
+    }
+}
+
+/// A number, or 0 where there is none.
+pub fn or_zero(number: Option<u16>) -> u16
+    ensures { result ≡ spec.or_zero number }
+{
+    match number {
+        None => 0,
+        Some(number) => number,
     }
 }
 
@@ -79,8 +90,14 @@ impl Names {
                 Ok(())
             }
             Directive::Constant(name, value) => {
-                let number = value_so_far(&self.table, value);
+                let number = or_zero(literal_number(&self.table, value));
                 define(&mut self.table, *name, Binding::Constant(number))
+            }
+            Directive::Array(array) => {
+                let binding = Binding::Array(self.counts.arrays, array.kind);
+                define(&mut self.table, array.name, binding)?;
+                self.counts.arrays += 1;
+                Ok(())
             }
             Directive::Routine(routine) => {
                 let binding = Binding::Routine(self.counts.routines, routine.locals.len());

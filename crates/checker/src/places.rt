@@ -46,11 +46,11 @@ pub struct Places {
 }
 
 /// Where the parts of the story of a program stand.
-pub fn part_places(_checked: &Checked<'_>) -> Places
-    ensures { result ≡ places_of (program_of _checked.now) }
+pub fn part_places(checked: &Checked<'_>) -> Places
+    ensures { result ≡ places_of (program_of checked.now) }
 {
     let globals = HEADER + 2 * ABBREVIATIONS + EMPTY_TEXT;
-    let defaults = globals + 2 * GLOBALS;
+    let defaults = globals + 2 * GLOBALS + checked.array_bytes().len();
     let dictionary = defaults + 2 * DEFAULTS;
     let start = dictionary + EMPTY_DICTIONARY;
     Places {

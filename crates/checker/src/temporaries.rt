@@ -17,6 +17,7 @@ pub fn fits(expression: &Expression<'_>, room: u8) -> bool
         Expression::Constant(_) => room >= 1,
         Expression::Named(_) => room >= 1,
         Expression::Call(_, arguments) => operands_fit(arguments, 0, room),
+        Expression::Index(_, _, index) => fits(index, room),
         Expression::Parenthesised(inside) => fits(inside, room),
         Expression::Prefixed(_, operand) => fits(operand, room),
         Expression::StepBefore(_, _, operand) => fits(operand, room),

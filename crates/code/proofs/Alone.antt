@@ -103,7 +103,35 @@ module _ (c : Running) where
         end = omega (arith, stands.next, size);
       }
 
-  -- an instruction gives a word, which goes to its destination
+  -- an instruction gives a word in this state, which goes to its destination
+  pub gives_here_led : (op : Operation) (os : List Operand) (d : Destination) (w q : ℕ)
+      (before mid rest other values : List ℕ) → IsHere d → Scratch c other → length rest ≤ 48 → here c ≤ q
+      → Shaped (giving op os (result_in d)) → Holds m q (bytes_of (giving op os (result_in d)))
+      → q + length (bytes_of (giving op os (result_in d))) ≡ next_place
+      → operand_values os (at_words (around c) other locals mid world.text)
+      ≡ done values (at_words (around c) other locals rest world.text)
+      → ((after : ℕ)
+      → perform op (point q world.fuel) after (Some (result_in d)) None values
+      (at_words (around c) other locals rest world.text)
+      ≡ give_result (point q world.fuel) after (Some (result_in d)) w
+      (at_words (around c) other locals rest world.text))
+      → Leads (point (here c) world.fuel) (at_words (around c) m locals before world.text) (point q world.fuel)
+      (at_words (around c) other locals mid world.text)
+      → LedFrom c before (stack.delivered d w (stack.after (at c before) rest (situation_here c)))
+  gives_here_led op os d w q before mid rest other values is scratch room from shaped h end taken performs leads =
+      let i = giving op os (result_in d) in
+      let after = q + length (bytes_of i) in
+      let st = at_words (around c) other locals mid world.text in
+      let to = at_words (around c) (memory_after c d w other) (locals_after c d w) (stack_after c d w rest)
+      world.text in
+      delivered_led c d w after before rest other is scratch room end
+      (leads_then (point (here c) world.fuel) (point q world.fuel) (point after world.fuel)
+      (at_words (around c) m locals before world.text) st to leads
+      (one_step (point q world.fuel) (point after world.fuel) st to
+      (made c other mid rest world.text q i values scratch from shaped h taken ∙ performs after
+      ∙ given c d w after q rest other world.text is scratch room)))
+
+  -- and in each state
   pub gives_led : (op : Operation) (os : List Operand) (d : Destination) (w q : ℕ)
       (before mid rest other values : List ℕ) → IsHere d → Scratch c other → length rest ≤ 48 → here c ≤ q
       → Shaped (giving op os (result_in d)) → Holds m q (bytes_of (giving op os (result_in d)))
@@ -117,15 +145,5 @@ module _ (c : Running) where
       (at_words (around c) other locals mid world.text)
       → LedFrom c before (stack.delivered d w (stack.after (at c before) rest (situation_here c)))
   gives_led op os d w q before mid rest other values is scratch room from shaped h end taken performs leads =
-      let i = giving op os (result_in d) in
-      let after = q + length (bytes_of i) in
-      let st = at_words (around c) other locals mid world.text in
-      let to = at_words (around c) (memory_after c d w other) (locals_after c d w) (stack_after c d w rest)
-      world.text in
-      delivered_led c d w after before rest other is scratch room end
-      (leads_then (point (here c) world.fuel) (point q world.fuel) (point after world.fuel)
-      (at_words (around c) m locals before world.text) st to leads
-      (one_step (point q world.fuel) (point after world.fuel) st to
-      (made c other mid rest world.text q i values scratch from shaped h taken
-      ∙ performs (point q world.fuel) after (at_words (around c) other locals rest world.text)
-      ∙ given c d w after q rest other world.text is scratch room)))
+      gives_here_led op os d w q before mid rest other values is scratch room from shaped h end taken
+      (λ after. performs (point q world.fuel) after (at_words (around c) other locals rest world.text)) leads

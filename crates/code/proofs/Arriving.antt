@@ -1,7 +1,7 @@
 -- What holds of a running routine of a program that stands in a story, and how an item leads to the next.
 use Rattle.std.proofs.Common.{◌≡◌, ℕ, zero, suc, ◌+◌, ◌-◌, ◌*◌, ◌^◌, ◌<◌, ◌≤◌, List, [], ◌∷◌, length, drop}
 use Rattle.std.proofs.Common.{slice_index, Bool, true, false, refl, sym, ap, ◌∙◌, subst, arith}
-use Rattle.std.specs.Prelude.{nat_le, nat_eq, if◌then◌else◌, slice_index_or}
+use Rattle.std.specs.Prelude.{nat_le, nat_eq, if◌then◌else◌, slice_index_or, map}
 use Rattle.std.specs.List.{All, flat_map}
 use Rattle.std.proofs.lemmas.Bool.{leb-true}
 use Rattle.std.proofs.lemmas.List.{length-reverse, get_or-drop}
@@ -21,7 +21,7 @@ use Rattle.code.proofs.Behind.{Holds}
 use Rattle.code.specs.Addresses.{Addresses}
 use Rattle.code.specs.Instructions.{item_code}
 use Rattle.code.specs.Bytes.{text_bytes, item_bytes, place_of, offset_of}
-use Rattle.code.specs.HeldProgram.{HoldsProgram}
+use Rattle.code.specs.HeldProgram.{sizes_of, HoldsProgram}
 use Rattle.code.proofs.Play.{Leads, Stored, items_in, address, frames_of, back_of, result_of, state_of, next_of}
 use Rattle.code.proofs.Play.{IsCaller, Good, Led, other_counts}
 use Rattle.code.proofs.Memory.{Ground}
@@ -76,7 +76,7 @@ module _ (story : List ℕ) (a : Addresses) (p : ProgramOf) (accepted : IsAccept
     pub address_low : (r n : ℕ) → r < length p.routines → address story a p r n < 2 ^ 32
     address_low r n known =
         let routine = holds.routines r known in
-        let short = ends_by (items_in story a p r) n in
+        let short = ends_by (sizes_of p) (items_in story a p r) n in
         omega (
           arith,
           short,
@@ -84,8 +84,9 @@ module _ (story : List ℕ) (a : Addresses) (p : ProgramOf) (accepted : IsAccept
           unpacked_low (nat_eq (slice_index story 0) 8) (slice_index a.routines r) routine.word,
         )
 
-    pub ground_is : (m globals : List ℕ) → Stored story globals m → Ground (static_base_of story) m
-    ground_is m globals stored =
+    pub ground_is : (m globals : List ℕ) (arrays : List (List ℕ)) → Stored story a globals arrays m
+        → Ground (static_base_of story) m
+    ground_is m globals arrays stored =
         let b = stored.header 12 (omega arith) in
         let c = stored.header 13 (omega arith) in
         let same : globals_of m ≡ globals_of story =
@@ -150,13 +151,13 @@ module _ (c : Running) where
 
   -- the bytes of an item that stands here
   abbrev pub offset_here : Item → ℕ
-  offset_here i = offset_of (place_of (items_in story a p routine)) place i
+  offset_here i = offset_of (place_of (sizes_of p) (items_in story a p routine)) place i
 
   abbrev pub bytes_here : Item → List ℕ
-  bytes_here i = item_bytes a (offset_here i) i
+  bytes_here i = item_bytes (sizes_of p) a (offset_here i) i
 
   abbrev pub code_here : Item → List Instruction
-  code_here i = item_code a (offset_here i) i
+  code_here i = item_code (sizes_of p) a (offset_here i) i
 
   -- an item stands here
   pub record Stands (i : Item) : Type 0 where
@@ -165,7 +166,7 @@ module _ (c : Running) where
     pub followed : address story a p routine (place + 1) < length m
 
   pub ground : Ground (static_base_of story) m
-  ground = ground_is story a p accepted holds m world.globals good.stored
+  ground = ground_is story a p accepted holds m world.globals world.arrays good.stored
 
   pub high : static_base_of story ≤ here
   high = address_high story a p accepted holds routine place good.known
@@ -199,8 +200,9 @@ module _ (c : Running) where
   -- The machine comes to the next item, with room on its stack, or where there is room
   pub arrives_on : (before after m1 : List ℕ) (situation : Situation) (end : ℕ)
       → end ≡ address story a p routine (place + 1) → length after ≤ 48
-      → Stored story situation.world.globals m1 → length situation.locals ≡ length locals
+      → Stored story a situation.world.globals situation.world.arrays m1 → length situation.locals ≡ length locals
       → length situation.world.globals ≡ length world.globals
+      → map length situation.world.arrays ≡ map length world.arrays
       → Leads (point here world.fuel) (at_words around m locals before world.text) (point end situation.world.fuel)
       (at_words around m1 situation.locals after situation.world.text)
       → LedFrom before (stack.goes (record {
@@ -210,7 +212,7 @@ module _ (c : Running) where
         callers = callers;
         situation = situation;
       }))
-  arrives_on before after m1 situation end is room stored locals_same globals_same leads = record {
+  arrives_on before after m1 situation end is room stored locals_same globals_same arrays_same leads = record {
     memory = m1;
     count = count;
     counts = counts;
@@ -221,6 +223,7 @@ module _ (c : Running) where
       callers = good.callers;
       few = good.few;
       globals = globals_same ∙ good.globals;
+      sizes = arrays_same ∙ good.sizes;
       stored = stored;
     };
     leads = subst (λ x. Leads (point here world.fuel) (at_words around m locals before world.text)
@@ -229,8 +232,9 @@ module _ (c : Running) where
 
   pub arrives : (before after m1 : List ℕ) (situation : Situation) (end : ℕ)
       → end ≡ address story a p routine (place + 1)
-      → Stored story situation.world.globals m1 → length situation.locals ≡ length locals
+      → Stored story a situation.world.globals situation.world.arrays m1 → length situation.locals ≡ length locals
       → length situation.world.globals ≡ length world.globals
+      → map length situation.world.arrays ≡ map length world.arrays
       → Leads (point here world.fuel) (at_words around m locals before world.text) (point end situation.world.fuel)
       (at_words around m1 situation.locals after situation.world.text)
       → LedFrom before (stack.within (record {
@@ -240,13 +244,15 @@ module _ (c : Running) where
         callers = callers;
         situation = situation;
       }))
-  arrives before after m1 situation end is stored locals_same globals_same leads = go (nat_le (length after) 48) refl
+  arrives before after m1 situation end is stored locals_same globals_same arrays_same leads = go
+      (nat_le (length after) 48) refl
     where
       next : stack.State
       next = record { routine = routine; place = place + 1; stack = after; callers = callers; situation = situation }
 
       go : (b : Bool) → nat_le (length after) 48 ≡ b → LedFrom before (if b then stack.goes next else stack.stuck)
-      go true e = arrives_on before after m1 situation end is (leb-true _ _ e) stored locals_same globals_same leads
+      go true e = arrives_on before after m1 situation end is (leb-true _ _ e) stored locals_same globals_same
+          arrays_same leads
       go false e = tt
 
   abbrev pub situation_here : Situation

@@ -7,6 +7,7 @@ use Rattle.expressions.specs.declared.tree.Comparison.{Comparison}
 use Rattle.expressions.specs.declared.tree.Equality.{Equality}
 use Rattle.expressions.specs.declared.tree.Prefix.{Prefix}
 use Rattle.expressions.specs.declared.tree.Prefix.TheVariants as prefixes
+use Rattle.expressions.specs.declared.tree.Width.{Width}
 use Rattle.checker.specs.Resolved.{Value, Values, none, more}
 use Rattle.checker.specs.Resolved as source
 use Rattle.checker.specs.Meaning.{is_true}
@@ -220,6 +221,37 @@ equal_small op a bs sa sbs first =
     several_items : ℕ → Bool → ℕ → List Item
     several_items at when t = value_items at a push ++ many_items (at + value_count a push) op bs when t
 
+entry_small : (width : Width) (a : ℕ) (i : Value) → Small i → Small (source.entry width a i)
+entry_small width a i s = record {
+  value = λ d at. omega (
+    arith,
+    if_small (alone i) _ _ (s.value push at),
+    most_append (if_pushed (alone i) (value_items at i push) []) (items.entry width a (alone i) d ∷ []),
+  );
+  branch = λ when at t. omega (
+    arith,
+    if_small (alone i) _ _ (s.value push at),
+    most_append (if_pushed (alone i) (value_items at i push) [])
+        (items.entry width a (alone i) push ∷ branch_true pushed when t ∷ []),
+  );
+}
+
+assign_entry_small : (width : Width) (a : ℕ) (i v : Value) → Small i → Small v
+    → Small (source.assign_entry width a i v)
+assign_entry_small width a i v si sv = record {
+  value = λ d at. omega (
+    arith,
+    two_small (left_of i v) (alone v) _ _ (items.assign_entry width a (left_of i v) (alone v) d ∷ []) _ _
+        (si.value push at) (sv.value push (at + operand_count i (left_of i v))),
+  );
+  branch = λ when at t. omega (
+    arith,
+    two_small (left_of i v) (alone v) _ _
+        (items.assign_entry width a (left_of i v) (alone v) push ∷ branch_true pushed when t ∷ []) _ _
+        (si.value push at) (sv.value push (at + operand_count i (left_of i v))),
+  );
+}
+
 mutual
   pub small : (v : Value) → Small v
   small (source.number n) = record {
@@ -264,6 +296,8 @@ mutual
       most_append (value_items at v push) (items.keep x ∷ branch_true pushed when t ∷ []),
     );
   }
+  small (source.entry width a i) = entry_small width a i (small i)
+  small (source.assign_entry width a i v) = assign_entry_small width a i v (small i) (small v)
 
   are_small : (vs : Values) → AreSmall vs
   are_small none = list_none

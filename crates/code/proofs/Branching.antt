@@ -15,6 +15,7 @@ use Rattle.items.specs.Stack as stack
 use Rattle.code.proofs.Behind.{Holds}
 use Rattle.code.specs.Instructions.{operands, labelled, test_operation, tested_code, branch_code, most_tested}
 use Rattle.code.specs.Bytes.{text_bytes, place_of}
+use Rattle.code.specs.HeldProgram.{sizes_of}
 use Rattle.code.proofs.Play.{Leads, address}
 use Rattle.code.proofs.Parts.{machine as at_words}
 use Rattle.code.proofs.Steps.{point, leads_then, landing}
@@ -36,7 +37,7 @@ module _ (c : Running) where
 
   -- how far a branch of this item leads
   abbrev over : ℕ → ℕ
-  over target = place_of (is_in c) target - place_of (is_in c) (place + 1)
+  over target = place_of (sizes_of p) (is_in c) target - place_of (sizes_of p) (is_in c) (place + 1)
 
   branches_led : (item : Item) (test : Test) (os : List items.Operand) (when : Bool) (target : ℕ)
       (words vs rest : List ℕ) → All (IsOperandHere c) os → Counted test (length os) → length words ≤ 48
@@ -107,8 +108,8 @@ module _ (c : Running) where
       within = omega (
         arith,
         (holds.routines routine good.known).followed,
-        ends_by (is_in c) target,
-        ends_by (is_in c) (place + 1),
+        ends_by (sizes_of p) (is_in c) target,
+        ends_by (sizes_of p) (is_in c) (place + 1),
         good.stored.size,
         t.scratch.stored.size,
       )
@@ -124,7 +125,7 @@ module _ (c : Running) where
           (at_words (around c) t.memory locals rest world.text) t.leads
           (label_leads (around c) world.fuel t.memory locals (with_first os vs rest) rest world.text q d op
           (operands os) when (stack.holds test vs) branching_is (omega (arith, above c))
-          (omega (arith, short c, ends_by (is_in c) target)) (next_place c) next within
+          (omega (arith, short c, ends_by (sizes_of p) (is_in c) target)) (next_place c) next within
           (held_in c t.memory (flat_map bytes_of (labelled op (operands os) when (2 + d))) q t.scratch
           (omega arith) parts.others))
 
@@ -133,7 +134,7 @@ module _ (c : Running) where
           (point (next_place c) world.fuel) (at_words (around c) t.memory locals rest world.text)
           → LedFrom c words (stack.goes (stack.after (at c words) rest (situation_here c)))
       passes l = arrives_on c words rest t.memory (situation_here c) (next_place c) refl left t.scratch.stored refl
-          refl
+          refl refl
           l
 
       jumps : (b : Bool) → nat_lt place target ≡ b
@@ -144,7 +145,7 @@ module _ (c : Running) where
       jumps false e l = tt
       jumps true e l =
           let before : place < target = ltb-true _ _ e in
-          let up = rises (is_in c) (place + 1) target (omega (arith, before)) in
+          let up = rises (sizes_of p) (is_in c) (place + 1) target (omega (arith, before)) in
           let to : next_place c + d ≡ address story a p routine target = omega (arith, up) in
           record {
             memory = t.memory;
@@ -157,6 +158,7 @@ module _ (c : Running) where
               callers = good.callers;
               few = good.few;
               globals = good.globals;
+              sizes = good.sizes;
               stored = t.scratch.stored;
             };
             leads = subst (λ k. Leads (point (here c) world.fuel) (at_words (around c) m locals words world.text)

@@ -178,7 +178,7 @@ module _ (c : Running) where
       (stack.enter p r vs (waiting ∷ callers) (situation_here c))
       t.leads
       (enter_led story a p accepted holds full q st t.memory (count ∷ counts) r vs (waiting ∷ callers)
-      (situation_here c) known t.scratch.stored good.globals
+      (situation_here c) known t.scratch.stored good.globals good.sizes
       (All-cons (IsCaller story a p) waiting callers is_caller good.callers) (omega (arith, good.few)) called)
     where
       packed : ℕ

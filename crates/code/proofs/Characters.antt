@@ -1,5 +1,5 @@
 -- The item that prints a character, with its fault.
-use Rattle.std.proofs.Common.{◌≡◌, ℕ, ◌+◌, ◌<◌, ◌≤◌, List, [], ◌∷◌, ◌++◌, codes, length, Some, None, Bool, true}
+use Rattle.std.proofs.Common.{◌≡◌, ℕ, ◌+◌, ◌<◌, ◌≤◌, List, [], ◌∷◌, ◌++◌, length, Some, None, Bool, true}
 use Rattle.std.proofs.Common.{false, refl, sym, ◌∙◌, subst, arith}
 use Rattle.std.specs.Prelude.{if◌then◌else◌, not, ◌||◌, ◌&&◌}
 use Rattle.std.specs.List.{flat_map}
@@ -14,6 +14,8 @@ use Rattle.zcore.specs.Instruction.{Instruction, bytes_of}
 use Rattle.zcore.specs.State.{State, done}
 use Rattle.zcore.specs.Parts.{operand_value, operand_values, branch_on, transcribed}
 use Rattle.zcore.specs.Execution.{perform, step, equals_any, print_character}
+use Rattle.checker.specs.declared.cause.Cause.TheVariants as causes
+use Rattle.code.specs.Addresses.{fault_address}
 use Rattle.checker.specs.World.{put, value_in}
 use Rattle.checker.specs.World as source
 use Rattle.checker.specs.Meaning.{is_character, put_character}
@@ -30,7 +32,7 @@ use Rattle.code.proofs.SingleSteps.{branch_step}
 use Rattle.code.proofs.Fitting.{Shaped, held_bytes, encodable}
 use Rattle.code.proofs.Ends.{prints_on, prints_off}
 use Rattle.code.proofs.ItemOperands.{constant_value}
-use Rattle.code.proofs.Texts.{character_line}
+use Rattle.code.proofs.Texts.{cause_line}
 use Rattle.code.proofs.Lengths.{one_length}
 use Rattle.code.proofs.Arriving.{Running, at, around, here, high, above, kept, LedFrom, Stands, code_held}
 use Rattle.code.proofs.Arriving.{situation_here}
@@ -93,7 +95,7 @@ module _ (c : Running) where
     print_it = plain operations.PrintCharacter (Variable variable ∷ [])
 
     abbrev end_code : List Instruction
-    end_code = fail a.not_a_character ++ print_it ∷ []
+    end_code = fail (fault_address a causes.NotACharacter) ++ print_it ∷ []
 
     abbrev st : State
     st = at_words (around c) other locals mid world.text
@@ -103,7 +105,7 @@ module _ (c : Running) where
       equal : Holds m q (bytes_of equal_test)
       low : Holds m (q + 6) (bytes_of low_test)
       high : Holds m (q + 6 + 4) (bytes_of high_test)
-      fault : Holds m (q + 14) (flat_map bytes_of (fail a.not_a_character))
+      fault : Holds m (q + 14) (flat_map bytes_of (fail (fault_address a causes.NotACharacter)))
       print : Holds m (q + 18) (bytes_of print_it)
       size : length (flat_map bytes_of (tested_character a variable)) ≡ 21
 
@@ -114,7 +116,7 @@ module _ (c : Running) where
         let h2 = others_held m (q + 6) low_test (high_test ∷ end_code) h1 in
         let h3 = others_held m (q + 6 + 4) high_test end_code h2 in
         let n : q + 6 + 4 + 4 ≡ q + 14 = omega arith in
-        let both = holds_append m (q + 14) (flat_map bytes_of (fail a.not_a_character))
+        let both = holds_append m (q + 14) (flat_map bytes_of (fail (fault_address a causes.NotACharacter)))
         (flat_map bytes_of (print_it ∷ [])) (subst (λ k. Holds m k (flat_map bytes_of end_code)) n h3) in
         let n1 : q + 14 + 4 ≡ q + 18 = omega arith in
         record {
@@ -185,7 +187,7 @@ module _ (c : Running) where
 
     by_test : (b : Bool) → is_character v ≡ b
         → LedFrom c before
-        (stack.prints (if b then put (transcribed v) else source.fault (codes "not a character")) mid
+        (stack.prints (if b then put (transcribed v) else source.fault causes.NotACharacter) mid
         (at c before))
     unfolding bytes_of perform print_character
     by_test true e =
@@ -206,18 +208,18 @@ module _ (c : Running) where
     by_test false e =
         let there = subst (λ b. Leads (point (here c) world.fuel) (at_words (around c) m locals before world.text)
         (point (if b then q + 18 else q + 14) world.fuel) st) e tested in
-        fails_led c (codes "not a character") a.not_a_character (q + 14) before mid other
-        (λ _ situation. stack.goes (stack.after (at c before) mid situation)) character_line holds.not_a_character
+        fails_led c causes.NotACharacter (fault_address a causes.NotACharacter) (q + 14) before mid other
+        (λ _ situation. stack.goes (stack.after (at c before) mid situation)) (cause_line causes.NotACharacter) (holds.faults causes.NotACharacter)
         (omega (arith, from)) scratch parts.fault there
 
   -- a number is printed, or is none of a character
   number_led : (b : Bool) (n : ℕ) (s : List ℕ) → is_character n ≡ b → length s ≤ 48
       → Holds m (here c) (flat_map bytes_of (if b
-      then plain operations.PrintCharacter (in_place (items.number n) ∷ []) ∷ [] else fail a.not_a_character))
+      then plain operations.PrintCharacter (in_place (items.number n) ∷ []) ∷ [] else fail (fault_address a causes.NotACharacter)))
       → here c + length (flat_map bytes_of (if b
-      then plain operations.PrintCharacter (in_place (items.number n) ∷ []) ∷ [] else fail a.not_a_character))
+      then plain operations.PrintCharacter (in_place (items.number n) ∷ []) ∷ [] else fail (fault_address a causes.NotACharacter)))
       ≡ next_place c
-      → LedFrom c s (stack.prints (if b then put (transcribed n) else source.fault (codes "not a character")) s
+      → LedFrom c s (stack.prints (if b then put (transcribed n) else source.fault causes.NotACharacter) s
       (at c s))
   unfolding perform print_character
   number_led true n s e short h end =
@@ -234,8 +236,8 @@ module _ (c : Running) where
       (λ room. makes ∙ rw e (prints_off (around c) m locals s world.text (point (here c) world.fuel) after (n ∷ [])
       (transcribed n) (append-nil (transcribed n)) room))
   number_led false n s e short h end =
-      fails_led c (codes "not a character") a.not_a_character (here c) s s m
-      (λ _ situation. stack.goes (stack.after (at c s) s situation)) character_line holds.not_a_character
+      fails_led c causes.NotACharacter (fault_address a causes.NotACharacter) (here c) s s m
+      (λ _ situation. stack.goes (stack.after (at c s) s situation)) (cause_line causes.NotACharacter) (holds.faults causes.NotACharacter)
       (omega arith)
       (scratch_here c) h
       (stays (point (here c) world.fuel) (at_words (around c) m locals s world.text))

@@ -23,10 +23,6 @@ use Rattle.code.proofs.Places.{branch_offset, ends_at}
 
 -- Sizes
 
-abbrev pub least_sum : List Item → ℕ
-least_sum [] = 0
-least_sum (i ∷ is) = least_size i + least_sum is
-
 label_few : (f : Form) → size_with f ≤ 4
 label_few form.One = omega arith
 label_few form.Two = omega arith
@@ -37,43 +33,11 @@ part_low : (n size : ℕ) (target : Option ℕ) (rest : List ℕ)
 part_low n size None rest = omega arith
 part_low n size (Some target) rest = omega (arith, label_few (form_for (offset_over (target - (n + 1)) rest)))
 
-pub lefts_low : (at : ℕ) (is : List Item) → first (lefts at (parts_of is)) ≤ least_sum is + 4 * length is
-lefts_low at [] = omega arith
-lefts_low at (i ∷ is) =
-    let more = lefts_low (at + 1) is in
-    let here = part_low at (part_of i).size (part_of i).target (lefts (at + 1) (parts_of is)) in
-    omega (arith, more, here)
-
 -- The item of an index, and those after it
 pub from_item : (xs : List code.Item) (i : ℕ) (x : code.Item) → i < length xs
     → items_of (drop i xs) ≡ item_of (slice_index_or xs i x) ∷ items_of (drop (i + 1) xs)
 from_item xs i x h = let number : suc i ≡ i + 1 = omega arith in
     ap items_of (drop-cons xs i x h) ∙ ap (λ k. item_of (slice_index_or xs i x) ∷ items_of (drop k xs)) number
-
--- one part more
-pub part_next : (b b1 : List ℕ) (ps ps1 : List Part) (xs : List code.Item) (i : ℕ) (x : code.Item) (item : Item)
-    (size : ℕ) (target : Option ℕ) (total : List Part) (sum : ℕ) → i < length xs
-    → item ≡ item_of (slice_index_or xs i x)
-    → ps ++ parts_of (items_of (drop i xs)) ≡ total → length b + least_sum (items_of (drop i xs)) ≡ sum
-    → b1 ≡ b ++ item_bytes no_addresses 2 item → target ≡ target_of item
-    → size ≡ length b1 - length b - label_size target → ps1 ≡ ps ++ record { size = size; target = target } ∷ []
-    → (ps1 ++ parts_of (items_of (drop (i + 1) xs)) ≡ total)
-    × (length b1 + least_sum (items_of (drop (i + 1) xs)) ≡ sum)
-part_next b b1 ps ps1 xs i x item size target total sum h is all long more to size_is last =
-    let whole = from_item xs i x h ∙ ap (λ y. y ∷ items_of (drop (i + 1) xs)) (sym is) in
-    let rest = items_of (drop (i + 1) xs) in
-    let longer : length b1 ≡ length b + least_size item =
-    ap length more ∙ length-append b (item_bytes no_addresses 2 item) in
-    let label : label_size target ≡ label_size (target_of item) = ap label_size to in
-    let same_size : size ≡ (part_of item).size = omega (arith, size_is, longer, label) in
-    let part : record { size = size; target = target } ≡ part_of item =
-    ap (λ (n : ℕ). record { size = n; target = target }) same_size
-    ∙ ap (λ (t : Option ℕ). record { size = (part_of item).size; target = t }) to in (
-      ap (λ l. l ++ parts_of rest) last ∙ append_assoc ps (record { size = size; target = target } ∷ [])
-          (parts_of rest)
-          ∙ ap (λ (q : Part). ps ++ q ∷ parts_of rest) part ∙ ap (λ l. ps ++ parts_of l) (sym whole) ∙ all,
-      omega (arith, long, longer, ap least_sum whole),
-    )
 
 -- at the end of a list
 nothing_left : (xs : List code.Item) (i : ℕ) → length xs ≤ i → drop i xs ≡ []
@@ -83,91 +47,151 @@ pub items_length : (xs : List code.Item) → length (items_of xs) ≡ length xs
 items_length [] = refl
 items_length (x ∷ xs) = ap suc (items_length xs)
 
-parts_length : (is : List Item) → length (parts_of is) ≡ length is
-parts_length [] = refl
-parts_length (i ∷ is) = ap suc (parts_length is)
+abbrev sized : ℕ → Option ℕ → Part
+sized size target = record { size = size; target = target }
 
-pub all_sum : (n sum : ℕ) (xs : List code.Item) (i : ℕ) → length xs ≤ i → n + least_sum (items_of (drop i xs)) ≡ sum
-    → n ≡ sum
-all_sum n sum xs i h e = let none = ap (λ ys. least_sum (items_of ys)) (nothing_left xs i h) in omega (arith, e, none)
+same_part : (m n : ℕ) (t u : Option ℕ) → m ≡ n → t ≡ u → sized m t ≡ sized n u
+same_part m n t u e f = ap (λ (k : ℕ). sized k t) e ∙ ap (λ (x : Option ℕ). sized n x) f
 
-pub parts_count : (ps : List Part) (xs : List code.Item) (i : ℕ) → length xs ≤ i
-    → ps ++ parts_of (items_of (drop i xs)) ≡ parts_of (items_of xs) → length ps ≡ length xs
-parts_count ps xs i h e =
-    let none = ap (λ ys. length (parts_of (items_of ys))) (nothing_left xs i h) in
-    omega (
-      arith,
-      ap length e,
-      none,
-      length-append ps (parts_of (items_of (drop i xs))),
-      parts_length (items_of xs),
-      items_length xs,
-    )
+-- one element more of a list
+parts_on : (ps ps1 : List Part) (x y : Part) (rest more total : List Part) → ps1 ≡ ps ++ x ∷ [] → x ≡ y
+    → more ≡ y ∷ rest → ps ++ more ≡ total → ps1 ++ rest ≡ total
+parts_on ps ps1 x y rest more total last same is all =
+    ap (λ l. l ++ rest) last ∙ append_assoc ps (x ∷ []) rest ∙ ap (λ (q : Part). ps ++ q ∷ rest) same
+    ∙ ap (λ l. ps ++ l) (sym is) ∙ all
 
--- The bytes of one item more
-pub bytes_next : (a : Addresses) (places : ℕ
-    → ℕ) (b b1 : List ℕ) (xs : List code.Item) (i : ℕ) (x : code.Item) (item : Item) (offset : ℕ) (total : List ℕ)
-    → i < length xs → item ≡ item_of (slice_index_or xs i x)
-    → b ++ items_bytes a places i (items_of (drop i xs)) ≡ total → offset ≡ offset_of places i item
-    → b1 ≡ b ++ item_bytes a offset item
-    → b1 ++ items_bytes a places (i + 1) (items_of (drop (i + 1) xs)) ≡ total
-bytes_next a places b b1 xs i x item offset total h is all to more =
-    let whole = from_item xs i x h ∙ ap (λ y. y ∷ items_of (drop (i + 1) xs)) (sym is) in
-    let rest = items_of (drop (i + 1) xs) in
-    ap (λ l. l ++ items_bytes a places (i + 1) rest) (more ∙ ap (λ k. b ++ item_bytes a k item) to)
-    ∙ append_assoc b (item_bytes a (offset_of places i item) item) (items_bytes a places (i + 1) rest)
-    ∙ ap (λ l. b ++ items_bytes a places i l) (sym whole) ∙ all
+-- where arrays have these sizes
+module _ (sizes : List ℕ) where
+  abbrev pub least_sum : List Item → ℕ
+  least_sum [] = 0
+  least_sum (i ∷ is) = least_size sizes i + least_sum is
 
--- where items stand, by what was laid out
-pub offset_is : (left : List ℕ) (is : List Item) (n : ℕ) (item : Item) → left ≡ reverse (lefts_of is)
-    → offset_of (place_in (reverse left)) n item ≡ offset_of (place_of is) n item
-offset_is left is n item e = ap (λ ls. offset_of (place_in ls) n item) (ap reverse e ∙ reverse-reverse (lefts_of is))
+  pub lefts_low : (at : ℕ) (is : List Item) → first (lefts at (parts_of sizes is)) ≤ least_sum is + 4 * length is
+  lefts_low at [] = omega arith
+  lefts_low at (i ∷ is) =
+      let more = lefts_low (at + 1) is in
+      let here = part_low at (part_of sizes i).size (part_of sizes i).target (lefts (at + 1) (parts_of sizes is)) in
+      omega (arith, more, here)
 
-pub place_is : (left : List ℕ) (is : List Item) (n : ℕ) → left ≡ reverse (lefts_of is)
-    → place_in (reverse left) n ≡ place_of is n
-place_is left is n e = ap (λ ls. place_in ls n) (ap reverse e ∙ reverse-reverse (lefts_of is))
+  -- one part more
+  pub part_next : (b b1 : List ℕ) (ps ps1 : List Part) (xs : List code.Item) (i : ℕ) (x : code.Item) (item : Item)
+      (size : ℕ) (target : Option ℕ) (total : List Part) (sum : ℕ) → i < length xs
+      → item ≡ item_of (slice_index_or xs i x)
+      → ps ++ parts_of sizes (items_of (drop i xs)) ≡ total → length b + least_sum (items_of (drop i xs)) ≡ sum
+      → b1 ≡ b ++ item_bytes sizes no_addresses 2 item → target ≡ target_of item
+      → size ≡ length b1 - length b - label_size target → ps1 ≡ ps ++ record { size = size; target = target } ∷ []
+      → (ps1 ++ parts_of sizes (items_of (drop (i + 1) xs)) ≡ total)
+      × (length b1 + least_sum (items_of (drop (i + 1) xs)) ≡ sum)
+  part_next b b1 ps ps1 xs i x item size target total sum h is all long more to size_is last =
+      let whole = from_item xs i x h ∙ ap (λ y. y ∷ items_of (drop (i + 1) xs)) (sym is) in
+      let rest = items_of (drop (i + 1) xs) in
+      let longer : length b1 ≡ length b + least_size sizes item =
+      ap length more ∙ length-append b (item_bytes sizes no_addresses 2 item) in
+      let label : label_size target ≡ label_size (target_of item) = ap label_size to in
+      let same_size : size ≡ (part_of sizes item).size = omega (arith, size_is, longer, label) in
+      let part : record { size = size; target = target } ≡ part_of sizes item =
+      same_part size (part_of sizes item).size target (target_of item) same_size to in (
+        parts_on ps ps1 (record { size = size; target = target }) (part_of sizes item) (parts_of sizes rest)
+            (parts_of sizes (items_of (drop i xs))) total last part (ap (parts_of sizes) whole) all,
+        omega (arith, long, longer, ap least_sum whole),
+      )
 
-pub last_place : (xs : List code.Item) (n : ℕ) → n ≡ length xs → place_of (items_of xs) n ≡ code_size (items_of xs)
-last_place xs n e = ends_at (items_of xs) n (omega (arith, e, parts_length (items_of xs), items_length xs))
+  parts_length : (is : List Item) → length (parts_of sizes is) ≡ length is
+  parts_length [] = refl
+  parts_length (i ∷ is) = ap suc (parts_length is)
 
-pub left_count : (left : List ℕ) (xs : List code.Item) → left ≡ reverse (lefts_of (items_of xs))
-    → length left ≡ length xs + 1
-left_count left xs e =
-    left_length (parts_of (items_of xs)) left e ∙ ap (λ n. n + 1) (parts_length (items_of xs) ∙ items_length xs)
+  pub all_sum : (n sum : ℕ) (xs : List code.Item) (i : ℕ) → length xs ≤ i → n + least_sum (items_of (drop i xs)) ≡ sum
+      → n ≡ sum
+  all_sum n sum xs i h e = let none = ap (λ ys. least_sum (items_of ys)) (nothing_left xs i h) in
+      omega (arith, e, none)
 
--- The branches
+  pub parts_count : (ps : List Part) (xs : List code.Item) (i : ℕ) → length xs ≤ i
+      → ps ++ parts_of sizes (items_of (drop i xs)) ≡ parts_of sizes (items_of xs) → length ps ≡ length xs
+  parts_count ps xs i h e =
+      let none = ap (λ ys. length (parts_of sizes (items_of ys))) (nothing_left xs i h) in
+      omega (
+        arith,
+        ap length e,
+        none,
+        length-append ps (parts_of sizes (items_of (drop i xs))),
+        parts_length (items_of xs),
+        items_length xs,
+      )
 
-offsets_from : (all : List Item) (n : ℕ) (is : List Item)
-    → ((j : ℕ) → slice_index (lefts n (parts_of is)) j ≡ slice_index (lefts_of all) (n + j))
-    → map (λ (u : BranchUse). u.offset) (uses n (parts_of is)) ≡ branch_offsets (place_of all) n is
-offsets_from all n [] at = refl
-offsets_from all n (i ∷ is) at = go i (λ j. behind j) (offsets_from all (n + 1) is (λ j. later j))
-  where
-    behind : (j : ℕ) → slice_index (lefts (n + 1) (parts_of is)) j ≡ slice_index (lefts_of all) (suc n + j)
-    behind j = let number : n + suc j ≡ suc n + j = omega arith in at (suc j) ∙ ap (slice_index (lefts_of all)) number
+  -- The bytes of one item more
+  pub bytes_next : (a : Addresses) (places : ℕ
+      → ℕ) (b b1 : List ℕ) (xs : List code.Item) (i : ℕ) (x : code.Item) (item : Item) (offset : ℕ) (total : List ℕ)
+      → i < length xs → item ≡ item_of (slice_index_or xs i x)
+      → b ++ items_bytes sizes a places i (items_of (drop i xs)) ≡ total → offset ≡ offset_of places i item
+      → b1 ≡ b ++ item_bytes sizes a offset item
+      → b1 ++ items_bytes sizes a places (i + 1) (items_of (drop (i + 1) xs)) ≡ total
+  bytes_next a places b b1 xs i x item offset total h is all to more =
+      let whole = from_item xs i x h ∙ ap (λ y. y ∷ items_of (drop (i + 1) xs)) (sym is) in
+      let rest = items_of (drop (i + 1) xs) in
+      ap (λ l. l ++ items_bytes sizes a places (i + 1) rest) (more ∙ ap (λ k. b ++ item_bytes sizes a k item) to)
+      ∙ append_assoc b (item_bytes sizes a (offset_of places i item) item) (items_bytes sizes a places (i + 1) rest)
+      ∙ ap (λ l. b ++ items_bytes sizes a places i l) (sym whole) ∙ all
 
-    later : (j : ℕ) → slice_index (lefts (n + 1) (parts_of is)) j ≡ slice_index (lefts_of all) (n + 1 + j)
-    later j = let number : suc n + j ≡ n + 1 + j = omega arith in behind j ∙ ap (slice_index (lefts_of all)) number
+  -- where items stand, by what was laid out
+  pub offset_is : (left : List ℕ) (is : List Item) (n : ℕ) (item : Item) → left ≡ reverse (lefts_of sizes is)
+      → offset_of (place_in (reverse left)) n item ≡ offset_of (place_of sizes is) n item
+  offset_is left is n item e =
+      ap (λ ls. offset_of (place_in ls) n item) (ap reverse e ∙ reverse-reverse (lefts_of sizes is))
 
-    go : (i : Item) → ((j : ℕ) → slice_index (lefts (n + 1) (parts_of is)) j ≡ slice_index (lefts_of all) (suc n + j))
-        → map (λ (u : BranchUse). u.offset) (uses (n + 1) (parts_of is)) ≡ branch_offsets (place_of all) (n + 1) is
-        → map (λ (u : BranchUse). u.offset) (uses n (parts_of (i ∷ is))) ≡ branch_offsets (place_of all) n (i ∷ is)
-    go (items.branch test os when target) rest more =
-        ap (λ k. k ∷ map (λ (u : BranchUse). u.offset) (uses (n + 1) (parts_of is)))
-        (sym (branch_offset all (lefts (n + 1) (parts_of is)) n target rest))
-        ∙ ap (λ ks. offset_of (place_of all) n (items.branch test os when target) ∷ ks) more
-    go i rest more = more
+  pub place_is : (left : List ℕ) (is : List Item) (n : ℕ) → left ≡ reverse (lefts_of sizes is)
+      → place_in (reverse left) n ≡ place_of sizes is n
+  place_is left is n e = ap (λ ls. place_in ls n) (ap reverse e ∙ reverse-reverse (lefts_of sizes is))
 
-pub offsets_are : (is : List Item) → map (λ (u : BranchUse). u.offset) (uses 0 (parts_of is))
-    ≡ branch_offsets (place_of is) 0 is
-offsets_are is = offsets_from is 0 is (λ j. let number : j ≡ 0 + j = omega arith in
-    ap (slice_index (lefts_of is)) number)
+  pub last_place : (xs : List code.Item) (n : ℕ) → n ≡ length xs
+      → place_of sizes (items_of xs) n ≡ code_size sizes (items_of xs)
+  last_place xs n e = ends_at sizes (items_of xs) n (omega (arith, e, parts_length (items_of xs), items_length xs))
 
--- what is written of a routine
-pub code_written : (a : Addresses) (v : CodeOf) (is : List Item) (locals : ℕ) (s s1 b b1 z : List ℕ)
-    → record { locals = locals; items = is } ≡ v
-    → b ≡ (locals % 256) ∷ [] → b1 ≡ b ++ items_bytes a (place_of is) 0 is → z ≡ b1 → s1 ≡ s ++ z
-    → s1 ≡ s ++ (v.locals % 256) ∷ code_bytes a v.items
-code_written a v is locals s s1 b b1 z ev eb e1 ez e =
-    e ∙ ap (λ w. s ++ w) (ez ∙ e1 ∙ ap (λ w. w ++ items_bytes a (place_of is) 0 is) eb)
-    ∙ ap (λ (w : CodeOf). s ++ (w.locals % 256) ∷ code_bytes a w.items) ev
+  pub left_count : (left : List ℕ) (xs : List code.Item) → left ≡ reverse (lefts_of sizes (items_of xs))
+      → length left ≡ length xs + 1
+  left_count left xs e =
+      left_length (parts_of sizes (items_of xs)) left e
+      ∙ ap (λ n. n + 1) (parts_length (items_of xs) ∙ items_length xs)
+
+  -- The branches
+
+  offsets_from : (all : List Item) (n : ℕ) (is : List Item)
+      → ((j : ℕ) → slice_index (lefts n (parts_of sizes is)) j ≡ slice_index (lefts_of sizes all) (n + j))
+      → map (λ (u : BranchUse). u.offset) (uses n (parts_of sizes is)) ≡ branch_offsets (place_of sizes all) n is
+  offsets_from all n [] at = refl
+  offsets_from all n (i ∷ is) at = go i (λ j. behind j) (offsets_from all (n + 1) is (λ j. later j))
+    where
+      behind : (j : ℕ)
+          → slice_index (lefts (n + 1) (parts_of sizes is)) j ≡ slice_index (lefts_of sizes all) (suc n + j)
+      behind j = let number : n + suc j ≡ suc n + j = omega arith in
+          at (suc j) ∙ ap (slice_index (lefts_of sizes all)) number
+
+      later : (j : ℕ)
+          → slice_index (lefts (n + 1) (parts_of sizes is)) j ≡ slice_index (lefts_of sizes all) (n + 1 + j)
+      later j = let number : suc n + j ≡ n + 1 + j = omega arith in
+          behind j ∙ ap (slice_index (lefts_of sizes all)) number
+
+      go : (i : Item)
+          → ((j : ℕ) → slice_index (lefts (n + 1) (parts_of sizes is)) j ≡ slice_index (lefts_of sizes all) (suc n + j))
+          → map (λ (u : BranchUse). u.offset) (uses (n + 1) (parts_of sizes is))
+          ≡ branch_offsets (place_of sizes all) (n + 1) is
+          → map (λ (u : BranchUse). u.offset) (uses n (parts_of sizes (i ∷ is)))
+          ≡ branch_offsets (place_of sizes all) n (i ∷ is)
+      go (items.branch test os when target) rest more =
+          ap (λ k. k ∷ map (λ (u : BranchUse). u.offset) (uses (n + 1) (parts_of sizes is)))
+          (sym (branch_offset sizes all (lefts (n + 1) (parts_of sizes is)) n target rest))
+          ∙ ap (λ ks. offset_of (place_of sizes all) n (items.branch test os when target) ∷ ks) more
+      go i rest more = more
+
+  pub offsets_are : (is : List Item) → map (λ (u : BranchUse). u.offset) (uses 0 (parts_of sizes is))
+      ≡ branch_offsets (place_of sizes is) 0 is
+  offsets_are is = offsets_from is 0 is (λ j. let number : j ≡ 0 + j = omega arith in
+      ap (slice_index (lefts_of sizes is)) number)
+
+  -- what is written of a routine
+  pub code_written : (a : Addresses) (v : CodeOf) (is : List Item) (locals : ℕ) (s s1 b b1 z : List ℕ)
+      → record { locals = locals; sizes = sizes; items = is } ≡ v
+      → b ≡ (locals % 256) ∷ [] → b1 ≡ b ++ items_bytes sizes a (place_of sizes is) 0 is → z ≡ b1 → s1 ≡ s ++ z
+      → s1 ≡ s ++ (v.locals % 256) ∷ code_bytes v.sizes a v.items
+  code_written a v is locals s s1 b b1 z ev eb e1 ez e =
+      e ∙ ap (λ w. s ++ w) (ez ∙ e1 ∙ ap (λ w. w ++ items_bytes sizes a (place_of sizes is) 0 is) eb)
+      ∙ ap (λ (w : CodeOf). s ++ (w.locals % 256) ∷ code_bytes w.sizes a w.items) ev

@@ -59,21 +59,21 @@ module _ (c : Running) where
       (at_words (around c) (memory_after d word other) (locals_after d word) (stack_after d word rest) world.text)
       → LedFrom c before (stack.delivered d word (stack.after (at c before) rest (situation_here c)))
   delivered_led items.push word end before rest other is scratch room next leads =
-      arrives c before (word ∷ rest) other (situation_here c) end next scratch.stored refl refl leads
+      arrives c before (word ∷ rest) other (situation_here c) end next scratch.stored refl refl refl leads
   delivered_led (items.into (variables.Local i)) word end before rest other is scratch room next leads =
       let held = variable_held c other (variables.Local i) scratch is in
       arrives_on c before rest other (with_value (variables.Local i) word (situation_here c)) end next room
-      (held.stored word) (held.locals_same word) (held.globals_same word) leads
+      (held.stored word) (held.locals_same word) (held.globals_same word) refl leads
   delivered_led (items.into (variables.Global g)) word end before rest other is scratch room next leads =
       let held = variable_held c other (variables.Global g) scratch is in
       arrives_on c before rest (memory_with c other (variables.Global g) word)
       (with_value (variables.Global g) word (situation_here c)) end next room (held.stored word)
       (held.locals_same word)
-      (held.globals_same word) leads
+      (held.globals_same word) refl leads
   delivered_led items.nowhere word end before rest other is scratch room next leads =
       let after = scratch_with c other 248 word scratch (omega arith) (omega arith) in
       arrives_on c before rest (with_variable other 248 word) (situation_here c) end next room after.stored refl refl
-      leads
+      refl leads
 
   -- the result of an instruction goes there
   pub given : (d : Destination) (word after q : ℕ) (rest other text : List ℕ) → IsHere d → Scratch c other

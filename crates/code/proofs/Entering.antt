@@ -2,7 +2,7 @@
 use Rattle.std.proofs.Common.{◌≡◌, ℕ, zero, suc, ◌+◌, ◌-◌, ◌*◌, ◌<◌, ◌≤◌, List, [], ◌∷◌, ◌++◌, length, take}
 use Rattle.std.proofs.Common.{slice_index, Option, None, Bool, true, false, refl, sym, ap, ◌∙◌, subst, arith}
 use Rattle.std.proofs.Common.{length-append}
-use Rattle.std.specs.Prelude.{nat_lt, nat_le, nat_eq, if◌then◌else◌, replicate}
+use Rattle.std.specs.Prelude.{nat_lt, nat_le, nat_eq, if◌then◌else◌, replicate, map}
 use Rattle.std.specs.List.{All}
 use Rattle.std.proofs.lemmas.Bool.{lt-ltb, le-ltb, le-leb, ne_eqb, ltb-true, ltb-false}
 use Rattle.std.proofs.lemmas.List.{length-take-le, length-replicate}
@@ -24,7 +24,7 @@ use Rattle.items.specs.Stack.{Caller}
 use Rattle.items.specs.Stack as stack
 use Rattle.code.specs.Addresses.{Addresses}
 use Rattle.code.specs.Bytes.{code_bytes}
-use Rattle.code.specs.HeldProgram.{HoldsProgram}
+use Rattle.code.specs.HeldProgram.{sizes_of, HoldsProgram}
 use Rattle.code.proofs.Play.{Stored, address, frames_of, back_of, result_of, other_counts, IsCaller, Led}
 use Rattle.code.proofs.Memory.{holds_on}
 use Rattle.code.proofs.Steps.{point, one_step}
@@ -141,9 +141,10 @@ module _ (memory : List ℕ) (frames : List Frame) (text : List ℕ) (packed cou
 module _ (story : List ℕ) (a : Addresses) (p : ProgramOf) (accepted : IsAccepted p) (holds : HoldsProgram story a p)
   where
     -- the machine counts packed addresses in the story's way
-    pub same_place : (globals memory : List ℕ) (packed : ℕ) → Stored story globals memory
+    pub same_place : (globals memory : List ℕ) (arrays : List (List ℕ)) (packed : ℕ)
+        → Stored story a globals arrays memory
         → unpacked memory packed ≡ unpacked story packed
-    same_place globals memory packed stored =
+    same_place globals memory arrays packed stored =
         ap (λ (b : ℕ). (if nat_eq b 8 then 8 else 4) * packed) (stored.header 0 (omega arith))
 
     frames_count : (callers : List Caller) (counts : List ℕ)
@@ -151,19 +152,21 @@ module _ (story : List ℕ) (a : Addresses) (p : ProgramOf) (accepted : IsAccept
     frames_count [] counts = refl
     frames_count (c ∷ callers) counts = ap suc (frames_count callers (other_counts counts))
 
-    pub callable : (globals memory : List ℕ) (callers : List Caller) (counts : List ℕ) (r : ℕ) → r < length p.routines
-        → Stored story globals memory → All (IsCaller story a p) callers → length callers ≤ 1000
+    pub callable : (globals memory : List ℕ) (arrays : List (List ℕ)) (callers : List Caller) (counts : List ℕ)
+        (r : ℕ)
+        → r < length p.routines → Stored story a globals arrays memory → All (IsCaller story a p) callers
+        → length callers ≤ 1000
         → Callable memory (frames_of story a p callers counts) (slice_index a.routines r)
         (routine_at p.routines r).locals
-    callable globals memory callers counts r known stored all few =
+    callable globals memory arrays callers counts r known stored all few =
         let h = holds.routines r known in
         let packed = slice_index a.routines r in
-        let is = same_place globals memory packed stored in
+        let is = same_place globals memory arrays packed stored in
         let there : Holds memory (unpacked story packed)
-        ((routine_at p.routines r).locals ∷ code_bytes a (routine_items (routine_at p.routines r))) =
+        ((routine_at p.routines r).locals ∷ code_bytes (sizes_of p) a (routine_items (routine_at p.routines r))) =
         holds_on (static_base_of story) (unpacked story packed) story memory _ stored.kept h.above h.bytes in
         let byte = holds_byte memory (unpacked story packed) (routine_at p.routines r).locals
-        (code_bytes a (routine_items (routine_at p.routines r))) there in
+        (code_bytes (sizes_of p) a (routine_items (routine_at p.routines r))) there in
         let waiting = caller_words story a p accepted holds callers counts all in
         let locals = few_locals story a p accepted holds r known in
         record {
@@ -178,13 +181,14 @@ module _ (story : List ℕ) (a : Addresses) (p : ProgramOf) (accepted : IsAccept
     -- A call whose caller waits already: the limit of calls, then the unit, and then the routine begins.
     pub enter_led : (full pc : ℕ) (begin : State) (memory counts : List ℕ) (r : ℕ) (arguments : List ℕ)
         (callers : List Caller) (s : Situation)
-        → r < length p.routines → Stored story s.world.globals memory → length s.world.globals ≡ length p.globals
+        → r < length p.routines → Stored story a s.world.globals s.world.arrays memory
+        → length s.world.globals ≡ length p.globals → map length s.world.arrays ≡ sizes_of p
         → All (IsCaller story a p) callers → length callers ≤ 1000
         → step (point pc s.world.fuel) begin
         ≡ call_packed (point pc s.world.fuel) (back_of story a p callers) (result_of story a p callers)
         (slice_index a.routines r) arguments (in_frames memory (frames_of story a p callers counts) s.world.text)
         → Led story a p full (point pc s.world.fuel) begin s.world (stack.enter p r arguments callers s)
-    enter_led full pc begin memory counts r arguments callers s known stored globals all few called =
+    enter_led full pc begin memory counts r arguments callers s known stored globals sizes all few called =
         go (nat_lt (length callers) 1000) refl s.world.fuel called
       where
         frames : List Frame
@@ -200,7 +204,7 @@ module _ (story : List ℕ) (a : Addresses) (p : ProgramOf) (accepted : IsAccept
         packed = slice_index a.routines r
 
         can : Callable memory frames packed count
-        can = callable s.world.globals memory callers counts r known stored all few
+        can = callable s.world.globals memory s.world.arrays callers counts r known stored all few
 
         Called : ℕ → Type 0
         Called fuel = step (point pc fuel) begin ≡ call_packed (point pc fuel) (back_of story a p callers)
@@ -247,8 +251,8 @@ module _ (story : List ℕ) (a : Addresses) (p : ProgramOf) (accepted : IsAccept
             let place : unpacked memory packed + 1 ≡ address story a p r 0 =
             omega (
               arith,
-              same_place s.world.globals memory packed stored,
-              starts (routine_items (routine_at p.routines r)),
+              same_place s.world.globals memory s.world.arrays packed stored,
+              starts (sizes_of p) (routine_items (routine_at p.routines r)),
             ) in
             record {
               memory = memory;
@@ -261,6 +265,7 @@ module _ (story : List ℕ) (a : Addresses) (p : ProgramOf) (accepted : IsAccept
                 callers = all;
                 few = open_calls;
                 globals = globals;
+                sizes = sizes;
                 stored = stored;
               };
               leads = one_step (point pc (suc fuel)) (point (address story a p r 0) fuel) begin

@@ -97,7 +97,7 @@ module _ (c : Running) where
       let f = world.fuel in
       let st = at_words w m2 locals (x ∷ s) t in
       arrives c (y ∷ x ∷ s) (truth (nat_eq x y) ∷ x ∷ s) m2 (situation_here c) (q0 + 3 + 3 + 4 + 9)
-      (omega (arith, stands.next)) sc2.stored refl refl
+      (omega (arith, stands.next)) sc2.stored refl refl refl
       (moves (point q0 f) (point (q0 + 3) f) (point (q0 + 3 + 3 + 4 + 9) f) (at_words w m locals (y ∷ x ∷ s) t)
       (at_words w m1 locals (x ∷ s) t) (at_words w m2 locals (truth (nat_eq x y) ∷ x ∷ s) t)
       (pull_temporary c m (x ∷ s) t q0 248 y (scratch_here c) (omega arith) (omega arith) (omega arith)
@@ -186,7 +186,7 @@ module _ (c : Running) where
       let result = truth (is_true v || nat_eq x y) in
       let end = at_words w m3 locals (result ∷ x ∷ s) t in
       arrives c (y ∷ v ∷ x ∷ s) (result ∷ x ∷ s) m3 (situation_here c) (q4 + 3 + 9) (omega (arith, stands.next))
-      sc3.stored refl refl
+      sc3.stored refl refl refl
       (moves (point q0 f) (point (q0 + 3) f) (point (q4 + 3 + 9) f) (at_words w m locals (y ∷ v ∷ x ∷ s) t)
       (at_words w m1 locals (v ∷ x ∷ s) t) end
       (pull_temporary c m (v ∷ x ∷ s) t q0 248 y (scratch_here c) (omega arith) (omega arith) (omega arith)

@@ -11,21 +11,25 @@ use Rattle.zcore.specs.Alphabets.{spelling_of}
 use Rattle.zcore.specs.Instruction.{bytes_of}
 use Rattle.zcore.specs.Text.{encoded}
 use Rattle.zcore.specs.Words.{packed}
-use Rattle.checker.specs.Accepted.{IsPrinted, IsRoutine, IsAccepted}
+use Rattle.checker.specs.declared.cause.Cause.{Cause}
+use Rattle.checker.specs.declared.cause.Cause.TheVariants as causes
+use Rattle.checker.specs.World.{words_of}
+use Rattle.code.specs.Addresses.{fault_address}
+use Rattle.checker.specs.Accepted.{IsArray, IsPrinted, IsRoutine, IsAccepted}
 use Rattle.checker.specs.Meaning.{routine_at}
 use Rattle.items.specs.Laws.{ItemsFollow, ItemsAreWithin}
 use Rattle.code.specs.Laws.{Plays}
 use Rattle.lexer.specs.Printable.{IsPrintable}
 use Rattle.checker.specs.Printable.{IsPrintableItem, HasPrintableTexts}
-use Rattle.code.specs.HeldProgram.{HoldsRoutine, HoldsText, HoldsProgram, fault_line}
+use Rattle.code.specs.HeldProgram.{sizes_of, offset_in, HoldsRoutine, HoldsText, HoldsProgram, fault_line}
 use Rattle.code.proofs.Leading.{code_plays_by}
-use Rattle.code.proofs.Stories.{a, main, sum_of_two, program, story, greeting, count_down, quotient_of_seven}
+use Rattle.code.proofs.Stories.{a, table, main, sum_of_two, program, story, greeting, count_down, quotient_of_seven}
 
 -- bytes that pass a test one by one
 small_by : (bytes : List ℕ) → list_all (λ b. nat_lt b 256) bytes ≡ true → All (λ b. b < 256) bytes
 small_by bytes e k d h = ltb-true _ _ (AllPass-from_list_all (λ b. nat_lt b 256) bytes e k d h)
 
-main_held : HoldsRoutine story a 170 main
+main_held : HoldsRoutine story (sizes_of program) a 270 main
 unfolding bytes_of encoded packed spelling_of
 main_held = record {
   bytes = refl;
@@ -36,7 +40,7 @@ main_held = record {
   short = leb-true _ _ refl;
 }
 
-sum_held : HoldsRoutine story a 210 sum_of_two
+sum_held : HoldsRoutine story (sizes_of program) a 310 sum_of_two
 unfolding bytes_of encoded packed spelling_of
 sum_held = record {
   bytes = refl;
@@ -47,15 +51,19 @@ sum_held = record {
   short = leb-true _ _ refl;
 }
 
-division_held : HoldsText story 136 (fault_line (codes "division by zero"))
+faults_held : (cause : Cause) → HoldsText story (fault_address a cause) (fault_line (words_of cause))
 unfolding bytes_of encoded packed spelling_of
-division_held = record { bytes = refl; word = ltb-true _ _ refl; above = leb-true _ _ refl }
+faults_held causes.DivisionByZero = record { bytes = refl; word = ltb-true _ _ refl; above = leb-true _ _ refl }
+faults_held causes.NotAnObject = record { bytes = refl; word = ltb-true _ _ refl; above = leb-true _ _ refl }
+faults_held causes.IndexOutOfRange = record { bytes = refl; word = ltb-true _ _ refl; above = leb-true _ _ refl }
+faults_held causes.NoSuchProperty = record { bytes = refl; word = ltb-true _ _ refl; above = leb-true _ _ refl }
+faults_held causes.PropertyOfManyWords = record { bytes = refl; word = ltb-true _ _ refl; above = leb-true _ _ refl }
+faults_held causes.ObjectInsideItself = record { bytes = refl; word = ltb-true _ _ refl; above = leb-true _ _ refl }
+faults_held causes.NotACharacter = record { bytes = refl; word = ltb-true _ _ refl; above = leb-true _ _ refl }
+faults_held causes.BufferTooSmall = record { bytes = refl; word = ltb-true _ _ refl; above = leb-true _ _ refl }
 
-character_held : HoldsText story 152 (fault_line (codes "not a character"))
-unfolding bytes_of encoded packed spelling_of
-character_held = record { bytes = refl; word = ltb-true _ _ refl; above = leb-true _ _ refl }
-
-routines_held : (r : ℕ) → r < 2 → HoldsRoutine story a (slice_index a.routines r) (routine_at program.routines r)
+routines_held : (r : ℕ) → r < 2
+    → HoldsRoutine story (sizes_of program) a (slice_index a.routines r) (routine_at program.routines r)
 routines_held zero h = main_held
 routines_held (suc zero) h = sum_held
 routines_held (suc (suc r)) h = absurd (omega (arith, h))
@@ -65,19 +73,27 @@ unfolding bytes_of encoded packed spelling_of
 first_global zero h = refl
 first_global (suc g) h = absurd (omega (arith, h))
 
+only_array : (n : ℕ) → n < 1 → slice_index a.arrays n ≡ 544 + offset_in program.arrays n
+only_array zero h = refl
+only_array (suc n) h = absurd (omega (arith, h))
+
 pub held : HoldsProgram story a program
 unfolding bytes_of encoded packed spelling_of
 held = record {
   byte_each = small_by story refl;
   routines = routines_held;
-  division_by_zero = division_held;
-  not_a_character = character_held;
+  faults = faults_held;
   start = refl;
   start_above = leb-true _ _ refl;
   globals_above = leb-true _ _ refl;
   globals_below = leb-true _ _ refl;
   static_below = leb-true _ _ refl;
   globals = first_global;
+  first_array = 544;
+  arrays = refl;
+  arrays_each = only_array;
+  arrays_above = leb-true _ _ refl;
+  arrays_below = leb-true _ _ refl;
 }
 
 greeting_accepted : All (IsPrinted program 0) greeting
@@ -87,7 +103,7 @@ greeting_accepted (suc (suc zero)) d h = (tt, omega arith)
 greeting_accepted (suc (suc (suc k))) d h = absurd (omega (arith, h))
 
 count_accepted : All (IsPrinted program 0) count_down
-count_accepted zero d h = (omega arith, omega arith)
+count_accepted zero d h = ((omega arith, omega arith), omega arith)
 count_accepted (suc k) d h = absurd (omega (arith, h))
 
 quotient_accepted : All (IsPrinted program 0) quotient_of_seven
@@ -102,8 +118,11 @@ main_accepted = (
     (
       ((omega arith, tt), omega arith),
       (
-        (((omega arith, tt), omega arith), (count_accepted, ((omega arith, omega arith), tt))),
-        (quotient_accepted, tt),
+        ((omega arith, omega arith, omega arith), omega arith),
+        (
+          (((omega arith, tt), omega arith), (count_accepted, ((omega arith, omega arith), tt))),
+          (quotient_accepted, tt),
+        ),
       ),
     ),
   ),
@@ -134,7 +153,7 @@ quotient_well zero d h = tt
 quotient_well (suc k) d h = absurd (omega (arith, h))
 
 printable : HasPrintableTexts program
-printable zero d h = (greeting_well, (tt, ((count_well, (tt, tt)), (quotient_well, tt))))
+printable zero d h = (greeting_well, (tt, (tt, ((count_well, (tt, tt)), (quotient_well, tt)))))
 printable (suc zero) d h = (tt, tt)
 printable (suc (suc k)) d h = absurd (omega (arith, h))
 
@@ -142,6 +161,7 @@ printable (suc (suc k)) d h = absurd (omega (arith, h))
 accepted : IsAccepted program
 accepted = record {
   globals = leb-true _ _ refl;
+  arrays = All-cons IsArray table [] (leb-true _ _ refl) (All-nil IsArray);
   routines = All-cons (IsRoutine program) main (sum_of_two ∷ []) main_accepted
       (All-cons (IsRoutine program) sum_of_two [] sum_accepted (All-nil (IsRoutine program)));
   main = ltb-true _ _ refl;

@@ -18,6 +18,7 @@ use Rattle.items.specs.Stack as stack
 use Rattle.code.proofs.Behind.{Holds}
 use Rattle.code.specs.Instructions.{plain, jump_offset}
 use Rattle.code.specs.Bytes.{code_size, place_of}
+use Rattle.code.specs.HeldProgram.{sizes_of}
 use Rattle.code.proofs.Play.{items_in, address, base, Good, Led}
 use Rattle.code.proofs.Parts.{Around, machine as at_words}
 use Rattle.code.proofs.Steps.{point, one_step, step_is, fits_one, one_operand, large_value}
@@ -80,11 +81,12 @@ module _ (c : Running) where
   is_in = items_in story a p routine
 
   -- code is short, and bytes follow it
-  pub short : code_size is_in ≤ 32000
+  pub short : code_size (sizes_of p) is_in ≤ 32000
   short = (holds.routines routine good.known).short
 
   pub target_within : (n : ℕ) → address story a p routine n < length m
-  target_within n = omega (arith, (holds.routines routine good.known).followed, ends_by is_in n, good.stored.size)
+  target_within n = omega
+      (arith, (holds.routines routine good.known).followed, ends_by (sizes_of p) is_in n, good.stored.size)
 
   pub target_above : (n : ℕ) → 64 ≤ address story a p routine n
   target_above n = omega (arith, (holds.routines routine good.known).above, holds.globals_above, holds.globals_below)
@@ -104,12 +106,14 @@ module _ (c : Running) where
     callers = good.callers;
     few = good.few;
     globals = good.globals;
+    sizes = good.sizes;
     stored = good.stored;
   }
 
   -- the jump of an item that leads from the next one
   abbrev offset_to : ℕ → ℕ
-  offset_to target = jump_offset (place_of is_in (place + 1)) (place_of is_in target) % 65536
+  offset_to target = jump_offset (place_of (sizes_of p) is_in (place + 1)) (place_of (sizes_of p) is_in target) %
+      65536
 
   abbrev jump_to : ℕ → Instruction
   jump_to target = plain operations.Jump (Large (offset_to target) ∷ [])
@@ -121,12 +125,15 @@ module _ (c : Running) where
       → jump_target (here c + 3) (offset_to target) ≡ address story a p routine target
   leads_there target there =
       let b = base story a p routine in
-      let e : b + place_of is_in (place + 1) ≡ here c + 3 = omega (arith, there.end, jump_length (offset_to target)) in
-      let word : offset_to target ≡ jump_offset (place_of is_in (place + 1)) (place_of is_in target) = omega arith in
+      let e : b + place_of (sizes_of p) is_in (place + 1)
+      ≡ here c + 3 = omega (arith, there.end, jump_length (offset_to target)) in
+      let word : offset_to target ≡ jump_offset (place_of (sizes_of p) is_in (place + 1))
+      (place_of (sizes_of p) is_in target) = omega arith in
       ap (λ (n : ℕ). jump_target n (offset_to target)) (sym e)
-      ∙ ap (λ (n : ℕ). jump_target (b + place_of is_in (place + 1)) n) word
-      ∙ offset_leads b (place_of is_in (place + 1)) (place_of is_in target)
-      (omega (arith, short, ends_by is_in (place + 1))) (omega (arith, short, ends_by is_in target))
+      ∙ ap (λ (n : ℕ). jump_target (b + place_of (sizes_of p) is_in (place + 1)) n) word
+      ∙ offset_leads b (place_of (sizes_of p) is_in (place + 1)) (place_of (sizes_of p) is_in target)
+      (omega (arith, short, ends_by (sizes_of p) is_in (place + 1)))
+      (omega (arith, short, ends_by (sizes_of p) is_in target))
 
   pub jump_led : (target : ℕ) (words : List ℕ) → length words ≤ 48 → Stands c (items.jump target)
       → LedFrom c words (stack.jump_forward target (at c words))
@@ -145,7 +152,7 @@ module _ (c : Running) where
       go false e = tt
       go true e =
           let before : place < target = ltb-true _ _ e in
-          let up = rises is_in (place + 1) target (omega (arith, before)) in
+          let up = rises (sizes_of p) is_in (place + 1) target (omega (arith, before)) in
           record {
             memory = m;
             count = count;
@@ -179,7 +186,7 @@ module _ (c : Running) where
           (λ _ situation. stack.goes (record (at c words) { place = target; situation = situation })))
 
       behind : target ≤ place → address story a p routine target ≤ here c
-      behind below = let up = rises is_in target place below in omega (arith, up)
+      behind below = let up = rises (sizes_of p) is_in target place below in omega (arith, up)
 
       goes_back : (fuel : ℕ) → target ≤ place → LedWith fuel
       goes_back zero below =

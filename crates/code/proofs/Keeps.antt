@@ -2,18 +2,22 @@
 -- fault.
 use Rattle.std.proofs.Common.{◌≡◌, ◌≢◌, ℕ, zero, suc, List, [], ◌∷◌, ◌++◌, length, Option, Some, None, Bool, true}
 use Rattle.std.proofs.Common.{false, refl, ◌∙◌, subst}
-use Rattle.std.specs.Prelude.{nat_lt, nat_le, if◌then◌else◌, slice_get, ◌==◌, ◌||◌, codes, map}
+use Rattle.std.specs.Prelude.{nat_lt, nat_le, if◌then◌else◌, slice_get, ◌==◌, ◌||◌, map}
 use Rattle.zcore.specs.Arithmetic.{signed_text}
 use Rattle.zcore.specs.Parts.{transcribed}
 use Rattle.zcore.specs.declared.place.Fault.{Fault}
 use Rattle.zcore.specs.declared.place.Place.TheVariants as places
 use Rattle.expressions.specs.declared.tree.Binary.{Binary}
 use Rattle.expressions.specs.declared.tree.Binary.TheVariants as binaries
+use Rattle.expressions.specs.declared.tree.Width.{Width}
 use Rattle.checker.specs.declared.resolved.Variable.{Variable}
 use Rattle.checker.specs.declared.resolved.Variable.TheVariants as variables
 use Rattle.checker.specs.Resolved.{ProgramOf}
+use Rattle.checker.specs.declared.cause.Cause.{Cause}
+use Rattle.checker.specs.declared.cause.Cause.TheVariants as causes
 use Rattle.checker.specs.World.{Outcome, World, Situation, Comes, to, over, Part, bound, put, shown, spend}
-use Rattle.checker.specs.World.{spend_from, fault, value_in, with_value}
+use Rattle.checker.specs.World.{spend_from, fault, value_in, with_value, give, array_at, is_index, read_entry}
+use Rattle.checker.specs.World.{write_entry}
 use Rattle.checker.specs.Meaning.{operate, put_character, put_line, is_character, routine_at, truth, is_true}
 use Rattle.items.specs.Items.{Item, Operand, Destination, routine_items}
 use Rattle.items.specs.Items as items
@@ -65,8 +69,8 @@ bound_keeps {A} {B} w (to a s) k h next = go (k a s) (next a s)
     go (over o) g = g
 bound_keeps w (over o) k h next = h
 
-fault_keeps : (A : Type 0) (words : List ℕ) (s : Situation) → Kept {A = A} s.world (fault words s)
-fault_keeps A words s = bound_keeps s.world (put _ s) _ (put_keeps _ s) (λ a t. λ cause e. absurd (cc))
+fault_keeps : (A : Type 0) (why : Cause) (s : Situation) → Kept {A = A} s.world (fault why s)
+fault_keeps A why s = bound_keeps s.world (put _ s) _ (put_keeps _ s) (λ a t. λ cause e. absurd (cc))
 
 -- a test between two parts
 tested_keeps : {A : Type 0} (b : Bool) (c d : Part A) (s : Situation) → Kept s.world (c s) → Kept s.world (d s)
@@ -81,15 +85,37 @@ operate_keeps binaries.Add x y s = same s.world
 operate_keeps binaries.Subtract x y s = same s.world
 operate_keeps binaries.Multiply x y s = same s.world
 operate_keeps binaries.Divide x y s =
-    tested_keeps (y == 0) _ _ s (fault_keeps ℕ (codes "division by zero") s) (same s.world)
+    tested_keeps (y == 0) _ _ s (fault_keeps ℕ causes.DivisionByZero s) (same s.world)
 operate_keeps binaries.Remainder x y s =
-    tested_keeps (y == 0) _ _ s (fault_keeps ℕ (codes "division by zero") s) (same s.world)
+    tested_keeps (y == 0) _ _ s (fault_keeps ℕ causes.DivisionByZero s) (same s.world)
 operate_keeps binaries.And x y s = same s.world
 operate_keeps binaries.Or x y s = same s.world
 
 character_keeps : (c : ℕ) (s : Situation) → Kept s.world (put_character c s)
 character_keeps c s = tested_keeps (is_character c) _ _ s (put_keeps (transcribed c) s)
-    (fault_keeps (Unit {0}) (codes "not a character") s)
+    (fault_keeps (Unit {0}) causes.NotACharacter s)
+
+-- one of two ends of a part
+either_keeps : {A : Type 0} (w : World) (b : Bool) (c d : Comes A) → Kept w c → Kept w d
+    → Kept w (if b then c else d)
+either_keeps w true c d h g = h
+either_keeps w false c d h g = g
+
+read_entry_keeps : (width : Width) (n i : ℕ) (s : Situation) → Kept s.world (read_entry width n i s)
+read_entry_keeps width n i s =
+    either_keeps s.world (is_index width (array_at s.world.arrays n) i) _ _ (same s.world)
+    (fault_keeps ℕ causes.IndexOutOfRange s)
+
+write_entry_keeps : (width : Width) (n i v : ℕ) (s : Situation) → Kept s.world (write_entry width n i v s)
+write_entry_keeps width n i v s =
+    either_keeps s.world (is_index width (array_at s.world.arrays n) i) _ _ (record { texts = refl; lines = refl })
+    (fault_keeps (Unit {0}) causes.IndexOutOfRange s)
+
+assigned_entry_keeps : (width : Width) (n i v : ℕ) (s : Situation)
+    → Kept s.world (stack.assigned_entry width n i v s)
+assigned_entry_keeps width n i v s =
+    bound_keeps s.world (write_entry width n i v s) (λ _. give v) (write_entry_keeps width n i v s)
+    (λ _ t. same t.world)
 
 value_keeps : (x : Variable) (v : ℕ) (s : Situation) → Same s.world (with_value x v s).world
 value_keeps (variables.Local i) v s = same s.world
@@ -205,6 +231,14 @@ act_keeps p (items.operate op a b d) s =
     (λ y left. operand_keeps s.situation.world a s.situation left _
     (λ x rest. gives_keeps (operate op x y) d rest s (operate_keeps op x y s.situation)))
 act_keeps p (items.step op x d) s = delivered_keeps s.situation.world d _ _ (value_keeps x _ s.situation)
+act_keeps p (items.entry width n o d) s =
+    operand_keeps s.situation.world o s.situation s.stack _
+    (λ i rest. gives_keeps (read_entry width n i) d rest s (read_entry_keeps width n i s.situation))
+act_keeps p (items.assign_entry width n o q d) s =
+    operand_keeps s.situation.world q s.situation s.stack _
+    (λ v left. operand_keeps s.situation.world o s.situation left _
+    (λ i rest. gives_keeps (stack.assigned_entry width n i v) d rest s
+    (assigned_entry_keeps width n i v s.situation)))
 act_keeps p (items.keep x) s = keep_keeps x s.stack s
 act_keeps p items.first_equal s = first_keeps s.stack s
 act_keeps p items.also_equal s = also_keeps s.stack s

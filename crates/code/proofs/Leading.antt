@@ -25,7 +25,7 @@ use Rattle.code.specs.Addresses.{Addresses}
 use Rattle.code.specs.Instructions.{plain}
 use Rattle.code.specs.Bytes.{item_bytes, place_of, offset_of, code_bytes}
 use Rattle.code.specs.Laws.{CodePlays}
-use Rattle.code.specs.HeldProgram.{HoldsProgram}
+use Rattle.code.specs.HeldProgram.{sizes_of, HoldsProgram}
 use Rattle.code.proofs.Play.{items_in, address, Good}
 use Rattle.code.proofs.Memory.{holds_on}
 use Rattle.code.proofs.Places.{next_place, ends_by, starts, follow, item_holds}
@@ -37,6 +37,8 @@ use Rattle.code.proofs.Moving.{move_led, keep_led, drop_below_led}
 use Rattle.code.proofs.Stepping.{step_led}
 use Rattle.code.proofs.Operating.{operate_led}
 use Rattle.code.proofs.Arithmetic.{prefix_led}
+use Rattle.code.proofs.Loading.{entry_led}
+use Rattle.code.proofs.Storing.{assign_entry_led}
 use Rattle.code.proofs.Equalities.{first_equal_led, also_equal_led}
 use Rattle.code.proofs.ItemsThatPrint.{new_line_led, print_number_led, print_text_led}
 use Rattle.code.proofs.Characters.{print_character_led}
@@ -81,6 +83,7 @@ module _ (story : List ℕ) (a : Addresses) (p : ProgramOf) (accepted : IsAccept
       callers = good.callers;
       few = good.few;
       globals = good.globals;
+      sizes = good.sizes;
       stored = good.stored;
     };
   }
@@ -94,18 +97,21 @@ module _ (story : List ℕ) (a : Addresses) (p : ProgramOf) (accepted : IsAccept
       let is = items_in story a p r in
       let base = unpacked story (slice_index a.routines r) + 1 in
       let code = (holds_byte story (unpacked story (slice_index a.routines r)) (routine_at p.routines r).locals
-      (code_bytes a is) h.bytes).rest in
-      let begin : base ≡ base + place_of is 0 = omega (arith, starts is) in
-      let there = item_holds story a (place_of is) base is 0 s.place i (follow a is)
-      (subst (λ q. Holds story q (code_bytes a is)) begin code) e in
+      (code_bytes (sizes_of p) a is) h.bytes).rest in
+      let begin : base ≡ base + place_of (sizes_of p) is 0 = omega (arith, starts (sizes_of p) is) in
+      let there = item_holds (sizes_of p) story a (place_of (sizes_of p) is) base is 0 s.place i
+      (follow (sizes_of p) a is)
+      (subst (λ q. Holds story q (code_bytes (sizes_of p) a is)) begin code) e in
       let zero_and : 0 + s.place ≡ s.place = omega arith in
       record {
         held = holds_on (static_base_of story) (address story a p r s.place) story m
-            (item_bytes a (offset_of (place_of is) s.place i) i) good.stored.kept (omega (arith, h.above))
-            (subst (λ x. Holds story (base + place_of is x) (item_bytes a (offset_of (place_of is) x i) i)) zero_and
+            (item_bytes (sizes_of p) a (offset_of (place_of (sizes_of p) is) s.place i) i) good.stored.kept
+            (omega (arith, h.above))
+            (subst (λ x. Holds story (base + place_of (sizes_of p) is x)
+            (item_bytes (sizes_of p) a (offset_of (place_of (sizes_of p) is) x i) i)) zero_and
             there);
-        next = omega (arith, next_place a is s.place i e);
-        followed = omega (arith, h.followed, ends_by is (s.place + 1), good.stored.size);
+        next = omega (arith, next_place (sizes_of p) a is s.place i e);
+        followed = omega (arith, h.followed, ends_by (sizes_of p) is (s.place + 1), good.stored.size);
       }
 
   items_lead : ItemsLead story a p full
@@ -148,6 +154,9 @@ module _ (story : List ℕ) (a : Addresses) (p : ProgramOf) (accepted : IsAccept
       go (items.operate op x y d) f st is text =
           operate_led c op x y d words is.0 is.1 is.2 (λ e. absurd (cc)) (λ e. absurd (cc)) good.room st
       go (items.step op x d) f st is text = step_led c op x d words is.0 is.1 good.room st
+      go (items.entry width n o d) f st is text = entry_led c width n o d words is.0 is.1 is.2 good.room st
+      go (items.assign_entry width n o q d) f st is text =
+          assign_entry_led c width n o q d words is.0 is.1 is.2 is.3 good.room st
       go (items.keep x) f st is text = keep_led c x words is st
       go items.first_equal f st is text = first_equal_led c words good.room st
       go items.also_equal f st is text = also_equal_led c words good.room st

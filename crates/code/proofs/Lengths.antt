@@ -5,24 +5,30 @@ use Rattle.std.specs.Prelude.{nat_lt, ◌==◌, if◌then◌else◌, not, take, 
 use Rattle.std.specs.List.{flat_map}
 use Rattle.std.proofs.lemmas.Bool.{ltb-true, ltb-false}
 use Rattle.zcore.specs.declared.instruction.Operand.{Operand}
-use Rattle.zcore.specs.declared.instruction.Operand.TheVariants.{Large}
+use Rattle.zcore.specs.declared.instruction.Operand.TheVariants.{Large, Small, Variable}
 use Rattle.zcore.specs.declared.instruction.Operation.{Operation}
 use Rattle.zcore.specs.declared.instruction.Operation.TheVariants as operations
 use Rattle.zcore.specs.declared.operations.OperandCount.{OperandCount}
 use Rattle.zcore.specs.declared.operations.OperandCount.TheVariants.{Two, One, Zero, Several}
-use Rattle.zcore.specs.Operations.{count_of, number_of, has_more_types}
+use Rattle.zcore.specs.Operations.{count_of, has_more_types}
+use Rattle.zcore.specs.Operations as numbers
 use Rattle.zcore.specs.Instruction.{Instruction, opcode_bytes, operand_bytes, result_bytes, branch_bytes, bytes_of}
 use Rattle.forms.specs.declared.layout.Form.TheVariants as form
 use Rattle.forms.specs.Layout.{form_for, size_with, part_size, offset_over}
 use Rattle.expressions.specs.declared.tree.Binary.{Binary}
 use Rattle.expressions.specs.declared.tree.Binary.TheVariants as binaries
+use Rattle.expressions.specs.declared.tree.Width.{Width}
 use Rattle.checker.specs.Meaning.{is_character}
 use Rattle.items.specs.Items.{Item, Destination, Test}
 use Rattle.items.specs.Items as items
-use Rattle.code.specs.Addresses.{Addresses}
+use Rattle.checker.specs.declared.cause.Cause.TheVariants as causes
+use Rattle.code.specs.Addresses.{Addresses, fault_address}
 use Rattle.code.specs.Instructions.{plain, branching, fail, labelled, takes, operands, test_operation, tested_code}
 use Rattle.code.specs.Instructions.{asks_none, least_word, branch_code, calling, call_operation, call_result}
 use Rattle.code.specs.Instructions.{call_code, divided, character_code, item_code, most_tested, most_arguments}
+use Rattle.code.specs.Instructions.{number_of, temporary, constant, pull, giving, result_in, entries_in, is_entry}
+use Rattle.code.specs.Instructions.{load_operation, store_operation, behind_comparison, tested_index, at_index}
+use Rattle.code.specs.Instructions.{entry_code, assigned_takes, assigned_word, passed_on, assign_entry_code}
 use Rattle.code.specs.Bytes.{bytes_of_all, item_bytes, no_addresses, least_size, target_of, part_of}
 
 -- Lists of instructions
@@ -60,10 +66,10 @@ same_call : (op : Operation) (os : List Operand) (result : Option ℕ) (x y : �
     → length (bytes_of (naming op os result x)) ≡ length (bytes_of (naming op os result y))
 unfolding bytes_of
 same_call op os result x y =
-    let first = λ (a : ℕ). opcode_bytes (count_of op) (number_of op) (has_more_types op) (Large a ∷ os) in
+    let first = λ (a : ℕ). opcode_bytes (count_of op) (numbers.number_of op) (has_more_types op) (Large a ∷ os) in
     let given = λ (a : ℕ). flat_map operand_bytes (Large a ∷ os) in
     let e : length (first x) ≡ length (first y) =
-    ap length (same_opcode (count_of op) (number_of op) (has_more_types op) x y os) in
+    ap length (same_opcode (count_of op) (numbers.number_of op) (has_more_types op) x y os) in
     omega (
       arith,
       e,
@@ -107,8 +113,9 @@ divided_same : (a b : Addresses) (op : Operation) (x y : items.Operand) (d : Des
 unfolding bytes_of
 divided_same a b op x items.pushed d = refl
 divided_same a b op x (items.number n) d =
-    either_same (n == 0) (fail a.division_by_zero) (fail b.division_by_zero) _
-    (fail_same a.division_by_zero b.division_by_zero)
+    either_same (n == 0) (fail (fault_address a causes.DivisionByZero))
+    (fail (fault_address b causes.DivisionByZero)) _
+    (fail_same (fault_address a causes.DivisionByZero) (fault_address b causes.DivisionByZero))
 divided_same a b op x (items.variable v) d = refl
 
 character_same : (a b : Addresses) (o : items.Operand)
@@ -116,16 +123,112 @@ character_same : (a b : Addresses) (o : items.Operand)
 unfolding bytes_of
 character_same a b items.pushed = refl
 character_same a b (items.number n) =
-    or_same (is_character n) (fail a.not_a_character) (fail b.not_a_character) _
-    (fail_same a.not_a_character b.not_a_character)
+    or_same (is_character n) (fail (fault_address a causes.NotACharacter))
+    (fail (fault_address b causes.NotACharacter)) _
+    (fail_same (fault_address a causes.NotACharacter) (fault_address b causes.NotACharacter))
 character_same a b (items.variable x) = refl
+
+-- Arrays
+
+-- the tests of an index, without the fault
+abbrev index_tests : ℕ → ℕ → List Instruction
+index_tests count v =
+    branching operations.JumpIfLess (Variable v ∷ Small 0 ∷ []) true (behind_comparison count)
+    ∷ branching operations.JumpIfLess (Variable v ∷ constant count ∷ []) true 6
+    ∷ []
+
+tested_same : (a b : Addresses) (count v : ℕ)
+    → length (bytes_of_all (tested_index a count v)) ≡ length (bytes_of_all (tested_index b count v))
+tested_same a b count v =
+    let fa = fault_address a causes.IndexOutOfRange in
+    let fb = fault_address b causes.IndexOutOfRange in
+    omega (
+      arith,
+      all_length (index_tests count v) (fail fa),
+      all_length (index_tests count v) (fail fb),
+      fail_same fa fb,
+    )
+
+-- what is done at an index is as long as something else that is done there
+abbrev AsLong : (Operand → List Instruction) → (Operand → List Instruction) → Type 0
+AsLong act other = (i : Operand) → length (bytes_of_all (act i)) ≡ length (bytes_of_all (other i))
+
+behind_tests : (a b : Addresses) (count v : ℕ) (act other : Operand → List Instruction) → AsLong act other
+    → length (bytes_of_all (tested_index a count v ++ act (Variable v)))
+    ≡ length (bytes_of_all (tested_index b count v ++ other (Variable v)))
+behind_tests a b count v act other same = omega (
+  arith,
+  all_length (tested_index a count v) (act (Variable v)),
+  all_length (tested_index b count v) (other (Variable v)),
+  tested_same a b count v,
+  same (Variable v),
+)
+
+at_same : (a b : Addresses) (count : ℕ) (o : items.Operand) (act other : Operand → List Instruction)
+    → AsLong act other
+    → length (bytes_of_all (at_index a count o act)) ≡ length (bytes_of_all (at_index b count o other))
+at_same a b count items.pushed act other same =
+    let v = temporary 0 in
+    let pulled = pull v ∷ [] in
+    omega (
+      arith,
+      all_length pulled (tested_index a count v ++ act (Variable v)),
+      all_length pulled (tested_index b count v ++ other (Variable v)),
+      behind_tests a b count v act other same,
+    )
+at_same a b count (items.number n) act other same =
+    let fa = fault_address a causes.IndexOutOfRange in
+    let fb = fault_address b causes.IndexOutOfRange in
+    either_same (is_entry count n) (act (constant n)) (other (constant n)) (fail fa) (same (constant n))
+    ∙ or_same (is_entry count n) (fail fa) (fail fb) (other (constant n)) (fail_same fa fb)
+at_same a b count (items.variable x) act other same = behind_tests a b count (number_of x) act other same
+
+entry_same : (a b : Addresses) (width : Width) (size x y : ℕ) (o : items.Operand) (d : Destination)
+    → length (bytes_of_all (entry_code a width size x o d)) ≡ length (bytes_of_all (entry_code b width size y o d))
+entry_same a b width size x y o d = at_same a b (entries_in width size) o (load x) (load y) (λ i. omega (
+  arith,
+  one_length (giving (load_operation width) (Large x ∷ i ∷ []) (result_in d)),
+  one_length (giving (load_operation width) (Large y ∷ i ∷ []) (result_in d)),
+  same_call (load_operation width) (i ∷ []) (Some (result_in d)) x y,
+))
+  where
+    load : ℕ → Operand → List Instruction
+    load place i = giving (load_operation width) (Large place ∷ i ∷ []) (result_in d) ∷ []
+
+assign_same : (a b : Addresses) (width : Width) (size x y : ℕ) (o q : items.Operand) (d : Destination)
+    → length (bytes_of_all (assign_entry_code a width size x o q d))
+    ≡ length (bytes_of_all (assign_entry_code b width size y o q d))
+assign_same a b width size x y o q d =
+    let count = entries_in width size in
+    omega (
+      arith,
+      all_length (assigned_takes q) (at_index a count o (store x)),
+      all_length (assigned_takes q) (at_index b count o (store y)),
+      at_same a b count o (store x) (store y) stores,
+    )
+  where
+    word : Operand
+    word = assigned_word q
+
+    store : ℕ → Operand → List Instruction
+    store place i = plain (store_operation width) (Large place ∷ i ∷ word ∷ []) ∷ passed_on d word
+
+    stores : AsLong (store x) (store y)
+    stores i = omega (
+      arith,
+      all_length (plain (store_operation width) (Large x ∷ i ∷ word ∷ []) ∷ []) (passed_on d word),
+      all_length (plain (store_operation width) (Large y ∷ i ∷ word ∷ []) ∷ []) (passed_on d word),
+      one_length (plain (store_operation width) (Large x ∷ i ∷ word ∷ [])),
+      one_length (plain (store_operation width) (Large y ∷ i ∷ word ∷ [])),
+      same_call (store_operation width) (i ∷ word ∷ []) None x y,
+    )
 
 -- Labels
 
 -- the bytes of a branch beside its label
 abbrev pub beside : Operation → List Operand → ℕ
-beside op os = length (opcode_bytes (count_of op) (number_of op) (has_more_types op) os ++ flat_map operand_bytes os
-    ++ [])
+beside op os = length (opcode_bytes (count_of op) (numbers.number_of op) (has_more_types op) os
+    ++ flat_map operand_bytes os ++ [])
 
 label_bytes : (b : Bool) (x y z : ℕ) → length (if b then x ∷ [] else y ∷ z ∷ []) ≡ (if b then 1 else 2)
 label_bytes true x y z = refl
@@ -136,7 +239,7 @@ pub branching_length : (op : Operation) (os : List Operand) (when : Bool) (offse
 unfolding bytes_of
 branching_length op os when offset =
     length-append
-    (opcode_bytes (count_of op) (number_of op) (has_more_types op) os ++ flat_map operand_bytes os ++ [])
+    (opcode_bytes (count_of op) (numbers.number_of op) (has_more_types op) os ++ flat_map operand_bytes os ++ [])
     (branch_bytes (Some (record { when = when; offset = offset })))
     ∙ ap (λ k. beside op os + k) (label_bytes (nat_lt offset 64) _ _ _)
 
@@ -209,72 +312,95 @@ branch_some test os when = go (asks_none test os)
 
 -- Items
 
-operate_length : (a : Addresses) (offset : ℕ) (op : Binary) (x y : items.Operand) (d : Destination)
-    → length (item_bytes a offset (items.operate op x y d)) ≡ least_size (items.operate op x y d)
-operate_length a offset binaries.Divide x y d =
-    let e = divided_same a no_addresses operations.Div x y d in
-    omega (
-      arith,
-      e,
-      length-append (bytes_of_all (divided a operations.Div x y d)) [],
-      length-append (bytes_of_all (divided no_addresses operations.Div x y d)) [],
-    )
-operate_length a offset binaries.Remainder x y d =
-    let e = divided_same a no_addresses operations.Mod x y d in
-    omega (
-      arith,
-      e,
-      length-append (bytes_of_all (divided a operations.Mod x y d)) [],
-      length-append (bytes_of_all (divided no_addresses operations.Mod x y d)) [],
-    )
-operate_length a offset op x y d = refl
+-- where arrays have these sizes
+module _ (sizes : List ℕ) where
+  operate_length : (a : Addresses) (offset : ℕ) (op : Binary) (x y : items.Operand) (d : Destination)
+      → length (item_bytes sizes a offset (items.operate op x y d)) ≡ least_size sizes (items.operate op x y d)
+  operate_length a offset binaries.Divide x y d =
+      let e = divided_same a no_addresses operations.Div x y d in
+      omega (
+        arith,
+        e,
+        length-append (bytes_of_all (divided a operations.Div x y d)) [],
+        length-append (bytes_of_all (divided no_addresses operations.Div x y d)) [],
+      )
+  operate_length a offset binaries.Remainder x y d =
+      let e = divided_same a no_addresses operations.Mod x y d in
+      omega (
+        arith,
+        e,
+        length-append (bytes_of_all (divided a operations.Mod x y d)) [],
+        length-append (bytes_of_all (divided no_addresses operations.Mod x y d)) [],
+      )
+  operate_length a offset op x y d = refl
 
--- an item that does not branch has as many bytes wherever all stands
-pub same_length : (a : Addresses) (offset : ℕ) (i : Item) → target_of i ≡ None
-    → length (item_bytes a offset i) ≡ least_size i
-unfolding bytes_of
-same_length a offset (items.operate op x y d) e = operate_length a offset op x y d
-same_length a offset (items.print_character o) e =
-    let same = character_same a no_addresses o in
-    omega (
-      arith,
-      same,
-      length-append (bytes_of_all (character_code a o)) [],
-      length-append (bytes_of_all (character_code no_addresses o)) [],
-    )
-same_length a offset (items.branch test os when target) e = absurd (cc)
-same_length a offset (items.jump target) e = refl
-same_length a offset (items.back target) e = refl
-same_length a offset (items.call r os d) e =
-    let same = call_same (take most_arguments os) d (slice_index a.routines r) (slice_index no_addresses.routines r) in
-    omega (
-      arith,
-      same,
-      length-append (bytes_of_all (item_code a offset (items.call r os d))) [],
-      length-append (bytes_of_all (item_code no_addresses 2 (items.call r os d))) [],
-    )
-same_length a offset i e = refl
+  -- an item that does not branch has as many bytes wherever all stands
+  pub same_length : (a : Addresses) (offset : ℕ) (i : Item) → target_of i ≡ None
+      → length (item_bytes sizes a offset i) ≡ least_size sizes i
+  unfolding bytes_of
+  same_length a offset (items.operate op x y d) e = operate_length a offset op x y d
+  same_length a offset (items.entry width n o d) e =
+      let size = slice_index sizes n % 65536 in
+      let same = entry_same a no_addresses width size (slice_index a.arrays n)
+      (slice_index no_addresses.arrays n) o d in
+      omega (
+        arith,
+        same,
+        length-append (bytes_of_all (item_code sizes a offset (items.entry width n o d))) [],
+        length-append (bytes_of_all (item_code sizes no_addresses 2 (items.entry width n o d))) [],
+      )
+  same_length a offset (items.assign_entry width n o q d) e =
+      let size = slice_index sizes n % 65536 in
+      let same = assign_same a no_addresses width size (slice_index a.arrays n)
+      (slice_index no_addresses.arrays n) o q d in
+      omega (
+        arith,
+        same,
+        length-append (bytes_of_all (item_code sizes a offset (items.assign_entry width n o q d))) [],
+        length-append (bytes_of_all (item_code sizes no_addresses 2 (items.assign_entry width n o q d))) [],
+      )
+  same_length a offset (items.print_character o) e =
+      let same = character_same a no_addresses o in
+      omega (
+        arith,
+        same,
+        length-append (bytes_of_all (character_code a o)) [],
+        length-append (bytes_of_all (character_code no_addresses o)) [],
+      )
+  same_length a offset (items.branch test os when target) e = absurd (cc)
+  same_length a offset (items.jump target) e = refl
+  same_length a offset (items.back target) e = refl
+  same_length a offset (items.call r os d) e =
+      let same = call_same (take most_arguments os) d (slice_index a.routines r)
+      (slice_index no_addresses.routines r) in
+      omega (
+        arith,
+        same,
+        length-append (bytes_of_all (item_code sizes a offset (items.call r os d))) [],
+        length-append (bytes_of_all (item_code sizes no_addresses 2 (items.call r os d))) [],
+      )
+  same_length a offset i e = refl
 
-branch_size : (a : Addresses) (n : ℕ) (rest : List ℕ) (test : Test) (os : List items.Operand) (when : Bool)
-    (target : ℕ)
-    → length (item_bytes a (offset_over (target - (n + 1)) rest) (items.branch test os when target))
-    ≡ part_size n (part_of (items.branch test os when target)) rest
-branch_size a n rest test os when target =
-    let given = take most_tested os in
-    let offset = offset_over (target - (n + 1)) rest in
-    omega (
-      arith,
-      branch_length test given when offset,
-      branch_some test given when,
-      length-append (bytes_of_all (branch_code test given when offset)) [],
-      length-append (bytes_of_all (branch_code test given when 2)) [],
-    )
+  branch_size : (a : Addresses) (n : ℕ) (rest : List ℕ) (test : Test) (os : List items.Operand) (when : Bool)
+      (target : ℕ)
+      → length (item_bytes sizes a (offset_over (target - (n + 1)) rest) (items.branch test os when target))
+      ≡ part_size n (part_of sizes (items.branch test os when target)) rest
+  branch_size a n rest test os when target =
+      let given = take most_tested os in
+      let offset = offset_over (target - (n + 1)) rest in
+      omega (
+        arith,
+        branch_length test given when offset,
+        branch_some test given when,
+        length-append (bytes_of_all (branch_code test given when offset)) [],
+        length-append (bytes_of_all (branch_code test given when 2)) [],
+      )
 
--- the bytes of an item are those of its part
-pub item_length : (a : Addresses) (n : ℕ) (rest : List ℕ) (offset : ℕ) (i : Item)
-    → ((target : ℕ) → target_of i ≡ Some target → offset ≡ offset_over (target - (n + 1)) rest)
-    → length (item_bytes a offset i) ≡ part_size n (part_of i) rest
-item_length a n rest offset (items.branch test os when target) is =
-    ap (λ (k : ℕ). length (item_bytes a k (items.branch test os when target))) (is target refl)
-    ∙ branch_size a n rest test os when target
-item_length a n rest offset i is = omega (arith, same_length a offset i refl)
+  -- the bytes of an item are those of its part
+  pub item_length : (a : Addresses) (n : ℕ) (rest : List ℕ) (offset : ℕ) (i : Item)
+      → ((target : ℕ) → target_of i ≡ Some target → offset ≡ offset_over (target - (n + 1)) rest)
+      → length (item_bytes sizes a offset i) ≡ part_size n (part_of sizes i) rest
+  item_length a n rest offset (items.branch test os when target) is =
+      ap (λ (k : ℕ). length (item_bytes sizes a k (items.branch test os when target))) (is target refl)
+      ∙ branch_size a n rest test os when target
+  item_length a n rest offset i is = omega (arith, same_length a offset i refl)

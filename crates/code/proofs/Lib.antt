@@ -16,7 +16,9 @@ pub mod Equalities
 pub mod Filled
 pub mod Fitting
 pub mod Flags
+pub mod Flat
 pub mod Givens
+pub mod Indexing
 pub mod ItemOperands
 pub mod ItemsThatPrint
 pub mod Jumping
@@ -24,6 +26,7 @@ pub mod Keeps
 pub mod Labels
 pub mod Leading
 pub mod Lengths
+pub mod Loading
 pub mod Memory
 pub mod Most
 pub mod Moving
@@ -34,6 +37,7 @@ pub mod Parts
 pub mod Places
 pub mod Play
 pub mod PrintedTexts
+pub mod Regions
 pub mod Resuming
 pub mod Returning
 pub mod Samples
@@ -49,7 +53,9 @@ pub mod SizesOfTrees
 pub mod SizesSamples
 pub mod Stepping
 pub mod Steps
+pub mod StoredEntries
 pub mod Stories
+pub mod Storing
 pub mod Taking
 pub mod Temporaries
 pub mod Tests

@@ -1,13 +1,16 @@
 -- Words written to the globals of a story in memory, and what they leave as it was.
 use Rattle.std.proofs.Common.{◌≡◌, ◌≢◌, ◌⊎◌, inl, inr, ℕ, ◌+◌, ◌-◌, ◌*◌, ◌/◌, ◌%◌, ◌<◌, ◌≤◌, List, length, take, drop}
 use Rattle.std.proofs.Common.{slice_index, slice_set, sym, ap, ◌∙◌, subst, arith}
+use Rattle.std.specs.List.{concat}
 use Rattle.std.proofs.lemmas.Bool.{cases_eq, cases_lt}
 use Rattle.std.proofs.lemmas.List.{length-set, drop-set-lt, drop-drop, get_or-set_same, get_or-set_other}
 use Rattle.zcore.specs.Bytes.{word_at}
 use Rattle.zcore.specs.Header.{globals_of, static_base_of}
 use Rattle.zcore.specs.Parts.{global_address, with_word}
 use Rattle.zcore.specs.Text.{Holds}
-use Rattle.code.proofs.Play.{Stored}
+use Rattle.code.specs.Addresses.{Addresses}
+use Rattle.code.proofs.Regions.{stands_on}
+use Rattle.code.proofs.Play.{HoldsArrays, Stored}
 
 -- the word of a variable from 16 on, and the memory where it is another
 abbrev pub word_of : List ℕ → ℕ → ℕ
@@ -125,13 +128,14 @@ writes_ground base memory variable word ground low high =
 
 -- The globals of the source
 
-module _ (story globals memory : List ℕ) (ground : Ground (static_base_of story) memory) (few : length globals ≤ 232)
-    (stored : Stored story globals memory) where
+module _ (story : List ℕ) (a : Addresses) (globals : List ℕ) (arrays : List (List ℕ)) (memory : List ℕ)
+    (ground : Ground (static_base_of story) memory) (few : length globals ≤ 232)
+    (stored : Stored story a globals arrays memory) where
   same_globals : globals_of memory ≡ globals_of story
   same_globals =
-      let a = stored.header 12 (omega arith) in
-      let b = stored.header 13 (omega arith) in
-      ap (λ x. x * 256 + slice_index memory 13) a ∙ ap (λ x. slice_index story 12 * 256 + x) b
+      let high = stored.header 12 (omega arith) in
+      let low = stored.header 13 (omega arith) in
+      ap (λ x. x * 256 + slice_index memory 13) high ∙ ap (λ x. slice_index story 12 * 256 + x) low
 
   -- the word of a global of the source
   pub global_is : (g : ℕ) → g < length globals → word_of memory (16 + g) ≡ slice_index globals g
@@ -145,9 +149,27 @@ module _ (story globals memory : List ℕ) (ground : Ground (static_base_of stor
       byte_other memory (global_address memory variable) word q (λ e. omega (arith, h, e, ground.above))
       (λ e. omega (arith, h, e, ground.above)) ∙ stored.header q h
 
+  -- the arrays lie behind the globals
+  arrays_kept : (variable word : ℕ) → 16 ≤ variable → variable < 256
+      → HoldsArrays story a arrays (with_variable memory variable word)
+  arrays_kept variable word low high =
+      let r = stored.regions in
+      let at = global_address memory variable in
+      let before : at + 1 < r.first = omega (arith, low, high, same_globals, r.above) in
+      record {
+        first = r.first;
+        above = r.above;
+        below = r.below;
+        places = r.places;
+        stands = stands_on memory (with_variable memory variable word) r.first (concat arrays) r.stands
+            (length_with memory at word)
+            (λ q h. byte_other memory at word q (λ e. omega (arith, e, h, before))
+            (λ e. omega (arith, e, h, before)));
+      }
+
   -- a variable of the compiler is written
   pub stored_temporary : (variable word : ℕ) → 248 ≤ variable → variable < 256
-      → Stored story globals (with_variable memory variable word)
+      → Stored story a globals arrays (with_variable memory variable word)
   stored_temporary variable word low high =
       let w = writes_ground (static_base_of story) memory variable word ground (omega (arith, low)) high in
       record {
@@ -156,11 +178,12 @@ module _ (story globals memory : List ℕ) (ground : Ground (static_base_of stor
         kept = w.kept ∙ stored.kept;
         values = λ g h. word_other memory (global_address memory variable) word (globals_of story + 2 * g)
             (inl (omega (arith, h, few, low, same_globals))) ∙ stored.values g h;
+        regions = arrays_kept variable word (omega (arith, low)) high;
       }
 
   -- a global of the source is written
   pub stored_global : (g word : ℕ) → g < length globals
-      → Stored story (slice_set globals g word) (with_variable memory (16 + g) word)
+      → Stored story a (slice_set globals g word) arrays (with_variable memory (16 + g) word)
   stored_global g word within =
       let w = writes_ground (static_base_of story) memory (16 + g) word ground (omega arith)
       (omega (arith, within, few)) in
@@ -169,6 +192,7 @@ module _ (story globals memory : List ℕ) (ground : Ground (static_base_of stor
         header = header_kept (16 + g) word;
         kept = w.kept ∙ stored.kept;
         values = λ k h. value k (omega (arith, h, length-set globals g word)) (cases_eq k g);
+        regions = arrays_kept (16 + g) word (omega arith) (omega (arith, within, few));
       }
     where
       value : (k : ℕ) → k < length globals → (k ≡ g) ⊎ (k ≡ g → ⊥)

@@ -14,12 +14,15 @@ use Rattle.items.specs.Items.{or_items, value_items, operands_items, branch_item
 use Rattle.std.proofs.Common.{◌≡◌, ℕ, ◌+◌, ◌*◌, ◌≤◌, List, [], ◌∷◌, ◌++◌, length, Bool, true, false, refl, arith}
 use Rattle.std.specs.Prelude.{if◌then◌else◌, ◌+◌, ◌*◌, ℕ, List, [], ◌∷◌, length}
 
--- An operand has 2 bytes, or 1 and an instruction `pull`; a label has 4 bytes at most; a fault inline 4
+-- An operand has 2 bytes, or 1 and an instruction `pull`; a label has 4 bytes at most, a fault inline 4, and the tests
+-- of an index 10
 abbrev pub most : Item → ℕ
 most (items.move o d) = 5
 most (items.apply_prefix op o d) = 6
 most (items.operate op a b d) = 16
 most (items.step op x d) = 5
+most (items.entry width a o d) = 24
+most (items.assign_entry width a o q d) = 33
 most (items.keep x) = 3
 most items.first_equal = 19
 most items.also_equal = 25
@@ -52,6 +55,8 @@ abbrev mutual
   tokens (source.compare op a b) = tokens a + 1 + tokens b
   tokens (source.equal op a bs) = tokens a + alternative_tokens bs
   tokens (source.assign x v) = 2 + tokens v
+  tokens (source.entry width a i) = 2 + tokens i
+  tokens (source.assign_entry width a i v) = 2 + tokens i + (1 + tokens v)
 
   pub list_tokens : Values → ℕ
   list_tokens none = 0

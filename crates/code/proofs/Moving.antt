@@ -1,7 +1,7 @@
 -- Items that move, keep and drop words.
-use Rattle.std.proofs.Common.{◌≡◌, ℕ, ◌+◌, ◌≤◌, List, [], ◌∷◌, length, Bool, true, false, refl, sym, ◌∙◌, subst}
-use Rattle.std.proofs.Common.{arith}
-use Rattle.std.specs.Prelude.{nat_le, if◌then◌else◌}
+use Rattle.std.proofs.Common.{◌≡◌, ℕ, ◌+◌, ◌≤◌, List, [], ◌∷◌, length, Bool, true, false, refl, sym, ap, ◌∙◌}
+use Rattle.std.proofs.Common.{subst, arith}
+use Rattle.std.specs.Prelude.{nat_le, if◌then◌else◌, map}
 use Rattle.std.proofs.lemmas.Bool.{leb-true}
 use Rattle.zcore.specs.declared.instruction.Operand.TheVariants.{Small}
 use Rattle.zcore.specs.Instruction.{bytes_of}
@@ -136,8 +136,9 @@ module _ (c : Running) where
   -- the machine comes to the next item, where a variable has changed
   pub written_led : (before after m1 : List ℕ) (situation : Situation) (end : ℕ) → end ≡ next_place c
       → length after ≤ 48
-      → Stored story situation.world.globals m1
+      → Stored story a situation.world.globals situation.world.arrays m1
       → length situation.locals ≡ length locals → length situation.world.globals ≡ length world.globals
+      → map length situation.world.arrays ≡ map length world.arrays
       → situation.world.fuel ≡ world.fuel → situation.world.text ≡ world.text
       → Leads (point (here c) world.fuel) (at_words (around c) m locals before world.text) (point end world.fuel)
       (at_words (around c) m1 situation.locals after world.text)
@@ -148,16 +149,17 @@ module _ (c : Running) where
         callers = callers;
         situation = situation;
       }))
-  written_led before after m1 situation end is room stored locals_same globals_same fuel text leads =
+  written_led before after m1 situation end is room stored locals_same globals_same arrays_same fuel text leads =
       let one = subst (λ f. Leads (point (here c) world.fuel) (at_words (around c) m locals before world.text)
       (point end f) (at_words (around c) m1 situation.locals after world.text)) (sym fuel) leads in
       let two = subst (λ t. Leads (point (here c) world.fuel) (at_words (around c) m locals before world.text)
       (point end situation.world.fuel) (at_words (around c) m1 situation.locals after t)) (sym text) one in
-      arrives_on c before after m1 situation end is room stored locals_same globals_same two
+      arrives_on c before after m1 situation end is room stored locals_same globals_same arrays_same two
 
   pub within_led : (before after m1 : List ℕ) (situation : Situation) (end : ℕ) → end ≡ next_place c
-      → Stored story situation.world.globals m1
+      → Stored story a situation.world.globals situation.world.arrays m1
       → length situation.locals ≡ length locals → length situation.world.globals ≡ length world.globals
+      → map length situation.world.arrays ≡ map length world.arrays
       → situation.world.fuel ≡ world.fuel → situation.world.text ≡ world.text
       → Leads (point (here c) world.fuel) (at_words (around c) m locals before world.text) (point end world.fuel)
       (at_words (around c) m1 situation.locals after world.text)
@@ -168,15 +170,15 @@ module _ (c : Running) where
         callers = callers;
         situation = situation;
       }))
-  within_led before after m1 situation end is stored locals_same globals_same fuel text leads =
+  within_led before after m1 situation end is stored locals_same globals_same arrays_same fuel text leads =
       go (nat_le (length after) 48) refl
     where
       go : (b : Bool) → nat_le (length after) 48 ≡ b
           → LedFrom c before (if b then stack.goes
           (record { routine = routine; place = place + 1; stack = after; callers = callers; situation = situation })
           else stack.stuck)
-      go true e = written_led before after m1 situation end is (leb-true _ _ e) stored locals_same globals_same fuel
-          text leads
+      go true e = written_led before after m1 situation end is (leb-true _ _ e) stored locals_same globals_same
+          arrays_same fuel text leads
       go false e = tt
 
   pub keep_led : (x : source.Variable) (s : List ℕ) → IsVariableHere x → Stands c (items.keep x)
@@ -190,7 +192,7 @@ module _ (c : Running) where
       let end = here c + length (bytes_of i) in
       within_led (v ∷ s) (v ∷ s) (memory_with c m x v) (with_value x v (situation_here c)) end there.end
       (held.stored v)
-      (held.locals_same v) (held.globals_same v)
+      (held.locals_same v) (held.globals_same v) (ap (map length) (held.arrays_same v))
       (fuel_same x v (situation_here c)) (text_same x v (situation_here c))
       (one_step (point (here c) world.fuel) (point end world.fuel) (at_words (around c) m locals (v ∷ s) world.text)
       (at_words (around c) (memory_with c m x v) l1 (v ∷ s) world.text)
@@ -204,7 +206,7 @@ module _ (c : Running) where
       let i = pull 0 in
       let there = single c items.drop_below i refl refl stands in
       let end = here c + length (bytes_of i) in
-      arrives c (v ∷ x ∷ s) (v ∷ s) m (situation_here c) end there.end good.stored refl refl
+      arrives c (v ∷ x ∷ s) (v ∷ s) m (situation_here c) end there.end good.stored refl refl refl
       (one_step (point (here c) world.fuel) (point end world.fuel)
       (at_words (around c) m locals (v ∷ x ∷ s) world.text)
       (at_words (around c) m locals (v ∷ s) world.text)

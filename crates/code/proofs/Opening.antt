@@ -1,6 +1,7 @@
 -- The opening of a story that holds a program: Main is called, and the rest is what the program means.
 use Rattle.std.proofs.Common.{◌≡◌, ℕ, ◌+◌, List, [], ◌∷◌, slice_index, Option, Some, None, refl, sym, ap, ◌∙◌, arith}
 use Rattle.std.specs.Prelude.{map}
+use Rattle.std.specs.List.{concat}
 use Rattle.zcore.specs.declared.instruction.Operand.TheVariants.{Large}
 use Rattle.zcore.specs.declared.instruction.Operation.TheVariants.{Call1n, Quit}
 use Rattle.zcore.specs.Bytes.{word_at}
@@ -18,6 +19,7 @@ use Rattle.code.specs.Addresses.{Addresses}
 use Rattle.code.specs.Instructions.{plain}
 use Rattle.code.specs.Laws.{Plays}
 use Rattle.code.specs.HeldProgram.{HoldsProgram}
+use Rattle.code.proofs.Regions.{held_stands}
 use Rattle.code.proofs.Play.{Does, Stored}
 use Rattle.code.proofs.Steps.{step_is, first_held, fits_one, one_operand, large_value}
 use Rattle.code.proofs.Keeps.{enter_keeps, from_no_fault, exec_no_fault}
@@ -27,7 +29,7 @@ use Rattle.code.proofs.Entering.{enter_led}
 module _ (story : List ℕ) (a : Addresses) (p : ProgramOf) (accepted : IsAccepted p) (holds : HoldsProgram story a p)
     (full : ℕ) (lines : List (List ℕ)) where
   abbrev begins : Situation
-  begins = record { locals = []; world = first_world p.globals full lines }
+  begins = record { locals = []; world = first_world p full lines }
 
   -- the first instruction calls Main
   calls_main : step (first_next story full) (first_state story)
@@ -51,18 +53,31 @@ module _ (story : List ℕ) (a : Addresses) (p : ProgramOf) (accepted : IsAccept
       ))
       (one_operand (first_state story) (first_state story) (Large word) word (large_value (first_state story) word))
 
-  stored : Stored story p.globals story
-  stored = record { size = refl; header = λ q h. refl; kept = refl; values = holds.globals }
+  stored : Stored story a p.globals p.arrays story
+  stored = record {
+    size = refl;
+    header = λ q h. refl;
+    kept = refl;
+    values = holds.globals;
+    regions = record {
+      first = holds.first_array;
+      above = holds.arrays_above;
+      below = holds.arrays_below;
+      places = holds.arrays_each;
+      stands = held_stands story holds.first_array (concat p.arrays)
+          (omega (arith, holds.arrays_below, holds.static_below)) holds.arrays;
+    };
+  }
 
   module _ (follows : ItemsFollow) (led : ItemsLead story a p full) where
-    does : Does full (first_next story full) (first_state story) (first_world p.globals full lines)
+    does : Does full (first_next story full) (first_state story) (first_world p full lines)
         (meaning p full lines)
     does =
         let f = follows p accepted full lines in
         led_on story a p full f.count (sim story a p full led f.count) (first_next story full) (first_state story)
-        (first_world p.globals full lines) (stack.start p full lines) (meaning p full lines)
+        (first_world p full lines) (stack.start p full lines) (meaning p full lines)
         (enter_led story a p accepted holds full (word_at story 6) (first_state story) story [] p.main [] [] begins
-        accepted.main stored refl (λ k d h. absurd (omega (arith, h))) (omega arith) calls_main)
+        accepted.main stored refl refl (λ k d h. absurd (omega (arith, h))) (omega arith) calls_main)
         (enter_keeps p p.main [] [] begins) f.comes
 
     opened : opening story full ≡ Some does.whole
@@ -80,7 +95,7 @@ module _ (story : List ℕ) (a : Addresses) (p : ProgramOf) (accepted : IsAccept
           ∙ sym does.place;
       no_fault =
           let f = follows p accepted full lines in
-          from_no_fault (first_world p.globals full lines) (stack.start p full lines) (stack.exec p f.count)
+          from_no_fault (first_world p full lines) (stack.start p full lines) (stack.exec p f.count)
           (meaning p full lines)
           (enter_keeps p p.main [] [] begins) (λ s e. exec_no_fault p f.count s (meaning p full lines) e) f.comes;
     }

@@ -1,5 +1,5 @@
 -- Items that operate on words, with the fault of a division.
-use Rattle.std.proofs.Common.{◌≡◌, ◌≢◌, ℕ, zero, suc, ◌+◌, ◌-◌, ◌*◌, ◌%◌, ◌<◌, ◌≤◌, List, [], ◌∷◌, ◌++◌, codes}
+use Rattle.std.proofs.Common.{◌≡◌, ◌≢◌, ℕ, zero, suc, ◌+◌, ◌-◌, ◌*◌, ◌%◌, ◌<◌, ◌≤◌, List, [], ◌∷◌, ◌++◌}
 use Rattle.std.proofs.Common.{length, Some, None, Bool, true, false, refl, ap, subst, arith, length-append}
 use Rattle.std.specs.Prelude.{nat_le, if◌then◌else◌, ◌==◌, bit_and, bit_or}
 use Rattle.std.specs.List.{flat_map}
@@ -16,6 +16,8 @@ use Rattle.zcore.specs.Parts.{operand_value}
 use Rattle.zcore.specs.Execution.{give_result, divide, modulo, perform}
 use Rattle.expressions.specs.declared.tree.Binary.{Binary}
 use Rattle.expressions.specs.declared.tree.Binary.TheVariants as binaries
+use Rattle.checker.specs.declared.cause.Cause.TheVariants as causes
+use Rattle.code.specs.Addresses.{fault_address}
 use Rattle.checker.specs.World.{Part, value_in}
 use Rattle.checker.specs.World as source
 use Rattle.checker.specs.Meaning.{with_prefix}
@@ -35,7 +37,7 @@ use Rattle.code.proofs.Steps.{variable_value, landing}
 use Rattle.code.proofs.SingleSteps.{branch_step}
 use Rattle.code.proofs.Fitting.{Shaped, held_bytes, encodable}
 use Rattle.code.proofs.ItemOperands.{constant_value}
-use Rattle.code.proofs.Texts.{division_line}
+use Rattle.code.proofs.Texts.{cause_line}
 use Rattle.code.proofs.Lengths.{one_length}
 use Rattle.code.proofs.Arriving.{Running, at, around, here, high, above, kept, LedFrom, Stands, code_here, code_held}
 use Rattle.code.proofs.Arriving.{situation_here}
@@ -74,13 +76,13 @@ module _ (c : Running) where
   abbrev Divided : Bool → ℕ → Destination → List ℕ → List ℕ → stack.Next
   Divided faulty w d before rest =
       stack.after_part
-      ((if faulty then source.fault (codes "division by zero") else source.give w) (situation_here c))
+      ((if faulty then source.fault causes.DivisionByZero else source.give w) (situation_here c))
       (λ v situation. stack.delivered d v (stack.after (at c before) rest situation))
 
   -- what stands after the test
   record Tested (op : Operation) (x : items.Operand) (variable q : ℕ) (d : Destination) : Type 0 where
     test : Holds m q (bytes_of (test_of variable))
-    fault : Holds m (q + 3) (flat_map bytes_of (fail a.division_by_zero))
+    fault : Holds m (q + 3) (flat_map bytes_of (fail (fault_address a causes.DivisionByZero)))
     last : Holds m (q + 7) (bytes_of (giving op (in_place x ∷ Variable variable ∷ []) (result_in d)))
     size : length (flat_map bytes_of (divided_by a op x variable d))
         ≡ 7 + length (bytes_of (giving op (in_place x ∷ Variable variable ∷ []) (result_in d)))
@@ -90,9 +92,9 @@ module _ (c : Running) where
   unfolding bytes_of
   tested op x variable q d h =
       let i = giving op (in_place x ∷ Variable variable ∷ []) (result_in d) in
-      let rest = fail a.division_by_zero ++ i ∷ [] in
+      let rest = fail (fault_address a causes.DivisionByZero) ++ i ∷ [] in
       let h1 = others_held m q (test_of variable) rest h in
-      let parts = holds_append m (q + 3) (flat_map bytes_of (fail a.division_by_zero)) (flat_map bytes_of (i ∷ []))
+      let parts = holds_append m (q + 3) (flat_map bytes_of (fail (fault_address a causes.DivisionByZero))) (flat_map bytes_of (i ∷ []))
       h1 in
       let number : q + 3 + 4 ≡ q + 7 = omega arith in
       record {
@@ -155,9 +157,9 @@ module _ (c : Running) where
       go true e v rest alone =
           let there = subst (λ b. Leads (point q world.fuel) st (point (landing false b (q + 3) 4) world.fuel) st) e
           tests in
-          fails_led c (codes "division by zero") a.division_by_zero (q + 3) before mid other
-          (λ v situation. stack.delivered d v (stack.after (at c before) rest situation)) division_line
-          holds.division_by_zero
+          fails_led c causes.DivisionByZero (fault_address a causes.DivisionByZero) (q + 3) before mid other
+          (λ v situation. stack.delivered d v (stack.after (at c before) rest situation)) (cause_line causes.DivisionByZero)
+          (holds.faults causes.DivisionByZero)
           (omega (arith, from)) scratch parts.fault
           (leads_then (point (here c) world.fuel) (point q world.fuel) (point (q + 3) world.fuel)
           (at_words (around c) m locals before world.text) st st leads there)
@@ -183,9 +185,9 @@ module _ (c : Running) where
   -- a division by a number
   number_led : (op : Operation) (f : ℕ → ℕ → ℕ) (x : items.Operand) (n : ℕ) (d : Destination) (s : List ℕ) (b : Bool)
       → (n == 0) ≡ b → IsOperandHere c x → IsHere c d → length s ≤ 48
-      → Holds m (here c) (flat_map bytes_of (if b then fail a.division_by_zero
+      → Holds m (here c) (flat_map bytes_of (if b then fail (fault_address a causes.DivisionByZero)
       else giving op (in_place x ∷ in_place (items.number n) ∷ []) (result_in d) ∷ []))
-      → here c + length (flat_map bytes_of (if b then fail a.division_by_zero
+      → here c + length (flat_map bytes_of (if b then fail (fault_address a causes.DivisionByZero)
       else giving op (in_place x ∷ in_place (items.number n) ∷ []) (result_in d) ∷ [])) ≡ next_place c
       → least_operands op ≤ 2 → 2 ≤ most_operands op → has_result op ≡ true → FitsBranch (has_branch op) None
       → ((v w : ℕ) → (w == 0) ≡ false → (before : Next) (after : ℕ) (st : State)
@@ -194,8 +196,8 @@ module _ (c : Running) where
       → LedFrom c s (stack.with_operand x (situation_here c) s (λ v rest. Divided b (f v n) d s rest))
   number_led op f x n d s true e is is_d short h end least most result branch performs =
       by_operand x (situation_here c) s (LedFrom c s) (λ v rest. Divided true (f v n) d s rest) tt (λ v rest alone.
-      fails_led c (codes "division by zero") a.division_by_zero (here c) s s m
-      (λ v situation. stack.delivered d v (stack.after (at c s) rest situation)) division_line holds.division_by_zero
+      fails_led c causes.DivisionByZero (fault_address a causes.DivisionByZero) (here c) s s m
+      (λ v situation. stack.delivered d v (stack.after (at c s) rest situation)) (cause_line causes.DivisionByZero) (holds.faults causes.DivisionByZero)
       (omega arith) (scratch_here c) h
       (stays (point (here c) world.fuel) (at_words (around c) m locals s world.text)))
   number_led op f x n d s false e is is_d short h end least most result branch performs =

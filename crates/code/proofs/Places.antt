@@ -70,149 +70,158 @@ at_end k [] (suc n) h = refl
 at_end k (y ∷ ps) zero h = absurd (omega (arith, h))
 at_end k (y ∷ ps) (suc n) h = at_end (k + 1) ps n (omega (arith, h))
 
-part_at : (is : List Item) (n : ℕ) (i : Item) → slice_get is n ≡ Some i → slice_get (parts_of is) n ≡ Some (part_of i)
-part_at [] n i e = absurd (cc)
-part_at (y ∷ is) zero i e = let same : y ≡ i = cc in ap (λ z. Some (part_of z)) same
-part_at (y ∷ is) (suc n) i e = part_at is n i e
+-- where arrays have these sizes
+module _ (sizes : List ℕ) where
+  part_at : (is : List Item) (n : ℕ) (i : Item) → slice_get is n ≡ Some i
+      → slice_get (parts_of sizes is) n ≡ Some (part_of sizes i)
+  part_at [] n i e = absurd (cc)
+  part_at (y ∷ is) zero i e = let same : y ≡ i = cc in ap (λ z. Some (part_of sizes z)) same
+  part_at (y ∷ is) (suc n) i e = part_at is n i e
 
--- Places
+  -- Places
 
-pub starts : (is : List Item) → place_of is 0 ≡ 0
-starts is = let e = first_is (lefts_of is) in omega (arith, e)
+  pub starts : (is : List Item) → place_of sizes is 0 ≡ 0
+  starts is = let e = first_is (lefts_of sizes is) in omega (arith, e)
 
-pub ends_by : (is : List Item) (n : ℕ) → place_of is n ≤ code_size is
-ends_by is n = omega arith
+  pub ends_by : (is : List Item) (n : ℕ) → place_of sizes is n ≤ code_size sizes is
+  ends_by is n = omega arith
 
-pub ends_at : (is : List Item) (n : ℕ) → length (parts_of is) ≤ n → place_of is n ≡ code_size is
-ends_at is n h = let e = at_end 0 (parts_of is) n h in omega (arith, e)
+  pub ends_at : (is : List Item) (n : ℕ) → length (parts_of sizes is) ≤ n → place_of sizes is n ≡ code_size sizes is
+  ends_at is n h = let e = at_end 0 (parts_of sizes is) n h in omega (arith, e)
 
-pub rises : (is : List Item) (m n : ℕ) → m ≤ n → place_of is m ≤ place_of is n
-rises is m n h = let e = falls 0 (parts_of is) m n h in omega (arith, e)
+  pub rises : (is : List Item) (m n : ℕ) → m ≤ n → place_of sizes is m ≤ place_of sizes is n
+  rises is m n h = let e = falls 0 (parts_of sizes is) m n h in omega (arith, e)
 
-pub branch_offset : (is : List Item) (rest : List ℕ) (n target : ℕ)
-    → ((j : ℕ) → slice_index rest j ≡ slice_index (lefts_of is) (suc n + j))
-    → 2 + (place_of is target - place_of is (n + 1)) ≡ offset_over (target - (n + 1)) rest
-branch_offset is rest n target at = go (cases_lt n target)
-  where
-    next : n + 1 ≡ suc n + 0
-    next = omega arith
+  pub branch_offset : (is : List Item) (rest : List ℕ) (n target : ℕ)
+      → ((j : ℕ) → slice_index rest j ≡ slice_index (lefts_of sizes is) (suc n + j))
+      → 2 + (place_of sizes is target - place_of sizes is (n + 1)) ≡ offset_over (target - (n + 1)) rest
+  branch_offset is rest n target at = go (cases_lt n target)
+    where
+      next : n + 1 ≡ suc n + 0
+      next = omega arith
 
-    behind : first rest ≡ slice_index (lefts_of is) (n + 1)
-    behind = first_is rest ∙ at 0 ∙ sym (ap (slice_index (lefts_of is)) next)
+      behind : first rest ≡ slice_index (lefts_of sizes is) (n + 1)
+      behind = first_is rest ∙ at 0 ∙ sym (ap (slice_index (lefts_of sizes is)) next)
 
-    go : (n < target) ⊎ (target ≤ n) → 2 + (place_of is target - place_of is (n + 1))
-        ≡ offset_over (target - (n + 1)) rest
-    go (inl h) =
-        let number : suc n + (target - (n + 1)) ≡ target = omega (arith, h) in
-        let there = at (target - (n + 1)) ∙ ap (slice_index (lefts_of is)) number in
-        let low = falls 0 (parts_of is) (n + 1) target (omega (arith, h)) in
-        let most = falls 0 (parts_of is) 0 (n + 1) (omega arith) in
-        omega (arith, behind, there, low, most, first_is (lefts_of is))
-    go (inr h) =
-        let none : target - (n + 1) ≡ 0 = omega (arith, h) in
-        let there = ap (slice_index rest) none ∙ sym (first_is rest) in
-        let low = rises is target (n + 1) (omega (arith, h)) in
-        omega (arith, there, low)
+      go : (n < target) ⊎ (target ≤ n) → 2 + (place_of sizes is target - place_of sizes is (n + 1))
+          ≡ offset_over (target - (n + 1)) rest
+      go (inl h) =
+          let number : suc n + (target - (n + 1)) ≡ target = omega (arith, h) in
+          let there = at (target - (n + 1)) ∙ ap (slice_index (lefts_of sizes is)) number in
+          let low = falls 0 (parts_of sizes is) (n + 1) target (omega (arith, h)) in
+          let most = falls 0 (parts_of sizes is) 0 (n + 1) (omega arith) in
+          omega (arith, behind, there, low, most, first_is (lefts_of sizes is))
+      go (inr h) =
+          let none : target - (n + 1) ≡ 0 = omega (arith, h) in
+          let there = ap (slice_index rest) none ∙ sym (first_is rest) in
+          let low = rises is target (n + 1) (omega (arith, h)) in
+          omega (arith, there, low)
 
--- the next item stands behind an item's bytes
-pub next_place : (a : Addresses) (is : List Item) (n : ℕ) (i : Item) → slice_get is n ≡ Some i
-    → place_of is (n + 1) ≡ place_of is n + length (item_bytes a (offset_of (place_of is) n i) i)
-next_place a is n i e =
-    let s = split 0 (parts_of is) n (part_of i) (part_at is n i e) in
-    let number : 0 + n ≡ n = omega arith in
-    let same = ap (λ k. part_size k (part_of i) s.rest) number in
-    let size = item_length a n s.rest (offset_of (place_of is) n i) i (λ target t. leads i target t s.rest s.at) in
-    let next : n + 1 ≡ suc n = omega arith in
-    let behind = ap (slice_index (lefts_of is)) next in
-    let low = falls 0 (parts_of is) 0 n (omega arith) in
-    omega (arith, s.here, same, size, behind, low, first_is (lefts_of is))
-  where
-    leads : (i : Item) (target : ℕ) → target_of i ≡ Some target → (rest : List ℕ)
-        → ((j : ℕ) → slice_index rest j ≡ slice_index (lefts_of is) (suc n + j))
-        → offset_of (place_of is) n i ≡ offset_over (target - (n + 1)) rest
-    leads (items.branch test os when t) target e rest at =
-        let same : t ≡ target = cc in
-        branch_offset is rest n t at ∙ ap (λ (x : ℕ). offset_over (x - (n + 1)) rest) same
-    leads i target e rest at = absurd (cc)
+  -- the next item stands behind an item's bytes
+  pub next_place : (a : Addresses) (is : List Item) (n : ℕ) (i : Item) → slice_get is n ≡ Some i
+      → place_of sizes is (n + 1)
+      ≡ place_of sizes is n + length (item_bytes sizes a (offset_of (place_of sizes is) n i) i)
+  next_place a is n i e =
+      let s = split 0 (parts_of sizes is) n (part_of sizes i) (part_at is n i e) in
+      let number : 0 + n ≡ n = omega arith in
+      let same = ap (λ k. part_size k (part_of sizes i) s.rest) number in
+      let size = item_length sizes a n s.rest (offset_of (place_of sizes is) n i) i
+      (λ target t. leads i target t s.rest s.at) in
+      let next : n + 1 ≡ suc n = omega arith in
+      let behind = ap (slice_index (lefts_of sizes is)) next in
+      let low = falls 0 (parts_of sizes is) 0 n (omega arith) in
+      omega (arith, s.here, same, size, behind, low, first_is (lefts_of sizes is))
+    where
+      leads : (i : Item) (target : ℕ) → target_of i ≡ Some target → (rest : List ℕ)
+          → ((j : ℕ) → slice_index rest j ≡ slice_index (lefts_of sizes is) (suc n + j))
+          → offset_of (place_of sizes is) n i ≡ offset_over (target - (n + 1)) rest
+      leads (items.branch test os when t) target e rest at =
+          let same : t ≡ target = cc in
+          branch_offset is rest n t at ∙ ap (λ (x : ℕ). offset_over (x - (n + 1)) rest) same
+      leads i target e rest at = absurd (cc)
 
--- Bytes
+  -- Bytes
 
--- where a list of items ends
-abbrev pub Follow : Addresses → (ℕ → ℕ) → ℕ → List Item → Type 0
-Follow a places from is = (n : ℕ) (i : Item) → slice_get is n ≡ Some i
-    → places (from + n + 1) ≡ places (from + n) + length (item_bytes a (offset_of places (from + n) i) i)
+  -- where a list of items ends
+  abbrev pub Follow : Addresses → (ℕ → ℕ) → ℕ → List Item → Type 0
+  Follow a places from is = (n : ℕ) (i : Item) → slice_get is n ≡ Some i
+      → places (from + n + 1) ≡ places (from + n) + length (item_bytes sizes a (offset_of places (from + n) i) i)
 
-one_on : (a : Addresses) (places : ℕ → ℕ) (from : ℕ) (y : Item) (is : List Item) → Follow a places from (y ∷ is)
-    → Follow a places (from + 1) is
-one_on a places from y is f n i e =
-    let number : from + suc n ≡ from + 1 + n = omega arith in
-    subst (λ k. places (k + 1) ≡ places k + length (item_bytes a (offset_of places k i) i)) number (f (suc n) i e)
+  one_on : (a : Addresses) (places : ℕ → ℕ) (from : ℕ) (y : Item) (is : List Item) → Follow a places from (y ∷ is)
+      → Follow a places (from + 1) is
+  one_on a places from y is f n i e =
+      let number : from + suc n ≡ from + 1 + n = omega arith in
+      subst (λ k. places (k + 1) ≡ places k + length (item_bytes sizes a (offset_of places k i) i)) number
+      (f (suc n) i e)
 
-first_on : (a : Addresses) (places : ℕ → ℕ) (from : ℕ) (y : Item) (is : List Item) → Follow a places from (y ∷ is)
-    → places (from + 1) ≡ places from + length (item_bytes a (offset_of places from y) y)
-first_on a places from y is f =
-    let number : from + 0 ≡ from = omega arith in
-    subst (λ k. places (k + 1) ≡ places k + length (item_bytes a (offset_of places k y) y)) number (f 0 y refl)
+  first_on : (a : Addresses) (places : ℕ → ℕ) (from : ℕ) (y : Item) (is : List Item) → Follow a places from (y ∷ is)
+      → places (from + 1) ≡ places from + length (item_bytes sizes a (offset_of places from y) y)
+  first_on a places from y is f =
+      let number : from + 0 ≡ from = omega arith in
+      subst (λ k. places (k + 1) ≡ places k + length (item_bytes sizes a (offset_of places k y) y)) number
+      (f 0 y refl)
 
--- the bytes of the item of a number
-pub item_holds : (memory : List ℕ) (a : Addresses) (places : ℕ → ℕ) (base : ℕ) (is : List Item) (from n : ℕ)
-    (i : Item)
-    → Follow a places from is
-    → Holds memory (base + places from) (items_bytes a places from is) → slice_get is n ≡ Some i
-    → Holds memory (base + places (from + n)) (item_bytes a (offset_of places (from + n) i) i)
-item_holds memory a places base [] from n i f h e = absurd (cc)
-item_holds memory a places base (y ∷ is) from zero i f h e =
-    let same : y ≡ i = cc in
-    let number : from ≡ from + 0 = omega arith in
-    let here = (holds_append memory (base + places from) (item_bytes a (offset_of places from y) y)
-    (items_bytes a places (from + 1) is) h).0 in
-    subst (λ k. Holds memory (base + places k) (item_bytes a (offset_of places k i) i)) number
-    (subst (λ z. Holds memory (base + places from) (item_bytes a (offset_of places from z) z)) same here)
-item_holds memory a places base (y ∷ is) from (suc n) i f h e =
-    let rest = (holds_append memory (base + places from) (item_bytes a (offset_of places from y) y)
-    (items_bytes a places (from + 1) is) h).1 in
-    let there : base + places from + length (item_bytes a (offset_of places from y) y) ≡ base + places (from + 1) =
-    omega (arith, first_on a places from y is f) in
-    let number : from + 1 + n ≡ from + suc n = omega arith in
-    subst (λ k. Holds memory (base + places k) (item_bytes a (offset_of places k i) i)) number
-    (item_holds memory a places base is (from + 1) n i (one_on a places from y is f)
-    (subst (λ q. Holds memory q (items_bytes a places (from + 1) is)) there rest) e)
+  -- the bytes of the item of a number
+  pub item_holds : (memory : List ℕ) (a : Addresses) (places : ℕ → ℕ) (base : ℕ) (is : List Item) (from n : ℕ)
+      (i : Item)
+      → Follow a places from is
+      → Holds memory (base + places from) (items_bytes sizes a places from is) → slice_get is n ≡ Some i
+      → Holds memory (base + places (from + n)) (item_bytes sizes a (offset_of places (from + n) i) i)
+  item_holds memory a places base [] from n i f h e = absurd (cc)
+  item_holds memory a places base (y ∷ is) from zero i f h e =
+      let same : y ≡ i = cc in
+      let number : from ≡ from + 0 = omega arith in
+      let here = (holds_append memory (base + places from) (item_bytes sizes a (offset_of places from y) y)
+      (items_bytes sizes a places (from + 1) is) h).0 in
+      subst (λ k. Holds memory (base + places k) (item_bytes sizes a (offset_of places k i) i)) number
+      (subst (λ z. Holds memory (base + places from) (item_bytes sizes a (offset_of places from z) z)) same here)
+  item_holds memory a places base (y ∷ is) from (suc n) i f h e =
+      let rest = (holds_append memory (base + places from) (item_bytes sizes a (offset_of places from y) y)
+      (items_bytes sizes a places (from + 1) is) h).1 in
+      let there : base + places from + length (item_bytes sizes a (offset_of places from y) y)
+      ≡ base + places (from + 1) =
+      omega (arith, first_on a places from y is f) in
+      let number : from + 1 + n ≡ from + suc n = omega arith in
+      subst (λ k. Holds memory (base + places k) (item_bytes sizes a (offset_of places k i) i)) number
+      (item_holds memory a places base is (from + 1) n i (one_on a places from y is f)
+      (subst (λ q. Holds memory q (items_bytes sizes a places (from + 1) is)) there rest) e)
 
-bytes_length : (a : Addresses) (places : ℕ → ℕ) (is : List Item) (from : ℕ) → Follow a places from is
-    → places from + length (items_bytes a places from is) ≡ places (from + length is)
-bytes_length a places [] from f =
-    let number : from + 0 ≡ from = omega arith in
-    let same = ap places number in
-    omega (arith, same)
-bytes_length a places (y ∷ is) from f =
-    let more = bytes_length a places is (from + 1) (one_on a places from y is f) in
-    let number : from + 1 + length is ≡ from + suc (length is) = omega arith in
-    let same = ap places number in
-    omega (
-      arith,
-      more,
-      same,
-      first_on a places from y is f,
-      length-append (item_bytes a (offset_of places from y) y) (items_bytes a places (from + 1) is),
-    )
+  bytes_length : (a : Addresses) (places : ℕ → ℕ) (is : List Item) (from : ℕ) → Follow a places from is
+      → places from + length (items_bytes sizes a places from is) ≡ places (from + length is)
+  bytes_length a places [] from f =
+      let number : from + 0 ≡ from = omega arith in
+      let same = ap places number in
+      omega (arith, same)
+  bytes_length a places (y ∷ is) from f =
+      let more = bytes_length a places is (from + 1) (one_on a places from y is f) in
+      let number : from + 1 + length is ≡ from + suc (length is) = omega arith in
+      let same = ap places number in
+      omega (
+        arith,
+        more,
+        same,
+        first_on a places from y is f,
+        length-append (item_bytes sizes a (offset_of places from y) y) (items_bytes sizes a places (from + 1) is),
+      )
 
-pub follow : (a : Addresses) (is : List Item) → Follow a (place_of is) 0 is
-follow a is n i e =
-    let number : n ≡ 0 + n = omega arith in
-    subst (λ k. place_of is (k + 1) ≡ place_of is k + length (item_bytes a (offset_of (place_of is) k i) i)) number
-    (next_place a is n i e)
+  pub follow : (a : Addresses) (is : List Item) → Follow a (place_of sizes is) 0 is
+  follow a is n i e =
+      let number : n ≡ 0 + n = omega arith in
+      subst (λ k. place_of sizes is (k + 1)
+      ≡ place_of sizes is k + length (item_bytes sizes a (offset_of (place_of sizes is) k i) i)) number
+      (next_place a is n i e)
 
-parts_length : (is : List Item) → length (parts_of is) ≡ length is
-parts_length [] = refl
-parts_length (i ∷ is) = ap suc (parts_length is)
+  parts_length : (is : List Item) → length (parts_of sizes is) ≡ length is
+  parts_length [] = refl
+  parts_length (i ∷ is) = ap suc (parts_length is)
 
--- a routine's code has the bytes that its layout tells
-pub code_length : (a : Addresses) (is : List Item) → length (code_bytes a is) ≡ code_size is
-code_length a is =
-    let e = bytes_length a (place_of is) is 0 (follow a is) in
-    let number : 0 + length is ≡ length is = omega arith in
-    let last = ap (place_of is) number in
-    omega (arith, e, last, ends_at is (length is) (omega (arith, parts_length is)), starts is)
+  -- a routine's code has the bytes that its layout tells
+  pub code_length : (a : Addresses) (is : List Item) → length (code_bytes sizes a is) ≡ code_size sizes is
+  code_length a is =
+      let e = bytes_length a (place_of sizes is) is 0 (follow a is) in
+      let number : 0 + length is ≡ length is = omega arith in
+      let last = ap (place_of sizes is) number in
+      omega (arith, e, last, ends_at is (length is) (omega (arith, parts_length is)), starts is)
 
 -- Jumps
 

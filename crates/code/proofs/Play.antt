@@ -2,7 +2,7 @@
 use Rattle.std.proofs.Common.{◌≡◌, ℕ, ◌+◌, ◌*◌, ◌<◌, ◌≤◌, List, [], ◌∷◌, ◌++◌, length, reverse, drop, slice_index}
 use Rattle.std.proofs.Common.{Option, None}
 use Rattle.std.specs.Prelude.{map}
-use Rattle.std.specs.List.{All}
+use Rattle.std.specs.List.{All, concat}
 use Rattle.zcore.specs.declared.next.Next.{Next}
 use Rattle.zcore.specs.Bytes.{word_at}
 use Rattle.zcore.specs.Header.{globals_of, static_base_of}
@@ -20,6 +20,8 @@ use Rattle.items.specs.Stack as stack
 use Rattle.code.specs.Addresses.{Addresses}
 use Rattle.code.specs.Instructions.{call_result}
 use Rattle.code.specs.Bytes.{place_of}
+use Rattle.code.specs.HeldProgram.{sizes_of, offset_in}
+use Rattle.code.proofs.Regions.{Stands}
 
 -- so many steps, one after another, lead from one point of a turn to another
 pub data Leads : Next → State → Next → State → Type 0 where
@@ -33,13 +35,24 @@ pub record Does (full : ℕ) (here : Next) (s : State) (w : World) (outcome : Ou
   pub texts : outcome.texts ≡ w.texts ++ map (λ (v : Whole). v.text) (whole ∷ plays_from full whole w.lines)
   pub place : outcome.place ≡ last_place (whole ∷ plays_from full whole w.lines)
 
--- the memory of a story that runs: these are the globals of the source, and header, static and high memory are the
--- story's
-pub record Stored (story globals memory : List ℕ) : Type 0 where
-  pub size : length memory ≡ length story
-  pub header : (q : ℕ) → q < 64 → slice_index memory q ≡ slice_index story q
-  pub kept : drop (static_base_of story) memory ≡ drop (static_base_of story) story
-  pub values : (g : ℕ) → g < length globals → word_at memory (globals_of story + 2 * g) ≡ slice_index globals g
+-- these are the arrays of the source: they stand one behind another, behind the globals and below static memory
+pub record HoldsArrays (story : List ℕ) (a : Addresses) (arrays : List (List ℕ)) (memory : List ℕ) : Type 0 where
+  pub first : ℕ
+  pub above : globals_of story + 480 ≤ first
+  pub below : first + length (concat arrays) ≤ static_base_of story
+  pub places : (n : ℕ) → n < length arrays → slice_index a.arrays n ≡ first + offset_in arrays n
+  pub stands : Stands memory first (concat arrays)
+
+-- the memory of a story that runs: these are the globals and the arrays of the source, and header, static and high
+-- memory are the story's
+pub record Stored (story : List ℕ) (a : Addresses) (globals : List ℕ) (arrays : List (List ℕ)) (memory : List ℕ) :
+    Type 0
+  where
+    pub size : length memory ≡ length story
+    pub header : (q : ℕ) → q < 64 → slice_index memory q ≡ slice_index story q
+    pub kept : drop (static_base_of story) memory ≡ drop (static_base_of story) story
+    pub values : (g : ℕ) → g < length globals → word_at memory (globals_of story + 2 * g) ≡ slice_index globals g
+    pub regions : HoldsArrays story a arrays memory
 
 -- how many arguments the first of some calls was given, and the others
 abbrev pub first_count : List ℕ → ℕ
@@ -60,7 +73,7 @@ module _ (story : List ℕ) (a : Addresses) (p : ProgramOf) where
 
   -- where an item of a routine stands
   abbrev pub address : ℕ → ℕ → ℕ
-  address r i = base r + place_of (items_in r) i
+  address r i = base r + place_of (sizes_of p) (items_in r) i
 
   -- where a routine returns to; Main to the end of the code that begins the story
   abbrev pub back_of : List Caller → ℕ
@@ -116,7 +129,8 @@ module _ (story : List ℕ) (a : Addresses) (p : ProgramOf) where
     pub callers : All IsCaller s.callers
     pub few : length s.callers < 1000
     pub globals : length s.situation.world.globals ≡ length p.globals
-    pub stored : Stored story s.situation.world.globals memory
+    pub sizes : map length s.situation.world.arrays ≡ sizes_of p
+    pub stored : Stored story a s.situation.world.globals s.situation.world.arrays memory
 
   -- the machine comes to a state that stands for this one
   pub record Arrives (here : Next) (t : State) (s : stack.State) : Type 0 where

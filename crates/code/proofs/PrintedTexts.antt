@@ -9,6 +9,7 @@ use Rattle.expressions.specs.declared.tree.Equality.{Equality}
 use Rattle.expressions.specs.declared.tree.Prefix.{Prefix}
 use Rattle.expressions.specs.declared.tree.Prefix.TheVariants as prefixes
 use Rattle.expressions.specs.declared.tree.Step.{Step}
+use Rattle.expressions.specs.declared.tree.Width.{Width}
 use Rattle.checker.specs.declared.resolved.Variable.{Variable}
 use Rattle.checker.specs.Resolved.{Value, Values, none, more, Printed, Action, Actions, stop, next, RoutineOf}
 use Rattle.checker.specs.Resolved as source
@@ -166,6 +167,23 @@ equal_fine op a bs f g = record {
     several at when t = joined (value_items at a push) _ (f.value at push)
         (g.many (at + value_count a push) op when t)
 
+entry_fine : (width : Width) (n : ℕ) (i : Value) → ValueFine i → ValueFine (source.entry width n i)
+entry_fine width n i f = record {
+  value = λ at d. last (if_pushed (alone i) (value_items at i push) []) _ (pushed_fine (alone i) _ (f.value at push))
+      tt;
+  branch = λ at when t. joined (if_pushed (alone i) (value_items at i push) []) _
+      (pushed_fine (alone i) _ (f.value at push)) (first _ _ tt (first _ _ tt nothing));
+}
+
+assign_entry_fine : (width : Width) (n : ℕ) (i v : Value) → ValueFine i → ValueFine v
+    → ValueFine (source.assign_entry width n i v)
+assign_entry_fine width n i v f g = record {
+  value = λ at d. two_fine (left_of i v) (alone v) _ _ _ (f.value at push)
+      (g.value (at + operand_count i (left_of i v)) push) (first _ _ tt nothing);
+  branch = λ at when t. two_fine (left_of i v) (alone v) _ _ _ (f.value at push)
+      (g.value (at + operand_count i (left_of i v)) push) (first _ _ tt (first _ _ tt nothing));
+}
+
 none_fine : ValuesFine none
 none_fine = record {
   all = λ at. nothing;
@@ -212,6 +230,8 @@ mutual
     branch = λ at when t. joined (value_items at v push) _ ((value_fine v).value at push)
         (first _ _ tt (first _ _ tt nothing));
   }
+  value_fine (source.entry width n i) = entry_fine width n i (value_fine i)
+  value_fine (source.assign_entry width n i v) = assign_entry_fine width n i v (value_fine i) (value_fine v)
 
   values_fine : (vs : Values) → ValuesFine vs
   values_fine none = none_fine

@@ -1,7 +1,7 @@
 -- What is done with the word that a routine gives back.
 use Rattle.std.proofs.Common.{◌≡◌, ℕ, suc, ◌+◌, ◌<◌, ◌≤◌, List, [], ◌∷◌, ◌++◌, length, Option, Some, None, Bool, true}
 use Rattle.std.proofs.Common.{false, refl, sym, ap, ◌∙◌, subst, arith}
-use Rattle.std.specs.Prelude.{slice_index, nat_lt, nat_le, nat_eq, if◌then◌else◌, ◌||◌}
+use Rattle.std.specs.Prelude.{slice_index, nat_lt, nat_le, nat_eq, if◌then◌else◌, ◌||◌, map}
 use Rattle.std.specs.List.{All}
 use Rattle.std.proofs.lemmas.Bool.{lt-ltb, le-leb, leb-true, ne_eqb}
 use Rattle.std.proofs.lemmas.List.{length-reverse}
@@ -27,6 +27,7 @@ use Rattle.items.specs.Stack.{Caller}
 use Rattle.items.specs.Stack as stack
 use Rattle.code.proofs.Behind.{Holds, holds_on}
 use Rattle.code.specs.Instructions.{plain, number_of, call_result}
+use Rattle.code.specs.HeldProgram.{sizes_of}
 use Rattle.code.proofs.Play.{Leads, items_in, address, frames_of, frame_of, back_of, result_of, first_count}
 use Rattle.code.proofs.Play.{other_counts, IsCaller, Led}
 use Rattle.code.proofs.Parts.{Around, machine as at_words, pushes}
@@ -100,7 +101,12 @@ module _ (c : Running) where
 
   place_within : (r n : ℕ) → r < length p.routines → address story a p r n < length m
   place_within r n known =
-      omega (arith, (holds.routines r known).followed, ends_by (items_in story a p r) n, good.stored.size)
+      omega (
+        arith,
+        (holds.routines r known).followed,
+        ends_by (sizes_of p) (items_in story a p r) n,
+        good.stored.size,
+      )
 
   -- this routine, called by others
   abbrev called_by : List Caller → List ℕ → List ℕ → State
@@ -157,6 +163,7 @@ module _ (c : Running) where
         callers = rest;
         few = omega (arith, few);
         globals = good.globals;
+        sizes = good.sizes;
         stored = good.stored;
       };
     }
@@ -202,6 +209,7 @@ module _ (c : Running) where
             callers = rest;
             few = omega (arith, few);
             globals = good.globals;
+            sizes = good.sizes;
             stored = good.stored;
           };
           leads = one_step (point (here c) world.fuel) (point back world.fuel) (called_by (d ∷ callers) counts words)
@@ -228,6 +236,7 @@ module _ (c : Running) where
             callers = rest;
             few = omega (arith, few);
             globals = good.globals;
+            sizes = good.sizes;
             stored = good.stored;
           };
           leads = one_step (point (here c) world.fuel) (point back world.fuel) (called_by (d ∷ callers) counts words)
@@ -267,6 +276,7 @@ module _ (c : Running) where
             callers = rest;
             few = omega (arith, few);
             globals = held.globals_same v ∙ good.globals;
+            sizes = ap (map length) (held.arrays_same v) ∙ good.sizes;
             stored = held.stored v;
           };
           leads = subst (λ t. Leads (point (here c) world.fuel) (called_by (d ∷ callers) counts words)

@@ -3,6 +3,7 @@ use Rattle.std.proofs.Common.{◌≡◌, ℕ, List, [], ◌∷◌, refl, true, f
 use Rattle.std.specs.Prelude.{codes, replicate}
 use Rattle.expressions.specs.declared.tree.Binary.TheVariants as binaries
 use Rattle.expressions.specs.declared.tree.Step.TheVariants as steps
+use Rattle.expressions.specs.declared.tree.Width.TheVariants as widths
 use Rattle.checker.specs.declared.resolved.Variable.{Variable}
 use Rattle.checker.specs.declared.resolved.Variable.TheVariants as variables
 use Rattle.zcore.specs.Instruction.{bytes_of}
@@ -14,13 +15,21 @@ use Rattle.forms.specs.declared.layout.Part.{Part}
 use Rattle.forms.specs.declared.layout.BranchUse.{BranchUse}
 use Rattle.forms.specs.Layout.{uses}
 use Rattle.items.specs.Items.{Item, pushed, number, variable, push, into, nowhere, is_zero, same, move, operate, step}
-use Rattle.items.specs.Items.{print_text, branch, call, return}
+use Rattle.items.specs.Items.{entry, assign_entry, print_text, branch, call, return}
 use Rattle.code.specs.Addresses.{Addresses}
 use Rattle.code.specs.Bytes.{item_bytes, parts_of}
 use Rattle.code.specs.HeldProgram.{start_code}
 
 abbrev a : Addresses
-a = record { routines = 300 ∷ 400 ∷ []; division_by_zero = 515; not_a_character = 520 }
+a = record {
+  routines = 300 ∷ 400 ∷ [];
+  arrays = 560 ∷ 570 ∷ [];
+  faults = 515 ∷ 516 ∷ 517 ∷ 518 ∷ 519 ∷ 521 ∷ 520 ∷ [];
+}
+
+-- arrays of 10 bytes and of 600
+abbrev sizes : List ℕ
+sizes = 10 ∷ 600 ∷ []
 
 abbrev x : Variable
 x = variables.Local 0
@@ -32,7 +41,7 @@ abbrev g : Variable
 g = variables.Global 0
 
 abbrev written : Item → List ℕ
-written = item_bytes a 0
+written = item_bytes sizes a 0
 
 -- add y 5 -> x
 adds : written (operate binaries.Add (variable y) (number 5) (into x)) ≡ 84 ∷ 2 ∷ 5 ∷ 1 ∷ []
@@ -54,6 +63,42 @@ divides : written (operate binaries.Divide (variable x) (variable y) push)
     ≡ 160 ∷ 2 ∷ 70 ∷ 141 ∷ 2 ∷ 3 ∷ 186 ∷ 119 ∷ 1 ∷ 2 ∷ 0 ∷ []
 unfolding bytes_of
 divides = refl
+
+-- loadb a 9 -> x
+reads_byte : written (entry widths.Byte 0 (number 9) (into x)) ≡ 208 ∷ 31 ∷ 2 ∷ 48 ∷ 9 ∷ 1 ∷ []
+unfolding bytes_of
+reads_byte = refl
+
+-- out of range: print_paddr; quit
+reads_no_byte : written (entry widths.Byte 0 (number 10) (into x)) ≡ 141 ∷ 2 ∷ 5 ∷ 186 ∷ []
+unfolding bytes_of
+reads_no_byte = refl
+
+-- jl y 0 ?fault; jl y 5 over the fault: print_paddr; quit; loadw a y -> x
+reads_word : written (entry widths.Word 0 (variable y) (into x))
+    ≡ 66 ∷ 2 ∷ 0 ∷ 198 ∷ 66 ∷ 2 ∷ 5 ∷ 198 ∷ 141 ∷ 2 ∷ 5 ∷ 186 ∷ 207 ∷ 47 ∷ 2 ∷ 48 ∷ 2 ∷ 1 ∷ []
+unfolding bytes_of
+reads_word = refl
+
+-- pull T; jl T 0 ?fault; jl T 600 over the fault: print_paddr; quit; loadb b T -> sp
+reads_far : written (entry widths.Byte 1 pushed push)
+    ≡ 233 ∷ 127 ∷ 248 ∷ 66 ∷ 248 ∷ 0 ∷ 200 ∷ 194 ∷ 143 ∷ 248 ∷ 2 ∷ 88 ∷ 198 ∷ 141 ∷ 2 ∷ 5 ∷ 186 ∷ 208 ∷ 47 ∷ 2 ∷ 58
+    ∷ 248 ∷ 0 ∷ []
+unfolding bytes_of
+reads_far = refl
+
+-- storew a 4 y
+writes_word : written (assign_entry widths.Word 0 (number 4) (variable y) nowhere)
+    ≡ 225 ∷ 27 ∷ 2 ∷ 48 ∷ 4 ∷ 2 ∷ []
+unfolding bytes_of
+writes_word = refl
+
+-- pull U; pull T; jl T 0 ?fault; jl T 10 over the fault: print_paddr; quit; storeb a T U; push U
+writes_byte : written (assign_entry widths.Byte 0 pushed pushed push)
+    ≡ 233 ∷ 127 ∷ 249 ∷ 233 ∷ 127 ∷ 248 ∷ 66 ∷ 248 ∷ 0 ∷ 198 ∷ 66 ∷ 248 ∷ 10 ∷ 198 ∷ 141 ∷ 2 ∷ 5 ∷ 186
+    ∷ 226 ∷ 43 ∷ 2 ∷ 48 ∷ 248 ∷ 249 ∷ 232 ∷ 191 ∷ 249 ∷ []
+unfolding bytes_of
+writes_byte = refl
 
 -- inc x
 steps_up : written (step steps.Increment x nowhere) ≡ 149 ∷ 1 ∷ []
@@ -88,18 +133,18 @@ unfolding bytes_of
 returns = refl
 
 -- je x 1 2 3 ?L, one byte of branch data
-compares : item_bytes a 10 (branch same (variable x ∷ number 1 ∷ number 2 ∷ number 3 ∷ []) true 9)
+compares : item_bytes sizes a 10 (branch same (variable x ∷ number 1 ∷ number 2 ∷ number 3 ∷ []) true 9)
     ≡ 193 ∷ 149 ∷ 1 ∷ 1 ∷ 2 ∷ 3 ∷ 202 ∷ []
 unfolding bytes_of
 compares = refl
 
 -- jz g ?~L in two bytes
-two_bytes : item_bytes a 65 (branch is_zero (variable g ∷ []) false 9) ≡ 160 ∷ 16 ∷ 0 ∷ 65 ∷ []
+two_bytes : item_bytes sizes a 65 (branch is_zero (variable g ∷ []) false 9) ≡ 160 ∷ 16 ∷ 0 ∷ 65 ∷ []
 unfolding bytes_of
 two_bytes = refl
 
 -- jz g over the jump; the jump
-far_form : item_bytes a 8193 (branch is_zero (variable g ∷ []) false 9) ≡ 160 ∷ 16 ∷ 197 ∷ 140 ∷ 32 ∷ 1 ∷ []
+far_form : item_bytes sizes a 8193 (branch is_zero (variable g ∷ []) false 9) ≡ 160 ∷ 16 ∷ 197 ∷ 140 ∷ 32 ∷ 1 ∷ []
 unfolding bytes_of
 far_form = refl
 
@@ -119,15 +164,15 @@ asking n = branch is_zero (variable g ∷ []) true 2 ∷ print_text (replicate n
 abbrev one_use : BranchUse → List BranchUse
 one_use u = u ∷ []
 
-signs_1 : uses 0 (parts_of (asking 1)) ≡ one_use (record { form = One; offset = 7 })
+signs_1 : uses 0 (parts_of sizes (asking 1)) ≡ one_use (record { form = One; offset = 7 })
 unfolding bytes_of encoded packed spelling_of
 signs_1 = refl
 
-signs_22 : uses 0 (parts_of (asking 22)) ≡ one_use (record { form = One; offset = 63 })
+signs_22 : uses 0 (parts_of sizes (asking 22)) ≡ one_use (record { form = One; offset = 63 })
 unfolding bytes_of encoded packed spelling_of
 signs_22 = refl
 
-signs_23 : uses 0 (parts_of (asking 23)) ≡ one_use (record { form = Two; offset = 65 })
+signs_23 : uses 0 (parts_of sizes (asking 23)) ≡ one_use (record { form = Two; offset = 65 })
 unfolding bytes_of encoded packed spelling_of
 signs_23 = refl
 

@@ -1,11 +1,11 @@
 -- How many bytes items have.
-use Rattle.std.proofs.Common.{◌≡◌, ◌≤◌, ◌+◌, ◌-◌, ◌*◌, ◌==◌, ℕ, Bool, true, false, List, [], ◌∷◌, ◌++◌, length, take}
-use Rattle.std.proofs.Common.{refl, ap, arith, length-append, append-nil}
+use Rattle.std.proofs.Common.{◌≡◌, ◌≤◌, ◌+◌, ◌-◌, ◌*◌, ◌%◌, ◌==◌, ℕ, Bool, true, false, List, [], ◌∷◌, ◌++◌, length}
+use Rattle.std.proofs.Common.{take, refl, ap, arith, length-append, append-nil}
 use Rattle.std.specs.Prelude.{nat_lt, if◌then◌else◌, slice_index}
 use Rattle.std.specs.List.{flat_map}
 use Rattle.std.proofs.lemmas.List.{length-take}
 use Rattle.zcore.specs.declared.instruction.Operand.{Operand}
-use Rattle.zcore.specs.declared.instruction.Operand.TheVariants.{Small, Variable}
+use Rattle.zcore.specs.declared.instruction.Operand.TheVariants.{Large, Small, Variable}
 use Rattle.zcore.specs.declared.instruction.Operation.{Operation}
 use Rattle.zcore.specs.declared.instruction.Operation.TheVariants as operations
 use Rattle.zcore.specs.Operations.{count_of, number_of, has_more_types}
@@ -19,6 +19,8 @@ use Rattle.expressions.specs.declared.tree.Prefix.{Prefix}
 use Rattle.expressions.specs.declared.tree.Prefix.TheVariants as prefixes
 use Rattle.expressions.specs.declared.tree.Step.{Step}
 use Rattle.expressions.specs.declared.tree.Step.TheVariants as steps
+use Rattle.expressions.specs.declared.tree.Width.{Width}
+use Rattle.expressions.specs.declared.tree.Width.TheVariants as widths
 use Rattle.checker.specs.declared.resolved.Variable as source
 use Rattle.checker.specs.Meaning.{is_character}
 use Rattle.items.specs.Items.{Item, Destination, Test}
@@ -29,11 +31,14 @@ use Rattle.code.specs.Instructions.{result_in, fail, arithmetic, divided, divide
 use Rattle.code.specs.Instructions.{move_code, step_code, character_code, tested_character, labelled, test_operation}
 use Rattle.code.specs.Instructions.{tested_code, asks_none, least_word, branch_code, call_operation, call_result}
 use Rattle.code.specs.Instructions.{calling, call_code, return_code, most_tested, most_arguments}
+use Rattle.code.specs.Instructions.{branching, pull, is_entry, entries_in, load_operation, store_operation}
+use Rattle.code.specs.Instructions.{tested_index, at_index, entry_code, assigned_takes, assigned_word, passed_on}
+use Rattle.code.specs.Instructions.{assign_entry_code}
 use Rattle.code.specs.Bytes.{bytes_of_all, no_addresses, part_of, parts_of, code_size}
 use Rattle.code.proofs.Most.{most, most_of}
 use Rattle.code.proofs.Lengths.{all_length, one_length, labelled_length, beside}
 use Rattle.code.proofs.SizesOfInstructions.{opcode_few, opcode_most, operand_count, parts_length, few_bytes}
-use Rattle.code.proofs.SizesOfInstructions.{constant_few, operand_few, one_count, two_count, taken_few}
+use Rattle.code.proofs.SizesOfInstructions.{constant_few, operand_few, one_count, two_count, three_count, taken_few}
 use Rattle.code.proofs.SizesOfTexts.{text_few}
 
 -- Items
@@ -159,6 +164,119 @@ character_few (items.number n) =
     (omega (arith, fail_size 0))
 character_few (items.variable x) = omega arith
 
+-- Arrays
+
+tests_few : (b : Bool) (count v : ℕ) → length (bytes_of_all (
+    branching operations.JumpIfLess (Variable v ∷ Small 0 ∷ []) true (if b then 6 else 8)
+    ∷ branching operations.JumpIfLess (Variable v ∷ (if b then Small count else Large count) ∷ []) true 6
+    ∷ fail 0)) ≤ 14
+unfolding bytes_of
+tests_few true count v = omega arith
+tests_few false count v = omega arith
+
+tested_index_few : (count v : ℕ) → length (bytes_of_all (tested_index no_addresses count v)) ≤ 14
+tested_index_few count v = tests_few (nat_lt count 256) count v
+
+-- what is done at an index has at most so many bytes
+abbrev FewAt : (Operand → List Instruction) → ℕ → Type 0
+FewAt act n = (i : Operand) → length (operand_bytes i) ≤ 2 → length (bytes_of_all (act i)) ≤ n
+
+behind_few : (count v : ℕ) (act : Operand → List Instruction) (n : ℕ) → FewAt act n
+    → length (bytes_of_all (tested_index no_addresses count v ++ act (Variable v))) ≤ 14 + n
+behind_few count v act n h = omega (
+  arith,
+  all_length (tested_index no_addresses count v) (act (Variable v)),
+  tested_index_few count v,
+  h (Variable v) (omega arith),
+)
+
+pulled_few : (v : ℕ) → length (bytes_of_all (pull v ∷ [])) ≤ 3
+unfolding bytes_of
+pulled_few v = omega arith
+
+at_few : (count : ℕ) (o : items.Operand) (act : Operand → List Instruction) (n : ℕ) → FewAt act n
+    → length (bytes_of_all (at_index no_addresses count o act)) ≤ 17 + n
+at_few count items.pushed act n h =
+    let v = spec.temporary 0 in
+    omega (
+      arith,
+      all_length (pull v ∷ []) (tested_index no_addresses count v ++ act (Variable v)),
+      pulled_few v,
+      behind_few count v act n h,
+    )
+at_few count (items.number i) act n h =
+    either_all (is_entry count i) (act (constant i)) (fail 0) (17 + n)
+    (omega (arith, h (constant i) (constant_few (nat_lt i 256) i))) (omega (arith, fail_size 0))
+at_few count (items.variable x) act n h = omega (arith, behind_few count (spec.number_of x) act n h)
+
+load_few : (width : Width) (place : ℕ) (d : Destination)
+    → FewAt (λ i. giving (load_operation width) (Large place ∷ i ∷ []) (result_in d) ∷ []) 7
+load_few widths.Byte place d i h = omega (
+  arith,
+  one_length (giving operations.LoadByte (Large place ∷ i ∷ []) (result_in d)),
+  giving_few operations.LoadByte (Large place) i d refl (omega arith) h,
+)
+load_few widths.Word place d i h = omega (
+  arith,
+  one_length (giving operations.LoadWord (Large place ∷ i ∷ []) (result_in d)),
+  giving_few operations.LoadWord (Large place) i d refl (omega arith) h,
+)
+
+entry_few : (width : Width) (size place : ℕ) (o : items.Operand) (d : Destination)
+    → length (bytes_of_all (entry_code no_addresses width size place o d)) ≤ 24
+entry_few width size place o d = at_few (entries_in width size) o
+    (λ i. giving (load_operation width) (Large place ∷ i ∷ []) (result_in d) ∷ []) 7 (load_few width place d)
+
+passed_few : (d : Destination) (word : Operand) → length (operand_bytes word) ≤ 2
+    → length (bytes_of_all (passed_on d word)) ≤ 5
+passed_few items.push word h = omega
+    (arith, one_length (spec.push word), plain_few operations.Push word refl, h)
+passed_few (items.into x) word h = omega
+    (arith, one_length (spec.store (spec.number_of x) word), store_few (spec.number_of x) word h)
+passed_few items.nowhere word h = omega arith
+
+no_more_types : (width : Width) → has_more_types (store_operation width) ≡ false
+no_more_types widths.Byte = refl
+no_more_types widths.Word = refl
+
+stored_few : (width : Width) (place : ℕ) (word : Operand) (d : Destination) → length (operand_bytes word) ≤ 2
+    → FewAt (λ i. plain (store_operation width) (Large place ∷ i ∷ word ∷ []) ∷ passed_on d word) 13
+stored_few width place word d w i h =
+    let first = plain (store_operation width) (Large place ∷ i ∷ word ∷ []) in
+    omega (
+      arith,
+      all_length (first ∷ []) (passed_on d word),
+      one_length first,
+      few_bytes first (no_more_types width),
+      three_count (Large place) i word,
+      passed_few d word w,
+      w,
+      h,
+    )
+
+assigned_few : (q : items.Operand) → length (operand_bytes (assigned_word q)) ≤ 2
+assigned_few items.pushed = omega arith
+assigned_few (items.number n) = constant_few (nat_lt n 256) n
+assigned_few (items.variable x) = omega arith
+
+assigned_takes_few : (q : items.Operand) → length (bytes_of_all (assigned_takes q)) ≤ 3
+assigned_takes_few items.pushed = pulled_few (spec.temporary 1)
+assigned_takes_few (items.number n) = omega arith
+assigned_takes_few (items.variable x) = omega arith
+
+assign_few : (width : Width) (size place : ℕ) (o q : items.Operand) (d : Destination)
+    → length (bytes_of_all (assign_entry_code no_addresses width size place o q d)) ≤ 33
+assign_few width size place o q d =
+    let word = assigned_word q in
+    let count = entries_in width size in
+    let act = λ (i : Operand). plain (store_operation width) (Large place ∷ i ∷ word ∷ []) ∷ passed_on d word in
+    omega (
+      arith,
+      all_length (assigned_takes q) (at_index no_addresses count o act),
+      assigned_takes_few q,
+      at_few count o act 13 (stored_few width place word d (assigned_few q)),
+    )
+
 either_return : (b c : Bool) (i : Instruction) → length (bytes_of i) ≤ 4
     → length (bytes_of (if b then plain operations.ReturnTrue []
     else (if c then plain operations.ReturnFalse [] else i))) ≤ 4
@@ -254,9 +372,9 @@ shortest_few items.same (o ∷ []) when = tested_few items.less (o ∷ items.num
 shortest_few items.same (o ∷ p ∷ os) when =
     tested_few items.same (o ∷ p ∷ os) when (4 * length (o ∷ p ∷ os)) (taken_few (o ∷ p ∷ os))
 
-branch_few : (test : Test) (os : List items.Operand) (when : Bool) (target n : ℕ) (rest : List ℕ)
-    → part_size n (part_of (items.branch test os when target)) rest ≤ 6 + 4 * length os
-branch_few test os when target n rest =
+branch_few : (sizes : List ℕ) (test : Test) (os : List items.Operand) (when : Bool) (target n : ℕ) (rest : List ℕ)
+    → part_size n (part_of sizes (items.branch test os when target)) rest ≤ 6 + 4 * length os
+branch_few sizes test os when target n rest =
     let given = take most_tested os in
     let offset = offset_over (target - (n + 1)) rest in
     omega (
@@ -271,44 +389,60 @@ branch_few test os when target n rest =
 no_text : (is : List Instruction) → length (bytes_of_all is ++ []) ≡ length (bytes_of_all is)
 no_text is = ap length (append-nil (bytes_of_all is))
 
-pub part_few : (i : Item) (n : ℕ) (rest : List ℕ) → part_size n (part_of i) rest ≤ most i
-unfolding bytes_of
-part_few (items.move o d) n rest = omega
-    (arith, no_text (move_code o d ∷ []), one_length (move_code o d), move_few o d)
-part_few (items.apply_prefix op o d) n rest = omega (arith, no_text (prefix_code op o d), prefix_few op o d)
-part_few (items.operate op x y d) n rest =
-    omega (arith, no_text (binary_code no_addresses op x y d), binary_few op x y d)
-part_few (items.step op x d) n rest = omega (arith, no_text (step_code op x d), step_few op x d)
-part_few (items.keep x) n rest = omega arith
-part_few items.first_equal n rest = omega arith
-part_few items.also_equal n rest = omega arith
-part_few items.drop_below n rest = omega arith
-part_few (items.print_text bytes) n rest = omega (arith, text_few bytes)
-part_few (items.print_character o) n rest = omega (arith, no_text (character_code no_addresses o), character_few o)
-part_few (items.print_number o) n rest =
-    let i = plain operations.PrintNumber (in_place o ∷ []) in
-    omega (arith, no_text (i ∷ []), one_length i, plain_few operations.PrintNumber (in_place o) refl, operand_few o)
-part_few items.new_line n rest = omega arith
-part_few items.quit n rest = omega arith
-part_few (items.branch test os when target) n rest = branch_few test os when target n rest
-part_few (items.jump target) n rest = omega arith
-part_few (items.back target) n rest = omega arith
-part_few (items.call r os d) n rest =
-    let given = take most_arguments os in
-    omega (
-      arith,
-      no_text (call_code (slice_index no_addresses.routines r) given d),
-      call_few (slice_index no_addresses.routines r) given d,
-      taken_length most_arguments os,
-    )
-part_few (items.return o) n rest = omega
-    (arith, no_text (return_code o ∷ []), one_length (return_code o), return_few o)
+-- where arrays have these sizes
+module _ (sizes : List ℕ) where
+  pub part_few : (i : Item) (n : ℕ) (rest : List ℕ) → part_size n (part_of sizes i) rest ≤ most i
+  unfolding bytes_of
+  part_few (items.move o d) n rest = omega
+      (arith, no_text (move_code o d ∷ []), one_length (move_code o d), move_few o d)
+  part_few (items.apply_prefix op o d) n rest = omega (arith, no_text (prefix_code op o d), prefix_few op o d)
+  part_few (items.operate op x y d) n rest =
+      omega (arith, no_text (binary_code no_addresses op x y d), binary_few op x y d)
+  part_few (items.step op x d) n rest = omega (arith, no_text (step_code op x d), step_few op x d)
+  part_few (items.entry width number o d) n rest =
+      let size = slice_index sizes number % 65536 in
+      omega (
+        arith,
+        no_text (entry_code no_addresses width size (slice_index no_addresses.arrays number) o d),
+        entry_few width size (slice_index no_addresses.arrays number) o d,
+      )
+  part_few (items.assign_entry width number o q d) n rest =
+      let size = slice_index sizes number % 65536 in
+      omega (
+        arith,
+        no_text (assign_entry_code no_addresses width size (slice_index no_addresses.arrays number) o q d),
+        assign_few width size (slice_index no_addresses.arrays number) o q d,
+      )
+  part_few (items.keep x) n rest = omega arith
+  part_few items.first_equal n rest = omega arith
+  part_few items.also_equal n rest = omega arith
+  part_few items.drop_below n rest = omega arith
+  part_few (items.print_text bytes) n rest = omega (arith, text_few sizes bytes)
+  part_few (items.print_character o) n rest = omega (arith, no_text (character_code no_addresses o), character_few o)
+  part_few (items.print_number o) n rest =
+      let i = plain operations.PrintNumber (in_place o ∷ []) in
+      omega (arith, no_text (i ∷ []), one_length i, plain_few operations.PrintNumber (in_place o) refl, operand_few o)
+  part_few items.new_line n rest = omega arith
+  part_few items.quit n rest = omega arith
+  part_few (items.branch test os when target) n rest = branch_few sizes test os when target n rest
+  part_few (items.jump target) n rest = omega arith
+  part_few (items.back target) n rest = omega arith
+  part_few (items.call r os d) n rest =
+      let given = take most_arguments os in
+      omega (
+        arith,
+        no_text (call_code (slice_index no_addresses.routines r) given d),
+        call_few (slice_index no_addresses.routines r) given d,
+        taken_length most_arguments os,
+      )
+  part_few (items.return o) n rest = omega
+      (arith, no_text (return_code o ∷ []), one_length (return_code o), return_few o)
 
-lefts_few : (at : ℕ) (is : List Item) → first (lefts at (parts_of is)) ≤ most_of is
-lefts_few at [] = omega arith
-lefts_few at (i ∷ is) = let more = lefts_few (at + 1) is in
-    omega (arith, more, part_few i at (lefts (at + 1) (parts_of is)))
+  lefts_few : (at : ℕ) (is : List Item) → first (lefts at (parts_of sizes is)) ≤ most_of is
+  lefts_few at [] = omega arith
+  lefts_few at (i ∷ is) = let more = lefts_few (at + 1) is in
+      omega (arith, more, part_few i at (lefts (at + 1) (parts_of sizes is)))
 
--- the code of items is no longer than they can be
-pub code_few : (is : List Item) → code_size is ≤ most_of is
-code_few is = lefts_few 0 is
+  -- the code of items is no longer than they can be
+  pub code_few : (is : List Item) → code_size sizes is ≤ most_of is
+  code_few is = lefts_few 0 is

@@ -17,6 +17,7 @@ use Rattle.checker.specs.Programs.{resolve_routine, resolve_program, routines_of
 use Rattle.checker.specs.Places.{routines_place}
 use Rattle.checker.specs.Resolved.{RoutineOf, ProgramOf, CheckedProgram, program_of, routine_of, title_of}
 use Rattle.checker.specs.Sizes.{greatest_weight, first_heavy, heavy_fault, size_fault, fault}
+use Rattle.code.specs.HeldProgram.{sizes_of}
 use Rattle.code.specs.Sizes.{routine_size, routines_size}
 use Rattle.code.specs.Laws.{SmallSourcesHaveSmallCode}
 use Rattle.code.proofs.SizesOfPrograms.{IsRoutineShort, code_is_short}
@@ -61,25 +62,27 @@ tests c version e =
 
 -- the routines of a checked program
 
-module _ (whole : Table) where
+module _ (whole : Table) (sizes : List ℕ) where
   resolved_trees : (ds : List DirectiveTree) → routines_of whole ds ≡ map (resolve_routine whole) (routine_trees ds)
   resolved_trees [] = refl
   resolved_trees (trees.global n v ∷ ds) = resolved_trees ds
   resolved_trees (trees.constant n v ∷ ds) = resolved_trees ds
+  resolved_trees (trees.array a ∷ ds) = resolved_trees ds
   resolved_trees (trees.routine r ∷ ds) = ap (λ rs. resolve_routine whole r ∷ rs) (resolved_trees ds)
 
   one_small : (c : CheckedRoutine) (r : RoutineTree) → routine_of c ≡ resolve_routine whole r → title_of c ≡ title r
-      → IsRoutineShort whole r → c.weight ≤ 32000 → routine_size (routine_of c) + 7 ≤ 32000
+      → IsRoutineShort whole sizes r → c.weight ≤ 32000 → routine_size sizes (routine_of c) + 7 ≤ 32000
   one_small c r e t h k =
-      let size : routine_size (routine_of c) ≡ routine_size (resolve_routine whole r) = ap routine_size e in
+      let size : routine_size sizes (routine_of c) ≡ routine_size sizes (resolve_routine whole r) =
+      ap (routine_size sizes) e in
       let weight : c.weight ≡ r.weight = ap (λ (x : NameTree × ℕ). x.1) t in
       omega arith
 
   all_small : (cs : List CheckedRoutine) (rs : List RoutineTree) → map routine_of cs ≡ map (resolve_routine whole) rs
       → map title_of cs ≡ map title rs
-      → All (IsRoutineShort whole) rs → All (λ (c : CheckedRoutine). c.weight ≤ 32000) cs
-      → All (λ (r : RoutineOf). routine_size r + 7 ≤ 32000) (map routine_of cs)
-  all_small [] rs e t h k = All-nil (λ (r : RoutineOf). routine_size r + 7 ≤ 32000)
+      → All (IsRoutineShort whole sizes) rs → All (λ (c : CheckedRoutine). c.weight ≤ 32000) cs
+      → All (λ (r : RoutineOf). routine_size sizes r + 7 ≤ 32000) (map routine_of cs)
+  all_small [] rs e t h k = All-nil (λ (r : RoutineOf). routine_size sizes r + 7 ≤ 32000)
   all_small (c ∷ cs) [] e t h k = absurd cc
   all_small (c ∷ cs) (r ∷ rs) e t h k =
       let P = λ (c : CheckedRoutine). c.weight ≤ 32000 in
@@ -87,9 +90,9 @@ module _ (whole : Table) where
       let more : map routine_of cs ≡ map (resolve_routine whole) rs = cc in
       let name : title_of c ≡ title r = cc in
       let names : map title_of cs ≡ map title rs = cc in
-      All-cons (λ (r : RoutineOf). routine_size r + 7 ≤ 32000) (routine_of c) (map routine_of cs)
-      (one_small c r first name (All-head (IsRoutineShort whole) r rs h) (All-head P c cs k))
-      (all_small cs rs more names (All-tail (IsRoutineShort whole) r rs h) (All-tail P c cs k))
+      All-cons (λ (r : RoutineOf). routine_size sizes r + 7 ≤ 32000) (routine_of c) (map routine_of cs)
+      (one_small c r first name (All-head (IsRoutineShort whole sizes) r rs h) (All-head P c cs k))
+      (all_small cs rs more names (All-tail (IsRoutineShort whole sizes) r rs h) (All-tail P c cs k))
 
 routines_are : (p : ProgramTree) (c : CheckedProgram) → IsCheckedOf p c
     → map routine_of c.routines ≡ routines_of (table_of p.directives) p.directives
@@ -99,13 +102,14 @@ routines_are p c h = ap (λ (x : ProgramOf). x.routines) h.program
 pub small_sources_have_small_code : SmallSourcesHaveSmallCode
 small_sources_have_small_code tokens p c version g h e =
     let whole = table_of p.directives in
-    let short = code_is_short tokens p g whole in
+    let sizes = sizes_of (program_of c) in
+    let short = code_is_short tokens p g whole sizes in
     let t = tests c version e in
     let is = routines_are p c h in
-    let size = ap routines_size is in
+    let size = ap (routines_size sizes) is in
     let weight = h.weight in
     record {
-      each = all_small whole c.routines (routine_trees p.directives) (is
-          ∙ resolved_trees whole p.directives) h.titles short.each t.light;
+      each = all_small whole sizes c.routines (routine_trees p.directives) (is
+          ∙ resolved_trees whole sizes p.directives) h.titles short.each t.light;
       all = omega (arith, short.all, t.weight, size, weight);
     }

@@ -7,21 +7,25 @@ use Rattle.expressions.specs.declared.tree.Equality.{Equality}
 use Rattle.expressions.specs.declared.tree.Comparison.{Comparison}
 use Rattle.expressions.specs.declared.tree.Prefix.{Prefix}
 use Rattle.expressions.specs.declared.tree.Step.{Step}
+use Rattle.expressions.specs.declared.tree.Width.{Width}
 use Rattle.expressions.specs.Tree.{NameTree, ExpressionTree, ExpressionTrees}
 use Rattle.expressions.specs.Tree as trees
 use Rattle.expressions.specs.Grammar.{IsE, e_plain, e_assign, IsE1, e1_plain, e1_logical, IsN1, n1_plain, n1_not}
 use Rattle.expressions.specs.Grammar.{IsE2, e2_plain, e2_compare, e2_equal, IsChoice, choice_last, choice_or, IsE3}
-use Rattle.expressions.specs.Grammar.{e3_plain, e3_add, IsE4, e4_plain, e4_scale, IsN4, n4_plain, n4_complement, IsU}
-use Rattle.expressions.specs.Grammar.{u_plain, u_minus, u_before, u_after, IsP, p_number, p_character, p_true}
-use Rattle.expressions.specs.Grammar.{p_false, p_nothing, p_name, p_call, p_call_with, p_parenthesised, IsArguments}
-use Rattle.expressions.specs.Grammar.{arguments_last, arguments_comma}
+use Rattle.expressions.specs.Grammar.{e3_plain, e3_add, IsE4, e4_plain, e4_scale, IsN4, n4_plain, n4_complement}
+use Rattle.expressions.specs.Grammar.{IsE5, e5_plain, e5_index, IsU, u_plain, u_minus, u_before, u_after, IsP}
+use Rattle.expressions.specs.Grammar.{p_number, p_character, p_true, p_false, p_nothing, p_name, p_call}
+use Rattle.expressions.specs.Grammar.{p_call_with, p_parenthesised, IsArguments, arguments_last, arguments_comma}
 use Rattle.syntax.specs.Weight.{expression_weight, expression_weights}
 use Rattle.checker.specs.declared.binding.Binding.{Binding}
 use Rattle.checker.specs.declared.binding.Binding.TheVariants as bindings
 use Rattle.checker.specs.Accepted.{count_of}
-use Rattle.checker.specs.Expressions.{value_of_binding, resolve, resolve_all}
+use Rattle.checker.specs.Expressions.{value_of_binding, assigned, resolve, resolve_all}
+use Rattle.checker.specs.Resolved.{Value}
+use Rattle.checker.specs.Resolved as source
 use Rattle.items.specs.Items.{Destination, push, alone, value_items, branch_items, alone_items}
 use Rattle.code.proofs.Most.{most_of, tokens, list_tokens, alternative_tokens, or_tokens, if_small}
+use Rattle.code.proofs.Most.{alternatives_are}
 use Rattle.code.proofs.Bounds.{small}
 
 -- what a name stands for
@@ -29,9 +33,39 @@ binding_few : (b : Option Binding) → tokens (value_of_binding b) ≤ 1
 binding_few None = omega arith
 binding_few (Some (bindings.Constant n)) = omega arith
 binding_few (Some (bindings.Global g)) = omega arith
+binding_few (Some (bindings.Array a kind)) = omega arith
 binding_few (Some (bindings.Local l)) = omega arith
 binding_few (Some (bindings.Routine r n)) = omega arith
 binding_few (Some bindings.Property) = omega arith
+
+some_tokens : (v : Value) → 1 ≤ tokens v
+some_tokens (source.number n) = omega arith
+some_tokens (source.read x) = omega arith
+some_tokens (source.call r vs) = omega arith
+some_tokens (source.prefixed op v) = omega arith
+some_tokens (source.step_before op x) = omega arith
+some_tokens (source.step_after x op) = omega arith
+some_tokens (source.binary op a b) = omega arith
+some_tokens (source.compare op a b) = omega arith
+some_tokens (source.equal op a bs) = omega (arith, alternatives_are bs)
+some_tokens (source.assign x v) = omega arith
+some_tokens (source.entry width a i) = omega arith
+some_tokens (source.assign_entry width a i v) = omega arith
+
+-- an assignment, by its left side
+assigned_tokens : (w v : Value) → tokens (assigned w v) ≤ tokens w + (1 + tokens v)
+assigned_tokens (source.entry width a i) v = omega arith
+assigned_tokens (source.number n) v = omega arith
+assigned_tokens (source.read x) v = omega arith
+assigned_tokens (source.call r vs) v = omega arith
+assigned_tokens (source.prefixed op w) v = omega (arith, some_tokens w)
+assigned_tokens (source.step_before op x) v = omega arith
+assigned_tokens (source.step_after x op) v = omega arith
+assigned_tokens (source.binary op a b) v = omega (arith, some_tokens a)
+assigned_tokens (source.compare op a b) v = omega (arith, some_tokens a)
+assigned_tokens (source.equal op a bs) v = omega (arith, some_tokens a)
+assigned_tokens (source.assign x w) v = omega arith
+assigned_tokens (source.assign_entry width a i w) v = omega arith
 
 -- `look` tells what a name stands for
 module _ (look : List ℕ → Option Binding) where
@@ -73,6 +107,9 @@ module _ (look : List ℕ → Option Binding) where
   call_fits : {n : NameTree} {es : ExpressionTrees} → AllFit es → Fits (trees.call n es)
   call_fits {n} {es} a = record { weighs = called n es a }
 
+  index_fits : {n : NameTree} {width : Width} {e : ExpressionTree} → Fits e → Fits (trees.index n width e)
+  index_fits a = record { weighs = omega (arith, a.weighs) }
+
   parenthesised_fits : {e : ExpressionTree} → Fits e → Fits (trees.parenthesised e)
   parenthesised_fits a = record { weighs = omega (arith, a.weighs) }
 
@@ -85,6 +122,7 @@ module _ (look : List ℕ → Option Binding) where
   some_weight (trees.named n) = omega arith
   some_weight (trees.call n trees.none) = omega arith
   some_weight (trees.call n (trees.more e es)) = omega arith
+  some_weight (trees.index n width e) = omega arith
   some_weight (trees.parenthesised e) = omega arith
   some_weight (trees.prefixed op e) = omega arith
   some_weight (trees.step_before op p e) = omega arith
@@ -111,7 +149,8 @@ module _ (look : List ℕ → Option Binding) where
   equal_fits f g = record { weighs = omega (arith, f.weighs, g.first) }
 
   assign_fits : {p : Position} {a b : ExpressionTree} → Fits a → Fits b → Fits (trees.assign a p b)
-  assign_fits {a = a} f g = record { weighs = omega (arith, some_weight a, g.weighs) }
+  assign_fits {a = a} {b = b} f g =
+      record { weighs = omega (arith, f.weighs, g.weighs, assigned_tokens (resolve look a) (resolve look b)) }
 
   mutual
     pub fits_E : {ts r : List Lexeme} {e : ExpressionTree} → IsE ts e r → Fits e
@@ -144,8 +183,12 @@ module _ (look : List ℕ → Option Binding) where
     fits_E4 (e4_scale a o b) = binary_fits (fits_E4 a) (fits_N4 b)
 
     fits_N4 : {ts r : List Lexeme} {e : ExpressionTree} → IsN4 ts e r → Fits e
-    fits_N4 (n4_plain a) = fits_U a
+    fits_N4 (n4_plain a) = fits_E5 a
     fits_N4 (n4_complement a) = prefixed_fits (fits_N4 a)
+
+    fits_E5 : {ts r : List Lexeme} {e : ExpressionTree} → IsE5 ts e r → Fits e
+    fits_E5 (e5_plain a) = fits_U a
+    fits_E5 (e5_index o a) = index_fits (fits_U a)
 
     fits_U : {ts r : List Lexeme} {e : ExpressionTree} → IsU ts e r → Fits e
     fits_U (u_plain a) = fits_P a

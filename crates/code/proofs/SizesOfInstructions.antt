@@ -94,6 +94,11 @@ one_count o = ap length (append-nil (operand_bytes o))
 pub two_count : (o p : Operand) → operand_count (o ∷ p ∷ []) ≡ length (operand_bytes o) + length (operand_bytes p)
 two_count o p = omega (arith, length-append (operand_bytes o) (flat_map operand_bytes (p ∷ [])), one_count p)
 
+pub three_count : (o p q : Operand) → operand_count (o ∷ p ∷ q ∷ [])
+    ≡ length (operand_bytes o) + length (operand_bytes p) + length (operand_bytes q)
+three_count o p q =
+    omega (arith, length-append (operand_bytes o) (flat_map operand_bytes (p ∷ q ∷ [])), two_count p q)
+
 named_few : (n : ℕ) (os : List items.Operand) → operand_count (named_from n os) + 3 * pushed_count os ≤ 4 * length os
 named_few n [] = omega arith
 named_few n (items.pushed ∷ os) = let more = named_few (n + 1) os in omega (arith, more)

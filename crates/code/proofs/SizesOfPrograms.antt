@@ -8,9 +8,10 @@ use Rattle.lexer.specs.Token.{Lexeme, name, sign}
 use Rattle.expressions.specs.Tree.{NameTree}
 use Rattle.statements.specs.Tree.{StatementTrees}
 use Rattle.statements.specs.Grammar.{IsSs}
-use Rattle.syntax.specs.Tree.{LiteralTree, RoutineTree, DirectiveTree, ProgramTree}
+use Rattle.syntax.specs.Tree.{LiteralTree, ValueTree, RoutineTree, DirectiveTree, ProgramTree}
 use Rattle.syntax.specs.Grammar.{weight_of, IsK, k_number, k_negative, k_character, k_true, k_false, k_nothing}
-use Rattle.syntax.specs.Grammar.{k_name, IsNames, IsDirective, d_global, d_global_value, d_constant, d_routine}
+use Rattle.syntax.specs.Grammar.{k_name, IsNames, v_value, IsValues, values_stop, values_next, IsDirective}
+use Rattle.syntax.specs.Grammar.{d_global, d_global_value, d_constant, d_array, d_routine}
 use Rattle.syntax.specs.Grammar.{IsDirectives, directives_stop, directives_next, IsProgram, program}
 use Rattle.syntax.proofs.Spelled.{weight_Ss, spelled_Names, weighs}
 use Rattle.checker.specs.Names.{Table, look_up}
@@ -32,14 +33,18 @@ value_weight k_false = omega arith
 value_weight k_nothing = omega arith
 value_weight k_name = omega arith
 
--- `whole` tells what names stand for
-module _ (whole : Table) where
+values_weight : {ts r : List Lexeme} {vs : List ValueTree} → IsValues ts vs r → weight_of r ≤ weight_of ts
+values_weight values_stop = omega arith
+values_weight (values_next (v_value k) vs) = omega (arith, value_weight k, values_weight vs)
+
+-- `whole` tells what names stand for, and arrays have these sizes
+module _ (whole : Table) (sizes : List ℕ) where
   abbrev pub IsRoutineShort : RoutineTree → Type 0
-  IsRoutineShort r = routine_size (resolve_routine whole r) + 7 ≤ r.weight
+  IsRoutineShort r = routine_size sizes (resolve_routine whole r) + 7 ≤ r.weight
 
   record AreShort (ts : List Lexeme) (ds : List DirectiveTree) (r : List Lexeme) : Type 0 where
     pub each : All IsRoutineShort (routine_trees ds)
-    pub all : routines_size (routines_of whole ds) + weight_of r ≤ weight_of ts
+    pub all : routines_size sizes (routines_of whole ds) + weight_of r ≤ weight_of ts
 
   record Weighed (ts : List Lexeme) (routine : RoutineTree) (r : List Lexeme) : Type 0 where
     pub short : IsRoutineShort routine
@@ -64,7 +69,7 @@ module _ (whole : Table) where
       record {
         short = omega (
           arith,
-          code_few (actions_items exits 0 actions ++ return_true ∷ []),
+          code_few sizes (actions_items exits 0 actions ++ return_true ∷ []),
           most_append (actions_items exits 0 actions) (return_true ∷ []),
           code,
           body,
@@ -78,6 +83,7 @@ module _ (whole : Table) where
   first_short d_global b = record { each = b.each; all = omega (arith, b.all) }
   first_short (d_global_value k) b = record { each = b.each; all = omega (arith, b.all, value_weight k) }
   first_short (d_constant k) b = record { each = b.each; all = omega (arith, b.all, value_weight k) }
+  first_short (d_array t vs n) b = record { each = b.each; all = omega (arith, b.all, values_weight vs) }
   first_short {ds = ds} (d_routine {p = p} {q = q} {n = n} ns xs) b =
       let f = routine_short {p = p} {q = q} {n = n} ns xs in
       record {
@@ -89,8 +95,8 @@ module _ (whole : Table) where
   are_short directives_stop = record { each = All-nil IsRoutineShort; all = omega arith }
   are_short (directives_next a b) = first_short a (are_short b)
 
-  program_short : {ts : List Lexeme} {p : ProgramTree} → IsProgram ts p → IsShort p whole
+  program_short : {ts : List Lexeme} {p : ProgramTree} → IsProgram ts p → IsShort p whole sizes
   program_short (program a) = let f = are_short a in record { each = f.each; all = omega (arith, f.all) }
 
 pub code_is_short : CodeIsShort
-code_is_short tokens p a whole = program_short whole a
+code_is_short tokens p a whole sizes = program_short whole sizes a

@@ -79,9 +79,9 @@ filter_few p (x ∷ xs) = go (p x) (filter_few p xs)
     go true h = omega (arith, h)
     go false h = omega (arith, h)
 
-pub text_few : (bytes : List ℕ) → least_size (items.print_text bytes) ≤ 3 * length bytes + 3
+pub text_few : (sizes bytes : List ℕ) → least_size sizes (items.print_text bytes) ≤ 3 * length bytes + 3
 unfolding bytes_of
-text_few bytes = omega (
+text_few sizes bytes = omega (
   arith,
   encoded_length (filter is_printable (map character_of bytes)),
   filter_few is_printable (map character_of bytes),

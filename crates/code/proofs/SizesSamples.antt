@@ -6,14 +6,17 @@ use Rattle.lexer.specs.declared.token.Sign.TheVariants as s
 use Rattle.lexer.specs.declared.token.Word.TheVariants as w
 use Rattle.lexer.specs.Token.{Lexeme, name, number, text, reserved, sign, end}
 use Rattle.expressions.specs.declared.tree.Binary.TheVariants as binaries
+use Rattle.expressions.specs.declared.tree.Width.TheVariants as widths
 use Rattle.expressions.specs.Tree as trees
 use Rattle.expressions.specs.Grammar.{IsE, e_plain, e1_plain, n1_plain, e2_plain, e3_plain, e4_plain, e4_scale}
-use Rattle.expressions.specs.Grammar.{n4_plain, u_plain, p_number}
+use Rattle.expressions.specs.Grammar.{n4_plain, e5_plain, u_plain, p_number}
 use Rattle.statements.specs.Grammar.{items_last, items_comma, item_text, item_number, s_print, ss_stop, ss_next}
 use Rattle.syntax.specs.Tree.{ProgramTree}
 use Rattle.syntax.specs.Grammar.{names_stop, d_routine, directives_stop, directives_next, IsProgram, program}
 use Rattle.checker.specs.Names.{look_up, first_table}
 use Rattle.checker.specs.Programs.{routines_of}
+use Rattle.checker.specs.declared.resolved.Variable.{Variable}
+use Rattle.checker.specs.declared.resolved.Variable.TheVariants as variables
 use Rattle.checker.specs.Resolved as source
 use Rattle.zcore.specs.Instruction.{bytes_of}
 use Rattle.zcore.specs.Alphabets.{spelling_of}
@@ -23,41 +26,57 @@ use Rattle.items.specs.Items as items
 use Rattle.code.specs.Bytes.{least_size}
 use Rattle.code.specs.Sizes.{routine_size, routines_size}
 
+-- arrays of 10 bytes and of 600
+abbrev sizes : List ℕ
+sizes = 10 ∷ 600 ∷ []
+
+abbrev x : Variable
+x = variables.Local 0
+
 -- the longest items of a fixed size
 
-character_has : least_size (items.print_character items.pushed) ≡ 24
+character_has : least_size sizes (items.print_character items.pushed) ≡ 24
 unfolding bytes_of
 character_has = refl
 
-first_equal_has : least_size items.first_equal ≡ 19
+first_equal_has : least_size sizes items.first_equal ≡ 19
 unfolding bytes_of
 first_equal_has = refl
 
-also_equal_has : least_size items.also_equal ≡ 25
+also_equal_has : least_size sizes items.also_equal ≡ 25
 unfolding bytes_of
 also_equal_has = refl
 
 -- a number and the top: pull, test, fault, div
-remainder_has : least_size (items.operate binaries.Remainder (items.number 300) items.pushed items.push) ≡ 16
+remainder_has : least_size sizes (items.operate binaries.Remainder (items.number 300) items.pushed items.push) ≡ 16
 unfolding bytes_of
 remainder_has = refl
 
 -- `print` and one word of fives
-no_text_has : least_size (items.print_text []) ≡ 3
+no_text_has : least_size sizes (items.print_text []) ≡ 3
 unfolding bytes_of encoded packed
 no_text_has = refl
 
 -- call_1s, call_vs, and call_vs2 with its second byte of types
-calls_have : least_size (items.call 300 [] items.push)
-    ∷ least_size (items.call 300 (items.pushed ∷ items.pushed ∷ items.pushed ∷ []) items.push)
-    ∷ least_size (items.call 300 (items.pushed ∷ items.pushed ∷ items.pushed ∷ items.pushed ∷ []) items.push)
+calls_have : least_size sizes (items.call 300 [] items.push)
+    ∷ least_size sizes (items.call 300 (items.pushed ∷ items.pushed ∷ items.pushed ∷ []) items.push)
+    ∷ least_size sizes (items.call 300 (items.pushed ∷ items.pushed ∷ items.pushed ∷ items.pushed ∷ []) items.push)
     ∷ []
     ≡ 4 ∷ 14 ∷ 19 ∷ []
 unfolding bytes_of
 calls_have = refl
 
+-- two pulls, two tests, the fault, the instruction, and a word that goes on
+accesses_have : least_size sizes (items.entry widths.Byte 1 items.pushed items.push)
+    ∷ least_size sizes (items.assign_entry widths.Word 1 items.pushed items.pushed items.push)
+    ∷ least_size sizes (items.assign_entry widths.Byte 1 items.pushed (items.number 300) (items.into x))
+    ∷ []
+    ≡ 23 ∷ 29 ∷ 29 ∷ []
+unfolding bytes_of
+accesses_have = refl
+
 -- [ Main; ];
-empty_has : routine_size (record { locals = 0; body = source.stop }) ≡ 2
+empty_has : routine_size sizes (record { locals = 0; body = source.stop }) ≡ 2
 unfolding bytes_of
 empty_has = refl
 
@@ -79,8 +98,8 @@ tokens = sign s.OpenBracket (p 0) ∷ name (codes "Main") (p 1) ∷ sign s.Semic
 -- 6 / 2, and the tokens after it
 abbrev divided : IsE (number 6 (p 5) ∷ sign s.Slash (p 6) ∷ number 2 (p 7) ∷ after)
     (trees.binary binaries.Divide (trees.constant 6) (trees.constant 2)) after
-divided = e_plain (e1_plain (n1_plain
-    (e2_plain (e3_plain (e4_scale (e4_plain (n4_plain (u_plain p_number))) refl (n4_plain (u_plain p_number)))))))
+divided = e_plain (e1_plain (n1_plain (e2_plain (e3_plain
+    (e4_scale (e4_plain (n4_plain (e5_plain (u_plain p_number)))) refl (n4_plain (e5_plain (u_plain p_number))))))))
 
 abbrev sample : (t : ProgramTree) × IsProgram tokens t
 sample = (
@@ -93,6 +112,6 @@ sample_weighs : sample.0.weight ≡ 387
 sample_weighs = refl
 
 -- a text of 3 bytes, a division of 4, the printing of its word of 3, and 1 at the end
-sample_has : routines_size (routines_of first_table sample.0.directives) ≡ 1 + (3 + 4 + 3 + 1) + 7
+sample_has : routines_size sizes (routines_of first_table sample.0.directives) ≡ 1 + (3 + 4 + 3 + 1) + 7
 unfolding bytes_of encoded packed spelling_of look_up
 sample_has = refl

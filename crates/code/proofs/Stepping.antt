@@ -1,6 +1,7 @@
 -- Items that step a variable.
-use Rattle.std.proofs.Common.{◌≡◌, ℕ, ◌+◌, ◌<◌, ◌≤◌, List, [], ◌∷◌, length, drop, refl, ◌∙◌, subst, arith}
-use Rattle.std.proofs.Common.{length-append}
+use Rattle.std.proofs.Common.{◌≡◌, ℕ, ◌+◌, ◌<◌, ◌≤◌, List, [], ◌∷◌, length, drop, refl, ap, ◌∙◌, subst}
+use Rattle.std.proofs.Common.{arith, length-append}
+use Rattle.std.specs.Prelude.{map}
 use Rattle.std.specs.List.{flat_map}
 use Rattle.zcore.specs.declared.instruction.Operand.TheVariants.{Small, Variable}
 use Rattle.zcore.specs.Header.{static_base_of}
@@ -84,6 +85,7 @@ module _ (c : Running) where
       callers = good.callers;
       few = good.few;
       globals = held.globals_same (new_word op x) ∙ good.globals;
+      sizes = ap (map length) (held.arrays_same (new_word op x)) ∙ good.sizes;
       stored = held.stored (new_word op x);
     };
   }
@@ -150,7 +152,7 @@ module _ (c : Running) where
       let room : length l1 + length s + words (around c).others < 65536 =
       omega (arith, room_for c s (omega (arith, short)), held.locals_same w) in
       within_led c s (w ∷ s) m1 (new_situation op x) (q + length (bytes_of j)) both.end (held.stored w)
-      (held.locals_same w) (held.globals_same w)
+      (held.locals_same w) (held.globals_same w) (ap (map length) (held.arrays_same w))
       (fuel_same x w (situation_here c)) (text_same x w (situation_here c))
       (moves (point (here c) world.fuel) (point q world.fuel) (point (q + length (bytes_of j)) world.fuel)
       (at_words (around c) m locals s world.text) st (at_words (around c) m1 l1 (w ∷ s) world.text)
@@ -184,6 +186,7 @@ module _ (c : Running) where
       let to = with_value y w (new_situation op x) in
       written_led c s s m2 to (q + length (bytes_of j)) both.end short (next.stored w) (next.locals_same w
       ∙ held.locals_same w) (next.globals_same w ∙ held.globals_same w)
+      (ap (map length) (next.arrays_same w ∙ held.arrays_same w))
       (fuel_same y w (new_situation op x) ∙ fuel_same x w (situation_here c)) (text_same y w (new_situation op x)
       ∙ text_same x w (situation_here c))
       (moves (point (here c) world.fuel) (point q world.fuel) (point (q + length (bytes_of j)) world.fuel)
@@ -207,7 +210,7 @@ module _ (c : Running) where
       let end = here c + length (bytes_of (stepping op x)) in
       written_led c s s (new_memory op x) (new_situation op x) end there.end short (held.stored w)
       (held.locals_same w)
-      (held.globals_same w)
+      (held.globals_same w) (ap (map length) (held.arrays_same w))
       (fuel_same x w (situation_here c)) (text_same x w (situation_here c))
       (one_step (point (here c) world.fuel) (point end world.fuel) (at_words (around c) m locals s world.text)
       (at_words (around c) (new_memory op x) (new_situation op x).locals s world.text)

@@ -1,18 +1,21 @@
 -- Small stories that hold programs, run by the machine.
-use Rattle.std.proofs.Common.{◌≡◌, ℕ, List, [], ◌∷◌, ◌++◌, take, refl}
+use Rattle.std.proofs.Common.{◌≡◌, ℕ, List, [], ◌∷◌, ◌++◌, length, take, refl}
 use Rattle.std.specs.Prelude.{codes, map, replicate}
 use Rattle.expressions.specs.declared.tree.Binary.TheVariants as binaries
 use Rattle.expressions.specs.declared.tree.Comparison.TheVariants as comparisons
 use Rattle.expressions.specs.declared.tree.Equality.TheVariants as equalities
 use Rattle.expressions.specs.declared.tree.Prefix.TheVariants as prefixes
 use Rattle.expressions.specs.declared.tree.Step.TheVariants as steps
+use Rattle.expressions.specs.declared.tree.Width.TheVariants as widths
 use Rattle.zcore.specs.declared.place.Place.TheVariants as places
 use Rattle.zcore.specs.declared.place.Limit.TheVariants as limits
 use Rattle.zcore.specs.Instruction.{decode, bytes_of, opcode, operands, operand, byte, large, result_variable, branch}
 use Rattle.zcore.specs.Turn.{Whole, opening, plays, last_place, turn_from, weight}
 use Rattle.zcore.specs.Execution.{step, perform, give_result, divide, load, increment, decrement, push_word, pull}
+use Rattle.zcore.specs.Execution.{load_word, load_byte, store_word, store_byte}
 use Rattle.zcore.specs.Execution.{store, jump, call_packed, return_popped, print_characters, print_inline}
 use Rattle.zcore.specs.Execution.{print_packed, print_character, text_at}
+use Rattle.zcore.specs.Parts.{read_word, read_byte, write_word, write_byte}
 use Rattle.zcore.specs.Parts.{read_in_place, write_in_place, push, pop, read_local, write_local, read_global}
 use Rattle.zcore.specs.Parts.{write_global, read_variable, write_variable, test_variable, test_pull, operand_value}
 use Rattle.zcore.specs.Parts.{operand_values, test_result, store_result, test_target, spend, go, test_routine}
@@ -22,12 +25,15 @@ use Rattle.zcore.specs.Reading.{reads}
 use Rattle.zcore.specs.Words.{packed, unpacked_text}
 use Rattle.zcore.specs.Alphabets.{spelling_of}
 use Rattle.zcore.specs.Arithmetic.{quotient, decimal, signed_text}
+use Rattle.std.specs.List.{flat_map}
+use Rattle.checker.specs.declared.cause.Cause.{Cause}
+use Rattle.checker.specs.World.{words_of}
 use Rattle.checker.specs.declared.resolved.Variable.TheVariants as variables
 use Rattle.checker.specs.Resolved as source
 use Rattle.checker.specs.Resolved.{Action, Actions, RoutineOf, ProgramOf}
 use Rattle.checker.specs.Meaning.{routine_at, meaning}
 use Rattle.items.specs.Items.{routine_items}
-use Rattle.code.specs.Addresses.{Addresses}
+use Rattle.code.specs.Addresses.{Addresses, all_causes}
 use Rattle.code.specs.Bytes.{code_bytes}
 use Rattle.code.specs.HeldProgram.{start_code, fault_line}
 
@@ -35,25 +41,33 @@ use Rattle.code.specs.HeldProgram.{start_code, fault_line}
 abbrev slot : ℕ → List ℕ → List ℕ
 slot size bytes = take size (bytes ++ replicate size 0)
 
-abbrev routine_bytes : Addresses → RoutineOf → List ℕ
-routine_bytes a r = r.locals ∷ code_bytes a (routine_items r)
+abbrev routine_bytes : List ℕ → Addresses → RoutineOf → List ℕ
+routine_bytes sizes a r = r.locals ∷ code_bytes sizes a (routine_items r)
 
--- Version 5; globals at 64, static memory and the texts of faults from 544 on, code from 672 on, Main at 680, another
--- routine at 840.
+-- Version 5; globals at 64, an array at 544, static memory and the texts of faults from 560 on, code from 1072 on, Main
+-- at 1080, another routine at 1240.
 abbrev pub a : Addresses
-a = record { routines = 170 ∷ 210 ∷ []; division_by_zero = 136; not_a_character = 152 }
+a = record {
+  routines = 270 ∷ 310 ∷ [];
+  arrays = 544 ∷ [];
+  faults = 140 ∷ 156 ∷ 172 ∷ 188 ∷ 204 ∷ 220 ∷ 236 ∷ 252 ∷ [];
+}
 
 abbrev head : List ℕ
-head = slot 64 (5 ∷ 0 ∷ 0 ∷ 1 ∷ 2 ∷ 0xA0 ∷ 2 ∷ 0xA0 ∷ 0 ∷ 0 ∷ 0 ∷ 0 ∷ 0 ∷ 0x40 ∷ 2 ∷ 0x20 ∷ [])
+head = slot 64 (5 ∷ 0 ∷ 0 ∷ 1 ∷ 4 ∷ 0x30 ∷ 4 ∷ 0x30 ∷ 0 ∷ 0 ∷ 0 ∷ 0 ∷ 0 ∷ 0x40 ∷ 2 ∷ 0x30 ∷ [])
 
-abbrev story_of : List ℕ → RoutineOf → RoutineOf → List ℕ
-story_of globals main other =
+-- the text of a fault
+abbrev line_slot : Cause → List ℕ
+line_slot cause = slot 64 (encoded (fault_line (words_of cause)))
+
+abbrev story_of : List ℕ → List ℕ → RoutineOf → RoutineOf → List ℕ
+story_of globals array main other =
     head ++ (slot 480 globals
-    ++ (slot 64 (encoded (fault_line (codes "division by zero")))
-    ++ (slot 64 (encoded (fault_line (codes "not a character")))
-    ++ (slot 8 (start_code 170)
-    ++ (slot 160 (routine_bytes a main)
-    ++ (slot 160 (routine_bytes a other) ++ 0 ∷ []))))))
+    ++ (slot 16 array
+    ++ (flat_map line_slot all_causes
+    ++ (slot 8 (start_code 270)
+    ++ (slot 160 (routine_bytes (length array ∷ []) a main)
+    ++ (slot 160 (routine_bytes (length array ∷ []) a other) ++ 0 ∷ []))))))
 
 abbrev list : List Action → Actions
 list xs = source.actions_of xs
@@ -71,19 +85,24 @@ greeting =
     ∷ source.character_of (source.number 65) ∷ []
 
 abbrev pub count_down : List source.Printed
-count_down = source.number_of (global 0) ∷ []
+count_down = source.number_of (source.entry widths.Byte 0 (global 0)) ∷ []
 
 abbrev pub quotient_of_seven : List source.Printed
 quotient_of_seven = source.number_of (source.binary binaries.Divide (source.number 7) (global 0)) ∷ []
 
--- [ Main; print "Hi^", f(20, 22), (char) 65; g = 3; while (g > 0) { print g; g--; } print 7 / g; ]; [ f a b; return a
--- + b; ];
+-- the bytes of the array t
+abbrev pub table : List ℕ
+table = 0 ∷ 1 ∷ 2 ∷ 0 ∷ []
+
+-- [ Main; print "Hi^", f(20, 22), (char) 65; g = 3; t->g = g; while (g > 0) { print t->g; g--; } print 7 / g; ];
+-- [ f a b; return a + b; ];
 abbrev pub main : RoutineOf
 main = record {
   locals = 0;
   body = list (
       source.print greeting
       ∷ source.effect (source.assign (variables.Global 0) (source.number 3))
+      ∷ source.effect (source.assign_entry widths.Byte 0 (global 0) (global 0))
       ∷ source.while_do (source.compare comparisons.Greater (global 0) (source.number 0)) (source.block (list (
       source.print count_down
       ∷ source.effect (source.step_after (variables.Global 0) steps.Decrement)
@@ -99,10 +118,10 @@ sum_of_two = record {
 }
 
 abbrev pub program : ProgramOf
-program = record { globals = 9 ∷ []; routines = main ∷ sum_of_two ∷ []; main = 0 }
+program = record { globals = 9 ∷ []; arrays = table ∷ []; routines = main ∷ sum_of_two ∷ []; main = 0 }
 
 abbrev pub story : List ℕ
-story = story_of (0 ∷ 9 ∷ []) main sum_of_two
+story = story_of (0 ∷ 9 ∷ []) table main sum_of_two
 
 abbrev texts : List Whole → List (List ℕ)
 texts wholes = map (λ (w : Whole). w.text) wholes
@@ -120,7 +139,7 @@ unfolding bytes_of encoded packed spelling_of opening turn_from weight step perf
     read_variable write_variable test_variable test_pull operand_value operand_values test_result store_result
     test_target spend go test_routine test_calls enter call test_return leave give_back take_branch branch_on print
     decoded abbreviation reads unpacked_text decode opcode operands operand byte large result_variable branch
-    signed_text decimal quotient
+    signed_text decimal quotient load_word load_byte store_word store_byte read_word read_byte write_word write_byte
 played = refl
 
 ends : last_place (plays story 1000 []) ≡ places.Quit
@@ -130,7 +149,7 @@ unfolding bytes_of encoded packed spelling_of opening turn_from weight step perf
     read_variable write_variable test_variable test_pull operand_value operand_values test_result store_result
     test_target spend go test_routine test_calls enter call test_return leave give_back take_branch branch_on print
     decoded abbreviation reads unpacked_text decode opcode operands operand byte large result_variable branch
-    signed_text decimal quotient
+    signed_text decimal quotient load_word load_byte store_word store_byte read_word read_byte write_word write_byte
 ends = refl
 
 -- with 4 units the call of Main, that of the other routine and two rounds of the loop are paid, and no third
@@ -149,13 +168,14 @@ unfolding bytes_of encoded packed spelling_of opening turn_from weight step perf
     read_variable write_variable test_variable test_pull operand_value operand_values test_result store_result
     test_target spend go test_routine test_calls enter call test_return leave give_back take_branch branch_on print
     decoded abbreviation reads unpacked_text decode opcode operands operand byte large result_variable branch
-    signed_text decimal quotient
+    signed_text decimal quotient load_word load_byte store_word store_byte read_word read_byte write_word write_byte
 stopped = refl
 
 -- [ Main; f(1); ];  [ f a; return f(a); ];
 abbrev calls_itself : ProgramOf
 calls_itself = record {
   globals = 0 ∷ [];
+  arrays = [];
   routines = record {
     locals = 0;
     body = list (source.effect (source.call 1 (source.more (source.number 1) source.none)) ∷ []);
@@ -175,7 +195,7 @@ means_endless : meaning calls_itself 12 [] ≡ record {
 unfolding meaning
 means_endless = refl
 
-endless : texts (plays (story_of [] (routine_at calls_itself.routines 0) (routine_at calls_itself.routines 1)) 12 [])
+endless : texts (plays (story_of [] [] (routine_at calls_itself.routines 0) (routine_at calls_itself.routines 1)) 12 [])
     ≡ (10 ∷ codes "[Limit: turn too long]" ++ 10 ∷ []) ∷ []
 unfolding bytes_of encoded packed spelling_of opening turn_from weight step perform give_result divide load increment
     decrement push_word pull store jump call_packed return_popped print_characters print_inline print_packed
@@ -183,7 +203,7 @@ unfolding bytes_of encoded packed spelling_of opening turn_from weight step perf
     read_variable write_variable test_variable test_pull operand_value operand_values test_result store_result
     test_target spend go test_routine test_calls enter call test_return leave give_back take_branch branch_on print
     decoded abbreviation reads unpacked_text decode opcode operands operand byte large result_variable branch
-    signed_text decimal quotient
+    signed_text decimal quotient load_word load_byte store_word store_byte read_word read_byte write_word write_byte
 endless = refl
 
 -- [ Main; if (g == 3 or 9 && ~~0) print "yes~"; else print "no"; print -5, (char) 5; ];  with 9 in g
@@ -203,14 +223,14 @@ asks = record {
 }
 
 abbrev asking : ProgramOf
-asking = record { globals = 9 ∷ []; routines = asks ∷ sum_of_two ∷ []; main = 0 }
+asking = record { globals = 9 ∷ []; arrays = []; routines = asks ∷ sum_of_two ∷ []; main = 0 }
 
 means_asked : (meaning asking 100 []).texts ≡ (codes "yes" ++ 34 ∷ codes "-5" ++ 10 ∷ codes "[Fault: not a character]"
     ++ 10 ∷ []) ∷ []
 unfolding meaning signed_text decimal
 means_asked = refl
 
-asked : texts (plays (story_of (0 ∷ 9 ∷ []) asks sum_of_two) 100 [])
+asked : texts (plays (story_of (0 ∷ 9 ∷ []) [] asks sum_of_two) 100 [])
     ≡ (codes "yes" ++ 34 ∷ codes "-5" ++ 10 ∷ codes "[Fault: not a character]" ++ 10 ∷ []) ∷ []
 unfolding bytes_of encoded packed spelling_of opening turn_from weight step perform give_result divide load increment
     decrement push_word pull store jump call_packed return_popped print_characters print_inline print_packed
@@ -218,5 +238,34 @@ unfolding bytes_of encoded packed spelling_of opening turn_from weight step perf
     read_variable write_variable test_variable test_pull operand_value operand_values test_result store_result
     test_target spend go test_routine test_calls enter call test_return leave give_back take_branch branch_on print
     decoded abbreviation reads unpacked_text decode opcode operands operand byte large result_variable branch
-    signed_text decimal quotient
+    signed_text decimal quotient load_word load_byte store_word store_byte read_word read_byte write_word write_byte
 asked = refl
+
+-- [ Main; t-->1 = -2; print t-->1; print t-->g; ];  with 9 in g, and 4 bytes in t
+abbrev reaches : RoutineOf
+reaches = record {
+  locals = 0;
+  body = list (
+      source.effect (source.assign_entry widths.Word 0 (source.number 1) (source.number 65534))
+      ∷ source.print (source.number_of (source.entry widths.Word 0 (source.number 1)) ∷ [])
+      ∷ source.print (source.number_of (source.entry widths.Word 0 (global 0)) ∷ [])
+      ∷ []);
+}
+
+abbrev reaching : ProgramOf
+reaching = record { globals = 9 ∷ []; arrays = table ∷ []; routines = reaches ∷ sum_of_two ∷ []; main = 0 }
+
+means_reached : (meaning reaching 100 []).texts ≡ (codes "-2" ++ 10 ∷ codes "[Fault: index out of range]" ++ 10 ∷ []) ∷ []
+unfolding meaning signed_text decimal
+means_reached = refl
+
+reached : texts (plays (story_of (0 ∷ 9 ∷ []) table reaches sum_of_two) 100 [])
+    ≡ (codes "-2" ++ 10 ∷ codes "[Fault: index out of range]" ++ 10 ∷ []) ∷ []
+unfolding bytes_of encoded packed spelling_of opening turn_from weight step perform give_result divide load increment
+    decrement push_word pull store jump call_packed return_popped print_characters print_inline print_packed
+    print_character text_at read_in_place write_in_place push pop read_local write_local read_global write_global
+    read_variable write_variable test_variable test_pull operand_value operand_values test_result store_result
+    test_target spend go test_routine test_calls enter call test_return leave give_back take_branch branch_on print
+    decoded abbreviation reads unpacked_text decode opcode operands operand byte large result_variable branch
+    signed_text decimal quotient load_word load_byte store_word store_byte read_word read_byte write_word write_byte
+reached = refl

@@ -22,7 +22,7 @@ module _ (c : Running) where
   -- memory with other words in the compiler's variables
   pub record Scratch (other : List ℕ) : Type 0 where
     pub ground : Ground (static_base_of story) other
-    pub stored : Stored story world.globals other
+    pub stored : Stored story a world.globals world.arrays other
     pub kept : drop (static_base_of story) other ≡ drop (static_base_of story) m
 
   pub scratch_here : Scratch m
@@ -35,7 +35,8 @@ module _ (c : Running) where
       small in
       record {
         ground = written.ground;
-        stored = stored_temporary story world.globals other scratch.ground (few c) scratch.stored variable word low
+        stored = stored_temporary story a world.globals world.arrays other scratch.ground (few c) scratch.stored
+            variable word low
             small;
         kept = written.kept ∙ scratch.kept;
       }

@@ -12,6 +12,9 @@ use Rattle.zcore.specs.Text.{Holds, decoded, encoded}
 use Rattle.zcore.proofs.Spelling.{AreBytes}
 use Rattle.zcore.proofs.RoundTrip.{round_trip}
 use Rattle.checker.specs.World.{shown}
+use Rattle.checker.specs.declared.cause.Cause.{Cause}
+use Rattle.checker.specs.declared.cause.Cause.TheVariants as causes
+use Rattle.checker.specs.World.{words_of}
 use Rattle.code.specs.Bytes.{character_of}
 use Rattle.lexer.specs.Printable.{IsPrintable}
 use Rattle.code.specs.HeldProgram.{fault_line}
@@ -147,19 +150,53 @@ bytes_below (c ∷ cs) e =
     let parts = and_parts (nat_lt c 256) (list_all (λ n. nat_lt n 256) cs) e in
     (ltb-true c 256 parts.0, bytes_below cs parts.1)
 
-pub division_line : IsLine (codes "division by zero")
+-- the line of each fault
+pub cause_line : (cause : Cause) → IsLine (words_of cause)
 unfolding encoded packed spelling_of
-division_line = record {
-  bytes = bytes_below (fault_line (codes "division by zero")) refl;
+cause_line causes.DivisionByZero = record {
+  bytes = bytes_below (fault_line (words_of causes.DivisionByZero)) refl;
   printable = refl;
   prints = refl;
   short = refl;
 }
-
-pub character_line : IsLine (codes "not a character")
-unfolding encoded packed spelling_of
-character_line = record {
-  bytes = bytes_below (fault_line (codes "not a character")) refl;
+cause_line causes.NotAnObject = record {
+  bytes = bytes_below (fault_line (words_of causes.NotAnObject)) refl;
+  printable = refl;
+  prints = refl;
+  short = refl;
+}
+cause_line causes.IndexOutOfRange = record {
+  bytes = bytes_below (fault_line (words_of causes.IndexOutOfRange)) refl;
+  printable = refl;
+  prints = refl;
+  short = refl;
+}
+cause_line causes.NoSuchProperty = record {
+  bytes = bytes_below (fault_line (words_of causes.NoSuchProperty)) refl;
+  printable = refl;
+  prints = refl;
+  short = refl;
+}
+cause_line causes.PropertyOfManyWords = record {
+  bytes = bytes_below (fault_line (words_of causes.PropertyOfManyWords)) refl;
+  printable = refl;
+  prints = refl;
+  short = refl;
+}
+cause_line causes.ObjectInsideItself = record {
+  bytes = bytes_below (fault_line (words_of causes.ObjectInsideItself)) refl;
+  printable = refl;
+  prints = refl;
+  short = refl;
+}
+cause_line causes.NotACharacter = record {
+  bytes = bytes_below (fault_line (words_of causes.NotACharacter)) refl;
+  printable = refl;
+  prints = refl;
+  short = refl;
+}
+cause_line causes.BufferTooSmall = record {
+  bytes = bytes_below (fault_line (words_of causes.BufferTooSmall)) refl;
   printable = refl;
   prints = refl;
   short = refl;

@@ -27,9 +27,9 @@ abbrev pub text_bytes : Item → List ℕ
 text_bytes (items.print_text bytes) = encoded (filter is_printable (map character_of bytes))
 text_bytes _ = []
 
--- an item whose branch or jump has this offset
-abbrev pub item_bytes : Addresses → ℕ → Item → List ℕ
-item_bytes a offset item = bytes_of_all (item_code a offset item) ++ text_bytes item
+-- an item where arrays have these sizes, and whose branch or jump has this offset
+abbrev pub item_bytes : List ℕ → Addresses → ℕ → Item → List ℕ
+item_bytes sizes a offset item = bytes_of_all (item_code sizes a offset item) ++ text_bytes item
 
 -- Where items stand
 
@@ -40,35 +40,12 @@ target_of _ = None
 
 -- wherever all else stands
 abbrev pub no_addresses : Addresses
-no_addresses = record { routines = []; division_by_zero = 0; not_a_character = 0 }
+no_addresses = record { routines = []; arrays = []; faults = [] }
 
--- the bytes of an item whose branch is the shortest, and how many of them are its label's
-abbrev pub least_size : Item → ℕ
-least_size item = length (item_bytes no_addresses 2 item)
-
+-- how many bytes of the shortest label an item has
 abbrev pub label_size : Option ℕ → ℕ
 label_size None = 0
 label_size (Some target) = 1
-
--- an item as a part of what is laid out
-abbrev pub part_of : Item → Part
-part_of item = record { size = least_size item - label_size (target_of item); target = target_of item }
-
-abbrev pub parts_of : List Item → List Part
-parts_of is = map part_of is
-
--- how many bytes there are from each item on to the end, where each branch has its shortest form
-abbrev pub lefts_of : List Item → List ℕ
-lefts_of is = lefts 0 (parts_of is)
-
-abbrev pub code_size : List Item → ℕ
-code_size is = first (lefts_of is)
-
--- where the item of a number stands in its routine's code; the end of the code, where there is none
-abbrev pub place_of : List Item → ℕ → ℕ
-place_of is n = code_size is - slice_index (lefts_of is) n
-
--- Bytes
 
 -- where the item of a number leads to, from the place of the next one
 abbrev pub offset_of : (ℕ → ℕ) → ℕ → Item → ℕ
@@ -77,11 +54,37 @@ offset_of places n (items.jump target) = jump_offset (places (n + 1)) (places ta
 offset_of places n (items.back target) = jump_offset (places (n + 1)) (places target)
 offset_of places n _ = 0
 
--- items of which the first has this number
-abbrev pub items_bytes : Addresses → (ℕ → ℕ) → ℕ → List Item → List ℕ
-items_bytes a places n [] = []
-items_bytes a places n (i ∷ is) = item_bytes a (offset_of places n i) i ++ items_bytes a places (n + 1) is
+-- where arrays have these sizes
+module _ (sizes : List ℕ) where
+  -- the bytes of an item whose branch is the shortest
+  abbrev pub least_size : Item → ℕ
+  least_size item = length (item_bytes sizes no_addresses 2 item)
 
--- the code of a routine
-abbrev pub code_bytes : Addresses → List Item → List ℕ
-code_bytes a is = items_bytes a (place_of is) 0 is
+  -- an item as a part of what is laid out
+  abbrev pub part_of : Item → Part
+  part_of item = record { size = least_size item - label_size (target_of item); target = target_of item }
+
+  abbrev pub parts_of : List Item → List Part
+  parts_of is = map part_of is
+
+  -- how many bytes there are from each item on to the end, where each branch has its shortest form
+  abbrev pub lefts_of : List Item → List ℕ
+  lefts_of is = lefts 0 (parts_of is)
+
+  abbrev pub code_size : List Item → ℕ
+  code_size is = first (lefts_of is)
+
+  -- where the item of a number stands in its routine's code; the end of the code, where there is none
+  abbrev pub place_of : List Item → ℕ → ℕ
+  place_of is n = code_size is - slice_index (lefts_of is) n
+
+  -- Bytes
+
+  -- items of which the first has this number
+  abbrev pub items_bytes : Addresses → (ℕ → ℕ) → ℕ → List Item → List ℕ
+  items_bytes a places n [] = []
+  items_bytes a places n (i ∷ is) = item_bytes sizes a (offset_of places n i) i ++ items_bytes a places (n + 1) is
+
+  -- the code of a routine
+  abbrev pub code_bytes : Addresses → List Item → List ℕ
+  code_bytes a is = items_bytes a (place_of is) 0 is

@@ -1,6 +1,6 @@
 -- A program that stands in a story.
-use Rattle.std.specs.Prelude.{◌≡◌, ◌+◌, ◌*◌, ◌<◌, ◌≤◌, ℕ, List, [], ◌∷◌, ◌++◌, codes, length, slice_index}
-use Rattle.std.specs.List.{All}
+use Rattle.std.specs.Prelude.{◌≡◌, ◌+◌, ◌*◌, ◌<◌, ◌≤◌, ℕ, List, [], ◌∷◌, ◌++◌, codes, length, map, take, slice_index}
+use Rattle.std.specs.List.{All, concat}
 use Rattle.zcore.specs.declared.instruction.Operand.TheVariants.{Large}
 use Rattle.zcore.specs.declared.instruction.Operation.TheVariants.{Call1n, Quit}
 use Rattle.zcore.specs.Bytes.{word_at}
@@ -9,8 +9,10 @@ use Rattle.zcore.specs.Parts.{unpacked}
 use Rattle.zcore.specs.Text.{Holds, encoded}
 use Rattle.checker.specs.Resolved.{RoutineOf, ProgramOf}
 use Rattle.checker.specs.Meaning.{routine_at}
+use Rattle.checker.specs.World.{words_of}
+use Rattle.checker.specs.declared.cause.Cause.{Cause}
 use Rattle.items.specs.Items.{routine_items}
-use Rattle.code.specs.Addresses.{Addresses}
+use Rattle.code.specs.Addresses.{Addresses, fault_address}
 use Rattle.code.specs.Instructions.{plain}
 use Rattle.code.specs.Bytes.{bytes_of_all, code_size, code_bytes}
 
@@ -18,15 +20,23 @@ use Rattle.code.specs.Bytes.{bytes_of_all, code_size, code_bytes}
 abbrev pub start_code : ℕ → List ℕ
 start_code main = bytes_of_all (plain Call1n (Large main ∷ []) ∷ plain Quit [] ∷ [])
 
--- a routine at a packed address: how many locals it has, and its code (5.2). Bytes follow it, and it stands in static
--- memory or behind.
-pub record HoldsRoutine (story : List ℕ) (a : Addresses) (packed : ℕ) (r : RoutineOf) : Type 0 where
-  pub bytes : Holds story (unpacked story packed) (r.locals ∷ code_bytes a (routine_items r))
-  pub followed : unpacked story packed + 1 + code_size (routine_items r) < length story
+-- how many bytes each array has
+abbrev pub sizes_of : ProgramOf → List ℕ
+sizes_of p = map length p.arrays
+
+-- how many bytes of arrays stand before the array of a number, where they stand one behind another
+abbrev pub offset_in : List (List ℕ) → ℕ → ℕ
+offset_in arrays n = length (concat (take n arrays))
+
+-- a routine at a packed address, where arrays have these sizes: how many locals it has, and its code (5.2). Bytes
+-- follow it, and it stands in static memory or behind.
+pub record HoldsRoutine (story sizes : List ℕ) (a : Addresses) (packed : ℕ) (r : RoutineOf) : Type 0 where
+  pub bytes : Holds story (unpacked story packed) (r.locals ∷ code_bytes sizes a (routine_items r))
+  pub followed : unpacked story packed + 1 + code_size sizes (routine_items r) < length story
   pub above : static_base_of story ≤ unpacked story packed
   pub named : 0 < packed
   pub word : packed < 65536
-  pub short : code_size (routine_items r) ≤ 32000
+  pub short : code_size sizes (routine_items r) ≤ 32000
 
 -- a fault's text at a packed address
 pub record HoldsText (story : List ℕ) (packed : ℕ) (text : List ℕ) : Type 0 where
@@ -42,9 +52,8 @@ fault_line words = 13 ∷ codes "[Fault: " ++ words ++ codes "]" ++ 13 ∷ []
 pub record HoldsProgram (story : List ℕ) (a : Addresses) (p : ProgramOf) : Type 0 where
   pub byte_each : All (λ b. b < 256) story
   pub routines : (r : ℕ) → r < length p.routines
-      → HoldsRoutine story a (slice_index a.routines r) (routine_at p.routines r)
-  pub division_by_zero : HoldsText story a.division_by_zero (fault_line (codes "division by zero"))
-  pub not_a_character : HoldsText story a.not_a_character (fault_line (codes "not a character"))
+      → HoldsRoutine story (sizes_of p) a (slice_index a.routines r) (routine_at p.routines r)
+  pub faults : (cause : Cause) → HoldsText story (fault_address a cause) (fault_line (words_of cause))
   -- the code that begins the story
   pub start : Holds story (word_at story 6) (start_code (slice_index a.routines p.main))
   pub start_above : static_base_of story ≤ word_at story 6
@@ -53,3 +62,9 @@ pub record HoldsProgram (story : List ℕ) (a : Addresses) (p : ProgramOf) : Typ
   pub globals_below : globals_of story + 480 ≤ static_base_of story
   pub static_below : static_base_of story ≤ length story
   pub globals : (g : ℕ) → g < length p.globals → word_at story (globals_of story + 2 * g) ≡ slice_index p.globals g
+  -- the arrays, one behind another, behind the globals and below static memory
+  pub first_array : ℕ
+  pub arrays : Holds story first_array (concat p.arrays)
+  pub arrays_each : (n : ℕ) → n < length p.arrays → slice_index a.arrays n ≡ first_array + offset_in p.arrays n
+  pub arrays_above : globals_of story + 480 ≤ first_array
+  pub arrays_below : first_array + length (concat p.arrays) ≤ static_base_of story

@@ -1,7 +1,7 @@
 -- How items are written: the instructions that do them (Z-Machine Standards Document 1.1, sections 4 and 15). Numbers
 -- and variables stand in place in an instruction; the other operands are on the stack of the routine's frame.
 -- Variables from 248 on are the compiler's; none keeps its value beyond an item.
-use Rattle.std.specs.Prelude.{◌+◌, ◌-◌, ◌%◌, ◌==◌, not, ℕ, zero, suc, nat_le, nat_lt, Bool, true, false}
+use Rattle.std.specs.Prelude.{◌+◌, ◌-◌, ◌/◌, ◌%◌, ◌==◌, ◌&&◌, not, ℕ, zero, suc, nat_le, nat_lt, Bool, true, false}
 use Rattle.std.specs.Prelude.{if◌then◌else◌, List, [], ◌∷◌, ◌++◌, take, length, slice_index, Option, Some, None}
 use Rattle.zcore.specs.declared.instruction.Operand.{Operand}
 use Rattle.zcore.specs.declared.instruction.Operand.TheVariants.{Large, Small, Variable}
@@ -12,7 +12,8 @@ use Rattle.zcore.specs.declared.instruction.Operation.TheVariants.{Increment, De
 use Rattle.zcore.specs.declared.instruction.Operation.TheVariants.{PrintPacked, Load, Call1n, ReturnTrue, ReturnFalse}
 use Rattle.zcore.specs.declared.instruction.Operation.TheVariants.{Print, ReturnPopped, Quit, NewLine, CallVs}
 use Rattle.zcore.specs.declared.instruction.Operation.TheVariants.{PrintCharacter, PrintNumber, Push, Pull, CallVs2}
-use Rattle.zcore.specs.declared.instruction.Operation.TheVariants.{Not, CallVn, CallVn2}
+use Rattle.zcore.specs.declared.instruction.Operation.TheVariants.{Not, CallVn, CallVn2, LoadWord, LoadByte}
+use Rattle.zcore.specs.declared.instruction.Operation.TheVariants.{StoreWord, StoreByte}
 use Rattle.zcore.specs.Instruction.{Instruction}
 use Rattle.expressions.specs.declared.tree.Binary.{Binary}
 use Rattle.expressions.specs.declared.tree.Binary.TheVariants as binaries
@@ -20,12 +21,15 @@ use Rattle.expressions.specs.declared.tree.Prefix.{Prefix}
 use Rattle.expressions.specs.declared.tree.Prefix.TheVariants as prefixes
 use Rattle.expressions.specs.declared.tree.Step.{Step}
 use Rattle.expressions.specs.declared.tree.Step.TheVariants as steps
+use Rattle.expressions.specs.declared.tree.Width.{Width}
+use Rattle.expressions.specs.declared.tree.Width.TheVariants as widths
+use Rattle.checker.specs.declared.cause.Cause.TheVariants as causes
 use Rattle.checker.specs.declared.resolved.Variable as source
 use Rattle.checker.specs.declared.resolved.Variable.TheVariants as variables
 use Rattle.checker.specs.Meaning.{is_character}
 use Rattle.items.specs.Items.{Item, Destination, Test}
 use Rattle.items.specs.Items as items
-use Rattle.code.specs.Addresses.{Addresses}
+use Rattle.code.specs.Addresses.{Addresses, fault_address}
 
 -- Instructions
 
@@ -162,14 +166,14 @@ arithmetic operation a b d = takes (a ∷ b ∷ []) ++ giving operation (operand
 -- a division by the word of a variable, which is tested first
 abbrev pub divided_by : Addresses → Operation → items.Operand → ℕ → Destination → List Instruction
 divided_by a operation x variable d =
-    branching JumpIfZero (Variable variable ∷ []) false 6 ∷ (fail a.division_by_zero
+    branching JumpIfZero (Variable variable ∷ []) false 6 ∷ (fail (fault_address a causes.DivisionByZero)
     ++ giving operation (in_place x ∷ Variable variable ∷ []) (result_in d) ∷ [])
 
 -- a number as divisor is not tested
 abbrev pub divided : Addresses → Operation → items.Operand → items.Operand → Destination → List Instruction
 divided a operation x items.pushed d = pull (temporary 0) ∷ divided_by a operation x (temporary 0) d
 divided a operation x (items.number n) d =
-    if n == 0 then fail a.division_by_zero else giving operation (in_place x ∷ constant n ∷ []) (result_in d) ∷ []
+    if n == 0 then fail (fault_address a causes.DivisionByZero) else giving operation (in_place x ∷ constant n ∷ []) (result_in d) ∷ []
 divided a operation x (items.variable y) d = divided_by a operation x (number_of y) d
 
 -- `&&` and `||` are branches, and no item
@@ -215,6 +219,71 @@ also_equal_code =
     ∷ branching JumpIfZero (Variable (temporary 1) ∷ []) false 8
     ∷ flag
 
+-- Arrays, of which each has so many bytes
+
+-- how many entries of this width an array of so many bytes has
+abbrev pub entries_in : Width → ℕ → ℕ
+entries_in widths.Byte size = size
+entries_in widths.Word size = size / 2
+
+-- an index is at least 0, as a signed number, and below the number of entries
+abbrev pub is_entry : ℕ → ℕ → Bool
+is_entry count i = nat_lt i 32768 && nat_lt i count
+
+abbrev pub load_operation : Width → Operation
+load_operation widths.Byte = LoadByte
+load_operation widths.Word = LoadWord
+
+abbrev pub store_operation : Width → Operation
+store_operation widths.Byte = StoreByte
+store_operation widths.Word = StoreWord
+
+-- how far a branch leads to behind a comparison with a constant: it has 4 bytes, or 6 where the constant takes two
+abbrev pub behind_comparison : ℕ → ℕ
+behind_comparison n = if nat_lt n 256 then 6 else 8
+
+-- an index in a variable, which is tested: where it is out of range, the fault's text is printed
+abbrev pub tested_index : Addresses → ℕ → ℕ → List Instruction
+tested_index a count variable =
+    branching JumpIfLess (Variable variable ∷ Small 0 ∷ []) true (behind_comparison count)
+    ∷ branching JumpIfLess (Variable variable ∷ constant count ∷ []) true 6
+    ∷ fail (fault_address a causes.IndexOutOfRange)
+
+-- what is done at an index of an array of so many entries; a number as index is not tested
+abbrev pub at_index : Addresses → ℕ → items.Operand → (Operand → List Instruction) → List Instruction
+at_index a count items.pushed act =
+    pull (temporary 0) ∷ (tested_index a count (temporary 0) ++ act (Variable (temporary 0)))
+at_index a count (items.number i) act =
+    if is_entry count i then act (constant i) else fail (fault_address a causes.IndexOutOfRange)
+at_index a count (items.variable x) act = tested_index a count (number_of x) ++ act (Variable (number_of x))
+
+-- an entry of an array of so many bytes, which stands at an address
+abbrev pub entry_code : Addresses → Width → ℕ → ℕ → items.Operand → Destination → List Instruction
+entry_code a width size place o d = at_index a (entries_in width size) o (λ i.
+    giving (load_operation width) (Large place ∷ i ∷ []) (result_in d) ∷ [])
+
+-- the word to assign, above a pushed index: it is taken first
+abbrev pub assigned_takes : items.Operand → List Instruction
+assigned_takes items.pushed = pull (temporary 1) ∷ []
+assigned_takes (items.number n) = []
+assigned_takes (items.variable x) = []
+
+abbrev pub assigned_word : items.Operand → Operand
+assigned_word items.pushed = Variable (temporary 1)
+assigned_word (items.number n) = constant n
+assigned_word (items.variable x) = Variable (number_of x)
+
+-- the word that was assigned goes on
+abbrev pub passed_on : Destination → Operand → List Instruction
+passed_on items.push word = push word ∷ []
+passed_on (items.into x) word = store (number_of x) word ∷ []
+passed_on items.nowhere word = []
+
+abbrev pub assign_entry_code : Addresses → Width → ℕ → ℕ → items.Operand → items.Operand → Destination
+    → List Instruction
+assign_entry_code a width size place o q d = assigned_takes q ++ at_index a (entries_in width size) o (λ i.
+    plain (store_operation width) (Large place ∷ i ∷ assigned_word q ∷ []) ∷ passed_on d (assigned_word q))
+
 -- Printing
 
 -- a character is 0, 13 or from 32 to 126, and else the fault's text is printed
@@ -223,12 +292,12 @@ tested_character a variable =
     branching JumpIfEqual (Variable variable ∷ Small 0 ∷ Small 13 ∷ []) true 14
     ∷ branching JumpIfLess (Variable variable ∷ Small 32 ∷ []) true 6
     ∷ branching JumpIfGreater (Variable variable ∷ Small 126 ∷ []) false 6
-    ∷ (fail a.not_a_character ++ plain PrintCharacter (Variable variable ∷ []) ∷ [])
+    ∷ (fail (fault_address a causes.NotACharacter) ++ plain PrintCharacter (Variable variable ∷ []) ∷ [])
 
 abbrev pub character_code : Addresses → items.Operand → List Instruction
 character_code a items.pushed = pull (temporary 0) ∷ tested_character a (temporary 0)
 character_code a (items.number n) =
-    if is_character n then plain PrintCharacter (constant n ∷ []) ∷ [] else fail a.not_a_character
+    if is_character n then plain PrintCharacter (constant n ∷ []) ∷ [] else fail (fault_address a causes.NotACharacter)
 character_code a (items.variable x) = tested_character a (number_of x)
 
 -- Branches to labels
@@ -292,23 +361,28 @@ return_code (items.number n) =
     if n == 1 then plain ReturnTrue [] else (if n == 0 then plain ReturnFalse [] else plain Return (constant n ∷ []))
 return_code (items.variable x) = plain Return (Variable (number_of x) ∷ [])
 
--- The instructions of an item, where its branch or its jump has this offset
-abbrev pub item_code : Addresses → ℕ → Item → List Instruction
-item_code a offset (items.move o d) = move_code o d ∷ []
-item_code a offset (items.apply_prefix op o d) = prefix_code op o d
-item_code a offset (items.operate op x y d) = binary_code a op x y d
-item_code a offset (items.step op x d) = step_code op x d
-item_code a offset (items.keep x) = copy (number_of x) ∷ []
-item_code a offset items.first_equal = first_equal_code
-item_code a offset items.also_equal = also_equal_code
-item_code a offset items.drop_below = pull 0 ∷ []
-item_code a offset (items.print_text bytes) = plain Print [] ∷ []
-item_code a offset (items.print_character o) = character_code a o
-item_code a offset (items.print_number o) = plain PrintNumber (in_place o ∷ []) ∷ []
-item_code a offset items.new_line = plain NewLine [] ∷ []
-item_code a offset items.quit = plain Quit [] ∷ []
-item_code a offset (items.branch test os when target) = branch_code test (take most_tested os) when offset
-item_code a offset (items.jump target) = plain Jump (Large (offset % 65536) ∷ []) ∷ []
-item_code a offset (items.back target) = plain Jump (Large (offset % 65536) ∷ []) ∷ []
-item_code a offset (items.call r os d) = call_code (slice_index a.routines r) (take most_arguments os) d
-item_code a offset (items.return o) = return_code o ∷ []
+-- The instructions of an item, where arrays have these sizes, and its branch or its jump has this offset; an accepted
+-- program has no array of 65,536 bytes
+abbrev pub item_code : List ℕ → Addresses → ℕ → Item → List Instruction
+item_code sizes a offset (items.move o d) = move_code o d ∷ []
+item_code sizes a offset (items.apply_prefix op o d) = prefix_code op o d
+item_code sizes a offset (items.operate op x y d) = binary_code a op x y d
+item_code sizes a offset (items.step op x d) = step_code op x d
+item_code sizes a offset (items.entry width n o d) =
+    entry_code a width (slice_index sizes n % 65536) (slice_index a.arrays n) o d
+item_code sizes a offset (items.assign_entry width n o q d) =
+    assign_entry_code a width (slice_index sizes n % 65536) (slice_index a.arrays n) o q d
+item_code sizes a offset (items.keep x) = copy (number_of x) ∷ []
+item_code sizes a offset items.first_equal = first_equal_code
+item_code sizes a offset items.also_equal = also_equal_code
+item_code sizes a offset items.drop_below = pull 0 ∷ []
+item_code sizes a offset (items.print_text bytes) = plain Print [] ∷ []
+item_code sizes a offset (items.print_character o) = character_code a o
+item_code sizes a offset (items.print_number o) = plain PrintNumber (in_place o ∷ []) ∷ []
+item_code sizes a offset items.new_line = plain NewLine [] ∷ []
+item_code sizes a offset items.quit = plain Quit [] ∷ []
+item_code sizes a offset (items.branch test os when target) = branch_code test (take most_tested os) when offset
+item_code sizes a offset (items.jump target) = plain Jump (Large (offset % 65536) ∷ []) ∷ []
+item_code sizes a offset (items.back target) = plain Jump (Large (offset % 65536) ∷ []) ∷ []
+item_code sizes a offset (items.call r os d) = call_code (slice_index a.routines r) (take most_arguments os) d
+item_code sizes a offset (items.return o) = return_code o ∷ []

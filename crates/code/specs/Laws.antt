@@ -16,7 +16,7 @@ use Rattle.checker.specs.Accepted.{IsAccepted}
 use Rattle.checker.specs.Printable.{HasPrintableTexts}
 use Rattle.checker.specs.Meaning.{meaning}
 use Rattle.code.specs.Addresses.{Addresses}
-use Rattle.code.specs.HeldProgram.{HoldsProgram}
+use Rattle.code.specs.HeldProgram.{sizes_of, HoldsProgram}
 use Rattle.code.specs.Sizes.{routine_size, routines_size}
 
 -- the machine's turns on a story print what a program means, and end where it ends, which is no machine fault
@@ -31,22 +31,24 @@ CodePlays =
     (story : List ℕ) (a : Addresses) (p : ProgramOf) → IsAccepted p → HasPrintableTexts p → HoldsProgram story a p
     → (full : ℕ) (lines : List (List ℕ)) → Plays story p full lines
 
--- where names stand for what a table tells: the code of each routine, and that of all of them, is no longer than the
--- source weighs
-pub record IsShort (p : ProgramTree) (whole : Table) : Type 0 where
-  pub each : All (λ (r : RoutineTree). routine_size (resolve_routine whole r) + 7 ≤ r.weight)
+-- where names stand for what a table tells, and arrays have these sizes: the code of each routine, and that of all of
+-- them, is no longer than the source weighs
+pub record IsShort (p : ProgramTree) (whole : Table) (sizes : List ℕ) : Type 0 where
+  pub each : All (λ (r : RoutineTree). routine_size sizes (resolve_routine whole r) + 7 ≤ r.weight)
       (routine_trees p.directives)
-  pub all : routines_size (routines_of whole p.directives) ≤ p.weight
+  pub all : routines_size sizes (routines_of whole p.directives) ≤ p.weight
 
--- the code of the program that some tokens are is short, whatever its names stand for
+-- the code of the program that some tokens are is short, whatever its names stand for, and however large its arrays
+-- are
 abbrev pub CodeIsShort : Type 0
-CodeIsShort = (tokens : List Lexeme) (p : ProgramTree) → IsProgram tokens p → (whole : Table) → IsShort p whole
+CodeIsShort = (tokens : List Lexeme) (p : ProgramTree) → IsProgram tokens p → (whole : Table)
+    → (sizes : List ℕ) → IsShort p whole sizes
 
 -- the code of a checked program is within the limits of a source's weight: 32,000 for a routine, and the version's
 -- for all
 pub record IsSmall (c : CheckedProgram) (version : Version) : Type 0 where
-  pub each : All (λ (r : RoutineOf). routine_size r + 7 ≤ 32000) (program_of c).routines
-  pub all : routines_size (program_of c).routines ≤ greatest_weight version
+  pub each : All (λ (r : RoutineOf). routine_size (sizes_of (program_of c)) r + 7 ≤ 32000) (program_of c).routines
+  pub all : routines_size (sizes_of (program_of c)) (program_of c).routines ≤ greatest_weight version
 
 -- so is that of each source that is not too large for a version
 abbrev pub SmallSourcesHaveSmallCode : Type 0

@@ -4,11 +4,13 @@ use Rattle.checker.specs.Resolved.{RoutineOf}
 use Rattle.items.specs.Items.{routine_items}
 use Rattle.code.specs.Bytes.{code_size}
 
--- a byte that tells how many locals it has, and its code (Z-Machine Standards Document 1.1, section 5.2)
-abbrev pub routine_size : RoutineOf → ℕ
-routine_size r = 1 + code_size (routine_items r)
+-- where arrays have these sizes
+module _ (sizes : List ℕ) where
+  -- a byte that tells how many locals it has, and its code (Z-Machine Standards Document 1.1, section 5.2)
+  abbrev pub routine_size : RoutineOf → ℕ
+  routine_size r = 1 + code_size sizes (routine_items r)
 
--- of routines, each with as many as 7 bytes beside it, so that the next stands at a packed address (1.2.3)
-abbrev pub routines_size : List RoutineOf → ℕ
-routines_size [] = 0
-routines_size (r ∷ rs) = routine_size r + 7 + routines_size rs
+  -- of routines, each with as many as 7 bytes beside it, so that the next stands at a packed address (1.2.3)
+  abbrev pub routines_size : List RoutineOf → ℕ
+  routines_size [] = 0
+  routines_size (r ∷ rs) = routine_size r + 7 + routines_size rs

@@ -45,8 +45,8 @@ named_when (suc n) os = named_from n os
 abbrev pub addresses_of : located.Addresses → Addresses
 addresses_of a = record {
   routines = a.routines.now;
-  division_by_zero = a.division_by_zero;
-  not_a_character = a.not_a_character;
+  arrays = a.arrays.now;
+  faults = a.faults.now;
 }
 
 -- where the item of a number stands, by how many bytes there are from each on to the end
@@ -60,7 +60,8 @@ branch_offsets places n (items.branch test os when target ∷ is) =
     offset_of places n (items.branch test os when target) ∷ branch_offsets places (n + 1) is
 branch_offsets places n (i ∷ is) = branch_offsets places (n + 1) is
 
--- the code of a routine that is ready to be written: how many locals it has, and its items
+-- the code of a routine that is ready to be written: how many locals it has, the sizes of the arrays, and its items
 pub record CodeOf : Type 0 where
   pub locals : ℕ
+  pub sizes : List ℕ
   pub items : List Item

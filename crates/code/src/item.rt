@@ -9,6 +9,7 @@ ghost use Rattle.code.specs.Written.{addresses_of};
 
 use crate::addresses::{Addresses, routine_address};
 use crate::calls::{put_call, put_return};
+use crate::entries::{array_of, put_assign_entry, put_entry};
 use crate::instruction::{Operands, plain, pull, put_all};
 use crate::jumps::{put_branch, put_jump};
 use crate::operands::in_place;
@@ -42,33 +43,37 @@ fn put_print_number(bytes: &mut Vec<u8>, operand: items::Operand) -> Result<(), 
     put_all(bytes, &[plain(Operation::PrintNumber, operands)])
 }
 
-/// The bytes of an item whose branch or jump has this offset.
+/// The bytes of an item, where arrays have these sizes, and its branch or jump has this offset.
 #[tactic(auto, using(crate::proofs::Chains::no_text))]
 pub fn put_item(
     bytes: &mut Vec<u8>,
     alloc: Global,
+    sizes: &[usize],
     addresses: &Addresses<'_>,
     offset: usize,
     item: &Item<'_>,
 ) -> Result<(), AllocError>
     ensures { OnOk result (bytes.new.items ≡ bytes.old.items
-        ++ item_bytes (addresses_of addresses.now) offset (item_of item.now)) }
+        ++ item_bytes sizes.now (addresses_of addresses.now) offset (item_of item.now)) }
 {
     match item {
         Item::Move(operand, destination) => put_move(bytes, *operand, *destination)?,
         Item::Prefix(operator, operand, destination) => {
             put_prefix(bytes, *operator, *operand, *destination)?
         }
-        Item::Operate(operator, left, right, destination) => put_binary(
-            bytes,
-            alloc,
-            addresses,
-            *operator,
-            *left,
-            *right,
-            *destination,
-        )?,
+        Item::Operate(operator, left, right, destination) => {
+            let words = (*left, *right);
+            put_binary(bytes, alloc, addresses, *operator, words, *destination)?
+        }
         Item::Step(step, variable, destination) => put_step(bytes, *step, *variable, *destination)?,
+        Item::Entry(width, number, index, destination) => {
+            let array = array_of(sizes, addresses, *width, *number);
+            put_entry(bytes, addresses, array, *index, *destination)?
+        }
+        Item::AssignEntry(width, number, index, word, destination) => {
+            let array = array_of(sizes, addresses, *width, *number);
+            put_assign_entry(bytes, addresses, array, *index, *word, *destination)?
+        }
         Item::Keep(variable) => put_keep(bytes, *variable)?,
         Item::FirstEqual => put_first_equal(bytes)?,
         Item::AlsoEqual => put_also_equal(bytes)?,

@@ -3,6 +3,7 @@
 
 mod addresses;
 mod calls;
+mod entries;
 mod fault;
 mod instruction;
 mod item;

@@ -9,12 +9,13 @@ ghost use Rattle.code.specs.Instructions as spec;
 ghost use Rattle.code.specs.Bytes.{bytes_of_all};
 ghost use Rattle.code.specs.Written.{addresses_of, instruction_of};
 
-use crate::addresses::Addresses;
+use crate::addresses::{Addresses, fault_address};
 use crate::instruction::{
     FIRST, Instruction, Operands, SECOND, THIRD, branching, copy, giving, plain, print_fault, pull,
     push, put_all, put_instruction, quit,
 };
 use crate::operands::{constant, in_place, put_named, put_takes, result_in, variable_number};
+use checker::Cause;
 use expressions::{Binary, Prefix};
 use items::Destination;
 use std::alloc::{AllocError, Global};
@@ -83,7 +84,7 @@ fn put_divided_by(
 {
     let right = Operand::Variable(variable);
     let over = branching(Operation::JumpIfZero, Operands::One(right), false, 6);
-    let text = print_fault(addresses.division_by_zero);
+    let text = print_fault(fault_address(addresses, Cause::DivisionByZero));
     let operands = Operands::Two(in_place(left), right);
     let quotient = giving(operation, operands, result_in(destination));
     put_all(bytes, &[over, text, quit(), quotient])
@@ -103,7 +104,13 @@ fn put_divided_by_number(
         (source_items.number number) (as_destination destination))) }
 {
     if number == 0 {
-        put_all(bytes, &[print_fault(addresses.division_by_zero), quit()])
+        put_all(
+            bytes,
+            &[
+                print_fault(fault_address(addresses, Cause::DivisionByZero)),
+                quit(),
+            ],
+        )
     } else {
         let operands = Operands::Two(in_place(left), constant(number));
         put_all(
@@ -148,14 +155,14 @@ pub fn put_binary(
     alloc: Global,
     addresses: &Addresses<'_>,
     operator: Binary,
-    left: items::Operand,
-    right: items::Operand,
+    words: (items::Operand, items::Operand),
     destination: Destination,
 ) -> Result<(), AllocError>
     ensures { OnOk result (bytes.new.items ≡ bytes.old.items
-        ++ bytes_of_all (binary_code (addresses_of addresses.now) operator (as_operand left) (as_operand right)
+        ++ bytes_of_all (binary_code (addresses_of addresses.now) operator (as_operand words.0) (as_operand words.1)
         (as_destination destination))) }
 {
+    let (left, right) = words;
     let operation = match operator {
         Binary::AndAlso | Binary::OrElse => return Ok(()),
         Binary::Divide => {

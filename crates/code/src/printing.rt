@@ -14,9 +14,10 @@ ghost use Rattle.code.specs.Bytes.{bytes_of_all};
 ghost use Rattle.code.specs.Bytes as definitions;
 ghost use Rattle.code.specs.Written.{addresses_of};
 
-use crate::addresses::Addresses;
+use crate::addresses::{Addresses, fault_address};
 use crate::instruction::{FIRST, Operands, branching, plain, print_fault, pull, put_all, quit};
 use crate::operands::{constant, variable_number};
+use checker::Cause;
 use std::alloc::{AllocError, Global};
 use zcore::{Operand, Operation, TextFault, encode_text};
 
@@ -95,7 +96,7 @@ fn put_tested(
             branching(Operation::JumpIfEqual, ends, true, 14),
             branching(Operation::JumpIfLess, below, true, 6),
             branching(Operation::JumpIfGreater, above, false, 6),
-            print_fault(addresses.not_a_character),
+            print_fault(fault_address(addresses, Cause::NotACharacter)),
             quit(),
             plain(Operation::PrintCharacter, Operands::One(word)),
         ],
@@ -121,7 +122,13 @@ fn put_character_number(
         let operands = Operands::One(constant(number));
         put_all(bytes, &[plain(Operation::PrintCharacter, operands)])
     } else {
-        put_all(bytes, &[print_fault(addresses.not_a_character), quit()])
+        put_all(
+            bytes,
+            &[
+                print_fault(fault_address(addresses, Cause::NotACharacter)),
+                quit(),
+            ],
+        )
     }
 }
 

@@ -1,6 +1,6 @@
 //! The code of a routine.
 
-ghost use Rattle.std.specs.Prelude.{◌≡◌, ◌<◌, ◌≤◌, ◌+◌, ◌++◌, reverse, length, slice_index, IfOk, OnOk};
+ghost use Rattle.std.specs.Prelude.{◌≡◌, ◌<◌, ◌≤◌, ◌+◌, ◌++◌, map, reverse, length, slice_index, IfOk, OnOk};
 ghost use Rattle.forms.specs.Layout.{first, bytes_limit};
 ghost use Rattle.checker.specs.Meaning.{routine_at};
 ghost use Rattle.checker.specs.Resolved.{program_of};
@@ -8,6 +8,7 @@ ghost use Rattle.items.specs.Code.{item_of, items_of};
 ghost use Rattle.items.specs.Items as definitions;
 ghost use Rattle.code.specs.Bytes.{lefts_of, place_of, items_bytes};
 ghost use Rattle.code.specs.Bytes as spec;
+ghost use Rattle.code.specs.HeldProgram.{sizes_of};
 ghost use Rattle.code.specs.Written.{addresses_of, place_in};
 
 use crate::addresses::Addresses;
@@ -22,9 +23,13 @@ use std::marker::Model;
 
 /// The code of a routine, ready to be written where the routine stands.
 #[derive(Drop)]
-pub struct Code<'a> {
+pub struct Code<'a, 'b> {
     alloc: Global,
     locals: usize,
+
+    /// How many bytes each array has.
+    sizes: &'b [usize],
+
     items: Vec<Item<'a>>,
 
     /// How many bytes there are from each item on to the end, the end's first.
@@ -37,7 +42,7 @@ pub struct Code<'a> {
     length: usize,
 }
 
-impl<'a> Model for Code<'a> {
+impl<'a, 'b> Model for Code<'a, 'b> {
     ghost use Rattle.std.specs.Prelude.{◌≡◌, ◌<◌, ◌+◌, reverse};
     ghost use Rattle.forms.specs.Layout.{bytes_limit, uses};
     ghost use Rattle.items.specs.Code.{items_of};
@@ -46,11 +51,12 @@ impl<'a> Model for Code<'a> {
 
     ghost Value = { CodeOf };
 
-    ghost view = { λ c. record { locals = c.locals; items = items_of c.items.items } };
+    ghost view = { λ c. record { locals = c.locals; sizes = c.sizes.now; items = items_of c.items.items } };
 
-    ghost invariant = { λ c. (c.left.items ≡ reverse (lefts_of (items_of c.items.items)))
-        × (c.branches.items ≡ uses 0 (parts_of (items_of c.items.items)))
-        × (c.length ≡ 1 + code_size (items_of c.items.items)) × (code_size (items_of c.items.items) < bytes_limit) };
+    ghost invariant = { λ c. (c.left.items ≡ reverse (lefts_of c.sizes.now (items_of c.items.items)))
+        × (c.branches.items ≡ uses 0 (parts_of c.sizes.now (items_of c.items.items)))
+        × (c.length ≡ 1 + code_size c.sizes.now (items_of c.items.items))
+        × (code_size c.sizes.now (items_of c.items.items) < bytes_limit) };
 }
 
 /// The item to which one branches.
@@ -75,20 +81,20 @@ fn label_size(target: Option<usize>) -> usize
 
 /// The items as parts that are laid out. They are written once, with no addresses and the shortest branches, and their
 /// bytes are thrown away: an item has as many bytes wherever all stands, but for the form of its branch.
-fn parts_of(alloc: Global, items: &[Item<'_>]) -> Result<Vec<Part>, AllocError>
-    ensures parts { IfOk result (λ v. v.items ≡ spec.parts_of (items_of items.now)) }
-    ensures fits { IfOk result (λ v. spec.code_size (items_of items.now) < bytes_limit) }
+fn parts_of(alloc: Global, sizes: &[usize], items: &[Item<'_>]) -> Result<Vec<Part>, AllocError>
+    ensures parts { IfOk result (λ v. v.items ≡ spec.parts_of sizes.now (items_of items.now)) }
+    ensures fits { IfOk result (λ v. spec.code_size sizes.now (items_of items.now) < bytes_limit) }
 {
     let addresses = Addresses {
         routines: &[],
-        division_by_zero: 0,
-        not_a_character: 0,
+        arrays: &[],
+        faults: &[],
     };
     let mut bytes = Vec::new(alloc);
     let mut parts = Vec::new(alloc);
     for item in items {
         let before = bytes.len();
-        put_item(&mut bytes, alloc, &addresses, 2, item)?;
+        put_item(&mut bytes, alloc, sizes, &addresses, 2, item)?;
         let target = target_of(item);
         let size = (bytes.len() - before).saturating_sub(label_size(target));
         parts.push(Part { size, target })?;
@@ -138,34 +144,42 @@ fn offset_of(left: &[usize], number: usize, item: &Item<'_>) -> usize
 fn put_items(
     bytes: &mut Vec<u8>,
     alloc: Global,
+    sizes: &[usize],
     addresses: &Addresses<'_>,
     items: &[Item<'_>],
     left: &[usize],
 ) -> Result<(), AllocError>
-    requires left { left.now ≡ reverse (lefts_of (items_of items.now)) }
-    requires small { spec.code_size (items_of items.now) < bytes_limit }
+    requires left { left.now ≡ reverse (lefts_of sizes.now (items_of items.now)) }
+    requires small { spec.code_size sizes.now (items_of items.now) < bytes_limit }
     ensures { OnOk result (bytes.new.items ≡ bytes.old.items
-        ++ items_bytes (addresses_of addresses.now) (place_of (items_of items.now)) 0 (items_of items.now)) }
+        ++ items_bytes sizes.now (addresses_of addresses.now) (place_of sizes.now (items_of items.now)) 0
+        (items_of items.now)) }
 {
     for number in 0..items.len() {
         let item = &items[number];
         let offset = offset_of(left, number, item);
-        put_item(bytes, alloc, addresses, offset, item)?;
+        put_item(bytes, alloc, sizes, addresses, offset, item)?;
     }
     Ok(())
 }
 
-/// The code of items of a routine with so many locals.
-fn code_of<'a>(alloc: Global, locals: usize, items: Vec<Item<'a>>) -> Result<Code<'a>, AllocError>
-    ensures { IfOk result (λ c. c ≡ record { locals = locals; items = items_of items.entry.items }) }
+/// The code of items of a routine with so many locals, where arrays have these sizes.
+fn code_of<'a, 'b>(
+    alloc: Global,
+    locals: usize,
+    sizes: &'b [usize],
+    items: Vec<Item<'a>>,
+) -> Result<Code<'a, 'b>, AllocError>
+    ensures { IfOk result (λ c. c ≡ record { locals = locals; sizes = sizes.now; items = items_of items.entry.items }) }
 {
-    let parts = parts_of(alloc, &items)?;
+    let parts = parts_of(alloc, sizes, &items)?;
     let left = lay_out(alloc, &parts)?;
     let branches = branches(alloc, &parts, &left)?;
     let length = 1 + place(&left, items.len());
     Ok(Code {
         alloc,
         locals,
+        sizes,
         items,
         left,
         branches,
@@ -178,21 +192,22 @@ fn code_of<'a>(alloc: Global, locals: usize, items: Vec<Item<'a>>) -> Result<Cod
 /// # Errors
 ///
 /// `Memory` where a growth of memory was refused.
-pub fn routine_code<'a>(
+pub fn routine_code<'a, 'b>(
     alloc: Global,
-    checked: &Checked<'a>,
+    checked: &'b Checked<'a>,
     routine: usize,
-) -> Result<Code<'a>, CodeFault>
+) -> Result<Code<'a, 'b>, CodeFault>
     requires { routine < length checked.now.routines }
     ensures locals { IfOk result (λ c. c.locals ≡ (routine_at (program_of checked.now).routines routine).locals) }
+    ensures sizes { IfOk result (λ c. c.sizes ≡ sizes_of (program_of checked.now)) }
     ensures items { IfOk result (λ c. c.items ≡ definitions.routine_items (routine_at (program_of checked.now).routines routine)) }
 {
     let source = checked.routine(routine);
     let items = routine_items(alloc, source)?;
-    Ok(code_of(alloc, source.locals, items)?)
+    Ok(code_of(alloc, source.locals, checked.array_sizes(), items)?)
 }
 
-impl Code<'_> {
+impl Code<'_, '_> {
     ghost use Rattle.std.specs.Prelude.{◌≡◌, ◌+◌, ◌%◌, ◌∷◌, ◌++◌, map, OnOk, OnErr};
     ghost use Rattle.std.specs.List.{All};
     ghost use Rattle.forms.specs.Layout.{IsShortest};
@@ -202,7 +217,7 @@ impl Code<'_> {
 
     /// How many bytes `put` writes: one for the number of locals, and those of the items.
     pub fn length(&self) -> usize
-        ensures { result ≡ 1 + code_size self.now.items }
+        ensures { result ≡ 1 + code_size self.now.sizes self.now.items }
     {
         self.length
     }
@@ -212,7 +227,7 @@ impl Code<'_> {
     /// its offset. It has one byte of branch data exactly where the offset is 2 to 63, two exactly where it is another
     /// to 8,191, and the far form exactly where two bytes, all else as it is, would not reach.
     pub fn branches(&self) -> &[BranchUse]
-        ensures offsets { map (λ (u : BranchUse). u.offset) result.now ≡ branch_offsets (place_of self.now.items) 0 self.now.items }
+        ensures offsets { map (λ (u : BranchUse). u.offset) result.now ≡ branch_offsets (place_of self.now.sizes self.now.items) 0 self.now.items }
         ensures shortest { All IsShortest result.now }
     {
         &self.branches
@@ -226,12 +241,19 @@ impl Code<'_> {
     /// `Memory` where a growth of memory was refused: then nothing is written.
     pub fn put(&self, addresses: &Addresses<'_>, story: &mut Vec<u8>) -> Result<(), CodeFault>
         ensures written { OnOk result (story.new.items ≡ story.old.items
-            ++ (self.now.locals % 256) ∷ code_bytes (addresses_of addresses.now) self.now.items) }
+            ++ (self.now.locals % 256) ∷ code_bytes self.now.sizes (addresses_of addresses.now) self.now.items) }
         ensures kept { OnErr result (story.new.items ≡ story.old.items) }
     {
         let mut bytes = Vec::new(self.alloc);
         bytes.push((self.locals % 256) as u8)?;
-        put_items(&mut bytes, self.alloc, addresses, &self.items, &self.left)?;
+        put_items(
+            &mut bytes,
+            self.alloc,
+            self.sizes,
+            addresses,
+            &self.items,
+            &self.left,
+        )?;
         story.extend_from_slice(&bytes)?;
         Ok(())
     }

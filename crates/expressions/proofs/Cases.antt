@@ -11,14 +11,15 @@ use Rattle.expressions.specs.declared.tree.Comparison.{Comparison}
 use Rattle.expressions.specs.declared.tree.Equality.{Equality}
 use Rattle.expressions.specs.declared.tree.Prefix.TheVariants as op
 use Rattle.expressions.specs.declared.tree.Step.{Step}
+use Rattle.expressions.specs.declared.tree.Width.{Width}
 use Rattle.expressions.specs.Operators.{comparing, equating, stepping}
-use Rattle.expressions.specs.Tree.{NameTree, ExpressionTree, assign, call, compare, equal, parenthesised, prefixed}
-use Rattle.expressions.specs.Tree.{step_before, trees_of}
+use Rattle.expressions.specs.Tree.{NameTree, ExpressionTree, assign, call, compare, equal, index, parenthesised}
+use Rattle.expressions.specs.Tree.{prefixed, step_before, trees_of}
 use Rattle.expressions.specs.Nesting.{begins_expression}
 use Rattle.expressions.specs.Parse.{◌>>=◌, Fails, whole, negation, complement, prefix, operand, arguments, after_name}
 use Rattle.expressions.specs.Parse.{head, tail, is_sign, is_word, list, closed, step_on, nested, enclosed, primary}
-use Rattle.expressions.specs.Parse.{stepped, unary, complemented, sum, equated, comparison, negated, condition}
-use Rattle.expressions.specs.Parse.{assigned, expression, called}
+use Rattle.expressions.specs.Parse.{stepped, unary, array_at, indexed, complemented, sum, equated, comparison}
+use Rattle.expressions.specs.Parse.{negated, condition, assigned, expression, called}
 use Rattle.expressions.proofs.Nested.{nested_zero, nested_arguments, nested_whole, nested_negation, nested_complement}
 use Rattle.expressions.proofs.Nested.{nested_prefix, nested_operand}
 
@@ -47,6 +48,15 @@ module _ (d : ℕ) where
       → unary (nested d) ts ≡ (primary (nested d) ts >>= λ x. step_on x.0 x.1 (stepping (head x.1)))
   unfolding unary stepped
   unary_steps ts e o = rw (e, o) refl
+
+  pub indexed_alone : (ts : List Lexeme) → array_at ts ≡ None → indexed (nested d) ts ≡ unary (nested d) ts
+  unfolding indexed
+  indexed_alone ts e = rw e refl
+
+  pub indexed_entry : (ts us : List Lexeme) (n : NameTree) (width : Width) → array_at ts ≡ Some (n, width)
+      → us ≡ tail (tail ts) → indexed (nested d) ts ≡ (unary (nested d) us >>= λ x. Ok (index n width x.0, x.1))
+  unfolding indexed
+  indexed_entry ts us n width e u = rw (e, u) refl
 
   pub called_with : (n : NameTree) (ts : List Lexeme) → is_sign s.CloseParenthesis (head ts) ≡ false
       → called (nested d) n ts

@@ -8,20 +8,23 @@ use Rattle.expressions.specs.declared.tree.Comparison.{Comparison}
 use Rattle.expressions.specs.declared.tree.Equality.{Equality}
 use Rattle.expressions.specs.declared.tree.Prefix.TheVariants as op
 use Rattle.expressions.specs.declared.tree.Step.{Step}
-use Rattle.expressions.specs.Tree.{NameTree, ExpressionTree, ExpressionTrees, constant, named, call, parenthesised}
-use Rattle.expressions.specs.Tree.{prefixed, step_before, step_after, compare, equal, assign, none, more, trees_of}
-use Rattle.expressions.specs.Operators.{logical, comparing, equating, adding, scaling, stepping}
+use Rattle.expressions.specs.declared.tree.Width.{Width}
+use Rattle.expressions.specs.Tree.{NameTree, ExpressionTree, ExpressionTrees, constant, named, call, index}
+use Rattle.expressions.specs.Tree.{parenthesised, prefixed, step_before, step_after, compare, equal, assign, none}
+use Rattle.expressions.specs.Tree.{more, trees_of}
+use Rattle.expressions.specs.Operators.{logical, comparing, equating, adding, scaling, stepping, indexing}
 use Rattle.expressions.specs.Nesting.{begins_expression}
 use Rattle.expressions.specs.Parse.{◌>>=◌, head, is_sign, is_word, expect, list, whole, negation, complement, prefix}
 use Rattle.expressions.specs.Parse.{operand, arguments, nested, after_name, enclosed, primary, step_on, stepped}
-use Rattle.expressions.specs.Parse.{unary, complemented, product, sum, equated, comparison, negated, condition}
-use Rattle.expressions.specs.Parse.{assigned, expression, called}
+use Rattle.expressions.specs.Parse.{unary, array_at, indexed, complemented, product, sum, equated, comparison}
+use Rattle.expressions.specs.Parse.{negated, condition, assigned, expression, called}
 use Rattle.expressions.specs.Grammar.{IsE, e_plain, e_assign, IsE1, e1_plain, e1_logical, IsN1, n1_plain, n1_not}
 use Rattle.expressions.specs.Grammar.{IsE2, e2_plain, e2_compare, e2_equal, IsChoice, choice_last, choice_or, IsE3}
-use Rattle.expressions.specs.Grammar.{e3_plain, e3_add, IsE4, e4_plain, e4_scale, IsN4, n4_plain, n4_complement, IsU}
-use Rattle.expressions.specs.Grammar.{u_plain, u_minus, u_before, u_after, IsP, p_number, p_character, p_true}
-use Rattle.expressions.specs.Grammar.{p_false, p_nothing, p_name, p_call, p_call_with, p_parenthesised, IsArguments}
-use Rattle.expressions.specs.Grammar.{arguments_last, arguments_comma, nesting, nestings}
+use Rattle.expressions.specs.Grammar.{e3_plain, e3_add, IsE4, e4_plain, e4_scale, IsN4, n4_plain, n4_complement, IsE5}
+use Rattle.expressions.specs.Grammar.{e5_plain, e5_index, IsU, u_plain, u_minus, u_before, u_after, IsP, p_number}
+use Rattle.expressions.specs.Grammar.{p_character, p_true, p_false, p_nothing, p_name, p_call, p_call_with}
+use Rattle.expressions.specs.Grammar.{p_parenthesised, IsArguments, arguments_last, arguments_comma, nesting}
+use Rattle.expressions.specs.Grammar.{nestings}
 use Rattle.expressions.proofs.Limited.{Limited, bound, then, at_once, same, in_whole, in_negation, in_complement}
 use Rattle.expressions.proofs.Limited.{in_prefix, in_operand, in_arguments, Chained, begins, goes_on, stops, Listed}
 use Rattle.expressions.proofs.Limited.{listed_last, listed_next, listed_all}
@@ -29,8 +32,9 @@ use Rattle.expressions.proofs.Follow.{Stops, logical_binds, comparing_binds, equ
 use Rattle.expressions.proofs.Follow.{adding_binds, scaling_binds, stepping_binds, stepping_only, logical_stops}
 use Rattle.expressions.proofs.Follow.{comparing_stops, equating_stops, or_stops, adding_stops, scaling_stops}
 use Rattle.expressions.proofs.Follow.{stepping_stops, assign_stops, parenthesis_stops, begins_not, begins_tilde}
-use Rattle.expressions.proofs.Follow.{begins_minus, begins_step, begins_close, begin_P, begin_U, begin_E2}
+use Rattle.expressions.proofs.Follow.{begins_minus, begins_step, begins_close, begin_P, begin_E5, begin_E2}
 use Rattle.expressions.proofs.Follow.{begin_Arguments, first_E}
+use Rattle.expressions.proofs.Arrays.{no_array}
 use Rattle.expressions.proofs.Short.{short_E, short_N1, short_E3, short_E4, short_N4}
 
 -- the trees of a list of trees, as a list
@@ -101,9 +105,14 @@ module _ (ts : List Lexeme) (d : ℕ) where
   step_e4_plain a = begins scaling (complemented (nested d)) ts a
 
   step_n4_plain : {n : ℕ} {e : ExpressionTree} {r : List Lexeme} → is_sign s.Tilde (head ts) ≡ false
-      → Limited (unary (nested d) ts) d n e r → Limited (complemented (nested d) ts) d n e r
+      → Limited (indexed (nested d) ts) d n e r → Limited (complemented (nested d) ts) d n e r
   unfolding complemented
   step_n4_plain h a = same (rw h refl) a
+
+  step_e5_plain : {n : ℕ} {e : ExpressionTree} {r : List Lexeme} → array_at ts ≡ None
+      → Limited (unary (nested d) ts) d n e r → Limited (indexed (nested d) ts) d n e r
+  unfolding indexed
+  step_e5_plain h a = same (rw h refl) a
 
   step_u_plain : {n : ℕ} {e : ExpressionTree} {r : List Lexeme} → is_sign s.Minus (head ts) ≡ false
       → stepping (head ts) ≡ None → Limited (primary (nested d) ts) d n e r → Stops 6 r
@@ -130,6 +139,14 @@ module _ (d : ℕ) (m : List Lexeme) where
       (prefixed op.Complement e) r
   unfolding complemented
   step_n4_complement p a = then _ a refl
+
+  step_e5_index : {n : ℕ} (p : Position) (t : Lexeme) (f : List ℕ) (width : Width) {e : ExpressionTree} {r : List
+      Lexeme} → indexing t ≡ Some width → Limited (unary (nested d) m) d n e r
+      → Limited (indexed (nested d) (name f p ∷ t ∷ m)) d n (index (record { text = f; position = p }) width e) r
+  unfolding indexed array_at
+  step_e5_index p t f width o a =
+      same {S = unary (nested d) m >>= λ x. Ok (index (record { text = f; position = p }) width x.0, x.1)}
+      (rw o refl) (then _ a refl)
 
   step_u_minus : {n : ℕ} (p : Position) {e : ExpressionTree} {r : List Lexeme} → Limited (nested d prefix m) d n e r
       → Limited (unary (nested d) (sign s.Minus p ∷ m)) d n (prefixed op.Minus e) r
@@ -265,8 +282,14 @@ mutual
 
   pub at_N4 : {ts r : List Lexeme} {e : ExpressionTree} → IsN4 ts e r → (d : ℕ) → Stops 6 r
       → Limited (complemented (nested d) ts) d (nesting e) e r
-  at_N4 {ts} (n4_plain a) d st = step_n4_plain ts d (begins_tilde (head ts) (begin_U a)) (at_U a d st)
+  at_N4 {ts} (n4_plain a) d st = step_n4_plain ts d (begins_tilde (head ts) (begin_E5 a)) (at_E5 a d st)
   at_N4 (n4_complement {m = m} {p = p} a) d st = step_n4_complement d m p (in_complement m d (λ k. at_N4 a k st))
+
+  pub at_E5 : {ts r : List Lexeme} {e : ExpressionTree} → IsE5 ts e r → (d : ℕ) → Stops 6 r
+      → Limited (indexed (nested d) ts) d (nesting e) e r
+  at_E5 {ts} (e5_plain a) d st = step_e5_plain ts d (no_array a st) (at_U a d st)
+  at_E5 (e5_index {m = m} {p = p} {t = t} {n = f} {width = width} o a) d st = step_e5_index d m p t f width o
+      (at_U a d st)
 
   pub at_U : {ts r : List Lexeme} {e : ExpressionTree} → IsU ts e r → (d : ℕ) → Stops 6 r
       → Limited (unary (nested d) ts) d (nesting e) e r

@@ -8,14 +8,15 @@ use Rattle.expressions.specs.declared.tree.Comparison.{Comparison}
 use Rattle.expressions.specs.declared.tree.Equality.{Equality}
 use Rattle.expressions.specs.declared.tree.Step.{Step}
 use Rattle.expressions.specs.Tree.{ExpressionTree, ExpressionTrees}
-use Rattle.expressions.specs.Operators.{logical, comparing, equating, adding, scaling, stepping}
+use Rattle.expressions.specs.Operators.{logical, comparing, equating, adding, scaling, stepping, indexing}
 use Rattle.expressions.specs.Nesting.{begins_expression}
 use Rattle.expressions.specs.Parse.{head, is_sign, is_word}
 use Rattle.expressions.specs.Grammar.{IsE, e_plain, e_assign, IsE1, e1_plain, e1_logical, IsN1, n1_plain, n1_not}
 use Rattle.expressions.specs.Grammar.{IsE2, e2_plain, e2_compare, e2_equal, IsE3, e3_plain, e3_add, IsE4, e4_plain}
-use Rattle.expressions.specs.Grammar.{e4_scale, IsN4, n4_plain, n4_complement, IsU, u_plain, u_minus, u_before}
-use Rattle.expressions.specs.Grammar.{u_after, IsP, p_number, p_character, p_true, p_false, p_nothing, p_name, p_call}
-use Rattle.expressions.specs.Grammar.{p_call_with, p_parenthesised, IsArguments, arguments_last, arguments_comma}
+use Rattle.expressions.specs.Grammar.{e4_scale, IsN4, n4_plain, n4_complement, IsE5, e5_plain, e5_index, IsU, u_plain}
+use Rattle.expressions.specs.Grammar.{u_minus, u_before, u_after, IsP, p_number, p_character, p_true, p_false}
+use Rattle.expressions.specs.Grammar.{p_nothing, p_name, p_call, p_call_with, p_parenthesised, IsArguments}
+use Rattle.expressions.specs.Grammar.{arguments_last, arguments_comma}
 
 -- ---- the token that follows
 
@@ -38,6 +39,8 @@ binds (sign s.Slash _) = 5
 binds (sign s.Percent _) = 5
 binds (sign s.Ampersand _) = 5
 binds (sign s.Bar _) = 5
+binds (sign s.Arrow _) = 6
+binds (sign s.LongArrow _) = 6
 binds (sign s.Increment _) = 6
 binds (sign s.Decrement _) = 6
 binds (sign s.OpenParenthesis _) = 7
@@ -131,6 +134,11 @@ stepping_stops (sign s.Increment p) lt = absurd (omega arith)
 stepping_stops (sign s.Decrement p) lt = absurd (omega arith)
 stepping_stops _ lt = refl
 
+pub indexing_stops : (t : Lexeme) → binds t < 6 → indexing t ≡ None
+indexing_stops (sign s.Arrow p) lt = absurd (omega arith)
+indexing_stops (sign s.LongArrow p) lt = absurd (omega arith)
+indexing_stops _ lt = refl
+
 pub assign_stops : (t : Lexeme) → binds t < 1 → is_sign s.Assign t ≡ false
 assign_stops (sign s.Assign p) lt = absurd (omega arith)
 assign_stops _ lt = refl
@@ -215,8 +223,12 @@ begin_U (u_minus a) = omega arith
 begin_U (u_before {t = t} {op = op} o a) = omega (arith, step_begins t op o)
 begin_U (u_after a o) = omega (arith, begin_P a)
 
+pub begin_E5 : {ts r : List Lexeme} {e : ExpressionTree} → IsE5 ts e r → 2 < begins (head ts)
+begin_E5 (e5_plain a) = begin_U a
+begin_E5 (e5_index o a) = omega arith
+
 pub begin_N4 : {ts r : List Lexeme} {e : ExpressionTree} → IsN4 ts e r → 1 < begins (head ts)
-begin_N4 (n4_plain a) = omega (arith, begin_U a)
+begin_N4 (n4_plain a) = omega (arith, begin_E5 a)
 begin_N4 (n4_complement a) = omega arith
 
 pub begin_E4 : {ts r : List Lexeme} {e : ExpressionTree} → IsE4 ts e r → 1 < begins (head ts)

@@ -1,5 +1,5 @@
 -- From a part to the whole, by what reading the part gave.
-use Rattle.std.proofs.Common.{◌≡◌, Result, Ok, Err, refl, sym, ap, ◌∙◌}
+use Rattle.std.proofs.Common.{◌≡◌, Result, Ok, refl, ◌∙◌}
 use Rattle.expressions.specs.declared.error.Fault.{Fault}
 use Rattle.expressions.specs.declared.error.ParseError.{ParseError}
 use Rattle.expressions.specs.declared.error.ParseError.TheVariants as errors

@@ -9,5 +9,7 @@ pub mod Repeated
 pub mod Sound
 pub mod Short
 pub mod Follow
+pub mod Arrays
 pub mod Complete
 pub mod Given
+mod Samples

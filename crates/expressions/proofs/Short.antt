@@ -4,10 +4,10 @@ use Rattle.lexer.specs.Token.{Lexeme}
 use Rattle.expressions.specs.Tree.{ExpressionTree, ExpressionTrees}
 use Rattle.expressions.specs.Grammar.{IsE, e_plain, e_assign, IsE1, e1_plain, e1_logical, IsN1, n1_plain, n1_not}
 use Rattle.expressions.specs.Grammar.{IsE2, e2_plain, e2_compare, e2_equal, IsChoice, choice_last, choice_or, IsE3}
-use Rattle.expressions.specs.Grammar.{e3_plain, e3_add, IsE4, e4_plain, e4_scale, IsN4, n4_plain, n4_complement, IsU}
-use Rattle.expressions.specs.Grammar.{u_plain, u_minus, u_before, u_after, IsP, p_number, p_character, p_true}
-use Rattle.expressions.specs.Grammar.{p_false, p_nothing, p_name, p_call, p_call_with, p_parenthesised, IsArguments}
-use Rattle.expressions.specs.Grammar.{arguments_last, arguments_comma}
+use Rattle.expressions.specs.Grammar.{e3_plain, e3_add, IsE4, e4_plain, e4_scale, IsN4, n4_plain, n4_complement, IsE5}
+use Rattle.expressions.specs.Grammar.{e5_plain, e5_index, IsU, u_plain, u_minus, u_before, u_after, IsP, p_number}
+use Rattle.expressions.specs.Grammar.{p_character, p_true, p_false, p_nothing, p_name, p_call, p_call_with}
+use Rattle.expressions.specs.Grammar.{p_parenthesised, IsArguments, arguments_last, arguments_comma}
 
 mutual
   pub short_E : {ts r : List Lexeme} {e : ExpressionTree} → IsE ts e r → length r < length ts
@@ -40,8 +40,12 @@ mutual
   short_E4 (e4_scale a o b) = omega (arith, short_E4 a, short_N4 b)
 
   pub short_N4 : {ts r : List Lexeme} {e : ExpressionTree} → IsN4 ts e r → length r < length ts
-  short_N4 (n4_plain a) = short_U a
+  short_N4 (n4_plain a) = short_E5 a
   short_N4 (n4_complement a) = omega (arith, short_N4 a)
+
+  pub short_E5 : {ts r : List Lexeme} {e : ExpressionTree} → IsE5 ts e r → length r < length ts
+  short_E5 (e5_plain a) = short_U a
+  short_E5 (e5_index o a) = omega (arith, short_U a)
 
   pub short_U : {ts r : List Lexeme} {e : ExpressionTree} → IsU ts e r → length r < length ts
   short_U (u_plain a) = short_P a

@@ -10,27 +10,31 @@ use Rattle.expressions.specs.declared.tree.Comparison.{Comparison}
 use Rattle.expressions.specs.declared.tree.Equality.{Equality}
 use Rattle.expressions.specs.declared.tree.Prefix.TheVariants as op
 use Rattle.expressions.specs.declared.tree.Step.{Step}
-use Rattle.expressions.specs.Tree.{ExpressionTree, constant, call, parenthesised, prefixed, step_before, step_after}
-use Rattle.expressions.specs.Tree.{compare, equal, assign, none, trees_of}
-use Rattle.expressions.specs.Operators.{logical, comparing, equating, adding, scaling, stepping}
+use Rattle.expressions.specs.declared.tree.Width.{Width}
+use Rattle.expressions.specs.Tree.{ExpressionTree, constant, call, index, parenthesised, prefixed, step_before}
+use Rattle.expressions.specs.Tree.{step_after, compare, equal, assign, none, trees_of}
+use Rattle.expressions.specs.Operators.{logical, comparing, equating, adding, scaling, stepping, indexing}
 use Rattle.expressions.specs.Nesting.{begins_expression, DeepE, deep_e_left, deep_e_first, deep_e_right, DeepE1}
 use Rattle.expressions.specs.Nesting.{deep_e1_first, deep_e1_next, DeepN1, deep_n1_plain, deep_n1_not, deep_n1_in}
 use Rattle.expressions.specs.Nesting.{DeepE2, deep_e2_left, deep_e2_compare, deep_e2_equal, DeepChoice}
 use Rattle.expressions.specs.Nesting.{deep_choice_first, deep_choice_next, DeepE3, deep_e3_first, deep_e3_next}
 use Rattle.expressions.specs.Nesting.{DeepE4, deep_e4_first, deep_e4_next, DeepN4, deep_n4_plain, deep_n4_complement}
-use Rattle.expressions.specs.Nesting.{deep_n4_in, DeepU, deep_u_plain, deep_u_minus, deep_u_minus_in, deep_u_before}
-use Rattle.expressions.specs.Nesting.{deep_u_before_in, DeepP, deep_p_call, deep_p_arguments, deep_p_parenthesis}
-use Rattle.expressions.specs.Nesting.{deep_p_in, DeepArguments, deep_arguments_first, deep_arguments_next}
+use Rattle.expressions.specs.Nesting.{deep_n4_in, DeepE5, deep_e5_plain, deep_e5_index, DeepU, deep_u_plain}
+use Rattle.expressions.specs.Nesting.{deep_u_minus, deep_u_minus_in, deep_u_before, deep_u_before_in, DeepP}
+use Rattle.expressions.specs.Nesting.{deep_p_call, deep_p_arguments, deep_p_parenthesis, deep_p_in, DeepArguments}
+use Rattle.expressions.specs.Nesting.{deep_arguments_first, deep_arguments_next}
 use Rattle.expressions.specs.Parse.{whole, negation, complement, prefix, operand, arguments, head, tail, is_sign}
 use Rattle.expressions.specs.Parse.{is_word, expect, list, nested, after_name, enclosed, primary, step_on, stepped}
-use Rattle.expressions.specs.Parse.{unary_on, unary, complemented, product, sum, equated, equated_on, compared_on}
-use Rattle.expressions.specs.Parse.{comparison, negated, condition, assigned, expression, called}
+use Rattle.expressions.specs.Parse.{unary_on, unary, array_of, array_at, indexed_on, indexed, complemented, product}
+use Rattle.expressions.specs.Parse.{sum, equated, equated_on, compared_on, comparison, negated, condition, assigned}
+use Rattle.expressions.specs.Parse.{expression, called}
 use Rattle.expressions.specs.Grammar.{IsE, e_plain, e_assign, IsE1, e1_plain, e1_logical, IsN1, n1_plain, n1_not}
 use Rattle.expressions.specs.Grammar.{IsE2, e2_plain, e2_compare, e2_equal, IsChoice, choice_last, choice_or, IsE3}
-use Rattle.expressions.specs.Grammar.{e3_plain, e3_add, IsE4, e4_plain, e4_scale, IsN4, n4_plain, n4_complement, IsU}
-use Rattle.expressions.specs.Grammar.{u_plain, u_minus, u_before, u_after, IsP, p_number, p_character, p_true}
-use Rattle.expressions.specs.Grammar.{p_false, p_nothing, p_name, p_call, p_call_with, p_parenthesised, IsArguments}
-use Rattle.expressions.specs.Grammar.{arguments_last, arguments_comma, nesting, nestings}
+use Rattle.expressions.specs.Grammar.{e3_plain, e3_add, IsE4, e4_plain, e4_scale, IsN4, n4_plain, n4_complement, IsE5}
+use Rattle.expressions.specs.Grammar.{e5_plain, e5_index, IsU, u_plain, u_minus, u_before, u_after, IsP, p_number}
+use Rattle.expressions.specs.Grammar.{p_character, p_true, p_false, p_nothing, p_name, p_call, p_call_with}
+use Rattle.expressions.specs.Grammar.{p_parenthesised, IsArguments, arguments_last, arguments_comma, nesting}
+use Rattle.expressions.specs.Grammar.{nestings}
 use Rattle.expressions.proofs.Judged.{Judged, judged_read, judged_grammar, judged_deep, judged_then, judged_after}
 use Rattle.expressions.proofs.Judged.{judged_by, judged_as}
 use Rattle.expressions.proofs.Tokens.{at_sign, is_that_sign, is_that_word, expect_ok, expect_not_deep}
@@ -142,6 +146,20 @@ module _ (d : ℕ) (inner : Inner d) where
       (λ n x. deep_u_minus_in x) h)))
       (λ e. before_judged ts (stepping (head ts)) refl)
 
+  indexed_judged : (ts : List Lexeme) → Judged (λ e r. IsE5 ts e r × (nesting e ≤ d)) (DeepE5 (suc d) ts)
+      (indexed (nested d) ts)
+  unfolding indexed array_at
+  indexed_judged (name n p ∷ t ∷ m) = go (indexing t) refl
+    where
+      go : (o : Option Width) → indexing t ≡ o
+          → Judged (λ e r. IsE5 (name n p ∷ t ∷ m) e r × (nesting e ≤ d)) (DeepE5 (suc d) (name n p ∷ t ∷ m))
+          (indexed_on (nested d) (name n p ∷ t ∷ m) (array_of (name n p) o))
+      go None o = judged_as (unary_judged (name n p ∷ t ∷ m)) (λ a r h. (e5_plain h.0, h.1)) (λ h. deep_e5_plain h)
+      go (Some width) o = judged_then _ (unary_judged m)
+          (λ a r h. judged_read (index (record { text = n; position = p }) width a) r (e5_index o h.0, h.1))
+          (λ h. deep_e5_index o h)
+  indexed_judged ts = judged_as (unary_judged ts) (λ a r h. (e5_plain h.0, h.1)) (λ h. deep_e5_plain h)
+
   complemented_judged : (ts : List Lexeme) → Judged (λ e r. IsN4 ts e r × (nesting e ≤ d)) (DeepN4 (suc d) ts)
       (complemented (nested d) ts)
   unfolding complemented
@@ -156,7 +174,7 @@ module _ (d : ℕ) (inner : Inner d) where
       (λ h. subst (λ u. DeepN4 (suc d) u) (sym at)
       (deeper (λ n. DeepN4 n (tail ts)) (λ n. DeepN4 n (sign s.Tilde p ∷ tail ts)) d deep_n4_complement
       (λ n x. deep_n4_in x) h)))
-      (λ e. judged_as (unary_judged ts) (λ a r h. (n4_plain h.0, h.1)) (λ h. deep_n4_plain h))
+      (λ e. judged_as (indexed_judged ts) (λ a r h. (n4_plain h.0, h.1)) (λ h. deep_n4_plain h))
 
   product_judged : (ts : List Lexeme) → Judged (λ e r. IsE4 ts e r × (nesting e ≤ d)) (DeepE4 (suc d) ts)
       (product (nested d) ts)

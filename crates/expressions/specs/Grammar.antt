@@ -10,9 +10,10 @@ use Rattle.expressions.specs.declared.tree.Comparison.{Comparison}
 use Rattle.expressions.specs.declared.tree.Equality.{Equality}
 use Rattle.expressions.specs.declared.tree.Prefix.TheVariants as prefix
 use Rattle.expressions.specs.declared.tree.Step.{Step}
-use Rattle.expressions.specs.Tree.{ExpressionTree, ExpressionTrees, constant, named, call, parenthesised, prefixed}
-use Rattle.expressions.specs.Tree.{step_before, step_after, binary, compare, equal, assign, none, more}
-use Rattle.expressions.specs.Operators.{logical, comparing, equating, adding, scaling, stepping}
+use Rattle.expressions.specs.declared.tree.Width.{Width}
+use Rattle.expressions.specs.Tree.{ExpressionTree, ExpressionTrees, constant, named, call, index, parenthesised}
+use Rattle.expressions.specs.Tree.{prefixed, step_before, step_after, binary, compare, equal, assign, none, more}
+use Rattle.expressions.specs.Operators.{logical, comparing, equating, adding, scaling, stepping, indexing}
 
 mutual
   -- E = E1 ["=" E]
@@ -59,11 +60,18 @@ mutual
     e4_scale : {ts m r : List Lexeme} {t : Lexeme} {op : Binary} {a b : ExpressionTree} → IsE4 ts a (t ∷ m)
         → scaling t ≡ Some op → IsN4 m b r → IsE4 ts (binary op a b) r
 
-  -- N4 = "~" N4 | U
+  -- N4 = "~" N4 | E5
   pub data IsN4 : List Lexeme → ExpressionTree → List Lexeme → Type 0 where
-    n4_plain : {ts r : List Lexeme} {e : ExpressionTree} → IsU ts e r → IsN4 ts e r
+    n4_plain : {ts r : List Lexeme} {e : ExpressionTree} → IsE5 ts e r → IsN4 ts e r
     n4_complement : {m r : List Lexeme} {p : Position} {e : ExpressionTree} → IsN4 m e r
         → IsN4 (sign s.Tilde p ∷ m) (prefixed prefix.Complement e) r
+
+  -- E5 = name ("->" | "-->") U | U
+  pub data IsE5 : List Lexeme → ExpressionTree → List Lexeme → Type 0 where
+    e5_plain : {ts r : List Lexeme} {e : ExpressionTree} → IsU ts e r → IsE5 ts e r
+    e5_index : {m r : List Lexeme} {p : Position} {t : Lexeme} {n : List ℕ} {width : Width} {e : ExpressionTree}
+        → indexing t ≡ Some width → IsU m e r
+        → IsE5 (name n p ∷ t ∷ m) (index (record { text = n; position = p }) width e) r
 
   -- U = "-" U | ("++" | "--") P | P ["++" | "--"]
   pub data IsU : List Lexeme → ExpressionTree → List Lexeme → Type 0 where
@@ -100,12 +108,13 @@ mutual
         → IsE ts e (sign s.Comma p ∷ m) → IsArguments m es r → IsArguments ts (more e es) r
 
 -- How deep a tree is nested: a parenthesis, also that of a call, and an operator before its operand count from their
--- own token on, the right side of an assignment from its first token on.
+-- own token on, the right side of an assignment from its first token on. The index of an array adds none.
 abbrev mutual
   pub nesting : ExpressionTree → ℕ
   nesting (constant n) = 0
   nesting (named n) = 0
   nesting (call n es) = suc (nestings es)
+  nesting (index n width e) = nesting e
   nesting (parenthesised e) = suc (nesting e)
   nesting (prefixed op e) = suc (nesting e)
   nesting (step_before op p e) = suc (nesting e)

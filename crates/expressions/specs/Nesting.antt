@@ -13,8 +13,9 @@ use Rattle.expressions.specs.declared.tree.Binary.{Binary}
 use Rattle.expressions.specs.declared.tree.Comparison.{Comparison}
 use Rattle.expressions.specs.declared.tree.Equality.{Equality}
 use Rattle.expressions.specs.declared.tree.Step.{Step}
+use Rattle.expressions.specs.declared.tree.Width.{Width}
 use Rattle.expressions.specs.Tree.{ExpressionTree}
-use Rattle.expressions.specs.Operators.{logical, comparing, equating, adding, scaling, stepping}
+use Rattle.expressions.specs.Operators.{logical, comparing, equating, adding, scaling, stepping, indexing}
 use Rattle.expressions.specs.Grammar.{IsE, IsE1, IsE3, IsE4}
 
 -- the tokens with which an expression can begin
@@ -80,11 +81,17 @@ mutual
     deep_e4_next : {n : ℕ} {ts m : List Lexeme} {t : Lexeme} {op : Binary} {a : ExpressionTree} → IsE4 ts a (t ∷ m)
         → scaling t ≡ Some op → DeepN4 n m → DeepE4 n ts
 
-  -- N4 = "~" N4 | U
+  -- N4 = "~" N4 | E5
   pub data DeepN4 : ℕ → List Lexeme → Type 0 where
-    deep_n4_plain : {n : ℕ} {ts : List Lexeme} → DeepU n ts → DeepN4 n ts
+    deep_n4_plain : {n : ℕ} {ts : List Lexeme} → DeepE5 n ts → DeepN4 n ts
     deep_n4_complement : {m : List Lexeme} {p : Position} → DeepN4 1 (sign s.Tilde p ∷ m)
     deep_n4_in : {n : ℕ} {m : List Lexeme} {p : Position} → DeepN4 n m → DeepN4 (suc n) (sign s.Tilde p ∷ m)
+
+  -- E5 = name ("->" | "-->") U | U
+  pub data DeepE5 : ℕ → List Lexeme → Type 0 where
+    deep_e5_plain : {n : ℕ} {ts : List Lexeme} → DeepU n ts → DeepE5 n ts
+    deep_e5_index : {n : ℕ} {m : List Lexeme} {p : Position} {t : Lexeme} {a : List ℕ} {width : Width}
+        → indexing t ≡ Some width → DeepU n m → DeepE5 n (name a p ∷ t ∷ m)
 
   -- U = "-" U | ("++" | "--") P | P ["++" | "--"]
   pub data DeepU : ℕ → List Lexeme → Type 0 where

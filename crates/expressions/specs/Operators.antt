@@ -10,6 +10,8 @@ use Rattle.expressions.specs.declared.tree.Equality.{Equality}
 use Rattle.expressions.specs.declared.tree.Equality.TheVariants as equality
 use Rattle.expressions.specs.declared.tree.Step.{Step}
 use Rattle.expressions.specs.declared.tree.Step.TheVariants as step
+use Rattle.expressions.specs.declared.tree.Width.{Width}
+use Rattle.expressions.specs.declared.tree.Width.TheVariants as width
 
 abbrev pub logical : Lexeme → Option Binary
 logical (sign s.AndAlso _) = Some op.AndAlso
@@ -45,3 +47,9 @@ abbrev pub stepping : Lexeme → Option Step
 stepping (sign s.Increment _) = Some step.Increment
 stepping (sign s.Decrement _) = Some step.Decrement
 stepping _ = None
+
+-- the width of the entries that an arrow indexes
+abbrev pub indexing : Lexeme → Option Width
+indexing (sign s.Arrow _) = Some width.Byte
+indexing (sign s.LongArrow _) = Some width.Word
+indexing _ = None

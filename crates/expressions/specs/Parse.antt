@@ -1,7 +1,7 @@
 -- Words of proofs: expressions, read from left to right, as functions from a list of tokens to a tree and the tokens
 -- after it.
-use Rattle.std.specs.Prelude.{◌≡◌, ◌==◌, if◌then◌else◌, Bool, false, ℕ, zero, suc, List, [], ◌∷◌, length, Option}
-use Rattle.std.specs.Prelude.{Some, None, Result, Ok, Err}
+use Rattle.std.specs.Prelude.{◌≡◌, ◌==◌, if◌then◌else◌, Bool, true, false, ℕ, zero, suc, List, [], ◌∷◌, length}
+use Rattle.std.specs.Prelude.{Option, Some, None, Result, Ok, Err}
 use Rattle.lexer.specs.declared.token.Sign.{Sign}
 use Rattle.lexer.specs.declared.token.Sign.TheVariants as s
 use Rattle.lexer.specs.declared.token.Word.{Word}
@@ -12,13 +12,14 @@ use Rattle.expressions.specs.declared.tree.Comparison.{Comparison}
 use Rattle.expressions.specs.declared.tree.Equality.{Equality}
 use Rattle.expressions.specs.declared.tree.Prefix.TheVariants as op
 use Rattle.expressions.specs.declared.tree.Step.{Step}
+use Rattle.expressions.specs.declared.tree.Width.{Width}
 use Rattle.expressions.specs.declared.error.Fault.{Fault}
 use Rattle.expressions.specs.declared.error.Fault.TheVariants.{Grammar, Deep}
 use Rattle.expressions.specs.declared.error.ParseError.{ParseError}
 use Rattle.expressions.specs.declared.error.ParseError.TheVariants as errors
-use Rattle.expressions.specs.Tree.{NameTree, ExpressionTree, constant, named, call, parenthesised, prefixed}
+use Rattle.expressions.specs.Tree.{NameTree, ExpressionTree, constant, named, call, index, parenthesised, prefixed}
 use Rattle.expressions.specs.Tree.{step_before, step_after, binary, compare, equal, assign, none, trees_of}
-use Rattle.expressions.specs.Operators.{logical, comparing, equating, adding, scaling, stepping}
+use Rattle.expressions.specs.Operators.{logical, comparing, equating, adding, scaling, stepping, indexing}
 use Rattle.expressions.specs.Nesting.{begins_expression}
 
 -- what is read, and the tokens after it; or why nothing is
@@ -155,6 +156,18 @@ abbrev pub is_word : Word → Lexeme → Bool
 is_word w (reserved r p) = word_number r == word_number w
 is_word w _ = false
 
+abbrev pub is_name : Lexeme → Bool
+is_name (name _ _) = true
+is_name _ = false
+
+-- the array whose entry comes next, and the width of its entries: a name, and an arrow behind it
+abbrev pub array_of : Lexeme → Option Width → Option (NameTree × Width)
+array_of (name n p) (Some width) = Some (record { text = n; position = p }, width)
+array_of _ _ = None
+
+unfoldable pub array_at : List Lexeme → Option (NameTree × Width)
+array_at ts = array_of (head ts) (indexing (head (tail ts)))
+
 -- the tokens after that sign, or word
 unfoldable pub expect : Sign → List Lexeme → Result (List Lexeme) Fault
 expect s ts = if is_sign s (head ts) then Ok (tail ts) else Err Grammar
@@ -244,10 +257,17 @@ module _ (below : Level → Parse ExpressionTree) where
       if is_sign s.Minus (head ts) then (below prefix (tail ts) >>= λ x. Ok (prefixed op.Minus x.0, x.1))
       else unary_on ts (stepping (head ts))
 
+  abbrev pub indexed_on : List Lexeme → Option (NameTree × Width) → Result (ExpressionTree × List Lexeme) Fault
+  indexed_on ts None = unary ts
+  indexed_on ts (Some a) = unary (tail (tail ts)) >>= λ x. Ok (index a.0 a.1 x.0, x.1)
+
+  unfoldable pub indexed : Parse ExpressionTree
+  indexed ts = indexed_on ts (array_at ts)
+
   unfoldable pub complemented : Parse ExpressionTree
   complemented ts =
       if is_sign s.Tilde (head ts) then (below complement (tail ts) >>= λ x. Ok (prefixed op.Complement x.0, x.1))
-      else unary ts
+      else indexed ts
 
   unfoldable pub product : Parse ExpressionTree
   product ts = complemented ts >>= λ x. chain scaling complemented (length x.1) x.0 x.1

@@ -7,6 +7,7 @@ use Rattle.expressions.specs.declared.tree.Comparison.{Comparison}
 use Rattle.expressions.specs.declared.tree.Equality.{Equality}
 use Rattle.expressions.specs.declared.tree.Prefix.{Prefix}
 use Rattle.expressions.specs.declared.tree.Step.{Step}
+use Rattle.expressions.specs.declared.tree.Width.{Width}
 use Rattle.expressions.specs.declared.tree.Expression.{Expression, fold-Expression}
 use Rattle.expressions.specs.declared.tree.Expression.TheOpen.{Expression-F}
 
@@ -20,6 +21,7 @@ mutual
     constant : ℕ → ExpressionTree
     named : NameTree → ExpressionTree
     call : NameTree → ExpressionTrees → ExpressionTree
+    index : NameTree → Width → ExpressionTree → ExpressionTree
     parenthesised : ExpressionTree → ExpressionTree
     prefixed : Prefix → ExpressionTree → ExpressionTree
     step_before : Step → Position → ExpressionTree → ExpressionTree
@@ -51,6 +53,7 @@ abbrev pub layer : Expression-F ExpressionTree → ExpressionTree
 layer (Expression-F.Constant n) = constant n
 layer (Expression-F.Named n) = named (name_tree n)
 layer (Expression-F.Call n es) = call (name_tree n) (trees_of es.items)
+layer (Expression-F.Index n width e) = index (name_tree n) width e.value
 layer (Expression-F.Parenthesised e) = parenthesised e.value
 layer (Expression-F.Prefixed op e) = prefixed op e.value
 layer (Expression-F.StepBefore op p e) = step_before op p e.value

@@ -13,5 +13,7 @@ pub use error::{Fault, ParseError};
 pub use laws::reads_the_grammar;
 pub use operators::begins_expression;
 pub use parser::expression;
-pub use reading::{expect, expect_word, fault_at, is_sign, is_word, open, peek, position, skip};
-pub use tree::{Binary, Comparison, Equality, Expression, Name, Prefix, Step};
+pub use reading::{
+    expect, expect_word, fault_at, is_sign, is_word, name_of, open, peek, position, skip,
+};
+pub use tree::{Binary, Comparison, Equality, Expression, Name, Prefix, Step, Width};

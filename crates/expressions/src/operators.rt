@@ -6,7 +6,7 @@ ghost use Rattle.expressions.specs.Operators as spec;
 ghost use Rattle.expressions.specs.Nesting as nesting;
 ghost use Rattle.expressions.specs.Levels.{operator_of};
 
-use crate::tree::{Binary, Comparison, Equality, Step};
+use crate::tree::{Binary, Comparison, Equality, Step, Width};
 use lexer::{Kind, Sign, Token, Word};
 
 /// The operators of one level, in chains that group to the left.
@@ -95,6 +95,17 @@ pub fn stepping(token: Token<'_>) -> Option<Step>
     match token.kind {
         Kind::Sign(Sign::Increment) => Some(Step::Increment),
         Kind::Sign(Sign::Decrement) => Some(Step::Decrement),
+        _ => None,
+    }
+}
+
+/// The width of the entries that the token indexes, where it is `->` or `-->`.
+pub fn indexing(token: Token<'_>) -> Option<Width>
+    ensures { result ≡ spec.indexing (lexeme token.entry) }
+{
+    match token.kind {
+        Kind::Sign(Sign::Arrow) => Some(Width::Byte),
+        Kind::Sign(Sign::LongArrow) => Some(Width::Word),
         _ => None,
     }
 }

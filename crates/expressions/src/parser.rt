@@ -13,7 +13,7 @@ ghost use Rattle.expressions.specs.Levels.{operand_of, chain_of};
 use crate::error::{Fault, ParseError};
 use crate::operators::{Operators, begins_expression, comparing, equating, operator, stepping};
 use crate::parts;
-use crate::reading::{fault_at, is_sign, is_word, open, peek, position, skip};
+use crate::reading::{array, fault_at, is_sign, is_word, open, peek, position, skip};
 use crate::tree::{Expression, Name, Prefix};
 use lexer::{Kind, Sign, Token, Word};
 use std::alloc::Global;
@@ -177,7 +177,7 @@ fn values<'t, 'a>(
     Ok((first, others, rest))
 }
 
-/// `~` before what it complements, or an operand with at most `-`, `++` and `--`.
+/// `~` before what it complements, or an operand with at most an index, `-`, `++` and `--`.
 #[cycle(expression)]
 #[tactic(auto, unfolding(crate::specs::Parse::complemented), using(crate::proofs::Nested::nested_zero, crate::proofs::Nested::nested_complement))]
 fn complemented<'t, 'a>(
@@ -189,11 +189,28 @@ fn complemented<'t, 'a>(
         (spec.complemented (spec.nested depth) (lexemes tokens.now)) }
 {
     if !is_sign(peek(tokens), Sign::Tilde) {
-        return unary(alloc, depth, tokens);
+        return indexed(alloc, depth, tokens);
     }
     let inside = open(depth, tokens)?;
     let operand = complemented(alloc, inside, skip(tokens));
     parts::prefixed(alloc, Prefix::Complement, operand)
+}
+
+/// An entry of an array, or an operand with at most `-`, `++` and `--`. An index is no nesting.
+#[cycle(expression)]
+fn indexed<'t, 'a>(
+    alloc: Global,
+    depth: usize,
+    tokens: &'t [Token<'a>],
+) -> Result<(Box<Expression<'a>>, &'t [Token<'a>]), ParseError>
+    ensures { Gives (λ x. (expression_tree x.0.value, lexemes x.1.now)) result
+        (spec.indexed (spec.nested depth) (lexemes tokens.now)) }
+{
+    let Some((array, width)) = array(tokens) else {
+        return unary(alloc, depth, tokens);
+    };
+    let index = unary(alloc, depth, skip(skip(tokens)));
+    parts::index(alloc, array, width, index)
 }
 
 /// `-` before its operand, or a primary with `++` or `--` before or after it.

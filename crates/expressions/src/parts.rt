@@ -19,7 +19,7 @@ ghost use Rattle.expressions.specs.Parse.{Gives, GoesOn, ReadOne};
 use crate::error::ParseError;
 use crate::operators::stepping;
 use crate::reading::{expect, peek, position, skip};
-use crate::tree::{Binary, Comparison, Equality, Expression, Name, Prefix, Step};
+use crate::tree::{Binary, Comparison, Equality, Expression, Name, Prefix, Step, Width};
 use lexer::{Position, Sign, Token};
 use std::alloc::Global;
 
@@ -118,6 +118,24 @@ pub fn prefixed<'t, 'a>(
 {
     match operand {
         Ok((operand, rest)) => in_box(alloc, Expression::Prefixed(operator, operand), rest),
+        Err(e) => Err(e),
+    }
+}
+
+/// An entry of an array.
+#[tactic(auto, using(crate::proofs::GoesOn::part_fails, crate::proofs::GoesOn::part_made))]
+pub fn index<'t, 'a>(
+    alloc: Global,
+    array: Name<'a>,
+    width: Width,
+    index: Result<(Box<Expression<'a>>, &'t [Token<'a>]), ParseError>,
+) -> Result<(Box<Expression<'a>>, &'t [Token<'a>]), ParseError>
+    ensures { GoesOn {A = ReadOne} {B = ReadOne} (λ x. (expression_tree x.0.value, lexemes x.1.now)) index.entry
+        (λ x. (expression_tree x.0.value, lexemes x.1.now)) result
+        (λ x. Ok (tree.index (name_tree array.entry) width x.0, x.1)) }
+{
+    match index {
+        Ok((index, rest)) => in_box(alloc, Expression::Index(array, width, index), rest),
         Err(e) => Err(e),
     }
 }

@@ -1,11 +1,14 @@
 //! What readers of tokens share: they take a slice of tokens, and give what they read and the tokens after it.
 
-ghost use Rattle.std.specs.Prelude.{◌≡◌, ◌+◌, IfOk, IfErr};
-ghost use Rattle.lexer.specs.Token.{lexeme, lexemes, position_of};
+ghost use Rattle.std.specs.Prelude.{◌≡◌, ◌+◌, false, IfOk, IfErr, MatchOption, None, Some};
+ghost use Rattle.lexer.specs.Token.{lexeme, lexemes, name, position_of};
+ghost use Rattle.expressions.specs.Tree.{name_tree};
 ghost use Rattle.expressions.specs.Parse as spec;
 ghost use Rattle.expressions.specs.Parse.{Gives};
 
 use crate::error::{Fault, ParseError};
+use crate::operators::indexing;
+use crate::tree::{Name, Width};
 use lexer::{Kind, Position, Sign, Token, Word};
 
 /// The token that comes next. Without one it is an end of the source, at line 0.
@@ -58,6 +61,35 @@ pub fn is_word(token: Token<'_>, word: Word) -> bool
         Kind::Reserved(found) => found as u8 == word as u8,
         _ => false,
     }
+}
+
+/// The name that the token is, with its position.
+pub fn name_of<'a>(token: Token<'a>) -> Option<Name<'a>>
+    ensures { MatchOption result (spec.is_name (lexeme token.entry) ≡ false)
+        (λ n. lexeme token.entry ≡ name n.text.now n.position) }
+{
+    match token.kind {
+        Kind::Name(text) => Some(Name {
+            text,
+            position: token.position,
+        }),
+        _ => None,
+    }
+}
+
+/// The array whose entry comes next, and the width of its entries: a name, and an arrow behind it.
+#[tactic(auto, using(crate::proofs::Arrays::array_found, crate::proofs::Arrays::array_no_name, crate::proofs::Arrays::array_no_arrow))]
+pub fn array<'a>(tokens: &[Token<'a>]) -> Option<(Name<'a>, Width)>
+    ensures { MatchOption result (spec.array_at (lexemes tokens.now) ≡ None)
+        (λ x. spec.array_at (lexemes tokens.now) ≡ Some (name_tree x.0, x.1)) }
+{
+    let Some(width) = indexing(peek(skip(tokens))) else {
+        return None;
+    };
+    let Some(name) = name_of(peek(tokens)) else {
+        return None;
+    };
+    Some((name, width))
 }
 
 /// A fault at the next token, with its line.

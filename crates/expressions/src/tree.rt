@@ -74,6 +74,15 @@ pub enum Step {
     Decrement,
 }
 
+/// The width of an array's entries.
+#[derive(Clone, Copy)]
+pub enum Width {
+    /// `->`: bytes
+    Byte,
+    /// `-->`: words
+    Word,
+}
+
 /// An expression. Chains that group to the left are flat, so a tree is at most as deep as its nesting, a few levels for
 /// each.
 #[derive(Drop)]
@@ -86,6 +95,9 @@ pub enum Expression<'a> {
 
     /// A call of a routine, with its arguments.
     Call(Name<'a>, Vec<Expression<'a>>),
+
+    /// An entry of an array: the array's name, the width of its entries, and the index.
+    Index(Name<'a>, Width, Box<Expression<'a>>),
 
     /// An expression in parentheses.
     Parenthesised(Box<Expression<'a>>),

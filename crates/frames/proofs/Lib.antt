@@ -14,9 +14,3 @@ pub mod Lines
 pub mod Filling
 pub mod Words
 pub mod Buffers
-pub mod Settling
-pub mod OnRegisters
-pub mod Runs
-pub mod Returning
-pub mod Calling
-pub mod MemoryOnRegisters

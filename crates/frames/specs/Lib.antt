@@ -4,5 +4,3 @@ pub mod States
 pub mod Went
 pub mod Playing
 pub mod Lines
-pub mod Settled
-pub mod Arguments

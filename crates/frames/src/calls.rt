@@ -118,9 +118,9 @@ pub fn has_argument(store: &Recorded<Store>, number: u16) -> bool
     1 <= number && number <= cell(store, running(store) + ARGUMENT_COUNT)
 }
 
-/// The cell for the variable of a result.
+/// What a frame record has in the cell for the variable of the frame's result.
 #[inline]
-pub(crate) fn variable_cell(result_variable: Option<u8>) -> u16
+pub fn variable_cell(result_variable: Option<u8>) -> u16
     ensures { variable_of result ≡ result_variable }
 {
     match result_variable {

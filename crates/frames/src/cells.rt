@@ -12,16 +12,16 @@ use journal::{Cells, NoMemory, Recorded};
 
 /// The value of a cell before dynamic memory.
 #[inline(always)]
-pub(crate) fn cell(store: &Recorded<Store>, i: usize) -> u16
+pub fn cell(store: &Recorded<Store>, i: usize) -> u16
     requires { i < words_before_memory }
     ensures { result ≡ slice_index store.now.store.cells i }
 {
     store.store().word(i)
 }
 
-/// The number in two cells.
+/// The number in two cells before dynamic memory, the high half first.
 #[inline]
-pub(crate) fn long(store: &Recorded<Store>, i: usize) -> u32
+pub fn long(store: &Recorded<Store>, i: usize) -> u32
     requires cells { i + 1 < length store.now.store.cells }
     requires words { i + 1 < words_before_memory }
     ensures { result ≡ long_at (slice_index store.now.store.cells) i }

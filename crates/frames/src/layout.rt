@@ -1,60 +1,60 @@
 //! Where the parts of a state stand among the cells of a store.
 
 /// How many frame records are in use.
-pub(crate) const FRAME_COUNT: usize = 0;
+pub const FRAME_COUNT: usize = 0;
 
 /// How many words of the stack are in use (two cells, as all numbers that need more than 16 bits).
-pub(crate) const HEIGHT: usize = 1;
+pub const HEIGHT: usize = 1;
 
 /// Where the program counter is kept between turns (two cells).
-pub(crate) const PROGRAM_COUNTER: usize = 3;
+pub const PROGRAM_COUNTER: usize = 3;
 
 /// Whether a line is waited for. The five registers behind it say with what: text buffer, parse buffer, the variable for
 /// the result, and where the machine goes on (two cells).
-pub(crate) const WAITING: usize = 5;
+pub const WAITING: usize = 5;
 
 /// The text buffer for the line.
-pub(crate) const TEXT_BUFFER: usize = 6;
+pub const TEXT_BUFFER: usize = 6;
 
 /// The parse buffer for its words, 0 for none.
-pub(crate) const PARSE_BUFFER: usize = 7;
+pub const PARSE_BUFFER: usize = 7;
 
 /// The variable for the line's result.
-pub(crate) const RESULT_VARIABLE: usize = 8;
+pub const RESULT_VARIABLE: usize = 8;
 
 /// Where the machine goes on with the line (two cells).
-pub(crate) const RETURN_ADDRESS: usize = 9;
+pub const RETURN_ADDRESS: usize = 9;
 
 /// The first frame record.
-pub(crate) const RECORDS: usize = 16;
+pub const RECORDS: usize = 16;
 
 /// The cells of a frame record: its base on the stack (two cells), the address to go on at after it (two cells), the
 /// number of locals, the number of arguments, the variable for its result.
-pub(crate) const RECORD: usize = 7;
+pub const RECORD: usize = 7;
 
 /// In a frame record: the address to go on at after the frame (two cells).
-pub(crate) const RETURN: usize = 2;
+pub const RETURN: usize = 2;
 
 /// In a frame record: the number of locals.
-pub(crate) const LOCAL_COUNT: usize = 4;
+pub const LOCAL_COUNT: usize = 4;
 
 /// In a frame record: the number of arguments that the call gave.
-pub(crate) const ARGUMENT_COUNT: usize = 5;
+pub const ARGUMENT_COUNT: usize = 5;
 
 /// In a frame record: the variable for the frame's result.
-pub(crate) const RESULT: usize = 6;
+pub const RESULT: usize = 6;
 
 /// How many frame records there are: 1,000 calls and the first environment.
-pub(crate) const RECORD_COUNT: usize = 1_001;
+pub const RECORD_COUNT: usize = 1_001;
 
 /// The first cell of the stack.
-pub(crate) const STACK: usize = 7_023;
+pub const STACK: usize = 7_023;
 
 /// How many words all stacks may hold.
-pub(crate) const STACK_SIZE: usize = 65_536;
+pub const STACK_SIZE: usize = 65_536;
 
 /// The first cell of dynamic memory.
-pub(crate) const MEMORY: usize = 72_559;
+pub const MEMORY: usize = 72_559;
 
 /// In the cell for a result's variable: none.
-pub(crate) const NO_VARIABLE: u16 = 256;
+pub const NO_VARIABLE: u16 = 256;

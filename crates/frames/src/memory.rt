@@ -14,30 +14,34 @@ use zcore::{Fault, Header, Place};
 /// Reads stop below this address.
 const READABLE: usize = 65_536;
 
+/// Whether a byte can be read: it lies in the story, below 65,536.
 #[inline]
-pub(crate) fn is_readable(memory: &[u8], at: usize) -> bool
+pub fn is_readable(memory: &[u8], at: usize) -> bool
     ensures { result ≡ is_readable memory.now at }
 {
     at < memory.len() && at < READABLE
 }
 
+/// Whether both bytes of a word can be read.
 #[inline]
-pub(crate) fn is_readable_word(memory: &[u8], at: usize) -> bool
+pub fn is_readable_word(memory: &[u8], at: usize) -> bool
     requires { at ≤ 65535 }
     ensures { result ≡ is_readable memory.now at && is_readable memory.now (at + 1) }
 {
     at + 1 < memory.len() && at + 1 < READABLE
 }
 
+/// Whether a byte can be written: it lies behind the header, below static base.
 #[inline]
-pub(crate) fn is_writable(header: &Header, at: usize) -> bool
+pub fn is_writable(header: &Header, at: usize) -> bool
     ensures { result ≡ nat_le 64 at && nat_lt at header.now.static_base }
 {
     64 <= at && at < header.static_base as usize
 }
 
+/// Whether both bytes of a word can be written.
 #[inline]
-pub(crate) fn is_writable_word(header: &Header, at: usize) -> bool
+pub fn is_writable_word(header: &Header, at: usize) -> bool
     requires { at ≤ 65535 }
     ensures { result ≡ nat_le 64 at && nat_lt (at + 1) header.now.static_base }
 {

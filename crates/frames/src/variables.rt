@@ -55,9 +55,9 @@ fn write_local(store: &mut Recorded<Store>, number: usize, word: u16) -> Result<
     }
 }
 
-/// Where a global stands, from variable 16 on.
+/// Where a global stands in memory, by its variable, from 16 on (Z-Machine Standards Document 1.1, section 6.2).
 #[inline(always)]
-pub(crate) fn global_address(header: &Header, variable: u8) -> usize
+pub fn global_address(header: &Header, variable: u8) -> usize
     requires { 16 ≤ variable }
     ensures same { result ≡ header.now.globals + 2 * (variable - 16) }
     ensures within { result < 2 ^ 17 }

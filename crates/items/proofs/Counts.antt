@@ -7,6 +7,7 @@ use Rattle.expressions.specs.declared.tree.Prefix.{Prefix}
 use Rattle.expressions.specs.declared.tree.Prefix.TheVariants as prefixes
 use Rattle.expressions.specs.declared.tree.Step.{Step}
 use Rattle.expressions.specs.declared.tree.Equality.{Equality}
+use Rattle.expressions.specs.declared.tree.Width.{Width}
 use Rattle.checker.specs.declared.resolved.Variable.{Variable}
 use Rattle.checker.specs.Resolved.{Value, Values, none, more, Printed, Action, Actions, stop, next}
 use Rattle.checker.specs.Resolved as source
@@ -143,6 +144,32 @@ binary_counted op a b ca cb = record {
   );
 }
 
+entry_counted : (width : Width) (a : ℕ) (i : Value) → Counted i → Counted (source.entry width a i)
+entry_counted width a i c = record {
+  value = λ d at. joined (if_pushed (alone i) (value_items at i push) []) _ _ 1
+      (if_length (alone i) _ _ (c.value push at)) refl;
+  branch = λ when at t. omega (
+    arith,
+    joined (if_pushed (alone i) (value_items at i push) [])
+        (items.entry width a (alone i) push ∷ branch_true pushed when t ∷ []) _ 2
+        (if_length (alone i) _ _ (c.value push at)) refl,
+  );
+}
+
+assign_entry_counted : (width : Width) (a : ℕ) (i v : Value) → Counted i → Counted v
+    → Counted (source.assign_entry width a i v)
+assign_entry_counted width a i v ci cv = record {
+  value = λ d at. two_length (left_of i v) (alone v) _ _
+      (items.assign_entry width a (left_of i v) (alone v) d ∷ []) _ _ 1 (ci.value push at)
+      (cv.value push (at + operand_count i (left_of i v))) refl;
+  branch = λ when at t. omega (
+    arith,
+    two_length (left_of i v) (alone v) _ _
+        (items.assign_entry width a (left_of i v) (alone v) push ∷ branch_true pushed when t ∷ []) _ _ 2
+        (ci.value push at) (cv.value push (at + operand_count i (left_of i v))) refl,
+  );
+}
+
 few_length : (op : Equality) (a : Value) (bs : Values) → Counted a
     → ((at : ℕ) → length (operands_items at bs) ≡ operands_count bs) → (when : Bool) (at t : ℕ)
     → length (if_pushed (operand_of a bs) (value_items at a push) []
@@ -209,6 +236,8 @@ mutual
         (value_count v push) ((counted v).value (into x) at) ((counted v).value push at);
     branch = λ when at t. joined (value_items at v push) _ _ 2 ((counted v).value push at) refl;
   }
+  counted (source.entry width a i) = entry_counted width a i (counted i)
+  counted (source.assign_entry width a i v) = assign_entry_counted width a i v (counted i) (counted v)
 
   pub operands_length : (vs : Values) (at : ℕ) → length (operands_items at vs) ≡ operands_count vs
   operands_length none at = refl

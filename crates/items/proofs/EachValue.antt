@@ -7,6 +7,7 @@ use Rattle.items.proofs.Operations.{number_ok, read_ok, call_ok, prefixed_ok}
 use Rattle.items.proofs.Equalities.{AlsoOk, also_none, also_more, compare_ok, SeveralOk, equal_ok}
 use Rattle.items.proofs.Logical.{binary_ok}
 use Rattle.items.proofs.Assignments.{step_before_ok, step_after_ok, assign_ok}
+use Rattle.items.proofs.Entries.{entry_ok, assign_entry_ok}
 
 module _ (now : Running) where
   mutual
@@ -21,6 +22,8 @@ module _ (now : Running) where
     value_ok (source.compare op a b) = compare_ok now op a b (value_ok a) (value_ok b)
     value_ok (source.equal op a bs) = equal_ok now op a bs (value_ok a) (list_ok bs) (several_ok bs)
     value_ok (source.assign x v) = assign_ok now x v (value_ok v)
+    value_ok (source.entry width a i) = entry_ok now width a i (value_ok i)
+    value_ok (source.assign_entry width a i v) = assign_entry_ok now width a i v (value_ok i) (value_ok v)
 
     list_ok : (vs : Values) → ListOk now vs
     list_ok none = list_none now

@@ -1,5 +1,5 @@
 -- The items of values name only what is there.
-use Rattle.std.proofs.Common.{◌≡◌, ℕ, ◌+◌, ◌<◌, List, [], ◌∷◌, ◌++◌, Bool, true, false, arith}
+use Rattle.std.proofs.Common.{◌≡◌, ℕ, ◌+◌, ◌<◌, List, [], ◌∷◌, ◌++◌, length, Bool, true, false, arith}
 use Rattle.std.specs.Prelude.{if◌then◌else◌, not}
 use Rattle.expressions.specs.declared.tree.Binary.{Binary}
 use Rattle.expressions.specs.declared.tree.Binary.TheVariants as binaries
@@ -7,6 +7,7 @@ use Rattle.expressions.specs.declared.tree.Comparison.{Comparison}
 use Rattle.expressions.specs.declared.tree.Equality.{Equality}
 use Rattle.expressions.specs.declared.tree.Prefix.{Prefix}
 use Rattle.expressions.specs.declared.tree.Prefix.TheVariants as prefixes
+use Rattle.expressions.specs.declared.tree.Width.{Width}
 use Rattle.checker.specs.declared.resolved.Variable.{Variable}
 use Rattle.checker.specs.Resolved.{Value, Values, none, more}
 use Rattle.checker.specs.Resolved as source
@@ -180,6 +181,26 @@ module _ (here : Bounds) where
         (true_fine here pushed when t tt le);
   }
 
+  entry_fine : (width : Width) (a : ℕ) (i : Value) → a < length p.arrays → IsValue p locals i → FineValue i
+      → FineValue (source.entry width a i)
+  entry_fine width a i ha h f = record {
+    value = λ at d hd lt. last here (if_pushed (alone i) (value_items at i push) []) _
+        (operand_pushed (alone i) i f at (omega (arith, lt))) (ha, operand_fine here i none h, hd);
+    branch = λ at when t lt le. last_two here (if_pushed (alone i) (value_items at i push) []) _ _
+        (operand_pushed (alone i) i f at (omega (arith, lt))) (ha, operand_fine here i none h, tt)
+        (true_fine here pushed when t tt le);
+  }
+
+  assign_entry_fine : (width : Width) (a : ℕ) (i v : Value) → a < length p.arrays → IsValue p locals i
+      → IsValue p locals v → FineValue i → FineValue v → FineValue (source.assign_entry width a i v)
+  assign_entry_fine width a i v ha hi hv fi fv = record {
+    value = λ at d hd lt. two_operands i v fi fv at _ (omega (arith, lt))
+        (first here _ _ (ha, operand_fine here i (more v none) hi, operand_fine here v none hv, hd) (nothing here));
+    branch = λ at when t lt le. two_operands i v fi fv at _ (omega (arith, lt))
+        (first here _ _ (ha, operand_fine here i (more v none) hi, operand_fine here v none hv, tt)
+        (first here _ _ (true_fine here pushed when t tt le) (nothing here)));
+  }
+
   list_none : FineList none
   list_none = record {
     list = λ at lt. nothing here;
@@ -230,6 +251,9 @@ module _ (here : Bounds) where
     value_fine (source.compare op a b) h = compare_fine op a b h.0 h.1 (value_fine a h.0) (value_fine b h.1)
     value_fine (source.equal op a bs) h = equal_fine op a bs h.0 h.1 (value_fine a h.0) (list_fine bs h.1)
     value_fine (source.assign x v) h = assign_fine x v h.0 (value_fine v h.1)
+    value_fine (source.entry width a i) h = entry_fine width a i h.0 h.1 (value_fine i h.1)
+    value_fine (source.assign_entry width a i v) h =
+        assign_entry_fine width a i v h.0 h.1 h.2 (value_fine i h.1) (value_fine v h.2)
 
     list_fine : (vs : Values) → AreValues p locals vs → FineList vs
     list_fine none h = list_none

@@ -116,7 +116,7 @@ module _ (p : ProgramOf) (full : ℕ) (fine : (r : ℕ) → IsRoutine p (routine
 pub items_follow : ItemsFollow
 unfolding meaning
 items_follow p accepted full lines =
-    let s : Situation = record { locals = []; world = first_world p.globals full lines } in
+    let s : Situation = record { locals = []; world = first_world p full lines } in
     let run = calls_do p full (routine_fine p p.routines accepted.routines) 1000 p.main [] [] s
     (λ v last. ended places.Quit last.world) refl
     (λ v last e is low. ends_there p (ended places.Quit last.world)) in

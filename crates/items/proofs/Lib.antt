@@ -15,6 +15,7 @@ mod Operations
 mod Equalities
 mod Logical
 mod Assignments
+mod Entries
 mod EachValue
 mod Statements
 mod Conditionals

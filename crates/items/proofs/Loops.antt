@@ -1,5 +1,5 @@
 -- Loops.
-use Rattle.std.proofs.Common.{◌≡◌, ℕ, zero, suc, ◌+◌, ◌<◌, ◌≤◌, [], Some, Bool, true, false, refl, ap, ◌∙◌, arith}
+use Rattle.std.proofs.Common.{◌≡◌, ℕ, zero, suc, ◌+◌, ◌≤◌, [], Some, Bool, true, false, refl, ap, ◌∙◌, arith}
 use Rattle.std.specs.Prelude.{if◌then◌else◌, slice_get}
 use Rattle.std.proofs.lemmas.Bool.{le-leb}
 use Rattle.zcore.specs.declared.place.Place.TheVariants as places
@@ -13,12 +13,12 @@ use Rattle.checker.specs.Meaning.{is_true, evaluate, Ending, goes_on, breaks, co
 use Rattle.checker.specs.Meaning.{rounds, run}
 use Rattle.items.specs.Items.{agrees, branch_count, branch_items, action_count, Exits, exits_to, action_items}
 use Rattle.items.specs.Items as items
-use Rattle.items.specs.Stack.{Next, stuck, after_part, act}
+use Rattle.items.specs.Stack.{stuck, after_part, act}
 use Rattle.items.proofs.Acts.{hand, spends}
 use Rattle.items.proofs.Counts.{branch_length}
 use Rattle.items.proofs.StatementCounts.{action_length}
 use Rattle.items.proofs.Running.{Does, ends_there, steps_on, Running, code, locals, calls}
-use Rattle.items.proofs.Standing.{HasAt, split}
+use Rattle.items.proofs.Standing.{split}
 use Rattle.items.proofs.Leads.{Leads, on, given, here, stands, goes_by, at_place}
 use Rattle.items.proofs.EachValue.{value_ok}
 use Rattle.items.proofs.Statements.{ended_at, goes_at}

@@ -21,3 +21,5 @@ some_needed_of (source.binary op a b) = some_needed 0 (need_of a ∷ need_of b �
 some_needed_of (source.compare op a b) = some_needed 0 (need_of a ∷ need_of b ∷ [])
 some_needed_of (source.equal op a bs) = some_needed 0 (need_of a ∷ needs_of bs)
 some_needed_of (source.assign x v) = some_needed 0 (need_of v ∷ [])
+some_needed_of (source.entry width a i) = some_needed 0 (need_of i ∷ [])
+some_needed_of (source.assign_entry width a i v) = some_needed 0 (need_of i ∷ need_of v ∷ [])

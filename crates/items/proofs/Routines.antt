@@ -1,5 +1,5 @@
 -- A routine does what its body means.
-use Rattle.std.proofs.Common.{◌≡◌, ℕ, ◌+◌, ◌≤◌, [], ◌∷◌, length, Some, refl, ap, arith}
+use Rattle.std.proofs.Common.{◌≡◌, ℕ, ◌+◌, [], ◌∷◌, length, Some, refl, ap, arith}
 use Rattle.std.specs.Prelude.{slice_get, map}
 use Rattle.checker.specs.Resolved.{none, Action, Actions, stop, next}
 use Rattle.checker.specs.Resolved as source

@@ -2,15 +2,17 @@
 use Rattle.std.proofs.Common.{◌≡◌, ℕ, List, [], ◌∷◌, ◌++◌, Option, Some, None, refl}
 use Rattle.std.specs.Prelude.{codes}
 use Rattle.lexer.specs.declared.token.Position.{Position}
-use Rattle.expressions.specs.Tree.{NameTree, ExpressionTree, constant, named, call, prefixed, step_after, binary}
-use Rattle.expressions.specs.Tree.{compare, equal, assign, none, more}
+use Rattle.expressions.specs.Tree.{NameTree, ExpressionTree, constant, named, call, index, prefixed, step_after}
+use Rattle.expressions.specs.Tree.{binary, compare, equal, assign, none, more}
 use Rattle.expressions.specs.declared.tree.Binary.TheVariants as op
 use Rattle.expressions.specs.declared.tree.Comparison.TheVariants as comparison
 use Rattle.expressions.specs.declared.tree.Equality.TheVariants as equality
 use Rattle.expressions.specs.declared.tree.Prefix.TheVariants as prefix
 use Rattle.expressions.specs.declared.tree.Step.TheVariants as steps
+use Rattle.expressions.specs.declared.tree.Width.TheVariants as widths
 use Rattle.statements.specs.Tree as s
 use Rattle.statements.specs.Tree.{StatementTree, StatementTrees}
+use Rattle.syntax.specs.declared.tree.ArrayKind.TheVariants as kinds
 use Rattle.syntax.specs.Tree as d
 use Rattle.syntax.specs.Tree.{DirectiveTree, ProgramTree}
 use Rattle.zcore.specs.Arithmetic.{signed_text, decimal, quotient, remainder}
@@ -158,3 +160,29 @@ choices = program
 choices_do : runs 60 1000 (resolve_program choices) ≡ Some (says (codes "310011"))
 unfolding resolve_program table_of key_of look_up signed_text decimal quotient remainder
 choices_do = refl
+
+-- Global i; Array b -> 4;
+-- [ Main; b->i = i++ + 511; print b->0, " ", b-->0, "^"; if (b->i) print "a"; print b-->2; ];
+-- the index is evaluated before what is assigned, and a byte keeps its low eight bits
+abbrev entries : ProgramTree
+entries = program
+    (d.global (the 0 (codes "i")) None
+    ∷ d.array (record {
+      name = the 1 (codes "b");
+      kind = kinds.Bytes;
+      values = record { position = p 2; value = d.number_value 4 } ∷ [];
+    })
+    ∷ routine (codes "Main") []
+    (s.effect (p 3) (assign (index (the 3 (codes "b")) widths.Byte (named (the 4 (codes "i")))) (p 5)
+    (binary op.Add (step_after (named (the 6 (codes "i"))) steps.Increment (p 7)) (constant 511)))
+    ∷ s.print (item (index (the 8 (codes "b")) widths.Byte (constant 0)) ∷ words (codes " ") ∷ item
+    (index (the 9 (codes "b")) widths.Word (constant 0)) ∷ words (codes "^") ∷ [])
+    ∷ s.if_then (p 10) (index (the 10 (codes "b")) widths.Byte (named (the 11 (codes "i"))))
+    (s.print (words (codes "a") ∷ []))
+    ∷ s.print (item (index (the 12 (codes "b")) widths.Word (constant 2)) ∷ []) ∷ [])
+    ∷ [])
+
+entries_do : runs 40 1000 (resolve_program entries)
+    ≡ Some (says (codes "255 -256" ++ 10 ∷ 10 ∷ codes "[Fault: index out of range]" ++ 10 ∷ []))
+unfolding resolve_program table_of key_of look_up signed_text decimal quotient remainder
+entries_do = refl

@@ -6,6 +6,7 @@ use Rattle.expressions.specs.declared.tree.Comparison.TheVariants as comparisons
 use Rattle.expressions.specs.declared.tree.Equality.TheVariants as equalities
 use Rattle.expressions.specs.declared.tree.Prefix.TheVariants as prefixes
 use Rattle.expressions.specs.declared.tree.Step.TheVariants as steps
+use Rattle.expressions.specs.declared.tree.Width.TheVariants as widths
 use Rattle.checker.specs.declared.resolved.Variable.{Variable}
 use Rattle.checker.specs.declared.resolved.Variable.TheVariants.{Local, Global}
 use Rattle.checker.specs.Resolved.{Value, none, more, read, number, call, compare, equal, binary, prefixed, assign}
@@ -84,6 +85,32 @@ changed_later : action_items outside 0 (print (number_of (binary binaries.Subtra
     ∷ []
 changed_later = refl
 
+-- x = a->y;
+entry_read : action_items outside 0 (effect (assign x (source.entry widths.Byte 3 (read y))))
+    ≡ items.entry widths.Byte 3 (items.variable y) (into x) ∷ []
+entry_read = refl
+
+-- a->x = 5;
+entry_assigned : action_items outside 0 (effect (source.assign_entry widths.Byte 3 (read x) (number 5)))
+    ≡ items.assign_entry widths.Byte 3 (items.variable x) (items.number 5) nowhere ∷ []
+entry_assigned = refl
+
+-- x = w-->2 + y;
+entry_operand : action_items outside 0
+    (effect (assign x (binary binaries.Add (source.entry widths.Word 4 (number 2)) (read y))))
+    ≡ items.entry widths.Word 4 (items.number 2) push
+    ∷ operate binaries.Add pushed (items.variable y) (into x)
+    ∷ []
+entry_operand = refl
+
+-- w-->g = F(); where the call may change g
+index_changed_later : action_items outside 0 (effect (source.assign_entry widths.Word 4 (read g) called))
+    ≡ move (items.variable g) push
+    ∷ items.call 7 [] push
+    ∷ items.assign_entry widths.Word 4 pushed pushed nowhere
+    ∷ []
+index_changed_later = refl
+
 -- Conditions
 
 -- if (x < y && g) y++;
@@ -138,6 +165,14 @@ truth_assigned : action_items outside 0 (effect (assign x (equal equalities.Equa
     ∷ move (items.number 1) (into x)
     ∷ []
 truth_assigned = refl
+
+-- if (a->x) F();
+entry_tested : action_items outside 0 (if_then (source.entry widths.Byte 3 (read x)) (effect called))
+    ≡ items.entry widths.Byte 3 (items.variable x) push
+    ∷ branch is_zero (pushed ∷ []) true 3
+    ∷ items.call 7 [] nowhere
+    ∷ []
+entry_tested = refl
 
 -- if (x == 1 or 2 or 3 or 4) F();
 many_compared : action_items outside 0

@@ -7,6 +7,7 @@ use Rattle.expressions.specs.declared.tree.Comparison.{Comparison}
 use Rattle.expressions.specs.declared.tree.Equality.{Equality}
 use Rattle.expressions.specs.declared.tree.Prefix.{Prefix}
 use Rattle.expressions.specs.declared.tree.Step.{Step}
+use Rattle.expressions.specs.declared.tree.Width.{Width}
 use Rattle.checker.specs.declared.resolved.Variable.{Variable}
 use Rattle.checker.specs.declared.resolved.Value as code_value
 use Rattle.checker.specs.declared.resolved.Value.TheVariants as v
@@ -16,7 +17,7 @@ use Rattle.checker.specs.declared.resolved.Action as code_action
 use Rattle.checker.specs.declared.resolved.Action.TheVariants as s
 use Rattle.checker.specs.declared.resolved.Action.TheFolds.{fold-roll-Action}
 use Rattle.checker.specs.Resolved.{Value, number, read, call, prefixed, step_before, step_after, binary, compare}
-use Rattle.checker.specs.Resolved.{equal}
+use Rattle.checker.specs.Resolved.{equal, entry, assign_entry}
 use Rattle.checker.specs.Resolved.{assign, more, Action, block, text_alone, print, print_return, if_then, if_else}
 use Rattle.checker.specs.Resolved.{while_do, return_value, effect, values_of, actions_of, chained, value_of}
 use Rattle.checker.specs.Resolved.{value_layer, printed_of, action_of, action_layer}
@@ -66,6 +67,16 @@ equal_is e a op b es is = rw is (ap value_of (sym (v.rolls-Equal a op b es)) ∙
 pub assign_is : (e : code_value.Value) (x : Variable) (b : Box code_value.Value) → e ≡ v.Assign x b → value_of e
     ≡ assign x (value_of b.value)
 assign_is e x b is = rw is (ap value_of (sym (v.rolls-Assign x b)) ∙ fold-roll-Value Value value_layer _)
+
+pub entry_is : (e : code_value.Value) (width : Width) (a : ℕ) (b : Box code_value.Value) → e ≡ v.Entry width a b
+    → value_of e ≡ entry width a (value_of b.value)
+entry_is e width a b is =
+    rw is (ap value_of (sym (v.rolls-Entry width a b)) ∙ fold-roll-Value Value value_layer _)
+
+pub assign_entry_is : (e : code_value.Value) (width : Width) (a : ℕ) (b c : Box code_value.Value)
+    → e ≡ v.AssignEntry width a b c → value_of e ≡ assign_entry width a (value_of b.value) (value_of c.value)
+assign_entry_is e width a b c is =
+    rw is (ap value_of (sym (v.rolls-AssignEntry width a b c)) ∙ fold-roll-Value Value value_layer _)
 
 pub block_is : (t : code_action.Action) (xs : Vec code_action.Action) → t ≡ s.Block xs → action_of t
     ≡ block (actions_of (map action_of xs.items))

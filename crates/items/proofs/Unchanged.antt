@@ -7,15 +7,20 @@ use Rattle.zcore.specs.Arithmetic.{quotient, remainder}
 use Rattle.zcore.specs.declared.place.Place.TheVariants as places
 use Rattle.expressions.specs.declared.tree.Binary.{Binary}
 use Rattle.expressions.specs.declared.tree.Binary.TheVariants as binaries
+use Rattle.expressions.specs.declared.tree.Width.{Width}
+use Rattle.checker.specs.declared.cause.Cause.{Cause}
+use Rattle.checker.specs.declared.cause.Cause.TheVariants as causes
+use Rattle.checker.specs.World.{words_of}
 use Rattle.checker.specs.declared.resolved.Variable.{Variable}
 use Rattle.checker.specs.declared.resolved.Variable.TheVariants as variables
 use Rattle.checker.specs.Resolved.{Value, Values, none, more}
 use Rattle.checker.specs.Resolved as source
 use Rattle.checker.specs.World.{Situation, Comes, to, over, Part, bound, ◌>>=◌, give, put, fault, ends, value_in}
-use Rattle.checker.specs.World.{with_value, write_variable}
+use Rattle.checker.specs.World.{with_value, write_variable, array_at, is_index, read_entry, write_entry}
 use Rattle.checker.specs.Meaning.{truth, is_true, operate, equated, compared, with_prefix, stepped, early, Calls}
 use Rattle.checker.specs.Meaning.{evaluate, evaluate_all}
 use Rattle.items.specs.Items.{is_same, is_global, changes, change}
+use Rattle.items.specs.Stack.{assigned_entry}
 
 -- where it comes to a value, the variable has this word
 abbrev pub Still : {A : Type 0} → Variable → ℕ → Comes A → Type 0
@@ -60,15 +65,32 @@ leaves_put (variables.Local i) bytes s =
 leaves_put (variables.Global i) bytes s =
     still_either (variables.Global i) _ (nat_le (length (s.world.text ++ bytes)) 65536) _ _ refl tt
 
-leaves_fault : (x : Variable) (words : List ℕ) → Leaves x (fault {A = ℕ} words)
-leaves_fault x words = leaves_bound x (put (10 ∷ codes "[Fault: " ++ words ++ codes "]" ++ 10 ∷ []))
-    (λ _. ends {A = ℕ} places.Quit) (leaves_put x _) (λ _ s. tt)
+leaves_fault : (A : Type 0) (x : Variable) (cause : Cause) → Leaves x (fault {A = A} cause)
+leaves_fault A x cause =
+    leaves_bound x (put (10 ∷ codes "[Fault: " ++ words_of cause ++ codes "]" ++ 10 ∷ []))
+    (λ _. ends {A = A} places.Quit) (leaves_put x _) (λ _ s. tt)
+
+leaves_read : (width : Width) (a i : ℕ) (x : Variable) → Leaves x (read_entry width a i)
+leaves_read width a i x s = still_either x _ (is_index width (array_at s.world.arrays a) i) _ _ refl
+    (leaves_fault ℕ x causes.IndexOutOfRange s)
+
+leaves_write : (width : Width) (a i v : ℕ) (x : Variable) → Leaves x (write_entry width a i v)
+leaves_write width a i v (variables.Local j) s =
+    still_either (variables.Local j) _ (is_index width (array_at s.world.arrays a) i) _ _ refl
+    (leaves_fault (Unit {0}) (variables.Local j) causes.IndexOutOfRange s)
+leaves_write width a i v (variables.Global j) s =
+    still_either (variables.Global j) _ (is_index width (array_at s.world.arrays a) i) _ _ refl
+    (leaves_fault (Unit {0}) (variables.Global j) causes.IndexOutOfRange s)
+
+leaves_assigned : (width : Width) (a i v : ℕ) (x : Variable) → Leaves x (assigned_entry width a i v)
+leaves_assigned width a i v x =
+    leaves_bound x (write_entry width a i v) (λ _. give v) (leaves_write width a i v x) (λ _. leaves_give x v)
 
 leaves_operate : (op : Binary) (v w : ℕ) (x : Variable) → Leaves x (operate op v w)
-leaves_operate binaries.Divide v w x = leaves_either x (w == 0) (fault (codes "division by zero"))
-    (give (quotient v w)) (leaves_fault x (codes "division by zero")) (leaves_give x (quotient v w))
-leaves_operate binaries.Remainder v w x = leaves_either x (w == 0) (fault (codes "division by zero"))
-    (give (remainder v w)) (leaves_fault x (codes "division by zero")) (leaves_give x (remainder v w))
+leaves_operate binaries.Divide v w x = leaves_either x (w == 0) (fault causes.DivisionByZero)
+    (give (quotient v w)) (leaves_fault ℕ x causes.DivisionByZero) (leaves_give x (quotient v w))
+leaves_operate binaries.Remainder v w x = leaves_either x (w == 0) (fault causes.DivisionByZero)
+    (give (remainder v w)) (leaves_fault ℕ x causes.DivisionByZero) (leaves_give x (remainder v w))
 leaves_operate op v w x = λ s. refl
 
 -- another place of a list keeps its word
@@ -137,6 +159,12 @@ module _ (calls : Calls) (keep : LeaveLocals calls) where
     leaves_value x (source.assign y v) e =
         leaves_bound x (evaluate calls v) _ (leaves_value x v (right (is_same x y) (changes x v) e))
         (λ w. stepping x y w w (left (is_same x y) (changes x v) e))
+    leaves_value x (source.entry width a i) e =
+        leaves_bound x (evaluate calls i) _ (leaves_value x i e) (λ n. leaves_read width a n x)
+    leaves_value x (source.assign_entry width a i v) e =
+        leaves_bound x (evaluate calls i) _ (leaves_value x i (left (changes x i) (changes x v) e)) (λ n.
+        leaves_bound x (evaluate calls v) _ (leaves_value x v (right (changes x i) (changes x v) e))
+        (λ w. leaves_assigned width a n w x))
 
     leaves_values : (x : Variable) (vs : Values) → change x vs ≡ false → Leaves x (evaluate_all calls vs)
     leaves_values x none e = λ s. refl

@@ -7,6 +7,7 @@ use Rattle.expressions.specs.declared.tree.Binary.TheVariants as binaries
 use Rattle.expressions.specs.declared.tree.Comparison.{Comparison}
 use Rattle.expressions.specs.declared.tree.Prefix.{Prefix}
 use Rattle.expressions.specs.declared.tree.Prefix.TheVariants as prefixes
+use Rattle.expressions.specs.declared.tree.Width.{Width}
 use Rattle.checker.specs.declared.resolved.Variable.{Variable}
 use Rattle.checker.specs.Resolved.{Value, Values, chained}
 use Rattle.checker.specs.Resolved as source
@@ -19,7 +20,7 @@ use Rattle.items.specs.declared.item.Destination.TheVariants as destinations
 use Rattle.items.specs.declared.wanted.Wanted.{Wanted}
 use Rattle.items.specs.declared.wanted.Wanted.TheVariants.{Word, Branch}
 use Rattle.items.specs.Writing.{Written, wanted_items, pushes, is_logical, first_items, ReducesWord, ReducesTruth}
-use Rattle.items.specs.Writing.{ReducesLink, ReducesLinks, ReducesComparison}
+use Rattle.items.specs.Writing.{ReducesLink, ReducesLinks, ReducesComparison, ReducesAssignedEntry}
 use Rattle.items.proofs.Counts.{value_length, branch_length, if_length, operands_length}
 use Rattle.items.proofs.Written.{nothing, one, counted, both, as_items, after_one}
 
@@ -253,6 +254,47 @@ pub compare_more : (c c1 c2 : List Item) (wanted : Wanted) (op : Comparison) (o 
     ≡ left_of a b → ReducesComparison c c1 wanted op o b → Written c1 c2 (pushes o a)
     → Written c c2 (wanted_items wanted (source.compare op a b))
 compare_more c c1 c2 wanted op o a b e link w = (link a e).with_rest c2 w
+
+-- Entries
+
+pub entry_more : (c c1 c2 c3 : List Item) (wanted : Wanted) (d : Destination) (width : Width) (a : ℕ) (o : Operand)
+    (i : Value) → ReducesWord c c1 wanted d → o ≡ alone i → c2 ≡ c1 ++ items.entry width a o d ∷ []
+    → Written c2 c3 (pushes o i)
+    → Written c c3 (wanted_items wanted (source.entry width a i))
+entry_more c c1 c2 c3 wanted d width a o i reduces eo e w =
+    (reduces (source.entry width a i)
+    (λ at t when. sym (append_assoc (if_pushed (alone i) (value_items at i push) [])
+    (items.entry width a (alone i) push ∷ []) (branch_true pushed when t ∷ [])))).with_rest c3
+    (as_items (λ n at _. ap (λ o. if_pushed o (value_items at i push) [] ++ items.entry width a o d ∷ []) eo)
+    (after_one _ (items.entry width a o d) (λ n at. pushes_length o i n at) e w))
+
+abbrev entry_assigned : Width → ℕ → Operand → Value → Operand → Value → ℕ → Destination → List Item → List Item
+entry_assigned width a o i ov v at d more = if_pushed o (value_items at i push) []
+    ++ (if_pushed ov (value_items (at + if_pushed o (value_count i push) 0) v push) []
+    ++ items.assign_entry width a o ov d ∷ more)
+
+pub assigned_entry_link : (c c1 c2 c3 : List Item) (wanted : Wanted) (d : Destination) (width : Width) (a : ℕ)
+    (o ov : Operand) (v : Value) → ReducesWord c c1 wanted d → ov ≡ alone v
+    → c2 ≡ c1 ++ items.assign_entry width a o ov d ∷ [] → Written c2 c3 (pushes ov v)
+    → ReducesAssignedEntry c c3 wanted width a o v
+assigned_entry_link c c1 c2 c3 wanted d width a o ov v reduces ev e wv i eo = record {
+  with_rest = λ c4 w.
+      (reduces (source.assign_entry width a i v)
+      (λ at t when. regroup (left_of i v) (alone v) at (branch_true pushed when t ∷ []) push)).with_rest c4
+      (as_items (λ n at _. ap (λ x. entry_assigned width a x i ov v at d []) eo
+      ∙ ap (λ y. entry_assigned width a (left_of i v) i y v at d []) ev)
+      (both (if_pushed o (value_count i push) 0) (λ n at. pushes_length o i n at)
+      (after_one _ (items.assign_entry width a o ov d) (λ n at. pushes_length ov v n at) e wv) w));
+}
+  where
+    regroup : (oi ov : Operand) (at : ℕ) (more : List Item) (d : Destination)
+        → entry_assigned width a oi i ov v at d more ≡ entry_assigned width a oi i ov v at d [] ++ more
+    regroup oi ov at more d = simp append_assoc
+
+pub assigned_entry_more : (c c1 c2 : List Item) (wanted : Wanted) (width : Width) (a : ℕ) (o : Operand) (i v : Value)
+    → o ≡ left_of i v → ReducesAssignedEntry c c1 wanted width a o v → Written c1 c2 (pushes o i)
+    → Written c c2 (wanted_items wanted (source.assign_entry width a i v))
+assigned_entry_more c c1 c2 wanted width a o i v e link w = (link i e).with_rest c2 w
 
 -- as the code comes to them
 

@@ -41,6 +41,9 @@ item_of (variants.Prefix op o d) = items.apply_prefix op (as_operand o) (as_dest
 item_of (variants.Operate op a b d) =
     items.operate op (as_operand a) (as_operand b) (as_destination d)
 item_of (variants.Step op x d) = items.step op x (as_destination d)
+item_of (variants.Entry width a o d) = items.entry width a (as_operand o) (as_destination d)
+item_of (variants.AssignEntry width a o q d) =
+    items.assign_entry width a (as_operand o) (as_operand q) (as_destination d)
 item_of (variants.Keep x) = items.keep x
 item_of variants.FirstEqual = items.first_equal
 item_of variants.AlsoEqual = items.also_equal

@@ -10,6 +10,7 @@ use Rattle.expressions.specs.declared.tree.Equality.TheVariants as equalities
 use Rattle.expressions.specs.declared.tree.Prefix.{Prefix}
 use Rattle.expressions.specs.declared.tree.Prefix.TheVariants as prefixes
 use Rattle.expressions.specs.declared.tree.Step.{Step}
+use Rattle.expressions.specs.declared.tree.Width.{Width}
 use Rattle.checker.specs.declared.resolved.Variable.{Variable}
 use Rattle.checker.specs.declared.resolved.Variable.TheVariants as variables
 use Rattle.checker.specs.Resolved.{Value, Values, none, more, Printed, Action, Actions, stop, next, RoutineOf}
@@ -48,6 +49,10 @@ pub data Item : Type 0 where
   operate : Binary → Operand → Operand → Destination → Item
   -- a variable is stepped, and its new word goes on
   step : Step → Variable → Destination → Item
+  -- an entry of the array of this number, at an index
+  entry : Width → ℕ → Operand → Destination → Item
+  -- a word is assigned to the entry at an index, and goes on: index and word
+  assign_entry : Width → ℕ → Operand → Operand → Destination → Item
   -- the topmost word goes to a variable, and stays
   keep : Variable → Item
   -- `==` of more than three: from left and right to left and flag; from left, flag and right to left and flag; and to
@@ -97,6 +102,8 @@ abbrev mutual
   changes x (source.compare op a b) = changes x a || changes x b
   changes x (source.equal op a bs) = changes x a || change x bs
   changes x (source.assign y v) = is_same x y || changes x v
+  changes x (source.entry width a i) = changes x i
+  changes x (source.assign_entry width a i v) = changes x i || changes x v
 
   -- evaluation of one of several may
   pub change : Variable → Values → Bool
@@ -213,6 +220,9 @@ abbrev mutual
       else value_count a push + many_count bs)
       + truth_count d
   value_count (source.assign x v) d = kept_count d (value_count v (into x)) (value_count v push)
+  value_count (source.entry width a i) d = if_pushed (alone i) (value_count i push) 0 + 1
+  value_count (source.assign_entry width a i v) d =
+      if_pushed (left_of i v) (value_count i push) 0 + if_pushed (alone v) (value_count v push) 0 + 1
 
   -- what pushes the operands of a list
   pub operands_count : Values → ℕ
@@ -238,6 +248,9 @@ abbrev mutual
       if is_few bs then if_pushed (operand_of a bs) (value_count a push) 0 + operands_count bs + 1
       else value_count a push + many_count bs
   branch_count (source.assign x v) when = value_count v push + 2
+  branch_count (source.entry width a i) when = if_pushed (alone i) (value_count i push) 0 + 1 + 1
+  branch_count (source.assign_entry width a i v) when =
+      if_pushed (left_of i v) (value_count i push) 0 + if_pushed (alone v) (value_count v push) 0 + 1 + 1
 
   -- `==` of more than three, where the left side is pushed, and a branch by its flag
   pub many_count : Values → ℕ
@@ -333,6 +346,12 @@ abbrev mutual
       (λ target. value_items at a push ++ many_items (at + value_count a push) op bs true target)
   value_items at (source.assign x v) d =
       kept_items x d (value_items at v (into x)) (value_items at v push)
+  value_items at (source.entry width a i) d =
+      if_pushed (alone i) (value_items at i push) [] ++ entry width a (alone i) d ∷ []
+  value_items at (source.assign_entry width a i v) d =
+      if_pushed (left_of i v) (value_items at i push) []
+      ++ (if_pushed (alone v) (value_items (at + operand_count i (left_of i v)) v push) []
+      ++ assign_entry width a (left_of i v) (alone v) d ∷ [])
 
   -- what pushes the operands of a list
   pub operands_items : ℕ → Values → List Item
@@ -378,6 +397,13 @@ abbrev mutual
       else value_items at a push ++ many_items (at + value_count a push) op bs when target
   branch_items at (source.assign x v) when target =
       value_items at v push ++ keep x ∷ branch_true pushed when target ∷ []
+  branch_items at (source.entry width a i) when target =
+      if_pushed (alone i) (value_items at i push) []
+      ++ entry width a (alone i) push ∷ branch_true pushed when target ∷ []
+  branch_items at (source.assign_entry width a i v) when target =
+      if_pushed (left_of i v) (value_items at i push) []
+      ++ (if_pushed (alone v) (value_items (at + operand_count i (left_of i v)) v push) []
+      ++ assign_entry width a (left_of i v) (alone v) push ∷ branch_true pushed when target ∷ [])
 
   -- `==` of more than three, where the left side is pushed
   pub many_items : ℕ → Equality → Values → Bool → ℕ → List Item

@@ -7,8 +7,8 @@ use Rattle.checker.specs.Resolved.{RoutineOf, ProgramOf}
 use Rattle.checker.specs.Accepted.{IsVariable, IsRoutine, IsAccepted}
 use Rattle.checker.specs.Meaning.{routine_at, meaning}
 use Rattle.items.specs.Items.{Operand, variable, Destination, into, Test, is_zero, less, greater, same, Item, move}
-use Rattle.items.specs.Items.{apply_prefix, operate, step, keep, print_character, print_number, branch, jump, back}
-use Rattle.items.specs.Items.{call, return, routine_items}
+use Rattle.items.specs.Items.{apply_prefix, operate, step, entry, assign_entry, keep, print_character, print_number}
+use Rattle.items.specs.Items.{branch, jump, back, call, return, routine_items}
 use Rattle.items.specs.Stack.{from, exec, start}
 
 -- in so many items the run comes to what the program means
@@ -48,6 +48,8 @@ module _ (p : ProgramOf) (locals : ℕ) where
   IsItem count (operate binaries.OrElse a b d) = ⊥
   IsItem count (operate op a b d) = IsOperand a × IsOperand b × IsDestination d
   IsItem count (step op x d) = IsVariable p locals x × IsDestination d
+  IsItem count (entry width a o d) = (a < length p.arrays) × IsOperand o × IsDestination d
+  IsItem count (assign_entry width a o q d) = (a < length p.arrays) × IsOperand o × IsOperand q × IsDestination d
   IsItem count (keep x) = IsVariable p locals x
   IsItem count (print_character o) = IsOperand o
   IsItem count (print_number o) = IsOperand o

@@ -6,10 +6,11 @@ use Rattle.std.specs.List.{list_any}
 use Rattle.zcore.specs.Arithmetic.{signed_less, signed_text}
 use Rattle.zcore.specs.declared.place.Place.TheVariants as places
 use Rattle.zcore.specs.declared.place.Limit.TheVariants as limits
+use Rattle.expressions.specs.declared.tree.Width.{Width}
 use Rattle.checker.specs.declared.resolved.Variable.{Variable}
 use Rattle.checker.specs.Resolved.{ProgramOf}
 use Rattle.checker.specs.World.{Outcome, World, Situation, Comes, to, over, Part, ended, put, shown, spend, value_in}
-use Rattle.checker.specs.World.{with_value}
+use Rattle.checker.specs.World.{with_value, give, ◌>>=◌, read_entry, write_entry}
 use Rattle.checker.specs.Meaning.{truth, is_true, with_prefix, stepped, put_character, put_line, locals_of}
 use Rattle.checker.specs.Meaning.{routine_at}
 use Rattle.checker.specs.Meaning.{first_world}
@@ -85,6 +86,10 @@ gives f d stack s = after_part (f s.situation) (λ v situation. delivered d v (a
 -- a part prints
 abbrev pub prints : Part (Unit {0}) → List ℕ → State → Next
 prints f stack s = after_part (f s.situation) (λ _ situation. goes (after s stack situation))
+
+-- a word is assigned to an entry, and stands for the assignment
+abbrev pub assigned_entry : Width → ℕ → ℕ → ℕ → Part ℕ
+assigned_entry width a i v = write_entry width a i v >>= λ _. give v
 
 -- the topmost word goes to a variable, and stays
 abbrev pub keep : Variable → List ℕ → State → Next
@@ -179,6 +184,11 @@ act p (Some (items.operate op a b d)) s =
 act p (Some (items.step op x d)) s =
     delivered d (stepped op (value_in x s.situation))
     (after s s.stack (with_value x (stepped op (value_in x s.situation)) s.situation))
+act p (Some (items.entry width a o d)) s =
+    with_operand o s.situation s.stack (λ i stack. gives (read_entry width a i) d stack s)
+act p (Some (items.assign_entry width a o q d)) s =
+    with_operand q s.situation s.stack
+    (λ v rest. with_operand o s.situation rest (λ i stack. gives (assigned_entry width a i v) d stack s))
 act p (Some (items.keep x)) s = keep x s.stack s
 act p (Some items.first_equal) s = first_equal s.stack s
 act p (Some items.also_equal) s = also_equal s.stack s
@@ -216,4 +226,4 @@ exec p (suc n) s = from (step p s) (exec p n)
 
 -- the call of Main
 abbrev pub start : ProgramOf → ℕ → List (List ℕ) → Next
-start p full lines = enter p p.main [] [] (record { locals = []; world = first_world p.globals full lines })
+start p full lines = enter p p.main [] [] (record { locals = []; world = first_world p full lines })

@@ -7,6 +7,7 @@ use Rattle.checker.specs.declared.resolved.Variable.{Variable}
 use Rattle.checker.specs.declared.resolved.Value as code_value
 use Rattle.expressions.specs.declared.tree.Comparison.{Comparison}
 use Rattle.expressions.specs.declared.tree.Equality.{Equality}
+use Rattle.expressions.specs.declared.tree.Width.{Width}
 use Rattle.checker.specs.declared.resolved.Printed as code_printed
 use Rattle.checker.specs.Resolved.{Value, Values, none, more, Action, value_of, values_of, chained, printed_of}
 use Rattle.checker.specs.Resolved as source
@@ -148,6 +149,11 @@ abbrev pub ReducesComparison : List Item → List Item → Wanted → Comparison
 ReducesComparison old new wanted op o b = (v : Value) → o ≡ left_of v b
     → Leaves old new (wanted_items wanted (source.compare op v b)) (pushes o v)
 
+-- an assignment to an entry: those that push its index
+abbrev pub ReducesAssignedEntry : List Item → List Item → Wanted → Width → ℕ → Operand → Value → Type 0
+ReducesAssignedEntry old new wanted width a o v = (i : Value) → o ≡ left_of i v
+    → Leaves old new (wanted_items wanted (source.assign_entry width a i v)) (pushes o i)
+
 -- `==` and `~=`: those that push the left side and the first right side
 abbrev pub ReducesEquality : List Item → List Item → Wanted → Equality → Operand → Operand → Values → Type 0
 ReducesEquality old new wanted op oa ob bs =
@@ -221,6 +227,11 @@ WritesLinks old new wanted rest ls = ReducesLinks (written_in old) (written_in n
 abbrev pub WritesComparison : Draft → Draft → Wanted → Comparison → code_operand.Operand → code_value.Value → Type 0
 WritesComparison old new wanted op o b =
     ReducesComparison (written_in old) (written_in new) wanted op (as_operand o) (value_of b)
+
+-- an assignment to an entry, with the value
+abbrev pub WritesAssignedEntry : Draft → Draft → Wanted → Width → ℕ → code_operand.Operand → code_value.Value → Type 0
+WritesAssignedEntry old new wanted width a o v =
+    ReducesAssignedEntry (written_in old) (written_in new) wanted width a (as_operand o) (value_of v)
 
 -- `==` or `~=` with the right sides behind the first
 abbrev pub WritesEquality : Draft → Draft → Wanted → Equality → code_operand.Operand → code_operand.Operand

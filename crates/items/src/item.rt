@@ -1,7 +1,7 @@
 //! The items of a routine.
 
 use checker::Variable;
-use expressions::{Binary, Prefix, Step};
+use expressions::{Binary, Prefix, Step, Width};
 
 /// A word that an item takes. Of the operands of an item that are pushed the last is on top.
 #[derive(Clone, Copy, Debug, PartialEq, Eq)]
@@ -55,6 +55,12 @@ pub enum Item<'a> {
 
     /// A variable is stepped, and its new word goes on.
     Step(Step, Variable, Destination),
+
+    /// An entry of the array of this number, at an index, or the fault that it has none there.
+    Entry(Width, usize, Operand, Destination),
+
+    /// A word is assigned to the entry at an index, and goes on, or the fault that there is none: index and word.
+    AssignEntry(Width, usize, Operand, Operand, Destination),
 
     /// The topmost word goes to a variable, and stays.
     Keep(Variable),

@@ -62,6 +62,10 @@ fn changes(variable: Variable, value: &Value) -> bool
         Value::Assign(assigned, value) => {
             is_same(variable, *assigned) || changes(variable, value)
         }
+        Value::Entry(_, _, index) => changes(variable, index),
+        Value::AssignEntry(_, _, index, value) => {
+            changes(variable, index) || changes(variable, value)
+        }
     }
 }
 
@@ -105,7 +109,9 @@ pub fn alone(value: &Value) -> Operand
         | Value::Chain(..)
         | Value::Compare(..)
         | Value::Equal(..)
-        | Value::Assign(..) => Operand::Pushed,
+        | Value::Assign(..)
+        | Value::Entry(..)
+        | Value::AssignEntry(..) => Operand::Pushed,
     }
 }
 

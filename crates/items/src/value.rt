@@ -1,9 +1,10 @@
 //! Expressions as items.
 
 ghost use Rattle.std.specs.Prelude.{IfOk, OnOk};
-ghost use Rattle.checker.specs.Resolved.{call, prefixed, assign, value_of};
+ghost use Rattle.checker.specs.Resolved.{call, prefixed, assign, entry, value_of};
 ghost use Rattle.items.specs.Writing.{values_in, WritesValue, WritesOperand, WritesOperands, WritesFolded};
 ghost use Rattle.items.specs.Writing.{WritesLink, WritesLinks, WritesComparison, WritesEquality, WritesFirst};
+ghost use Rattle.items.specs.Writing.{WritesAssignedEntry};
 
 use crate::draft::{Draft, put, put_branch, written};
 use crate::item::{Destination, Item, Operand, Test};
@@ -14,7 +15,7 @@ use crate::parts::{
 };
 use crate::wanted::Wanted;
 use checker::{Value, Variable};
-use expressions::{Binary, Comparison, Equality, Prefix};
+use expressions::{Binary, Comparison, Equality, Prefix, Width};
 use std::alloc::AllocError;
 
 /// The items of an expression, which do what is wanted of it.
@@ -49,6 +50,12 @@ pub fn put_value<'a>(draft: &mut Draft<'a>, value: &Value, wanted: Wanted) -> Re
             put_operand(draft, left, first)?;
         }
         Value::Assign(variable, value) => put_assigned(draft, value, *variable, wanted)?,
+        Value::Entry(width, array, index) => put_entry(draft, index, *width, *array, wanted)?,
+        Value::AssignEntry(width, array, index, value) => {
+            let left = left_of(index, value);
+            put_assigned_entry(draft, value, *width, *array, left, wanted)?;
+            put_operand(draft, index, left)?;
+        }
     }
     Ok(())
 }
@@ -147,6 +154,46 @@ fn put_assigned<'a>(
             put_value(draft, value, Wanted::Word(Destination::Push))?;
         }
     }
+    Ok(())
+}
+
+/// An entry of an array.
+#[cycle(values)]
+fn put_entry<'a>(
+    draft: &mut Draft<'a>,
+    index: &Value,
+    width: Width,
+    array: usize,
+    wanted: Wanted,
+) -> Result<(), AllocError>
+    ensures { OnOk result (WritesValue draft.old draft.new wanted (entry width array (value_of index.now))) }
+{
+    let destination = put_word(draft, wanted)?;
+    let operand = alone(index);
+    put(draft, Item::Entry(width, array, operand, destination))?;
+    put_operand(draft, index, operand)?;
+    Ok(())
+}
+
+/// An entry that is assigned, where the operand for its index is known.
+#[cycle(values)]
+fn put_assigned_entry<'a>(
+    draft: &mut Draft<'a>,
+    value: &Value,
+    width: Width,
+    array: usize,
+    index: Operand,
+    wanted: Wanted,
+) -> Result<(), AllocError>
+    ensures { OnOk result (WritesAssignedEntry draft.old draft.new wanted width array index value.now) }
+{
+    let destination = put_word(draft, wanted)?;
+    let operand = alone(value);
+    put(
+        draft,
+        Item::AssignEntry(width, array, index, operand, destination),
+    )?;
+    put_operand(draft, value, operand)?;
     Ok(())
 }
 

@@ -91,6 +91,7 @@ pub(crate) fn page_size(len: usize, page: usize) -> usize
     requires { page * 64 < len }
     ensures result { result ≡ page_len len page }
     ensures within { page * 64 + result ≤ len }
+    ensures page { result ≤ 64 }
 {
     let left = len - page * PAGE;
     if left < PAGE { left } else { PAGE }

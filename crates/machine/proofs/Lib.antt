@@ -1,10 +1,3 @@
-pub mod Decoding
-pub mod Values
-pub mod Performing
-pub mod Stepping
 pub mod Waiting
 pub mod Turning
 pub mod Loading
-pub mod Gliding
-pub mod Reading
-pub mod Variable

@@ -1,11 +1,6 @@
 pub mod Saying
 pub mod SignedWords
 pub mod Transcripts
+pub mod Fronts
 pub mod Operating
 pub mod Targets
-pub mod OnRegisters
-pub mod VariablesOnRegisters
-pub mod Naming
-pub mod Linking
-pub mod Listing
-pub mod Values

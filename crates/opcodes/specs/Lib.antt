@@ -1,5 +1,4 @@
+pub mod Fronts
 pub mod Printed
 pub mod Says
 pub mod Seen
-pub mod Leads
-pub mod Tested

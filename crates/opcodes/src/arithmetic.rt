@@ -116,7 +116,7 @@ pub(crate) fn magnitude(word: u16) -> u16
 
 /// The quotient of signed words, rounded towards zero; none by zero.
 #[inline(always)]
-pub(crate) fn quotient(x: u16, y: u16) -> Option<u16>
+pub fn quotient(x: u16, y: u16) -> Option<u16>
     ensures { MatchOption result (y ≡ 0) (λ word. (1 ≤ y) × (word ≡ quotient x y)) }
 {
     if y == 0 {
@@ -132,7 +132,7 @@ pub(crate) fn quotient(x: u16, y: u16) -> Option<u16>
 
 /// The remainder of signed words, with the sign of the dividend; none by zero.
 #[inline(always)]
-pub(crate) fn remainder(x: u16, y: u16) -> Option<u16>
+pub fn remainder(x: u16, y: u16) -> Option<u16>
     ensures { MatchOption result (y ≡ 0) (λ word. (1 ≤ y) × (word ≡ remainder x y)) }
 {
     if y == 0 {

@@ -43,7 +43,7 @@ pub fn call_packed(
 
 /// The address that a packed address stands for, in a story of this version (section 1.2.3).
 #[inline]
-pub(crate) fn unpacked(header: &Header, packed: u16) -> u32
+pub fn unpacked(header: &Header, packed: u16) -> u32
     ensures same { result ≡ scale_of header.now.version * packed }
     ensures within { result ≤ longest_story }
 {

@@ -91,10 +91,13 @@ fn take_branch(
     go(here, target)
 }
 
-/// Tests whether a branch by a condition can be made, and changes nothing. M2 where the target is no code, and the
-/// faults of a return.
+/// Tests whether a branch by a condition can be made, and changes nothing.
+///
+/// # Errors
+///
+/// M2 where the target is no code, and the faults of a return.
 #[inline]
-pub(crate) fn test_branch(
+pub fn test_branch(
     store: &Recorded<Store>,
     after: u32,
     branch: Option<Branch>,
@@ -154,7 +157,7 @@ pub fn check_argument_count(
 
 /// Where a jump goes: an offset counts from the address after the instruction, and 2 more. Below 0 is 0.
 #[inline(always)]
-pub(crate) fn jump_target(after: u32, offset: u16) -> u32
+pub fn jump_target(after: u32, offset: u16) -> u32
     requires { after ≤ longest_story }
     ensures { result ≡ jump_target after offset }
 {
@@ -168,7 +171,7 @@ pub(crate) fn jump_target(after: u32, offset: u16) -> u32
 
 /// Where a branch leads: an offset of 14 bits counts from the address after the branch, and 2 more. Below 0 is 0.
 #[inline(always)]
-pub(crate) fn branch_target(after: u32, offset: u16) -> u32
+pub fn branch_target(after: u32, offset: u16) -> u32
     requires { after ≤ longest_story }
     ensures { result ≡ branch_target after offset }
 {

@@ -12,7 +12,7 @@ use zcore::{Header, Next};
 
 /// Where a word of an array stands.
 #[inline]
-pub(crate) fn word_address(array: u16, index: u16) -> usize
+pub fn word_address(array: u16, index: u16) -> usize
     ensures same { result ≡ (array + 2 * index) % 65536 }
     ensures within { result ≤ 65535 }
 {

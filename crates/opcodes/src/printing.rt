@@ -3,18 +3,18 @@
 ghost use Rattle.std.specs.Prelude.{◌≡◌, ◌≤◌, ℕ, length, drop};
 ghost use Rattle.zcore.specs.Arithmetic.{signed_text};
 ghost use Rattle.zcore.specs.Execution.{text_at, print_characters, print_inline, print_return, print_address, print_packed, is_output, print_character};
-ghost use Rattle.opcodes.specs.Seen.{seen};
+ghost use Rattle.opcodes.specs.Fronts.{ReadsFront};
 ghost use Rattle.opcodes.specs.Printed.{HasBegun, Grew};
 ghost use Rattle.frames.specs.States.{IsSound, IsStoreOf};
 ghost use Rattle.frames.specs.Went.{Went, Told};
 
 use crate::calls::{give_back, unpacked};
 use crate::numbers::signed_digits;
-use crate::transcript::print;
+use crate::transcript::{TEXT_LIMIT, print};
 use frames::{End, Store, test_return};
 use journal::Recorded;
 use std::alloc::Global;
-use zcore::{Fault, Header, Next, Place, TextFault, decode_text};
+use zcore::{Fault, Header, Next, Place, TextFault, decode_front};
 
 /// The character of a new line (section 3.8.2.2).
 const NEW_LINE: u8 = 13;
@@ -203,16 +203,22 @@ fn is_output(character: u16) -> bool
     character == 0 || character == 13 || (32 <= character && character <= 126)
 }
 
-/// The text at an address, and the address after it. M3, M10.
-pub(crate) fn text_at(
+/// The text at an address, and the address after it. Of a text that is longer than a turn may print, only so many
+/// characters are answered that it passes the limit: one that names long abbreviations can have many more than memory holds.
+///
+/// # Errors
+///
+/// M3 where it does not end in the story, M10 where it has a character that cannot be printed or an abbreviation within another.
+/// `End::Memory` where memory was refused: the turn is given up.
+pub fn text_at(
     alloc: Global,
     store: &mut Recorded<Store>,
     address: u32,
 ) -> Result<(Vec<u8>, u32), End>
     requires { IsSound store.old.store }
-    ensures { Went (seen (λ x. (x.0.items, x.1)) result) store.old store.new (text_at address) }
+    ensures { ReadsFront result store.old store.new (text_at address) }
 {
-    match decode_text(alloc, store.store().memory(), address) {
+    match decode_front(alloc, store.store().memory(), address, TEXT_LIMIT + 1) {
         Ok(text) => Ok(text),
         Err(TextFault::End) => Err(End::Stop(Place::Fault(Fault::Read))),
         Err(TextFault::Memory) => {

@@ -11,7 +11,7 @@ use journal::Recorded;
 use zcore::{Limit, Place};
 
 /// How many bytes a turn may print.
-const TEXT_LIMIT: usize = 65_536;
+pub(crate) const TEXT_LIMIT: usize = 65_536;
 
 /// Prints characters to the transcript of a turn, which begins at `start` of the text.
 ///

@@ -8,11 +8,11 @@ use Rattle.expressions.specs.Operators.{stepping}
 use Rattle.expressions.specs.Tree.{ExpressionTree}
 use Rattle.expressions.specs.Grammar.{IsE, e_plain, e_assign, IsE1, e1_plain, e1_logical, IsN1, n1_plain, n1_not}
 use Rattle.expressions.specs.Grammar.{IsE2, e2_plain, e2_compare, e2_equal, IsE3, e3_plain, e3_add, IsE4, e4_plain}
-use Rattle.expressions.specs.Grammar.{e4_scale, IsN4, n4_plain, n4_complement, IsU, u_plain, u_minus, u_before}
-use Rattle.expressions.specs.Grammar.{u_after, IsP, p_number, p_character, p_true, p_false, p_nothing, p_name, p_call}
-use Rattle.expressions.specs.Grammar.{p_call_with, p_parenthesised}
+use Rattle.expressions.specs.Grammar.{e4_scale, IsN4, n4_plain, n4_complement, IsE5, e5_plain, e5_index, IsU, u_plain}
+use Rattle.expressions.specs.Grammar.{u_minus, u_before, u_after, IsP, p_number, p_character, p_true, p_false}
+use Rattle.expressions.specs.Grammar.{p_nothing, p_name, p_call, p_call_with, p_parenthesised}
 use Rattle.expressions.specs.Nesting.{begins_expression}
-use Rattle.expressions.specs.Parse.{head, tail, is_sign, is_word, expression}
+use Rattle.expressions.specs.Parse.{head, tail, is_sign, is_word}
 use Rattle.expressions.proofs.Follow.{first_E}
 use Rattle.expressions.proofs.Short.{short_E}
 use Rattle.statements.specs.Tree.{PrintItemTree, StatementTree, StatementTrees}
@@ -80,9 +80,14 @@ second_U (u_minus a) h = absurd cc
 second_U (u_before {t = t} {op = op} o a) h = let no = stepping_opens t op o in absurd cc
 second_U (u_after a o) h = second_P a h
 
+second_E5 : {ts r : List Lexeme} {e : ExpressionTree} → IsE5 ts e r → is_sign s.OpenParenthesis (head ts) ≡ true
+    → begins_expression (head (tail ts)) ≡ true
+second_E5 (e5_plain a) h = second_U a h
+second_E5 (e5_index o a) h = absurd cc
+
 second_N4 : {ts r : List Lexeme} {e : ExpressionTree} → IsN4 ts e r → is_sign s.OpenParenthesis (head ts) ≡ true
     → begins_expression (head (tail ts)) ≡ true
-second_N4 (n4_plain a) h = second_U a h
+second_N4 (n4_plain a) h = second_E5 a h
 second_N4 (n4_complement a) h = absurd cc
 
 second_E4 : {ts r : List Lexeme} {e : ExpressionTree} → IsE4 ts e r → is_sign s.OpenParenthesis (head ts) ≡ true

@@ -38,8 +38,8 @@ mutual
 
 abbrev pub item_tree : PrintItem → PrintItemTree
 item_tree (items.Text s) = text_item s.now
-item_tree (items.Character p e) = character_item p (expression_tree e)
-item_tree (items.Number p e) = number_item p (expression_tree e)
+item_tree (items.Character p e) = character_item p (expression_tree e.value)
+item_tree (items.Number p e) = number_item p (expression_tree e.value)
 
 abbrev pub trees_of : List StatementTree → StatementTrees
 trees_of [] = stop
@@ -52,15 +52,15 @@ layer (Statement-F.Text s) = text_alone s.now
 layer (Statement-F.Print items) = print (map item_tree items.items)
 layer (Statement-F.PrintReturn items) = print_return (map item_tree items.items)
 layer Statement-F.NewLine = new_line
-layer (Statement-F.If p c x) = if_then p (expression_tree c) x.value
-layer (Statement-F.IfElse p c x y) = if_else p (expression_tree c) x.value y.value
-layer (Statement-F.While p c x) = while_do p (expression_tree c) x.value
+layer (Statement-F.If p c x) = if_then p (expression_tree c.value) x.value
+layer (Statement-F.IfElse p c x y) = if_else p (expression_tree c.value) x.value y.value
+layer (Statement-F.While p c x) = while_do p (expression_tree c.value) x.value
 layer Statement-F.Return = return_alone
-layer (Statement-F.ReturnValue p e) = return_value p (expression_tree e)
+layer (Statement-F.ReturnValue p e) = return_value p (expression_tree e.value)
 layer Statement-F.ReturnTrue = return_true
 layer Statement-F.ReturnFalse = return_false
 layer Statement-F.Quit = quit
-layer (Statement-F.Effect p e) = effect p (expression_tree e)
+layer (Statement-F.Effect p e) = effect p (expression_tree e.value)
 
 abbrev pub statement_tree : Statement → StatementTree
 statement_tree = fold-Statement StatementTree layer

@@ -23,10 +23,7 @@ fn character<'t, 'a>(
     open(depth, tokens)?;
     let begin = expect(Sign::CloseParenthesis, skip(skip(tokens)))?;
     match expression(alloc, depth, begin) {
-        Ok((value, rest)) => {
-            let value = Box::into_inner(value);
-            Ok((PrintItem::Character(position(begin), value), rest))
-        }
+        Ok((value, rest)) => Ok((PrintItem::Character(position(begin), value), rest)),
         Err(e) => Err(e),
     }
 }
@@ -47,10 +44,7 @@ fn item<'t, 'a>(
         return character(alloc, depth, tokens);
     }
     match expression(alloc, depth, tokens) {
-        Ok((value, rest)) => Ok((
-            PrintItem::Number(first.position, Box::into_inner(value)),
-            rest,
-        )),
+        Ok((value, rest)) => Ok((PrintItem::Number(first.position, value), rest)),
         Err(e) => Err(e),
     }
 }

@@ -68,8 +68,7 @@ pub fn if_then<'t, 'a>(
 ) -> Result<(Box<Statement<'a>>, &'t [Token<'a>]), ParseError>
     ensures { Gives {Y = StatementTree × List Lexeme} (λ x. (statement_tree x.0.value, lexemes x.1.now)) result (Ok (tree.if_then position (expression_tree condition.entry.value) (statement_tree first.entry.value), lexemes rest.now)) }
 {
-    let choice = Statement::If(position, Box::into_inner(condition), first);
-    in_box(alloc, choice, rest)
+    in_box(alloc, Statement::If(position, condition, first), rest)
 }
 
 /// `if` with an `else`.
@@ -84,14 +83,11 @@ pub fn if_else<'t, 'a>(
     ensures { GoesOn {A = StatementTree × List Lexeme} {B = StatementTree × List Lexeme} (λ x. (statement_tree x.0.value, lexemes x.1.now)) second.entry (λ x. (statement_tree x.0.value, lexemes x.1.now)) result (λ x. Ok (tree.if_else position (expression_tree condition.entry.value) (statement_tree first.entry.value) x.0, x.1)) }
 {
     match second {
-        Ok((second, rest)) => {
-            let condition = Box::into_inner(condition);
-            in_box(
-                alloc,
-                Statement::IfElse(position, condition, first, second),
-                rest,
-            )
-        }
+        Ok((second, rest)) => in_box(
+            alloc,
+            Statement::IfElse(position, condition, first, second),
+            rest,
+        ),
         Err(e) => Err(e),
     }
 }
@@ -107,10 +103,7 @@ pub fn while_do<'t, 'a>(
     ensures { GoesOn {A = StatementTree × List Lexeme} {B = StatementTree × List Lexeme} (λ x. (statement_tree x.0.value, lexemes x.1.now)) body.entry (λ x. (statement_tree x.0.value, lexemes x.1.now)) result (λ x. Ok (tree.while_do position (expression_tree condition.entry.value) x.0, x.1)) }
 {
     match body {
-        Ok((body, rest)) => {
-            let repetition = Statement::While(position, Box::into_inner(condition), body);
-            in_box(alloc, repetition, rest)
-        }
+        Ok((body, rest)) => in_box(alloc, Statement::While(position, condition, body), rest),
         Err(e) => Err(e),
     }
 }

@@ -135,10 +135,7 @@ fn returned<'t, 'a>(
         return in_box(alloc, Statement::Return, skip(tokens));
     }
     match expression(alloc, depth, tokens) {
-        Ok((value, rest)) => {
-            let value = Box::into_inner(value);
-            ended(alloc, Statement::ReturnValue(position, value), rest)
-        },
+        Ok((value, rest)) => ended(alloc, Statement::ReturnValue(position, value), rest),
         Err(e) => Err(e),
     }
 }
@@ -155,6 +152,7 @@ fn has_effect(e: &Expression<'_>) -> bool
         Expression::Parenthesised(inner) => has_effect(inner),
         Expression::Constant(_) => false,
         Expression::Named(_) => false,
+        Expression::Index(_, _, _) => false,
         Expression::Prefixed(_, _) => false,
         Expression::Chain(_, _, _, _) => false,
         Expression::Compare(_, _, _) => false,
@@ -181,11 +179,7 @@ fn alone<'t, 'a>(
             if !has_effect(&value) {
                 return Err(fault_at(Fault::Grammar, rest));
             }
-            ended(
-                alloc,
-                Statement::Effect(begin, Box::into_inner(value)),
-                rest,
-            )
+            ended(alloc, Statement::Effect(begin, value), rest)
         }
         Err(e) => Err(e),
     }

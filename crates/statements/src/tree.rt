@@ -10,10 +10,10 @@ pub enum PrintItem<'a> {
     Text(&'a [u8]),
 
     /// `(char)` and a value, with the position of the value's first token.
-    Character(Position, Expression<'a>),
+    Character(Position, Box<Expression<'a>>),
 
     /// A value, printed as a signed number, with the position of its first token.
-    Number(Position, Expression<'a>),
+    Number(Position, Box<Expression<'a>>),
 }
 
 /// A statement. Where it has expressions, the position of its first token stands with it.
@@ -30,17 +30,17 @@ pub enum Statement<'a> {
     Print(Vec<PrintItem<'a>>),
     PrintReturn(Vec<PrintItem<'a>>),
     NewLine,
-    If(Position, Expression<'a>, Box<Statement<'a>>),
-    IfElse(Position, Expression<'a>, Box<Statement<'a>>, Box<Statement<'a>>),
-    While(Position, Expression<'a>, Box<Statement<'a>>),
+    If(Position, Box<Expression<'a>>, Box<Statement<'a>>),
+    IfElse(Position, Box<Expression<'a>>, Box<Statement<'a>>, Box<Statement<'a>>),
+    While(Position, Box<Expression<'a>>, Box<Statement<'a>>),
 
     /// `return` alone: true.
     Return,
-    ReturnValue(Position, Expression<'a>),
+    ReturnValue(Position, Box<Expression<'a>>),
     ReturnTrue,
     ReturnFalse,
     Quit,
 
     /// An assignment, a step or a call.
-    Effect(Position, Expression<'a>),
+    Effect(Position, Box<Expression<'a>>),
 }

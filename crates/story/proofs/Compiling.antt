@@ -23,16 +23,17 @@ use Rattle.checker.specs.Breaches.{IsAmong, IsFirst}
 use Rattle.checker.specs.Laws.{AcceptedPrograms, PrintablePrograms}
 use Rattle.checker.specs.Printable.{HasPrintableTexts}
 use Rattle.checker.specs.Programs.{program_breaches, IsCheckedOf}
+use Rattle.checker.specs.Places.{routines_place}
 use Rattle.checker.specs.Resolved.{CheckedProgram, program_of}
 use Rattle.checker.specs.Sizes as checked
 use Rattle.code.specs.Laws.{CodePlays, Plays, IsSmall, SmallSourcesHaveSmallCode}
 use Rattle.story.specs.Compiled.{IsTreeOf, IsStoryOf, Refuses, Compiles, lexemes_of, first_heavy, heavy_fault}
 use Rattle.story.specs.Compiled.{size_fault, fault}
 use Rattle.story.specs.Compiled as spec
-use Rattle.story.specs.Layout.{addresses_in, story_of}
+use Rattle.story.specs.Layout.{addresses_in, greatest_word, story_of}
 use Rattle.story.specs.Laws.{StoriesHold}
 use Rattle.story.specs.Written.{Fits}
-use Rattle.story.proofs.Faults.{size_faults}
+use Rattle.story.proofs.Faults.{by_weight, size_faults, placed_of}
 use Rattle.story.proofs.Sizes.{stories_are_short, is_story}
 
 -- Faults
@@ -116,15 +117,23 @@ module _ (accepted_programs : AcceptedPrograms) (printable_tokens : PrintableTok
   printable = subst HasPrintableTexts (sym is.program)
       (printable_programs p (printable_trees (lexemes ts) p parsed (printable_tokens source ts lexed)))
 
+  placed : routines_place (program_of c) ≤ greatest_word
+  placed = placed_of (routines_place (program_of c)) (checked.fault 30 0)
+      (by_weight version c.weight (checked.heavy_fault (checked.first_heavy c.routines))) sized
+
   pub fits : Fits version (program_of c)
-  fits = record { accepted = accepted; within = stories_are_short version (program_of c) small.all }
+  fits = record {
+    accepted = accepted;
+    placed = placed;
+    within = stories_are_short version (program_of c) placed small.all;
+  }
 
   pub compiled : StoriesHold → CodePlays → (bytes : List ℕ) → All (λ b. b < 256) bytes
       → bytes ≡ story_of version (program_of c) → program_nesting p ≤ 100 → IsStoryOf version source bytes
   compiled stories_hold code_plays bytes are_bytes laid nested =
       let q = program_of c in
       let all : All (λ b. b < 256) (story_of version q) = subst (All (λ b. b < 256)) laid are_bytes in
-      let held = stories_hold version q (is_story version q accepted small.each small.all all) in
+      let held = stories_hold version q (is_story version q accepted placed small.each small.all all) in
       let plays : (full : ℕ) (lines : List (List ℕ)) → Plays (story_of version q) q full lines =
       code_plays (story_of version q) (addresses_in (scale_of version) q) q accepted printable held.1 in
       record {

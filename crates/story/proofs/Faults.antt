@@ -1,12 +1,16 @@
 -- The limits of size of a checked program are those of its tree.
-use Rattle.std.proofs.Common.{◌≡◌, List, [], ◌∷◌, length, drop, Option, Some, None, refl, ap, ◌∙◌, arith}
+use Rattle.std.proofs.Common.{◌≡◌, ◌⊎◌, inl, inr, ℕ, ◌<◌, ◌≤◌, List, [], ◌∷◌, length, drop, Option, Some, None, true}
+use Rattle.std.proofs.Common.{refl, sym, ap, ◌∙◌, arith}
 use Rattle.std.specs.Prelude.{map, nat_lt, if◌then◌else◌, slice_index_or}
+use Rattle.std.proofs.lemmas.Bool.{cases_lt, lt-ltb}
+use Rattle.lexer.specs.declared.fault.SourceFault.{SourceFault}
 use Rattle.lexer.specs.declared.token.Position.{Position}
 use Rattle.zcore.specs.declared.header.Version.{Version}
 use Rattle.syntax.specs.Tree.{RoutineTree, ProgramTree}
 use Rattle.checker.specs.declared.checked.CheckedRoutine.{CheckedRoutine}
-use Rattle.checker.specs.Resolved.{CheckedProgram, title_of}
-use Rattle.checker.specs.Programs.{IsCheckedOf, routine_trees, title}
+use Rattle.checker.specs.Places.{routines_place}
+use Rattle.checker.specs.Resolved.{ProgramOf, CheckedProgram, title_of}
+use Rattle.checker.specs.Programs.{IsCheckedOf, resolve_program, routine_trees, title}
 use Rattle.checker.specs.Sizes.{greatest_weight}
 use Rattle.checker.specs.Sizes as checked
 use Rattle.story.specs.Compiled.{first_heavy, heavy_fault, size_fault}
@@ -28,11 +32,30 @@ heavy_faults : (q : Option Position) → checked.heavy_fault q ≡ heavy_fault q
 heavy_faults None = refl
 heavy_faults (Some q) = refl
 
+-- the faults of a source of this weight, of which the heaviest routine has that fault
+abbrev pub by_weight : Version → ℕ → Option SourceFault → Option SourceFault
+by_weight version weight heavy =
+    if nat_lt (greatest_weight version) weight then Some (checked.fault 31 0) else heavy
+
 pub size_faults : (version : Version) (p : ProgramTree) (c : CheckedProgram) → IsCheckedOf p c
     → checked.size_fault c version ≡ size_fault version p
 size_faults version p c is =
-    ap (λ w. if nat_lt (greatest_weight version) w then Some (checked.fault 31 0)
-    else checked.heavy_fault (checked.first_heavy c.routines)) is.weight
-    ∙ ap (λ q. if nat_lt (greatest_weight version) p.weight then Some (checked.fault 31 0) else q)
-    (heavy_faults (checked.first_heavy c.routines)
-    ∙ ap heavy_fault (heavy_same (routine_trees p.directives) c.routines is.titles))
+    ap (λ (q : ProgramOf). if nat_lt 65535 (routines_place q) then Some (checked.fault 30 0)
+    else by_weight version c.weight (checked.heavy_fault (checked.first_heavy c.routines))) is.program
+    ∙ ap (λ (rest : Option SourceFault). if nat_lt 65535 (routines_place (resolve_program p))
+    then Some (checked.fault 30 0)
+    else rest) (ap (λ w. by_weight version w (checked.heavy_fault (checked.first_heavy c.routines))) is.weight
+    ∙ ap (by_weight version p.weight) (heavy_faults (checked.first_heavy c.routines)
+    ∙ ap heavy_fault (heavy_same (routine_trees p.directives) c.routines is.titles)))
+
+-- a program that has none stands below the routines in addresses that are words
+pub placed_of : (n : ℕ) (f : SourceFault) (rest : Option SourceFault)
+    → (if nat_lt 65535 n then Some f else rest) ≡ None → n ≤ 65535
+placed_of n f rest e = go (cases_lt 65535 n)
+  where
+    go : (65535 < n) ⊎ (n ≤ 65535) → n ≤ 65535
+    go (inl h) =
+        let large : nat_lt 65535 n ≡ true = lt-ltb _ _ h in
+        let none : Some f ≡ None = sym (ap (λ b. if b then Some f else rest) large) ∙ e in
+        absurd (cc)
+    go (inr h) = h

@@ -1,9 +1,9 @@
 -- Stories hold their programs.
-use Rattle.std.proofs.Common.{◌≡◌, ℕ, zero, suc, ◌+◌, ◌*◌, ◌/◌, ◌==◌, ◌<◌, ◌≤◌, List, [], ◌∷◌, ◌++◌, length, drop}
+use Rattle.std.proofs.Common.{◌≡◌, ℕ, zero, suc, ◌+◌, ◌*◌, ◌/◌, ◌==◌, ◌<◌, ◌≤◌, List, [], ◌∷◌, ◌++◌, length, take, drop}
 use Rattle.std.proofs.Common.{refl, sym, ap, ◌∙◌, subst, arith}
-use Rattle.std.specs.Prelude.{codes, map, if◌then◌else◌, slice_index, slice_index_or}
-use Rattle.std.specs.List.{All}
-use Rattle.std.proofs.lemmas.List.{length-append, length-map, get_or-append-add}
+use Rattle.std.specs.Prelude.{map, if◌then◌else◌, slice_index, slice_index_or}
+use Rattle.std.specs.List.{All, concat}
+use Rattle.std.proofs.lemmas.List.{length-append, length-map, get_or-append-add, get_or-drop}
 use Rattle.zcore.specs.declared.header.Version.{Version}
 use Rattle.zcore.specs.declared.header.Version.TheVariants.{V5, V8}
 use Rattle.zcore.specs.Alphabets.{spelling_of}
@@ -14,19 +14,23 @@ use Rattle.zcore.specs.Text.{Holds, encoded}
 use Rattle.zcore.specs.Words.{packed}
 use Rattle.checker.specs.Resolved.{RoutineOf, ProgramOf}
 use Rattle.checker.specs.Accepted.{IsAccepted}
-use Rattle.checker.specs.Places.{routines_place}
+use Rattle.checker.specs.Places.{arrays_place, start_place, routines_place}
 use Rattle.checker.specs.Meaning.{routine_at}
 use Rattle.items.specs.Items.{routine_items}
-use Rattle.code.specs.Addresses.{Addresses}
+use Rattle.checker.specs.World.{words_of}
+use Rattle.checker.specs.declared.cause.Cause.{Cause}
+use Rattle.checker.specs.declared.cause.Cause.TheVariants as causes
+use Rattle.code.specs.Addresses.{Addresses, number_of}
 use Rattle.code.specs.Bytes.{code_size}
-use Rattle.code.specs.HeldProgram.{HoldsProgram, HoldsRoutine, HoldsText, fault_line, start_code}
+use Rattle.code.specs.HeldProgram.{HoldsProgram, HoldsRoutine, HoldsText, fault_line, start_code, sizes_of}
+use Rattle.code.specs.HeldProgram.{offset_in}
 use Rattle.code.specs.Sizes.{routine_size}
-use Rattle.story.specs.Layout.{addresses_in, fault_texts, packed_addresses, parts_from, addresses_from}
+use Rattle.story.specs.Layout.{addresses_in, fault_texts, packed_addresses, parts_from, addresses_from, aligned}
 use Rattle.story.specs.Layout.{low_bytes, routine_bytes, story_of}
 use Rattle.story.specs.Laws.{IsShort, StoriesHold}
 use Rattle.story.proofs.Parts.{whole, HasPartAt, holds_first, parts_rise, parts_stand, addresses_count}
 use Rattle.story.proofs.Lengths.{routine_length, sizes_are}
-use Rattle.story.proofs.Low.{global_stands, high_stands, start_stands}
+use Rattle.story.proofs.Low.{global_stands, arrays_hold, high_stands, start_stands}
 use Rattle.story.proofs.Reading.{Says, behind_header, says, header_read, laid_length, laid_out, laid_read}
 
 -- Packed addresses
@@ -69,21 +73,56 @@ routine_is [] k d within = absurd (omega (arith, within))
 routine_is (r ∷ rs) zero d within = refl
 routine_is (r ∷ rs) (suc k) d within = routine_is rs k d (omega (arith, within))
 
-pub text_lengths : map length fault_texts ≡ 26 ∷ 24 ∷ []
+pub text_lengths : map length fault_texts ≡ 26 ∷ 24 ∷ 26 ∷ 26 ∷ 30 ∷ 28 ∷ 24 ∷ 26 ∷ []
 unfolding encoded packed spelling_of
 text_lengths = refl
 
-module _ (a : Addresses) where
-  abbrev pub parts_of : List RoutineOf → List (List ℕ)
-  parts_of rs = map (routine_bytes a) rs ++ fault_texts
+-- each text stands by its number
+few_causes : (cause : Cause) → number_of cause < 8
+few_causes causes.DivisionByZero = omega arith
+few_causes causes.NotAnObject = omega arith
+few_causes causes.IndexOutOfRange = omega arith
+few_causes causes.NoSuchProperty = omega arith
+few_causes causes.PropertyOfManyWords = omega arith
+few_causes causes.ObjectInsideItself = omega arith
+few_causes causes.NotACharacter = omega arith
+few_causes causes.BufferTooSmall = omega arith
 
-  parts_count : (rs : List RoutineOf) → length (parts_of rs) ≡ length rs + 2
+text_of : (cause : Cause) → slice_index_or fault_texts (number_of cause) [] ≡ encoded (fault_line (words_of cause))
+text_of causes.DivisionByZero = refl
+text_of causes.NotAnObject = refl
+text_of causes.IndexOutOfRange = refl
+text_of causes.NoSuchProperty = refl
+text_of causes.PropertyOfManyWords = refl
+text_of causes.ObjectInsideItself = refl
+text_of causes.NotACharacter = refl
+text_of causes.BufferTooSmall = refl
+
+text_long : (k : ℕ) → k < 8 → 0 < slice_index (map length fault_texts) k
+text_long k within = subst (λ (ns : List ℕ). 0 < slice_index ns k) (sym text_lengths) (go k within)
+  where
+    go : (k : ℕ) → k < 8 → 0 < slice_index (26 ∷ 24 ∷ 26 ∷ 26 ∷ 30 ∷ 28 ∷ 24 ∷ 26 ∷ []) k
+    go zero h = omega arith
+    go (suc zero) h = omega arith
+    go (suc (suc zero)) h = omega arith
+    go (suc (suc (suc zero))) h = omega arith
+    go (suc (suc (suc (suc zero)))) h = omega arith
+    go (suc (suc (suc (suc (suc zero))))) h = omega arith
+    go (suc (suc (suc (suc (suc (suc zero)))))) h = omega arith
+    go (suc (suc (suc (suc (suc (suc (suc zero))))))) h = omega arith
+    go (suc (suc (suc (suc (suc (suc (suc (suc k)))))))) h = absurd (omega (arith, h))
+
+module _ (sizes : List ℕ) (a : Addresses) where
+  abbrev pub parts_of : List RoutineOf → List (List ℕ)
+  parts_of rs = map (routine_bytes sizes a) rs ++ fault_texts
+
+  parts_count : (rs : List RoutineOf) → length (parts_of rs) ≡ length rs + 8
   parts_count rs =
-      let b : length (map (routine_bytes a) rs) ≡ length rs = length-map rs (routine_bytes a) in
-      omega (arith, length-append (map (routine_bytes a) rs) fault_texts, b)
+      let b : length (map (routine_bytes sizes a) rs) ≡ length rs = length-map rs (routine_bytes sizes a) in
+      omega (arith, length-append (map (routine_bytes sizes a) rs) fault_texts, b)
 
   routine_part : (rs : List RoutineOf) (k : ℕ) → k < length rs
-      → slice_index_or (parts_of rs) k [] ≡ routine_bytes a (routine_at rs k)
+      → slice_index_or (parts_of rs) k [] ≡ routine_bytes sizes a (routine_at rs k)
   routine_part [] k within = absurd (omega (arith, within))
   routine_part (r ∷ rs) zero within = refl
   routine_part (r ∷ rs) (suc k) within = routine_part rs k (omega (arith, within))
@@ -91,42 +130,56 @@ module _ (a : Addresses) where
   text_part : (rs : List RoutineOf) (n : ℕ)
       → slice_index_or (parts_of rs) (length rs + n) [] ≡ slice_index_or fault_texts n []
   text_part rs n =
-      ap (λ k. slice_index_or (parts_of rs) (k + n) []) (sym (length-map rs (routine_bytes a)))
-      ∙ get_or-append-add (map (routine_bytes a) rs) fault_texts n []
+      ap (λ k. slice_index_or (parts_of rs) (k + n) []) (sym (length-map rs (routine_bytes sizes a)))
+      ∙ get_or-append-add (map (routine_bytes sizes a) rs) fault_texts n []
 
   -- no part is empty
   part_long : (rs : List RoutineOf) (k : ℕ) → k < length (parts_of rs) → 0 < slice_index (map length (parts_of rs)) k
-  part_long [] zero within = subst (λ ns. 0 < slice_index ns 0) (sym text_lengths) (omega arith)
-  part_long [] (suc zero) within = subst (λ ns. 0 < slice_index ns 1) (sym text_lengths) (omega arith)
-  part_long [] (suc (suc k)) within = absurd (omega (arith, within))
+  part_long [] k within = text_long k within
   part_long (r ∷ rs) zero within = omega arith
   part_long (r ∷ rs) (suc k) within = part_long rs k (omega (arith, within))
+
+-- Arrays
+
+-- an array may stand at every address, and so they stand one behind another
+array_found : (at : ℕ) (arrays : List (List ℕ)) (n : ℕ) → n < length arrays
+    → slice_index (addresses_from 1 at (map length arrays)) n ≡ at + offset_in arrays n
+array_found at [] n within = absurd (omega (arith, within))
+array_found at (bytes ∷ arrays) zero within = omega arith
+array_found at (bytes ∷ arrays) (suc n) within =
+    let more : slice_index (addresses_from 1 (aligned 1 at + length bytes) (map length arrays)) n
+    ≡ aligned 1 at + length bytes + offset_in arrays n =
+    array_found (aligned 1 at + length bytes) arrays n (omega (arith, within)) in
+    let all = length-append bytes (concat (take n arrays)) in
+    omega (arith, more, all)
 
 -- Programs
 
 abbrev addresses_at : Version → ProgramOf → List ℕ
 addresses_at version p =
-    addresses_from (scale_of version) (routines_place p) (map routine_size p.routines ++ map length fault_texts)
+    addresses_from (scale_of version) (routines_place p) (map (routine_size (sizes_of p)) p.routines
+    ++ map length fault_texts)
 
 abbrev parts_in : Version → ProgramOf → List (List ℕ)
-parts_in version p = parts_of (addresses_in (scale_of version) p) p.routines
+parts_in version p = parts_of (sizes_of p) (addresses_in (scale_of version) p) p.routines
 
 abbrev packed_in : Version → ProgramOf → List ℕ
 packed_in version p = packed_addresses (scale_of version) p
 
 -- a part that stands in a story at its packed address
-record Lies (version : Version) (story : List ℕ) (packed : ℕ) (part : List ℕ) : Type 0 where
+record Lies (at : ℕ) (version : Version) (story : List ℕ) (packed : ℕ) (part : List ℕ) : Type 0 where
   bytes : Holds story (unpacked story packed) part
   within : unpacked story packed + length part ≤ length story
-  above : 875 ≤ unpacked story packed
+  above : at ≤ unpacked story packed
   named : 0 < packed
   word : packed < 65536
 
 module _ (version : Version) (p : ProgramOf) (story : List ℕ)
-    (said : Says version story) (long : 875 ≤ length story) (short : length story ≤ 65535 * scale_of version)
-    (high : drop 875 story ≡ parts_from (scale_of version) (routines_place p) (parts_in version p)) where
-  sizes_same : map length (parts_in version p) ≡ map routine_size p.routines ++ map length fault_texts
-  sizes_same = sizes_are (addresses_in (scale_of version) p) p.routines
+    (said : Says version p story) (long : routines_place p ≤ length story)
+    (short : length story ≤ 65535 * scale_of version)
+    (high : drop (routines_place p) story ≡ parts_from (scale_of version) (routines_place p) (parts_in version p)) where
+  sizes_same : map length (parts_in version p) ≡ map (routine_size (sizes_of p)) p.routines ++ map length fault_texts
+  sizes_same = sizes_are (sizes_of p) (addresses_in (scale_of version) p) p.routines
 
   part_stands : (k : ℕ) → k < length (parts_in version p)
       → HasPartAt version story (routines_place p) (slice_index (addresses_at version p) k)
@@ -139,7 +192,8 @@ module _ (version : Version) (p : ProgramOf) (story : List ℕ)
 
   count_is : length (addresses_at version p) ≡ length (parts_in version p)
   count_is =
-      addresses_count version (routines_place p) (map routine_size p.routines ++ map length fault_texts)
+      addresses_count version (routines_place p) (map (routine_size (sizes_of p)) p.routines
+      ++ map length fault_texts)
       ∙ ap length (sym sizes_same) ∙ length-map (parts_in version p) length
 
   unpacked_is : (k : ℕ) → k < length (parts_in version p)
@@ -147,15 +201,14 @@ module _ (version : Version) (p : ProgramOf) (story : List ℕ)
   unpacked_is k within =
       let stands = part_stands k within in
       let fits = is_packed version (slice_index (addresses_at version p) k) (length story) stands.multiple
-      stands.above
-      (omega (arith, stands.within)) short in
+      (omega (arith, stands.above)) (omega (arith, stands.within)) short in
       ap (λ n. n * slice_index (packed_in version p) k) (scale_is version story said.version_byte)
       ∙ ap (λ n. scale_of version * n)
       (packed_is version (addresses_at version p) k (omega (arith, within, count_is)))
       ∙ fits.back
 
   part_lies : (k : ℕ) → k < length (parts_in version p)
-      → Lies version story (slice_index (packed_in version p) k) (slice_index_or (parts_in version p) k [])
+      → Lies (routines_place p) version story (slice_index (packed_in version p) k) (slice_index_or (parts_in version p) k [])
   part_lies k within =
       let stands = part_stands k within in
       let e : unpacked story (slice_index (packed_in version p) k) ≡ slice_index (addresses_at version p) k =
@@ -163,8 +216,7 @@ module _ (version : Version) (p : ProgramOf) (story : List ℕ)
       let f : slice_index (packed_in version p) k ≡ slice_index (addresses_at version p) k / scale_of version =
       packed_is version (addresses_at version p) k (omega (arith, within, count_is)) in
       let fits = is_packed version (slice_index (addresses_at version p) k) (length story) stands.multiple
-      stands.above
-      (omega (arith, stands.within)) short in
+      (omega (arith, stands.above)) (omega (arith, stands.within)) short in
       record {
         bytes = subst (λ at. Holds story at (slice_index_or (parts_in version p) k [])) (sym e) stands.bytes;
         within = omega (arith, stands.within, e);
@@ -192,17 +244,17 @@ module _ (version : Version) (p : ProgramOf) (story : List ℕ)
       let size_next : slice_index (map length (parts_in version p)) (suc k)
       ≡ length (slice_index_or (parts_in version p) (suc k) []) = size_at (parts_in version p) (suc k) within in
       let full : 0 < slice_index (map length (parts_in version p)) (suc k) =
-      part_long (addresses_in (scale_of version) p) p.routines (suc k) within in
+      part_long (sizes_of p) (addresses_in (scale_of version) p) p.routines (suc k) within in
       omega (arith, next.within, rises, size, size_next, full, unpacked_is k here)
 
-  text_lies : (n : ℕ) (text : List ℕ) → n < 2 → slice_index_or fault_texts n [] ≡ encoded text
+  text_lies : (n : ℕ) (text : List ℕ) → n < 8 → slice_index_or fault_texts n [] ≡ encoded text
       → HoldsText story (slice_index (packed_in version p) (length p.routines + n)) text
   text_lies n text few e =
-      let count : length (parts_in version p) ≡ length p.routines + 2 =
-      parts_count (addresses_in (scale_of version) p) p.routines in
+      let count : length (parts_in version p) ≡ length p.routines + 8 =
+      parts_count (sizes_of p) (addresses_in (scale_of version) p) p.routines in
       let lies = part_lies (length p.routines + n) (omega (arith, few, count)) in
       let part : slice_index_or (parts_in version p) (length p.routines + n) [] ≡ encoded text =
-      text_part (addresses_in (scale_of version) p) p.routines n ∙ e in
+      text_part (sizes_of p) (addresses_in (scale_of version) p) p.routines n ∙ e in
       record {
         bytes = subst (Holds story (unpacked story (slice_index (packed_in version p) (length p.routines + n)))) part
             lies.bytes;
@@ -210,18 +262,19 @@ module _ (version : Version) (p : ProgramOf) (story : List ℕ)
         above = omega (arith, lies.above, said.static_base);
       }
 
-  routine_lies : (k : ℕ) → k < length p.routines → code_size (routine_items (routine_at p.routines k)) ≤ 32000
-      → HoldsRoutine story (addresses_in (scale_of version) p) (slice_index (packed_in version p) k)
+  routine_lies : (k : ℕ) → k < length p.routines
+      → code_size (sizes_of p) (routine_items (routine_at p.routines k)) ≤ 32000
+      → HoldsRoutine story (sizes_of p) (addresses_in (scale_of version) p) (slice_index (packed_in version p) k)
       (routine_at p.routines k)
   routine_lies k within small =
-      let count : length (parts_in version p) ≡ length p.routines + 2 =
-      parts_count (addresses_in (scale_of version) p) p.routines in
+      let count : length (parts_in version p) ≡ length p.routines + 8 =
+      parts_count (sizes_of p) (addresses_in (scale_of version) p) p.routines in
       let lies = part_lies k (omega (arith, within, count)) in
-      let part : slice_index_or (parts_in version p) k [] ≡ routine_bytes (addresses_in (scale_of version) p)
+      let part : slice_index_or (parts_in version p) k [] ≡ routine_bytes (sizes_of p) (addresses_in (scale_of version) p)
       (routine_at p.routines k) =
-      routine_part (addresses_in (scale_of version) p) p.routines k within in
-      let size : length (slice_index_or (parts_in version p) k []) ≡ routine_size (routine_at p.routines k) =
-      ap length part ∙ routine_length (addresses_in (scale_of version) p) (routine_at p.routines k) in
+      routine_part (sizes_of p) (addresses_in (scale_of version) p) p.routines k within in
+      let size : length (slice_index_or (parts_in version p) k []) ≡ routine_size (sizes_of p) (routine_at p.routines k) =
+      ap length part ∙ routine_length (sizes_of p) (addresses_in (scale_of version) p) (routine_at p.routines k) in
       record {
         bytes = subst (Holds story (unpacked story (slice_index (packed_in version p) k))) part lies.bytes;
         followed = omega (arith, followed k (omega (arith, within, count)), size);
@@ -244,47 +297,49 @@ module _ (version : Version) (p : ProgramOf) where
   abbrev story : List ℕ
   story = laid_out version p main (parts_in version p)
 
-  body_stands : drop 64 story ≡ low_bytes p.globals main ++ high
-  body_stands = behind_header version p (low_bytes p.globals main ++ high)
+  body_stands : drop 64 story ≡ low_bytes p main ++ high
+  body_stands = behind_header version p (low_bytes p main ++ high)
 
-  said : Says version story
-  said = says version p (low_bytes p.globals main ++ high)
+  said : Says version p story
+  said = says version p (low_bytes p main ++ high)
 
-  long : 875 ≤ length story
+  long : routines_place p ≤ length story
   long = omega (arith, laid_length version p main (parts_in version p))
 
-  holds : IsAccepted p → All IsShort p.routines → length story ≤ 65535 * scale_of version → All (λ b. b < 256) story
-      → HoldsProgram story a p
+  holds : IsAccepted p → All (IsShort (sizes_of p)) p.routines → length story ≤ 65535 * scale_of version
+      → All (λ b. b < 256) story → HoldsProgram story a p
   holds accepted small short bytes =
-      let high_is : drop 875 story ≡ high = high_stands story p.globals high main body_stands in
-      let e0 : length p.routines + 0 ≡ length p.routines = omega arith in
+      let high_is : drop (routines_place p) story ≡ high = high_stands story p high main body_stands in
       record {
         byte_each = bytes;
         routines = λ r within. routine_lies version p story said long short high_is r within
-            (subst IsShort (routine_is p.routines r (routine_at p.routines r) within)
+            (subst (IsShort (sizes_of p)) (routine_is p.routines r (routine_at p.routines r) within)
             (small r (routine_at p.routines r) within));
-        division_by_zero = subst (λ n. HoldsText story (slice_index (packed_in version p) n)
-            (fault_line (codes "division by zero"))) e0
-            (text_lies version p story said long short high_is 0 (fault_line (codes "division by zero"))
-            (omega arith) refl);
-        not_a_character = text_lies version p story said long short high_is 1 (fault_line (codes "not a character"))
-            (omega arith) refl;
+        faults = λ cause. subst (λ at. HoldsText story at (fault_line (words_of cause)))
+            (sym (get_or-drop (length p.routines) (packed_in version p) (number_of cause) 0))
+            (text_lies version p story said long short high_is (number_of cause) (fault_line (words_of cause))
+            (few_causes cause) (text_of cause));
         start = subst (λ at. Holds story at (start_code main)) (sym said.first_instruction)
-            (holds_first 871 story (start_code main) high (start_stands story p.globals high main body_stands));
+            (holds_first (start_place p) story (start_code main) high (start_stands story p high main body_stands));
         start_above = omega (arith, said.first_instruction, said.static_base);
         globals_above = omega (arith, said.globals);
         globals_below = omega (arith, said.globals, said.static_base);
         static_below = omega (arith, said.static_base, long);
         globals = λ g within. ap (λ at. word_at story (at + 2 * g)) said.globals
-            ∙ global_stands story p.globals high main body_stands g within (omega (arith, accepted.globals));
+            ∙ global_stands story p high main body_stands g within (omega (arith, accepted.globals));
+        first_array = arrays_place;
+        arrays = arrays_hold story p high main body_stands;
+        arrays_each = array_found arrays_place p.arrays;
+        arrays_above = omega (arith, said.globals);
+        arrays_below = omega (arith, said.static_base);
       }
 
 pub stories_hold : StoriesHold
 unfolding story_of
 stories_hold version p is = (
   (
-    header_read version,
-    laid_read version p (slice_index (packed_addresses (scale_of version) p) p.main) (parts_in version p),
+    header_read version p,
+    laid_read version p (slice_index (packed_addresses (scale_of version) p) p.main) (parts_in version p) is.placed,
   ),
   holds version p is.accepted is.short is.within is.bytes,
 )

@@ -1,8 +1,10 @@
 -- Bytes that follow one another make up the parts of a story.
-use Rattle.std.proofs.Common.{◌≡◌, ℕ, zero, suc, ◌+◌, ◌-◌, ◌*◌, ◌≤◌, List, [], ◌∷◌, ◌++◌, length, take, refl, sym, ap}
-use Rattle.std.proofs.Common.{◌∙◌, arith, append_assoc}
-use Rattle.std.specs.Prelude.{◌/◌, ◌%◌, codes, replicate, sum}
-use Rattle.std.specs.List.{flat_map}
+use Rattle.std.proofs.Common.{◌≡◌, ℕ, zero, suc, ◌+◌, ◌-◌, ◌*◌, ◌<◌, ◌≤◌, List, [], ◌∷◌, ◌++◌, length, take, drop, map, refl}
+use Rattle.std.proofs.Common.{sym, ap, ◌∙◌, arith, append_assoc, append-nil}
+use Rattle.std.specs.Prelude.{◌/◌, ◌%◌, codes, replicate, slice_index_or, sum}
+use Rattle.std.proofs.lemmas.List.{length-append, length-replicate}
+use Rattle.std.specs.List.{flat_map, concat}
+use Rattle.std.specs.Global.{Vec}
 use Rattle.zcore.specs.Instruction.{bytes_of}
 use Rattle.zcore.specs.Text.{encoded}
 use Rattle.zcore.specs.Words.{packed}
@@ -10,9 +12,14 @@ use Rattle.zcore.specs.declared.header.Version.{Version}
 use Rattle.zcore.specs.Header.{scale_of, version_number}
 use Rattle.checker.specs.declared.places.Places.{Places}
 use Rattle.checker.specs.Places.{header_size}
+use Rattle.checker.specs.Resolved.{ProgramOf}
+use Rattle.code.specs.Addresses.{Addresses}
 use Rattle.code.specs.HeldProgram.{start_code}
+use Rattle.code.specs.Written.{CodeOf}
 use Rattle.story.specs.Layout.{word, abbreviation_bytes, global_bytes, dictionary_bytes, low_bytes, aligned}
 use Rattle.story.specs.Layout.{parts_from, header_of}
+use Rattle.story.specs.Written.{bytes_in, code_part}
+use Rattle.story.proofs.Parts.{aligned_above}
 
 -- The header
 
@@ -84,28 +91,96 @@ empty_text : word 38053 ≡ encoded []
 unfolding encoded packed
 empty_text = refl
 
-six_joined : (a x c d e f b b1 b2 b3 b4 b5 b6 : List ℕ) → b1 ≡ b ++ a → b2 ≡ b1 ++ x → b3 ≡ b2 ++ c → b4 ≡ b3 ++ d
-    → b5 ≡ b4 ++ e → b6 ≡ b5 ++ f → b6 ≡ b ++ (a ++ x ++ c ++ d ++ e ++ f)
-six_joined a x c d e f b b1 b2 b3 b4 b5 b6 e1 e2 e3 e4 e5 e6 =
-    e6 ∙ ap (λ z. z ++ f) (e5 ∙ ap (λ z. z ++ e) (e4
-    ∙ ap (λ z. z ++ d) (e3 ∙ ap (λ z. z ++ c) (e2 ∙ ap (λ z. z ++ x) e1)))) ∙ simp append_assoc
+all_joined : (a x c d e f g b b1 b2 b3 b4 b5 b6 b7 : List ℕ) → b1 ≡ b ++ a → b2 ≡ b1 ++ x → b3 ≡ b2 ++ c
+    → b4 ≡ b3 ++ d → b5 ≡ b4 ++ e → b6 ≡ b5 ++ f → b7 ≡ b6 ++ g → b7 ≡ b ++ (a ++ x ++ c ++ d ++ e ++ f ++ g)
+all_joined a x c d e f g b b1 b2 b3 b4 b5 b6 b7 e1 e2 e3 e4 e5 e6 e7 =
+    e7 ∙ ap (λ z. z ++ g) (e6 ∙ ap (λ z. z ++ f) (e5 ∙ ap (λ z. z ++ e) (e4
+    ∙ ap (λ z. z ++ d) (e3 ∙ ap (λ z. z ++ c) (e2 ∙ ap (λ z. z ++ x) e1))))) ∙ simp append_assoc
 
-pub low_joined : (globals : List ℕ) (main : ℕ) (b b1 b2 b3 b4 b5 b6 : List ℕ) → b1 ≡ b ++ abbreviation_bytes
-    → b2 ≡ b1 ++ word 38053 → b3 ≡ b2 ++ global_bytes globals → b4 ≡ b3 ++ replicate 126 0
-    → b5 ≡ b4 ++ dictionary_bytes
-    → b6 ≡ b5 ++ start_code main → b6 ≡ b ++ low_bytes globals main
-low_joined globals main b b1 b2 b3 b4 b5 b6 e1 e2 e3 e4 e5 e6 =
-    six_joined abbreviation_bytes (encoded []) (global_bytes globals) (replicate 126 0) dictionary_bytes
-    (start_code main) b b1 b2 b3 b4 b5 b6
-    e1 (e2 ∙ ap (λ z. b1 ++ z) empty_text) e3 e4 e5 e6
+pub low_joined : (p : ProgramOf) (main : ℕ) (b b1 b2 b3 b4 b5 b6 b7 : List ℕ) → b1 ≡ b ++ abbreviation_bytes
+    → b2 ≡ b1 ++ word 38053 → b3 ≡ b2 ++ global_bytes p.globals → b4 ≡ b3 ++ concat p.arrays
+    → b5 ≡ b4 ++ replicate 126 0 → b6 ≡ b5 ++ dictionary_bytes → b7 ≡ b6 ++ start_code main
+    → b7 ≡ b ++ low_bytes p main
+low_joined p main b b1 b2 b3 b4 b5 b6 b7 e1 e2 e3 e4 e5 e6 e7 =
+    all_joined abbreviation_bytes (encoded []) (global_bytes p.globals) (concat p.arrays) (replicate 126 0)
+    dictionary_bytes (start_code main) b b1 b2 b3 b4 b5 b6 b7
+    e1 (e2 ∙ ap (λ z. b1 ++ z) empty_text) e3 e4 e5 e6 e7
+
+-- Routines
+
+-- a part behind its filling
+part_joined : (version : Version) (part b1 b2 b3 : List ℕ) (parts : List (List ℕ))
+    → b2 ≡ b1 ++ replicate (aligned (scale_of version) (64 + length b1) - (64 + length b1)) 0 → b3 ≡ b2 ++ part
+    → b3 ++ parts_from (scale_of version) (64 + length b3) parts
+    ≡ b1 ++ parts_from (scale_of version) (64 + length b1) (part ∷ parts)
+part_joined version part b1 b2 b3 parts e2 e3 =
+    let at : ℕ = 64 + length b1 in
+    let up : ℕ = aligned (scale_of version) at in
+    let filling : List ℕ = replicate (up - at) 0 in
+    let rest : List ℕ = parts_from (scale_of version) (up + length part) parts in
+    let end : 64 + length b3 ≡ up + length part =
+    omega (
+      arith,
+      ap length e2,
+      ap length e3,
+      length-append b1 filling,
+      length-append b2 part,
+      length-replicate {A = ℕ} (up - at) 0,
+      aligned_above version at,
+    ) in
+    ap (λ n. b3 ++ parts_from (scale_of version) n parts) end
+    ∙ ap (λ z. z ++ rest) (e3 ∙ ap (λ z. z ++ part) e2)
+    ∙ ap (λ z. z ++ rest) (append_assoc b1 filling part) ∙ append_assoc b1 (filling ++ part) rest
+
+pub routine_joined : (version : Version) (a : Addresses) (codes : List CodeOf) (i : ℕ) (code : CodeOf)
+    (b b1 b2 b3 : List ℕ) → i < length codes → code ≡ slice_index_or codes i code
+    → b2 ≡ b1 ++ replicate (aligned (scale_of version) (64 + length b1) - (64 + length b1)) 0
+    → b3 ≡ b2 ++ code_part a code
+    → ((parts : List (List ℕ)) → b1 ++ parts_from (scale_of version) (64 + length b1)
+    (map (code_part a) (drop i codes) ++ parts)
+    ≡ b ++ parts_from (scale_of version) (64 + length b) (map (code_part a) codes ++ parts))
+    → (parts : List (List ℕ)) → b3 ++ parts_from (scale_of version) (64 + length b3)
+    (map (code_part a) (drop (i + 1) codes) ++ parts)
+    ≡ b ++ parts_from (scale_of version) (64 + length b) (map (code_part a) codes ++ parts)
+routine_joined version a codes i code b b1 b2 b3 within is e2 e3 all parts =
+    part_joined version (code_part a code) b1 b2 b3 (map (code_part a) (drop (i + 1) codes) ++ parts) e2 e3
+    ∙ ap (λ (cs : List CodeOf). b1 ++ parts_from (scale_of version) (64 + length b1) (map (code_part a) cs ++ parts))
+    (sym (next codes i within is)) ∙ all parts
+  where
+    next : (xs : List CodeOf) (i : ℕ) → i < length xs → code ≡ slice_index_or xs i code
+        → drop i xs ≡ code ∷ drop (i + 1) xs
+    next [] i h is = absurd (omega (arith, h))
+    next (x ∷ xs) zero h is = ap (λ z. z ∷ xs) (sym is)
+    next (x ∷ xs) (suc i) h is =
+        let j : suc i + 1 ≡ suc (i + 1) = omega arith in
+        next xs i (omega (arith, h)) is ∙ ap (λ k. code ∷ drop k (x ∷ xs)) (sym j)
 
 -- Texts
 
-pub texts_joined : (version : Version) (first second b b1 b2 b3 : List ℕ)
-    → ((parts : List (List ℕ)) → b1 ++ parts_from (scale_of version) (64 + length b1) parts ≡ b
-    ++ parts_from (scale_of version) (64 + length b) (first ∷ parts))
-    → ((parts : List (List ℕ)) → b2 ++ parts_from (scale_of version) (64 + length b2) parts ≡ b1
-    ++ parts_from (scale_of version) (64 + length b1) (second ∷ parts))
+texts_end : (xs : List (Vec ℕ)) (i : ℕ) → length xs ≤ i → map bytes_in (drop i xs) ≡ []
+texts_end [] zero h = refl
+texts_end [] (suc i) h = refl
+texts_end (x ∷ xs) zero h = absurd (omega (arith, h))
+texts_end (x ∷ xs) (suc i) h = texts_end xs i (omega (arith, h))
+
+pub text_added : (old new : List (Vec ℕ)) (text : Vec ℕ) (bytes : List ℕ) → new ≡ old ++ text ∷ [] → text.items ≡ bytes
+    → map bytes_in new ≡ map bytes_in old ++ bytes ∷ []
+text_added old new text bytes e t =
+    ap (λ (xs : List (Vec ℕ)). map bytes_in xs) e ∙ all old ∙ ap (λ (b : List ℕ). map bytes_in old ++ b ∷ []) t
+  where
+    all : (xs : List (Vec ℕ)) → map bytes_in (xs ++ text ∷ []) ≡ map bytes_in xs ++ text.items ∷ []
+    all [] = refl
+    all (x ∷ xs) = ap (λ (bs : List (List ℕ)). x.items ∷ bs) (all xs)
+
+pub texts_joined : (version : Version) (texts : List (Vec ℕ)) (i : ℕ) (b b2 b3 : List ℕ) → length texts ≤ i
+    → ((parts : List (List ℕ)) → b2 ++ parts_from (scale_of version) (64 + length b2)
+    (map bytes_in (drop i texts) ++ parts)
+    ≡ b ++ parts_from (scale_of version) (64 + length b) (map bytes_in texts ++ parts))
     → b3 ≡ b2 ++ replicate (aligned (scale_of version) (64 + length b2) - (64 + length b2)) 0
-    → b3 ≡ b ++ parts_from (scale_of version) (64 + length b) (first ∷ second ∷ [])
-texts_joined version first second b b1 b2 b3 e1 e2 e3 = e3 ∙ e2 [] ∙ e1 (second ∷ [])
+    → b3 ≡ b ++ parts_from (scale_of version) (64 + length b) (map bytes_in texts)
+texts_joined version texts i b b2 b3 end all e3 =
+    e3
+    ∙ ap (λ (ps : List (List ℕ)). b2 ++ parts_from (scale_of version) (64 + length b2) (ps ++ []))
+    (sym (texts_end texts i end))
+    ∙ all [] ∙ ap (λ (ps : List (List ℕ)). b ++ parts_from (scale_of version) (64 + length b) ps)
+    (append-nil (map bytes_in texts))

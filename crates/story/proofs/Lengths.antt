@@ -1,5 +1,5 @@
 -- How long code is, wherever it stands.
-use Rattle.std.proofs.Common.{◌≡◌, List, [], ◌∷◌, ◌++◌, length, refl, ap, ◌∙◌, arith}
+use Rattle.std.proofs.Common.{◌≡◌, ℕ, List, [], ◌∷◌, ◌++◌, length, refl, ap, ◌∙◌, arith}
 use Rattle.std.specs.Prelude.{map}
 use Rattle.checker.specs.Resolved.{RoutineOf}
 use Rattle.items.specs.Items.{routine_items}
@@ -9,14 +9,19 @@ use Rattle.code.specs.Sizes.{routine_size}
 use Rattle.code.proofs.Places.{code_length}
 use Rattle.story.specs.Layout.{fault_texts, routine_bytes}
 
-pub routine_length : (a : Addresses) (r : RoutineOf) → length (routine_bytes a r) ≡ routine_size r
-routine_length a r =
-    let e : length (code_bytes a (routine_items r)) ≡ code_size (routine_items r) = code_length a (routine_items r) in
-    omega (arith, e)
+-- where arrays have these sizes
+module _ (sizes : List ℕ) (a : Addresses) where
+  pub routine_length : (r : RoutineOf) → length (routine_bytes sizes a r) ≡ routine_size sizes r
+  routine_length r =
+      let e : length (code_bytes sizes a (routine_items r)) ≡ code_size sizes (routine_items r) =
+      code_length sizes a (routine_items r) in
+      omega (arith, e)
 
--- the sizes of the parts of a story are those by which its addresses are reckoned
-pub sizes_are : (a : Addresses) (rs : List RoutineOf)
-    → map length (map (routine_bytes a) rs ++ fault_texts) ≡ map routine_size rs ++ map length fault_texts
-sizes_are a [] = refl
-sizes_are a (r ∷ rs) = ap (λ n. n ∷ map length (map (routine_bytes a) rs ++ fault_texts)) (routine_length a r)
-    ∙ ap (λ ns. routine_size r ∷ ns) (sizes_are a rs)
+  -- the sizes of the parts of a story are those by which its addresses are reckoned
+  pub sizes_are : (rs : List RoutineOf)
+      → map length (map (routine_bytes sizes a) rs ++ fault_texts)
+      ≡ map (routine_size sizes) rs ++ map length fault_texts
+  sizes_are [] = refl
+  sizes_are (r ∷ rs) =
+      ap (λ n. n ∷ map length (map (routine_bytes sizes a) rs ++ fault_texts)) (routine_length r)
+      ∙ ap (λ ns. routine_size sizes r ∷ ns) (sizes_are rs)

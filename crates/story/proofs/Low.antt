@@ -1,19 +1,21 @@
 -- What stands below the routines of a story.
 use Rattle.std.proofs.Common.{◌≡◌, ℕ, zero, suc, ◌+◌, ◌*◌, ◌/◌, ◌%◌, ◌<◌, ◌≤◌, List, [], ◌∷◌, ◌++◌, length, take}
-use Rattle.std.proofs.Common.{drop, refl, sym, ap, ◌∙◌, arith}
+use Rattle.std.proofs.Common.{drop, refl, sym, ap, ◌∙◌, subst, arith}
 use Rattle.std.specs.Prelude.{replicate, slice_index}
-use Rattle.std.specs.List.{flat_map}
+use Rattle.std.specs.List.{flat_map, concat}
 use Rattle.std.proofs.lemmas.List.{append_assoc, length-append, length-replicate, length-take-le, get_or-drop}
 use Rattle.std.proofs.lemmas.List.{get_or-take, get_or_append_left}
 use Rattle.zcore.specs.declared.header.Version.{Version}
 use Rattle.zcore.specs.Bytes.{word_at}
 use Rattle.zcore.specs.Instruction.{bytes_of}
-use Rattle.zcore.specs.Text.{encoded}
+use Rattle.zcore.specs.Text.{Holds, encoded}
 use Rattle.zcore.specs.Words.{packed}
 use Rattle.checker.specs.declared.places.Places.{Places}
+use Rattle.checker.specs.Places.{arrays_place, defaults_place, dictionary_place, start_place, routines_place}
+use Rattle.checker.specs.Resolved.{ProgramOf}
 use Rattle.code.specs.HeldProgram.{start_code}
 use Rattle.story.specs.Layout.{word, abbreviation_bytes, global_bytes, dictionary_bytes, low_bytes, header_of}
-use Rattle.story.proofs.Parts.{behind_at}
+use Rattle.story.proofs.Parts.{behind_at, holds_first}
 
 -- Words
 
@@ -73,56 +75,90 @@ start_length : (main : ℕ) → length (start_code main) ≡ 4
 unfolding bytes_of
 start_length main = refl
 
-pub low_length : (globals : List ℕ) (main : ℕ) → length (low_bytes globals main) ≡ 811
-low_length globals main =
+pub low_length : (p : ProgramOf) (main : ℕ) → length (low_bytes p main) ≡ 811 + length (concat p.arrays)
+low_length p main =
+    let globals : List ℕ = global_bytes p.globals in
+    let arrays : List ℕ = concat p.arrays in
     let filling : List ℕ = replicate 126 0 in
-    let a = length-append first_bytes (global_bytes globals) in
-    let b = length-append (first_bytes ++ global_bytes globals) filling in
-    let c = length-append (first_bytes ++ global_bytes globals ++ filling) dictionary_bytes in
-    let d = length-append (first_bytes ++ global_bytes globals ++ filling ++ dictionary_bytes) (start_code main) in
-    omega (arith, a, b, c, d, first_length, globals_length globals, length-replicate {A = ℕ} 126 0, start_length main)
+    let a = length-append first_bytes globals in
+    let b = length-append (first_bytes ++ globals) arrays in
+    let c = length-append (first_bytes ++ globals ++ arrays) filling in
+    let d = length-append (first_bytes ++ globals ++ arrays ++ filling) dictionary_bytes in
+    let e = length-append (first_bytes ++ globals ++ arrays ++ filling ++ dictionary_bytes) (start_code main) in
+    omega (
+      arith,
+      a,
+      b,
+      c,
+      d,
+      e,
+      first_length,
+      globals_length p.globals,
+      length-replicate {A = ℕ} 126 0,
+      start_length main,
+    )
 
 -- Addresses
 
-regrouped : (a b c d e f : List ℕ) → a ++ b ++ c ++ d ++ e ++ f ≡ a ++ (b ++ (c ++ (d ++ (e ++ f))))
-regrouped a b c d e f =
-    append_assoc (a ++ b ++ c ++ d) e f ∙ append_assoc (a ++ b ++ c) d (e ++ f)
-    ∙ append_assoc (a ++ b) c (d ++ (e ++ f)) ∙ append_assoc a b (c ++ (d ++ (e ++ f)))
+regrouped : (a b c d e f g : List ℕ) → a ++ b ++ c ++ d ++ e ++ f ++ g ≡ a ++ (b ++ (c ++ (d ++ (e ++ (f ++ g)))))
+regrouped a b c d e f g =
+    append_assoc (a ++ b ++ c ++ d ++ e) f g ∙ append_assoc (a ++ b ++ c ++ d) e (f ++ g)
+    ∙ append_assoc (a ++ b ++ c) d (e ++ (f ++ g)) ∙ append_assoc (a ++ b) c (d ++ (e ++ (f ++ g)))
+    ∙ append_assoc a b (c ++ (d ++ (e ++ (f ++ g))))
 
-module _ (story globals high : List ℕ) (main : ℕ) (stands : drop 64 story ≡ low_bytes globals main ++ high) where
-  globals_stand : drop 258 story ≡ global_bytes globals
-      ++ (replicate 126 0 ++ (dictionary_bytes ++ (start_code main ++ high)))
+module _ (story : List ℕ) (p : ProgramOf) (high : List ℕ) (main : ℕ)
+    (stands : drop 64 story ≡ low_bytes p main ++ high) where
+  abbrev behind_dictionary : List ℕ
+  behind_dictionary = start_code main ++ high
+
+  abbrev behind_defaults : List ℕ
+  behind_defaults = dictionary_bytes ++ behind_dictionary
+
+  abbrev behind_arrays : List ℕ
+  behind_arrays = replicate 126 0 ++ behind_defaults
+
+  abbrev behind_globals : List ℕ
+  behind_globals = concat p.arrays ++ behind_arrays
+
+  globals_stand : drop 258 story ≡ global_bytes p.globals ++ behind_globals
   globals_stand =
-      behind_at 64 194 story first_bytes (global_bytes globals
-      ++ (replicate 126 0 ++ (dictionary_bytes ++ (start_code main ++ high))))
-      (stands ∙ regrouped first_bytes (global_bytes globals) (replicate 126 0) dictionary_bytes (start_code main)
-      high)
+      behind_at 64 194 story first_bytes (global_bytes p.globals ++ behind_globals)
+      (stands ∙ regrouped first_bytes (global_bytes p.globals) (concat p.arrays) (replicate 126 0) dictionary_bytes
+      (start_code main) high)
       first_length
 
-  defaults_stand : drop 738 story ≡ replicate 126 0 ++ (dictionary_bytes ++ (start_code main ++ high))
-  defaults_stand = behind_at 258 480 story (global_bytes globals)
-      (replicate 126 0 ++ (dictionary_bytes ++ (start_code main ++ high))) globals_stand (globals_length globals)
+  pub arrays_stand : drop arrays_place story ≡ concat p.arrays ++ behind_arrays
+  arrays_stand =
+      behind_at 258 480 story (global_bytes p.globals) behind_globals globals_stand (globals_length p.globals)
 
-  pub dictionary_stands : drop 864 story ≡ dictionary_bytes ++ (start_code main ++ high)
-  dictionary_stands = behind_at 738 126 story (replicate 126 0) (dictionary_bytes ++ (start_code main ++ high))
-      defaults_stand (length-replicate {A = ℕ} 126 0)
+  -- the arrays, one behind another
+  pub arrays_hold : Holds story arrays_place (concat p.arrays)
+  arrays_hold = holds_first arrays_place story (concat p.arrays) behind_arrays arrays_stand
 
-  pub start_stands : drop 871 story ≡ start_code main ++ high
-  start_stands = behind_at 864 7 story dictionary_bytes (start_code main ++ high) dictionary_stands refl
+  defaults_stand : drop (defaults_place p) story ≡ behind_arrays
+  defaults_stand =
+      behind_at arrays_place (length (concat p.arrays)) story (concat p.arrays) behind_arrays arrays_stand refl
 
-  pub high_stands : drop 875 story ≡ high
-  high_stands = behind_at 871 4 story (start_code main) high start_stands (start_length main)
+  pub dictionary_stands : drop (dictionary_place p) story ≡ behind_defaults
+  dictionary_stands =
+      let place : defaults_place p + 126 ≡ dictionary_place p = omega arith in
+      subst (λ at. drop at story ≡ behind_defaults) place (behind_at (defaults_place p) 126 story (replicate 126 0)
+      behind_defaults defaults_stand (length-replicate {A = ℕ} 126 0))
+
+  pub start_stands : drop (start_place p) story ≡ behind_dictionary
+  start_stands = behind_at (dictionary_place p) 7 story dictionary_bytes behind_dictionary dictionary_stands refl
+
+  pub high_stands : drop (routines_place p) story ≡ high
+  high_stands = behind_at (start_place p) 4 story (start_code main) high start_stands (start_length main)
 
   -- the word of a global
-  pub global_stands : (g : ℕ) → g < length globals → length globals ≤ 240
-      → word_at story (258 + 2 * g) ≡ slice_index globals g
+  pub global_stands : (g : ℕ) → g < length p.globals → length p.globals ≤ 240
+      → word_at story (258 + 2 * g) ≡ slice_index p.globals g
   global_stands g within few =
-      let all : List ℕ = globals ++ replicate 240 0 in
+      let all : List ℕ = p.globals ++ replicate 240 0 in
       let enough : 240 ≤ length all =
-      omega (arith, length-append globals (replicate 240 0), length-replicate {A = ℕ} 240 0) in
-      word_behind 258 (2 * g) story (global_bytes globals
-      ++ (replicate 126 0 ++ (dictionary_bytes ++ (start_code main ++ high)))) globals_stand
-      ∙ words_at (take 240 all) (replicate 126 0 ++ (dictionary_bytes ++ (start_code main ++ high))) g
-      (omega (arith, length-take-le 240 all enough, within, few))
+      omega (arith, length-append p.globals (replicate 240 0), length-replicate {A = ℕ} 240 0) in
+      word_behind 258 (2 * g) story (global_bytes p.globals ++ behind_globals) globals_stand
+      ∙ words_at (take 240 all) behind_globals g (omega (arith, length-take-le 240 all enough, within, few))
       ∙ get_or-take 240 all g 0 (omega (arith, within, few))
-      ∙ get_or_append_left globals (replicate 240 0) 0 g within
+      ∙ get_or_append_left p.globals (replicate 240 0) 0 g within

@@ -9,22 +9,22 @@ use Rattle.zcore.specs.Bytes.{word_at}
 use Rattle.zcore.specs.Header.{IsDictionary, IsDictionaryOf, IsPlaced, Reads, StatesSum, abbreviations_of}
 use Rattle.zcore.specs.Header.{defaults_of, dictionary_of, first_instruction_of, globals_of, high_memory_of, scale_of}
 use Rattle.zcore.specs.Header.{entry_length_of, entry_count, static_base_of, version_number}
-use Rattle.checker.specs.Places.{routines_place, places_of}
+use Rattle.checker.specs.Places.{defaults_place, dictionary_place, start_place, routines_place, places_of}
 use Rattle.checker.specs.Resolved.{ProgramOf}
 use Rattle.code.specs.HeldProgram.{start_code}
-use Rattle.story.specs.Layout.{header_of, low_bytes, dictionary_bytes, parts_from}
+use Rattle.story.specs.Layout.{greatest_word, header_of, low_bytes, dictionary_bytes, parts_from}
 use Rattle.story.proofs.Parts.{whole, parts_end}
 use Rattle.story.proofs.Low.{word_is, byte_behind, word_behind, low_length, dictionary_stands}
 
--- what the header of a story says
-pub record Says (version : Version) (story : List ℕ) : Type 0 where
+-- what the header of a program's story says
+pub record Says (version : Version) (p : ProgramOf) (story : List ℕ) : Type 0 where
   pub version_byte : slice_index story 0 ≡ version_number version
-  pub high_memory : high_memory_of story ≡ 871
-  pub first_instruction : first_instruction_of story ≡ 871
-  pub dictionary : dictionary_of story ≡ 864
-  pub defaults : defaults_of story ≡ 738
+  pub high_memory : high_memory_of story ≡ start_place p
+  pub first_instruction : first_instruction_of story ≡ start_place p
+  pub dictionary : dictionary_of story ≡ dictionary_place p
+  pub defaults : defaults_of story ≡ defaults_place p
   pub globals : globals_of story ≡ 258
-  pub static_base : static_base_of story ≡ 864
+  pub static_base : static_base_of story ≡ dictionary_place p
   pub abbreviations : abbreviations_of story ≡ 64
   pub stated_length : word_at story 0x1A ≡ length story / scale_of version
   pub stated_sum : StatesSum story
@@ -36,15 +36,15 @@ module _ (version : Version) (p : ProgramOf) (body : List ℕ) where
   pub behind_header : drop 64 (header_of version (places_of p) body ++ body) ≡ body
   behind_header = drop_at (header_of version (places_of p) body) body 64 refl
 
-  pub says : Says version (header_of version (places_of p) body ++ body)
+  pub says : Says version p (header_of version (places_of p) body ++ body)
   says = record {
     version_byte = refl;
-    high_memory = refl;
-    first_instruction = refl;
-    dictionary = refl;
-    defaults = refl;
+    high_memory = word_is (start_place p);
+    first_instruction = word_is (start_place p);
+    dictionary = word_is (dictionary_place p);
+    defaults = word_is (defaults_place p);
     globals = refl;
-    static_base = refl;
+    static_base = word_is (dictionary_place p);
     abbreviations = refl;
     stated_length = word_is ((64 + length body) / scale_of version)
         ∙ ap (λ n. n / scale_of version) (sym whole_length);
@@ -53,24 +53,31 @@ module _ (version : Version) (p : ProgramOf) (body : List ℕ) where
 
 -- The dictionary
 
-module _ (story rest : List ℕ) (long : 871 ≤ length story) (stands : drop 864 story ≡ dictionary_bytes ++ rest) where
-  separators_are : slice_index story 864 ≡ 3
-  separators_are = byte_behind 864 0 story (dictionary_bytes ++ rest) stands
+module _ (story rest : List ℕ) (at : ℕ) (long : at + 7 ≤ length story) (low : at + 7 ≤ 65536)
+    (stands : drop at story ≡ dictionary_bytes ++ rest) where
+  separators_are : slice_index story at ≡ 3
+  separators_are =
+      let e : at ≡ at + 0 = omega arith in
+      ap (slice_index story) e ∙ byte_behind at 0 story (dictionary_bytes ++ rest) stands
 
-  entry_length_is : entry_length_of story 864 ≡ 9
-  entry_length_is = ap (λ n. slice_index story (864 + 1 + n)) separators_are
-      ∙ byte_behind 864 4 story (dictionary_bytes ++ rest) stands
+  entry_length_is : entry_length_of story at ≡ 9
+  entry_length_is =
+      let e : at + 1 + 3 ≡ at + 4 = omega arith in
+      ap (λ n. slice_index story (at + 1 + n)) separators_are ∙ ap (slice_index story) e
+      ∙ byte_behind at 4 story (dictionary_bytes ++ rest) stands
 
-  no_entries : entry_count story 864 ≡ 0
-  no_entries = ap (λ n. word_at story (864 + 2 + n)) separators_are
-      ∙ word_behind 864 5 story (dictionary_bytes ++ rest) stands
+  no_entries : entry_count story at ≡ 0
+  no_entries =
+      let e : at + 2 + 3 ≡ at + 5 = omega arith in
+      ap (λ n. word_at story (at + 2 + n)) separators_are ∙ ap (word_at story) e
+      ∙ word_behind at 5 story (dictionary_bytes ++ rest) stands
 
-  is_dictionary : IsDictionary story 864
+  is_dictionary : IsDictionary story at
   is_dictionary =
-      let nothing : entry_count story 864 * entry_length_of story 864 ≡ 0 =
-      ap (λ n. n * entry_length_of story 864) no_entries ∙ ap (λ n. 0 * n) entry_length_is in
+      let nothing : entry_count story at * entry_length_of story at ≡ 0 =
+      ap (λ n. n * entry_length_of story at) no_entries ∙ ap (λ n. 0 * n) entry_length_is in
       record {
-        whole = omega (arith, nothing, separators_are, long);
+        whole = omega (arith, nothing, separators_are, long, low);
         entry_length = omega (arith, entry_length_is);
         count = omega (arith, no_entries);
         ascending = λ k h. absurd (omega (arith, h, no_entries));
@@ -78,47 +85,58 @@ module _ (story rest : List ℕ) (long : 871 ≤ length story) (stands : drop 86
 
 -- Reading
 
-abbrev pub header_read : Version → Header
-header_read version = record {
+abbrev pub header_read : Version → ProgramOf → Header
+header_read version p = record {
   version = version;
-  static_base = 864;
+  static_base = dictionary_place p;
   globals = 258;
-  defaults = 738;
+  defaults = defaults_place p;
   abbreviations = 64;
-  high_memory = 871;
-  first_instruction = 871;
-  dictionary = record { address = 864; separators = 3; entry_length = 9; entries = 0 };
+  high_memory = start_place p;
+  first_instruction = start_place p;
+  dictionary = record { address = dictionary_place p; separators = 3; entry_length = 9; entries = 0 };
 }
 
-module _ (version : Version) (story rest : List ℕ) (said : Says version story)
-    (multiple : whole version (length story))
-    (long : 875 ≤ length story) (stands : drop 864 story ≡ dictionary_bytes ++ rest) where
+module _ (version : Version) (p : ProgramOf) (story rest : List ℕ) (said : Says version p story)
+    (multiple : whole version (length story)) (placed : routines_place p ≤ greatest_word)
+    (long : routines_place p ≤ length story)
+    (stands : drop (dictionary_place p) story ≡ dictionary_bytes ++ rest) where
   is_placed : IsPlaced story
   is_placed = record {
     static_base = (omega (arith, said.static_base), omega (arith, said.static_base, long));
     globals = (omega (arith, said.globals), omega (arith, said.globals, said.static_base));
     defaults = (omega (arith, said.defaults), omega (arith, said.defaults, said.static_base));
     abbreviations = inr (omega (arith, said.abbreviations), omega (arith, said.abbreviations, long));
-    high_memory = (omega (arith, said.high_memory, said.static_base), omega (arith, said.high_memory, long));
+    high_memory = (
+      omega (arith, said.high_memory, said.static_base),
+      omega (arith, said.high_memory, long),
+    );
     first_instruction = (omega (arith, said.first_instruction), omega (arith, said.first_instruction, long));
     dictionary = omega (arith, said.dictionary, said.static_base);
   }
 
-  is_dictionary_read : IsDictionaryOf story 864 (header_read version).dictionary
+  long_enough : dictionary_place p + 7 ≤ length story
+  long_enough = omega (arith, long)
+
+  low_enough : dictionary_place p + 7 ≤ 65536
+  low_enough = omega (arith, placed)
+
+  is_dictionary_read : IsDictionaryOf story (dictionary_place p) (header_read version p).dictionary
   is_dictionary_read = record {
     address = refl;
-    separators = sym (separators_are story rest (omega (arith, long)) stands);
-    entry_length = sym (entry_length_is story rest (omega (arith, long)) stands);
-    entries = sym (no_entries story rest (omega (arith, long)) stands);
+    separators = sym (separators_are story rest (dictionary_place p) long_enough low_enough stands);
+    entry_length = sym (entry_length_is story rest (dictionary_place p) long_enough low_enough stands);
+    entries = sym (no_entries story rest (dictionary_place p) long_enough low_enough stands);
   }
 
-  pub is_read : Reads story (Ok (header_read version))
+  pub is_read : Reads story (Ok (header_read version p))
   is_read = (
     omega (arith, long),
     ap (λ n. n * scale_of version) said.stated_length ∙ multiple,
     said.stated_sum,
     is_placed,
-    subst (IsDictionary story) (sym said.dictionary) (is_dictionary story rest (omega (arith, long)) stands),
+    subst (IsDictionary story) (sym said.dictionary)
+        (is_dictionary story rest (dictionary_place p) long_enough low_enough stands),
     record {
       version = said.version_byte;
       static_base = sym said.static_base;
@@ -127,7 +145,7 @@ module _ (version : Version) (story rest : List ℕ) (said : Says version story)
       abbreviations = sym said.abbreviations;
       high_memory = sym said.high_memory;
       first_instruction = sym said.first_instruction;
-      dictionary = subst (λ at. IsDictionaryOf story at (header_read version).dictionary) (sym said.dictionary)
+      dictionary = subst (λ at. IsDictionaryOf story at (header_read version p).dictionary) (sym said.dictionary)
           is_dictionary_read;
     },
   )
@@ -138,22 +156,21 @@ module _ (version : Version) (p : ProgramOf) (main : ℕ) (parts : List (List �
   abbrev high : List ℕ
   high = parts_from (scale_of version) (routines_place p) parts
 
-  abbrev pub laid_out : List ℕ
-  laid_out = header_of version (places_of p) (low_bytes p.globals main ++ high) ++ (low_bytes p.globals main ++ high)
+  abbrev body : List ℕ
+  body = low_bytes p main ++ high
 
-  pub laid_length : length laid_out ≡ 875 + length high
-  laid_length = omega (
-    arith,
-    whole_length version p (low_bytes p.globals main ++ high),
-    length-append (low_bytes p.globals main) high,
-    low_length p.globals main,
-  )
+  abbrev pub laid_out : List ℕ
+  laid_out = header_of version (places_of p) body ++ body
+
+  pub laid_length : length laid_out ≡ routines_place p + length high
+  laid_length =
+      omega (arith, whole_length version p body, length-append (low_bytes p main) high, low_length p main)
 
   pub laid_multiple : whole version (length laid_out)
   laid_multiple = subst (whole version) (sym laid_length) (parts_end version (routines_place p) parts)
 
-  pub laid_read : Reads laid_out (Ok (header_read version))
-  laid_read =
-      is_read version laid_out (start_code main ++ high) (says version p (low_bytes p.globals main ++ high)) laid_multiple
+  pub laid_read : routines_place p ≤ greatest_word → Reads laid_out (Ok (header_read version p))
+  laid_read placed =
+      is_read version p laid_out (start_code main ++ high) (says version p body) laid_multiple placed
       (omega (arith, laid_length))
-      (dictionary_stands laid_out p.globals high main (behind_header version p (low_bytes p.globals main ++ high)))
+      (dictionary_stands laid_out p high main (behind_header version p body))

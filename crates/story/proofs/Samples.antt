@@ -11,53 +11,69 @@ use Rattle.zcore.specs.Instruction.{decode, bytes_of, opcode, operands, operand,
 use Rattle.zcore.specs.Parts.{read_in_place, write_in_place, push, pop, read_local, write_local, read_global}
 use Rattle.zcore.specs.Parts.{write_global, read_variable, write_variable, test_variable, test_pull, operand_value}
 use Rattle.zcore.specs.Parts.{operand_values, test_result, store_result, test_target, spend, go, test_routine}
+use Rattle.zcore.specs.Parts.{read_word, read_byte}
 use Rattle.zcore.specs.Parts.{test_calls, enter, call, test_return, leave, give_back, take_branch, branch_on, print}
 use Rattle.zcore.specs.Reading.{reads}
-use Rattle.zcore.specs.Execution.{step, perform, push_word, pull, call_packed, return_popped, print_characters}
-use Rattle.zcore.specs.Execution.{print_inline, print_packed, text_at}
+use Rattle.zcore.specs.Execution.{step, perform, push_word, pull, load_word, load_byte, call_packed, return_popped, print_characters}
+use Rattle.zcore.specs.Execution.{print_inline, print_packed, text_at, give_result}
 use Rattle.zcore.specs.Text.{encoded, decoded, abbreviation}
 use Rattle.zcore.specs.Turn.{Whole, opening, turn_from, weight}
 use Rattle.zcore.specs.Words.{packed, unpacked_text}
 use Rattle.statements.specs.Tree as trees
 use Rattle.syntax.specs.Tree.{ProgramTree, routine}
 use Rattle.expressions.specs.declared.tree.Binary.TheVariants as binaries
+use Rattle.expressions.specs.declared.tree.Width.TheVariants as widths
 use Rattle.checker.specs.declared.resolved.Variable.TheVariants as variables
 use Rattle.checker.specs.Meaning.{meaning}
-use Rattle.checker.specs.Resolved.{ProgramOf, binary, call as calls, effect, more, none, number, number_of}
+use Rattle.checker.specs.Names.{table_of, key_of}
+use Rattle.checker.specs.Programs.{resolve_program}
+use Rattle.checker.specs.Resolved.{ProgramOf, binary, call as calls, effect, entry, more, none, number, number_of}
 use Rattle.checker.specs.Resolved.{print as prints, read, stop, text, next}
 use Rattle.story.specs.Compiled.{size_fault}
-use Rattle.story.specs.Layout.{fault_texts, low_bytes, packed_addresses, story_of}
-
-low : length (low_bytes [] 219) ≡ 811
-unfolding bytes_of encoded packed
-low = refl
+use Rattle.story.specs.Layout.{array_addresses, fault_texts, low_bytes, packed_addresses, story_of}
 
 texts : fault_texts
-    ≡ (20 ∷ 229 ∷ 24 ∷ 91 ∷ 17 ∷ 102 ∷ 106 ∷ 57 ∷ 23 ∷ 160 ∷ 37 ∷ 219 ∷ 59 ∷ 14 ∷ 82 ∷ 96 ∷ 31 ∷ 192 ∷ 125 ∷ 87 ∷ 80
-    ∷ 166 ∷ 11 ∷ 165 ∷ 156 ∷ 165 ∷ [])
-    ∷ (20 ∷ 229 ∷ 24 ∷ 91 ∷ 17 ∷ 102 ∷ 106 ∷ 57 ∷ 23 ∷ 160 ∷ 78 ∷ 153 ∷ 0 ∷ 192 ∷ 33 ∷ 166 ∷ 92 ∷ 200 ∷ 101 ∷ 87 ∷ 20
-    ∷ 194 ∷ 244 ∷ 167 ∷ [])
+    ≡ (20 ∷ 229 ∷ 24 ∷ 91 ∷ 17 ∷ 102 ∷ 106 ∷ 57 ∷ 23 ∷ 160 ∷ 37 ∷ 219 ∷ 59 ∷ 14 ∷ 82 ∷ 96 ∷ 31 ∷ 192 ∷ 125 ∷ 87
+    ∷ 80 ∷ 166 ∷ 11 ∷ 165 ∷ 156 ∷ 165 ∷ [])
+    ∷ (20 ∷ 229 ∷ 24 ∷ 91 ∷ 17 ∷ 102 ∷ 106 ∷ 57 ∷ 23 ∷ 160 ∷ 78 ∷ 153 ∷ 0 ∷ 211 ∷ 2 ∷ 135 ∷ 61 ∷ 72 ∷ 100 ∷ 166
+    ∷ 11 ∷ 165 ∷ 156 ∷ 165 ∷ [])
+    ∷ (20 ∷ 229 ∷ 24 ∷ 91 ∷ 17 ∷ 102 ∷ 106 ∷ 57 ∷ 23 ∷ 160 ∷ 58 ∷ 105 ∷ 43 ∷ 160 ∷ 83 ∷ 89 ∷ 2 ∷ 139 ∷ 2 ∷ 230
+    ∷ 77 ∷ 138 ∷ 20 ∷ 194 ∷ 244 ∷ 167 ∷ [])
+    ∷ (20 ∷ 229 ∷ 24 ∷ 91 ∷ 17 ∷ 102 ∷ 106 ∷ 57 ∷ 23 ∷ 160 ∷ 78 ∷ 128 ∷ 99 ∷ 72 ∷ 52 ∷ 21 ∷ 94 ∷ 149 ∷ 42 ∷ 249
+    ∷ 120 ∷ 166 ∷ 11 ∷ 165 ∷ 156 ∷ 165 ∷ [])
+    ∷ (20 ∷ 229 ∷ 24 ∷ 91 ∷ 17 ∷ 102 ∷ 106 ∷ 57 ∷ 23 ∷ 160 ∷ 86 ∷ 244 ∷ 85 ∷ 87 ∷ 103 ∷ 192 ∷ 81 ∷ 96 ∷ 72 ∷ 211
+    ∷ 120 ∷ 28 ∷ 82 ∷ 233 ∷ 96 ∷ 166 ∷ 11 ∷ 165 ∷ 156 ∷ 165 ∷ [])
+    ∷ (20 ∷ 229 ∷ 24 ∷ 91 ∷ 17 ∷ 102 ∷ 106 ∷ 57 ∷ 23 ∷ 160 ∷ 80 ∷ 239 ∷ 41 ∷ 25 ∷ 1 ∷ 211 ∷ 97 ∷ 201 ∷ 40 ∷ 14
+    ∷ 103 ∷ 10 ∷ 69 ∷ 101 ∷ 24 ∷ 93 ∷ 148 ∷ 229 ∷ [])
+    ∷ (20 ∷ 229 ∷ 24 ∷ 91 ∷ 17 ∷ 102 ∷ 106 ∷ 57 ∷ 23 ∷ 160 ∷ 78 ∷ 153 ∷ 0 ∷ 192 ∷ 33 ∷ 166 ∷ 92 ∷ 200 ∷ 101 ∷ 87
+    ∷ 20 ∷ 194 ∷ 244 ∷ 167 ∷ [])
+    ∷ (20 ∷ 229 ∷ 24 ∷ 91 ∷ 17 ∷ 102 ∷ 106 ∷ 57 ∷ 23 ∷ 160 ∷ 31 ∷ 75 ∷ 45 ∷ 87 ∷ 3 ∷ 52 ∷ 80 ∷ 24 ∷ 72 ∷ 209
+    ∷ 68 ∷ 166 ∷ 11 ∷ 165 ∷ 156 ∷ 165 ∷ [])
     ∷ []
 unfolding encoded packed spelling_of
 texts = refl
 
 -- `[ Main; ];`: one routine that does nothing, of 2 bytes: no locals, rtrue
 abbrev nothing : ProgramOf
-nothing = record { globals = []; routines = record { locals = 0; body = stop } ∷ []; main = 0 }
+nothing = record { globals = []; arrays = []; routines = record { locals = 0; body = stop } ∷ []; main = 0 }
 
--- the routine at 876 and the texts at 880 and 908 in version 5, and at 880, 888 and 920 in version 8
-addresses_of_5 : packed_addresses 4 nothing ≡ 219 ∷ 220 ∷ 227 ∷ []
+low : length (low_bytes nothing 219) ≡ 811
+unfolding bytes_of encoded packed
+low = refl
+
+-- the routine at 876 and the texts from 880 on in version 5; at 880 and from 888 on in version 8
+addresses_of_5 : packed_addresses 4 nothing ≡ 219 ∷ 220 ∷ 227 ∷ 233 ∷ 240 ∷ 247 ∷ 255 ∷ 262 ∷ 268 ∷ []
 unfolding bytes_of encoded packed spelling_of
 addresses_of_5 = refl
 
-addresses_of_8 : packed_addresses 8 nothing ≡ 110 ∷ 111 ∷ 115 ∷ []
+addresses_of_8 : packed_addresses 8 nothing ≡ 110 ∷ 111 ∷ 115 ∷ 118 ∷ 122 ∷ 126 ∷ 130 ∷ 134 ∷ 137 ∷ []
 unfolding bytes_of encoded packed spelling_of
 addresses_of_8 = refl
 
--- the whole story in version 5: 932 bytes, whose sum is 18,531
+-- the whole story in version 5: 1,100 bytes, whose sum is 34,112
 nothing_laid_out : story_of V5 nothing
     ≡ (5 ∷ 0 ∷ 0 ∷ 1 ∷ 3 ∷ 103 ∷ 3 ∷ 103 ∷ 3 ∷ 96 ∷ 2 ∷ 226 ∷ 1 ∷ 2 ∷ 3 ∷ 96 ∷ 0 ∷ 0 ∷ 48 ∷ 48 ∷ 48 ∷ 48 ∷ 48 ∷ 48 ∷ 0
-    ∷ 64 ∷ 0 ∷ 233 ∷ 72 ∷ 99 ∷ [])
+    ∷ 64 ∷ 1 ∷ 19 ∷ 133 ∷ 64 ∷ [])
     ++ replicate 34 0
     ++ flat_map (λ (n : ℕ). 0 ∷ n ∷ []) (replicate 96 128)
     ++ (148 ∷ 165 ∷ [])
@@ -65,10 +81,22 @@ nothing_laid_out : story_of V5 nothing
     ++ (3 ∷ 46 ∷ 44 ∷ 34 ∷ 9 ∷ 0 ∷ 0 ∷ [])
     ++ (143 ∷ 0 ∷ 219 ∷ 186 ∷ 0 ∷ [])
     ++ (0 ∷ 176 ∷ 0 ∷ 0 ∷ [])
-    ++ (20 ∷ 229 ∷ 24 ∷ 91 ∷ 17 ∷ 102 ∷ 106 ∷ 57 ∷ 23 ∷ 160 ∷ 37 ∷ 219 ∷ 59 ∷ 14 ∷ 82 ∷ 96 ∷ 31 ∷ 192 ∷ 125 ∷ 87 ∷ 80
-    ∷ 166 ∷ 11 ∷ 165 ∷ 156 ∷ 165 ∷ 0 ∷ 0 ∷ [])
-    ++ (20 ∷ 229 ∷ 24 ∷ 91 ∷ 17 ∷ 102 ∷ 106 ∷ 57 ∷ 23 ∷ 160 ∷ 78 ∷ 153 ∷ 0 ∷ 192 ∷ 33 ∷ 166 ∷ 92 ∷ 200 ∷ 101 ∷ 87 ∷ 20
-    ∷ 194 ∷ 244 ∷ 167 ∷ [])
+    ++ (20 ∷ 229 ∷ 24 ∷ 91 ∷ 17 ∷ 102 ∷ 106 ∷ 57 ∷ 23 ∷ 160 ∷ 37 ∷ 219 ∷ 59 ∷ 14 ∷ 82 ∷ 96 ∷ 31 ∷ 192 ∷ 125 ∷ 87
+    ∷ 80 ∷ 166 ∷ 11 ∷ 165 ∷ 156 ∷ 165 ∷ 0 ∷ 0 ∷ [])
+    ++ (20 ∷ 229 ∷ 24 ∷ 91 ∷ 17 ∷ 102 ∷ 106 ∷ 57 ∷ 23 ∷ 160 ∷ 78 ∷ 153 ∷ 0 ∷ 211 ∷ 2 ∷ 135 ∷ 61 ∷ 72 ∷ 100 ∷ 166
+    ∷ 11 ∷ 165 ∷ 156 ∷ 165 ∷ [])
+    ++ (20 ∷ 229 ∷ 24 ∷ 91 ∷ 17 ∷ 102 ∷ 106 ∷ 57 ∷ 23 ∷ 160 ∷ 58 ∷ 105 ∷ 43 ∷ 160 ∷ 83 ∷ 89 ∷ 2 ∷ 139 ∷ 2 ∷ 230
+    ∷ 77 ∷ 138 ∷ 20 ∷ 194 ∷ 244 ∷ 167 ∷ 0 ∷ 0 ∷ [])
+    ++ (20 ∷ 229 ∷ 24 ∷ 91 ∷ 17 ∷ 102 ∷ 106 ∷ 57 ∷ 23 ∷ 160 ∷ 78 ∷ 128 ∷ 99 ∷ 72 ∷ 52 ∷ 21 ∷ 94 ∷ 149 ∷ 42 ∷ 249
+    ∷ 120 ∷ 166 ∷ 11 ∷ 165 ∷ 156 ∷ 165 ∷ 0 ∷ 0 ∷ [])
+    ++ (20 ∷ 229 ∷ 24 ∷ 91 ∷ 17 ∷ 102 ∷ 106 ∷ 57 ∷ 23 ∷ 160 ∷ 86 ∷ 244 ∷ 85 ∷ 87 ∷ 103 ∷ 192 ∷ 81 ∷ 96 ∷ 72 ∷ 211
+    ∷ 120 ∷ 28 ∷ 82 ∷ 233 ∷ 96 ∷ 166 ∷ 11 ∷ 165 ∷ 156 ∷ 165 ∷ 0 ∷ 0 ∷ [])
+    ++ (20 ∷ 229 ∷ 24 ∷ 91 ∷ 17 ∷ 102 ∷ 106 ∷ 57 ∷ 23 ∷ 160 ∷ 80 ∷ 239 ∷ 41 ∷ 25 ∷ 1 ∷ 211 ∷ 97 ∷ 201 ∷ 40 ∷ 14
+    ∷ 103 ∷ 10 ∷ 69 ∷ 101 ∷ 24 ∷ 93 ∷ 148 ∷ 229 ∷ [])
+    ++ (20 ∷ 229 ∷ 24 ∷ 91 ∷ 17 ∷ 102 ∷ 106 ∷ 57 ∷ 23 ∷ 160 ∷ 78 ∷ 153 ∷ 0 ∷ 192 ∷ 33 ∷ 166 ∷ 92 ∷ 200 ∷ 101 ∷ 87
+    ∷ 20 ∷ 194 ∷ 244 ∷ 167 ∷ [])
+    ++ (20 ∷ 229 ∷ 24 ∷ 91 ∷ 17 ∷ 102 ∷ 106 ∷ 57 ∷ 23 ∷ 160 ∷ 31 ∷ 75 ∷ 45 ∷ 87 ∷ 3 ∷ 52 ∷ 80 ∷ 24 ∷ 72 ∷ 209
+    ∷ 68 ∷ 166 ∷ 11 ∷ 165 ∷ 156 ∷ 165 ∷ 0 ∷ 0 ∷ [])
 unfolding story_of bytes_of encoded packed spelling_of
 nothing_laid_out = refl
 
@@ -100,6 +128,7 @@ nothing_ends = refl
 abbrev division : ProgramOf
 division = record {
   globals = 7 ∷ 1000 ∷ [];
+  arrays = [];
   routines = record {
     locals = 0;
     body = next (prints (number_of (binary binaries.Divide (number 1) (number 0)) ∷ [])) stop;
@@ -117,8 +146,8 @@ division_globals : take 6 (drop 258 (story_of V5 division)) ≡ 0 ∷ 7 ∷ 3 �
 unfolding story_of bytes_of encoded packed spelling_of
 division_globals = refl
 
--- 940 bytes, whose sum is 19,501 and that of the globals' bytes, 242
-division_header : take 6 (drop 24 (story_of V5 division)) ≡ 0 ∷ 64 ∷ 0 ∷ 235 ∷ 77 ∷ 31 ∷ []
+-- 1,108 bytes, whose sum is 35,324; that of the globals' bytes is 242
+division_header : take 6 (drop 24 (story_of V5 division)) ≡ 0 ∷ 64 ∷ 1 ∷ 21 ∷ 137 ∷ 252 ∷ []
 unfolding story_of bytes_of encoded packed spelling_of
 division_header = refl
 
@@ -143,6 +172,7 @@ division_ends = refl
 abbrev calling : ProgramOf
 calling = record {
   globals = [];
+  arrays = [];
   routines = record { locals = 0; body = next (effect (calls 1 (more (number 3) none))) stop }
       ∷ record {
         locals = 1;
@@ -154,7 +184,7 @@ calling = record {
 }
 
 -- Main has 7 bytes at 880 in version 8, and f 10 at 888
-calling_addresses : packed_addresses 8 calling ≡ 110 ∷ 111 ∷ 113 ∷ 117 ∷ []
+calling_addresses : packed_addresses 8 calling ≡ 110 ∷ 111 ∷ 113 ∷ 117 ∷ 120 ∷ 124 ∷ 128 ∷ 132 ∷ 136 ∷ 139 ∷ []
 unfolding bytes_of encoded packed spelling_of
 calling_addresses = refl
 
@@ -178,6 +208,51 @@ calling_meant : (meaning calling 1000000 []).texts ≡ (codes "3!" ++ 10 ∷ [])
 unfolding meaning signed_text decimal
 calling_meant = refl
 
+-- `Array w --> 1 2 300; Array s string 'a' 'b'; Array t table 5 6; [ Main; print w-->2, s->0, t-->1; ];`
+abbrev arrays : ProgramOf
+arrays = record {
+  globals = [];
+  arrays = (0 ∷ 1 ∷ 0 ∷ 2 ∷ 1 ∷ 44 ∷ []) ∷ (2 ∷ 97 ∷ 98 ∷ []) ∷ (0 ∷ 2 ∷ 0 ∷ 5 ∷ 0 ∷ 6 ∷ []) ∷ [];
+  routines = record {
+    locals = 0;
+    body = next (prints (number_of (entry widths.Word 0 (number 2)) ∷ number_of (entry widths.Byte 1 (number 0))
+        ∷ number_of (entry widths.Word 2 (number 1)) ∷ [])) stop;
+  } ∷ [];
+  main = 0;
+}
+
+arrays_stand : array_addresses arrays ≡ 738 ∷ 744 ∷ 747 ∷ []
+arrays_stand = refl
+
+arrays_laid_out : take 15 (drop 738 (story_of V5 arrays))
+    ≡ (0 ∷ 1 ∷ 0 ∷ 2 ∷ 1 ∷ 44 ∷ []) ++ (2 ∷ 97 ∷ 98 ∷ []) ++ (0 ∷ 2 ∷ 0 ∷ 5 ∷ 0 ∷ 6 ∷ [])
+unfolding story_of bytes_of encoded packed spelling_of
+arrays_laid_out = refl
+
+-- what stands behind them is moved by 15 bytes: the code that begins at 886, the dictionary at 879, the defaults at 753
+arrays_header : take 12 (drop 4 (story_of V5 arrays)) ≡ 3 ∷ 118 ∷ 3 ∷ 118 ∷ 3 ∷ 111 ∷ 2 ∷ 241 ∷ 1 ∷ 2 ∷ 3 ∷ 111 ∷ []
+unfolding story_of bytes_of encoded packed spelling_of
+arrays_header = refl
+
+-- Main at 892: loadw 738 2, loadb 744 0 and loadw 747 1, each with print_num sp; and rtrue
+arrays_code : take 29 (drop 892 (story_of V5 arrays))
+    ≡ 0 ∷ 207 ∷ 31 ∷ 2 ∷ 226 ∷ 2 ∷ 0 ∷ 230 ∷ 191 ∷ 0 ∷ 208 ∷ 31 ∷ 2 ∷ 232 ∷ 0 ∷ 0 ∷ 230 ∷ 191 ∷ 0
+    ∷ 207 ∷ 31 ∷ 2 ∷ 235 ∷ 1 ∷ 0 ∷ 230 ∷ 191 ∷ 0 ∷ 176 ∷ []
+unfolding story_of bytes_of encoded packed spelling_of
+arrays_code = refl
+
+arrays_played : option_map shown (opening (story_of V5 arrays) 1000000) ≡ Some (places.Quit, codes "30025")
+unfolding story_of bytes_of encoded packed spelling_of opening turn_from weight step perform call_packed push_word
+    pull load_word load_byte read_word read_byte give_result print_characters decode opcode operands operand byte large result_variable branch
+    operand_values operand_value read_in_place write_in_place read_variable write_variable read_local write_local
+    read_global write_global pop push test_variable test_pull test_routine test_calls enter call test_return leave
+    give_back spend go take_branch branch_on test_target test_result store_result print signed_text decimal
+arrays_played = refl
+
+arrays_meant : (meaning arrays 1000000 []).texts ≡ codes "30025" ∷ []
+unfolding meaning signed_text decimal
+arrays_meant = refl
+
 -- sources that are too large: of this weight, with a routine of that weight whose name stands in line 3
 abbrev weighing : ℕ → ℕ → ProgramTree
 weighing source one = record {
@@ -192,13 +267,17 @@ weighing source one = record {
 }
 
 small_source : size_fault V5 (weighing 190000 32000) ≡ None
+unfolding resolve_program table_of key_of
 small_source = refl
 
 large_source : size_fault V5 (weighing 190001 32001) ≡ Some (record { number = 31; line = 0 })
+unfolding resolve_program table_of key_of
 large_source = refl
 
 large_source_8 : size_fault V8 (weighing 450001 32000) ≡ Some (record { number = 31; line = 0 })
+unfolding resolve_program table_of key_of
 large_source_8 = refl
 
 large_routine : size_fault V8 (weighing 190001 32001) ≡ Some (record { number = 32; line = 3 })
+unfolding resolve_program table_of key_of
 large_routine = refl

@@ -9,8 +9,9 @@ use Rattle.checker.specs.Resolved.{RoutineOf, ProgramOf}
 use Rattle.checker.specs.Accepted.{IsAccepted}
 use Rattle.checker.specs.Places.{routines_place}
 use Rattle.checker.specs.Sizes.{greatest_weight}
+use Rattle.code.specs.HeldProgram.{sizes_of}
 use Rattle.code.specs.Sizes.{routine_size, routines_size}
-use Rattle.story.specs.Layout.{addresses_in, fault_texts, parts_from, story_of}
+use Rattle.story.specs.Layout.{addresses_in, fault_texts, greatest_word, parts_from, story_of}
 use Rattle.story.specs.Laws.{IsShort, IsStory, StoriesAreShort}
 use Rattle.story.proofs.Parts.{parts_short, room_for}
 use Rattle.story.proofs.Lengths.{sizes_are}
@@ -18,42 +19,55 @@ use Rattle.story.proofs.Reading.{laid_length}
 use Rattle.story.proofs.Holding.{parts_of, text_lengths}
 
 -- room for routines and then for the texts of faults
-room_is : (rs : List RoutineOf) → room_for (map routine_size rs ++ map length fault_texts) ≡ routines_size rs + 71
-room_is [] = ap room_for text_lengths
-room_is (r ∷ rs) =
-    let more : room_for (map routine_size rs ++ map length fault_texts) ≡ routines_size rs + 71 = room_is rs in
+room_is : (sizes : List ℕ) (rs : List RoutineOf)
+    → room_for (map (routine_size sizes) rs ++ map length fault_texts) ≡ routines_size sizes rs + 273
+room_is sizes [] = ap room_for text_lengths
+room_is sizes (r ∷ rs) =
+    let more : room_for (map (routine_size sizes) rs ++ map length fault_texts) ≡ routines_size sizes rs + 273 =
+    room_is sizes rs in
     omega (arith, more)
 
-fits : (version : Version) (weight : ℕ) → weight ≤ greatest_weight version
-    → 875 + (weight + 71) ≤ 65535 * scale_of version
-fits V5 weight light = omega (arith, light)
-fits V8 weight light = omega (arith, light)
+fits : (version : Version) (place weight : ℕ) → place ≤ greatest_word → weight ≤ greatest_weight version
+    → place + (weight + 273) ≤ 65535 * scale_of version
+fits V5 place weight placed light = omega (arith, placed, light)
+fits V8 place weight placed light = omega (arith, placed, light)
 
 pub stories_are_short : StoriesAreShort
 unfolding story_of
-stories_are_short version p light =
+stories_are_short version p placed light =
     let a = addresses_in (scale_of version) p in
-    let long = laid_length version p (slice_index a.routines p.main) (parts_of a p.routines) in
-    let parts : length (parts_from (scale_of version) (routines_place p) (parts_of a p.routines))
-    ≤ room_for (map length (parts_of a p.routines)) =
-    parts_short version (routines_place p) (parts_of a p.routines) in
-    let room : room_for (map length (parts_of a p.routines)) ≡ routines_size p.routines + 71 =
-    ap room_for (sizes_are a p.routines) ∙ room_is p.routines in
-    omega (arith, long, parts, room, fits version (routines_size p.routines) light)
+    let sizes = sizes_of p in
+    let long = laid_length version p (slice_index a.routines p.main) (parts_of sizes a p.routines) in
+    let parts : length (parts_from (scale_of version) (routines_place p) (parts_of sizes a p.routines))
+    ≤ room_for (map length (parts_of sizes a p.routines)) =
+    parts_short version (routines_place p) (parts_of sizes a p.routines) in
+    let room : room_for (map length (parts_of sizes a p.routines)) ≡ routines_size sizes p.routines + 273 =
+    ap room_for (sizes_are sizes a p.routines) ∙ room_is sizes p.routines in
+    omega (
+      arith,
+      long,
+      parts,
+      room,
+      fits version (routines_place p) (routines_size sizes p.routines) placed light,
+    )
 
 -- routines that weigh at most 32,000 have code that jumps reach
-pub all_short : (rs : List RoutineOf) → All (λ (r : RoutineOf). routine_size r + 7 ≤ 32000) rs → All IsShort rs
-all_short rs small k d within = let h : routine_size (slice_index_or rs k d) + 7 ≤ 32000 = small k d within in
+pub all_short : (sizes : List ℕ) (rs : List RoutineOf)
+    → All (λ (r : RoutineOf). routine_size sizes r + 7 ≤ 32000) rs → All (IsShort sizes) rs
+all_short sizes rs small k d within =
+    let h : routine_size sizes (slice_index_or rs k d) + 7 ≤ 32000 = small k d within in
     omega (arith, h)
 
 -- what the law of stories asks for, from the limits of a source's weight
-pub is_story : (version : Version) (p : ProgramOf) → IsAccepted p
-    → All (λ (r : RoutineOf). routine_size r + 7 ≤ 32000) p.routines
-    → routines_size p.routines ≤ greatest_weight version → All (λ b. b < 256) (story_of version p) → IsStory version p
-is_story version p accepted small light bytes =
+pub is_story : (version : Version) (p : ProgramOf) → IsAccepted p → routines_place p ≤ greatest_word
+    → All (λ (r : RoutineOf). routine_size (sizes_of p) r + 7 ≤ 32000) p.routines
+    → routines_size (sizes_of p) p.routines ≤ greatest_weight version → All (λ b. b < 256) (story_of version p)
+    → IsStory version p
+is_story version p accepted placed small light bytes =
     record {
       accepted = accepted;
-      short = all_short p.routines small;
-      within = stories_are_short version p light;
+      short = all_short (sizes_of p) p.routines small;
+      placed = placed;
+      within = stories_are_short version p placed light;
       bytes = bytes;
     }

@@ -1,5 +1,5 @@
 -- The laws of stories that functions of `laws` carry as their contracts.
-use Rattle.std.specs.Prelude.{◌<◌, ◌≤◌, length, Ok}
+use Rattle.std.specs.Prelude.{◌<◌, ◌≤◌, ℕ, List, length, Ok}
 use Rattle.std.specs.List.{All}
 use Rattle.zcore.specs.declared.header.Version.{Version}
 use Rattle.zcore.specs.declared.header.Header.{Header}
@@ -7,20 +7,22 @@ use Rattle.zcore.specs.Header.{Reads, scale_of}
 use Rattle.checker.specs.Resolved.{RoutineOf, ProgramOf}
 use Rattle.checker.specs.Accepted.{IsAccepted}
 use Rattle.checker.specs.Sizes.{greatest_weight}
+use Rattle.checker.specs.Places.{routines_place}
 use Rattle.items.specs.Items.{routine_items}
 use Rattle.code.specs.Bytes.{code_size}
 use Rattle.code.specs.Sizes.{routines_size}
-use Rattle.code.specs.HeldProgram.{HoldsProgram}
-use Rattle.story.specs.Layout.{addresses_in, greatest_length, story_of}
+use Rattle.code.specs.HeldProgram.{sizes_of, HoldsProgram}
+use Rattle.story.specs.Layout.{addresses_in, greatest_word, greatest_length, story_of}
 
--- the code of a routine can be reached by jumps
-abbrev pub IsShort : RoutineOf → Type 0
-IsShort r = code_size (routine_items r) ≤ 32000
+-- the code of a routine can be reached by jumps, where arrays have these sizes
+abbrev pub IsShort : List ℕ → RoutineOf → Type 0
+IsShort sizes r = code_size sizes (routine_items r) ≤ 32000
 
--- a story whose packed addresses are words, and whose bytes are bytes
+-- a story whose addresses and packed addresses are words, and whose bytes are bytes
 pub record IsStory (version : Version) (p : ProgramOf) : Type 0 where
   pub accepted : IsAccepted p
-  pub short : All IsShort p.routines
+  pub short : All (IsShort (sizes_of p)) p.routines
+  pub placed : routines_place p ≤ greatest_word
   pub within : length (story_of version p) ≤ greatest_length version
   pub bytes : All (λ b. b < 256) (story_of version p)
 
@@ -31,8 +33,10 @@ StoriesHold =
     → ((header : Header) × Reads (story_of version p) (Ok header))
     × HoldsProgram (story_of version p) (addresses_in (scale_of version) p) p
 
--- the packed addresses of a story are words where its code weighs no more than a source may
+-- the packed addresses of a story are words where the addresses of all that stands before its routines are, and its code
+-- weighs no more than a source may
 abbrev pub StoriesAreShort : Type 0
 StoriesAreShort =
-    (version : Version) (p : ProgramOf) → routines_size p.routines ≤ greatest_weight version
+    (version : Version) (p : ProgramOf) → routines_place p ≤ greatest_word
+    → routines_size (sizes_of p) p.routines ≤ greatest_weight version
     → length (story_of version p) ≤ greatest_length version

@@ -3,20 +3,21 @@
 -- Zero bytes fill what stands between them, and the end up to a multiple of the scale by which packed addresses
 -- count.
 use Rattle.std.specs.Prelude.{◌+◌, ◌-◌, ◌*◌, ◌/◌, ◌%◌, ℕ, List, [], ◌∷◌, ◌++◌, codes, length, map, replicate, take}
-use Rattle.std.specs.Prelude.{slice_index, sum}
-use Rattle.std.specs.List.{flat_map}
+use Rattle.std.specs.Prelude.{drop, slice_index, sum}
+use Rattle.std.specs.List.{flat_map, concat}
 use Rattle.zcore.specs.declared.header.Version.{Version}
 use Rattle.zcore.specs.Header.{version_number, scale_of}
 use Rattle.zcore.specs.Text.{encoded}
 use Rattle.checker.specs.declared.places.Places.{Places}
 use Rattle.checker.specs.Places.{header_size, abbreviation_count, abbreviations_place, empty_text_place, global_count}
-use Rattle.checker.specs.Places.{default_count, routines_place, places_of}
+use Rattle.checker.specs.Places.{arrays_place, default_count, routines_place, places_of}
 use Rattle.checker.specs.Resolved.{RoutineOf, ProgramOf}
+use Rattle.checker.specs.World.{words_of}
 use Rattle.items.specs.Items.{routine_items}
-use Rattle.code.specs.Addresses.{Addresses}
+use Rattle.code.specs.Addresses.{Addresses, all_causes}
 use Rattle.code.specs.Bytes.{code_bytes}
 use Rattle.code.specs.Sizes.{routine_size}
-use Rattle.code.specs.HeldProgram.{start_code, fault_line}
+use Rattle.code.specs.HeldProgram.{start_code, fault_line, sizes_of}
 
 -- the greatest address that a word holds, and the greatest packed address
 abbrev pub greatest_word : ℕ
@@ -42,10 +43,11 @@ global_bytes globals = flat_map word (take global_count (globals ++ replicate gl
 abbrev pub dictionary_bytes : List ℕ
 dictionary_bytes = 3 ∷ codes ".,\"" ++ 9 ∷ word 0
 
-abbrev pub low_bytes : List ℕ → ℕ → List ℕ
-low_bytes globals main =
-    abbreviation_bytes ++ encoded [] ++ global_bytes globals ++ replicate (2 * default_count) 0 ++ dictionary_bytes
-    ++ start_code main
+-- the arrays stand one behind another
+abbrev pub low_bytes : ProgramOf → ℕ → List ℕ
+low_bytes p main =
+    abbreviation_bytes ++ encoded [] ++ global_bytes p.globals ++ concat p.arrays ++ replicate (2 * default_count) 0
+    ++ dictionary_bytes ++ start_code main
 
 -- Parts at packed addresses
 
@@ -66,32 +68,36 @@ parts_from scale at (part ∷ parts) =
 
 -- the texts that faults of the source print
 abbrev pub fault_texts : List (List ℕ)
-fault_texts = encoded (fault_line (codes "division by zero")) ∷ encoded (fault_line (codes "not a character")) ∷ []
+fault_texts = map (λ cause. encoded (fault_line (words_of cause))) all_causes
 
--- a byte with the number of locals, and the code (5.2)
-abbrev pub routine_bytes : Addresses → RoutineOf → List ℕ
-routine_bytes a r = r.locals ∷ code_bytes a (routine_items r)
+-- a byte with the number of locals, and the code (5.2), where arrays have these sizes
+abbrev pub routine_bytes : List ℕ → Addresses → RoutineOf → List ℕ
+routine_bytes sizes a r = r.locals ∷ code_bytes sizes a (routine_items r)
 
 abbrev pub packed_addresses : ℕ → ProgramOf → List ℕ
 packed_addresses scale p =
-    map (λ address. address / scale) (addresses_from scale (routines_place p) (map routine_size p.routines
+    map (λ address. address / scale) (addresses_from scale (routines_place p) (map (routine_size (sizes_of p)) p.routines
     ++ map length fault_texts))
+
+-- an array may stand at every address
+abbrev pub array_addresses : ProgramOf → List ℕ
+array_addresses p = addresses_from 1 arrays_place (sizes_of p)
 
 abbrev pub addresses_in : ℕ → ProgramOf → Addresses
 addresses_in scale p = record {
   routines = packed_addresses scale p;
-  division_by_zero = slice_index (packed_addresses scale p) (length p.routines);
-  not_a_character = slice_index (packed_addresses scale p) (length p.routines + 1);
+  arrays = array_addresses p;
+  faults = drop (length p.routines) (packed_addresses scale p);
 }
 
 abbrev pub high_bytes : ℕ → Addresses → ProgramOf → List ℕ
-high_bytes scale a p = parts_from scale (routines_place p) (map (routine_bytes a) p.routines ++ fault_texts)
+high_bytes scale a p = parts_from scale (routines_place p) (map (routine_bytes (sizes_of p) a) p.routines ++ fault_texts)
 
 -- The story
 
 -- all bytes behind the header, with these addresses
 abbrev pub body_with : ℕ → Addresses → ProgramOf → List ℕ
-body_with scale a p = low_bytes p.globals (slice_index a.routines p.main) ++ high_bytes scale a p
+body_with scale a p = low_bytes p (slice_index a.routines p.main) ++ high_bytes scale a p
 
 -- the header of the bytes behind it, whose parts stand at these places (11.1): release 1 and serial number 000000
 abbrev pub header_of : Version → Places → List ℕ → List ℕ

@@ -1,18 +1,21 @@
 -- What the values of the code stand for.
 use Rattle.std.specs.Prelude.{◌+◌, ◌/◌, ◌≤◌, ◌<◌, ℕ, List, [], ◌∷◌, length, map}
+use Rattle.std.specs.Global.{Vec}
 use Rattle.zcore.specs.declared.header.Version.{Version}
 use Rattle.checker.specs.declared.places.Places.{Places}
+use Rattle.checker.specs.Places.{routines_place}
 use Rattle.checker.specs.Resolved.{RoutineOf, ProgramOf}
 use Rattle.checker.specs.Accepted.{IsAccepted}
 use Rattle.items.specs.Items.{routine_items}
 use Rattle.code.specs.Addresses.{Addresses}
 use Rattle.code.specs.Bytes.{code_size, code_bytes}
 use Rattle.code.specs.Written.{CodeOf}
-use Rattle.story.specs.Layout.{aligned, addresses_from, greatest_length, story_of}
+use Rattle.story.specs.Layout.{aligned, addresses_from, greatest_word, greatest_length, story_of}
 
 -- a program that a story of this version can hold
 pub record Fits (version : Version) (p : ProgramOf) : Type 0 where
   pub accepted : IsAccepted p
+  pub placed : routines_place p ≤ greatest_word
   pub within : length (story_of version p) ≤ greatest_length version
 
 -- the places that a header tells
@@ -23,18 +26,24 @@ pub record AreWords (at : Places) : Type 0 where
   pub start : at.start < 65536
 
 -- the code of a routine, ready to be written
-abbrev pub code_of : RoutineOf → CodeOf
-code_of r = record { locals = r.locals; items = routine_items r }
+abbrev pub code_of : List ℕ → RoutineOf → CodeOf
+code_of sizes r = record { locals = r.locals; sizes = sizes; items = routine_items r }
 
 -- the number of its locals is a byte
 abbrev pub IsReady : CodeOf → Type 0
 IsReady c = c.locals < 256
 
 abbrev pub code_part : Addresses → CodeOf → List ℕ
-code_part a c = c.locals ∷ code_bytes a c.items
+code_part a c = c.locals ∷ code_bytes c.sizes a c.items
 
 abbrev pub part_size : CodeOf → ℕ
-part_size c = 1 + code_size c.items
+part_size c = 1 + code_size c.sizes c.items
+
+abbrev pub bytes_in : Vec ℕ → List ℕ
+bytes_in text = text.items
+
+abbrev pub text_size : Vec ℕ → ℕ
+text_size text = length text.items
 
 -- the packed addresses of parts of these sizes
 abbrev pub packed_from : ℕ → ℕ → List ℕ → List ℕ

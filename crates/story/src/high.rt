@@ -8,7 +8,7 @@ ghost use Rattle.zcore.specs.Text.{encoded};
 ghost use Rattle.code.specs.Written.{addresses_of};
 ghost use Rattle.checker.specs.Places.{header_size};
 ghost use Rattle.story.specs.Layout as layout;
-ghost use Rattle.story.specs.Written.{IsReady, code_part};
+ghost use Rattle.story.specs.Written.{IsReady, bytes_in, code_part};
 
 use crate::packed::aligned;
 use crate::words::put_zeros;
@@ -43,7 +43,7 @@ pub fn put_filling(body: &mut Vec<u8>, version: Version) -> Result<(), AllocErro
 /// The code of a routine.
 fn put_code(
     body: &mut Vec<u8>,
-    code: &Code<'_>,
+    code: &Code<'_, '_>,
     addresses: &Addresses<'_>,
 ) -> Result<(), AllocError>
     requires { IsReady code.now }
@@ -59,7 +59,7 @@ fn put_code(
 pub fn put_routines(
     body: &mut Vec<u8>,
     version: Version,
-    codes: &[Code<'_>],
+    codes: &[Code<'_, '_>],
     addresses: &Addresses<'_>,
 ) -> Result<(), AllocError>
     requires { All IsReady codes.now }
@@ -87,18 +87,14 @@ fn put_text(body: &mut Vec<u8>, version: Version, text: &[u8]) -> Result<(), All
     body.extend_from_slice(text)
 }
 
-/// Two texts, and what fills the end of the story.
-pub fn put_texts(
-    body: &mut Vec<u8>,
-    version: Version,
-    first: &[u8],
-    second: &[u8],
-) -> Result<(), AllocError>
+/// Texts, and what fills the end of the story.
+pub fn put_texts(body: &mut Vec<u8>, version: Version, texts: &[Vec<u8>]) -> Result<(), AllocError>
     ensures { OnOk result (body.new.items ≡ body.old.items ++ layout.parts_from (scale_of version)
-        (header_size + length body.old.items) (first.now ∷ second.now ∷ [])) }
+        (header_size + length body.old.items) (map bytes_in texts.now)) }
 {
-    put_text(body, version, first)?;
-    put_text(body, version, second)?;
+    for text in texts {
+        put_text(body, version, text)?;
+    }
     put_filling(body, version)?;
     Ok(())
 }

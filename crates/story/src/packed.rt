@@ -1,9 +1,9 @@
 //! Where the parts of a story stand to which code refers.
 
-ghost use Rattle.std.specs.Prelude.{◌≡◌, ◌≤◌, ◌<◌, ◌+◌, ◌/◌, ◌^◌, ◌++◌, [], ◌∷◌, IfOk, OnOk, map};
+ghost use Rattle.std.specs.Prelude.{◌≡◌, ◌≤◌, ◌<◌, ◌+◌, ◌/◌, ◌^◌, ◌++◌, [], ◌∷◌, IfOk, OnOk, map, sum};
 ghost use Rattle.zcore.specs.Header.{scale_of};
 ghost use Rattle.story.specs.Layout as layout;
-ghost use Rattle.story.specs.Written.{end_from, packed_from, part_size};
+ghost use Rattle.story.specs.Written.{end_from, packed_from, part_size, text_size};
 
 use code::Code;
 use std::alloc::{AllocError, Global};
@@ -35,26 +35,55 @@ fn add_address(
     Ok(address + size)
 }
 
-/// The packed addresses of routines that stand from an address on, and then of two texts of these sizes.
+/// How many bytes routines have.
+pub fn code_sizes(alloc: Global, codes: &[Code<'_, '_>]) -> Result<Vec<usize>, AllocError>
+    ensures { IfOk result (λ v. v.items ≡ map part_size codes.now) }
+{
+    let mut sizes = Vec::new(alloc);
+    for code in codes {
+        sizes.push(code.length())?;
+    }
+    Ok(sizes)
+}
+
+/// Adds how many bytes texts have.
+pub fn add_text_sizes(sizes: &mut Vec<usize>, texts: &[Vec<u8>]) -> Result<(), AllocError>
+    ensures { OnOk result (sizes.new.items ≡ sizes.old.items ++ map text_size texts.now) }
+{
+    for text in texts {
+        sizes.push(text.len())?;
+    }
+    Ok(())
+}
+
+/// The packed addresses of parts of these sizes that stand from an address on.
 pub fn packed_addresses(
     alloc: Global,
     version: Version,
     place: usize,
-    codes: &[Code<'_>],
-    first: usize,
-    second: usize,
+    sizes: &[usize],
 ) -> Result<Vec<u16>, AllocError>
-    requires { end_from (scale_of version) place (map part_size codes.now ++ first ∷ second ∷ [])
-        ≤ layout.greatest_length version }
-    ensures { IfOk result (λ v. v.items ≡ packed_from (scale_of version) place (map part_size codes.now
-        ++ first ∷ second ∷ [])) }
+    requires { end_from (scale_of version) place sizes.now ≤ layout.greatest_length version }
+    ensures { IfOk result (λ v. v.items ≡ packed_from (scale_of version) place sizes.now) }
 {
     let mut addresses = Vec::new(alloc);
     let mut at = place;
-    for code in codes {
-        at = add_address(&mut addresses, version, at, code.length())?;
+    for size in sizes {
+        at = add_address(&mut addresses, version, at, *size)?;
     }
-    at = add_address(&mut addresses, version, at, first)?;
-    add_address(&mut addresses, version, at, second)?;
+    Ok(addresses)
+}
+
+/// The addresses of arrays of these sizes that stand one behind another from an address on.
+pub fn array_addresses(alloc: Global, place: usize, sizes: &[usize]) -> Result<Vec<u16>, AllocError>
+    requires { place + sum sizes.now ≤ layout.greatest_word }
+    ensures { IfOk result (λ v. v.items ≡ layout.addresses_from 1 place sizes.now) }
+{
+    let mut addresses = Vec::new(alloc);
+    let mut at = place;
+    for size in sizes {
+        addresses.push(at as u16)?;
+        at += *size;
+    }
     Ok(addresses)
 }

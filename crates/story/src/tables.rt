@@ -2,10 +2,13 @@
 
 ghost use Rattle.std.specs.Prelude.{◌≡◌, ◌≤◌, ◌++◌, OnOk, length};
 ghost use Rattle.code.specs.HeldProgram.{start_code};
+ghost use Rattle.checker.specs.Places as places;
 ghost use Rattle.checker.specs.Places.{global_count};
+ghost use Rattle.checker.specs.Resolved.{program_of};
 ghost use Rattle.story.specs.Layout.{dictionary_bytes, global_bytes, low_bytes};
 
 use crate::words::{put_word, put_words, put_zeros};
+use checker::{Checked, part_places};
 use std::alloc::AllocError;
 
 /// The table has as many words.
@@ -56,14 +59,22 @@ fn put_start(bytes: &mut Vec<u8>, main: u16) -> Result<(), AllocError>
     Ok(())
 }
 
+/// Where the arrays stand: behind the globals.
+pub fn arrays_place(checked: &Checked<'_>) -> usize
+    ensures { result ≡ places.arrays_place }
+{
+    part_places(checked).globals + 2 * GLOBALS
+}
+
 /// All that stands between the header and the routines.
-pub fn put_low(bytes: &mut Vec<u8>, globals: &[u16], main: u16) -> Result<(), AllocError>
-    requires { length globals.now ≤ global_count }
-    ensures { OnOk result (bytes.new.items ≡ bytes.old.items ++ low_bytes globals.now main) }
+pub fn put_low(bytes: &mut Vec<u8>, checked: &Checked<'_>, main: u16) -> Result<(), AllocError>
+    requires { length checked.now.globals ≤ global_count }
+    ensures { OnOk result (bytes.new.items ≡ bytes.old.items ++ low_bytes (program_of checked.now) main) }
 {
     put_words(bytes, &[EMPTY_TEXT; ABBREVIATIONS])?;
     put_word(bytes, NO_CHARACTERS)?;
-    put_globals(bytes, globals)?;
+    put_globals(bytes, checked.globals())?;
+    bytes.extend_from_slice(checked.array_bytes())?;
     put_zeros(bytes, DEFAULTS)?;
     put_dictionary(bytes)?;
     put_start(bytes, main)?;

@@ -1,62 +1,77 @@
 //! The bytes of a story.
 
-ghost use Rattle.std.specs.Prelude.{◌≡◌, ◌<◌, ◌+◌, [], ◌∷◌, IfOk, length, map, slice_index};
+ghost use Rattle.std.specs.Prelude.{◌≡◌, ◌≤◌, ◌<◌, ◌++◌, [], ◌∷◌, true, IfOk, OnOk, drop, length, map};
+ghost use Rattle.std.specs.List.{list_all};
+ghost use Rattle.zcore.specs.Alphabets.{is_printable};
+ghost use Rattle.zcore.specs.Text.{encoded};
 ghost use Rattle.zcore.specs.Header.{scale_of};
 ghost use Rattle.checker.specs.Meaning.{routine_at};
 ghost use Rattle.checker.specs.Resolved.{program_of};
+ghost use Rattle.code.specs.HeldProgram.{sizes_of};
 ghost use Rattle.code.specs.Written.{addresses_of};
 ghost use Rattle.story.specs.Layout as layout;
-ghost use Rattle.story.specs.Written.{Fits, code_of};
+ghost use Rattle.story.specs.Written.{Fits, bytes_in, code_of};
 
 use crate::header::put_header;
 use crate::high::{put_routines, put_texts, z_text};
-use crate::packed::packed_addresses;
-use crate::tables::put_low;
+use crate::packed::{add_text_sizes, array_addresses, code_sizes, packed_addresses};
+use crate::tables::{arrays_place, put_low};
 use checker::{Checked, part_places};
 use code::{Addresses, Code, CodeFault, routine_code};
 use std::alloc::{AllocError, Global};
 use zcore::Version;
 
-/// The Z-texts of the lines that faults of the source print.
-#[derive(Drop)]
-struct FaultTexts {
-    division_by_zero: Vec<u8>,
-    not_a_character: Vec<u8>,
-}
-
-/// The texts of faults.
-fn fault_texts(alloc: Global) -> Result<FaultTexts, AllocError>
-    ensures { IfOk result (λ t. t.division_by_zero.items ∷ t.not_a_character.items ∷ [] ≡ layout.fault_texts) }
+/// Adds the Z-text of characters.
+fn add_text(alloc: Global, texts: &mut Vec<Vec<u8>>, characters: &[u8]) -> Result<(), AllocError>
+    requires { list_all is_printable characters.now ≡ true }
+    ensures { OnOk result (map bytes_in texts.new.items ≡ map bytes_in texts.old.items ++ encoded characters.now ∷ []) }
 {
-    let division_by_zero = z_text(alloc, b"\r[Fault: division by zero]\r")?;
-    let not_a_character = z_text(alloc, b"\r[Fault: not a character]\r")?;
-    Ok(FaultTexts {
-        division_by_zero,
-        not_a_character,
-    })
+    let text = z_text(alloc, characters)?;
+    texts.push(text)?;
+    Ok(())
 }
 
-/// Where the routines and the texts of faults stand, by the packed addresses of all parts.
-fn addresses_in<'a>(packed: &'a [u16], routines: usize) -> Addresses<'a>
-    requires { routines + 1 < length packed.now }
+/// The Z-texts of the lines that faults of the source print, in the order of `Cause`.
+fn fault_texts(alloc: Global) -> Result<Vec<Vec<u8>>, AllocError>
+    ensures { IfOk result (λ t. map bytes_in t.items ≡ layout.fault_texts) }
+{
+    let mut texts = Vec::new(alloc);
+    add_text(alloc, &mut texts, b"\r[Fault: division by zero]\r")?;
+    add_text(alloc, &mut texts, b"\r[Fault: not an object]\r")?;
+    add_text(alloc, &mut texts, b"\r[Fault: index out of range]\r")?;
+    add_text(alloc, &mut texts, b"\r[Fault: no such property]\r")?;
+    add_text(alloc, &mut texts, b"\r[Fault: property of many words]\r")?;
+    add_text(alloc, &mut texts, b"\r[Fault: object inside itself]\r")?;
+    add_text(alloc, &mut texts, b"\r[Fault: not a character]\r")?;
+    add_text(alloc, &mut texts, b"\r[Fault: buffer too small]\r")?;
+    Ok(texts)
+}
+
+/// Where the routines, the arrays and the texts of faults stand, by the packed addresses of all parts and the addresses
+/// of the arrays.
+fn addresses_in<'a>(packed: &'a [u16], routines: usize, arrays: &'a [u16]) -> Addresses<'a>
+    requires { routines ≤ length packed.now }
     ensures { addresses_of result ≡ record {
       routines = packed.now;
-      division_by_zero = slice_index packed.now routines;
-      not_a_character =
-          slice_index packed.now (routines + 1);
+      arrays = arrays.now;
+      faults = drop routines packed.now;
     } }
 {
     Addresses {
         routines: packed,
-        division_by_zero: packed[routines],
-        not_a_character: packed[routines + 1],
+        arrays,
+        faults: &packed[routines..],
     }
 }
 
 /// The code of the routine of a number.
-fn code_at<'a>(alloc: Global, checked: &Checked<'a>, routine: usize) -> Result<Code<'a>, AllocError>
+fn code_at<'a, 'b>(
+    alloc: Global,
+    checked: &'b Checked<'a>,
+    routine: usize,
+) -> Result<Code<'a, 'b>, AllocError>
     requires { routine < length checked.now.routines }
-    ensures { IfOk result (λ c. c ≡ code_of (routine_at (program_of checked.now).routines routine)) }
+    ensures { IfOk result (λ c. c ≡ code_of (sizes_of (program_of checked.now)) (routine_at (program_of checked.now).routines routine)) }
 {
     match routine_code(alloc, checked, routine) {
         Ok(code) => Ok(code),
@@ -65,8 +80,11 @@ fn code_at<'a>(alloc: Global, checked: &Checked<'a>, routine: usize) -> Result<C
 }
 
 /// The code of all routines, in order of definition.
-fn codes_of<'a>(alloc: Global, checked: &Checked<'a>) -> Result<Vec<Code<'a>>, AllocError>
-    ensures { IfOk result (λ v. v.items ≡ map code_of (program_of checked.now).routines) }
+fn codes_of<'a, 'b>(
+    alloc: Global,
+    checked: &'b Checked<'a>,
+) -> Result<Vec<Code<'a, 'b>>, AllocError>
+    ensures { IfOk result (λ v. v.items ≡ map (code_of (sizes_of (program_of checked.now))) (program_of checked.now).routines) }
 {
     let mut codes = Vec::new(alloc);
     for routine in 0..checked.routines() {
@@ -82,24 +100,15 @@ fn body_of(alloc: Global, version: Version, checked: &Checked<'_>) -> Result<Vec
 {
     let codes = codes_of(alloc, checked)?;
     let texts = fault_texts(alloc)?;
-    let packed = packed_addresses(
-        alloc,
-        version,
-        part_places(checked).routines,
-        &codes,
-        texts.division_by_zero.len(),
-        texts.not_a_character.len(),
-    )?;
-    let addresses = addresses_in(&packed, codes.len());
+    let mut sizes = code_sizes(alloc, &codes)?;
+    add_text_sizes(&mut sizes, &texts)?;
+    let packed = packed_addresses(alloc, version, part_places(checked).routines, &sizes)?;
+    let arrays = array_addresses(alloc, arrays_place(checked), checked.array_sizes())?;
+    let addresses = addresses_in(&packed, codes.len(), &arrays);
     let mut body = Vec::new(alloc);
-    put_low(&mut body, checked.globals(), packed[checked.main()])?;
+    put_low(&mut body, checked, packed[checked.main()])?;
     put_routines(&mut body, version, &codes, &addresses)?;
-    put_texts(
-        &mut body,
-        version,
-        &texts.division_by_zero,
-        &texts.not_a_character,
-    )?;
+    put_texts(&mut body, version, &texts)?;
     Ok(body)
 }
 

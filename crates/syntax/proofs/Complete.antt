@@ -8,20 +8,23 @@ use Rattle.lexer.specs.Token.{Lexeme, name, reserved, sign, end}
 use Rattle.expressions.specs.declared.error.Fault.{Fault}
 use Rattle.expressions.specs.declared.error.Fault.TheVariants.{Deep}
 use Rattle.expressions.specs.Tree.{NameTree}
-use Rattle.expressions.specs.Parse.{head, expect}
+use Rattle.expressions.specs.Parse.{head, is_name, expect}
 use Rattle.expressions.proofs.Limited.{Limited, then, at_once}
 use Rattle.statements.specs.Tree.{StatementTrees}
 use Rattle.statements.specs.Nesting.{begins_statement}
 use Rattle.statements.specs.Parse.{repeated, statements}
 use Rattle.statements.proofs.Complete.{listed, listed_back, at_Ss, repeated_stop, repeated_next}
 use Rattle.statements.proofs.Follow.{short_Ss}
-use Rattle.syntax.specs.Tree.{LiteralTree, RoutineTree, DirectiveTree, global, constant, routine, ProgramTree}
+use Rattle.syntax.specs.declared.tree.ArrayKind.{ArrayKind}
+use Rattle.syntax.specs.Tree.{LiteralTree, ValueTree, RoutineTree, DirectiveTree, global, constant, array, routine}
+use Rattle.syntax.specs.Tree.{ProgramTree}
 use Rattle.syntax.specs.Grammar.{weight_of, IsK, k_number, k_negative, k_character, k_true, k_false, k_nothing}
-use Rattle.syntax.specs.Grammar.{k_name, IsNames, names_stop, names_next, IsDirective, d_global, d_global_value}
-use Rattle.syntax.specs.Grammar.{d_constant, d_routine, IsDirectives, directives_stop, directives_next, IsProgram}
+use Rattle.syntax.specs.Grammar.{k_name, IsNames, names_stop, names_next, IsValue, v_value, IsValues, values_stop}
+use Rattle.syntax.specs.Grammar.{values_next, kind_of, IsDirective, d_global, d_global_value, d_constant, d_array}
+use Rattle.syntax.specs.Grammar.{d_routine, IsDirectives, directives_stop, directives_next, IsProgram}
 use Rattle.syntax.specs.Grammar.{program as program_is, directive_nesting, directives_nesting, program_nesting}
-use Rattle.syntax.specs.Parse.{named, is_name, names, value, ended, global_behind, constant_behind, goes_on}
-use Rattle.syntax.specs.Parse.{routine_at, directive, directives, program}
+use Rattle.syntax.specs.Parse.{named, names, value, begins_value, placed, values, kind, array_behind, ended}
+use Rattle.syntax.specs.Parse.{global_behind, constant_behind, goes_on, routine_at, directive, directives, program}
 
 -- ---- names and values
 
@@ -61,18 +64,61 @@ short_Names : {ts r : List Lexeme} {ns : List NameTree} → IsNames ts ns r → 
 short_Names names_stop = omega arith
 short_Names (names_next a) = omega (arith, short_Names a)
 
+-- ---- values of arrays
+
+begins_K : {ts r : List Lexeme} {k : LiteralTree} → IsK ts k r → begins_value (head ts) ≡ true
+begins_K k_number = refl
+begins_K k_negative = refl
+begins_K k_character = refl
+begins_K k_true = refl
+begins_K k_false = refl
+begins_K k_nothing = refl
+begins_K k_name = refl
+
+begins_Value : {ts r : List Lexeme} {v : ValueTree} → IsValue ts v r → begins_value (head ts) ≡ true
+begins_Value (v_value a) = begins_K a
+
+placed_read : {ts r : List Lexeme} {v : ValueTree} → IsValue ts v r → placed ts ≡ Ok (v, r)
+unfolding placed
+placed_read (v_value a) = rw (value_read a) refl
+
+short_Value : {ts r : List Lexeme} {v : ValueTree} → IsValue ts v r → length r < length ts
+short_Value (v_value a) = short_K a
+
+short_Values : {ts r : List Lexeme} {vs : List ValueTree} → IsValues ts vs r → length r ≤ length ts
+short_Values values_stop = omega arith
+short_Values (values_next a b) = omega (arith, short_Value a, short_Values b)
+
+turns_Values : {ts r : List Lexeme} {vs : List ValueTree} → IsValues ts vs r → begins_value (head r) ≡ false
+    → (n : ℕ) → length ts ≤ n → repeated begins_value placed n ts ≡ Ok (vs, r)
+unfolding repeated
+turns_Values values_stop e zero le = refl
+turns_Values values_stop e (suc n) le = rw e refl
+turns_Values (values_next a b) e zero le = absurd (omega (arith, short_Value a))
+turns_Values (values_next a b) e (suc n) le =
+    let rest = turns_Values b e n (omega (arith, short_Value a)) in
+    rw (begins_Value a, placed_read a, rest) refl
+
+values_read : {ts r : List Lexeme} {vs : List ValueTree} → IsValues ts vs r → 0 < length vs
+    → begins_value (head r) ≡ false → values ts ≡ Ok (vs, r)
+unfolding values
+values_read values_stop lt e = absurd (omega arith)
+values_read (values_next {m = m} a b) lt e = rw (placed_read a, turns_Values b e (length m) (omega arith)) refl
+
 -- ---- directives
 
 short_Directive : {ts r : List Lexeme} {x : DirectiveTree} → IsDirective ts x r → length r < length ts
 short_Directive d_global = omega arith
 short_Directive (d_global_value k) = omega (arith, short_K k)
 short_Directive (d_constant k) = omega (arith, short_K k)
+short_Directive (d_array o a lt) = omega (arith, short_Values a)
 short_Directive (d_routine n a) = omega (arith, short_Names n, short_Ss a)
 
 first_Directive : {ts r : List Lexeme} {x : DirectiveTree} → IsDirective ts x r → goes_on (head ts) ≡ true
 first_Directive d_global = refl
 first_Directive (d_global_value k) = refl
 first_Directive (d_constant k) = refl
+first_Directive (d_array o a lt) = refl
 first_Directive (d_routine n a) = refl
 
 bracket_stops : (p : Position) → begins_statement (sign s.CloseBracket p) ≡ false
@@ -99,6 +145,13 @@ module _ (d : ℕ) where
       (constant (record { text = n; position = q }) k) r
   unfolding directive constant_behind named ended expect
   step_constant p q o l n k m r e = at_once (rw e refl)
+
+  step_array : (p q l : Position) (t : Lexeme) (n : List ℕ) (a : ArrayKind) (vs : List ValueTree) (m r : List Lexeme)
+      → kind_of t ≡ Some a → values m ≡ Ok (vs, sign s.Semicolon l ∷ r)
+      → Limited (directive d (reserved w.Array p ∷ name n q ∷ t ∷ m)) d 0
+      (array (record { name = record { text = n; position = q }; kind = a; values = vs })) r
+  unfolding directive array_behind named kind expect
+  step_array p q l t n a vs m r o e = at_once (rw (o, e) refl)
 
   step_routine : {j : ℕ} (p q o l i : Position) (n : List ℕ) (ns : List NameTree) (xs : StatementTrees)
       (m k r : List Lexeme) → names m ≡ Ok (ns, sign s.Semicolon o ∷ k)
@@ -136,6 +189,8 @@ module _ (d : ℕ) where
       p q o l n k m r (value_read a)
   at_Directive (d_constant {m = m} {r = r} {p = p} {q = q} {o = o} {l = l} {n = n} {k = k} a) = step_constant p q o l
       n k m r (value_read a)
+  at_Directive (d_array {m = m} {r = r} {p = p} {q = q} {o = o} {t = t} {n = n} {k = k} {vs = vs} e a lt) = step_array
+      p q o t n k vs m r e (values_read a lt refl)
   at_Directive
       (d_routine {m = m} {k = k} {r = r} {p = p} {q = q} {o = o} {l = l} {j = j} {n = n} {ns = ns} {xs = xs} b a) =
       step_directive p (name n q ∷ m)

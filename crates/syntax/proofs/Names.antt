@@ -5,10 +5,10 @@ use Rattle.lexer.specs.Token.{Lexeme, name}
 use Rattle.expressions.specs.declared.tree.Name.{Name}
 use Rattle.expressions.specs.declared.error.Fault.TheVariants.{Grammar}
 use Rattle.expressions.specs.Tree.{name_tree}
-use Rattle.expressions.specs.Parse.{head, tail}
+use Rattle.expressions.specs.Parse.{head, tail, is_name}
 use Rattle.statements.specs.Parse.{repeated}
 use Rattle.statements.proofs.Loops.{joined, repeated_more}
-use Rattle.syntax.specs.Parse.{is_name, named_on, named}
+use Rattle.syntax.specs.Parse.{named_on, named}
 
 pub named_at : (ts : List Lexeme) (n : Name) → head ts ≡ name n.text.now n.position
     → named ts ≡ Ok (name_tree n, tail ts)

@@ -10,9 +10,10 @@ use Rattle.statements.specs.Grammar.{IsItem, item_text, item_character, item_num
 use Rattle.statements.specs.Grammar.{IsS, s_empty, s_block, s_text, s_print, s_print_ret, s_new_line, s_if, s_if_else}
 use Rattle.statements.specs.Grammar.{s_while, s_return, s_return_value, s_rtrue, s_rfalse, s_quit, s_effect, IsSs}
 use Rattle.statements.specs.Grammar.{ss_stop, ss_next}
-use Rattle.syntax.specs.Tree.{LiteralTree, DirectiveTree, ProgramTree}
+use Rattle.syntax.specs.Tree.{LiteralTree, ValueTree, DirectiveTree, ProgramTree}
 use Rattle.syntax.specs.Grammar.{IsK, k_number, k_negative, k_character, k_true, k_false, k_nothing, k_name}
-use Rattle.syntax.specs.Grammar.{IsDirective, d_global, d_global_value, d_constant, d_routine, IsDirectives}
+use Rattle.syntax.specs.Grammar.{IsValue, v_value, IsValues, values_stop, values_next}
+use Rattle.syntax.specs.Grammar.{IsDirective, d_global, d_global_value, d_constant, d_array, d_routine, IsDirectives}
 use Rattle.syntax.specs.Grammar.{directives_stop, directives_next, IsProgram, program}
 use Rattle.syntax.specs.Printable.{IsPrintableItem, IsPrintableStatement, ArePrintableStatements}
 use Rattle.syntax.specs.Printable.{IsPrintableDirective, HasPrintableTexts}
@@ -80,16 +81,25 @@ after_value k_false h = after h
 after_value k_nothing h = after h
 after_value k_name h = after h
 
+after_placed : {ts r : List Lexeme} {v : ValueTree} → IsValue ts v r → Prints ts → Prints r
+after_placed (v_value a) h = after_value a h
+
+after_values : {ts r : List Lexeme} {vs : List ValueTree} → IsValues ts vs r → Prints ts → Prints r
+after_values values_stop h = h
+after_values (values_next a b) h = after_values b (after_placed a h)
+
 directive_prints : {ts r : List Lexeme} {d : DirectiveTree} → IsDirective ts d r → Prints ts → IsPrintableDirective d
 directive_prints d_global h = tt
 directive_prints (d_global_value a) h = tt
 directive_prints (d_constant a) h = tt
+directive_prints (d_array o a lt) h = tt
 directive_prints (d_routine a b) h = statements_print b (after (rest (spelled_Names a) (after (after h))))
 
 after_directive : {ts r : List Lexeme} {d : DirectiveTree} → IsDirective ts d r → Prints ts → Prints r
 after_directive d_global h = after (after (after h))
 after_directive (d_global_value a) h = after (after_value a (after (after (after h))))
 after_directive (d_constant a) h = after (after_value a (after (after (after h))))
+after_directive (d_array o a lt) h = after (after_values a (after (after (after h))))
 after_directive (d_routine a b) h = after
     (after (rest (spelled_Ss b) (after (rest (spelled_Names a) (after (after h))))))
 

@@ -1,25 +1,27 @@
 -- What is read derives in the grammar and is nested no deeper than was allowed; and where the fault is that a token
 -- stands too deep, one does.
-use Rattle.std.proofs.Common.{◌≡◌, ℕ, suc, ◌-◌, ◌%◌, ◌≤◌, List, ◌∷◌, length, Some, None, refl, sym, ap, subst, ◌∙◌}
-use Rattle.std.proofs.Common.{arith}
+use Rattle.std.proofs.Common.{◌≡◌, ℕ, suc, ◌-◌, ◌%◌, ◌<◌, ◌≤◌, List, [], ◌∷◌, length, Option, Some, None, refl, sym}
+use Rattle.std.proofs.Common.{ap, subst, ◌∙◌, arith}
 use Rattle.lexer.specs.declared.token.Position.{Position}
 use Rattle.lexer.specs.declared.token.Sign.TheVariants as s
 use Rattle.lexer.specs.declared.token.Word.TheVariants as w
 use Rattle.lexer.specs.Token.{Lexeme, name, number, character, reserved, sign, position_of}
-use Rattle.expressions.specs.Parse.{head, tail, is_sign, expect}
+use Rattle.expressions.specs.Parse.{head, tail, is_name, is_sign, expect}
 use Rattle.expressions.proofs.Judged.{Judged, judged_read, judged_grammar, judged_then, judged_after, judged_by}
 use Rattle.expressions.proofs.Tokens.{at_sign, expect_ok, expect_not_deep}
 use Rattle.statements.specs.Tree.{trees_of}
 use Rattle.statements.specs.Grammar.{IsSs, body_nesting}
 use Rattle.statements.proofs.Sound.{repeated_judged, judged_Ss}
-use Rattle.syntax.specs.Tree.{number_value, named_value, DirectiveTree, global, constant, routine}
+use Rattle.syntax.specs.declared.tree.ArrayKind.{ArrayKind}
+use Rattle.syntax.specs.Tree.{number_value, named_value, DirectiveTree, global, constant, array, routine}
 use Rattle.syntax.specs.Grammar.{weight_of, IsK, k_number, k_negative, k_character, k_true, k_false, k_nothing}
-use Rattle.syntax.specs.Grammar.{k_name, IsNames, names_stop, names_next, IsDirective, d_global, d_global_value}
-use Rattle.syntax.specs.Grammar.{d_constant, d_routine, IsDirectives, directives_stop, directives_next}
+use Rattle.syntax.specs.Grammar.{k_name, IsNames, names_stop, names_next, IsValue, v_value, IsValues, values_stop}
+use Rattle.syntax.specs.Grammar.{values_next, kind_of, IsDirective, d_global, d_global_value}
+use Rattle.syntax.specs.Grammar.{d_constant, d_array, d_routine, IsDirectives, directives_stop, directives_next}
 use Rattle.syntax.specs.Grammar.{directive_nesting, directives_nesting}
 use Rattle.syntax.specs.Nesting.{DeepDirective, deep_d_routine, DeepProgram, deep_program_first, deep_program_next}
-use Rattle.syntax.specs.Parse.{named, is_name, names, value, ended, global_behind, constant_behind, goes_on}
-use Rattle.syntax.specs.Parse.{routine_at, directive, directives}
+use Rattle.syntax.specs.Parse.{named, names, value, begins_value, placed, values, kind_on, kind, array_behind, ended}
+use Rattle.syntax.specs.Parse.{global_behind, constant_behind, goes_on, routine_at, directive, directives}
 
 -- ---- names and values: in them no token stands too deep
 
@@ -49,6 +51,36 @@ value_judged (reserved w.Nothing p ∷ ts) = judged_read (number_value 0) ts k_n
 value_judged (name n p ∷ ts) = judged_read (named_value (record { text = n; position = p })) ts k_name
 value_judged (sign s.Minus p ∷ number n q ∷ ts) = judged_read (number_value ((65536 - n) % 65536)) ts k_negative
 value_judged _ = judged_grammar
+
+-- ---- arrays
+
+placed_judged : (ts : List Lexeme) → Judged (λ v r. IsValue ts v r) ⊥ (placed ts)
+unfolding placed value
+placed_judged [] = judged_grammar
+placed_judged (t ∷ m) = judged_then _ (value_judged (t ∷ m)) (λ k r h. judged_read _ r (v_value h)) (λ x. x)
+
+values_judged : (ts : List Lexeme) → Judged (λ vs r. IsValues ts vs r × (0 < length vs)) ⊥ (values ts)
+unfolding values
+values_judged ts = judged_then _ (placed_judged ts)
+    (λ v r h. judged_then _
+    (repeated_judged begins_value placed IsValue IsValues (λ us. ⊥) (λ us. ⊥)
+    (λ u. values_stop)
+    (λ us a m vs u q l. values_next q l)
+    (λ us e x. x)
+    (λ us a m q x. x)
+    placed_judged (length r) r) (λ vs u l. judged_read (v ∷ vs) u (values_next h l, omega arith)) (λ x. x))
+    (λ x. x)
+
+kind_judged : (ts : List Lexeme) → Judged
+    (λ k r. (ts ≡ head ts ∷ r) × (kind_of (head ts) ≡ Some k)) ⊥ (kind ts)
+unfolding kind
+kind_judged [] = judged_grammar
+kind_judged (t ∷ ts) = go (kind_of t) refl
+  where
+    go : (o : Option ArrayKind) → kind_of t ≡ o
+        → Judged (λ k r. (t ∷ ts ≡ t ∷ r) × (kind_of t ≡ Some k)) ⊥ (kind_on ts o)
+    go None o = judged_grammar
+    go (Some k) o = judged_read k ts (refl, o)
 
 -- ---- directives
 
@@ -106,6 +138,27 @@ module _ (d : ℕ) where
       (λ e. absurd (expect_not_deep s.Assign r e)))
       (λ x. absurd x)
 
+  array_judged : (p : Position) (ts : List Lexeme)
+      → Judged (λ x r. IsDirective (reserved w.Array p ∷ ts) (array x) r × (directive_nesting (array x) ≤ d))
+      (DeepDirective (suc d) (reserved w.Array p ∷ ts)) (array_behind ts)
+  unfolding array_behind
+  array_judged p ts =
+      judged_then _ (named_judged ts)
+      (λ n a q. judged_then _ (kind_judged a)
+      (λ k b o. judged_then _ (values_judged b)
+      (λ vs c l. judged_after (expect s.Semicolon c) _
+      (λ r e.
+      let at = q ∙ ap (λ u. name n.text n.position ∷ u) o.0 in
+      judged_read _ r (
+        subst (λ us. IsDirective (reserved w.Array p ∷ us) (array (record { name = n; kind = k; values = vs })) r)
+            (sym at) (d_array o.1 (subst (λ v. IsValues b vs v) (expect_ok s.Semicolon c r e) l.0) l.1),
+        omega arith,
+      ))
+      (λ e. absurd (expect_not_deep s.Semicolon c e)))
+      (λ x. absurd x))
+      (λ x. absurd x))
+      (λ x. absurd x)
+
   routine_judged : (p : Position) (ts : List Lexeme)
       → Judged (λ x r. IsDirective (sign s.OpenBracket p ∷ ts) (routine x) r × (body_nesting x.body ≤ d))
       (DeepDirective (suc d) (sign s.OpenBracket p ∷ ts)) (routine_at d (sign s.OpenBracket p ∷ ts))
@@ -146,6 +199,8 @@ module _ (d : ℕ) where
   unfolding directive
   directive_judged (reserved w.Global p ∷ ts) = global_judged p ts
   directive_judged (reserved w.Constant p ∷ ts) = constant_judged p ts
+  directive_judged (reserved w.Array p ∷ ts) = judged_then _ (array_judged p ts) (λ x r h. judged_read (array x) r h)
+      (λ x. x)
   directive_judged (sign s.OpenBracket p ∷ ts) = judged_then _ (routine_judged p ts)
       (λ x r h. judged_read (routine x) r h) (λ x. x)
   directive_judged _ = judged_grammar

@@ -8,14 +8,15 @@ use Rattle.expressions.specs.declared.tree.Binary.{Binary}
 use Rattle.expressions.specs.declared.tree.Comparison.{Comparison}
 use Rattle.expressions.specs.declared.tree.Equality.{Equality}
 use Rattle.expressions.specs.declared.tree.Step.{Step}
-use Rattle.expressions.specs.Operators.{logical, comparing, equating, adding, scaling, stepping}
+use Rattle.expressions.specs.declared.tree.Width.{Width}
+use Rattle.expressions.specs.Operators.{logical, comparing, equating, adding, scaling, stepping, indexing}
 use Rattle.expressions.specs.Tree.{NameTree, ExpressionTree, ExpressionTrees, call}
 use Rattle.expressions.specs.Grammar.{IsE, e_plain, e_assign, IsE1, e1_plain, e1_logical, IsN1, n1_plain, n1_not}
 use Rattle.expressions.specs.Grammar.{IsE2, e2_plain, e2_compare, e2_equal, IsChoice, choice_last, choice_or, IsE3}
-use Rattle.expressions.specs.Grammar.{e3_plain, e3_add, IsE4, e4_plain, e4_scale, IsN4, n4_plain, n4_complement, IsU}
-use Rattle.expressions.specs.Grammar.{u_plain, u_minus, u_before, u_after, IsP, p_number, p_character, p_true}
-use Rattle.expressions.specs.Grammar.{p_false, p_nothing, p_name, p_call, p_call_with, p_parenthesised, IsArguments}
-use Rattle.expressions.specs.Grammar.{arguments_last, arguments_comma}
+use Rattle.expressions.specs.Grammar.{e3_plain, e3_add, IsE4, e4_plain, e4_scale, IsN4, n4_plain, n4_complement, IsE5}
+use Rattle.expressions.specs.Grammar.{e5_plain, e5_index, IsU, u_plain, u_minus, u_before, u_after, IsP, p_number}
+use Rattle.expressions.specs.Grammar.{p_character, p_true, p_false, p_nothing, p_name, p_call, p_call_with}
+use Rattle.expressions.specs.Grammar.{p_parenthesised, IsArguments, arguments_last, arguments_comma}
 use Rattle.statements.specs.Tree.{PrintItemTree, StatementTree, StatementTrees}
 use Rattle.statements.specs.Grammar.{IsItem, item_text, item_character, item_number, IsItems, items_last, items_comma}
 use Rattle.statements.specs.Grammar.{IsS, s_empty, s_block, s_text, s_print, s_print_ret, s_new_line, s_if, s_if_else}
@@ -81,6 +82,10 @@ stepping_weight : (t : Lexeme) (op : Step) → stepping t ≡ Some op → token_
 stepping_weight (sign s p) op e = refl
 stepping_weight _ op e = absurd cc
 
+indexing_weight : (t : Lexeme) (width : Width) → indexing t ≡ Some width → token_weight t ≡ 32
+indexing_weight (sign s p) width e = refl
+indexing_weight _ width e = absurd cc
+
 -- ---- expressions
 
 call_weight : {ts r : List Lexeme} {es : ExpressionTrees} (n : NameTree) → IsArguments ts es r
@@ -127,8 +132,13 @@ mutual
       (omega (arith, scaling_weight t op o))
 
   spelled_N4 : {ts r : List Lexeme} {e : ExpressionTree} → IsN4 ts e r → Spelled (expression_weight e) ts r
-  spelled_N4 (n4_plain a) = spelled_U a
+  spelled_N4 (n4_plain a) = spelled_E5 a
   spelled_N4 (n4_complement {p = p} a) = behind (sign s.Tilde p) (spelled_N4 a)
+
+  spelled_E5 : {ts r : List Lexeme} {e : ExpressionTree} → IsE5 ts e r → Spelled (expression_weight e) ts r
+  spelled_E5 (e5_plain a) = spelled_U a
+  spelled_E5 (e5_index {p = p} {t = t} {n = n} {width = width} o a) = weighing
+      (behind (name n p) (behind t (spelled_U a))) (omega (arith, indexing_weight t width o))
 
   spelled_U : {ts r : List Lexeme} {e : ExpressionTree} → IsU ts e r → Spelled (expression_weight e) ts r
   spelled_U (u_plain a) = spelled_P a

@@ -4,7 +4,7 @@ use Rattle.std.specs.List.{All}
 use Rattle.std.proofs.lemmas.List.Elements.{All-nil, All-cons}
 use Rattle.lexer.specs.Token.{Lexeme}
 use Rattle.syntax.specs.Tree.{DirectiveTree, ProgramTree}
-use Rattle.syntax.specs.Grammar.{IsDirective, d_global, d_global_value, d_constant, d_routine, IsDirectives}
+use Rattle.syntax.specs.Grammar.{IsDirective, d_global, d_global_value, d_constant, d_array, d_routine, IsDirectives}
 use Rattle.syntax.specs.Grammar.{directives_stop, directives_next, IsProgram, program}
 use Rattle.syntax.specs.Laws.{IsWeighed, WeighedRoutines}
 use Rattle.syntax.proofs.Spelled.{spelled_Names, weighs, weight_Ss}
@@ -13,6 +13,7 @@ directive_weighed : {ts r : List Lexeme} {d : DirectiveTree} → IsDirective ts 
 directive_weighed d_global = tt
 directive_weighed (d_global_value a) = tt
 directive_weighed (d_constant a) = tt
+directive_weighed (d_array o a lt) = tt
 directive_weighed (d_routine a b) = omega (arith, weighs (spelled_Names a), weight_Ss b)
 
 directives_weighed : {ts r : List Lexeme} {ds : List DirectiveTree} → IsDirectives ts ds r → All IsWeighed ds

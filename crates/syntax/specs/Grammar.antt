@@ -1,15 +1,17 @@
 -- The grammar of programs: a relation between the tokens from a place on, the tree, and the tokens after it, with one
 -- case for each alternative.
-use Rattle.std.specs.Prelude.{◌+◌, ◌-◌, ◌*◌, ◌%◌, ℕ, max, List, [], ◌∷◌, length, Some, None}
+use Rattle.std.specs.Prelude.{◌≡◌, ◌<◌, ◌+◌, ◌-◌, ◌*◌, ◌%◌, ℕ, max, List, [], ◌∷◌, length, Option, Some, None}
 use Rattle.lexer.specs.declared.token.Position.{Position}
 use Rattle.lexer.specs.declared.token.Sign.TheVariants as s
 use Rattle.lexer.specs.declared.token.Word.TheVariants as w
-use Rattle.lexer.specs.Token.{Lexeme, name, number, text, character, reserved, sign, end}
+use Rattle.lexer.specs.Token.{Lexeme, name, number, text, character, reserved, sign, end, position_of}
 use Rattle.expressions.specs.Tree.{NameTree}
 use Rattle.statements.specs.Tree.{StatementTrees}
 use Rattle.statements.specs.Grammar.{IsSs, body_nesting}
-use Rattle.syntax.specs.Tree.{LiteralTree, number_value, named_value, DirectiveTree, global, constant, routine}
-use Rattle.syntax.specs.Tree.{ProgramTree}
+use Rattle.syntax.specs.declared.tree.ArrayKind.{ArrayKind}
+use Rattle.syntax.specs.declared.tree.ArrayKind.TheVariants as kind
+use Rattle.syntax.specs.Tree.{LiteralTree, number_value, named_value, ValueTree, DirectiveTree, global, constant}
+use Rattle.syntax.specs.Tree.{array, routine, ProgramTree}
 
 -- The weight of tokens: 32 for each but the end, and 3 for each byte between the quotes of a text
 
@@ -40,7 +42,27 @@ pub data IsNames : List Lexeme → List NameTree → List Lexeme → Type 0 wher
   names_next : {m r : List Lexeme} {p : Position} {n : List ℕ} {ns : List NameTree} → IsNames m ns r
       → IsNames (name n p ∷ m) (record { text = n; position = p } ∷ ns) r
 
--- Directive = "global" name ["=" K] ";" | "constant" name "=" K ";" | "[" name {name} ";" {S} "]" ";"
+-- K, with the position of its first token
+pub data IsValue : List Lexeme → ValueTree → List Lexeme → Type 0 where
+  v_value : {m r : List Lexeme} {t : Lexeme} {k : LiteralTree} → IsK (t ∷ m) k r
+      → IsValue (t ∷ m) (record { position = position_of t; value = k }) r
+
+-- {K}
+pub data IsValues : List Lexeme → List ValueTree → List Lexeme → Type 0 where
+  values_stop : {r : List Lexeme} → IsValues r [] r
+  values_next : {ts m r : List Lexeme} {v : ValueTree} {vs : List ValueTree} → IsValue ts v m → IsValues m vs r
+      → IsValues ts (v ∷ vs) r
+
+-- the kind of array that a token names
+abbrev pub kind_of : Lexeme → Option ArrayKind
+kind_of (sign s.Arrow p) = Some kind.Bytes
+kind_of (sign s.LongArrow p) = Some kind.Words
+kind_of (reserved w.String p) = Some kind.String
+kind_of (reserved w.Table p) = Some kind.Table
+kind_of _ = None
+
+-- Directive = "global" name ["=" K] ";" | "constant" name "=" K ";"
+-- | "array" name ("->" | "-->" | "string" | "table") K+ ";" | "[" name {name} ";" {S} "]" ";"
 pub data IsDirective : List Lexeme → DirectiveTree → List Lexeme → Type 0 where
   d_global : {r : List Lexeme} {p q o : Position} {n : List ℕ}
       → IsDirective (reserved w.Global p ∷ name n q ∷ sign s.Semicolon o ∷ r)
@@ -53,6 +75,10 @@ pub data IsDirective : List Lexeme → DirectiveTree → List Lexeme → Type 0 
       → IsK m k (sign s.Semicolon l ∷ r)
       → IsDirective (reserved w.Constant p ∷ name n q ∷ sign s.Assign o ∷ m)
       (constant (record { text = n; position = q }) k) r
+  d_array : {m r : List Lexeme} {p q o : Position} {t : Lexeme} {n : List ℕ} {k : ArrayKind} {vs : List ValueTree}
+      → kind_of t ≡ Some k → IsValues m vs (sign s.Semicolon o ∷ r) → 0 < length vs
+      → IsDirective (reserved w.Array p ∷ name n q ∷ t ∷ m)
+      (array (record { name = record { text = n; position = q }; kind = k; values = vs })) r
   d_routine : {m k r : List Lexeme} {p q o l j : Position} {n : List ℕ} {ns : List NameTree} {xs : StatementTrees}
       → IsNames m ns (sign s.Semicolon o ∷ k) → IsSs k xs (sign s.CloseBracket l ∷ sign s.Semicolon j ∷ r)
       → IsDirective (sign s.OpenBracket p ∷ name n q ∷ m) (routine (record {
@@ -79,6 +105,7 @@ pub data IsProgram : List Lexeme → ProgramTree → Type 0 where
 abbrev pub directive_nesting : DirectiveTree → ℕ
 directive_nesting (global n k) = 0
 directive_nesting (constant n k) = 0
+directive_nesting (array a) = 0
 directive_nesting (routine r) = body_nesting r.body
 
 abbrev pub directives_nesting : List DirectiveTree → ℕ

@@ -5,16 +5,17 @@ use Rattle.std.specs.Prelude.{None, Result, Ok, Err}
 use Rattle.lexer.specs.declared.token.Position.{Position}
 use Rattle.lexer.specs.declared.token.Sign.TheVariants as s
 use Rattle.lexer.specs.declared.token.Word.TheVariants as w
-use Rattle.lexer.specs.Token.{Lexeme, name, number, character, reserved, sign, end}
+use Rattle.lexer.specs.Token.{Lexeme, name, number, character, reserved, sign, end, position_of}
 use Rattle.expressions.specs.declared.error.Fault.{Fault}
 use Rattle.expressions.specs.declared.error.Fault.TheVariants.{Grammar}
 use Rattle.expressions.specs.Tree.{NameTree}
-use Rattle.expressions.specs.Parse.{Parse, ◌>>=◌, head, tail, is_sign, expect}
+use Rattle.expressions.specs.Parse.{Parse, ◌>>=◌, head, tail, is_name, is_sign, expect}
 use Rattle.statements.specs.Tree.{trees_of}
 use Rattle.statements.specs.Parse.{repeated, statements}
-use Rattle.syntax.specs.Tree.{LiteralTree, number_value, named_value, RoutineTree, DirectiveTree, global, constant}
-use Rattle.syntax.specs.Tree.{routine, ProgramTree}
-use Rattle.syntax.specs.Grammar.{weight_of}
+use Rattle.syntax.specs.declared.tree.ArrayKind.{ArrayKind}
+use Rattle.syntax.specs.Tree.{LiteralTree, number_value, named_value, ValueTree, ArrayTree, RoutineTree}
+use Rattle.syntax.specs.Tree.{DirectiveTree, global, constant, array, routine, ProgramTree}
+use Rattle.syntax.specs.Grammar.{weight_of, kind_of}
 
 -- ---- names and values
 
@@ -24,10 +25,6 @@ named_on _ ts = Err Grammar
 
 unfoldable pub named : Parse NameTree
 named ts = named_on (head ts) (tail ts)
-
-abbrev pub is_name : Lexeme → Bool
-is_name (name _ _) = true
-is_name _ = false
 
 unfoldable pub names : Parse (List NameTree)
 names ts = repeated is_name named (length ts) ts
@@ -48,6 +45,39 @@ value_on _ ts = Err Grammar
 
 unfoldable pub value : Parse LiteralTree
 value ts = value_on (head ts) (tail ts)
+
+-- ---- arrays
+
+abbrev pub begins_value : Lexeme → Bool
+begins_value (number _ _) = true
+begins_value (character _ _) = true
+begins_value (reserved w.True _) = true
+begins_value (reserved w.False _) = true
+begins_value (reserved w.Nothing _) = true
+begins_value (name _ _) = true
+begins_value (sign s.Minus _) = true
+begins_value _ = false
+
+unfoldable pub placed : Parse ValueTree
+placed ts = value ts >>= λ k. Ok (record { position = position_of (head ts); value = k.0 }, k.1)
+
+unfoldable pub values : Parse (List ValueTree)
+values ts = placed ts >>= λ v. repeated begins_value placed (length v.1) v.1 >>= λ vs. Ok (v.0 ∷ vs.0, vs.1)
+
+abbrev pub kind_on : List Lexeme → Option ArrayKind → Result (ArrayKind × List Lexeme) Fault
+kind_on ts None = Err Grammar
+kind_on ts (Some k) = Ok (k, ts)
+
+unfoldable pub kind : Parse ArrayKind
+kind ts = kind_on (tail ts) (kind_of (head ts))
+
+unfoldable pub array_behind : Parse ArrayTree
+array_behind ts = do
+  n ← named ts
+  k ← kind n.1
+  vs ← values k.1
+  r ← expect s.Semicolon vs.1
+  Ok (record { name = n.0; kind = k.0; values = vs.0 }, r)
 
 -- ---- directives, behind their first token
 
@@ -100,6 +130,7 @@ module _ (d : ℕ) where
   abbrev pub directive_on : Lexeme → Parse DirectiveTree
   directive_on (reserved w.Global p) ts = global_behind (tail ts)
   directive_on (reserved w.Constant p) ts = constant_behind (tail ts)
+  directive_on (reserved w.Array p) ts = array_behind (tail ts) >>= λ x. Ok (array x.0, x.1)
   directive_on (sign s.OpenBracket p) ts = routine_at ts >>= λ x. Ok (routine x.0, x.1)
   directive_on _ ts = Err Grammar
 

@@ -5,6 +5,9 @@ use Rattle.expressions.specs.Tree.{NameTree, name_tree}
 use Rattle.statements.specs.Tree.{StatementTrees, statement_tree, trees_of}
 use Rattle.syntax.specs.declared.tree.Literal.{Literal}
 use Rattle.syntax.specs.declared.tree.Literal.TheVariants as values
+use Rattle.syntax.specs.declared.tree.ArrayKind.{ArrayKind}
+use Rattle.syntax.specs.declared.tree.ArrayValue.{ArrayValue}
+use Rattle.syntax.specs.declared.tree.Array.{Array}
 use Rattle.syntax.specs.declared.tree.Routine.{Routine}
 use Rattle.syntax.specs.declared.tree.Directive.{Directive}
 use Rattle.syntax.specs.declared.tree.Directive.TheVariants as directives
@@ -13,6 +16,16 @@ use Rattle.syntax.specs.declared.tree.Program.{Program}
 pub data LiteralTree : Type 0 where
   number_value : ℕ → LiteralTree
   named_value : NameTree → LiteralTree
+
+-- a value of an array, and the position of its first token
+pub record ValueTree : Type 0 where
+  pub position : Position
+  pub value : LiteralTree
+
+pub record ArrayTree : Type 0 where
+  pub name : NameTree
+  pub kind : ArrayKind
+  pub values : List ValueTree
 
 pub record RoutineTree : Type 0 where
   pub name : NameTree
@@ -23,6 +36,7 @@ pub record RoutineTree : Type 0 where
 pub data DirectiveTree : Type 0 where
   global : NameTree → Option LiteralTree → DirectiveTree
   constant : NameTree → LiteralTree → DirectiveTree
+  array : ArrayTree → DirectiveTree
   routine : RoutineTree → DirectiveTree
 
 pub record ProgramTree : Type 0 where
@@ -40,6 +54,12 @@ abbrev pub optional_tree : Option Literal → Option LiteralTree
 optional_tree None = None
 optional_tree (Some v) = Some (literal_tree v)
 
+abbrev pub value_tree : ArrayValue → ValueTree
+value_tree v = record { position = v.position; value = literal_tree v.value }
+
+abbrev pub array_tree : Array → ArrayTree
+array_tree a = record { name = name_tree a.name; kind = a.kind; values = map value_tree a.values.items }
+
 abbrev pub routine_tree : Routine → RoutineTree
 routine_tree r =
     record {
@@ -52,6 +72,7 @@ routine_tree r =
 abbrev pub directive_tree : Directive → DirectiveTree
 directive_tree (directives.Global n v) = global (name_tree n) (optional_tree v)
 directive_tree (directives.Constant n v) = constant (name_tree n) (literal_tree v)
+directive_tree (directives.Array a) = array (array_tree a)
 directive_tree (directives.Routine r) = routine (routine_tree r)
 
 abbrev pub program_tree : Program → ProgramTree

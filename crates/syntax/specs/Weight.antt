@@ -1,8 +1,8 @@
 -- The weight of a tree: that of the tokens it was read from. Each token weighs 32, and each byte of a text 3 more. An
 -- argument, a value of a comparison and an item count one token more, which stands before or after it.
 use Rattle.std.specs.Prelude.{◌+◌, ◌*◌, ℕ, List, [], ◌∷◌, length}
-use Rattle.expressions.specs.Tree.{ExpressionTree, ExpressionTrees, constant, named, call, parenthesised, prefixed}
-use Rattle.expressions.specs.Tree.{step_before, step_after, binary, compare, equal, assign, none, more}
+use Rattle.expressions.specs.Tree.{ExpressionTree, ExpressionTrees, constant, named, call, index, parenthesised}
+use Rattle.expressions.specs.Tree.{prefixed, step_before, step_after, binary, compare, equal, assign, none, more}
 use Rattle.statements.specs.Tree.{PrintItemTree, text_item, character_item, number_item, StatementTree}
 use Rattle.statements.specs.Tree.{StatementTrees, empty, block, text_alone, print, print_return, new_line, if_then}
 use Rattle.statements.specs.Tree.{if_else, while_do, return_alone, return_value, return_true, return_false, quit}
@@ -14,6 +14,7 @@ abbrev mutual
   expression_weight (named n) = 32
   expression_weight (call n none) = 96
   expression_weight (call n (more e es)) = 64 + (expression_weight e + 32 + expression_weights es)
+  expression_weight (index n width e) = 64 + expression_weight e
   expression_weight (parenthesised e) = 64 + expression_weight e
   expression_weight (prefixed op e) = 32 + expression_weight e
   expression_weight (step_before op p e) = 32 + expression_weight e

@@ -6,6 +6,7 @@ ghost use Rattle.expressions.specs.Parse.{Gives, tail};
 ghost use Rattle.syntax.specs.Tree.{routine_tree, directive_tree};
 ghost use Rattle.syntax.specs.Parse as spec;
 
+use crate::arrays::array;
 use crate::tree::{Directive, Routine};
 use crate::values::{named, names, value};
 use crate::weight::weight_before;
@@ -89,6 +90,10 @@ fn directive<'t, 'a>(
     match peek(tokens).kind {
         Kind::Reserved(Word::Global) => global(skip(tokens)),
         Kind::Reserved(Word::Constant) => constant(skip(tokens)),
+        Kind::Reserved(Word::Array) => {
+            let (found, rest) = array(alloc, skip(tokens))?;
+            Ok((Directive::Array(found), rest))
+        }
         Kind::Sign(Sign::OpenBracket) => {
             let (found, rest) = routine(alloc, tokens)?;
             Ok((Directive::Routine(found), rest))

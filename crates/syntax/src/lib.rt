@@ -1,6 +1,7 @@
 //! Whole programs: their trees, and the parser that reads them.
 #![tactic(auto)]
 
+mod arrays;
 mod directives;
 mod laws;
 mod program;
@@ -8,9 +9,9 @@ mod tree;
 mod values;
 mod weight;
 
-pub use expressions::{Binary, Comparison, Equality, Expression, Name, Prefix, Step};
+pub use expressions::{Binary, Comparison, Equality, Expression, Name, Prefix, Step, Width};
 pub use laws::{printable_trees, weighed_routines};
 pub use lexer::{Kind, Position, Sign, SourceFault, Token, Word, lex};
 pub use program::{one_tree, parse};
 pub use statements::{PrintItem, Statement};
-pub use tree::{Directive, Literal, Program, Routine};
+pub use tree::{Array, ArrayKind, ArrayValue, Directive, Literal, Program, Routine};

@@ -58,7 +58,8 @@ fn program<'a>(alloc: Global, tokens: &[Token<'a>]) -> Result<Program<'a>, Parse
 ///
 /// ```text
 /// Program = {Directive}
-/// Directive = "global" name ["=" K] ";" | "constant" name "=" K ";" | "[" name {name} ";" {S} "]" ";"
+/// Directive = "global" name ["=" K] ";" | "constant" name "=" K ";"
+///   | "array" name ("->" | "-->" | "string" | "table") K+ ";" | "[" name {name} ";" {S} "]" ";"
 /// K = ["-"] number | char | name | "true" | "false" | "nothing"
 /// ```
 ///

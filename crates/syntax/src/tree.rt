@@ -14,6 +14,35 @@ pub enum Literal<'a> {
     Named(Name<'a>),
 }
 
+/// What an array holds.
+#[derive(Clone, Copy)]
+pub enum ArrayKind {
+    /// `->`: bytes
+    Bytes,
+    /// `-->`: words
+    Words,
+    /// `string`: bytes, behind their number
+    String,
+    /// `table`: words, behind their number
+    Table,
+}
+
+/// A value in the definition of an array, and the position of its first token.
+#[derive(Clone, Copy)]
+pub struct ArrayValue<'a> {
+    pub position: Position,
+    pub value: Literal<'a>,
+}
+
+/// An array: its name, its kind, and one value or more. One alone is the number of its entries, which are zeros; several
+/// are its entries.
+#[derive(Drop)]
+pub struct Array<'a> {
+    pub name: Name<'a>,
+    pub kind: ArrayKind,
+    pub values: Vec<ArrayValue<'a>>,
+}
+
 /// A routine: its name, its locals, and its statements.
 #[derive(Drop)]
 pub struct Routine<'a> {
@@ -33,6 +62,8 @@ pub enum Directive<'a> {
 
     /// A name for a value.
     Constant(Name<'a>, Literal<'a>),
+
+    Array(Array<'a>),
 
     Routine(Routine<'a>),
 }

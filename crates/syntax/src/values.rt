@@ -1,29 +1,16 @@
 //! Names and values, read from tokens.
 
-ghost use Rattle.std.specs.Prelude.{◌≡◌, map, MatchOption, false};
-ghost use Rattle.lexer.specs.Token.{lexeme, lexemes, name};
+ghost use Rattle.std.specs.Prelude.{◌≡◌, map};
+ghost use Rattle.lexer.specs.Token.{lexemes};
 ghost use Rattle.expressions.specs.Tree.{name_tree};
 ghost use Rattle.expressions.specs.Parse.{Gives, head, tail};
 ghost use Rattle.syntax.specs.Tree.{literal_tree};
 ghost use Rattle.syntax.specs.Parse as spec;
 
 use crate::tree::Literal;
-use expressions::{Fault, Name, ParseError, fault_at, peek, skip};
+use expressions::{Fault, Name, ParseError, fault_at, name_of, peek, skip};
 use lexer::{Kind, Sign, Token, Word};
 use std::alloc::Global;
-
-fn name_of<'a>(token: Token<'a>) -> Option<Name<'a>>
-    ensures { MatchOption result (spec.is_name (lexeme token.entry) ≡ false)
-        (λ n. lexeme token.entry ≡ name n.text.now n.position) }
-{
-    match token.kind {
-        Kind::Name(text) => Some(Name {
-            text,
-            position: token.position,
-        }),
-        _ => None,
-    }
-}
 
 /// The name that comes next.
 ///

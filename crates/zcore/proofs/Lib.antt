@@ -1,9 +1,11 @@
 pub mod Packing
 pub mod Spelling
 pub mod Causes
+pub mod Fronts
 pub mod Loops
 pub mod Keys
 pub mod RoundTrip
+pub mod Printable
 mod Samples
 mod ObjectSamples
 pub mod KeepingReads

@@ -1,9 +1,9 @@
 -- Reading, a Z-character at a time.
 use Rattle.std.proofs.Common.{◌≡◌, ℕ, suc, ◌+◌, ◌*◌, ◌<◌, ◌≤◌, Bool, true, false, List, [], ◌∷◌, ◌++◌, length, get_or}
 use Rattle.std.proofs.Common.{drop, Result, Ok, Err, refl, sym, ap, subst, ◌∙◌, append_assoc, arith, add-one}
-use Rattle.std.proofs.Common.{drop-cons, ◌⊎◌, inl, inr}
+use Rattle.std.proofs.Common.{drop-cons, ◌⊎◌, inl, inr, take}
 use Rattle.std.proofs.lemmas.Bool.{ne_eqb, le-ltb}
-use Rattle.std.proofs.lemmas.List.{append-nil, drop_all}
+use Rattle.std.proofs.lemmas.List.{append-nil, drop_all, take_all}
 use Rattle.zcore.specs.declared.fault.TextFault.{TextFault}
 use Rattle.zcore.specs.declared.fault.TextFault.TheVariants as faults
 use Rattle.zcore.specs.declared.reading.State as declared
@@ -16,9 +16,11 @@ use Rattle.zcore.specs.Reading.{escaped, printed, reads}
 use Rattle.zcore.specs.Text.{read_with, refused, has_abbreviations, abbreviation_address, abbreviation}
 use Rattle.zcore.specs.Words.{unpacked_text}
 use Rattle.zcore.specs.Faults.{Fails}
+use Rattle.zcore.specs.Fronts.{front_of}
 use Rattle.zcore.specs.TextParts.{words_of, z_character_at, state_of, Prints, expansion, after_text}
 use Rattle.zcore.proofs.Causes.{cause_is}
 use Rattle.zcore.proofs.Packing.{z_character-is, length-words_of}
+use Rattle.zcore.proofs.Fronts.{front, take_front, front_after}
 
 -- characters, and then those that are still read
 abbrev pub before : List ℕ → Result (List ℕ) Cause → Result (List ℕ) Cause
@@ -28,6 +30,11 @@ pub before_more : (text c : List ℕ) (r : Result (List ℕ) Cause)
     → before text (r >>= λ more. Ok (c ++ more)) ≡ before (text ++ c) r
 before_more text c (Ok x) = ap (λ y. Ok y) (sym (append_assoc text c x))
 before_more text c (Err f) = refl
+
+front_before : (most : ℕ) (text : List ℕ) (r : Result (List ℕ) Cause)
+    → front most (before (take most text) r) ≡ front most (before text r)
+front_before most text (Ok x) = ap (λ y. Ok y) (take_front most text x)
+front_before most text (Err f) = refl
 
 module _ (expand : ℕ → Result (List ℕ) Cause) where
   reads_step : (s : State) (zs text got : List ℕ) (i : ℕ) → i < length zs → printed expand s (get_or zs i 0) ≡ Ok got
@@ -92,12 +99,13 @@ module _ (expand : ℕ → Result (List ℕ) Cause) where
       ap (λ r. after_text old (r >>= λ x. reads expand Lower x.0 >>= λ text. Ok (text, x.1))) e
       ∙ after_before old (at + 2 * words) (reads expand Lower (words_of words (drop at story)))
 
-  pub read_nowhere : (story : List ℕ) (at : ℕ) (old : List ℕ) (fault : TextFault)
-      → Fails fault (unpacked_text at (drop at story)) → Fails fault (after_text old (read_with expand story at))
-  read_nowhere story at old faults.Character e = rw e refl
-  read_nowhere story at old faults.End e = rw e refl
-  read_nowhere story at old faults.Abbreviation e = rw e refl
-  read_nowhere story at old faults.Memory e = tt
+  pub read_nowhere : (most : ℕ) (story : List ℕ) (at : ℕ) (old : List ℕ) (fault : TextFault)
+      → Fails fault (unpacked_text at (drop at story))
+      → Fails fault (front_of most (after_text old (read_with expand story at)))
+  read_nowhere most story at old faults.Character e = rw e refl
+  read_nowhere most story at old faults.End e = rw e refl
+  read_nowhere most story at old faults.Abbreviation e = rw e refl
+  read_nowhere most story at old faults.Memory e = tt
 
 pub printed_escape : (state : declared.State) (high z number : ℕ) (r : Result Output TextFault)
     → state ≡ code.EscapeLow high → number ≡ 32 * high + z
@@ -162,40 +170,66 @@ module _ (expand : ℕ → Result (List ℕ) Cause) where
       (subst (λ bs. unpacked_text at bs ≡ Ok (words_of words bs, at + 2 * words)) from found)
       ∙ ap (λ bs. read_from expand bs words old Lower 0 >>= λ text. Ok (text, at + 2 * words)) (sym from)
 
+  front_whole : (most : ℕ) (story bytes : List ℕ) (at words : ℕ) (old : List ℕ) → bytes ≡ drop at story
+      → unpacked_text at bytes ≡ Ok (words_of words bytes, at + 2 * words)
+      → front_of most (after_text old (read_with expand story at))
+      ≡ (front most (read_from expand bytes words old Lower 0) >>= λ text. Ok (text, at + 2 * words))
+  front_whole most story bytes at words old from found =
+      ap (front_of most) (whole_from story bytes at words old from found)
+      ∙ front_after most (at + 2 * words) (read_from expand bytes words old Lower 0)
+
   -- a Z-character that cannot be read
-  pub fault_at : (fault : TextFault) (story bytes : List ℕ) (at words z : ℕ) (old text : List ℕ) (state : State)
-      (place : ℕ)
+  pub fault_at : (most : ℕ) (fault : TextFault) (story bytes : List ℕ) (at words z : ℕ) (old text : List ℕ)
+      (state : State) (place : ℕ)
       → bytes ≡ drop at story → unpacked_text at bytes ≡ Ok (words_of words bytes, at + 2 * words)
       → z ≡ z_character_at bytes place → place < 3 * words
-      → read_from expand bytes words text state place ≡ read_from expand bytes words old Lower 0
-      → Fails fault (printed expand state z) → Fails fault (after_text old (read_with expand story at))
-  fault_at fault story bytes at words z old text state place from found is lt so_far h =
+      → front most (read_from expand bytes words text state place)
+      ≡ front most (read_from expand bytes words old Lower 0)
+      → Fails fault (printed expand state z)
+      → Fails fault (front_of most (after_text old (read_with expand story at)))
+  fault_at most fault story bytes at words z old text state place from found is lt so_far h =
       let here = fails_from fault bytes words text state place lt
       (subst (λ y. Fails fault (printed expand state y)) is h) in
-      let whole = fails_bind fault (read_from expand bytes words old Lower 0) (λ got. Ok (got, at + 2 * words))
-      (subst (Fails fault) so_far here) in
-      subst (Fails fault) (sym (whole_from story bytes at words old from found)) whole
+      let seen = fails_bind fault (read_from expand bytes words text state place) (λ got. Ok (take most got)) here in
+      let whole = fails_bind fault (front most (read_from expand bytes words old Lower 0))
+      (λ got. Ok (got, at + 2 * words)) (subst (Fails fault) so_far seen) in
+      subst (Fails fault) (sym (front_whole most story bytes at words old from found)) whole
 
   -- the end of the text
-  pub done_at : (story bytes : List ℕ) (at words : ℕ) (old text : List ℕ) (state : State) (place : ℕ)
+  pub done_at : (most : ℕ) (story bytes : List ℕ) (at words : ℕ) (old text : List ℕ) (state : State) (place : ℕ)
       → bytes ≡ drop at story → unpacked_text at bytes ≡ Ok (words_of words bytes, at + 2 * words) → 3 * words ≤ place
-      → read_from expand bytes words text state place ≡ read_from expand bytes words old Lower 0
-      → after_text old (read_with expand story at) ≡ Ok (text, at + 2 * words)
-  done_at story bytes at words old text state place from found le so_far =
-      whole_from story bytes at words old from found
-      ∙ ap (λ r. r >>= λ got. Ok (got, at + 2 * words)) (sym so_far ∙ read_end expand bytes words text state place le)
+      → length text ≤ most
+      → front most (read_from expand bytes words text state place)
+      ≡ front most (read_from expand bytes words old Lower 0)
+      → front_of most (after_text old (read_with expand story at)) ≡ Ok (text, at + 2 * words)
+  done_at most story bytes at words old text state place from found le room so_far =
+      front_whole most story bytes at words old from found
+      ∙ ap (λ r. r >>= λ got. Ok (got, at + 2 * words))
+      (sym so_far ∙ ap (front most) (read_end expand bytes words text state place le))
+      ∙ ap (λ got. Ok (got, at + 2 * words)) (take_all most text room)
+
+  front_from : (most : ℕ) (bytes : List ℕ) (words : ℕ) (text : List ℕ) (state : State) (place : ℕ)
+      → front most (read_from expand bytes words (take most text) state place)
+      ≡ front most (read_from expand bytes words text state place)
+  unfolding read_from
+  front_from most bytes words text state place =
+      front_before most text (reads expand state (drop place (words_of words bytes)))
 
   -- a Z-character that prints
-  pub turn_at : (bytes : List ℕ) (words z : ℕ) (old text got now : List ℕ) (state after : State) (place : ℕ)
+  pub turn_at : (most : ℕ) (bytes : List ℕ) (words z : ℕ) (old text got now : List ℕ) (state after : State) (place : ℕ)
       → z ≡ z_character_at bytes place → place < 3 * words
-      → read_from expand bytes words text state place ≡ read_from expand bytes words old Lower 0
-      → printed expand state z ≡ Ok got → now ≡ text ++ got → after ≡ next state z
-      → read_from expand bytes words now after (place + 1) ≡ read_from expand bytes words old Lower 0
-  turn_at bytes words z old text got now state after place is lt so_far e grown moved =
-      ap (λ ts. read_from expand bytes words ts after (place + 1)) grown
-      ∙ ap (λ s. read_from expand bytes words (text ++ got) s (place + 1)) moved
-      ∙ ap (λ y. read_from expand bytes words (text ++ got) (next state y) (place + 1)) is
-      ∙ sym (read_step expand bytes words text got state place lt (ap (printed expand state) (sym is) ∙ e)) ∙ so_far
+      → front most (read_from expand bytes words text state place)
+      ≡ front most (read_from expand bytes words old Lower 0)
+      → printed expand state z ≡ Ok got → now ≡ take most (text ++ got) → after ≡ next state z
+      → front most (read_from expand bytes words now after (place + 1))
+      ≡ front most (read_from expand bytes words old Lower 0)
+  turn_at most bytes words z old text got now state after place is lt so_far e grown moved =
+      ap (λ ts. front most (read_from expand bytes words ts after (place + 1))) grown
+      ∙ front_from most bytes words (text ++ got) after (place + 1)
+      ∙ ap (λ s. front most (read_from expand bytes words (text ++ got) s (place + 1))) moved
+      ∙ ap (λ y. front most (read_from expand bytes words (text ++ got) (next state y) (place + 1))) is
+      ∙ ap (front most)
+      (sym (read_step expand bytes words text got state place lt (ap (printed expand state) (sym is) ∙ e))) ∙ so_far
 
 -- ---- what a Z-character prints, by the code's answer
 
@@ -241,17 +275,19 @@ found x = Ok x
 pair_is : (x y : List ℕ × ℕ) → found x ≡ found y → x ≡ y
 pair_is x y e = cc
 
-pub grown : (text now : List ℕ) (after : ℕ) (r : Result (List ℕ × ℕ) Cause) → after_text text r ≡ Ok (now, after)
-    → (got : List ℕ) × ((r >>= λ x. Ok x.0) ≡ Ok got) × (now ≡ text ++ got)
-grown text now after (Ok x) e = (x.0, refl, sym (ap (λ y. y.0) (pair_is (text ++ x.0, x.1) (now, after) e)))
-grown text now after (Err f) e = absurd cc
+pub grown : (most : ℕ) (text now : List ℕ) (after : ℕ) (r : Result (List ℕ × ℕ) Cause)
+    → front_of most (after_text text r) ≡ Ok (now, after)
+    → (got : List ℕ) × ((r >>= λ x. Ok x.0) ≡ Ok got) × (now ≡ take most (text ++ got))
+grown most text now after (Ok x) e =
+    (x.0, refl, sym (ap (λ y. y.0) (pair_is (take most (text ++ x.0), x.1) (now, after) e)))
+grown most text now after (Err f) e = absurd cc
 
-pub fails_alone : (fault : TextFault) (text : List ℕ) (r : Result (List ℕ × ℕ) Cause)
-    → Fails fault (after_text text r) → Fails fault (r >>= λ x. Ok x.0)
-fails_alone faults.Memory text r h = tt
-fails_alone faults.Character text (Ok x) h = absurd cc
-fails_alone faults.End text (Ok x) h = absurd cc
-fails_alone faults.Abbreviation text (Ok x) h = absurd cc
-fails_alone faults.Character text (Err f) h = ap (λ y. Err y) (cause_is f Character h)
-fails_alone faults.End text (Err f) h = ap (λ y. Err y) (cause_is f End h)
-fails_alone faults.Abbreviation text (Err f) h = ap (λ y. Err y) (cause_is f Abbreviation h)
+pub fails_alone : (most : ℕ) (fault : TextFault) (text : List ℕ) (r : Result (List ℕ × ℕ) Cause)
+    → Fails fault (front_of most (after_text text r)) → Fails fault (r >>= λ x. Ok x.0)
+fails_alone most faults.Memory text r h = tt
+fails_alone most faults.Character text (Ok x) h = absurd cc
+fails_alone most faults.End text (Ok x) h = absurd cc
+fails_alone most faults.Abbreviation text (Ok x) h = absurd cc
+fails_alone most faults.Character text (Err f) h = ap (λ y. Err y) (cause_is f Character h)
+fails_alone most faults.End text (Err f) h = ap (λ y. Err y) (cause_is f End h)
+fails_alone most faults.Abbreviation text (Err f) h = ap (λ y. Err y) (cause_is f Abbreviation h)

@@ -16,7 +16,7 @@ use Rattle.zcore.proofs.Packing.{small_append}
 use Rattle.zcore.proofs.Spelling.{each_below, below_at, AreBytes, spelled_small, fives_small, printable_below}
 use Rattle.zcore.proofs.Loops.{before, before_more}
 
-bind_ok : {A B : Type 0} (r : Result A Cause) (f : A → Result B Cause) (y : B) → (r >>= f) ≡ Ok y
+pub bind_ok : {A B : Type 0} (r : Result A Cause) (f : A → Result B Cause) (y : B) → (r >>= f) ≡ Ok y
     → (x : A) × (r ≡ Ok x) × (f x ≡ Ok y)
 bind_ok (Ok x) f y e = (x, refl, e)
 bind_ok (Err d) f y e = absurd cc

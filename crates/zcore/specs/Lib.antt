@@ -5,6 +5,7 @@ pub mod Reading
 pub mod Words
 pub mod Text
 pub mod Faults
+pub mod Fronts
 pub mod Header
 pub mod Operations
 pub mod Instruction

@@ -21,4 +21,4 @@ pub use laws::{every_turn_ends, instructions_decode};
 pub use next::Next;
 pub use operations::{OpcodeRow, OperandCount};
 pub use place::{Fault, Limit, Place};
-pub use text::{decode_text, encode_text, word_key};
+pub use text::{decode_front, decode_text, encode_text, word_key};

@@ -1,11 +1,13 @@
 //! Texts in Z-characters: written, read, and as keys of the dictionary.
 
-ghost use Rattle.std.specs.Prelude.{◌≡◌, ◌<◌, ◌≤◌, ◌+◌, ◌^◌, ◌++◌, ℕ, List, Ok, IfOk, IfErr, length};
-ghost use Rattle.zcore.specs.Alphabets.{spelling_of};
+ghost use Rattle.std.specs.Prelude.{◌≡◌, ◌<◌, ◌≤◌, ◌+◌, ◌^◌, ◌++◌, ℕ, List, true, Ok, IfOk, IfErr, length};
+ghost use Rattle.std.specs.List.{list_all};
+ghost use Rattle.zcore.specs.Alphabets.{spelling_of, is_printable};
 ghost use Rattle.zcore.specs.Words as words;
 ghost use Rattle.zcore.specs.Text as spec;
 ghost use Rattle.zcore.specs.Text.{Holds};
 ghost use Rattle.zcore.specs.Faults.{Gives, Encodes, HasFault};
+ghost use Rattle.zcore.specs.Fronts.{front_of};
 ghost use Rattle.zcore.specs.TextParts.{AreSmall, IsFilled};
 
 use crate::alphabets::{are_printable, spelled, spelling};
@@ -51,8 +53,28 @@ pub fn decode_text(alloc: Global, story: &[u8], at: u32) -> Result<(Vec<u8>, u32
     ensures text { Gives (λ x. (x.0.items, x.1)) result (spec.decoded story.now at) }
     ensures cause { IfErr result (HasFault story.now at) }
 {
+    decode_front(alloc, story, at, usize::MAX)
+}
+
+/// The same, but of the characters only the first, `most` at most: a text of abbreviations can have many times as many
+/// characters as its story has bytes. The whole text is read, so each fault and the address after it are as of the whole.
+///
+/// # Errors
+///
+/// Those of the whole text.
+pub fn decode_front(
+    alloc: Global,
+    story: &[u8],
+    at: u32,
+    most: usize,
+) -> Result<(Vec<u8>, u32), TextFault>
+    ensures text { Gives (λ x. (x.0.items, x.1)) result (front_of most (spec.decoded story.now at)) }
+    ensures cause { IfErr result (HasFault story.now at) }
+    ensures room { IfOk result (λ x. length x.0.items < 2 ^ 63) }
+    ensures printable { (x : List ℕ × ℕ) → spec.decoded story.now at ≡ Ok x → list_all is_printable x.0 ≡ true }
+{
     let mut text = Vec::new(alloc);
-    let after = put_text(&mut text, story, at, false)?;
+    let after = put_text(&mut text, story, at, false, most)?;
     Ok((text, after))
 }
 

@@ -4,7 +4,7 @@ use Rattle.syntax.specs.declared.tree.Directive.{Directive}
 use Rattle.syntax.specs.Tree.{directive_tree}
 use Rattle.checker.specs.Names.{first_table, no_counts, in_table}
 use Rattle.checker.specs.Noted.{noted}
-use Rattle.checker.specs.Programs.{directives_breaches, main_breaches, main_key, first_routine}
+use Rattle.checker.specs.Programs.{arrays_of, directives_breaches, main_breaches, main_key, first_routine}
 use Rattle.checker.proofs.Whole.{program_checked, program_break}
 use Rattle.checker.proofs.check_program.resolve_with.Goals as goal
 
@@ -25,3 +25,12 @@ returns-clause-breaches c =
     ∙ ap (λ (ds : List Directive). noted c.all_directives.new.least
     (main_breaches c.args.program.now.end (first_routine (map directive_tree ds) main_key)
     (in_table c.args.whole.now.entries main_key))) c.deref-2.ensures.value)
+
+pub new-requires : goal.new-requires
+new-requires c = record {
+  arrays = (
+    arrays_of c.args.whole.now.entries (map directive_tree c.deref.result.now),
+    c.in_ok-found.ensures.found.sizes,
+    c.in_ok-found.ensures.found.bytes,
+  );
+}

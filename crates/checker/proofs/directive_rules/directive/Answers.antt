@@ -1,18 +1,20 @@
 use Rattle.std.proofs.Common.{◌≡◌, refl, sym, ap, ◌∙◌}
 use Rattle.expressions.specs.Tree.{name_tree}
-use Rattle.syntax.specs.Tree.{DirectiveTree, global, constant, routine, directive_tree, optional_tree, literal_tree}
-use Rattle.syntax.specs.Tree.{routine_tree}
+use Rattle.syntax.specs.Tree.{DirectiveTree, global, constant, array, routine, directive_tree, optional_tree}
+use Rattle.syntax.specs.Tree.{literal_tree, array_tree, routine_tree}
 use Rattle.checker.specs.Noted.{noted}
-use Rattle.checker.specs.Programs.{twice, named_breaches, routine_breaches, directive_breaches}
+use Rattle.checker.specs.Literals.{named_breaches}
+use Rattle.checker.specs.Arrays.{array_breaches}
+use Rattle.checker.specs.Programs.{twice, routine_breaches, directive_breaches}
 use Rattle.checker.proofs.Noted.{noted_two}
-use Rattle.checker.proofs.Directives.{added_global, added_constant, added_routine}
+use Rattle.checker.proofs.Directives.{added_global, added_constant, added_array, added_routine}
 use Rattle.checker.proofs.directive_rules.directive.Goals as goal
 
 pub returns-in_ok-push-in-Global-clause-added : goal.returns-in_ok-push-in-Global-clause-added
 returns-in_ok-push-in-Global-clause-added c =
     added_global c.args.whole.now.entries (directive_tree c.args.directive.now) (name_tree c.in-Global.name)
     (optional_tree c.in-Global.value) c.args.found.now _ c.global.result
-    (ap directive_tree c.in-Global.is) c.in_ok-push-in-Global.ensures.items c.global.ensures.value refl
+    (ap directive_tree c.in-Global.is) c.in_ok-push-in-Global.ensures.items c.global.ensures.value refl refl
 
 pub returns-in_ok-push-in-Global-clause-breaches : goal.returns-in_ok-push-in-Global-clause-breaches
 returns-in_ok-push-in-Global-clause-breaches c =
@@ -45,7 +47,7 @@ returns-in_ok-push-in-Routine-clause-added c =
     added_routine c.args.whole.now.entries (directive_tree c.args.directive.now) (routine_tree c.in-Routine.written)
     c.args.found.now _ c.in_ok-routine-in-Routine.field-0
     (ap directive_tree c.in-Routine.is) c.in_ok-push-in-Routine.ensures.items
-    c.in_ok-routine-in-Routine.ensures.value refl
+    c.in_ok-routine-in-Routine.ensures.value refl refl
 
 pub returns-in_ok-push-in-Routine-clause-breaches : goal.returns-in_ok-push-in-Routine-clause-breaches
 returns-in_ok-push-in-Routine-clause-breaches c =
@@ -55,6 +57,23 @@ returns-in_ok-push-in-Routine-clause-breaches c =
     (twice c.args.names.now.table.entries (name_tree c.in-Routine.written.name))
     (routine_breaches c.args.whole.now.entries (routine_tree c.in-Routine.written)) c.twice-in-Routine.ensures
     c.in_ok-routine-in-Routine.ensures.breaches
+    ∙ ap (λ (d : DirectiveTree). noted c.args.least.now
+    (directive_breaches c.args.whole.now.entries c.args.names.now.table.entries c.args.names.now.counts d))
+    (sym v)
+
+pub returns-in_ok-array-in-Array-clause-added : goal.returns-in_ok-array-in-Array-clause-added
+returns-in_ok-array-in-Array-clause-added c =
+    added_array c.args.whole.now.entries (directive_tree c.args.directive.now) (array_tree c.in-Array.written)
+    c.args.found.now _ (ap directive_tree c.in-Array.is) c.in_ok-array-in-Array.ensures.added refl refl
+
+pub returns-in_ok-array-in-Array-clause-breaches : goal.returns-in_ok-array-in-Array-clause-breaches
+returns-in_ok-array-in-Array-clause-breaches c =
+    let v : directive_tree c.args.directive.now ≡ array (array_tree c.in-Array.written) = ap directive_tree
+    c.in-Array.is in
+    noted_two c.args.least.now c.twice-in-Array.new.least c.array.new.least
+    (twice c.args.names.now.table.entries (name_tree c.in-Array.written.name))
+    (array_breaches c.args.whole.now.entries (array_tree c.in-Array.written)) c.twice-in-Array.ensures
+    c.in_ok-array-in-Array.ensures.breaches
     ∙ ap (λ (d : DirectiveTree). noted c.args.least.now
     (directive_breaches c.args.whole.now.entries c.args.names.now.table.entries c.args.names.now.counts d))
     (sym v)

@@ -2,7 +2,8 @@ use Rattle.std.proofs.Common.{nat_le, [], ◌++◌, cond}
 use Rattle.expressions.specs.Tree.{name_tree}
 use Rattle.syntax.specs.Tree.{optional_tree}
 use Rattle.checker.specs.Breaches.{at}
-use Rattle.checker.specs.Programs.{twice, initial_breaches}
+use Rattle.checker.specs.Literals.{initial_breaches}
+use Rattle.checker.specs.Programs.{twice}
 use Rattle.checker.proofs.Noted.{noted_two}
 use Rattle.checker.proofs.directive_rules.global.Goals as goal
 

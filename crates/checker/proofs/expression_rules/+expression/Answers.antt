@@ -1,4 +1,4 @@
-use Rattle.std.proofs.Common.{◌≡◌, None, length, refl, sym, ap, ◌∙◌}
+use Rattle.std.proofs.Common.{◌≡◌, Some, None, length, refl, sym, ap, ◌∙◌}
 use Rattle.std.specs.Prelude.{map}
 use Rattle.std.specs.Option.{option_map}
 use Rattle.expressions.specs.declared.tree.Binary.{Binary}
@@ -11,15 +11,16 @@ use Rattle.checker.specs.Noted.{noted}
 use Rattle.checker.specs.Resolved as values
 use Rattle.checker.specs.Resolved.{Value, value_of}
 use Rattle.checker.specs.Scope.{look_in}
-use Rattle.checker.specs.Expressions.{breaches, value_breaches, value_of_binding}
+use Rattle.checker.specs.Expressions.{breaches, value_breaches, value_of_binding, assigned}
 use Rattle.checker.specs.Walk.{value_link, own_breaches, resolved, link_breaches, resolved_link}
 use Rattle.checker.proofs.Noted.{noted_none, noted_two}
 use Rattle.checker.proofs.Each.{each_next, each_end, value_next, value_end}
-use Rattle.checker.proofs.Shapes.{is_constant, is_named, is_call, is_parenthesised, is_prefixed, is_step_before}
+use Rattle.checker.proofs.Shapes.{is_constant, is_named, is_call, is_index, is_parenthesised, is_prefixed}
+use Rattle.checker.proofs.Shapes.{is_step_before}
 use Rattle.checker.proofs.Shapes.{is_step_after, is_chain, is_compare, is_equal, is_assign}
 use Rattle.checker.proofs.Walks.{one, two, made_number, made_call, made_prefixed, made_step_before, made_step_after}
-use Rattle.checker.proofs.Walks.{made_chain, made_compare, made_equal, made_assign}
-use Rattle.checker.proofs.Forms.{all_walked, chain_walked, call_walked}
+use Rattle.checker.proofs.Walks.{made_chain, made_compare, made_equal, made_entry}
+use Rattle.checker.proofs.Forms.{all_walked, chain_walked, call_walked, index_walked, name_assigned, part_assigned}
 use Rattle.checker.proofs.expression_rules.+expression.Goals as goal
 
 pub all_expressions-loop-e-preserved : goal.all_expressions-loop-e-preserved
@@ -207,6 +208,32 @@ equal-returns t c =
     (all_walked (look_in c.args.scope.now) c.args.others.now (map value_of c.in-Ok-all_expressions.others.items)
     c.in-Ok-all_expressions.ensures)))
 
+pub expression-returns-in-Index : goal.expression-returns-in-Index
+expression-returns-in-Index t c =
+    let v = c.in-Index in
+    rw (is_index c.args.e.now v.name v.width v.operand v.is, ← c.deref-in-Index.ensures) c.index.ensures
+
+pub index-returns : goal.index-returns
+index-returns t c =
+    rw (made_entry c.args.width c.array-number.result c.in-Ok.operand)
+    (index_walked (look_in c.args.scope.now) (name_tree c.args.name) c.args.width c.array-number.result c.look.result
+    (expression_tree c.args.operand.now) (value_of c.in-Ok.operand.value)
+    c.look.ensures c.array-number.ensures.value c.array-number.ensures.breaches c.in-Ok.ensures)
+
+pub left_side-returns-in-Some : goal.left_side-returns-in-Some
+left_side-returns-in-Some t c =
+    let is : name_of (expression_tree c.args.e.now) ≡ Some (name_tree c.in-Some.name) = sym c.name_of.ensures
+    ∙ ap (option_map name_tree) c.in-Some.is in
+    name_assigned (look_in c.args.scope.now) c.args.operator (expression_tree c.args.e.now) (name_tree c.in-Some.name)
+    c.look-found.result (value_of c.named.result) is c.look-found.ensures c.named.ensures
+    c.target_of.ensures.breaches
+
+pub left_side-returns-in_ok-left-in-None : goal.left_side-returns-in_ok-left-in-None
+left_side-returns-in_ok-left-in-None t c =
+    let is : name_of (expression_tree c.args.e.now) ≡ None = sym c.name_of.ensures
+    ∙ ap (option_map name_tree) c.in-None.is in
+    part_assigned (look_in c.args.scope.now) c.args.operator (expression_tree c.args.e.now) c.is_entry.result
+    (value_of c.in_ok-left-in-None.left) is c.is_entry.ensures c.in_ok-left-in-None.ensures c.not_entry.ensures
+
 pub assign-returns : goal.assign-returns
-assign-returns t c = rw (made_assign c.in-Ok.variable c.in-Ok-boxed.right)
-    (two values.assign c.in-Ok.ensures c.in-Ok-boxed.ensures)
+assign-returns t c = rw c.assignment.ensures (two assigned c.in-Ok.ensures c.in-Ok-boxed.ensures)

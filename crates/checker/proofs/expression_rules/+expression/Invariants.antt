@@ -23,6 +23,12 @@ decreases-chain_links l = 4 * goal.size-chain_links l + 1
 abbrev pub decreases-variable : goal.decreases-variable
 decreases-variable l = 4 * goal.size-variable l + 1
 
+abbrev pub decreases-left_side : goal.decreases-left_side
+decreases-left_side l = 4 * goal.size-left_side l + 1
+
+abbrev pub decreases-index : goal.decreases-index
+decreases-index l = 4 * goal.size-index l + 2
+
 abbrev pub decreases-call : goal.decreases-call
 decreases-call l = 4 * goal.size-call l + 2
 

@@ -79,23 +79,27 @@ statement-returns-in-PrintReturn t c = let v = c.in-PrintReturn in
 
 pub statement-returns-in-If : goal.statement-returns-in-If
 statement-returns-in-If t c = let v = c.in-If in
-    rw (is_if_statement c.args.s.now v.position v.condition v.then v.is) c.if_then.ensures
+    rw (is_if_statement c.args.s.now v.position v.condition v.then v.is, ← c.deref-in-If.ensures) c.if_then.ensures
 
 pub statement-returns-in-IfElse : goal.statement-returns-in-IfElse
 statement-returns-in-IfElse t c = let v = c.in-IfElse in
-    rw (is_if_else_statement c.args.s.now v.position v.condition v.then v.otherwise v.is) c.if_else.ensures
+    rw (is_if_else_statement c.args.s.now v.position v.condition v.then v.otherwise v.is, ← c.deref-in-IfElse.ensures)
+    c.if_else.ensures
 
 pub statement-returns-in-While : goal.statement-returns-in-While
 statement-returns-in-While t c = let v = c.in-While in
-    rw (is_while_statement c.args.s.now v.position v.condition v.body v.is) (c.while_do.ensures c.args.around)
+    rw (is_while_statement c.args.s.now v.position v.condition v.body v.is, ← c.deref-in-While.ensures)
+    (c.while_do.ensures c.args.around)
 
 pub statement-returns-in-ReturnValue : goal.statement-returns-in-ReturnValue
 statement-returns-in-ReturnValue t c = let v = c.in-ReturnValue in
-    rw (is_return_value_statement c.args.s.now v.position v.e v.is) (c.return_value.ensures c.args.around)
+    rw (is_return_value_statement c.args.s.now v.position v.e v.is, ← c.deref-in-ReturnValue.ensures)
+    (c.return_value.ensures c.args.around)
 
 pub statement-returns-in-Effect : goal.statement-returns-in-Effect
 statement-returns-in-Effect t c = let v = c.in-Effect in
-    rw (is_effect_statement c.args.s.now v.position v.e v.is) (c.effect.ensures c.args.around)
+    rw (is_effect_statement c.args.s.now v.position v.e v.is, ← c.deref-in-Effect.ensures)
+    (c.effect.ensures c.args.around)
 
 pub statement-returns-in-Empty : goal.statement-returns-in-Empty
 statement-returns-in-Empty t c = rw (is_empty_statement c.args.s.now c.in-Empty.is, made_empty)

@@ -5,7 +5,7 @@ use Rattle.expressions.specs.Tree as trees
 use Rattle.expressions.specs.Tree.{expression_tree, name_tree}
 use Rattle.checker.specs.Names.{name_of}
 use Rattle.checker.specs.Temporaries.{need}
-use Rattle.checker.proofs.Shapes.{is_call, is_parenthesised, is_prefixed, is_step_before, is_step_after, is_chain}
+use Rattle.checker.proofs.Shapes.{is_call, is_index, is_parenthesised, is_prefixed, is_step_before, is_step_after, is_chain}
 use Rattle.checker.proofs.Shapes.{is_compare, is_assign}
 use Rattle.checker.proofs.Needs.{need_one, one_need, both_next, both_bad, chain_next, chain_bad, named_fits}
 use Rattle.checker.proofs.Needs.{operands_full, operands_bad}
@@ -43,7 +43,16 @@ fits-returns-in-Call t c =
 pub fits-returns-in-Parenthesised : goal.fits-returns-in-Parenthesised
 fits-returns-in-Parenthesised t c =
     let v = c.in-Parenthesised in
-    rw (is_parenthesised c.args.expression.now v.inside v.is, ← c.deref-in-Parenthesised.ensures) c.fits.ensures
+    rw (is_parenthesised c.args.expression.now v.inside v.is, ← c.deref-in-Parenthesised.ensures)
+    c.fits-in-Parenthesised.ensures
+
+pub fits-returns-in-Index : goal.fits-returns-in-Index
+fits-returns-in-Index t c =
+    let v = c.in-Index in
+    rw (is_index c.args.expression.now v.field-0 v.field-1 v.index v.is)
+    (c.fits.ensures ∙ ap (λ (y : Expression). nat_le (need (expression_tree y)) c.args.room)
+    c.deref-in-Index.ensures
+    ∙ ap (λ n. nat_le n c.args.room) (sym (one_need (expression_tree v.index.value))))
 
 pub fits-returns-in-Compare : goal.fits-returns-in-Compare
 fits-returns-in-Compare t c =

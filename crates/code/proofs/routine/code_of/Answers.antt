@@ -10,18 +10,19 @@ use Rattle.code.proofs.routine.code_of.Goals as goal
 pub invariant_of-result : goal.invariant_of-result
 invariant_of-result c =
     let xs = c.args.items.items in
+    let sizes = c.args.sizes.now in
     let ys = c.deref.result.now in
     let same = ap items_of c.deref.ensures.value in
-    let parts = ap parts_of same in
-    let are : c.in_ok-parts.parts.items ≡ parts_of (items_of xs) = c.in_ok-parts.ensures.parts ∙ parts in
-    let left : c.in_ok-left.left.items ≡ reverse (lefts_of (items_of xs)) =
+    let parts = ap (parts_of sizes) same in
+    let are : c.in_ok-parts.parts.items ≡ parts_of sizes (items_of xs) = c.in_ok-parts.ensures.parts ∙ parts in
+    let left : c.in_ok-left.left.items ≡ reverse (lefts_of sizes (items_of xs)) =
     c.in_ok-left.ensures ∙ ap (λ (ps : List Part). reverse (lefts 0 ps)) (c.deref-2.ensures.value ∙ are) in
-    let whole : c.place-length.result ≡ code_size (items_of xs) =
+    let whole : c.place-length.result ≡ code_size sizes (items_of xs) =
     c.place-length.ensures.value ∙ ap (λ (l : List ℕ). place_in (reverse l) c.len.result) c.deref-5.ensures.value
-    ∙ place_is c.in_ok-left.left.items (items_of xs) c.len.result left
-    ∙ last_place xs c.len.result (omega (arith, c.len.ensures, c.args.items.ok.0)) in (
+    ∙ place_is sizes c.in_ok-left.left.items (items_of xs) c.len.result left
+    ∙ last_place sizes xs c.len.result (omega (arith, c.len.ensures, c.args.items.ok.0)) in (
       left,
       c.in_ok-branches.ensures.uses ∙ ap (λ (ps : List Part). uses 0 ps) (c.deref-3.ensures.value ∙ are),
       ap (λ n. 1 + n) whole,
-      omega (arith, c.in_ok-parts.ensures.fits, ap code_size same),
+      omega (arith, c.in_ok-parts.ensures.fits, ap (code_size sizes) same),
     )

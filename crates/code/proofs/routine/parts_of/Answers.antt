@@ -6,10 +6,11 @@ use Rattle.code.proofs.routine.parts_of.Goals as goal
 pub returns-clause-fits : goal.returns-clause-fits
 returns-clause-fits c =
     let xs = c.args.items.now in
-    let low = lefts_low 0 (items_of xs) in
-    let sum = all_sum (length c.loop-item.bytes.items) (least_sum (items_of xs)) xs c.loop-item.item-index
+    let sizes = c.args.sizes.now in
+    let low = lefts_low sizes 0 (items_of xs) in
+    let sum = all_sum sizes (length c.loop-item.bytes.items) (least_sum sizes (items_of xs)) xs c.loop-item.item-index
     c.loop-item-test.false c.loop-item.invariant.1 in
-    let count = parts_count c.loop-item.parts.items xs c.loop-item.item-index c.loop-item-test.false
+    let count = parts_count sizes c.loop-item.parts.items xs c.loop-item.item-index c.loop-item-test.false
     c.loop-item.invariant.0 in
     omega (
       arith,
@@ -28,7 +29,8 @@ returns-clause-fits c =
 pub loop-item-preserved : goal.loop-item-preserved
 loop-item-preserved c =
     let x = c.item-item.result in
-    part_next c.loop-item.bytes.items c.put_item.new.bytes.items c.loop-item.parts.items c.push.new.self.items
+    part_next c.args.sizes.now c.loop-item.bytes.items c.put_item.new.bytes.items
+    c.loop-item.parts.items c.push.new.self.items
     c.args.items.now c.loop-item.item-index x (item_of x)
     c.saturating_sub-size.result c.target_of-target.result _ _ c.loop-item-test.true (ap item_of c.item-item.is)
     c.loop-item.invariant.0 c.loop-item.invariant.1

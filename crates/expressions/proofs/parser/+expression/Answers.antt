@@ -1,4 +1,4 @@
-use Rattle.std.proofs.Common.{sym, ◌∙◌, arith, inl, inr}
+use Rattle.std.proofs.Common.{sym, ap, ◌∙◌, arith, inl, inr}
 use Rattle.std.specs.Prelude.{map}
 use Rattle.std.proofs.lemmas.Result.{err_from_is_err_and}
 use Rattle.lexer.specs.declared.token.Sign.TheVariants as s
@@ -11,7 +11,8 @@ use Rattle.expressions.proofs.Cases.{expression_fails, expression_alone, compari
 use Rattle.expressions.proofs.Cases.{assigned_whole, after_name_called, assigned_deep, after_name_deep, enclosed_deep}
 use Rattle.expressions.proofs.Cases.{negated_deep, complemented_deep, unary_deep, unary_step_deep, expression_assigns}
 use Rattle.expressions.proofs.Cases.{comparison_compares, comparison_equates, unary_steps, called_with, negated_not}
-use Rattle.expressions.proofs.Cases.{complemented_tilde, unary_minus, unary_step, enclosed_whole}
+use Rattle.expressions.proofs.Cases.{complemented_tilde, indexed_alone, indexed_entry, unary_minus, unary_step}
+use Rattle.expressions.proofs.Cases.{enclosed_whole}
 use Rattle.expressions.proofs.Chain.{arguments_begin, arguments_more, values_more, level_single, level_fails}
 use Rattle.expressions.proofs.Chain.{values_begin, level_second_fails, level_begins, chain_fails, chain_more}
 use Rattle.expressions.proofs.Chain.{list_fails, further_fails, arguments_read, values_read}
@@ -114,6 +115,15 @@ pub complemented-returns : goal.complemented-returns
 complemented-returns t c = c.prefixed.ensures _ _ c.complemented-operand.ensures
     (complemented_tilde c.args.depth c.in_ok-inside.inside c.in_ok-inside.ensures.opened (lexemes c.args.tokens.now)
     (lexemes c.skip.result.now) (grind arith) c.skip.ensures)
+
+pub indexed-returns-in_default : goal.indexed-returns-in_default
+indexed-returns-in_default t c = rw
+    (indexed_alone c.args.depth (lexemes c.args.tokens.now) c.in_default.ensures) c.unary.ensures
+
+pub indexed-returns : goal.indexed-returns
+indexed-returns t c = c.index.ensures _ _ c.unary-index.ensures
+    (indexed_entry c.args.depth (lexemes c.args.tokens.now) (lexemes c.skip-2.result.now) _ _ c.in-Some.ensures
+    (c.skip-2.ensures ∙ ap tail c.skip.ensures))
 
 pub enclosed-returns : goal.enclosed-returns
 enclosed-returns t c = c.parenthesised.ensures _ _ c.expression-enclosed.ensures

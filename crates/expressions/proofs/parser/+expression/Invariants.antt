@@ -49,8 +49,11 @@ decreases-values l = 17 * l.depth + 9
 abbrev pub decreases-complemented : goal.decreases-complemented
 decreases-complemented l = 17 * l.depth + 4
 
+abbrev pub decreases-indexed : goal.decreases-indexed
+decreases-indexed l = 17 * l.depth + 3
+
 abbrev pub decreases-unary : goal.decreases-unary
-decreases-unary l = 17 * l.depth + 3
+decreases-unary l = 17 * l.depth + 2
 
 abbrev pub decreases-primary : goal.decreases-primary
 decreases-primary l = 17 * l.depth + 1

@@ -15,7 +15,7 @@ use Rattle.items.specs.Writing.{written_in, link_of, folded_items, first_items, 
 use Rattle.items.specs.Writing.{wanted_items, Written, ReducesWord, ReducesLink, ReducesLinks, ReducesEquality}
 use Rattle.items.proofs.Trees.{chain_is, equal_is, step_before_is}
 use Rattle.items.proofs.Values.{call_more, prefix_more, not_more_at, and_link_at, or_link_at}
-use Rattle.items.proofs.Values.{not_logical, operate_link, chain_more, compare_link}
+use Rattle.items.proofs.Values.{not_logical, operate_link, chain_more, compare_link, entry_more, assigned_entry_link}
 use Rattle.items.proofs.Assigned.{assign_nowhere, assign_pushed, assign_kept}
 use Rattle.items.proofs.Alternatives.{few_link, many_link, equal_more, operand_next, folded_next, link_next}
 use Rattle.items.proofs.value.+values.Goals as goal
@@ -61,6 +61,16 @@ pub put_prefixed-returns-in_ok-put_operand-in_default : goal.put_prefixed-return
 put_prefixed-returns-in_ok-put_operand-in_default t c =
     prefix_more _ _ _ _ c.args.wanted _ c.args.prefix _ _ c.in_default.not-Not c.in_ok-destination-in_default.ensures
     c.alone-operand.ensures c.in_ok-put-in_default.ensures c.in_ok-put_operand-in_default.ensures
+
+pub put_entry-returns : goal.put_entry-returns
+put_entry-returns t c =
+    entry_more _ _ _ _ c.args.wanted _ c.args.width c.args.array _ _ c.in_ok-destination.ensures
+    c.alone-operand.ensures c.in_ok-put.ensures c.in_ok-put_operand.ensures
+
+pub put_assigned_entry-returns : goal.put_assigned_entry-returns
+put_assigned_entry-returns t c =
+    assigned_entry_link _ _ _ _ c.args.wanted _ c.args.width c.args.array _ _ _ c.in_ok-destination.ensures
+    c.alone-operand.ensures c.in_ok-put.ensures c.in_ok-put_operand.ensures
 
 pub put_comparison-returns : goal.put_comparison-returns
 put_comparison-returns t c =

@@ -1,5 +1,5 @@
 use Rattle.zcore.specs.Execution.{print_address}
-use Rattle.opcodes.proofs.Transcripts.{characters_as}
+use Rattle.opcodes.proofs.Fronts.{characters_for}
 use Rattle.frames.proofs.Steps.{went_no_further, told_went, told_then, told_err}
 use Rattle.opcodes.proofs.printing.print_address.Goals as goal
 
@@ -10,5 +10,6 @@ returns-in_err-characters-clause-told c = told_err _ c.from_residual.ensures.1
 
 pub returns-clause-told : goal.returns-clause-told
 unfolding print_address
-returns-clause-told c = told_then _ (told_went _ _ c.in_ok-characters.ensures)
-    (characters_as _ _ _ _ c.deref.ensures.value c.print_characters.ensures.told)
+returns-clause-told c = told_then _ (told_went _ _ c.in_ok-characters.ensures.2)
+    (characters_for _ _ _ _ _ c.deref.ensures.value c.in_ok-characters.ensures.1
+    c.print_characters.ensures.told)

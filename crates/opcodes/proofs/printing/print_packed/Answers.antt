@@ -1,5 +1,5 @@
 use Rattle.opcodes.proofs.Targets.{unpacked_is, packed_told}
-use Rattle.opcodes.proofs.Transcripts.{characters_as}
+use Rattle.opcodes.proofs.Fronts.{characters_for}
 use Rattle.frames.proofs.Steps.{went_no_further, told_went, told_then, told_err}
 use Rattle.opcodes.proofs.printing.print_packed.Goals as goal
 
@@ -12,5 +12,6 @@ returns-in_err-characters-clause-told c =
 pub returns-clause-told : goal.returns-clause-told
 returns-clause-told c =
     packed_told _ _ _ _ _ (unpacked_is c.args.header.now _ _ _ c.requires.store.headed c.unpacked.ensures.same)
-    (told_then _ (told_went _ _ c.in_ok-characters.ensures)
-    (characters_as _ _ _ _ c.deref.ensures.value c.print_characters.ensures.told))
+    (told_then _ (told_went _ _ c.in_ok-characters.ensures.2)
+    (characters_for _ _ _ _ _ c.deref.ensures.value c.in_ok-characters.ensures.1
+    c.print_characters.ensures.told))

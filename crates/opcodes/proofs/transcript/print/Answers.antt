@@ -9,7 +9,12 @@ pub loop-character-init : goal.loop-character-init
 loop-character-init c =
     record {
       told = prints_none _ _ c.requires.sound
-          (omega (arith, length-drop c.args.start c.args.text.now.items, c.requires.text.begun, c.requires.text.within));
+          (omega (
+            arith,
+            length-drop c.args.start c.args.text.now.items,
+            c.requires.text.begun,
+            c.requires.text.within,
+          ));
       grew = grew_still _ _ c.requires.text;
     }
 

@@ -8,11 +8,12 @@ use Rattle.story.proofs.write.write_story.Goals as goal
 
 pub put_header-requires-clause-words : goal.put_header-requires-clause-words
 put_header-requires-clause-words c =
+    let placed = c.requires.placed in
     subst AreWords (sym c.part_places.ensures) (record {
       globals = omega arith;
-      defaults = omega arith;
-      dictionary = omega arith;
-      start = omega arith;
+      defaults = omega (arith, placed);
+      dictionary = omega (arith, placed);
+      start = omega (arith, placed);
     })
 
 pub put_header-requires-clause-length : goal.put_header-requires-clause-length

@@ -1,6 +1,7 @@
 use Rattle.std.proofs.Common.{◌≡◌, map, ◌-◌}
 use Rattle.lexer.specs.Token.{lexemes}
 use Rattle.expressions.specs.Tree.{name_tree}
+use Rattle.expressions.specs.Parse.{is_name}
 use Rattle.statements.specs.Parse.{repeated}
 use Rattle.syntax.specs.Parse as spec
 use Rattle.statements.proofs.Loops.{joined}
@@ -8,5 +9,5 @@ use Rattle.syntax.proofs.values.names.Given as goal
 
 abbrev pub invariant-loop-turn : goal.invariant-loop-turn
 invariant-loop-turn l =
-    joined (map name_tree l.found.items) (repeated spec.is_name spec.named (l._turn-end - l._turn) (lexemes l.rest))
+    joined (map name_tree l.found.items) (repeated is_name spec.named (l._turn-end - l._turn) (lexemes l.rest))
     ≡ spec.names (lexemes l.fn.tokens)

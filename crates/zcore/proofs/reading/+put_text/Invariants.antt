@@ -1,6 +1,7 @@
-use Rattle.std.proofs.Common.{◌≡◌, cond}
+use Rattle.std.proofs.Common.{◌≡◌, ◌≤◌, cond, length}
 use Rattle.zcore.specs.Reading.{Lower}
 use Rattle.zcore.specs.TextParts.{state_of, HasRow, expansion}
+use Rattle.zcore.proofs.Fronts.{front}
 use Rattle.zcore.proofs.Loops.{read_from}
 use Rattle.zcore.proofs.reading.+put_text.Given as goal
 
@@ -10,6 +11,8 @@ decreases-put_text l = cond l.is_abbreviation 0 1
 abbrev pub invariant-loop-place : goal.invariant-loop-place
 invariant-loop-place l = record {
   row : HasRow l.state;
-  so_far : read_from (expansion l.is_abbreviation l.story) l.bytes l.words l.text.items (state_of l.state) l.place
-      ≡ read_from (expansion l.is_abbreviation l.story) l.bytes l.words l.fn.text.items Lower 0;
+  room : length l.text.items ≤ l.most;
+  so_far : front l.most (read_from (expansion l.is_abbreviation l.story) l.bytes l.words l.text.items
+      (state_of l.state) l.place)
+      ≡ front l.most (read_from (expansion l.is_abbreviation l.story) l.bytes l.words l.fn.text.items Lower 0);
 }

@@ -1,33 +1,8 @@
-use Rattle.std.proofs.Common.{◌∙◌, ap, sym, subst}
-use Rattle.std.proofs.lemmas.Result.{err_from_is_err_and}
-use Rattle.zcore.specs.Text.{read_with, abbreviation, decoded}
-use Rattle.zcore.specs.Faults.{Fails}
-use Rattle.zcore.specs.TextParts.{after_text}
-use Rattle.zcore.proofs.Packing.{joined_none}
-use Rattle.zcore.proofs.Causes.{has_cause}
+use Rattle.std.proofs.Common.{arith}
+use Rattle.zcore.specs.Text.{decoded}
+use Rattle.zcore.proofs.Fronts.{gives_whole}
 use Rattle.zcore.proofs.text.decode_text.Goals as goal
 
-pub returns-in_err-after-clause-text : goal.returns-in_err-after-clause-text
-unfolding decoded
-returns-in_err-after-clause-text c =
-    let read = read_with (abbreviation c.args.story.now) c.args.story.now c.args.at in
-    let p = err_from_is_err_and c.from_residual.result c.from_residual.ensures.1 in
-    rw (p.1, p.2)
-    (subst (Fails c.in_err-after.field-0.0)
-    (ap (λ ts. after_text ts read) c.new-text.ensures.items ∙ joined_none read) c.in_err-after.ensures)
-
-pub returns-in_err-after-clause-cause : goal.returns-in_err-after-clause-cause
-unfolding decoded
-returns-in_err-after-clause-cause c =
-    let read = read_with (abbreviation c.args.story.now) c.args.story.now c.args.at in
-    let p = err_from_is_err_and c.from_residual.result c.from_residual.ensures.1 in
-    rw (p.1, p.2)
-    (has_cause c.args.story.now c.args.at c.in_err-after.field-0.0
-    (subst (Fails c.in_err-after.field-0.0)
-    (ap (λ ts. after_text ts read) c.new-text.ensures.items ∙ joined_none read) c.in_err-after.ensures))
-
 pub returns-clause-text : goal.returns-clause-text
-unfolding decoded
-returns-clause-text c =
-    let read = read_with (abbreviation c.args.story.now) c.args.story.now c.args.at in
-    sym (ap (λ ts. after_text ts read) c.new-text.ensures.items ∙ joined_none read) ∙ c.in_ok-after.ensures
+returns-clause-text c = gives_whole 18446744073709551615 c.decode_front.result (decoded c.args.story.now c.args.at) (omega arith)
+    c.decode_front.ensures.room c.decode_front.ensures.text

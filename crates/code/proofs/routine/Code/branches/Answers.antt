@@ -13,10 +13,11 @@ use Rattle.code.proofs.routine.Code.branches.Goals as goal
 pub returns-clause-offsets : goal.returns-clause-offsets
 returns-clause-offsets c =
     let is = items_of c.self.inside.items.items in
+    let sizes = c.self.inside.sizes.now in
     ap (λ (us : List BranchUse). map (λ (u : BranchUse). u.offset) us) (c.deref.ensures.value ∙ c.self.invariant.1)
-    ∙ offsets_are is
-    ∙ ap (λ (v : CodeOf). branch_offsets (place_of v.items) 0 v.items) c.self.view_is
+    ∙ offsets_are sizes is
+    ∙ ap (λ (v : CodeOf). branch_offsets (place_of v.sizes v.items) 0 v.items) c.self.view_is
 
 pub returns-clause-shortest : goal.returns-clause-shortest
 returns-clause-shortest c = subst (All IsShortest) (sym (c.deref.ensures.value ∙ c.self.invariant.1))
-    (all_shortest 0 (parts_of (items_of c.self.inside.items.items)))
+    (all_shortest 0 (parts_of c.self.inside.sizes.now (items_of c.self.inside.items.items)))

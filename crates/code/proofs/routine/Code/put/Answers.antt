@@ -9,12 +9,14 @@ use Rattle.code.proofs.routine.Code.put.Goals as goal
 pub returns-clause-written : goal.returns-clause-written
 returns-clause-written c =
     let x = c.self.inside in
+    let sizes = x.sizes.now in
     let a = addresses_of c.args.addresses.now in
     let first : c.push.new.self.items ≡ (x.locals % 256) ∷ [] =
     c.in_ok-push.ensures.items ∙ ap (λ z. z ++ (x.locals % 256) ∷ []) c.new-bytes.ensures.items in
     let same = ap items_of c.deref.ensures.value in
-    code_written a c.args.self.now (items_of x.items.items) x.locals c.args.story.now.items
+    code_written sizes a c.args.self.now (items_of x.items.items) x.locals c.args.story.now.items
     c.extend_from_slice.new.self.items c.push.new.self.items c.put_items.new.bytes.items c.deref-3.result.now
     c.self.view_is first (c.in_ok-put_items.ensures
-    ∙ ap (λ (is : List Item). c.push.new.self.items ++ items_bytes a (place_of is) 0 is) same) c.deref-3.ensures.value
+    ∙ ap (λ (is : List Item). c.push.new.self.items
+    ++ items_bytes sizes a (place_of sizes is) 0 is) same) c.deref-3.ensures.value
     c.in_ok-extend_from_slice.ensures.items

@@ -1,0 +1,282 @@
+-- What arrays begin with, part by part.
+use Rattle.std.proofs.Common.{◌≡◌, ◌≢◌, ℕ, zero, suc, ◌+◌, ◌-◌, ◌*◌, ◌<◌, ◌≤◌, Bool, true, false, cond, nat_le, List}
+use Rattle.std.proofs.Common.{[], ◌∷◌, ◌++◌, length, drop, slice_index_or, Option, Some, append_assoc, refl, sym, ap}
+use Rattle.std.proofs.Common.{◌∙◌, arith}
+use Rattle.std.specs.Prelude.{map, replicate, ◌&&◌}
+use Rattle.std.specs.List.{flat_map}
+use Rattle.std.proofs.lemmas.Bool.{leb-true, and_parts}
+use Rattle.std.proofs.lemmas.Bool.Decides.{nat_tests}
+use Rattle.std.proofs.lemmas.List.{length-replicate}
+use Rattle.lexer.specs.declared.token.Position.{Position}
+use Rattle.expressions.specs.declared.tree.Width.{Width}
+use Rattle.expressions.specs.declared.tree.Width.TheVariants as widths
+use Rattle.syntax.specs.declared.tree.ArrayKind.{ArrayKind}
+use Rattle.syntax.specs.declared.tree.ArrayKind.TheVariants as kinds
+use Rattle.syntax.specs.declared.tree.ArrayValue.{ArrayValue}
+use Rattle.syntax.specs.Tree.{ValueTree, ArrayTree, value_tree, literal_tree}
+use Rattle.checker.specs.declared.arrays.Arrays.{Arrays}
+use Rattle.checker.specs.declared.breach.Breach.{Breach}
+use Rattle.checker.specs.Breaches.{at}
+use Rattle.checker.specs.Names.{Table, literal_number, or_zero}
+use Rattle.checker.specs.Noted.{noted}
+use Rattle.checker.specs.Literals.{literal_breaches}
+use Rattle.checker.specs.Arrays.{width_of, array_size, is_told, is_size, size_breaches, wide_breaches, entry_breaches}
+use Rattle.checker.specs.Arrays.{values_breaches, entry_value, zeros, entries_of, entry_bytes, bytes_of}
+use Rattle.checker.specs.Arrays.{array_breaches, array_bytes}
+use Rattle.checker.specs.Walk.{most, number_bytes, own_entry_bytes, own_entry_breaches, IsArrayAdded}
+use Rattle.checker.proofs.Noted.{noted_none, noted_append, noted_two}
+use Rattle.checker.proofs.Directives.{drop_cons, drop_end, nothing_more}
+use Rattle.checker.proofs.Unbroken.{left_empty}
+
+-- Sizes
+
+pub size_is : (kind : ArrayKind) (n : ℕ) → is_size kind n ≡ (nat_le 1 n && nat_le n (most kind))
+size_is kinds.Bytes n = grind (arith, nat_tests)
+size_is kinds.Words n = grind (arith, nat_tests)
+size_is kinds.String n = grind (arith, nat_tests)
+size_is kinds.Table n = grind (arith, nat_tests)
+
+size_within : (kind : ArrayKind) (n : ℕ) → is_size kind n ≡ true → array_size kind n ≤ 32000
+size_within kind n h =
+    let both = and_parts (nat_le 1 n && nat_le (array_size kind n) 32000) (is_told kind n) h in
+    let first = and_parts (nat_le 1 n) (nat_le (array_size kind n) 32000) both.0 in
+    leb-true (array_size kind n) 32000 first.1
+
+-- Bytes
+
+-- the number comes first, where the kind has it
+number_first : (kind : ArrayKind) (es : List ℕ)
+    → bytes_of kind es ≡ number_bytes kind (length es) ++ flat_map (entry_bytes (width_of kind)) es
+number_first kinds.Bytes es = refl
+number_first kinds.Words es = refl
+number_first kinds.String es = refl
+number_first kinds.Table es = refl
+
+abbrev width_size : Width → ℕ
+width_size widths.Byte = 1
+width_size widths.Word = 2
+
+entry_lengths : (w : Width) (es : List ℕ) → length (flat_map (entry_bytes w) es) ≡ width_size w * length es
+entry_lengths widths.Byte [] = refl
+entry_lengths widths.Word [] = refl
+entry_lengths widths.Byte (e ∷ es) = let h = entry_lengths widths.Byte es in omega (arith, h)
+entry_lengths widths.Word (e ∷ es) = let h = entry_lengths widths.Word es in omega (arith, h)
+
+bytes_length : (kind : ArrayKind) (es : List ℕ) → length (bytes_of kind es) ≡ array_size kind (length es)
+bytes_length kinds.Bytes es = let h = entry_lengths widths.Byte es in omega (arith, h)
+bytes_length kinds.Words es = let h = entry_lengths widths.Word es in omega (arith, h)
+bytes_length kinds.String es = let h = entry_lengths widths.Byte es in omega (arith, h)
+bytes_length kinds.Table es = let h = entry_lengths widths.Word es in omega (arith, h)
+
+none_short : (kind : ArrayKind) → array_size kind 0 ≤ 32000
+none_short kinds.Bytes = omega arith
+none_short kinds.Words = omega arith
+none_short kinds.String = omega arith
+none_short kinds.Table = omega arith
+
+zeros_short : (kind : ArrayKind) (n : ℕ) (c : Bool) → is_size kind n ≡ c → array_size kind (cond c n 0) ≤ 32000
+zeros_short kind n true h = size_within kind n h
+zeros_short kind n false h = none_short kind
+
+map_length : {A B : Type 0} (f : A → B) (xs : List A) → length (map f xs) ≡ length xs
+map_length f [] = refl
+map_length f (x ∷ xs) = ap suc (map_length f xs)
+
+short_of : (kind : ArrayKind) (es : List ℕ) (n : ℕ) → length es ≡ n → array_size kind n ≤ 32000
+    → length (bytes_of kind es) ≤ 32000
+short_of kind es n is h =
+    let long = bytes_length kind es in
+    let same = ap (array_size kind) is in
+    omega (arith, long, same, h)
+
+is_kept : (c : Bool) (p : Position) → cond c [] (at p 28) ≡ [] → c ≡ true
+is_kept true p h = refl
+is_kept false p h = absurd cc
+
+values_short : (whole : Table) (p : Position) (kind : ArrayKind) (vs : List ValueTree)
+    → values_breaches whole p kind vs ≡ [] → length (bytes_of kind (entries_of whole kind vs)) ≤ 32000
+values_short whole p kind [] h = short_of kind [] 0 refl (none_short kind)
+values_short whole p kind (v ∷ []) h =
+    let n = entry_value whole v in
+    short_of kind (replicate (zeros kind n) 0) (zeros kind n) (length-replicate (zeros kind n) 0)
+    (zeros_short kind n (is_size kind n) refl)
+values_short whole p kind (v ∷ w ∷ vs) h =
+    let n = length (v ∷ w ∷ vs) in
+    let fits = is_kept (is_size kind n) p
+    (left_empty (size_breaches p kind (Some n)) (flat_map (entry_breaches whole (width_of kind)) (v ∷ w ∷ vs)) h) in
+    short_of kind (map (entry_value whole) (v ∷ w ∷ vs)) n (map_length (entry_value whole) (v ∷ w ∷ vs))
+    (size_within kind n fits)
+
+pub array_short : (whole : Table) (a : ArrayTree) → array_breaches whole a ≡ [] → length (array_bytes whole a) ≤ 32000
+array_short whole a h = values_short whole a.name.position a.kind a.values h
+
+-- Parts that are added
+
+-- one more of the parts of a list is added
+one_added : {A : Type 0} (f : A → List ℕ) (xs : List A) (i : ℕ) (d : A) (before after whole : List ℕ)
+    → i < length xs → after ≡ before ++ f (slice_index_or xs i d)
+    → before ++ flat_map f (drop i xs) ≡ whole → after ++ flat_map f (drop (i + 1) xs) ≡ whole
+one_added {A = A} f xs i d before after whole lt more h =
+    let j : i + 1 ≡ suc i = omega arith in
+    rw j
+    (ap (λ (z : List ℕ). z ++ flat_map f (drop (suc i) xs)) more
+    ∙ append_assoc before (f (slice_index_or xs i d)) (flat_map f (drop (suc i) xs))
+    ∙ ap (λ (z : List A). before ++ flat_map f z) (sym (drop_cons xs i d lt))
+    ∙ h)
+
+-- one more entry is added
+pub entry_added : (whole : Table) (w : Width) (xs : List ArrayValue) (i : ℕ) (d : ArrayValue) (n : ℕ)
+    (before after all : List ℕ) → i < length xs → n ≡ entry_value whole (value_tree (slice_index_or xs i d))
+    → after ≡ before ++ entry_bytes w n → before ++ flat_map (own_entry_bytes whole w) (drop i xs) ≡ all
+    → after ++ flat_map (own_entry_bytes whole w) (drop (i + 1) xs) ≡ all
+entry_added whole w xs i d n before after all lt is more h =
+    one_added (own_entry_bytes whole w) xs i d before after all lt
+    (more ∙ ap (λ (k : ℕ). before ++ entry_bytes w k) is) h
+
+-- and its rules are noted
+pub entry_noted : (whole : Table) (w : Width) (xs : List ArrayValue) (i : ℕ) (d : ArrayValue)
+    (m o all : Option Breach) → i < length xs
+    → o ≡ noted m (entry_breaches whole w (value_tree (slice_index_or xs i d)))
+    → noted m (flat_map (own_entry_breaches whole w) (drop i xs)) ≡ all
+    → noted o (flat_map (own_entry_breaches whole w) (drop (i + 1) xs)) ≡ all
+entry_noted whole w xs i d m o all lt more h =
+    let j : i + 1 ≡ suc i = omega arith in
+    let rest : List Breach = flat_map (own_entry_breaches whole w) (drop (suc i) xs) in
+    rw j
+    (ap (λ (q : Option Breach). noted q rest) more
+    ∙ sym (noted_append m (entry_breaches whole w (value_tree (slice_index_or xs i d))) rest)
+    ∙ ap (λ (z : List ArrayValue). noted m (flat_map (own_entry_breaches whole w) z)) (sym (drop_cons xs i d lt))
+    ∙ h)
+
+pub all_noted : (whole : Table) (w : Width) (xs : List ArrayValue) (i : ℕ) (m all : Option Breach) → length xs ≤ i
+    → noted m (flat_map (own_entry_breaches whole w) (drop i xs)) ≡ all → m ≡ all
+all_noted whole w xs i m all end h =
+    sym (noted_none m)
+    ∙ ap (λ (z : List ArrayValue). noted m (flat_map (own_entry_breaches whole w) z)) (sym (drop_end xs i end))
+    ∙ h
+
+pub all_added : {A : Type 0} (f : A → List ℕ) (xs : List A) (i : ℕ) (bytes whole : List ℕ) → length xs ≤ i
+    → bytes ++ flat_map f (drop i xs) ≡ whole → bytes ≡ whole
+all_added {A = A} f xs i bytes whole end h =
+    nothing_more bytes ∙ ap (λ (z : List A). bytes ++ flat_map f z) (sym (drop_end xs i end)) ∙ h
+
+-- one more zero is added, where so many are left
+pub zero_added : (w : Width) (n i : ℕ) (before after whole : List ℕ) → i < n → after ≡ before ++ entry_bytes w 0
+    → before ++ flat_map (entry_bytes w) (replicate (n - i) 0) ≡ whole
+    → after ++ flat_map (entry_bytes w) (replicate (n - (i + 1)) 0) ≡ whole
+zero_added w n i before after whole lt more h =
+    let left : n - i ≡ suc (n - (i + 1)) = omega (arith, lt) in
+    ap (λ (z : List ℕ). z ++ flat_map (entry_bytes w) (replicate (n - (i + 1)) 0)) more
+    ∙ append_assoc before (entry_bytes w 0) (flat_map (entry_bytes w) (replicate (n - (i + 1)) 0))
+    ∙ ap (λ (k : ℕ). before ++ flat_map (entry_bytes w) (replicate k 0)) (sym left)
+    ∙ h
+
+pub zeros_added : (w : Width) (n i : ℕ) (bytes whole : List ℕ) → n ≤ i
+    → bytes ++ flat_map (entry_bytes w) (replicate (n - i) 0) ≡ whole → bytes ≡ whole
+zeros_added w n i bytes whole end h =
+    let none : n - i ≡ 0 = omega (arith, end) in
+    nothing_more bytes ∙ ap (λ (k : ℕ). bytes ++ flat_map (entry_bytes w) (replicate k 0)) (sym none) ∙ h
+
+-- One value
+
+alone : {A : Type 0} (xs : List A) (d : A) → length xs ≡ 1 → xs ≡ slice_index_or xs 0 d ∷ []
+alone [] d n = absurd (omega (arith, n))
+alone (x ∷ []) d n = refl
+alone (x ∷ y ∷ xs) d n = absurd (omega (arith, n))
+
+pub sized_breaks : (whole : Table) (position : Position) (kind : ArrayKind) (values : List ArrayValue)
+    (d : ArrayValue) (size : Option ℕ) (m o q : Option Breach) → length values ≡ 1
+    → size ≡ literal_number whole (literal_tree (slice_index_or values 0 d).value)
+    → o ≡ noted m (literal_breaches whole (literal_tree (slice_index_or values 0 d).value))
+    → q ≡ noted o (size_breaches position kind size)
+    → q ≡ noted m (values_breaches whole position kind (map value_tree values))
+sized_breaks whole position kind values d size m o q one number a b =
+    let tree = literal_tree (slice_index_or values 0 d).value in
+    noted_two m o q (literal_breaches whole tree) (size_breaches position kind (literal_number whole tree)) a
+    (b ∙ ap (λ (s : Option ℕ). noted o (size_breaches position kind s)) number)
+    ∙ ap (λ (vs : List ArrayValue). noted m (values_breaches whole position kind (map value_tree vs)))
+    (sym (alone values d one))
+
+pub sized_adds : (whole : Table) (kind : ArrayKind) (values : List ArrayValue) (d : ArrayValue) (size : Option ℕ)
+    (n : ℕ) (old mid new : List ℕ) → length values ≡ 1
+    → size ≡ literal_number whole (literal_tree (slice_index_or values 0 d).value) → n ≡ zeros kind (or_zero size)
+    → mid ≡ old ++ number_bytes kind n → new ≡ mid ++ flat_map (entry_bytes (width_of kind)) (replicate n 0)
+    → new ≡ old ++ bytes_of kind (entries_of whole kind (map value_tree values))
+sized_adds whole kind values d size n old mid new one number count a b =
+    let e : n ≡ zeros kind (entry_value whole (value_tree (slice_index_or values 0 d))) = count
+    ∙ ap (λ (s : Option ℕ). zeros kind (or_zero s)) number in
+    b ∙ ap (λ (z : List ℕ). z ++ flat_map (entry_bytes (width_of kind)) (replicate n 0)) a
+    ∙ append_assoc old (number_bytes kind n) (flat_map (entry_bytes (width_of kind)) (replicate n 0))
+    ∙ ap (λ (k : ℕ). old ++ (number_bytes kind k ++ flat_map (entry_bytes (width_of kind)) (replicate n 0)))
+    (sym (length-replicate n 0))
+    ∙ ap (λ (z : List ℕ). old ++ z) (sym (number_first kind (replicate n 0)))
+    ∙ ap (λ (k : ℕ). old ++ bytes_of kind (replicate k 0)) e
+    ∙ ap (λ (vs : List ArrayValue). old ++ bytes_of kind (entries_of whole kind (map value_tree vs)))
+    (sym (alone values d one))
+
+-- Several values
+
+flat_map_map : {A B C : Type 0} (f : B → List C) (g : A → B) (xs : List A)
+    → flat_map f (map g xs) ≡ flat_map (λ (x : A). f (g x)) xs
+flat_map_map f g [] = refl
+flat_map_map {C = C} f g (x ∷ xs) = ap (λ (r : List C). f (g x) ++ r) (flat_map_map f g xs)
+
+several_entries : (whole : Table) (kind : ArrayKind) (vs : List ValueTree) → length vs ≢ 1
+    → entries_of whole kind vs ≡ map (entry_value whole) vs
+several_entries whole kind [] n = refl
+several_entries whole kind (v ∷ []) n = absurd (n refl)
+several_entries whole kind (v ∷ w ∷ vs) n = refl
+
+several_break : (whole : Table) (p : Position) (kind : ArrayKind) (vs : List ValueTree) → length vs ≢ 1
+    → values_breaches whole p kind vs
+    ≡ size_breaches p kind (Some (length vs)) ++ flat_map (entry_breaches whole (width_of kind)) vs
+several_break whole p kind [] n = nothing_more (size_breaches p kind (Some 0))
+several_break whole p kind (v ∷ []) n = absurd (n refl)
+several_break whole p kind (v ∷ w ∷ vs) n = refl
+
+still_several : (values : List ArrayValue) → length values ≢ 1 → length (map value_tree values) ≢ 1
+still_several values n = λ e. n (sym (map_length value_tree values) ∙ e)
+
+pub listed_breaks : (whole : Table) (position : Position) (kind : ArrayKind) (values : List ArrayValue) (n : ℕ)
+    (w : Width) (m o q : Option Breach) → length values ≢ 1 → n ≡ length values → w ≡ width_of kind
+    → o ≡ noted m (size_breaches position kind (Some n)) → q ≡ noted o (flat_map (own_entry_breaches whole w) values)
+    → q ≡ noted m (values_breaches whole position kind (map value_tree values))
+listed_breaks whole position kind values n w m o q more count width a b =
+    let trees = map value_tree values in
+    let k : n ≡ length trees = count ∙ sym (map_length value_tree values) in
+    noted_two m o q (size_breaches position kind (Some (length trees)))
+    (flat_map (entry_breaches whole (width_of kind)) trees)
+    (a ∙ ap (λ (j : ℕ). noted m (size_breaches position kind (Some j))) k)
+    (b ∙ ap (λ (v : Width). noted o (flat_map (own_entry_breaches whole v) values)) width
+    ∙ ap (λ (bs : List Breach). noted o bs)
+    (sym (flat_map_map (entry_breaches whole (width_of kind)) value_tree values)))
+    ∙ ap (λ (bs : List Breach). noted m bs)
+    (sym (several_break whole position kind trees (still_several values more)))
+
+pub listed_adds : (whole : Table) (kind : ArrayKind) (values : List ArrayValue) (n : ℕ) (w : Width)
+    (old mid new : List ℕ) → length values ≢ 1 → n ≡ length values → w ≡ width_of kind
+    → mid ≡ old ++ number_bytes kind n → new ≡ mid ++ flat_map (own_entry_bytes whole w) values
+    → new ≡ old ++ bytes_of kind (entries_of whole kind (map value_tree values))
+listed_adds whole kind values n w old mid new more count width a b =
+    let trees = map value_tree values in
+    let es : List ℕ = map (entry_value whole) trees in
+    let k : n ≡ length es = count ∙ sym (map_length value_tree values) ∙ sym (map_length (entry_value whole) trees) in
+    let flat : flat_map (own_entry_bytes whole w) values ≡ flat_map (entry_bytes (width_of kind)) es =
+    ap (λ (v : Width). flat_map (own_entry_bytes whole v) values) width
+    ∙ sym (flat_map_map (λ (t : ValueTree). entry_bytes (width_of kind) (entry_value whole t)) value_tree values)
+    ∙ sym (flat_map_map (entry_bytes (width_of kind)) (entry_value whole) trees) in
+    b ∙ ap (λ (z : List ℕ). z ++ flat_map (own_entry_bytes whole w) values) a
+    ∙ append_assoc old (number_bytes kind n) (flat_map (own_entry_bytes whole w) values)
+    ∙ ap (λ (z : List ℕ). old ++ (number_bytes kind n ++ z)) flat
+    ∙ ap (λ (j : ℕ). old ++ (number_bytes kind j ++ flat_map (entry_bytes (width_of kind)) es)) k
+    ∙ ap (λ (z : List ℕ). old ++ z) (sym (number_first kind es))
+    ∙ ap (λ (z : List ℕ). old ++ bytes_of kind z) (sym (several_entries whole kind trees (still_several values more)))
+
+-- a whole array
+pub array_added : (old new : Arrays) (bytes mid : List ℕ) (n : ℕ) → mid ≡ old.bytes.items ++ bytes
+    → new.bytes.items ≡ mid → n ≡ length bytes → new.sizes.items ≡ old.sizes.items ++ n ∷ []
+    → IsArrayAdded bytes old new
+array_added old new bytes mid n a b count more = record {
+  bytes_added = b ∙ a;
+  size_added = more ∙ ap (λ (k : ℕ). old.sizes.items ++ k ∷ []) count;
+}

@@ -1,0 +1,103 @@
+-- Definitions of arrays: the rules that they can break, and the bytes that they begin with. `->` and `string` have
+-- entries of a byte, `-->` and `table` of a word, whose high byte comes first. A `string` or `table` begins with the
+-- number of its entries, as one entry more.
+use Rattle.std.specs.Prelude.{◌&&◌, ◌+◌, ◌*◌, ◌/◌, ◌%◌, ℕ, nat_le, nat_lt, Bool, true, if◌then◌else◌, List, [], ◌∷◌}
+use Rattle.std.specs.Prelude.{◌++◌, map, length, replicate, Option, Some, None}
+use Rattle.std.specs.List.{flat_map}
+use Rattle.lexer.specs.declared.token.Position.{Position}
+use Rattle.expressions.specs.declared.tree.Width.{Width}
+use Rattle.expressions.specs.declared.tree.Width.TheVariants as widths
+use Rattle.expressions.specs.Tree.{NameTree}
+use Rattle.syntax.specs.declared.tree.ArrayKind.{ArrayKind}
+use Rattle.syntax.specs.declared.tree.ArrayKind.TheVariants as kinds
+use Rattle.syntax.specs.Tree.{ValueTree, ArrayTree}
+use Rattle.checker.specs.declared.breach.Breach.{Breach}
+use Rattle.checker.specs.Breaches.{at}
+use Rattle.checker.specs.Names.{Table, literal_number, literal_value}
+use Rattle.checker.specs.Literals.{literal_breaches}
+
+abbrev pub width_of : ArrayKind → Width
+width_of kinds.Bytes = widths.Byte
+width_of kinds.Words = widths.Word
+width_of kinds.String = widths.Byte
+width_of kinds.Table = widths.Word
+
+-- Sizes
+
+-- how many bytes an array of n entries has
+abbrev pub array_size : ArrayKind → ℕ → ℕ
+array_size kinds.Bytes n = n
+array_size kinds.Words n = 2 * n
+array_size kinds.String n = 1 + n
+array_size kinds.Table n = 2 + 2 * n
+
+-- byte 0 of a `string` can tell the number of its entries
+abbrev pub is_told : ArrayKind → ℕ → Bool
+is_told kinds.Bytes n = true
+is_told kinds.Words n = true
+is_told kinds.String n = nat_le n 255
+is_told kinds.Table n = true
+
+-- An array may have n entries: at least one, at most 32,000 bytes in all, and a `string` at most 255. A negative size
+-- is a word from 32,768 on.
+abbrev pub is_size : ArrayKind → ℕ → Bool
+is_size kind n = nat_le 1 n && nat_le (array_size kind n) 32000 && is_told kind n
+
+-- Rules
+
+-- E28 at the array's name, where it may not have so many entries; a size that breaks a rule itself is not tested
+abbrev pub size_breaches : Position → ArrayKind → Option ℕ → List Breach
+size_breaches p kind None = []
+size_breaches p kind (Some n) = if is_size kind n then [] else at p 28
+
+-- E28 at an entry of a byte that is above 255
+abbrev pub wide_breaches : Position → Width → ℕ → List Breach
+wide_breaches p widths.Byte n = if nat_lt 255 n then at p 28 else []
+wide_breaches p widths.Word n = []
+
+abbrev pub entry_breaches : Table → Width → ValueTree → List Breach
+entry_breaches whole width v =
+    literal_breaches whole v.value ++ wide_breaches v.position width (literal_value whole v.value)
+
+-- one value alone is the number of entries; several are the entries
+abbrev pub values_breaches : Table → Position → ArrayKind → List ValueTree → List Breach
+values_breaches whole p kind [] = size_breaches p kind (Some 0)
+values_breaches whole p kind (v ∷ []) =
+    literal_breaches whole v.value ++ size_breaches p kind (literal_number whole v.value)
+values_breaches whole p kind (v ∷ w ∷ vs) =
+    size_breaches p kind (Some (length (v ∷ w ∷ vs)))
+    ++ flat_map (entry_breaches whole (width_of kind)) (v ∷ w ∷ vs)
+
+abbrev pub array_breaches : Table → ArrayTree → List Breach
+array_breaches whole a = values_breaches whole a.name.position a.kind a.values
+
+-- What an array begins with
+
+abbrev pub entry_value : Table → ValueTree → ℕ
+entry_value whole v = literal_value whole v.value
+
+-- how many zeros a size makes; where a rule is broken, none
+abbrev pub zeros : ArrayKind → ℕ → ℕ
+zeros kind n = if is_size kind n then n else 0
+
+abbrev pub entries_of : Table → ArrayKind → List ValueTree → List ℕ
+entries_of whole kind [] = []
+entries_of whole kind (v ∷ []) = replicate (zeros kind (entry_value whole v)) 0
+entries_of whole kind (v ∷ w ∷ vs) = map (entry_value whole) (v ∷ w ∷ vs)
+
+-- the entries, and their number in front where the kind has it
+abbrev pub with_number : ArrayKind → List ℕ → List ℕ
+with_number kinds.Bytes entries = entries
+with_number kinds.Words entries = entries
+with_number kinds.String entries = length entries ∷ entries
+with_number kinds.Table entries = length entries ∷ entries
+
+abbrev pub entry_bytes : Width → ℕ → List ℕ
+entry_bytes widths.Byte n = (n % 256) ∷ []
+entry_bytes widths.Word n = (n / 256 % 256) ∷ (n % 256) ∷ []
+
+abbrev pub bytes_of : ArrayKind → List ℕ → List ℕ
+bytes_of kind entries = flat_map (entry_bytes (width_of kind)) (with_number kind entries)
+
+abbrev pub array_bytes : Table → ArrayTree → List ℕ
+array_bytes whole a = bytes_of a.kind (entries_of whole a.kind a.values)

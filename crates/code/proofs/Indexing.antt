@@ -1,0 +1,301 @@
+-- The tests of an index lead to what is done at it, or to the fault.
+use Rattle.std.proofs.Common.{◌≡◌, ℕ, ◌+◌, ◌<◌, ◌≤◌, ◌⊎◌, inl, inr, List, [], ◌∷◌, ◌++◌, length, Bool}
+use Rattle.std.proofs.Common.{true}
+use Rattle.std.proofs.Common.{false, refl, sym, ◌∙◌, subst, arith}
+use Rattle.std.specs.Prelude.{nat_lt, nat_le, if◌then◌else◌, not, ◌&&◌}
+use Rattle.std.specs.List.{flat_map}
+use Rattle.std.proofs.lemmas.Bool.{cases_lt, lt-ltb, le-ltb, le-leb, lt-leb}
+use Rattle.zcore.specs.declared.instruction.Operand.{Operand}
+use Rattle.zcore.specs.declared.instruction.Operand.TheVariants.{Large, Small, Variable}
+use Rattle.zcore.specs.declared.instruction.Operation.TheVariants as operations
+use Rattle.zcore.specs.Arithmetic.{signed_less}
+use Rattle.zcore.specs.Instruction.{Instruction, bytes_of}
+use Rattle.zcore.specs.State.{State, done}
+use Rattle.zcore.specs.Parts.{operand_value}
+use Rattle.zcore.specs.Execution.{perform}
+use Rattle.checker.specs.declared.cause.Cause.TheVariants as causes
+use Rattle.checker.specs.World.{value_in}
+use Rattle.items.specs.Items as items
+use Rattle.code.specs.Addresses.{fault_address}
+use Rattle.code.specs.Instructions.{branching, constant, pull, fail, number_of, is_entry, tested_index, at_index}
+use Rattle.code.proofs.Behind.{Holds, holds_append}
+use Rattle.code.proofs.Play.{Leads}
+use Rattle.code.proofs.Memory.{word_of, with_variable}
+use Rattle.code.proofs.Parts.{machine as at_words, Reads}
+use Rattle.code.proofs.Steps.{point, leads_then, one_step, first_held, others_held, two_operands, small_value}
+use Rattle.code.proofs.Steps.{large_value, variable_value, landing}
+use Rattle.code.proofs.SingleSteps.{branch_step}
+use Rattle.code.proofs.Fitting.{Shaped, held_bytes, encodable}
+use Rattle.code.proofs.ItemOperands.{constant_value}
+use Rattle.code.proofs.Arriving.{Running, around, here, high, above, kept, situation_here}
+use Rattle.code.proofs.Variables.{variable_held}
+use Rattle.code.proofs.Temporaries.{Scratch, scratch_with, reads_written, word_unwritten, held_in, pull_temporary}
+use Rattle.code.proofs.Temporaries.{others_held_pull}
+use Rattle.code.proofs.Alone.{Alone, IsOperandHere, next_place}
+
+-- which indices the two tests let through
+by_order : (count i : ℕ) → count < 32768 → (i < 32768) ⊎ (32768 ≤ i)
+    → is_entry count i ≡ (not (signed_less i 0) && signed_less i count)
+by_order count i few (inl h) =
+    let e : nat_lt i 32768 ≡ true = lt-ltb i 32768 h in
+    let f : nat_le 32768 i ≡ false = lt-leb 32768 i h in
+    let g : nat_lt i 0 ≡ false = le-ltb i 0 (omega arith) in
+    let k : nat_le 32768 count ≡ false = lt-leb 32768 count few in
+    rw (e, f, g, k) refl
+by_order count i few (inr h) =
+    let e : nat_lt i 32768 ≡ false = le-ltb i 32768 h in
+    let f : nat_le 32768 i ≡ true = le-leb 32768 i h in
+    rw (e, f) refl
+
+entry_tests : (count i : ℕ) → count < 32768 → is_entry count i ≡ (not (signed_less i 0) && signed_less i count)
+entry_tests count i few = by_order count i few (cases_lt i 32768)
+
+module _ (c : Running) where
+  open c use {story, a, p, accepted, holds, full, m, count, counts, routine, place, callers, locals, world, good}
+
+  -- the machine comes to these instructions, with this of the stack; of the compiler's variables the first alone may
+  -- differ from another memory's
+  pub record Reached (before rest other : List ℕ) (is : List Instruction) : Type 0 where
+    pub memory : List ℕ
+    pub scratch : Scratch c memory
+    pub q : ℕ
+    pub from : here c ≤ q
+    pub held : Holds m q (flat_map bytes_of is)
+    pub leads : Leads (point (here c) world.fuel) (at_words (around c) m locals before world.text)
+        (point q world.fuel) (at_words (around c) memory locals rest world.text)
+    pub unwritten : (v : ℕ) → 249 ≤ v → v < 256 → word_of memory v ≡ word_of other v
+
+  -- the machine comes to what is done at an index
+  pub record AtIndex (i : ℕ) (before rest other : List ℕ) (act : Operand → List Instruction) : Type 0 where
+    pub operand : Operand
+    pub reached : Reached before rest other (act operand)
+    pub end : reached.q + length (flat_map bytes_of (act operand)) ≡ next_place c
+    pub value : operand_value operand (at_words (around c) reached.memory locals rest world.text)
+        ≡ done i (at_words (around c) reached.memory locals rest world.text)
+
+  -- two tests of 4 and as many bytes as the fault is away
+  tests_lead : (below within : Bool) (st : State) (q away : ℕ)
+      → Leads (point q world.fuel) st (point (landing true below (q + 4) away) world.fuel) st
+      → Leads (point (q + 4) world.fuel) st (point (landing true within (q + 4 + away) 4) world.fuel) st
+      → Leads (point q world.fuel) st
+      (point (if not below && within then q + 4 + away + 4 else q + 4 + away) world.fuel) st
+  tests_lead true within st q away e f = e
+  tests_lead false true st q away e f =
+      leads_then (point q world.fuel) (point (q + 4) world.fuel) (point (q + 4 + away + 4) world.fuel) st st st e f
+  tests_lead false false st q away e f =
+      leads_then (point q world.fuel) (point (q + 4) world.fuel) (point (q + 4 + away) world.fuel) st st st e f
+
+  abbrev fault_code : List Instruction
+  fault_code = fail (fault_address a causes.IndexOutOfRange)
+
+  -- what is done at an index that is one, and else the fault
+  abbrev pub Indexed : Bool → ℕ → List ℕ → List ℕ → List ℕ → (Operand → List Instruction) → Type 0
+  Indexed true i before rest other act = AtIndex i before rest other act
+  Indexed false i before rest other act = Reached before rest other fault_code
+
+  -- an index in a variable
+  module _ (variable i number : ℕ) (few : number < 32768) (act : Operand → List Instruction)
+      (before rest other : List ℕ)
+      (r : Reached before rest other (tested_index a number variable ++ act (Variable variable)))
+      (reads : Reads (around c) r.memory locals variable i)
+      (end : r.q + length (flat_map bytes_of (tested_index a number variable ++ act (Variable variable)))
+      ≡ next_place c) (followed : next_place c < length m) where
+    abbrev st : State
+    st = at_words (around c) r.memory locals rest world.text
+
+    abbrev test : Operand → ℕ → Instruction
+    test o d = branching operations.JumpIfLess (Variable variable ∷ o ∷ []) true (2 + d)
+
+    -- the tests and the fault, by whether the number of entries is a small constant
+    abbrev form : Bool → List Instruction
+    form small =
+        branching operations.JumpIfLess (Variable variable ∷ Small 0 ∷ []) true (if small then 6 else 8)
+        ∷ branching operations.JumpIfLess (Variable variable ∷ (if small then Small number else Large number) ∷ [])
+        true 6
+        ∷ fault_code
+
+    one_test : (o : Operand) (n d there : ℕ) → operand_value o st ≡ done n st → d < 8190 → r.q ≤ there
+        → 0 < length (bytes_of (test o d)) → there + length (bytes_of (test o d)) + d < length m
+        → Holds m there (bytes_of (test o d))
+        → Leads (point there world.fuel) st
+        (point (landing true (signed_less i n) (there + length (bytes_of (test o d))) d) world.fuel) st
+    unfolding perform
+    one_test o n d there value near behind some within held =
+        let k = test o d in
+        let shaped : Shaped k =
+        record { least = omega arith; most = omega arith; result_fits = tt; branch_fits = omega (arith, near) } in
+        one_step (point there world.fuel)
+        (point (landing true (signed_less i n) (there + length (bytes_of k)) d) world.fuel) st st
+        (branch_step (around c) world.fuel r.memory locals rest rest world.text there d operations.JumpIfLess
+        (Variable variable ∷ o ∷ []) (i ∷ n ∷ []) true (signed_less i n)
+        (encodable k shaped (held_bytes _ there story m (bytes_of k) holds.byte_each (kept c)
+        (omega (arith, high c, r.from, behind)) held))
+        (two_operands st st st (Variable variable) o i n
+        (variable_value (around c) r.memory locals rest world.text variable i reads) value)
+        (λ here after u. refl) near (omega (arith, above c, r.from, behind)) some
+        (omega (arith, within, good.stored.size, r.scratch.stored.size))
+        (held_in c r.memory (bytes_of k) there r.scratch (omega (arith, r.from, behind)) held))
+
+    -- the bytes of the tests, one after another
+    record Tested (small : Bool) (away : ℕ) : Type 0 where
+      tests : Leads (point r.q world.fuel) st
+          (point (if not (signed_less i 0) && signed_less i number then r.q + 4 + away + 4 else r.q + 4 + away)
+          world.fuel) st
+      fault : Holds m (r.q + 4 + away) (flat_map bytes_of fault_code)
+      behind : Holds m (r.q + 4 + away + 4) (flat_map bytes_of (act (Variable variable)))
+      size : length (flat_map bytes_of (form small ++ act (Variable variable)))
+          ≡ 4 + away + 4 + length (flat_map bytes_of (act (Variable variable)))
+
+    small_tested : Holds m r.q (flat_map bytes_of (form true ++ act (Variable variable)))
+        → r.q + length (flat_map bytes_of (form true ++ act (Variable variable))) ≡ next_place c → Tested true 4
+    unfolding bytes_of
+    small_tested h size =
+        let low = test (Small 0) 4 in
+        let upper = test (Small number) 4 in
+        let rest_code = act (Variable variable) in
+        let h1 = others_held m r.q low (upper ∷ (fault_code ++ rest_code)) h in
+        let h2 = others_held m (r.q + 4) upper (fault_code ++ rest_code) h1 in
+        let both = holds_append m (r.q + 4 + 4) (flat_map bytes_of fault_code) (flat_map bytes_of rest_code) h2 in
+        record {
+          tests = tests_lead (signed_less i 0) (signed_less i number) st r.q 4
+              (one_test (Small 0) 0 4 r.q (small_value st 0) (omega arith) (omega arith) (omega arith)
+              (omega (arith, size, followed)) (first_held m r.q low (upper ∷ (fault_code ++ rest_code)) h))
+              (one_test (Small number) number 4 (r.q + 4) (small_value st number) (omega arith) (omega arith)
+              (omega arith) (omega (arith, size, followed))
+              (first_held m (r.q + 4) upper (fault_code ++ rest_code) h1));
+          fault = both.0;
+          behind = both.1;
+          size = omega arith;
+        }
+
+    large_tested : Holds m r.q (flat_map bytes_of (form false ++ act (Variable variable)))
+        → r.q + length (flat_map bytes_of (form false ++ act (Variable variable))) ≡ next_place c → Tested false 6
+    unfolding bytes_of
+    large_tested h size =
+        let low = test (Small 0) 6 in
+        let upper = test (Large number) 4 in
+        let rest_code = act (Variable variable) in
+        let h1 = others_held m r.q low (upper ∷ (fault_code ++ rest_code)) h in
+        let h2 = others_held m (r.q + 4) upper (fault_code ++ rest_code) h1 in
+        let both = holds_append m (r.q + 4 + 6) (flat_map bytes_of fault_code) (flat_map bytes_of rest_code) h2 in
+        record {
+          tests = tests_lead (signed_less i 0) (signed_less i number) st r.q 6
+              (one_test (Small 0) 0 6 r.q (small_value st 0) (omega arith) (omega arith) (omega arith)
+              (omega (arith, size, followed)) (first_held m r.q low (upper ∷ (fault_code ++ rest_code)) h))
+              (one_test (Large number) number 4 (r.q + 4) (large_value st number) (omega arith) (omega arith)
+              (omega arith) (omega (arith, size, followed))
+              (first_held m (r.q + 4) upper (fault_code ++ rest_code) h1));
+          fault = both.0;
+          behind = both.1;
+          size = omega arith;
+        }
+
+    -- where the tests lead to
+    tested_by : (small : Bool) (away : ℕ) → Tested small away
+        → r.q + length (flat_map bytes_of (form small ++ act (Variable variable))) ≡ next_place c
+        → (b : Bool) → (not (signed_less i 0) && signed_less i number) ≡ b → Indexed b i before rest other act
+    tested_by small away t size true e = record {
+      operand = Variable variable;
+      reached = record {
+        memory = r.memory;
+        scratch = r.scratch;
+        q = r.q + 4 + away + 4;
+        from = omega (arith, r.from);
+        held = t.behind;
+        leads = leads_then (point (here c) world.fuel) (point r.q world.fuel)
+            (point (r.q + 4 + away + 4) world.fuel) (at_words (around c) m locals before world.text) st st r.leads
+            (subst (λ b. Leads (point r.q world.fuel) st
+            (point (if b then r.q + 4 + away + 4 else r.q + 4 + away) world.fuel) st) e t.tests);
+        unwritten = r.unwritten;
+      };
+      end = omega (arith, size, t.size);
+      value = variable_value (around c) r.memory locals rest world.text variable i reads;
+    }
+    tested_by small away t size false e = record {
+      memory = r.memory;
+      scratch = r.scratch;
+      q = r.q + 4 + away;
+      from = omega (arith, r.from);
+      held = t.fault;
+      leads = leads_then (point (here c) world.fuel) (point r.q world.fuel) (point (r.q + 4 + away) world.fuel)
+          (at_words (around c) m locals before world.text) st st r.leads
+          (subst (λ b. Leads (point r.q world.fuel) st
+          (point (if b then r.q + 4 + away + 4 else r.q + 4 + away) world.fuel) st) e t.tests);
+      unwritten = r.unwritten;
+    }
+
+    tested : Indexed (is_entry number i) i before rest other act
+    tested =
+        subst (λ b. Indexed b i before rest other act) (sym (entry_tests number i few))
+        (go (nat_lt number 256) r.held end (not (signed_less i 0) && signed_less i number) refl)
+      where
+        go : (small : Bool) → Holds m r.q (flat_map bytes_of (form small ++ act (Variable variable)))
+            → r.q + length (flat_map bytes_of (form small ++ act (Variable variable))) ≡ next_place c
+            → (b : Bool) → (not (signed_less i 0) && signed_less i number) ≡ b → Indexed b i before rest other act
+        go true h size b e = tested_by true 4 (small_tested h size) size b e
+        go false h size b e = tested_by false 6 (large_tested h size) size b e
+
+  -- an index that stands in place of its tests
+  number_tested : (number n : ℕ) (act : Operand → List Instruction) (before rest other : List ℕ) (b : Bool)
+      → (r : Reached before rest other (if b then act (constant n) else fault_code))
+      → r.q + length (flat_map bytes_of (if b then act (constant n) else fault_code)) ≡ next_place c
+      → Indexed b n before rest other act
+  number_tested number n act before rest other true r end = record {
+    operand = constant n;
+    reached = r;
+    end = end;
+    value = constant_value (at_words (around c) r.memory locals rest world.text) n;
+  }
+  number_tested number n act before rest other false r end = r
+
+  -- an index that is pushed goes to a variable of the compiler
+  pulled : (is : List Instruction) (before mid other : List ℕ) (v : ℕ) (rest : List ℕ) → mid ≡ v ∷ rest
+      → Reached before mid other (pull 248 ∷ is) → Reached before rest other is
+  unfolding bytes_of
+  pulled is before mid other v rest e r =
+      let m1 = with_variable r.memory 248 v in
+      let scratch = scratch_with c r.memory 248 v r.scratch (omega arith) (omega arith) in
+      record {
+        memory = m1;
+        scratch = scratch;
+        q = r.q + 3;
+        from = omega (arith, r.from);
+        held = others_held_pull c 248 is r.q r.held;
+        leads = leads_then (point (here c) world.fuel) (point r.q world.fuel) (point (r.q + 3) world.fuel)
+            (at_words (around c) m locals before world.text)
+            (at_words (around c) r.memory locals (v ∷ rest) world.text)
+            (at_words (around c) m1 locals rest world.text)
+            (subst (λ ws. Leads (point (here c) world.fuel) (at_words (around c) m locals before world.text)
+            (point r.q world.fuel) (at_words (around c) r.memory locals ws world.text)) e r.leads)
+            (one_step (point r.q world.fuel) (point (r.q + 3) world.fuel)
+            (at_words (around c) r.memory locals (v ∷ rest) world.text)
+            (at_words (around c) m1 locals rest world.text)
+            (pull_temporary c r.memory rest world.text r.q 248 v r.scratch (omega arith) (omega arith) r.from
+            (first_held m r.q (pull 248) is r.held)));
+        unwritten = λ x low small. word_unwritten c r.memory 248 v x r.scratch (omega arith) (omega arith)
+            (omega (arith, low)) (λ f. omega (arith, f, low)) ∙ r.unwritten x low small;
+      }
+
+  -- an index in any place
+  pub indexed : (number : ℕ) (o : items.Operand) (act : Operand → List Instruction) (before mid other : List ℕ)
+      (v : ℕ) (rest : List ℕ) → number < 32768 → IsOperandHere c o → Alone o (situation_here c) mid v rest
+      → (r : Reached before mid other (at_index a number o act))
+      → r.q + length (flat_map bytes_of (at_index a number o act)) ≡ next_place c → next_place c < length m
+      → Indexed (is_entry number v) v before rest other act
+  unfolding bytes_of pulled
+  indexed number items.pushed act before mid other v rest few is alone r end followed =
+      let code = tested_index a number 248 ++ act (Variable 248) in
+      let next = pulled code before mid other v rest alone r in
+      tested 248 v number few act before rest other next
+      (reads_written c r.memory 248 v r.scratch (omega arith) (omega arith)) (omega (arith, end)) followed
+  indexed number (items.number n) act before mid other v rest few is alone r end followed =
+      subst (λ (x : ℕ). Indexed (is_entry number x) x before rest other act) alone.0
+      (subst (λ ws. Indexed (is_entry number n) n before ws other act) alone.1
+      (number_tested number n act before mid other (is_entry number n) r end))
+  indexed number (items.variable x) act before mid other v rest few is alone r end followed =
+      subst (λ (i : ℕ). Indexed (is_entry number i) i before rest other act) alone.0
+      (subst (λ ws. Indexed (is_entry number (value_in x (situation_here c))) (value_in x (situation_here c)) before
+      ws other
+      act) alone.1
+      (tested (number_of x) (value_in x (situation_here c)) number few act before mid other r
+      (variable_held c r.memory x r.scratch is).reads end followed))

@@ -1,0 +1,214 @@
+-- Entries of arrays in the memory of a story that runs.
+use Rattle.std.proofs.Common.{◌≡◌, ℕ, ◌+◌, ◌-◌, ◌*◌, ◌%◌, ◌<◌, ◌≤◌, List, length, slice_index, slice_set}
+use Rattle.std.proofs.Common.{true, refl, sym, ap, ◌∙◌, subst, arith}
+use Rattle.std.specs.Prelude.{nat_lt, map, [], ◌∷◌}
+use Rattle.std.specs.List.{concat}
+use Rattle.std.proofs.lemmas.Bool.{and_parts, ltb-true}
+use Rattle.std.proofs.lemmas.List.{length-append, length-set}
+use Rattle.zcore.specs.Bytes.{word_at}
+use Rattle.zcore.specs.Header.{globals_of, static_base_of}
+use Rattle.zcore.specs.Parts.{with_word}
+use Rattle.expressions.specs.declared.tree.Width.{Width}
+use Rattle.expressions.specs.declared.tree.Width.TheVariants as widths
+use Rattle.checker.specs.World.{array_at, entry_count, is_index, entry_at, with_entry}
+use Rattle.code.specs.Addresses.{Addresses}
+use Rattle.code.specs.HeldProgram.{offset_in}
+use Rattle.code.proofs.Flat.{array_within, byte_at, byte_set, word_set, offset_same, sizes_same}
+use Rattle.code.proofs.Regions.{Stands, stands_set, stands_word, KeepsOutside, keeps_set, keeps_word}
+use Rattle.code.proofs.Play.{Stored}
+use Rattle.code.proofs.Memory.{word_of, length_with}
+
+-- where an entry of an array stands, what stands there, and the memory where it is another
+abbrev pub entry_address : Width → ℕ → ℕ → ℕ
+entry_address widths.Byte place i = place + i
+entry_address widths.Word place i = place + 2 * i
+
+abbrev pub read_at : Width → List ℕ → ℕ → ℕ
+read_at widths.Byte memory at = slice_index memory at
+read_at widths.Word memory at = word_at memory at
+
+abbrev pub written_at : Width → List ℕ → ℕ → ℕ → List ℕ
+written_at widths.Byte memory at v = slice_set memory at (v % 256)
+written_at widths.Word memory at v = with_word memory at v
+
+-- the address of the last byte of an entry
+abbrev pub last_byte : Width → ℕ → ℕ
+last_byte widths.Byte at = at
+last_byte widths.Word at = at + 1
+
+-- an index of an array
+pub index_below : (width : Width) (bytes : List ℕ) (i : ℕ) → is_index width bytes i ≡ true
+    → (i < 32768) × (i < entry_count width bytes)
+index_below width bytes i is =
+    let both = and_parts (nat_lt i 32768) (nat_lt i (entry_count width bytes)) is in
+    (ltb-true _ _ both.0, ltb-true _ _ both.1)
+
+-- an entry of the size of its array lies within it
+entry_within : (width : Width) (bytes : List ℕ) (i : ℕ) → i < entry_count width bytes
+    → last_byte width (entry_address width 0 i) < length bytes
+entry_within widths.Byte bytes i h = omega (arith, h)
+entry_within widths.Word bytes i h = omega (arith, h)
+
+with_length : (width : Width) (bytes : List ℕ) (i v : ℕ) → length (with_entry width bytes i v) ≡ length bytes
+with_length widths.Byte bytes i v = length-set bytes i (v % 256)
+with_length widths.Word bytes i v = length_with bytes (2 * i) v
+
+module _ (story : List ℕ) (a : Addresses) (globals : List ℕ) (arrays : List (List ℕ)) (memory : List ℕ)
+    (stored : Stored story a globals arrays memory) (k : ℕ) (known : k < length arrays) where
+  abbrev bytes : List ℕ
+  bytes = array_at arrays k
+
+  abbrev place : ℕ
+  place = slice_index a.arrays k
+
+  abbrev first : ℕ
+  first = stored.regions.first
+
+  within : offset_in arrays k + length bytes ≤ length (concat arrays)
+  within = array_within arrays k known
+
+  -- where a byte of the array stands
+  byte_place : (i : ℕ) → first + (offset_in arrays k + i) ≡ place + i
+  byte_place i = omega (arith, stored.regions.places k known)
+
+  -- an entry lies in the region of arrays
+  pub record Inside (at last : ℕ) : Type 0 where
+    pub from : first ≤ at
+    pub behind : globals_of story + 480 ≤ at
+    pub below : last < static_base_of story
+    pub long : last < length memory
+
+  inside : (j n : ℕ) → j + n < length bytes → Inside (place + j) (place + j + n)
+  inside j n h =
+      let r = stored.regions in
+      let is = r.places k known in
+      record {
+        from = omega (arith, is);
+        behind = omega (arith, is, r.above);
+        below = omega (arith, is, r.below, within, h);
+        long = omega (arith, is, r.stands.within, within, h);
+      }
+
+  pub entry_inside : (width : Width) (i : ℕ) → is_index width bytes i ≡ true
+      → Inside (entry_address width place i) (last_byte width (entry_address width place i))
+  entry_inside widths.Byte i index =
+      let is = index_below widths.Byte bytes i index in
+      let z : place + i + 0 ≡ place + i = omega arith in
+      subst (λ q. Inside (place + i) q) z (inside i 0 (omega (arith, is.1)))
+  entry_inside widths.Word i index =
+      let is = index_below widths.Word bytes i index in
+      inside (2 * i) 1 (omega (arith, is.1))
+
+  -- a byte of the array
+  byte_is : (j : ℕ) → j < length bytes → slice_index memory (place + j) ≡ slice_index bytes j
+  byte_is j h =
+      ap (slice_index memory) (sym (byte_place j))
+      ∙ stored.regions.stands.each (offset_in arrays k + j) (omega (arith, within, h)) ∙ byte_at arrays k j known h
+
+  pub entry_is : (width : Width) (i : ℕ) → is_index width bytes i ≡ true
+      → read_at width memory (entry_address width place i) ≡ entry_at width bytes i
+  entry_is widths.Byte i index = byte_is i (index_below widths.Byte bytes i index).1
+  entry_is widths.Word i index =
+      let below = (index_below widths.Word bytes i index).1 in
+      let z : place + (2 * i + 1) ≡ place + 2 * i + 1 = omega arith in
+      ap (λ x. x * 256 + slice_index memory (place + 2 * i + 1)) (byte_is (2 * i) (omega (arith, below)))
+      ∙ ap (λ x. slice_index bytes (2 * i) * 256 + x)
+      (ap (slice_index memory) (sym z) ∙ byte_is (2 * i + 1) (omega (arith, below)))
+
+  abbrev next_arrays : Width → ℕ → ℕ → List (List ℕ)
+  next_arrays width i v = slice_set arrays k (with_entry width bytes i v)
+
+  abbrev next_memory : Width → ℕ → ℕ → List ℕ
+  next_memory width i v = written_at width memory (entry_address width place i) v
+
+  -- the region where an entry is written
+  entry_stands : (width : Width) (i v : ℕ) → is_index width bytes i ≡ true
+      → Stands (next_memory width i v) first (concat (next_arrays width i v))
+  entry_stands widths.Byte i v index =
+      let below = (index_below widths.Byte bytes i index).1 in
+      subst (λ q. Stands (slice_set memory q (v % 256)) first (concat (next_arrays widths.Byte i v))) (byte_place i)
+      (subst (Stands (slice_set memory (first + (offset_in arrays k + i)) (v % 256)) first)
+      (byte_set arrays k i (v % 256) known below)
+      (stands_set memory first (concat arrays) (offset_in arrays k + i) (v % 256) stored.regions.stands
+      (omega (arith, within, below))))
+  entry_stands widths.Word i v index =
+      let below = (index_below widths.Word bytes i index).1 in
+      subst (λ q. Stands (with_word memory q v) first (concat (next_arrays widths.Word i v))) (byte_place (2 * i))
+      (subst (Stands (with_word memory (first + (offset_in arrays k + 2 * i)) v) first)
+      (word_set arrays k (2 * i) v known (omega (arith, below)))
+      (stands_word memory first (concat arrays) (offset_in arrays k + 2 * i) v stored.regions.stands
+      (omega (arith, within, below))))
+
+  pub entry_keeps : (width : Width) (i v : ℕ) → is_index width bytes i ≡ true
+      → KeepsOutside first (static_base_of story) memory (next_memory width i v)
+  entry_keeps widths.Byte i v index =
+      let there = entry_inside widths.Byte i index in
+      keeps_set first (static_base_of story) (place + i) (v % 256) memory there.from there.below
+  entry_keeps widths.Word i v index =
+      let there = entry_inside widths.Word i index in
+      keeps_word first (static_base_of story) (place + 2 * i) v memory there.from there.below
+
+  pub sizes_kept : (width : Width) (i v : ℕ) → map length (next_arrays width i v) ≡ map length arrays
+  sizes_kept width i v = sizes_same arrays k (with_entry width bytes i v) (with_length width bytes i v)
+
+  -- the length of all
+  concat_same : (xs ys : List (List ℕ)) → map length xs ≡ map length ys → length (concat xs) ≡ length (concat ys)
+  concat_same [] [] e = refl
+  concat_same [] (y ∷ ys) e = absurd (cc)
+  concat_same (x ∷ xs) [] e = absurd (cc)
+  concat_same (x ∷ xs) (y ∷ ys) e =
+      let one : length x ≡ length y = cc in
+      let more : map length xs ≡ map length ys = cc in
+      omega (arith, one, concat_same xs ys more, length-append x (concat xs), length-append y (concat ys))
+
+  -- an entry is written
+  pub stored_entry : (width : Width) (i v : ℕ) → is_index width bytes i ≡ true → 64 ≤ globals_of story
+      → length globals ≤ 232 → Stored story a globals (next_arrays width i v) (next_memory width i v)
+  stored_entry width i v index low few =
+      let r = stored.regions in
+      let keeps = entry_keeps width i v index in
+      let same = sizes_kept width i v in
+      let count : length (next_arrays width i v) ≡ length arrays =
+      length-set arrays k (with_entry width bytes i v) in
+      record {
+        size = keeps.size ∙ stored.size;
+        header = λ q h. keeps.before q (omega (arith, h, low, r.above)) ∙ stored.header q h;
+        kept = keeps.after ∙ stored.kept;
+        values = λ g h.
+            let here = globals_of story + 2 * g in
+            ap (λ x. x * 256 + slice_index (next_memory width i v) (here + 1))
+            (keeps.before here (omega (arith, h, few, r.above)))
+            ∙ ap (λ x. slice_index memory here * 256 + x) (keeps.before (here + 1) (omega (arith, h, few, r.above)))
+            ∙ stored.values g h;
+        regions = record {
+          first = r.first;
+          above = r.above;
+          below = omega (arith, r.below, concat_same (next_arrays width i v) arrays same);
+          places = λ n h. r.places n (omega (arith, h, count))
+              ∙ ap (λ x. r.first + x)
+              (sym (offset_same arrays k n (with_entry width bytes i v) (with_length width bytes i v)));
+          stands = entry_stands width i v index;
+        };
+      }
+
+-- a variable from 16 on is the same where an entry is written
+pub variable_kept : (story : List ℕ) (a : Addresses) (globals : List ℕ) (arrays other_arrays : List (List ℕ))
+    (memory other : List ℕ) (first to variable : ℕ) → Stored story a globals arrays memory
+    → Stored story a globals other_arrays other → KeepsOutside first to memory other
+    → globals_of story + 480 ≤ first → 16 ≤ variable → variable < 256
+    → word_of other variable ≡ word_of memory variable
+variable_kept story a globals arrays other_arrays memory other first to variable stored stored_other keeps above low
+    small =
+    let here : globals_of memory ≡ globals_of story = globals_at memory stored.header in
+    let there : globals_of other ≡ globals_of story = globals_at other stored_other.header in
+    let at = globals_of story + 2 * (variable - 16) in
+    ap (λ g. word_at other (g + 2 * (variable - 16))) there
+    ∙ ap (λ x. x * 256 + slice_index other (at + 1)) (keeps.before at (omega (arith, above, low, small)))
+    ∙ ap (λ x. slice_index memory at * 256 + x) (keeps.before (at + 1) (omega (arith, above, low, small)))
+    ∙ ap (λ g. word_at memory (g + 2 * (variable - 16))) (sym here)
+  where
+    globals_at : (m : List ℕ) → ((q : ℕ) → q < 64 → slice_index m q ≡ slice_index story q)
+        → globals_of m ≡ globals_of story
+    globals_at m header =
+        ap (λ x. x * 256 + slice_index m 13) (header 12 (omega arith))
+        ∙ ap (λ x. slice_index story 12 * 256 + x) (header 13 (omega arith))

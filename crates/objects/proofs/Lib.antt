@@ -1,0 +1,4 @@
+pub mod Linking
+pub mod Listing
+pub mod Naming
+pub mod Values

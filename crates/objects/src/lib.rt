@@ -1,0 +1,15 @@
+//! What opcodes do with objects: their attributes, their links, their properties and their names.
+#![tactic(auto)]
+
+mod attributes;
+mod links;
+mod moves;
+mod objects;
+mod properties;
+
+pub use attributes::{clear_attribute, set_attribute, test_attribute};
+pub use moves::{insert_object, remove_object};
+pub use objects::{get_child, get_parent, get_sibling, jump_if_in, print_object};
+pub use properties::{
+    get_next_property, get_property, get_property_address, get_property_length, put_property,
+};

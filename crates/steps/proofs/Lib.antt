@@ -1,0 +1,4 @@
+pub mod Decoding
+pub mod Performing
+pub mod Stepping
+pub mod Values
