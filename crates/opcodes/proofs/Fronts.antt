@@ -32,7 +32,8 @@ bytes_of : (text : List ℕ) → list_all is_printable text ≡ true → length 
 bytes_of [] h = refl
 bytes_of (c ∷ text) h =
     let p = and_parts (is_printable c) (list_all is_printable text) h in
-    let b = one_byte c (λ e. let no : is_printable 0 ≡ true = subst (λ k. is_printable k ≡ true) e p.0 in absurd cc) in
+    let b = one_byte c
+    (λ e. let no : is_printable 0 ≡ true = subst (λ k. is_printable k ≡ true) e p.0 in absurd cc) in
     length-append (transcribed c) (flat_map transcribed text)
     ∙ omega (arith, ap length b.1, bytes_of text p.1)
 
@@ -77,4 +78,5 @@ pub characters_for : {r : Result Next End} {s t : Recording Contents} {x y : Lis
     → Told r s x t y (print_characters here after text)
 unfolding print_characters
 characters_for {r} {s} {t} {x} {y} here after cs front text e w h = told_as r (print_characters here after text)
-    (ap (λ o. bound o (λ _. goes_on after here.fuel)) (sym (ap (λ l. print l (state_of s.store x)) e ∙ w.same (state_of s.store x)))) h
+    (ap (λ o. bound o (λ _. goes_on after here.fuel))
+    (sym (ap (λ l. print l (state_of s.store x)) e ∙ w.same (state_of s.store x)))) h

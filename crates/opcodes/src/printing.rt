@@ -204,7 +204,7 @@ fn is_output(character: u16) -> bool
 }
 
 /// The text at an address, and the address after it. Of a text that is longer than a turn may print, only so many
-/// characters are answered that it passes the limit: one that names long abbreviations can have many more than memory holds.
+/// characters are answered that it passes the limit: one of long abbreviations can have more than memory holds.
 ///
 /// # Errors
 ///

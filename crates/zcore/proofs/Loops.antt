@@ -216,7 +216,8 @@ module _ (expand : ℕ → Result (List ℕ) Cause) where
       front_before most text (reads expand state (drop place (words_of words bytes)))
 
   -- a Z-character that prints
-  pub turn_at : (most : ℕ) (bytes : List ℕ) (words z : ℕ) (old text got now : List ℕ) (state after : State) (place : ℕ)
+  pub turn_at : (most : ℕ) (bytes : List ℕ) (words z : ℕ) (old text got now : List ℕ) (state after : State)
+      (place : ℕ)
       → z ≡ z_character_at bytes place → place < 3 * words
       → front most (read_from expand bytes words text state place)
       ≡ front most (read_from expand bytes words old Lower 0)

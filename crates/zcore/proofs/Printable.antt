@@ -93,7 +93,11 @@ one_of true u a b c text h k l e = printable_ok a text h e
 one_of false true a b c text h k l e = printable_ok b text k e
 one_of false false a b c text h k l e = printable_ok c text l e
 
-module _ (expand : ℕ → Result (List ℕ) Cause) (texts : (n : ℕ) (text : List ℕ) → expand n ≡ Ok text → Printable text) where
+-- the texts of abbreviations are printable
+abbrev Expands : (ℕ → Result (List ℕ) Cause) → Type 0
+Expands expand = (n : ℕ) (text : List ℕ) → expand n ≡ Ok text → Printable text
+
+module _ (expand : ℕ → Result (List ℕ) Cause) (texts : Expands expand) where
   printed_printable : (s : State) (z : ℕ) (text : List ℕ) → z < 32 → printed expand s z ≡ Ok text → Printable text
   printed_printable EscapeHigh z text lt e = printable_ok [] text refl e
   printed_printable (EscapeLow high) z text lt e =

@@ -48,79 +48,144 @@ pub struct OpcodeRow {
     pub has_text: bool,
 }
 
+/// The table of opcodes (section 14), for a macro that writes code from its rows: by the count of operands, an
+/// opcode's number, its operation, what follows the operands, and the least and the greatest number of them.
+macro_rules! opcodes {
+    ($write:ident $value:expr) => {
+        $write! {
+            $value,
+            Two {
+                1 JumpIfEqual branching 2 4,
+                2 JumpIfLess branching 2 2,
+                3 JumpIfGreater branching 2 2,
+                4 DecrementCheck branching 2 2,
+                5 IncrementCheck branching 2 2,
+                6 JumpIfIn branching 2 2,
+                7 TestBits branching 2 2,
+                8 Or storing 2 2,
+                9 And storing 2 2,
+                10 TestAttribute branching 2 2,
+                11 SetAttribute plain 2 2,
+                12 ClearAttribute plain 2 2,
+                13 Store plain 2 2,
+                14 InsertObject plain 2 2,
+                15 LoadWord storing 2 2,
+                16 LoadByte storing 2 2,
+                17 GetProperty storing 2 2,
+                18 GetPropertyAddress storing 2 2,
+                19 GetNextProperty storing 2 2,
+                20 Add storing 2 2,
+                21 Sub storing 2 2,
+                22 Mul storing 2 2,
+                23 Div storing 2 2,
+                24 Mod storing 2 2,
+                25 Call2s storing 2 2,
+                26 Call2n plain 2 2,
+            }
+            One {
+                0 JumpIfZero branching 1 1,
+                1 GetSibling finding 1 1,
+                2 GetChild finding 1 1,
+                3 GetParent storing 1 1,
+                4 GetPropertyLength storing 1 1,
+                5 Increment plain 1 1,
+                6 Decrement plain 1 1,
+                7 PrintAddress plain 1 1,
+                8 Call1s storing 1 1,
+                9 RemoveObject plain 1 1,
+                10 PrintObject plain 1 1,
+                11 Return plain 1 1,
+                12 Jump plain 1 1,
+                13 PrintPacked plain 1 1,
+                14 Load storing 1 1,
+                15 Call1n plain 1 1,
+            }
+            Zero {
+                0 ReturnTrue plain 0 0,
+                1 ReturnFalse plain 0 0,
+                2 Print printing 0 0,
+                3 PrintReturn printing 0 0,
+                4 DoNothing plain 0 0,
+                8 ReturnPopped plain 0 0,
+                10 Quit plain 0 0,
+                11 NewLine plain 0 0,
+            }
+            Several {
+                0 CallVs storing 1 4,
+                1 StoreWord plain 3 3,
+                2 StoreByte plain 3 3,
+                3 PutProperty plain 3 3,
+                4 Read storing 2 2,
+                5 PrintCharacter plain 1 1,
+                6 PrintNumber plain 1 1,
+                8 Push plain 1 1,
+                9 Pull plain 1 1,
+                12 CallVs2 storing 1 8,
+                24 Not storing 1 1,
+                25 CallVn plain 1 4,
+                26 CallVn2 plain 1 8,
+                31 CheckArgumentCount branching 1 1,
+            }
+        }
+    };
+}
+
+/// The row of an operation.
+macro_rules! row_in {
+    ($operation:expr, $($count:ident {
+        $($number:literal $name:ident $kind:ident $least:literal $most:literal,)*
+    })*) => {
+        match $operation {
+            $($(Operation::$name => $kind(OperandCount::$count, $number, $least, $most),)*)*
+        }
+    };
+}
+
+/// The operation of these rows that has a number, where there is one.
+macro_rules! numbered {
+    ($value:expr, $($number:literal $name:ident $kind:ident $least:literal $most:literal,)*) => {
+        match $value {
+            $($number => Some(Operation::$name),)*
+            _ => None,
+        }
+    };
+}
+
+/// The operation with two operands that has a number.
+macro_rules! two_in {
+    ($number:expr, Two { $($row:tt)* } One { $($a:tt)* } Zero { $($b:tt)* } Several { $($c:tt)* }) => {
+        numbered!($number, $($row)*)
+    };
+}
+
+/// The operation with one operand that has a number.
+macro_rules! one_in {
+    ($number:expr, Two { $($a:tt)* } One { $($row:tt)* } Zero { $($b:tt)* } Several { $($c:tt)* }) => {
+        numbered!($number, $($row)*)
+    };
+}
+
+/// The operation without operands that has a number.
+macro_rules! zero_in {
+    ($number:expr, Two { $($a:tt)* } One { $($b:tt)* } Zero { $($row:tt)* } Several { $($c:tt)* }) => {
+        numbered!($number, $($row)*)
+    };
+}
+
+/// The operation with any number of operands that has a number.
+macro_rules! several_in {
+    ($number:expr, Two { $($a:tt)* } One { $($b:tt)* } Zero { $($c:tt)* } Several { $($row:tt)* }) => {
+        numbered!($number, $($row)*)
+    };
+}
+
 impl Operation {
     /// The operation's row of the table.
     #[inline(always)]
     pub fn row(self) -> OpcodeRow
         ensures { result ≡ row_of self }
     {
-        use OperandCount::{One, Several, Two, Zero};
-        match self {
-            Operation::JumpIfEqual => branching(Two, 1, 2, 4),
-            Operation::JumpIfLess => branching(Two, 2, 2, 2),
-            Operation::JumpIfGreater => branching(Two, 3, 2, 2),
-            Operation::DecrementCheck => branching(Two, 4, 2, 2),
-            Operation::IncrementCheck => branching(Two, 5, 2, 2),
-            Operation::JumpIfIn => branching(Two, 6, 2, 2),
-            Operation::TestBits => branching(Two, 7, 2, 2),
-            Operation::Or => storing(Two, 8, 2, 2),
-            Operation::And => storing(Two, 9, 2, 2),
-            Operation::TestAttribute => branching(Two, 10, 2, 2),
-            Operation::SetAttribute => plain(Two, 11, 2, 2),
-            Operation::ClearAttribute => plain(Two, 12, 2, 2),
-            Operation::Store => plain(Two, 13, 2, 2),
-            Operation::InsertObject => plain(Two, 14, 2, 2),
-            Operation::LoadWord => storing(Two, 15, 2, 2),
-            Operation::LoadByte => storing(Two, 16, 2, 2),
-            Operation::GetProperty => storing(Two, 17, 2, 2),
-            Operation::GetPropertyAddress => storing(Two, 18, 2, 2),
-            Operation::GetNextProperty => storing(Two, 19, 2, 2),
-            Operation::Add => storing(Two, 20, 2, 2),
-            Operation::Sub => storing(Two, 21, 2, 2),
-            Operation::Mul => storing(Two, 22, 2, 2),
-            Operation::Div => storing(Two, 23, 2, 2),
-            Operation::Mod => storing(Two, 24, 2, 2),
-            Operation::Call2s => storing(Two, 25, 2, 2),
-            Operation::Call2n => plain(Two, 26, 2, 2),
-            Operation::JumpIfZero => branching(One, 0, 1, 1),
-            Operation::GetSibling => finding(One, 1, 1, 1),
-            Operation::GetChild => finding(One, 2, 1, 1),
-            Operation::GetParent => storing(One, 3, 1, 1),
-            Operation::GetPropertyLength => storing(One, 4, 1, 1),
-            Operation::Increment => plain(One, 5, 1, 1),
-            Operation::Decrement => plain(One, 6, 1, 1),
-            Operation::PrintAddress => plain(One, 7, 1, 1),
-            Operation::Call1s => storing(One, 8, 1, 1),
-            Operation::RemoveObject => plain(One, 9, 1, 1),
-            Operation::PrintObject => plain(One, 10, 1, 1),
-            Operation::Return => plain(One, 11, 1, 1),
-            Operation::Jump => plain(One, 12, 1, 1),
-            Operation::PrintPacked => plain(One, 13, 1, 1),
-            Operation::Load => storing(One, 14, 1, 1),
-            Operation::Call1n => plain(One, 15, 1, 1),
-            Operation::ReturnTrue => plain(Zero, 0, 0, 0),
-            Operation::ReturnFalse => plain(Zero, 1, 0, 0),
-            Operation::Print => printing(Zero, 2, 0, 0),
-            Operation::PrintReturn => printing(Zero, 3, 0, 0),
-            Operation::DoNothing => plain(Zero, 4, 0, 0),
-            Operation::ReturnPopped => plain(Zero, 8, 0, 0),
-            Operation::Quit => plain(Zero, 10, 0, 0),
-            Operation::NewLine => plain(Zero, 11, 0, 0),
-            Operation::CallVs => storing(Several, 0, 1, 4),
-            Operation::StoreWord => plain(Several, 1, 3, 3),
-            Operation::StoreByte => plain(Several, 2, 3, 3),
-            Operation::PutProperty => plain(Several, 3, 3, 3),
-            Operation::Read => storing(Several, 4, 2, 2),
-            Operation::PrintCharacter => plain(Several, 5, 1, 1),
-            Operation::PrintNumber => plain(Several, 6, 1, 1),
-            Operation::Push => plain(Several, 8, 1, 1),
-            Operation::Pull => plain(Several, 9, 1, 1),
-            Operation::CallVs2 => storing(Several, 12, 1, 8),
-            Operation::Not => storing(Several, 24, 1, 1),
-            Operation::CallVn => plain(Several, 25, 1, 4),
-            Operation::CallVn2 => plain(Several, 26, 1, 8),
-            Operation::CheckArgumentCount => branching(Several, 31, 1, 1),
-        }
+        opcodes!(row_in self)
     }
 
     /// The count of operands by which the operation's opcode is numbered.
@@ -194,35 +259,7 @@ impl Operation {
         ensures same { result ≡ table.two_operand number }
         ensures count { IfSome result (λ operation. count_of operation ≡ counts.Two) }
     {
-        match number {
-            1 => Some(Operation::JumpIfEqual),
-            2 => Some(Operation::JumpIfLess),
-            3 => Some(Operation::JumpIfGreater),
-            4 => Some(Operation::DecrementCheck),
-            5 => Some(Operation::IncrementCheck),
-            6 => Some(Operation::JumpIfIn),
-            7 => Some(Operation::TestBits),
-            8 => Some(Operation::Or),
-            9 => Some(Operation::And),
-            10 => Some(Operation::TestAttribute),
-            11 => Some(Operation::SetAttribute),
-            12 => Some(Operation::ClearAttribute),
-            13 => Some(Operation::Store),
-            14 => Some(Operation::InsertObject),
-            15 => Some(Operation::LoadWord),
-            16 => Some(Operation::LoadByte),
-            17 => Some(Operation::GetProperty),
-            18 => Some(Operation::GetPropertyAddress),
-            19 => Some(Operation::GetNextProperty),
-            20 => Some(Operation::Add),
-            21 => Some(Operation::Sub),
-            22 => Some(Operation::Mul),
-            23 => Some(Operation::Div),
-            24 => Some(Operation::Mod),
-            25 => Some(Operation::Call2s),
-            26 => Some(Operation::Call2n),
-            _ => None,
-        }
+        opcodes!(two_in number)
     }
 
     /// The operation with one operand that has a number, where there is one.
@@ -231,25 +268,7 @@ impl Operation {
         ensures same { result ≡ table.one_operand number }
         ensures count { IfSome result (λ operation. count_of operation ≡ counts.One) }
     {
-        match number {
-            0 => Some(Operation::JumpIfZero),
-            1 => Some(Operation::GetSibling),
-            2 => Some(Operation::GetChild),
-            3 => Some(Operation::GetParent),
-            4 => Some(Operation::GetPropertyLength),
-            5 => Some(Operation::Increment),
-            6 => Some(Operation::Decrement),
-            7 => Some(Operation::PrintAddress),
-            8 => Some(Operation::Call1s),
-            9 => Some(Operation::RemoveObject),
-            10 => Some(Operation::PrintObject),
-            11 => Some(Operation::Return),
-            12 => Some(Operation::Jump),
-            13 => Some(Operation::PrintPacked),
-            14 => Some(Operation::Load),
-            15 => Some(Operation::Call1n),
-            _ => None,
-        }
+        opcodes!(one_in number)
     }
 
     /// The operation without operands that has a number, where there is one.
@@ -258,17 +277,7 @@ impl Operation {
         ensures same { result ≡ table.no_operand number }
         ensures count { IfSome result (λ operation. count_of operation ≡ counts.Zero) }
     {
-        match number {
-            0 => Some(Operation::ReturnTrue),
-            1 => Some(Operation::ReturnFalse),
-            2 => Some(Operation::Print),
-            3 => Some(Operation::PrintReturn),
-            4 => Some(Operation::DoNothing),
-            8 => Some(Operation::ReturnPopped),
-            10 => Some(Operation::Quit),
-            11 => Some(Operation::NewLine),
-            _ => None,
-        }
+        opcodes!(zero_in number)
     }
 
     /// The operation with any number of operands that has a number, where there is one.
@@ -277,23 +286,7 @@ impl Operation {
         ensures same { result ≡ table.several_operand number }
         ensures count { IfSome result (λ operation. count_of operation ≡ counts.Several) }
     {
-        match number {
-            0 => Some(Operation::CallVs),
-            1 => Some(Operation::StoreWord),
-            2 => Some(Operation::StoreByte),
-            3 => Some(Operation::PutProperty),
-            4 => Some(Operation::Read),
-            5 => Some(Operation::PrintCharacter),
-            6 => Some(Operation::PrintNumber),
-            8 => Some(Operation::Push),
-            9 => Some(Operation::Pull),
-            12 => Some(Operation::CallVs2),
-            24 => Some(Operation::Not),
-            25 => Some(Operation::CallVn),
-            26 => Some(Operation::CallVn2),
-            31 => Some(Operation::CheckArgumentCount),
-            _ => None,
-        }
+        opcodes!(several_in number)
     }
 }
 

@@ -56,8 +56,9 @@ pub fn decode_text(alloc: Global, story: &[u8], at: u32) -> Result<(Vec<u8>, u32
     decode_front(alloc, story, at, usize::MAX)
 }
 
-/// The same, but of the characters only the first, `most` at most: a text of abbreviations can have many times as many
-/// characters as its story has bytes. The whole text is read, so each fault and the address after it are as of the whole.
+/// The same, but of the characters only the first, `most` at most: a text of abbreviations can have many times as
+/// many as its story has bytes. It is read to its end all the same, so its faults and the address after it are those
+/// of the whole.
 ///
 /// # Errors
 ///

@@ -15,7 +15,8 @@ unfolding print_inline
 returns-in_err-print-clause-told c =
     told_err _ c.from_residual-in_err-print.ensures.1
     (told_then _ (told_went _ _ c.in_ok-characters.ensures.2)
-    (told_no_further _ (print_for _ _ _ c.deref.ensures.value c.in_ok-characters.ensures.1 c.in_err-print.ensures.told)))
+    (told_no_further _
+    (print_for _ _ _ c.deref.ensures.value c.in_ok-characters.ensures.1 c.in_err-print.ensures.told)))
 
 pub returns-clause-told : goal.returns-clause-told
 unfolding print_inline

@@ -32,7 +32,9 @@ returns-in_err-print-clause-told c =
     told_err _ c.from_residual-in_err-print.ensures.1
     (told_then _ (told_went _ _ c.in_ok-characters.ensures.2)
     (told_then _ (told_went _ _ c.in_ok-test_return.ensures.went)
-    (told_no_further _ (print_first _ (13 ∷ []) (print_for _ _ _ c.deref.ensures.value c.in_ok-characters.ensures.1 c.in_err-print.ensures.told)))))
+    (told_no_further _
+    (print_first _ (13 ∷ [])
+    (print_for _ _ _ c.deref.ensures.value c.in_ok-characters.ensures.1 c.in_err-print.ensures.told)))))
 
 pub returns-in_err-print-2-clause-told : goal.returns-in_err-print-2-clause-told
 unfolding print_return
@@ -41,7 +43,8 @@ returns-in_err-print-2-clause-told c =
     (told_then _ (told_went _ _ c.in_ok-characters.ensures.2)
     (told_then _ (told_went _ _ c.in_ok-test_return.ensures.went)
     (told_no_further _
-    (print_two _ (13 ∷ []) (print_for _ _ _ c.deref.ensures.value c.in_ok-characters.ensures.1 c.in_ok-print.ensures.told)
+    (print_two _ (13 ∷ [])
+    (print_for _ _ _ c.deref.ensures.value c.in_ok-characters.ensures.1 c.in_ok-print.ensures.told)
     c.in_err-print-2.ensures.told))))
 
 pub returns-in_err-print-2-clause-text : goal.returns-in_err-print-2-clause-text
@@ -53,7 +56,8 @@ returns-clause-told c =
     told_then _ (told_went _ _ c.in_ok-characters.ensures.2)
     (told_then _ (told_went _ _ c.in_ok-test_return.ensures.went)
     (told_then _
-    (print_two _ (13 ∷ []) (print_for _ _ _ c.deref.ensures.value c.in_ok-characters.ensures.1 c.in_ok-print.ensures.told)
+    (print_two _ (13 ∷ [])
+    (print_for _ _ _ c.deref.ensures.value c.in_ok-characters.ensures.1 c.in_ok-print.ensures.told)
     c.in_ok-print-2.ensures.told) (told_went _ _ c.give_back.ensures)))
 
 pub returns-clause-text : goal.returns-clause-text

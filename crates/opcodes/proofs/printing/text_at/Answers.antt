@@ -28,4 +28,5 @@ returns-in-Err-Character c = text_unread _ _ _ Character c.requires (c.memory.en
 pub returns-in-Err-Abbreviation : goal.returns-in-Err-Abbreviation
 returns-in-Err-Abbreviation c = text_unread _ _ _ Abbreviation c.requires
     (c.memory.ensures ∙ ap memory_of c.store.ensures)
-    (front_fails 65537 faults.Abbreviation _ (rw c.in-Err-Abbreviation.field-0-is at c.in-Err-Abbreviation.ensures.text))
+    (front_fails 65537 faults.Abbreviation _
+    (rw c.in-Err-Abbreviation.field-0-is at c.in-Err-Abbreviation.ensures.text))

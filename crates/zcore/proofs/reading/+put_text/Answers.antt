@@ -23,8 +23,8 @@ returns-in_err-printed t c =
     let fault = c.in_err-printed.field-0.0 in
     let p = err_from_is_err_and c.from_residual-in_err-printed.result c.from_residual-in_err-printed.ensures.1 in
     rw (p.1, p.2)
-    (fault_at expand c.args.most fault story bytes c.args.at words z c.args.text.now.items c.loop-place.text.items state
-    c.loop-place.place c.bytes_from-bytes.ensures c.in_ok-words.ensures.words c.z_character-z.ensures
+    (fault_at expand c.args.most fault story bytes c.args.at words z c.args.text.now.items c.loop-place.text.items
+    state c.loop-place.place c.bytes_from-bytes.ensures c.in_ok-words.ensures.words c.z_character-z.ensures
     (omega arith) c.loop-place.invariant.so_far
     (printed_fails expand (printed expand state z) fault (c.in_err-printed.ensures expand)))
 
@@ -39,8 +39,9 @@ returns-then-is_abbreviation t c =
     let number = c.in-Abbreviation.number in
     let is = named expand (printed expand state z) c.in_ok-printed.field-0 number c.in-Abbreviation.is
     (c.in_ok-printed.ensures expand) in
-    fault_at expand c.args.most faults.Abbreviation story bytes c.args.at words z c.args.text.now.items c.loop-place.text.items
-    state c.loop-place.place c.bytes_from-bytes.ensures c.in_ok-words.ensures.words c.z_character-z.ensures
+    fault_at expand c.args.most faults.Abbreviation story bytes c.args.at words z c.args.text.now.items
+    c.loop-place.text.items state c.loop-place.place c.bytes_from-bytes.ensures c.in_ok-words.ensures.words
+    c.z_character-z.ensures
     (omega arith) c.loop-place.invariant.so_far
     (is.0 ∙ refused_within story number c.args.is_abbreviation c.if-is_abbreviation.true)
 
@@ -70,8 +71,8 @@ returns-in_err-abbreviation_address-in-Abbreviation t c =
     let p = err_from_is_err_and c.from_residual-in_err-abbreviation_address-in-Abbreviation.result
     c.from_residual-in_err-abbreviation_address-in-Abbreviation.ensures.1 in
     rw (p.1, p.2)
-    (fault_at expand c.args.most fault story bytes c.args.at words z c.args.text.now.items c.loop-place.text.items state
-    c.loop-place.place c.bytes_from-bytes.ensures c.in_ok-words.ensures.words c.z_character-z.ensures
+    (fault_at expand c.args.most fault story bytes c.args.at words z c.args.text.now.items c.loop-place.text.items
+    state c.loop-place.place c.bytes_from-bytes.ensures c.in_ok-words.ensures.words c.z_character-z.ensures
     (omega arith) c.loop-place.invariant.so_far
     (no_table fault story number c.args.is_abbreviation (printed expand state z) c.if-is_abbreviation.false is.0
     lost.0 lost.1))
@@ -95,8 +96,8 @@ returns-in_err-put_text-in-Abbreviation t c =
     let p = err_from_is_err_and c.from_residual-in_err-put_text-in-Abbreviation.result
     c.from_residual-in_err-put_text-in-Abbreviation.ensures.1 in
     rw (p.1, p.2)
-    (fault_at expand c.args.most fault story bytes c.args.at words z c.args.text.now.items c.loop-place.text.items state
-    c.loop-place.place c.bytes_from-bytes.ensures c.in_ok-words.ensures.words c.z_character-z.ensures
+    (fault_at expand c.args.most fault story bytes c.args.at words z c.args.text.now.items c.loop-place.text.items
+    state c.loop-place.place c.bytes_from-bytes.ensures c.in_ok-words.ensures.words c.z_character-z.ensures
     (omega arith) c.loop-place.invariant.so_far
     (subst (Fails fault) (sym read)
     (fails_alone c.args.most fault c.loop-place.text.items (read_with refused story place)
@@ -145,14 +146,15 @@ loop-place-preserved t c =
       row = c.next-state.ensures.row;
       room = front_room most now (text ++ grew.0) grew.2;
       so_far =
-          turn_at expand most bytes words z old text grew.0 now state after place c.z_character-z.ensures (omega arith)
-          c.loop-place.invariant.so_far grew.1 grew.2 c.next-state.ensures.next;
+          turn_at expand most bytes words z old text grew.0 now state after place c.z_character-z.ensures
+          (omega arith) c.loop-place.invariant.so_far grew.1 grew.2 c.next-state.ensures.next;
     }
 
 pub returns : goal.returns
 returns t c =
-    done_at (expansion c.args.is_abbreviation c.args.story.now) c.args.most c.args.story.now c.bytes_from-bytes.result.now
-    c.args.at c.in_ok-words.words c.args.text.now.items c.loop-place.text.items (state_of c.loop-place.state)
+    done_at (expansion c.args.is_abbreviation c.args.story.now) c.args.most c.args.story.now
+    c.bytes_from-bytes.result.now c.args.at c.in_ok-words.words c.args.text.now.items c.loop-place.text.items
+    (state_of c.loop-place.state)
     c.loop-place.place
     c.bytes_from-bytes.ensures c.in_ok-words.ensures.words (omega arith) c.loop-place.invariant.room
     c.loop-place.invariant.so_far

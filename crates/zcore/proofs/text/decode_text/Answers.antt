@@ -4,5 +4,6 @@ use Rattle.zcore.proofs.Fronts.{gives_whole}
 use Rattle.zcore.proofs.text.decode_text.Goals as goal
 
 pub returns-clause-text : goal.returns-clause-text
-returns-clause-text c = gives_whole 18446744073709551615 c.decode_front.result (decoded c.args.story.now c.args.at) (omega arith)
+returns-clause-text c = gives_whole 18446744073709551615 c.decode_front.result
+    (decoded c.args.story.now c.args.at) (omega arith)
     c.decode_front.ensures.room c.decode_front.ensures.text
