@@ -28,6 +28,7 @@ use Rattle.checker.specs.Laws.{AcceptedPrograms}
 use Rattle.checker.proofs.Whole.{made}
 use Rattle.checker.proofs.ArrayBytes.{array_short}
 use Rattle.checker.proofs.Unbroken.{left_empty, right_empty, kept, IsMeant, statements_within}
+use Rattle.checker.proofs.Unbroken.{statements_stand}
 use Rattle.checker.proofs.Bindings.{AreEntries, file_entries, found_meant, name_meant}
 
 below : (limit n : ℕ) → nat_le limit n ≡ false → n < limit
@@ -119,6 +120,7 @@ module _ (p : ProgramOf) (whole : Table)
         omega (arith, few),
         statements_within p (length r.locals) (look_up whole r.locals)
             (λ name. name_meant p whole r.locals name entries) outside r.body (right_empty names body h),
+        statements_stand (look_up whole r.locals) outside r.body (right_empty names body h),
       )
 
   routines_within : (t : Table) (counts : Counts) (ds : List DirectiveTree)

@@ -1,5 +1,5 @@
 -- What arrays begin with, part by part.
-use Rattle.std.proofs.Common.{◌≡◌, ◌≢◌, ℕ, zero, suc, ◌+◌, ◌-◌, ◌*◌, ◌<◌, ◌≤◌, Bool, true, false, cond, nat_le, List}
+use Rattle.std.proofs.Common.{◌≡◌, ◌≢◌, ℕ, suc, ◌+◌, ◌-◌, ◌*◌, ◌<◌, ◌≤◌, Bool, true, false, cond, nat_le, List}
 use Rattle.std.proofs.Common.{[], ◌∷◌, ◌++◌, length, drop, slice_index_or, Option, Some, append_assoc, refl, sym, ap}
 use Rattle.std.proofs.Common.{◌∙◌, arith}
 use Rattle.std.specs.Prelude.{map, replicate, ◌&&◌}
@@ -13,14 +13,15 @@ use Rattle.expressions.specs.declared.tree.Width.TheVariants as widths
 use Rattle.syntax.specs.declared.tree.ArrayKind.{ArrayKind}
 use Rattle.syntax.specs.declared.tree.ArrayKind.TheVariants as kinds
 use Rattle.syntax.specs.declared.tree.ArrayValue.{ArrayValue}
-use Rattle.syntax.specs.Tree.{ValueTree, ArrayTree, value_tree, literal_tree}
+use Rattle.statements.specs.Tree.{literal_tree}
+use Rattle.syntax.specs.Tree.{ValueTree, ArrayTree, value_tree}
 use Rattle.checker.specs.declared.arrays.Arrays.{Arrays}
 use Rattle.checker.specs.declared.breach.Breach.{Breach}
 use Rattle.checker.specs.Breaches.{at}
 use Rattle.checker.specs.Names.{Table, literal_number, or_zero}
 use Rattle.checker.specs.Noted.{noted}
 use Rattle.checker.specs.Literals.{literal_breaches}
-use Rattle.checker.specs.Arrays.{width_of, array_size, is_told, is_size, size_breaches, wide_breaches, entry_breaches}
+use Rattle.checker.specs.Arrays.{width_of, array_size, is_told, is_size, size_breaches, entry_breaches}
 use Rattle.checker.specs.Arrays.{values_breaches, entry_value, zeros, entries_of, entry_bytes, bytes_of}
 use Rattle.checker.specs.Arrays.{array_breaches, array_bytes}
 use Rattle.checker.specs.Walk.{most, number_bytes, own_entry_bytes, own_entry_breaches, IsArrayAdded}

@@ -21,7 +21,7 @@ use Rattle.checker.proofs.Samples.{p, the, item, words, routine, program, says}
 -- values, the first at position 1
 abbrev values : ℕ → List ℕ → List d.ValueTree
 values n [] = []
-values n (v ∷ vs) = record { position = p n; value = d.number_value v } ∷ values (n + 1) vs
+values n (v ∷ vs) = record { position = p n; value = s.number_value v } ∷ values (n + 1) vs
 
 abbrev array : List ℕ → ArrayKind → List ℕ → DirectiveTree
 array name kind vs = d.array (record { name = the 0 name; kind = kind; values = values 1 vs })
@@ -132,7 +132,7 @@ wrong_size : program_breaches
     (record {
       name = the 0 (codes "b");
       kind = kinds.Bytes;
-      values = record { position = p 1; value = d.named_value (the 1 (codes "c")) } ∷ [];
+      values = record { position = p 1; value = s.named_value (the 1 (codes "c")) } ∷ [];
     })
     ∷ array (codes "c") kinds.Bytes (1 ∷ []) ∷ main ∷ []))
     ≡ at (p 1) 23

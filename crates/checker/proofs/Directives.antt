@@ -6,7 +6,8 @@ use Rattle.std.specs.List.{concat}
 use Rattle.std.specs.Global.{Vec}
 use Rattle.syntax.specs.declared.tree.Directive.{Directive}
 use Rattle.expressions.specs.Tree.{NameTree}
-use Rattle.syntax.specs.Tree.{LiteralTree, ArrayTree, RoutineTree, DirectiveTree, global, constant, array, routine}
+use Rattle.statements.specs.Tree.{LiteralTree}
+use Rattle.syntax.specs.Tree.{ArrayTree, RoutineTree, DirectiveTree, global, constant, array, routine}
 use Rattle.syntax.specs.Tree.{directive_tree}
 use Rattle.checker.specs.declared.arrays.Arrays.{Arrays}
 use Rattle.checker.specs.declared.breach.Breach.{Breach}

@@ -7,6 +7,12 @@ use Rattle.checker.specs.declared.breach.Breach.{Breach}
 use Rattle.checker.specs.Noted.{noted}
 use Rattle.checker.proofs.Noted.{noted_none, noted_append}
 
+-- within a list what would stand behind its end does not matter
+same_here : {A : Type 0} (xs : List A) (i : ℕ) (d e : A) → i < length xs → slice_index_or xs i d ≡ slice_index_or xs i e
+same_here [] i d e h = absurd (omega arith)
+same_here (y ∷ xs) zero d e h = refl
+same_here (y ∷ xs) (suc i) d e h = same_here xs i d e (omega arith)
+
 module _ {A B R : Type 0} (f : A → List Breach) (g : A → R) (v : B → R) where
   from_here : (xs : List A) (i : ℕ) (x : A) → i < length xs
       → flat_map f (drop i xs) ≡ f (slice_index_or xs i x) ++ flat_map f (drop (suc i) xs)
@@ -55,3 +61,16 @@ module _ {A B R : Type 0} (f : A → List Breach) (g : A → R) (v : B → R) wh
   value_end [] (suc i) h = refl
   value_end (x ∷ xs) zero h = absurd (omega arith)
   value_end (x ∷ xs) (suc i) h = ap (λ r. g x ∷ r) (value_end xs i (omega arith))
+
+  -- The same for one that is named by where it stands
+
+  pub each_there : (m o : Option Breach) (xs : List A) (i : ℕ) (d : A) → i < length xs
+      → o ≡ noted m (f (slice_index_or xs i d)) → noted o (flat_map f (drop (i + 1) xs)) ≡ noted m (flat_map f (drop i xs))
+  each_there m o xs i d lt is =
+      let x = slice_index_or xs i d in
+      rw is (sym (each_next m xs i x lt (same_here xs i d x lt)))
+
+  pub value_there : (rs : List B) (r : B) (xs : List A) (i : ℕ) (d : A) → i < length xs → map v rs ≡ map g (take i xs)
+      → v r ≡ g (slice_index_or xs i d) → map v (rs ++ r ∷ []) ≡ map g (take (i + 1) xs)
+  value_there rs r xs i d lt so_far h =
+      let x = slice_index_or xs i d in value_next rs r xs i x lt (same_here xs i d x lt) so_far h

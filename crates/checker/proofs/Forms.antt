@@ -1,7 +1,8 @@
 -- Lists of trees and chains: what they break and what they resolve to, part by part.
-use Rattle.std.proofs.Common.{◌≡◌, ℕ, List, [], ◌∷◌, ◌++◌, length, Bool, true, false, cond, Option, Some, None}
-use Rattle.std.proofs.Common.{refl, sym, ap, ◌∙◌, arith}
+use Rattle.std.proofs.Common.{◌≡◌, ℕ, List, [], ◌∷◌, ◌++◌, append_assoc, length, Bool, true, false, cond}
+use Rattle.std.proofs.Common.{Option, Some, None, refl, sym, ap, ◌∙◌, subst, arith}
 use Rattle.std.specs.Prelude.{map}
+use Rattle.std.specs.Global.{Vec}
 use Rattle.std.specs.List.{flat_map}
 use Rattle.expressions.specs.declared.tree.Binary.{Binary}
 use Rattle.expressions.specs.declared.tree.Expression.{Expression}
@@ -11,7 +12,9 @@ use Rattle.expressions.specs.Tree as trees
 use Rattle.expressions.specs.Tree.{NameTree, ExpressionTree, expression_tree, trees_of, chained, link}
 use Rattle.statements.specs.declared.tree.Statement.{Statement}
 use Rattle.statements.specs.declared.tree.PrintItem.{PrintItem}
-use Rattle.statements.specs.Tree.{item_tree, statement_tree}
+use Rattle.statements.specs.declared.tree.Range.{Range}
+use Rattle.statements.specs.Tree.{StatementTree, item_tree, statement_tree, range_tree, case_tree}
+use Rattle.statements.proofs.Shapes.{mapped_twice}
 use Rattle.statements.specs.Tree as written
 use Rattle.checker.specs.declared.around.Around.{Around}
 use Rattle.checker.specs.declared.binding.Binding.{Binding}
@@ -19,17 +22,24 @@ use Rattle.checker.specs.declared.breach.Breach.{Breach}
 use Rattle.checker.specs.Noted.{noted}
 use Rattle.checker.specs.Names.{name_of, is_entry}
 use Rattle.checker.specs.Resolved as values
-use Rattle.checker.specs.Resolved.{Value, Printed, Action, Actions, values_of, actions_of}
+use Rattle.checker.specs.declared.resolved.Action as code_action
+use Rattle.checker.specs.declared.resolved.Span.{Span}
+use Rattle.checker.specs.Resolved.{Value, RangeOf, Printed, Action, Actions, values_of, range_of, actions_of, action_of}
+use Rattle.checker.specs.Resolved.{case_of}
 use Rattle.checker.specs.Expressions.{breaches, all_breaches, resolve, resolve_all, count, call_breaches}
 use Rattle.checker.specs.Expressions.{routine_of_binding, value_of_binding, array_name_breaches, array_of_binding}
 use Rattle.checker.specs.Expressions.{target_breaches, assigned_breaches, assigned}
 use Rattle.checker.specs.declared.resolved.Variable.TheVariants as variables
 use Rattle.checker.specs.Breaches.{at}
-use Rattle.checker.specs.Statements.{item_breaches, resolve_item, statements_breaches, resolve_statements}
+use Rattle.checker.specs.Statements.{range_breaches, resolve_range, item_breaches, resolve_item, statements_breaches}
+use Rattle.checker.specs.Statements.{in_switch, cases_breaches, resolve_statement, resolve_statements, resolve_cases}
 use Rattle.checker.specs.Walk.{own_breaches, resolved, link_breaches, resolved_link, IsWalked, IsResolved}
 use Rattle.checker.specs.Walk.{AreResolved, IsAssigned, AreLinks, AreItems, AreActions, own_item_breaches}
 use Rattle.checker.specs.Walk.{resolved_item}
-use Rattle.checker.specs.Walk.{own_statement_breaches, resolved_statement}
+use Rattle.checker.specs.Walk.{own_statement_breaches, resolved_statement, own_range_breaches, resolved_range}
+use Rattle.checker.specs.Walk.{IsWhole, IsAction, AreRanges, IsCase, AreCases, IsOther, own_case_breaches}
+use Rattle.checker.specs.Walk.{resolved_case}
+use Rattle.checker.specs.Walk.{other_breaches, resolved_other}
 use Rattle.checker.proofs.Noted.{noted_none, noted_append, noted_two}
 use Rattle.checker.proofs.Walks.{two}
 
@@ -211,3 +221,92 @@ module _ (look : List ℕ → Option Binding) where
     value = w.value ∙ sym (items_resolve xs);
     breaches = w.breaches ∙ ap (λ b. noted m b) (sym (items_break xs));
   }
+
+  -- Ranges and cases
+
+  ranges_break : (gs : List Range) → flat_map (range_breaches look) (map range_tree gs)
+      ≡ flat_map (own_range_breaches look) gs
+  ranges_break [] = refl
+  ranges_break (g ∷ gs) = ap (λ b. own_range_breaches look g ++ b) (ranges_break gs)
+
+  ranges_walked : (gs : List Range) (found : List RangeOf) {m n : Option Breach} → AreRanges look gs m n found
+      → IsWalked (flat_map (range_breaches look) (map range_tree gs)) m n found
+      (map (resolve_range look) (map range_tree gs))
+  ranges_walked gs found {m = m} w = record {
+    value = w.value ∙ sym (mapped_twice range_tree (resolve_range look) (resolved_range look) (λ g. refl) gs);
+    breaches = w.breaches ∙ ap (λ b. noted m b) (sym (ranges_break gs));
+  }
+
+  pub case_walked : (around : Around) (given : Vec Range × Vec Statement) (spans : Vec Span)
+      (body : Vec code_action.Action) (gs : List Range) (ss : List Statement) {m n o : Option Breach}
+      → gs ≡ given.0.items → ss ≡ given.1.items → AreRanges look gs m n (map range_of spans.items)
+      → AreActions look around ss n o (map action_of body.items)
+      → IsCase look around given m o (case_of (spans, body))
+  unfolding case_tree case_of
+  case_walked around given spans body gs ss {m = m} {n = n} {o = o} g s w z =
+      let ranges = subst (λ (xs : List Range). AreRanges look xs m n (map range_of spans.items)) g w in
+      let actions = subst (λ (xs : List Statement). AreActions look around xs n o (map action_of body.items)) s z in
+      two (λ (rs : List RangeOf) (xs : Actions). (rs, xs))
+      (ranges_walked given.0.items (map range_of spans.items) ranges)
+      (statements_walked around given.1.items (map action_of body.items) actions)
+
+  pub other_walked : (around : Around) (ss all : List Statement) (found : List Action) {m n : Option Breach}
+      → ss ≡ all → AreActions look around ss m n found
+      → IsOther look around (Some (map statement_tree all)) m n (Some found)
+  other_walked around ss all found {m = m} same w = rw (sym same) (record {
+    value = ap Some (w.value
+        ∙ sym (mapped_twice statement_tree (resolve_statement look) (resolved_statement look) (λ s. refl) ss));
+    breaches = w.breaches ∙ ap (λ b. noted m b) (sym (statements_break around ss));
+  })
+
+  cases_break : (around : Around) (cs : List (Vec Range × Vec Statement)) (other : Option (List StatementTree))
+      → cases_breaches look around (written.cases_of (map case_tree cs) other)
+      ≡ flat_map (own_case_breaches look around) cs ++ other_breaches look around other
+  cases_break around [] None = refl
+  cases_break around [] (Some xs) = refl
+  cases_break around (c ∷ cs) other =
+      let ranges = flat_map (range_breaches look) (case_tree c).0 in
+      let body = statements_breaches look around (case_tree c).1 in
+      let rest = flat_map (own_case_breaches look around) cs in
+      let last = other_breaches look around other in
+      ap (λ b. ranges ++ (body ++ b)) (cases_break around cs other) ∙ sym (append_assoc ranges body (rest ++ last))
+      ∙ sym (append_assoc (ranges ++ body) rest last)
+
+  trees_resolve : (xs : List StatementTree)
+      → resolve_statements look (written.trees_of xs) ≡ actions_of (map (resolve_statement look) xs)
+  trees_resolve [] = refl
+  trees_resolve (x ∷ xs) = ap (λ r. values.next (resolve_statement look x) r) (trees_resolve xs)
+
+  cases_resolve : (cs : List (Vec Range × Vec Statement)) (other : Option (List StatementTree))
+      → resolve_cases look (written.cases_of (map case_tree cs) other)
+      ≡ values.cases_of (map (resolved_case look) cs) (resolved_other look other)
+  cases_resolve [] None = refl
+  cases_resolve [] (Some xs) = ap values.default_case (trees_resolve xs)
+  cases_resolve (c ∷ cs) other = ap
+      (λ r. values.case (map (resolve_range look) (case_tree c).0) (resolve_statements look (case_tree c).1) r)
+      (cases_resolve cs other)
+
+  cases_walked : (around : Around) (cs : List (Vec Range × Vec Statement)) (other : Option (List StatementTree))
+      (found : List (List RangeOf × Actions)) (last : Option (List Action)) {m n o : Option Breach}
+      → AreCases look around cs m n found → IsOther look around other n o last
+      → IsWalked (cases_breaches look around (written.cases_of (map case_tree cs) other)) m o
+      (values.cases_of found last) (resolve_cases look (written.cases_of (map case_tree cs) other))
+  cases_walked around cs other found last {m = m} w z =
+      let both = two values.cases_of w z in
+      record {
+        value = both.value ∙ sym (cases_resolve cs other);
+        breaches = both.breaches ∙ ap (λ b. noted m b) (sym (cases_break around cs other));
+      }
+
+  pub switch_walked : (around inside : Around) (p : Position) (e : ExpressionTree) (v : Value)
+      (cs : List (Vec Range × Vec Statement)) (other : Option (List StatementTree))
+      (found : List (List RangeOf × Actions)) (last : Option (List Action)) {m n o q : Option Breach}
+      → inside ≡ in_switch around → IsWhole look p e m n v → AreCases look inside cs n o found
+      → IsOther look inside other o q last
+      → IsAction look around (written.switch_on p e (written.cases_of (map case_tree cs) other)) m q
+      (values.switch_on v (values.cases_of found last))
+  switch_walked around inside p e v cs other found last {n = n} {q = q} is w x y =
+      let tree = written.cases_of (map case_tree cs) other in
+      two values.switch_on w
+      (subst (λ (a : Around). IsWalked (cases_breaches look a tree) n q (values.cases_of found last)
+      (resolve_cases look tree)) is (cases_walked inside cs other found last x y))

@@ -1,5 +1,6 @@
 pub mod Samples
 mod ArraySamples
+mod LoopSamples
 pub mod Noted
 pub mod Keys
 pub mod Each

@@ -1,7 +1,7 @@
 -- What operands and chains need.
 use Rattle.std.proofs.Common.{◌≡◌, ℕ, zero, suc, ◌+◌, ◌-◌, ◌<◌, ◌≤◌, max, Bool, true, false, nat_le, nat_lt, not}
-use Rattle.std.proofs.Common.{List, [], ◌∷◌, ◌++◌, length, drop, slice_index_or, Option, Some, refl, sym, ap, ◌∙◌}
-use Rattle.std.proofs.Common.{arith}
+use Rattle.std.proofs.Common.{◌&&◌, List, [], ◌∷◌, ◌++◌, length, drop, slice_index_or, Option, Some, None, refl, sym, ap}
+use Rattle.std.proofs.Common.{◌∙◌, arith}
 use Rattle.std.specs.Prelude.{map}
 use Rattle.std.proofs.lemmas.Bool.Decides.{nat_tests}
 use Rattle.expressions.specs.declared.tree.Binary.{Binary}
@@ -9,7 +9,8 @@ use Rattle.expressions.specs.declared.tree.Expression.{Expression}
 use Rattle.expressions.specs.Tree as trees
 use Rattle.expressions.specs.Tree.{NameTree, ExpressionTree, expression_tree, trees_of, chained, link}
 use Rattle.checker.specs.Names.{name_of}
-use Rattle.checker.specs.Temporaries.{need, needs, operands, greatest, left_needs}
+use Rattle.checker.specs.Temporaries.{need, needs, operands, greatest, left_needs, part_fits, room_behind}
+use Rattle.checker.specs.Statements.{heading_need}
 
 operands_one : (b : ℕ) (ns : List ℕ) → 1 ≤ operands b ns
 operands_one b [] = omega arith
@@ -178,3 +179,17 @@ pub named_fits : (r : Bool) (left : Option NameTree) (n : NameTree) (own b room 
     → r ≡ nat_le b room → r ≡ nat_le (operands 0 (left_needs left own ++ b ∷ [])) room
 named_fits r left n own b room is one h = let e : max (0 + b) 1 ≡ b = omega arith in
     rw is (h ∙ ap (λ m. nat_le m room) (sym e))
+
+-- the parts of a `for` that are there are operands of one form
+
+pub parts_fit : (a b c : Option ExpressionTree)
+    → (part_fits a 48 && (part_fits b (room_behind a 48) && part_fits c (room_behind b (room_behind a 48))))
+    ≡ nat_le (heading_need a b c) 48
+parts_fit None None None = refl
+parts_fit None None (Some z) = grind (arith, nat_tests)
+parts_fit None (Some y) None = grind (arith, nat_tests)
+parts_fit None (Some y) (Some z) = grind (arith, nat_tests)
+parts_fit (Some x) None None = grind (arith, nat_tests)
+parts_fit (Some x) None (Some z) = grind (arith, nat_tests)
+parts_fit (Some x) (Some y) None = grind (arith, nat_tests)
+parts_fit (Some x) (Some y) (Some z) = grind (arith, nat_tests)

@@ -4,16 +4,18 @@ use Rattle.std.specs.Prelude.{map}
 use Rattle.std.specs.List.{All}
 use Rattle.std.proofs.lemmas.List.Elements.{All-nil, All-cons, All-head, All-tail}
 use Rattle.statements.specs.Tree.{PrintItemTree, text_item, character_item, number_item, StatementTree}
-use Rattle.statements.specs.Tree.{StatementTrees, empty, block, text_alone, print, print_return, new_line, if_then}
-use Rattle.statements.specs.Tree.{if_else, while_do, return_alone, return_value, return_true, return_false, quit}
-use Rattle.statements.specs.Tree.{effect, stop, next}
+use Rattle.statements.specs.Tree.{StatementTrees, CaseTrees, empty, block, text_alone, print, print_return, new_line}
+use Rattle.statements.specs.Tree.{if_then, if_else, while_do, do_until, for_loop, switch_on, break_at, continue_at}
+use Rattle.statements.specs.Tree.{return_alone, return_value, return_true, return_false, quit, effect, stop, next}
+use Rattle.statements.specs.Tree.{no_case, default_case, case}
 use Rattle.syntax.specs.Tree.{DirectiveTree, global, constant, array, routine}
 use Rattle.syntax.specs.Printable as source
 use Rattle.checker.specs.declared.binding.Binding.{Binding}
 use Rattle.checker.specs.Names.{Table, table_of, look_up}
-use Rattle.checker.specs.Statements.{resolve_item, resolve_statement, resolve_statements}
+use Rattle.checker.specs.Statements.{resolve_item, resolve_statement, resolve_statements, resolve_cases}
 use Rattle.checker.specs.Programs.{resolve_routine, routines_of, resolve_program}
-use Rattle.checker.specs.Printable.{IsPrintableItem, IsPrintableAction, ArePrintableActions, IsPrintableRoutine}
+use Rattle.checker.specs.Printable.{IsPrintableItem, IsPrintableAction, ArePrintableActions, ArePrintableCases}
+use Rattle.checker.specs.Printable.{IsPrintableRoutine}
 use Rattle.checker.specs.Laws.{PrintablePrograms}
 
 module _ (look : List ℕ → Option Binding) where
@@ -42,6 +44,11 @@ module _ (look : List ℕ → Option Binding) where
     statement_prints (if_then p c x) h = statement_prints x h
     statement_prints (if_else p c x y) h = (statement_prints x h.0, statement_prints y h.1)
     statement_prints (while_do p c x) h = statement_prints x h
+    statement_prints (do_until p x c) h = statement_prints x h
+    statement_prints (for_loop p a b c x) h = statement_prints x h
+    statement_prints (switch_on p e cs) h = cases_print cs h
+    statement_prints (break_at p) h = tt
+    statement_prints (continue_at p) h = tt
     statement_prints return_alone h = tt
     statement_prints (return_value p e) h = tt
     statement_prints return_true h = tt
@@ -53,6 +60,11 @@ module _ (look : List ℕ → Option Binding) where
         → ArePrintableActions (resolve_statements look xs)
     statements_print stop h = tt
     statements_print (next x xs) h = (statement_prints x h.0, statements_print xs h.1)
+
+    cases_print : (cs : CaseTrees) → source.ArePrintableCases cs → ArePrintableCases (resolve_cases look cs)
+    cases_print no_case h = tt
+    cases_print (default_case xs) h = statements_print xs h
+    cases_print (case gs xs cs) h = (statements_print xs h.0, cases_print cs h.1)
 
 routines_print : (whole : Table) (ds : List DirectiveTree) → All source.IsPrintableDirective ds
     → All IsPrintableRoutine (routines_of whole ds)

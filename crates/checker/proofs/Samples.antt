@@ -140,7 +140,7 @@ counts_in_short = refl
 -- Constant c = 5; [ F a b; return a - b; ]; [ Main; print F(c, 2), " ", F(1), " ", ~~3, " ", ~0, "^"; ];
 abbrev missing : ProgramTree
 missing = program
-    (d.constant (the 0 (codes "c")) (d.number_value 5)
+    (d.constant (the 0 (codes "c")) (s.number_value 5)
     ∷ routine (codes "F") (the 1 (codes "a") ∷ the 2 (codes "b") ∷ [])
     (s.return_value (p 3) (binary op.Subtract (named (the 3 (codes "a"))) (named (the 4 (codes "b")))) ∷ [])
     ∷ routine (codes "Main") [] (s.print
@@ -199,15 +199,15 @@ unknown = refl
 -- Constant a = b; Constant b = 1; a later constant is unknown to an earlier one
 later_constant : program_breaches
     (program
-    (d.constant (the 0 (codes "a")) (d.named_value (the 1 (codes "b")))
-    ∷ d.constant (the 2 (codes "b")) (d.number_value 1) ∷ routine (codes "Main") [] [] ∷ [])) ≡ at (p 1) 20
+    (d.constant (the 0 (codes "a")) (s.named_value (the 1 (codes "b")))
+    ∷ d.constant (the 2 (codes "b")) (s.number_value 1) ∷ routine (codes "Main") [] [] ∷ [])) ≡ at (p 1) 20
 unfolding program_breaches table_of key_of look_up
 later_constant = refl
 
 -- Constant a = g; Global g; a global is no constant
 no_constant : program_breaches
     (program
-    (d.constant (the 0 (codes "a")) (d.named_value (the 1 (codes "g"))) ∷ d.global (the 2 (codes "g")) None
+    (d.constant (the 0 (codes "a")) (s.named_value (the 1 (codes "g"))) ∷ d.global (the 2 (codes "g")) None
     ∷ routine (codes "Main") [] [] ∷ [])) ≡ at (p 1) 23
 unfolding program_breaches table_of key_of look_up
 no_constant = refl

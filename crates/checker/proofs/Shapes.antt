@@ -1,5 +1,5 @@
 -- Which tree an expression or a statement of the code stands for, by its variant.
-use Rattle.std.proofs.Common.{◌≡◌, ℕ, List, Bor, sym, ap, ◌∙◌}
+use Rattle.std.proofs.Common.{◌≡◌, ℕ, List, Option, Bor, sym, ap, ◌∙◌}
 use Rattle.std.specs.Prelude.{map}
 use Rattle.std.specs.Global.{Vec, Box}
 use Rattle.lexer.specs.declared.token.Position.{Position}
@@ -15,12 +15,15 @@ use Rattle.expressions.specs.declared.tree.Expression.TheVariants as from
 use Rattle.expressions.specs.declared.tree.Expression.TheFolds.{fold-roll-Expression}
 use Rattle.expressions.specs.Tree as trees
 use Rattle.expressions.specs.Tree.{ExpressionTree, expression_tree, name_tree, trees_of, link, layer}
+use Rattle.statements.specs.declared.tree.Heading.{Heading}
 use Rattle.statements.specs.declared.tree.PrintItem.{PrintItem}
+use Rattle.statements.specs.declared.tree.Range.{Range}
 use Rattle.statements.specs.declared.tree.Statement.{Statement}
 use Rattle.statements.specs.declared.tree.Statement.TheVariants as said
 use Rattle.statements.specs.declared.tree.Statement.TheFolds.{fold-roll-Statement}
 use Rattle.statements.specs.Tree as written
-use Rattle.statements.specs.Tree.{StatementTree, statement_tree, item_tree}
+use Rattle.statements.specs.Tree.{StatementTree, statement_tree, item_tree, heading_tree, case_tree, other_tree}
+use Rattle.statements.proofs.Shapes.{is_switch}
 
 -- Expressions
 
@@ -130,6 +133,32 @@ is_if_else_statement s p c x y same = ap statement_tree (same ∙ sym (said.roll
 pub is_while_statement : (s : Statement) (p : Position) (c : Box Expression) (x : Box Statement)
     → s ≡ said.While p c x → statement_tree s ≡ written.while_do p (expression_tree c.value) (statement_tree x.value)
 is_while_statement s p c x same = ap statement_tree (same ∙ sym (said.rolls-While p c x))
+    ∙ fold-roll-Statement StatementTree written.layer _
+
+pub is_do_statement : (s : Statement) (p : Position) (x : Box Statement) (c : Box Expression) → s ≡ said.Do p x c
+    → statement_tree s ≡ written.do_until p (statement_tree x.value) (expression_tree c.value)
+is_do_statement s p x c same = ap statement_tree (same ∙ sym (said.rolls-Do p x c))
+    ∙ fold-roll-Statement StatementTree written.layer _
+
+pub is_for_statement : (s : Statement) (p : Position) (h : Heading) (x : Box Statement) → s ≡ said.For p h x
+    → statement_tree s
+    ≡ written.for_loop p (heading_tree h).before (heading_tree h).test (heading_tree h).behind (statement_tree x.value)
+is_for_statement s p h x same = ap statement_tree (same ∙ sym (said.rolls-For p h x))
+    ∙ fold-roll-Statement StatementTree written.layer _
+
+pub is_switch_statement : (s : Statement) (p : Position) (e : Box Expression)
+    (cases : Vec (Vec Range × Vec Statement)) (other : Option (Vec Statement)) → s ≡ said.Switch p e cases other
+    → statement_tree s
+    ≡ written.switch_on p (expression_tree e.value) (written.cases_of (map case_tree cases.items) (other_tree other))
+is_switch_statement s p e cases other same = ap statement_tree same ∙ is_switch p e cases other
+
+pub is_break_statement : (s : Statement) (p : Position) → s ≡ said.Break p → statement_tree s ≡ written.break_at p
+is_break_statement s p same = ap statement_tree (same ∙ sym (said.rolls-Break p))
+    ∙ fold-roll-Statement StatementTree written.layer _
+
+pub is_continue_statement : (s : Statement) (p : Position) → s ≡ said.Continue p
+    → statement_tree s ≡ written.continue_at p
+is_continue_statement s p same = ap statement_tree (same ∙ sym (said.rolls-Continue p))
     ∙ fold-roll-Statement StatementTree written.layer _
 
 pub is_return_statement : (s : Statement) → s ≡ said.Return → statement_tree s ≡ written.return_alone

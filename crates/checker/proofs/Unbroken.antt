@@ -3,30 +3,33 @@ use Rattle.std.proofs.Common.{◌≡◌, ℕ, ◌+◌, ◌<◌, ◌≤◌, nat_l
 use Rattle.std.proofs.Common.{Some, None, cond, refl, sym, subst, arith}
 use Rattle.std.specs.Prelude.{map}
 use Rattle.std.specs.List.{flat_map, All}
+use Rattle.std.specs.Option.{option_map}
 use Rattle.std.proofs.lemmas.Bool.Decides.{nat_tests}
 use Rattle.std.proofs.lemmas.List.Elements.{All-nil, All-cons}
 use Rattle.lexer.specs.declared.token.Position.{Position}
 use Rattle.expressions.specs.Tree as trees
 use Rattle.expressions.specs.Tree.{NameTree, ExpressionTree, ExpressionTrees}
 use Rattle.statements.specs.Tree as written
-use Rattle.statements.specs.Tree.{PrintItemTree, StatementTree, StatementTrees}
+use Rattle.statements.specs.Tree.{PrintItemTree, StatementTree, StatementTrees, CaseTrees}
 use Rattle.checker.specs.declared.around.Around.{Around}
 use Rattle.checker.specs.declared.binding.Binding.{Binding}
 use Rattle.checker.specs.declared.binding.Binding.TheVariants as bindings
 use Rattle.checker.specs.declared.breach.Breach.{Breach}
 use Rattle.checker.specs.Breaches.{at}
 use Rattle.checker.specs.Names.{name_of, is_entry}
-use Rattle.checker.specs.Temporaries.{need}
+use Rattle.checker.specs.Temporaries.{need, operands}
 use Rattle.checker.specs.Resolved.{Value, ProgramOf}
 use Rattle.checker.specs.Expressions.{value_breaches, call_breaches, target_breaches, count, value_of_binding}
 use Rattle.checker.specs.Expressions.{variable_of_binding, routine_of_binding, left_breaches, breaches, all_breaches}
 use Rattle.checker.specs.Expressions.{target, resolve, resolve_all, array_name_breaches, array_of_binding, assigned}
 use Rattle.checker.specs.Expressions.{assigned_breaches}
-use Rattle.checker.specs.Statements.{in_loop, whole_breaches, item_breaches, statement_breaches}
-use Rattle.checker.specs.Statements.{statements_breaches, resolve_item, resolve_statement, resolve_statements}
+use Rattle.checker.specs.Statements.{in_loop, in_switch, outside_breaches, part_needs, heading_need, whole_breaches, part_breaches}
+use Rattle.checker.specs.Statements.{heading_breaches, range_breaches, item_breaches, statement_breaches}
+use Rattle.checker.specs.Statements.{statements_breaches, cases_breaches, resolve_item, resolve_statement}
+use Rattle.checker.specs.Statements.{resolve_statements, resolve_cases}
 use Rattle.checker.specs.Meaning.{routine_at}
-use Rattle.checker.specs.Accepted.{IsVariable, IsValue, AreValues, IsWhole, IsPrinted}
-use Rattle.checker.specs.Accepted.{IsAction, AreActions}
+use Rattle.checker.specs.Accepted.{IsVariable, IsValue, AreValues, IsWhole, IsPart, IsPrinted}
+use Rattle.checker.specs.Accepted.{IsAction, AreActions, AreCases, StandsIn, AllStandIn, CasesStandIn}
 use Rattle.checker.proofs.Forms.{named_resolves}
 use Rattle.checker.proofs.NeedsBelow.{count_same, need_below}
 
@@ -227,6 +230,51 @@ module _ (p : ProgramOf) (locals : ℕ) where
         let below = need_below look e in
         (value_within e (right_empty large (breaches look e) h), omega (arith, few, below))
 
+    -- the parts of a `for`
+
+    abbrev IsSmall : Option ExpressionTree → ℕ → Type 0
+    IsSmall None n = Unit {0}
+    IsSmall (Some e) n = need e ≤ n
+
+    part_small : (before : ℕ) (e : Option ExpressionTree) (ns : List ℕ) (n : ℕ)
+        → operands before (part_needs e ++ ns) ≤ n → IsSmall e n
+    part_small before None ns n h = tt
+    part_small before (Some e) ns n h = omega (arith, h)
+
+    part_alone : (before : ℕ) (e : Option ExpressionTree) (n : ℕ) → operands before (part_needs e) ≤ n → IsSmall e n
+    part_alone before None n h = tt
+    part_alone before (Some e) n h = omega (arith, h)
+
+    others_small : (before : ℕ) (e : Option ExpressionTree) (ns : List ℕ) (n : ℕ)
+        → operands before (part_needs e ++ ns) ≤ n → (k : ℕ) × (operands k ns ≤ n)
+    others_small before None ns n h = (before, h)
+    others_small before (Some e) ns n h = (before + 1, omega (arith, h))
+
+    part_within : (e : Option ExpressionTree) → part_breaches look e ≡ [] → IsSmall e 48
+        → IsPart p locals (option_map (resolve look) e)
+    part_within None h small = tt
+    part_within (Some e) h small = let below = need_below look e in (value_within e h, omega (arith, small, below))
+
+    heading_within : (q : Position) (a b c : Option ExpressionTree) → heading_breaches look q a b c ≡ []
+        → IsPart p locals (option_map (resolve look) a) × IsPart p locals (option_map (resolve look) b)
+        × IsPart p locals (option_map (resolve look) c)
+    heading_within q a b c h =
+        let large = cond (nat_lt 48 (heading_need a b c)) (at q 29) [] in
+        let first = part_breaches look a in
+        let second = part_breaches look b in
+        let third = part_breaches look c in
+        let all = at_most 48 (heading_need a b c)
+        (kept (nat_lt 48 (heading_need a b c)) q 29 (left_empty large (first ++ (second ++ third)) h)) in
+        let parts = right_empty large (first ++ (second ++ third)) h in
+        let others = right_empty first (second ++ third) parts in
+        let behind = others_small 0 a (part_needs b ++ part_needs c) 48 all in
+        let last = others_small behind.0 b (part_needs c) 48 behind.1 in (
+          part_within a (left_empty first (second ++ third) parts)
+              (part_small 0 a (part_needs b ++ part_needs c) 48 all),
+          part_within b (left_empty second third others) (part_small behind.0 b (part_needs c) 48 behind.1),
+          part_within c (right_empty second third others) (part_alone last.0 c 48 last.1),
+        )
+
     -- Statements
 
     item_within : (i : PrintItemTree) → item_breaches look i ≡ [] → IsPrinted p locals (resolve_item look i)
@@ -273,6 +321,26 @@ module _ (p : ProgramOf) (locals : ℕ) where
         statement_within in_loop x
             (right_empty (whole_breaches look q c) (statement_breaches look in_loop x) h),
       )
+      statement_within around (written.do_until q x c) h = (
+        statement_within in_loop x (left_empty (statement_breaches look in_loop x) (whole_breaches look q c) h),
+        whole_within q c (right_empty (statement_breaches look in_loop x) (whole_breaches look q c) h),
+      )
+      statement_within around (written.for_loop q a b c x) h =
+          let parts = heading_within q a b c
+          (left_empty (heading_breaches look q a b c) (statement_breaches look in_loop x) h) in (
+            parts.0,
+            parts.1,
+            parts.2,
+            statement_within in_loop x
+                (right_empty (heading_breaches look q a b c) (statement_breaches look in_loop x) h),
+          )
+      statement_within around (written.switch_on q e cs) h = (
+        whole_within q e (left_empty (whole_breaches look q e) (cases_breaches look (in_switch around) cs) h),
+        cases_within (in_switch around) cs
+            (right_empty (whole_breaches look q e) (cases_breaches look (in_switch around) cs) h),
+      )
+      statement_within around (written.break_at q) h = tt
+      statement_within around (written.continue_at q) h = tt
       statement_within around written.return_alone h = (tt, omega arith)
       statement_within around (written.return_value q e) h = whole_within q e h
       statement_within around written.return_true h = (tt, omega arith)
@@ -289,3 +357,78 @@ module _ (p : ProgramOf) (locals : ℕ) where
         statements_within around xs (right_empty (statement_breaches look around x)
             (statements_breaches look around xs) h),
       )
+
+      pub cases_within : (around : Around) (cs : CaseTrees) → cases_breaches look around cs ≡ []
+          → AreCases p locals (resolve_cases look cs)
+      cases_within around written.no_case h = tt
+      cases_within around (written.default_case xs) h = statements_within around xs h
+      cases_within around (written.case gs xs cs) h =
+          let ranges = flat_map (range_breaches look) gs in
+          let body = statements_breaches look around xs in
+          let rest = cases_breaches look around cs in
+          let both = right_empty ranges (body ++ rest) h in
+          (statements_within around xs (left_empty body rest both), cases_within around cs (right_empty body rest both))
+
+-- Where `break` and `continue` stand
+
+allowed : (stands : Bool) (q : Position) → outside_breaches stands q ≡ [] → stands ≡ true
+allowed true q h = refl
+allowed false q h = absurd cc
+
+module _ (look : List ℕ → Option Binding) where
+  mutual
+    statement_stands : (around : Around) (x : StatementTree) → statement_breaches look around x ≡ []
+        → StandsIn around (resolve_statement look x)
+    statement_stands around written.empty h = tt
+    statement_stands around (written.block xs) h = statements_stand around xs h
+    statement_stands around (written.text_alone s) h = tt
+    statement_stands around (written.print is) h = tt
+    statement_stands around (written.print_return is) h = tt
+    statement_stands around written.new_line h = tt
+    statement_stands around (written.if_then q c x) h = statement_stands around x
+        (right_empty (whole_breaches look q c) (statement_breaches look around x) h)
+    statement_stands around (written.if_else q c x y) h =
+        let both = right_empty (whole_breaches look q c)
+        (statement_breaches look around x ++ statement_breaches look around y) h in (
+          statement_stands around x (left_empty (statement_breaches look around x)
+              (statement_breaches look around y) both),
+          statement_stands around y (right_empty (statement_breaches look around x)
+              (statement_breaches look around y) both),
+        )
+    statement_stands around (written.while_do q c x) h = statement_stands in_loop x
+        (right_empty (whole_breaches look q c) (statement_breaches look in_loop x) h)
+    statement_stands around (written.do_until q x c) h = statement_stands in_loop x
+        (left_empty (statement_breaches look in_loop x) (whole_breaches look q c) h)
+    statement_stands around (written.for_loop q a b c x) h = statement_stands in_loop x
+        (right_empty (heading_breaches look q a b c) (statement_breaches look in_loop x) h)
+    statement_stands around (written.switch_on q e cs) h = cases_stand (in_switch around) cs
+        (right_empty (whole_breaches look q e) (cases_breaches look (in_switch around) cs) h)
+    statement_stands around (written.break_at q) h = allowed around.can_break q h
+    statement_stands around (written.continue_at q) h = allowed around.can_continue q h
+    statement_stands around written.return_alone h = tt
+    statement_stands around (written.return_value q e) h = tt
+    statement_stands around written.return_true h = tt
+    statement_stands around written.return_false h = tt
+    statement_stands around written.quit h = tt
+    statement_stands around (written.effect q e) h = tt
+
+    pub statements_stand : (around : Around) (xs : StatementTrees) → statements_breaches look around xs ≡ []
+        → AllStandIn around (resolve_statements look xs)
+    statements_stand around written.stop h = tt
+    statements_stand around (written.next x xs) h = (
+      statement_stands around x (left_empty (statement_breaches look around x)
+          (statements_breaches look around xs) h),
+      statements_stand around xs (right_empty (statement_breaches look around x)
+          (statements_breaches look around xs) h),
+    )
+
+    cases_stand : (around : Around) (cs : CaseTrees) → cases_breaches look around cs ≡ []
+        → CasesStandIn around (resolve_cases look cs)
+    cases_stand around written.no_case h = tt
+    cases_stand around (written.default_case xs) h = statements_stand around xs h
+    cases_stand around (written.case gs xs cs) h =
+        let ranges = flat_map (range_breaches look) gs in
+        let body = statements_breaches look around xs in
+        let rest = cases_breaches look around cs in
+        let both = right_empty ranges (body ++ rest) h in
+        (statements_stand around xs (left_empty body rest both), cases_stand around cs (right_empty body rest both))

@@ -1,7 +1,8 @@
 -- Walks, part by part, and what the code's trees stand for.
-use Rattle.std.proofs.Common.{◌≡◌, ℕ, List, [], ◌++◌, Option, Bor, refl, sym, ap, ◌∙◌}
+use Rattle.std.proofs.Common.{◌≡◌, ℕ, List, [], ◌++◌, Option, Some, None, Bor, refl, sym, ap, ◌∙◌}
 use Rattle.std.specs.Prelude.{map, Result, Ok, Err, IfOk}
 use Rattle.std.specs.Global.{Vec, Box}
+use Rattle.std.specs.Option.{option_map}
 use Rattle.expressions.specs.declared.tree.Binary.{Binary}
 use Rattle.expressions.specs.declared.tree.Comparison.{Comparison}
 use Rattle.expressions.specs.declared.tree.Equality.{Equality}
@@ -9,6 +10,7 @@ use Rattle.expressions.specs.declared.tree.Prefix.{Prefix}
 use Rattle.expressions.specs.declared.tree.Step.{Step}
 use Rattle.expressions.specs.declared.tree.Width.{Width}
 use Rattle.checker.specs.declared.breach.Breach.{Breach}
+use Rattle.checker.specs.declared.resolved.Span.{Span}
 use Rattle.checker.specs.declared.resolved.Variable.{Variable}
 use Rattle.checker.specs.declared.resolved.Value as code_value
 use Rattle.checker.specs.declared.resolved.Value.TheVariants as made
@@ -19,13 +21,20 @@ use Rattle.checker.specs.declared.resolved.Action.TheVariants as done
 use Rattle.checker.specs.declared.resolved.Action.TheFolds.{fold-roll-Action}
 use Rattle.checker.specs.Noted.{noted}
 use Rattle.checker.specs.Resolved as values
-use Rattle.checker.specs.Resolved.{Value, value_of, value_layer, printed_of, Action, action_of, action_layer}
+use Rattle.checker.specs.Resolved.{Value, value_of, value_layer, printed_of, Action, action_of, action_layer, case_of}
+use Rattle.checker.specs.Resolved.{other_of}
 use Rattle.checker.specs.Walk.{IsWalked, value_link}
 use Rattle.checker.proofs.Noted.{noted_none, noted_two}
+use Rattle.statements.proofs.Shapes.{mapped_twice}
 
 -- a part that breaks no rule and notes none
 pub leaf : {A : Type 0} (m : Option Breach) (x : A) → IsWalked [] m m x x
 leaf m x = record { value = refl; breaches = sym (noted_none m) }
+
+-- a part, by what it gives and what it notes
+pub walked : {A : Type 0} {bs : List Breach} {m n : Option Breach} {x y : A} → x ≡ y → n ≡ noted m bs
+    → IsWalked bs m n x y
+walked v b = record { value = v; breaches = b }
 
 -- one part
 pub one : {A B : Type 0} (f : A → B) {bs : List Breach} {m n : Option Breach} {x y : A} → IsWalked bs m n x y
@@ -39,6 +48,12 @@ two f {bs = bs} {cs = cs} {m = m} {n = n} {o = o} {y = y} {u = u} w z = record {
   value = ap (λ a. f a u) w.value ∙ ap (λ b. f y b) z.value;
   breaches = noted_two m n o bs cs w.breaches z.breaches;
 }
+
+-- one part and then two others
+pub three : {A B C D : Type 0} (f : A → B → C → D) {bs cs ds : List Breach} {m n o q : Option Breach} {x y : A}
+    {u v : B} {s t : C} → IsWalked bs m n x y → IsWalked cs n o u v → IsWalked ds o q s t
+    → IsWalked (bs ++ (cs ++ ds)) m q (f x u s) (f y v t)
+three {B = B} {C = C} f a b c = two (λ x (us : B × C). f x us.0 us.1) a (two (λ (u : B) (s : C). (u, s)) b c)
 
 -- a part before a result
 pub before : {A B E : Type 0} (f : A → B) (r : Result A E) (bs cs : List Breach) (m n o : Option Breach) (y : B)
@@ -115,6 +130,33 @@ made_if_else v a b = ap action_of (sym (done.rolls-IfElse v a b)) ∙ fold-roll-
 pub made_while_do : (v : code_value.Value) (a : Box code_action.Action)
     → action_of (done.While v a) ≡ values.while_do (value_of v) (action_of a.value)
 made_while_do v a = ap action_of (sym (done.rolls-While v a)) ∙ fold-roll-Action Action action_layer _
+
+pub made_do : (a : Box code_action.Action) (v : code_value.Value)
+    → action_of (done.Do a v) ≡ values.do_until (action_of a.value) (value_of v)
+made_do a v = ap action_of (sym (done.rolls-Do a v)) ∙ fold-roll-Action Action action_layer _
+
+pub made_for : (x y z : Option code_value.Value) (a : Box code_action.Action) → action_of (done.For x y z a)
+    ≡ values.for_loop (option_map value_of x) (option_map value_of y) (option_map value_of z) (action_of a.value)
+made_for x y z a = ap action_of (sym (done.rolls-For x y z a)) ∙ fold-roll-Action Action action_layer _
+
+pub made_switch : (v : code_value.Value) (cases : Vec (Vec Span × Vec code_action.Action))
+    (other : Option (Vec code_action.Action)) → action_of (done.Switch v cases other)
+    ≡ values.switch_on (value_of v) (values.cases_of (map case_of cases.items) (other_of other))
+unfolding case_of
+made_switch v cases None = ap action_of (sym (done.rolls-Switch v cases None))
+    ∙ fold-roll-Action Action action_layer _
+    ∙ ap (λ cs. values.switch_on (value_of v) (values.cases_of cs None))
+    (mapped_twice _ _ case_of (λ c. refl) cases.items)
+made_switch v cases (Some xs) = ap action_of (sym (done.rolls-Switch v cases (Some xs)))
+    ∙ fold-roll-Action Action action_layer _
+    ∙ ap (λ cs. values.switch_on (value_of v) (values.cases_of cs (Some (map action_of xs.items))))
+    (mapped_twice _ _ case_of (λ c. refl) cases.items)
+
+pub made_break : action_of done.Break ≡ values.break_out
+made_break = ap action_of (sym done.rolls-Break) ∙ fold-roll-Action Action action_layer _
+
+pub made_continue : action_of done.Continue ≡ values.continue_on
+made_continue = ap action_of (sym done.rolls-Continue) ∙ fold-roll-Action Action action_layer _
 
 pub made_return_value : (v : code_value.Value) → action_of (done.ReturnValue v) ≡ values.return_value (value_of v)
 made_return_value v = ap action_of (sym (done.rolls-ReturnValue v)) ∙ fold-roll-Action Action action_layer _

@@ -7,7 +7,6 @@ use Rattle.std.specs.List.{flat_map}
 use Rattle.lexer.specs.declared.token.Position.{Position}
 use Rattle.expressions.specs.declared.tree.Width.{Width}
 use Rattle.expressions.specs.declared.tree.Width.TheVariants as widths
-use Rattle.expressions.specs.Tree.{NameTree}
 use Rattle.syntax.specs.declared.tree.ArrayKind.{ArrayKind}
 use Rattle.syntax.specs.declared.tree.ArrayKind.TheVariants as kinds
 use Rattle.syntax.specs.Tree.{ValueTree, ArrayTree}

@@ -1,14 +1,15 @@
 -- Values that are known before a story runs: the rules that they can break.
 use Rattle.std.specs.Prelude.{ℕ, List, [], Option, Some, None}
 use Rattle.lexer.specs.declared.token.Position.{Position}
-use Rattle.syntax.specs.Tree.{LiteralTree, number_value, named_value}
+use Rattle.statements.specs.Tree.{LiteralTree, number_value, named_value}
 use Rattle.checker.specs.declared.binding.Binding.{Binding}
 use Rattle.checker.specs.declared.binding.Binding.TheVariants as bindings
 use Rattle.checker.specs.declared.breach.Breach.{Breach}
 use Rattle.checker.specs.Breaches.{at}
 use Rattle.checker.specs.Names.{Table, key_of, in_table, literal_value}
 
--- a name in what a global or an entry of an array begins with, by what it stands for in the file: it is a constant
+-- a name in what a global or an entry of an array begins with, or in what begins a case, by what it stands for there: it
+-- is a constant
 abbrev pub constant_breaches : Position → Option Binding → List Breach
 constant_breaches p None = at p 20
 constant_breaches p (Some (bindings.Constant n)) = []

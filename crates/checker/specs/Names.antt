@@ -5,7 +5,8 @@ use Rattle.std.specs.Prelude.{[], ◌∷◌, ◌++◌, codes, length, Option, So
 use Rattle.std.specs.Cmp.Lexicographic.{pointwise}
 use Rattle.expressions.specs.Tree as trees
 use Rattle.expressions.specs.Tree.{NameTree, ExpressionTree}
-use Rattle.syntax.specs.Tree.{LiteralTree, number_value, named_value, DirectiveTree, global, constant, array, routine}
+use Rattle.statements.specs.Tree.{LiteralTree, number_value, named_value}
+use Rattle.syntax.specs.Tree.{DirectiveTree, global, constant, array, routine}
 use Rattle.checker.specs.declared.binding.Binding.{Binding}
 use Rattle.checker.specs.declared.binding.Binding.TheVariants as bindings
 use Rattle.checker.specs.declared.counts.Counts.{Counts}

@@ -3,7 +3,8 @@ use Rattle.std.specs.Prelude.{◌≡◌, ℕ, nat_le, map, Bool, true, false, if
 use Rattle.std.specs.Prelude.{length, Option, Some, None, is_some}
 use Rattle.lexer.specs.declared.token.Position.{Position}
 use Rattle.expressions.specs.Tree.{NameTree}
-use Rattle.syntax.specs.Tree.{LiteralTree, RoutineTree, DirectiveTree, global, constant, array, routine, ProgramTree}
+use Rattle.statements.specs.Tree.{LiteralTree}
+use Rattle.syntax.specs.Tree.{RoutineTree, DirectiveTree, global, constant, array, routine, ProgramTree}
 use Rattle.checker.specs.declared.binding.Binding.{Binding}
 use Rattle.checker.specs.declared.binding.Binding.TheVariants as bindings
 use Rattle.checker.specs.declared.breach.Breach.{Breach}

@@ -1,18 +1,23 @@
 -- The rules that a statement can break, and what it resolves to.
-use Rattle.std.specs.Prelude.{ℕ, nat_lt, true, false, if◌then◌else◌, List, [], ◌++◌, map, Option}
+use Rattle.std.specs.Prelude.{ℕ, nat_lt, Bool, true, false, if◌then◌else◌, List, [], ◌∷◌, ◌++◌, map, Option, Some}
+use Rattle.std.specs.Prelude.{None}
 use Rattle.std.specs.List.{flat_map}
+use Rattle.std.specs.Option.{option_map}
 use Rattle.lexer.specs.declared.token.Position.{Position}
 use Rattle.expressions.specs.Tree.{ExpressionTree}
 use Rattle.statements.specs.Tree as trees
-use Rattle.statements.specs.Tree.{PrintItemTree, StatementTree, StatementTrees}
+use Rattle.statements.specs.Tree.{LiteralTree, RangeTree, PrintItemTree, StatementTree, StatementTrees, CaseTrees}
 use Rattle.checker.specs.declared.around.Around.{Around}
 use Rattle.checker.specs.declared.binding.Binding.{Binding}
 use Rattle.checker.specs.declared.breach.Breach.{Breach}
 use Rattle.checker.specs.Breaches.{at}
-use Rattle.checker.specs.Temporaries.{need}
-use Rattle.checker.specs.Resolved.{Printed, text, character_of, number_of, Action, Actions, empty, block, text_alone}
-use Rattle.checker.specs.Resolved.{print, print_return, new_line, if_then, if_else, while_do, return_value, quit}
-use Rattle.checker.specs.Resolved.{effect, stop, next, number}
+use Rattle.checker.specs.Literals.{constant_breaches}
+use Rattle.checker.specs.Names.{constant_number, or_zero}
+use Rattle.checker.specs.Temporaries.{need, operands}
+use Rattle.checker.specs.Resolved.{RangeOf, one, between, Printed, text, character_of, number_of, Action, Actions, CasesOf, empty}
+use Rattle.checker.specs.Resolved.{block, text_alone, print, print_return, new_line, if_then, if_else, while_do}
+use Rattle.checker.specs.Resolved.{do_until, for_loop, switch_on, break_out, continue_on, return_value, quit, effect}
+use Rattle.checker.specs.Resolved.{stop, next, no_case, default_case, case, number}
 use Rattle.checker.specs.Expressions.{breaches, resolve}
 
 -- `break` may stand in a loop or a `switch`, `continue` in a loop; in the body of a routine neither may
@@ -23,11 +28,49 @@ outside = record { can_break = false; can_continue = false }
 abbrev pub in_loop : Around
 in_loop = record { can_break = true; can_continue = true }
 
+-- a `switch` takes `break`, and leaves `continue` to the loop around it
+abbrev pub in_switch : Around → Around
+in_switch around = record around { can_break = true }
+
+-- what the parts of a `for` need, as operands of one form: those that are there
+abbrev pub part_needs : Option ExpressionTree → List ℕ
+part_needs None = []
+part_needs (Some e) = need e ∷ []
+
+abbrev pub heading_need : Option ExpressionTree → Option ExpressionTree → Option ExpressionTree → ℕ
+heading_need a b c = operands 0 (part_needs a ++ (part_needs b ++ part_needs c))
+
+-- `break` or `continue` where it may not stand
+abbrev pub outside_breaches : Bool → Position → List Breach
+outside_breaches stands p = if stands then [] else at p 27
+
 -- `look` tells what a name stands for
 module _ (look : List ℕ → Option Binding) where
   -- an expression of a statement or an item that begins at p: E29 where it needs more than 48 temporaries
   abbrev pub whole_breaches : Position → ExpressionTree → List Breach
   whole_breaches p e = (if nat_lt 48 (need e) then at p 29 else []) ++ breaches look e
+
+  -- the parts of a `for` that begins at p
+  abbrev pub part_breaches : Option ExpressionTree → List Breach
+  part_breaches None = []
+  part_breaches (Some e) = breaches look e
+
+  abbrev pub heading_breaches : Position → Option ExpressionTree → Option ExpressionTree → Option ExpressionTree
+      → List Breach
+  heading_breaches p a b c = (if nat_lt 48 (heading_need a b c) then at p 29 else [])
+      ++ (part_breaches a ++ (part_breaches b ++ part_breaches c))
+
+  -- a value of a case: a name in it is a constant, and a local hides one
+  abbrev pub known_breaches : LiteralTree → List Breach
+  known_breaches (trees.number_value n) = []
+  known_breaches (trees.named_value n) = constant_breaches n.position (look n.text)
+
+  abbrev pub high_breaches : Option LiteralTree → List Breach
+  high_breaches None = []
+  high_breaches (Some k) = known_breaches k
+
+  abbrev pub range_breaches : RangeTree → List Breach
+  range_breaches g = known_breaches g.low ++ high_breaches g.high
 
   abbrev pub item_breaches : PrintItemTree → List Breach
   item_breaches (trees.text_item s) = []
@@ -47,6 +90,11 @@ module _ (look : List ℕ → Option Binding) where
     statement_breaches around (trees.if_else p c x y) = whole_breaches p c
         ++ (statement_breaches around x ++ statement_breaches around y)
     statement_breaches around (trees.while_do p c x) = whole_breaches p c ++ statement_breaches in_loop x
+    statement_breaches around (trees.do_until p x c) = statement_breaches in_loop x ++ whole_breaches p c
+    statement_breaches around (trees.for_loop p a b c x) = heading_breaches p a b c ++ statement_breaches in_loop x
+    statement_breaches around (trees.switch_on p e cs) = whole_breaches p e ++ cases_breaches (in_switch around) cs
+    statement_breaches around (trees.break_at p) = outside_breaches around.can_break p
+    statement_breaches around (trees.continue_at p) = outside_breaches around.can_continue p
     statement_breaches around trees.return_alone = []
     statement_breaches around (trees.return_value p e) = whole_breaches p e
     statement_breaches around trees.return_true = []
@@ -58,7 +106,24 @@ module _ (look : List ℕ → Option Binding) where
     statements_breaches around trees.stop = []
     statements_breaches around (trees.next x xs) = statement_breaches around x ++ statements_breaches around xs
 
+    pub cases_breaches : Around → CaseTrees → List Breach
+    cases_breaches around trees.no_case = []
+    cases_breaches around (trees.default_case xs) = statements_breaches around xs
+    cases_breaches around (trees.case gs xs cs) = flat_map range_breaches gs
+        ++ (statements_breaches around xs ++ cases_breaches around cs)
+
   -- Resolving
+
+  abbrev pub known_number : LiteralTree → ℕ
+  known_number (trees.number_value n) = n
+  known_number (trees.named_value n) = or_zero (constant_number (look n.text))
+
+  abbrev pub range_to : ℕ → Option LiteralTree → RangeOf
+  range_to low None = one low
+  range_to low (Some k) = between low (known_number k)
+
+  abbrev pub resolve_range : RangeTree → RangeOf
+  resolve_range g = range_to (known_number g.low) g.high
 
   abbrev pub resolve_item : PrintItemTree → Printed
   resolve_item (trees.text_item s) = text s
@@ -76,6 +141,12 @@ module _ (look : List ℕ → Option Binding) where
     resolve_statement (trees.if_then p c x) = if_then (resolve look c) (resolve_statement x)
     resolve_statement (trees.if_else p c x y) = if_else (resolve look c) (resolve_statement x) (resolve_statement y)
     resolve_statement (trees.while_do p c x) = while_do (resolve look c) (resolve_statement x)
+    resolve_statement (trees.do_until p x c) = do_until (resolve_statement x) (resolve look c)
+    resolve_statement (trees.for_loop p a b c x) = for_loop (option_map (resolve look) a) (option_map (resolve look) b)
+        (option_map (resolve look) c) (resolve_statement x)
+    resolve_statement (trees.switch_on p e cs) = switch_on (resolve look e) (resolve_cases cs)
+    resolve_statement (trees.break_at p) = break_out
+    resolve_statement (trees.continue_at p) = continue_on
     resolve_statement trees.return_alone = return_value (number 1)
     resolve_statement (trees.return_value p e) = return_value (resolve look e)
     resolve_statement trees.return_true = return_value (number 1)
@@ -86,3 +157,8 @@ module _ (look : List ℕ → Option Binding) where
     pub resolve_statements : StatementTrees → Actions
     resolve_statements trees.stop = stop
     resolve_statements (trees.next x xs) = next (resolve_statement x) (resolve_statements xs)
+
+    pub resolve_cases : CaseTrees → CasesOf
+    resolve_cases trees.no_case = no_case
+    resolve_cases (trees.default_case xs) = default_case (resolve_statements xs)
+    resolve_cases (trees.case gs xs cs) = case (map resolve_range gs) (resolve_statements xs) (resolve_cases cs)

@@ -2,7 +2,7 @@
 -- of evaluation needs the greatest of (i - 1) + need(ei), and at least 1. What `++` or `--` steps is an operand. So
 -- is the left side of an assignment where, parentheses apart, it is no name; a name that is assigned is no operand.
 -- An entry of an array needs what its index needs, also as the left side of an assignment.
-use Rattle.std.specs.Prelude.{◌+◌, ℕ, max, List, [], ◌∷◌, ◌++◌, Option, Some, None}
+use Rattle.std.specs.Prelude.{◌+◌, ◌-◌, ℕ, max, nat_le, Bool, true, List, [], ◌∷◌, ◌++◌, Option, Some, None}
 use Rattle.expressions.specs.Tree.{NameTree, ExpressionTree, ExpressionTrees, constant, named, call, index}
 use Rattle.expressions.specs.Tree.{parenthesised, prefixed, step_before, step_after, binary, compare, equal, assign}
 use Rattle.expressions.specs.Tree.{none, more}
@@ -36,6 +36,16 @@ abbrev mutual
   pub needs : ExpressionTrees → List ℕ
   needs none = []
   needs (more e es) = need e ∷ needs es
+
+-- a part of a `for` that is there needs at most so many, and leaves one less to those behind it
+
+abbrev pub part_fits : Option ExpressionTree → ℕ → Bool
+part_fits None room = true
+part_fits (Some e) room = nat_le (need e) room
+
+abbrev pub room_behind : Option ExpressionTree → ℕ → ℕ
+room_behind None room = room
+room_behind (Some e) room = room - 1
 
 -- the greatest of some needs
 abbrev pub greatest : List ℕ → ℕ

@@ -1,6 +1,8 @@
 -- Words of proofs: what a walk over a part of a tree finds, and what it notes.
-use Rattle.std.specs.Prelude.{◌≡◌, ℕ, List, [], ◌∷◌, ◌++◌, length, Option, map}
+use Rattle.std.specs.Prelude.{◌≡◌, ℕ, List, [], ◌∷◌, ◌++◌, length, Option, Some, None, map}
+use Rattle.std.specs.Global.{Vec}
 use Rattle.std.specs.List.{flat_map, concat}
+use Rattle.std.specs.Option.{option_map}
 use Rattle.lexer.specs.declared.token.Position.{Position}
 use Rattle.expressions.specs.declared.tree.Binary.{Binary}
 use Rattle.expressions.specs.declared.tree.Expression.{Expression}
@@ -8,8 +10,10 @@ use Rattle.expressions.specs.declared.tree.Width.{Width}
 use Rattle.expressions.specs.declared.tree.Width.TheVariants as widths
 use Rattle.expressions.specs.Tree.{NameTree, ExpressionTree, expression_tree}
 use Rattle.statements.specs.declared.tree.PrintItem.{PrintItem}
+use Rattle.statements.specs.declared.tree.Range.{Range}
 use Rattle.statements.specs.declared.tree.Statement.{Statement}
-use Rattle.statements.specs.Tree.{PrintItemTree, StatementTree, item_tree, statement_tree}
+use Rattle.statements.specs.Tree.{HeadingTree, RangeTree, PrintItemTree, StatementTree, CaseTree, trees_of, range_tree}
+use Rattle.statements.specs.Tree.{item_tree, statement_tree, case_tree}
 use Rattle.syntax.specs.declared.tree.ArrayKind.{ArrayKind}
 use Rattle.syntax.specs.declared.tree.ArrayKind.TheVariants as kinds
 use Rattle.syntax.specs.declared.tree.ArrayValue.{ArrayValue}
@@ -25,10 +29,11 @@ use Rattle.checker.specs.declared.directive_rules.Found.{Found}
 use Rattle.checker.specs.Names.{Table, name_of, is_entry}
 use Rattle.checker.specs.Arrays.{entry_bytes, entry_value, entry_breaches}
 use Rattle.checker.specs.Noted.{noted}
-use Rattle.checker.specs.Resolved.{Value, Printed, Action, RoutineOf, value_of, routine_of, title_of}
+use Rattle.checker.specs.Resolved.{Value, RangeOf, Printed, Action, Actions, RoutineOf, value_of, routine_of, title_of}
 use Rattle.checker.specs.Expressions.{breaches, left_breaches, assigned_breaches, target, resolve}
-use Rattle.checker.specs.Statements.{whole_breaches, item_breaches, resolve_item, statement_breaches}
-use Rattle.checker.specs.Statements.{outside, statements_breaches, resolve_statement}
+use Rattle.checker.specs.Statements.{whole_breaches, part_breaches, heading_breaches, range_breaches, resolve_range}
+use Rattle.checker.specs.Statements.{item_breaches, resolve_item, statement_breaches, outside, statements_breaches}
+use Rattle.checker.specs.Statements.{resolve_statement, resolve_statements}
 use Rattle.checker.specs.Programs.{routine_breaches, resolve_body, resolve_routine, routine_trees, title, globals_of}
 use Rattle.checker.specs.Programs.{arrays_of, routines_of}
 
@@ -40,6 +45,10 @@ pub record IsWalked {A : Type 0} (broken : List Breach) (before after : Option B
 
 abbrev pub value_link : Binary × code_value.Value → Binary × Value
 value_link l = (l.0, value_of l.1)
+
+abbrev pub parts_of : Option code_value.Value × Option code_value.Value × Option code_value.Value
+    → Option Value × Option Value × Option Value
+parts_of x = (option_map value_of x.0, option_map value_of x.1, option_map value_of x.2)
 
 -- `look` tells what a name stands for
 module _ (look : List ℕ → Option Binding) where
@@ -62,6 +71,33 @@ module _ (look : List ℕ → Option Binding) where
 
   abbrev pub resolved_item : PrintItem → Printed
   resolved_item x = resolve_item look (item_tree x)
+
+  abbrev pub own_range_breaches : Range → List Breach
+  own_range_breaches g = range_breaches look (range_tree g)
+
+  abbrev pub resolved_range : Range → RangeOf
+  resolved_range g = resolve_range look (range_tree g)
+
+  -- a case, with its ranges and its statements
+  abbrev pub case_breaches : Around → CaseTree → List Breach
+  case_breaches around c = flat_map (range_breaches look) c.0 ++ statements_breaches look around c.1
+
+  abbrev pub resolve_case : CaseTree → List RangeOf × Actions
+  resolve_case c = (map (resolve_range look) c.0, resolve_statements look c.1)
+
+  abbrev pub own_case_breaches : Around → Vec Range × Vec Statement → List Breach
+  own_case_breaches around c = case_breaches around (case_tree c)
+
+  abbrev pub resolved_case : Vec Range × Vec Statement → List RangeOf × Actions
+  resolved_case c = resolve_case (case_tree c)
+
+  -- the statements of `default`
+  abbrev pub other_breaches : Around → Option (List StatementTree) → List Breach
+  other_breaches around None = []
+  other_breaches around (Some xs) = statements_breaches look around (trees_of xs)
+
+  abbrev pub resolved_other : Option (List StatementTree) → Option (List Action)
+  resolved_other other = option_map (λ xs. map (resolve_statement look) xs) other
 
   abbrev pub own_statement_breaches : Around → Statement → List Breach
   own_statement_breaches around s = statement_breaches look around (statement_tree s)
@@ -95,6 +131,37 @@ module _ (look : List ℕ → Option Binding) where
   abbrev pub IsWhole : Position → ExpressionTree → Option Breach → Option Breach → Value → Type 0
   IsWhole position e before after v = IsWalked (whole_breaches look position e) before after v (resolve look e)
 
+  -- the parts of a `for`
+
+  abbrev pub IsPart : Option ExpressionTree → Option Breach → Option Breach → Option Value → Type 0
+  IsPart e before after v = IsWalked (part_breaches look e) before after v (option_map (resolve look) e)
+
+  abbrev pub resolve_heading : HeadingTree → Option Value × Option Value × Option Value
+  resolve_heading h = (
+    option_map (resolve look) h.before,
+    option_map (resolve look) h.test,
+    option_map (resolve look) h.behind,
+  )
+
+  abbrev pub AreParts : HeadingTree → Option Breach → Option Breach
+      → Option Value × Option Value × Option Value → Type 0
+  AreParts h before after x =
+      IsWalked (part_breaches look h.before ++ (part_breaches look h.test ++ part_breaches look h.behind)) before after
+      x (resolve_heading h)
+
+  abbrev pub IsHeading : Position → HeadingTree → Option Breach → Option Breach
+      → Option Value × Option Value × Option Value → Type 0
+  IsHeading position h before after x =
+      IsWalked (heading_breaches look position h.before h.test h.behind) before after x (resolve_heading h)
+
+  -- what begins a case
+
+  abbrev pub IsRange : RangeTree → Option Breach → Option Breach → RangeOf → Type 0
+  IsRange g before after r = IsWalked (range_breaches look g) before after r (resolve_range look g)
+
+  abbrev pub AreRanges : List Range → Option Breach → Option Breach → List RangeOf → Type 0
+  AreRanges gs before after rs = IsWalked (flat_map own_range_breaches gs) before after rs (map resolved_range gs)
+
   abbrev pub IsItem : PrintItemTree → Option Breach → Option Breach → Printed → Type 0
   IsItem x before after i = IsWalked (item_breaches look x) before after i (resolve_item look x)
 
@@ -110,6 +177,20 @@ module _ (look : List ℕ → Option Binding) where
   abbrev pub AreActions : Around → List Statement → Option Breach → Option Breach → List Action → Type 0
   AreActions around ss before after found = IsWalked (flat_map (own_statement_breaches around) ss) before after found
       (map resolved_statement ss)
+
+  abbrev pub IsCase : Around → Vec Range × Vec Statement → Option Breach → Option Breach → List RangeOf × Actions
+      → Type 0
+  IsCase around c before after found = IsWalked (own_case_breaches around c) before after found (resolved_case c)
+
+  abbrev pub AreCases : Around → List (Vec Range × Vec Statement) → Option Breach → Option Breach
+      → List (List RangeOf × Actions) → Type 0
+  AreCases around cs before after found =
+      IsWalked (flat_map (own_case_breaches around) cs) before after found (map resolved_case cs)
+
+  abbrev pub IsOther : Around → Option (List StatementTree) → Option Breach → Option Breach → Option (List Action)
+      → Type 0
+  IsOther around other before after found =
+      IsWalked (other_breaches around other) before after found (resolved_other other)
 
   -- a routine and its title
   abbrev pub IsRoutineIn : RoutineTree → Option Breach → Option Breach → CheckedRoutine → Type 0

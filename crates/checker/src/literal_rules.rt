@@ -1,7 +1,8 @@
 //! Values that are known before a story runs: the rules that they can break, and what they are.
 
 ghost use Rattle.std.specs.Prelude.{◌≡◌};
-ghost use Rattle.syntax.specs.Tree.{literal_tree, optional_tree};
+ghost use Rattle.statements.specs.Tree.{literal_tree};
+ghost use Rattle.syntax.specs.Tree.{optional_tree};
 ghost use Rattle.checker.specs.Literals as spec;
 ghost use Rattle.checker.specs.Names as names;
 ghost use Rattle.checker.specs.Noted.{noted};
@@ -14,9 +15,10 @@ use crate::table::{Table, find};
 use lexer::{Position, UNKNOWN_NAME, WRONG_KIND};
 use syntax::Literal;
 
-// A name in what a global or an entry of an array begins with, and what it stands for in the file.
+/// A name in what a global or an entry of an array begins with, or in what begins a case, and what it stands for there: it
+/// is a constant.
 #[tactic(auto, using(crate::proofs::Noted::noted_none))]
-fn constant_name(position: Position, found: Option<Binding>, least: &mut Option<Breach>)
+pub fn constant_name(position: Position, found: Option<Binding>, least: &mut Option<Breach>)
     ensures { least.new ≡ noted least.old (spec.constant_breaches position found) }
 {
     match found {

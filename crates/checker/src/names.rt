@@ -1,7 +1,8 @@
 //! The names of a file, in order of definition.
 
 ghost use Rattle.std.specs.Prelude.{◌≡◌, ◌^◌, IfOk, OnOk, map};
-ghost use Rattle.syntax.specs.Tree.{literal_tree, directive_tree};
+ghost use Rattle.statements.specs.Tree.{literal_tree};
+ghost use Rattle.syntax.specs.Tree.{directive_tree};
 ghost use Rattle.checker.specs.Names as spec;
 
 use crate::binding::Binding;
@@ -21,7 +22,8 @@ pub struct Names {
     pub counts: Counts,
 }
 
-fn constant_number(found: Option<Binding>) -> Option<u16>
+/// The number that a name stands for, where it is a constant.
+pub fn constant_number(found: Option<Binding>) -> Option<u16>
     ensures { result ≡ spec.constant_number found }
 {
     match found {

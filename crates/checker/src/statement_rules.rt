@@ -3,24 +3,27 @@
 ghost use Rattle.std.specs.Prelude.{◌≡◌, IfOk, map, nat_lt, if◌then◌else◌, []};
 ghost use Rattle.expressions.specs.Tree.{expression_tree};
 ghost use Rattle.statements.specs.Tree as trees;
-ghost use Rattle.statements.specs.Tree.{item_tree, statement_tree, trees_of};
+ghost use Rattle.statements.specs.Tree.{item_tree, statement_tree, trees_of, heading_tree, case_tree, other_tree};
 ghost use Rattle.checker.specs.Breaches.{at};
+ghost use Rattle.checker.specs.Statements.{in_switch, outside_breaches};
 ghost use Rattle.checker.specs.Noted.{noted};
 ghost use Rattle.checker.specs.Scope.{look_in};
 ghost use Rattle.checker.specs.Temporaries.{need};
-ghost use Rattle.checker.specs.Resolved.{value_of, printed_of, action_of};
-ghost use Rattle.checker.specs.Walk.{IsWhole, IsItem, AreItems, IsAction, AreActions};
+ghost use Rattle.checker.specs.Resolved.{value_of, printed_of, action_of, case_of, other_of};
+ghost use Rattle.checker.specs.Walk.{IsWhole, IsItem, AreItems, IsAction, AreActions, IsCase, AreCases, IsOther};
 
-use crate::around::{Around, IN_LOOP};
+use crate::around::{Around, IN_LOOP, in_switch};
 use crate::breach::Breach;
+use crate::case_rules::ranges;
 use crate::expression_rules::expression;
+use crate::heading_rules::heading;
 use crate::note::note;
-use crate::resolved::{Action, Printed, Value};
+use crate::resolved::{Action, Printed, Span, Value};
 use crate::table::Scope;
 use crate::temporaries::fits;
 use expressions::Expression;
-use lexer::{EXPRESSION_TOO_LARGE, Position};
-use statements::{PrintItem, Statement};
+use lexer::{BREAK_OUTSIDE, EXPRESSION_TOO_LARGE, Position};
+use statements::{Heading, PrintItem, Range, Statement};
 use std::alloc::{AllocError, Global};
 
 #[tactic(auto, using(crate::proofs::Noted::noted_none, crate::proofs::Needs::fits_not))]
@@ -148,6 +151,16 @@ fn effect<'a>(
     Ok(Action::Effect(value))
 }
 
+// `break` or `continue`, which may stand there or not.
+#[tactic(auto, using(crate::proofs::Noted::noted_none))]
+fn outside(stands: bool, position: Position, least: &mut Option<Breach>)
+    ensures { least.new ≡ noted least.old (outside_breaches stands position) }
+{
+    if !stands {
+        note(least, BREAK_OUTSIDE, position);
+    }
+}
+
 /// Resolves the names of a statement, and notes the rules that it breaks.
 ///
 /// # Errors
@@ -180,6 +193,30 @@ pub fn statement<'a>(
         }
         Statement::While(position, condition, body) => {
             while_do(alloc, scope, body, *position, condition, least)
+        }
+        Statement::Do(position, body, condition) => {
+            do_until(alloc, scope, body, *position, condition, least)
+        }
+        Statement::For(position, parts, body) => {
+            for_loop(alloc, scope, body, *position, parts, least)
+        }
+        Statement::Switch(position, value, cases, other) => switch_on(
+            alloc,
+            scope,
+            in_switch(around),
+            cases,
+            other,
+            *position,
+            value,
+            least,
+        ),
+        Statement::Break(position) => {
+            outside(around.can_break, *position, least);
+            Ok(Action::Break)
+        }
+        Statement::Continue(position) => {
+            outside(around.can_continue, *position, least);
+            Ok(Action::Continue)
         }
         Statement::Return => Ok(Action::ReturnValue(Value::Number(1))),
         Statement::ReturnValue(position, e) => return_value(alloc, scope, *position, e, least),
@@ -316,4 +353,138 @@ fn while_do<'a>(
         return Err(AllocError);
     };
     Ok(Action::While(condition, body))
+}
+
+#[cycle(statement)]
+fn do_until<'a>(
+    alloc: Global,
+    scope: &Scope<'_>,
+    body: &Box<Statement<'a>>,
+    position: Position,
+    condition: &Expression<'_>,
+    least: &mut Option<Breach>,
+) -> Result<Action<'a>, AllocError>
+    ensures { (around : _) → IfOk result (λ x. IsAction (look_in scope.now) around (trees.do_until position (statement_tree body.now.value) (expression_tree condition.now)) least.old least.new (action_of x)) }
+{
+    let Ok(body) = boxed(alloc, scope, IN_LOOP, body, least) else {
+        return Err(AllocError);
+    };
+    let Ok(condition) = whole(alloc, scope, position, condition, least) else {
+        drop(body);
+        return Err(AllocError);
+    };
+    Ok(Action::Do(body, condition))
+}
+
+#[cycle(statement)]
+fn for_loop<'a>(
+    alloc: Global,
+    scope: &Scope<'_>,
+    body: &Box<Statement<'a>>,
+    position: Position,
+    given: &Heading<'_>,
+    least: &mut Option<Breach>,
+) -> Result<Action<'a>, AllocError>
+    ensures { (around : _) → IfOk result (λ x. IsAction (look_in scope.now) around (trees.for_loop position (heading_tree given.now).before (heading_tree given.now).test (heading_tree given.now).behind (statement_tree body.now.value)) least.old least.new (action_of x)) }
+{
+    let Ok((before, test, behind)) = heading(alloc, scope, position, given, least) else {
+        return Err(AllocError);
+    };
+    let Ok(body) = boxed(alloc, scope, IN_LOOP, body, least) else {
+        drop(before);
+        drop(test);
+        drop(behind);
+        return Err(AllocError);
+    };
+    Ok(Action::For(before, test, behind, body))
+}
+
+// A case of a `switch`.
+#[cycle(statement)]
+fn one_case<'a>(
+    alloc: Global,
+    scope: &Scope<'_>,
+    around: Around,
+    given: &(Vec<Range<'a>>, Vec<Statement<'a>>),
+    least: &mut Option<Breach>,
+) -> Result<(Vec<Span>, Vec<Action<'a>>), AllocError>
+    ensures { IfOk result (λ x. IsCase (look_in scope.now) around given.now least.old least.new (case_of x)) }
+{
+    let Ok(spans) = ranges(alloc, scope, &given.0, least) else {
+        return Err(AllocError);
+    };
+    let Ok(body) = all_statements(alloc, scope, around, &given.1, least) else {
+        return Err(AllocError);
+    };
+    Ok((spans, body))
+}
+
+#[cycle(statement)]
+fn all_cases<'a>(
+    alloc: Global,
+    scope: &Scope<'_>,
+    around: Around,
+    given: &[(Vec<Range<'a>>, Vec<Statement<'a>>)],
+    least: &mut Option<Breach>,
+) -> Result<Vec<(Vec<Span>, Vec<Action<'a>>)>, AllocError>
+    ensures { IfOk result (λ v. AreCases (look_in scope.now) around given.now least.old least.new (map case_of v.items)) }
+{
+    let mut found = Vec::new(alloc);
+    for c in given {
+        let Ok(resolved) = one_case(alloc, scope, around, c, least) else {
+            return Err(AllocError);
+        };
+        found.push(resolved)?;
+    }
+    Ok(found)
+}
+
+// The statements of `default`.
+#[cycle(statement)]
+fn otherwise<'a>(
+    alloc: Global,
+    scope: &Scope<'_>,
+    around: Around,
+    other: &Option<Vec<Statement<'a>>>,
+    least: &mut Option<Breach>,
+) -> Result<Option<Vec<Action<'a>>>, AllocError>
+    ensures { IfOk result (λ x. IsOther (look_in scope.now) around (other_tree other.now) least.old least.new (other_of x)) }
+{
+    match other {
+        None => Ok(None),
+        Some(all) => {
+            let Ok(found) = all_statements(alloc, scope, around, all, least) else {
+                return Err(AllocError);
+            };
+            Ok(Some(found))
+        }
+    }
+}
+
+#[cycle(statement)]
+fn switch_on<'a>(
+    alloc: Global,
+    scope: &Scope<'_>,
+    inside: Around,
+    cases: &[(Vec<Range<'a>>, Vec<Statement<'a>>)],
+    other: &Option<Vec<Statement<'a>>>,
+    position: Position,
+    value: &Expression<'_>,
+    least: &mut Option<Breach>,
+) -> Result<Action<'a>, AllocError>
+    ensures { (around : _) → inside ≡ in_switch around → IfOk result (λ x. IsAction (look_in scope.now) around (trees.switch_on position (expression_tree value.now) (trees.cases_of (map case_tree cases.now) (other_tree other.now))) least.old least.new (action_of x)) }
+{
+    let Ok(value) = whole(alloc, scope, position, value, least) else {
+        return Err(AllocError);
+    };
+    let Ok(cases) = all_cases(alloc, scope, inside, cases, least) else {
+        drop(value);
+        return Err(AllocError);
+    };
+    let Ok(other) = otherwise(alloc, scope, inside, other, least) else {
+        drop(value);
+        drop(cases);
+        return Err(AllocError);
+    };
+    Ok(Action::Switch(value, cases, other))
 }

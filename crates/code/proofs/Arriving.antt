@@ -1,6 +1,6 @@
 -- What holds of a running routine of a program that stands in a story, and how an item leads to the next.
 use Rattle.std.proofs.Common.{◌≡◌, ℕ, zero, suc, ◌+◌, ◌-◌, ◌*◌, ◌^◌, ◌<◌, ◌≤◌, List, [], ◌∷◌, length, drop}
-use Rattle.std.proofs.Common.{slice_index, Bool, true, false, refl, sym, ap, ◌∙◌, subst, arith}
+use Rattle.std.proofs.Common.{slice_index, Option, None, Bool, true, false, refl, sym, ap, ◌∙◌, subst, arith}
 use Rattle.std.specs.Prelude.{nat_le, nat_eq, if◌then◌else◌, slice_index_or, map}
 use Rattle.std.specs.List.{All, flat_map}
 use Rattle.std.proofs.lemmas.Bool.{leb-true}
@@ -23,7 +23,7 @@ use Rattle.code.specs.Instructions.{item_code}
 use Rattle.code.specs.Bytes.{text_bytes, item_bytes, place_of, offset_of}
 use Rattle.code.specs.HeldProgram.{sizes_of, HoldsProgram}
 use Rattle.code.proofs.Play.{Leads, Stored, items_in, address, frames_of, back_of, result_of, state_of, next_of}
-use Rattle.code.proofs.Play.{IsCaller, Good, Led, other_counts}
+use Rattle.code.proofs.Play.{IsCaller, Good, Led, IsChosen, none_chosen, other_counts}
 use Rattle.code.proofs.Memory.{Ground}
 use Rattle.code.proofs.Parts.{Around, machine as at_words}
 use Rattle.code.proofs.Places.{ends_by}
@@ -117,6 +117,7 @@ pub record Running : Type 0 where
     routine = routine;
     place = place;
     stack = [];
+    chosen = None;
     callers = callers;
     situation = record { locals = locals; world = world };
   }) m
@@ -130,9 +131,14 @@ module _ (c : Running) where
     routine = routine;
     place = place;
     stack = words;
+    chosen = None;
     callers = callers;
     situation = record { locals = locals; world = world };
   }
+
+  -- and with a word of a `switch`
+  abbrev pub at_case : Option ℕ → List ℕ → stack.State
+  at_case chosen words = record (at words) { chosen = chosen }
 
   abbrev pub around : Around
   around = record {
@@ -198,6 +204,41 @@ module _ (c : Running) where
   code_held i stands = (above, (holds_append m here (flat_map bytes_of (code_here i)) (text_bytes i) stands.held).0)
 
   -- The machine comes to the next item, with room on its stack, or where there is room
+  pub arrives_with : (chosen : Option ℕ) (before after m1 : List ℕ) (situation : Situation) (end : ℕ)
+      → IsChosen story m1 chosen → end ≡ address story a p routine (place + 1) → length after ≤ 48
+      → Stored story a situation.world.globals situation.world.arrays m1 → length situation.locals ≡ length locals
+      → length situation.world.globals ≡ length world.globals
+      → map length situation.world.arrays ≡ map length world.arrays
+      → Leads (point here world.fuel) (at_words around m locals before world.text) (point end situation.world.fuel)
+      (at_words around m1 situation.locals after situation.world.text)
+      → LedFrom before (stack.goes (record {
+        routine = routine;
+        place = place + 1;
+        stack = after;
+        chosen = chosen;
+        callers = callers;
+        situation = situation;
+      }))
+  arrives_with chosen before after m1 situation end kept is room stored locals_same globals_same arrays_same leads =
+      record {
+        memory = m1;
+        count = count;
+        counts = counts;
+        good = record {
+          known = good.known;
+          locals = locals_same ∙ good.locals;
+          room = room;
+          callers = good.callers;
+          few = good.few;
+          globals = globals_same ∙ good.globals;
+          sizes = arrays_same ∙ good.sizes;
+          stored = stored;
+          chosen = kept;
+        };
+        leads = subst (λ x. Leads (point here world.fuel) (at_words around m locals before world.text)
+            (point x situation.world.fuel) (at_words around m1 situation.locals after situation.world.text)) is leads;
+      }
+
   pub arrives_on : (before after m1 : List ℕ) (situation : Situation) (end : ℕ)
       → end ≡ address story a p routine (place + 1) → length after ≤ 48
       → Stored story a situation.world.globals situation.world.arrays m1 → length situation.locals ≡ length locals
@@ -209,26 +250,13 @@ module _ (c : Running) where
         routine = routine;
         place = place + 1;
         stack = after;
+        chosen = None;
         callers = callers;
         situation = situation;
       }))
-  arrives_on before after m1 situation end is room stored locals_same globals_same arrays_same leads = record {
-    memory = m1;
-    count = count;
-    counts = counts;
-    good = record {
-      known = good.known;
-      locals = locals_same ∙ good.locals;
-      room = room;
-      callers = good.callers;
-      few = good.few;
-      globals = globals_same ∙ good.globals;
-      sizes = arrays_same ∙ good.sizes;
-      stored = stored;
-    };
-    leads = subst (λ x. Leads (point here world.fuel) (at_words around m locals before world.text)
-        (point x situation.world.fuel) (at_words around m1 situation.locals after situation.world.text)) is leads;
-  }
+  arrives_on before after m1 situation end is room stored locals_same globals_same arrays_same leads =
+      arrives_with None before after m1 situation end (none_chosen story m1) is room stored locals_same globals_same
+      arrays_same leads
 
   pub arrives : (before after m1 : List ℕ) (situation : Situation) (end : ℕ)
       → end ≡ address story a p routine (place + 1)
@@ -241,6 +269,7 @@ module _ (c : Running) where
         routine = routine;
         place = place + 1;
         stack = after;
+        chosen = None;
         callers = callers;
         situation = situation;
       }))
@@ -248,7 +277,14 @@ module _ (c : Running) where
       (nat_le (length after) 48) refl
     where
       next : stack.State
-      next = record { routine = routine; place = place + 1; stack = after; callers = callers; situation = situation }
+      next = record {
+        routine = routine;
+        place = place + 1;
+        stack = after;
+        chosen = None;
+        callers = callers;
+        situation = situation;
+      }
 
       go : (b : Bool) → nat_le (length after) 48 ≡ b → LedFrom before (if b then stack.goes next else stack.stuck)
       go true e = arrives_on before after m1 situation end is (leb-true _ _ e) stored locals_same globals_same

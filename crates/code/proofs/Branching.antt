@@ -1,6 +1,6 @@
 -- The branches of a routine.
 use Rattle.std.proofs.Common.{◌≡◌, ℕ, ◌+◌, ◌-◌, ◌<◌, ◌≤◌, List, [], length, Bool, true, false, refl, sym, ap, ◌∙◌}
-use Rattle.std.proofs.Common.{subst, arith}
+use Rattle.std.proofs.Common.{Option, None, subst, arith}
 use Rattle.std.specs.Prelude.{nat_lt, if◌then◌else◌}
 use Rattle.std.specs.List.{All, flat_map}
 use Rattle.std.proofs.lemmas.Bool.{ltb-true}
@@ -16,7 +16,7 @@ use Rattle.code.proofs.Behind.{Holds}
 use Rattle.code.specs.Instructions.{operands, labelled, test_operation, tested_code, branch_code, most_tested}
 use Rattle.code.specs.Bytes.{text_bytes, place_of}
 use Rattle.code.specs.HeldProgram.{sizes_of}
-use Rattle.code.proofs.Play.{Leads, address}
+use Rattle.code.proofs.Play.{Leads, address, IsChosen, none_chosen}
 use Rattle.code.proofs.Parts.{machine as at_words}
 use Rattle.code.proofs.Steps.{point, leads_then, landing}
 use Rattle.code.proofs.Fitting.{held_bytes}
@@ -24,9 +24,9 @@ use Rattle.code.proofs.ItemOperands.{Gives, with_first, by_operands, gives_count
 use Rattle.code.proofs.ItemOperands.{operands_length}
 use Rattle.code.proofs.Labels.{Branching, label_leads}
 use Rattle.code.proofs.Places.{rises, ends_by}
-use Rattle.code.proofs.Arriving.{Running, at, around, here, high, above, kept, LedFrom, Stands, code_here, code_held}
-use Rattle.code.proofs.Arriving.{arrives_on, situation_here}
-use Rattle.code.proofs.Temporaries.{held_in}
+use Rattle.code.proofs.Arriving.{Running, at, at_case, around, here, high, above, kept, LedFrom, Stands, code_here}
+use Rattle.code.proofs.Arriving.{code_held, arrives_with, situation_here}
+use Rattle.code.proofs.Temporaries.{Scratch, held_in}
 use Rattle.code.proofs.Taking.{after_takes, Taken, taken, Apart, apart}
 use Rattle.code.proofs.Alone.{IsOperandHere, next_place, plain_length}
 use Rattle.code.proofs.Jumping.{is_in, short}
@@ -36,17 +36,82 @@ module _ (c : Running) where
   open c use {story, a, p, accepted, holds, full, m, count, counts, routine, place, callers, locals, world, good}
 
   -- how far a branch of this item leads
-  abbrev over : ℕ → ℕ
+  abbrev pub over : ℕ → ℕ
   over target = place_of (sizes_of p) (is_in c) target - place_of (sizes_of p) (is_in c) (place + 1)
 
-  branches_led : (item : Item) (test : Test) (os : List items.Operand) (when : Bool) (target : ℕ)
-      (words vs rest : List ℕ) → All (IsOperandHere c) os → Counted test (length os) → length words ≤ 48
-      → Stands c item → text_bytes item ≡ [] → code_here c item ≡ tested_code test os when (2 + over target)
-      → Gives os (situation_here c) words vs rest
-      → LedFrom c words (stack.branch (agrees (stack.holds test vs) when) target rest (at c words))
-  branches_led item test os when target words vs rest all is room stands none code g =
-      go when (stack.holds test vs) there
+  -- Behind a branch the machine is at the next item, or at the target; what there is of a word of a `switch` is there
+  -- still.
+  pub lands_led : (chosen : Option ℕ) (target : ℕ) (words rest memory : List ℕ) (when holds_so : Bool)
+      → length rest ≤ 48 → Scratch c memory → IsChosen story memory chosen
+      → Leads (point (here c) world.fuel) (at_words (around c) m locals words world.text)
+      (point (landing when holds_so (next_place c) (over target)) world.fuel)
+      (at_words (around c) memory locals rest world.text)
+      → LedFrom c words (stack.by_case (agrees holds_so when) target (at_case c chosen rest))
+  lands_led chosen target words rest memory when holds_so left scratch still = go when holds_so
     where
+      d : ℕ
+      d = over target
+
+      -- it goes on with the next item, or leads to the target
+      passes : Leads (point (here c) world.fuel) (at_words (around c) m locals words world.text)
+          (point (next_place c) world.fuel) (at_words (around c) memory locals rest world.text)
+          → LedFrom c words (stack.goes (record (at_case c chosen rest) { place = place + 1 }))
+      passes l = arrives_with c chosen words rest memory (situation_here c) (next_place c) still refl left
+          scratch.stored refl refl refl l
+
+      jumps : (b : Bool) → nat_lt place target ≡ b
+          → Leads (point (here c) world.fuel) (at_words (around c) m locals words world.text)
+          (point (next_place c + d) world.fuel) (at_words (around c) memory locals rest world.text)
+          → LedFrom c words (if b then stack.goes (record (at_case c chosen rest) { place = target })
+          else stack.stuck)
+      jumps false e l = tt
+      jumps true e l =
+          let before : place < target = ltb-true _ _ e in
+          let up = rises (sizes_of p) (is_in c) (place + 1) target (omega (arith, before)) in
+          let to : next_place c + d ≡ address story a p routine target = omega (arith, up) in
+          record {
+            memory = memory;
+            count = count;
+            counts = counts;
+            good = record {
+              known = good.known;
+              locals = good.locals;
+              room = left;
+              callers = good.callers;
+              few = good.few;
+              globals = good.globals;
+              sizes = good.sizes;
+              stored = scratch.stored;
+              chosen = still;
+            };
+            leads = subst (λ k. Leads (point (here c) world.fuel) (at_words (around c) m locals words world.text)
+                (point k world.fuel) (at_words (around c) memory locals rest world.text)) to l;
+          }
+
+      go : (w h : Bool) → Leads (point (here c) world.fuel) (at_words (around c) m locals words world.text)
+          (point (landing w h (next_place c) d) world.fuel) (at_words (around c) memory locals rest world.text)
+          → LedFrom c words (stack.by_case (agrees h w) target (at_case c chosen rest))
+      go true true l = jumps (nat_lt place target) refl l
+      go true false l = passes l
+      go false true l = passes l
+      go false false l = jumps (nat_lt place target) refl l
+
+  branches_led : (item : Item) (test : Test) (os : List items.Operand) (when : Bool) (target : ℕ)
+      (chosen : Option ℕ) (words vs rest : List ℕ) → All (IsOperandHere c) os → Counted test (length os)
+      → length words ≤ 48 → Stands c item → text_bytes item ≡ []
+      → code_here c item ≡ tested_code test os when (2 + over target) → Gives os (situation_here c) words vs rest
+      → LedFrom c words (stack.branch (agrees (stack.holds test vs) when) target rest (at_case c chosen words))
+  branches_led item test os when target chosen words vs rest all is room stands none code g =
+      branches_to (agrees (stack.holds test vs) when)
+      (lands_led None target words rest t.memory when (stack.holds test vs) left t.scratch
+      (none_chosen story t.memory) there)
+    where
+      -- a branch takes its operands, and leaves no word of a `switch`
+      branches_to : (b : Bool) → LedFrom c words (stack.by_case b target (at c rest))
+          → LedFrom c words (stack.branch b target rest (at_case c chosen words))
+      branches_to true led = led
+      branches_to false led = led
+
       op : Operation
       op = test_operation test
 
@@ -129,58 +194,14 @@ module _ (c : Running) where
           (held_in c t.memory (flat_map bytes_of (labelled op (operands os) when (2 + d))) q t.scratch
           (omega arith) parts.others))
 
-      -- it goes on with the next item, or leads to the target
-      passes : Leads (point (here c) world.fuel) (at_words (around c) m locals words world.text)
-          (point (next_place c) world.fuel) (at_words (around c) t.memory locals rest world.text)
-          → LedFrom c words (stack.goes (stack.after (at c words) rest (situation_here c)))
-      passes l = arrives_on c words rest t.memory (situation_here c) (next_place c) refl left t.scratch.stored refl
-          refl refl
-          l
-
-      jumps : (b : Bool) → nat_lt place target ≡ b
-          → Leads (point (here c) world.fuel) (at_words (around c) m locals words world.text)
-          (point (next_place c + d) world.fuel) (at_words (around c) t.memory locals rest world.text)
-          → LedFrom c words (if b then stack.goes (record (at c words) { stack = rest; place = target })
-          else stack.stuck)
-      jumps false e l = tt
-      jumps true e l =
-          let before : place < target = ltb-true _ _ e in
-          let up = rises (sizes_of p) (is_in c) (place + 1) target (omega (arith, before)) in
-          let to : next_place c + d ≡ address story a p routine target = omega (arith, up) in
-          record {
-            memory = t.memory;
-            count = count;
-            counts = counts;
-            good = record {
-              known = good.known;
-              locals = good.locals;
-              room = left;
-              callers = good.callers;
-              few = good.few;
-              globals = good.globals;
-              sizes = good.sizes;
-              stored = t.scratch.stored;
-            };
-            leads = subst (λ k. Leads (point (here c) world.fuel) (at_words (around c) m locals words world.text)
-                (point k world.fuel) (at_words (around c) t.memory locals rest world.text)) to l;
-          }
-
-      go : (w h : Bool) → Leads (point (here c) world.fuel) (at_words (around c) m locals words world.text)
-          (point (landing w h (next_place c) d) world.fuel) (at_words (around c) t.memory locals rest world.text)
-          → LedFrom c words (stack.branch (agrees h w) target rest (at c words))
-      go true true l = jumps (nat_lt place target) refl l
-      go true false l = passes l
-      go false true l = passes l
-      go false false l = jumps (nat_lt place target) refl l
-
-  pub branch_led : (test : Test) (os : List items.Operand) (when : Bool) (target : ℕ) (words : List ℕ)
-      → All (IsOperandHere c) os → IsTested test (length os) → length words ≤ 48
+  pub branch_led : (test : Test) (os : List items.Operand) (when : Bool) (target : ℕ) (chosen : Option ℕ)
+      (words : List ℕ) → All (IsOperandHere c) os → IsTested test (length os) → length words ≤ 48
       → Stands c (items.branch test os when target)
       → LedFrom c words (stack.with_operands os (situation_here c) words
-      (λ vs rest. stack.branch (agrees (stack.holds test vs) when) target rest (at c words)))
-  branch_led test os when target words all is room stands =
+      (λ vs rest. stack.branch (agrees (stack.holds test vs) when) target rest (at_case c chosen words)))
+  branch_led test os when target chosen words all is room stands =
       by_operands os (situation_here c) words (LedFrom c words)
-      (λ vs rest. stack.branch (agrees (stack.holds test vs) when) target rest (at c words)) tt
+      (λ vs rest. stack.branch (agrees (stack.holds test vs) when) target rest (at_case c chosen words)) tt
       (λ vs rest g.
       let few = few_given test (length os) is in
       let k = asked p (routine_at p.routines routine).locals (situation_here c) test os words vs rest is all g in
@@ -188,5 +209,6 @@ module _ (c : Running) where
       let code : code_here c item ≡ tested_code k.test1 k.os1 when (2 + over target) =
       ap (λ os. branch_code test os when (2 + over target)) (take_all most_tested os few)
       ∙ k.code when (2 + over target) in
-      subst (λ b. LedFrom c words (stack.branch (agrees b when) target rest (at c words))) k.holds
-      (branches_led item k.test1 k.os1 when target words k.vs1 rest k.all k.counted room stands refl code k.gives))
+      subst (λ b. LedFrom c words (stack.branch (agrees b when) target rest (at_case c chosen words))) k.holds
+      (branches_led item k.test1 k.os1 when target chosen words k.vs1 rest k.all k.counted room stands refl code
+      k.gives))

@@ -180,6 +180,10 @@ module _ (sizes : List ℕ) where
           ap (λ k. k ∷ map (λ (u : BranchUse). u.offset) (uses (n + 1) (parts_of sizes is)))
           (sym (branch_offset sizes all (lefts (n + 1) (parts_of sizes is)) n target rest))
           ∙ ap (λ ks. offset_of (place_of sizes all) n (items.branch test os when target) ∷ ks) more
+      go (items.case test ns when target) rest more =
+          ap (λ k. k ∷ map (λ (u : BranchUse). u.offset) (uses (n + 1) (parts_of sizes is)))
+          (sym (branch_offset sizes all (lefts (n + 1) (parts_of sizes is)) n target rest))
+          ∙ ap (λ ks. offset_of (place_of sizes all) n (items.case test ns when target) ∷ ks) more
       go i rest more = more
 
   pub offsets_are : (is : List Item) → map (λ (u : BranchUse). u.offset) (uses 0 (parts_of sizes is))

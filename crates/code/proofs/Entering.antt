@@ -25,7 +25,7 @@ use Rattle.items.specs.Stack as stack
 use Rattle.code.specs.Addresses.{Addresses}
 use Rattle.code.specs.Bytes.{code_bytes}
 use Rattle.code.specs.HeldProgram.{sizes_of, HoldsProgram}
-use Rattle.code.proofs.Play.{Stored, address, frames_of, back_of, result_of, other_counts, IsCaller, Led}
+use Rattle.code.proofs.Play.{Stored, address, frames_of, back_of, result_of, other_counts, IsCaller, Led, none_chosen}
 use Rattle.code.proofs.Memory.{holds_on}
 use Rattle.code.proofs.Steps.{point, one_step}
 use Rattle.code.proofs.Places.{starts}
@@ -215,6 +215,7 @@ module _ (story : List ℕ) (a : Addresses) (p : ProgramOf) (accepted : IsAccept
           routine = r;
           place = 0;
           stack = [];
+          chosen = None;
           callers = callers;
           situation = record { locals = locals_of count arguments; world = record (s.world) { fuel = fuel } };
         }
@@ -234,6 +235,7 @@ module _ (story : List ℕ) (a : Addresses) (p : ProgramOf) (accepted : IsAccept
               routine = r;
               place = 0;
               stack = [];
+              chosen = None;
               callers = callers;
               situation = record { locals = locals_of count arguments; world = after.world };
             }))
@@ -267,6 +269,7 @@ module _ (story : List ℕ) (a : Addresses) (p : ProgramOf) (accepted : IsAccept
                 globals = globals;
                 sizes = sizes;
                 stored = stored;
+                chosen = none_chosen story memory;
               };
               leads = one_step (point pc (suc fuel)) (point (address story a p r 0) fuel) begin
                   (many (locals_of count arguments))

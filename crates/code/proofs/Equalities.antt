@@ -1,6 +1,6 @@
 -- Items that compare with more than three words, one after another.
 use Rattle.std.proofs.Common.{◌≡◌, ℕ, zero, suc, ◌+◌, ◌<◌, ◌≤◌, List, [], ◌∷◌, length, Bool, true, false, refl, sym}
-use Rattle.std.proofs.Common.{ap, ◌∙◌, subst, arith}
+use Rattle.std.proofs.Common.{Option, ap, ◌∙◌, subst, arith}
 use Rattle.std.specs.Prelude.{nat_lt, nat_eq, if◌then◌else◌, not, ◌||◌}
 use Rattle.std.specs.List.{flat_map}
 use Rattle.std.proofs.lemmas.Bool.{ne_eqb, lt-ltb}
@@ -21,8 +21,8 @@ use Rattle.code.proofs.Steps.{point, first_held, others_held, fits_one, fits_two
 use Rattle.code.proofs.Steps.{variable_value, landing}
 use Rattle.code.proofs.SingleSteps.{branch_step, flag_leads}
 use Rattle.code.proofs.Flags.{test_leads}
-use Rattle.code.proofs.Arriving.{Running, at, around, here, LedFrom, Stands, above, room_for, code_held, arrives}
-use Rattle.code.proofs.Arriving.{situation_here}
+use Rattle.code.proofs.Arriving.{Running, at_case, around, here, LedFrom, Stands, above, room_for, code_held}
+use Rattle.code.proofs.Arriving.{arrives, situation_here}
 use Rattle.code.proofs.Temporaries.{scratch_here, scratch_with, reads_written, reads_other, word_written}
 use Rattle.code.proofs.Temporaries.{word_unwritten, held_in, pull_temporary, copy_temporary}
 
@@ -73,12 +73,13 @@ module _ (c : Running) where
         branch_fits = fits;
       }
 
-  pub first_equal_led : (s : List ℕ) → length s ≤ 48 → Stands c items.first_equal
-      → LedFrom c s (stack.first_equal s (at c s))
+  -- whatever word of a `switch` there is
+  pub first_equal_led : (chosen : Option ℕ) (s : List ℕ) → length s ≤ 48 → Stands c items.first_equal
+      → LedFrom c s (stack.first_equal s (at_case c chosen s))
   unfolding bytes_of perform
-  first_equal_led [] short stands = tt
-  first_equal_led (y ∷ []) short stands = tt
-  first_equal_led (y ∷ x ∷ s) short stands =
+  first_equal_led chosen [] short stands = tt
+  first_equal_led chosen (y ∷ []) short stands = tt
+  first_equal_led chosen (y ∷ x ∷ s) short stands =
       let q0 = here c in
       let test = branching operations.JumpIfEqual (Variable 249 ∷ Variable 248 ∷ []) true 8 in
       let m1 = with_variable m 248 y in
@@ -148,13 +149,13 @@ module _ (c : Running) where
       (variable_value (around c) m1 locals (x ∷ s) world.text 249 flag_word reads))
       (λ here after st. refl) (room_for c (x ∷ s) (omega (arith, short))) above (omega arith) within h)
 
-  pub also_equal_led : (s : List ℕ) → length s ≤ 48 → Stands c items.also_equal
-      → LedFrom c s (stack.also_equal s (at c s))
+  pub also_equal_led : (chosen : Option ℕ) (s : List ℕ) → length s ≤ 48 → Stands c items.also_equal
+      → LedFrom c s (stack.also_equal s (at_case c chosen s))
   unfolding bytes_of perform
-  also_equal_led [] short stands = tt
-  also_equal_led (y ∷ []) short stands = tt
-  also_equal_led (y ∷ v ∷ []) short stands = tt
-  also_equal_led (y ∷ v ∷ x ∷ s) short stands =
+  also_equal_led chosen [] short stands = tt
+  also_equal_led chosen (y ∷ []) short stands = tt
+  also_equal_led chosen (y ∷ v ∷ []) short stands = tt
+  also_equal_led chosen (y ∷ v ∷ x ∷ s) short stands =
       let q0 = here c in
       let last = branching operations.JumpIfZero (Variable 249 ∷ []) false 8 ∷ flag in
       let test = branching operations.JumpIfEqual (Variable 250 ∷ Variable 248 ∷ []) true 11 in

@@ -126,10 +126,11 @@ main_accepted = (
       ),
     ),
   ),
+  (tt, (tt, (tt, ((tt, (tt, tt)), (tt, tt))))),
 )
 
 sum_accepted : IsRoutine program sum_of_two
-sum_accepted = (omega arith, (((omega arith, omega arith), omega arith), tt))
+sum_accepted = (omega arith, (((omega arith, omega arith), omega arith), tt), (tt, tt))
 
 -- its texts are printable
 hi_printable : All IsPrintable (codes "Hi^")

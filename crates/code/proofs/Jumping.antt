@@ -1,6 +1,6 @@
 -- The jumps of a routine, forward and back.
 use Rattle.std.proofs.Common.{◌≡◌, ℕ, zero, suc, ◌+◌, ◌-◌, ◌%◌, ◌<◌, ◌≤◌, List, [], ◌∷◌, length, Bool, true, false}
-use Rattle.std.proofs.Common.{refl, sym, ap, ◌∙◌, arith}
+use Rattle.std.proofs.Common.{Option, None, refl, sym, ap, ◌∙◌, arith}
 use Rattle.std.specs.Prelude.{nat_lt, nat_le, nat_eq, if◌then◌else◌}
 use Rattle.std.proofs.lemmas.Bool.{lt-ltb, le-ltb, le-leb, ltb-true, leb-true, ne_eqb}
 use Rattle.zcore.specs.declared.instruction.Operand.TheVariants.{Large}
@@ -19,13 +19,13 @@ use Rattle.code.proofs.Behind.{Holds}
 use Rattle.code.specs.Instructions.{plain, jump_offset}
 use Rattle.code.specs.Bytes.{code_size, place_of}
 use Rattle.code.specs.HeldProgram.{sizes_of}
-use Rattle.code.proofs.Play.{items_in, address, base, Good, Led}
+use Rattle.code.proofs.Play.{items_in, address, base, Good, Led, IsChosen, none_chosen}
 use Rattle.code.proofs.Parts.{Around, machine as at_words}
 use Rattle.code.proofs.Steps.{point, one_step, step_is, fits_one, one_operand, large_value}
 use Rattle.code.proofs.SingleSteps.{jump_step}
 use Rattle.code.proofs.Ends.{does_halt}
 use Rattle.code.proofs.Places.{rises, ends_by, offset_leads}
-use Rattle.code.proofs.Arriving.{Running, at, around, here, LedFrom, Stands, above}
+use Rattle.code.proofs.Arriving.{Running, at, at_case, around, here, LedFrom, Stands, above}
 use Rattle.code.proofs.Alone.{Single, single}
 
 -- A jump that does not lead ahead costs a unit
@@ -91,15 +91,17 @@ module _ (c : Running) where
   pub target_above : (n : ℕ) → 64 ≤ address story a p routine n
   target_above n = omega (arith, (holds.routines routine good.known).above, holds.globals_above, holds.globals_below)
 
-  good_there : (n : ℕ) (stack : List ℕ) (fuel : ℕ) → length stack ≤ 48
+  good_there : (n : ℕ) (stack : List ℕ) (chosen : Option ℕ) (fuel : ℕ) → length stack ≤ 48
+      → IsChosen story m chosen
       → Good story a p (record {
         routine = routine;
         place = n;
         stack = stack;
+        chosen = chosen;
         callers = callers;
         situation = record { locals = locals; world = record world { fuel = fuel } };
       }) m
-  good_there n stack fuel room = record {
+  good_there n stack chosen fuel room kept = record {
     known = good.known;
     locals = good.locals;
     room = room;
@@ -108,6 +110,7 @@ module _ (c : Running) where
     globals = good.globals;
     sizes = good.sizes;
     stored = good.stored;
+    chosen = kept;
   }
 
   -- the jump of an item that leads from the next one
@@ -135,9 +138,10 @@ module _ (c : Running) where
       (omega (arith, short, ends_by (sizes_of p) is_in (place + 1)))
       (omega (arith, short, ends_by (sizes_of p) is_in target))
 
-  pub jump_led : (target : ℕ) (words : List ℕ) → length words ≤ 48 → Stands c (items.jump target)
-      → LedFrom c words (stack.jump_forward target (at c words))
-  jump_led target words room stands = go (nat_lt place target) refl
+  -- a word of a `switch` stays where it is
+  pub jump_led : (target : ℕ) (chosen : Option ℕ) (words : List ℕ) → length words ≤ 48 → IsChosen story m chosen
+      → Stands c (items.jump target) → LedFrom c words (stack.jump_forward target (at_case c chosen words))
+  jump_led target chosen words room kept stands = go (nat_lt place target) refl
     where
       there : Single c (jump_to target)
       there = single c (items.jump target) (jump_to target) refl refl stands
@@ -145,10 +149,9 @@ module _ (c : Running) where
       st : State
       st = at_words (around c) m locals words world.text
 
-      go : (b : Bool) → nat_lt place target ≡ b → LedFrom c words (if b then stack.goes (record (at c words) {
-        place =
-            target;
-      }) else stack.stuck)
+      go : (b : Bool) → nat_lt place target ≡ b
+          → LedFrom c words (if b then stack.goes (record (at_case c chosen words) { place = target })
+          else stack.stuck)
       go false e = tt
       go true e =
           let before : place < target = ltb-true _ _ e in
@@ -157,7 +160,7 @@ module _ (c : Running) where
             memory = m;
             count = count;
             counts = counts;
-            good = good_there target words world.fuel room;
+            good = good_there target words chosen world.fuel room kept;
             leads = one_step (point (here c) world.fuel) (point (address story a p routine target) world.fuel) st st
                 (jump_step (around c) world.fuel m locals words world.text (here c) (offset_to target)
                 (address story a p routine target) (small_offset target)
@@ -198,7 +201,7 @@ module _ (c : Running) where
         memory = m;
         count = count;
         counts = counts;
-        good = good_there target words fuel room;
+        good = good_there target words None fuel room (none_chosen story m);
         leads = one_step (point (here c) (suc fuel)) (point (address story a p routine target) fuel) st st
             (back_step (around c) m locals words world.text (here c) (offset_to target)
             (address story a p routine target) small (leads_there target there) (target_above target) (behind below)

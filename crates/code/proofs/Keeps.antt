@@ -19,7 +19,7 @@ use Rattle.checker.specs.World.{Outcome, World, Situation, Comes, to, over, Part
 use Rattle.checker.specs.World.{spend_from, fault, value_in, with_value, give, array_at, is_index, read_entry}
 use Rattle.checker.specs.World.{write_entry}
 use Rattle.checker.specs.Meaning.{operate, put_character, put_line, is_character, routine_at, truth, is_true}
-use Rattle.items.specs.Items.{Item, Operand, Destination, routine_items}
+use Rattle.items.specs.Items.{Item, Operand, Destination, Test, routine_items}
 use Rattle.items.specs.Items as items
 use Rattle.items.specs.Stack as stack
 
@@ -201,8 +201,17 @@ if_keeps w false n m h g = g
 
 branch_keeps : (b : Bool) (target : ℕ) (words : List ℕ) (s : stack.State)
     → Keeps s.situation.world (stack.branch b target words s)
-branch_keeps true target words s = forward_keeps target (record s { stack = words })
+branch_keeps true target words s = forward_keeps target (record s { stack = words; chosen = None })
 branch_keeps false target words s = same s.situation.world
+
+case_keeps : (chosen : Option ℕ) (test : Test) (ns : List ℕ) (when : Bool) (target : ℕ) (s : stack.State)
+    → Keeps s.situation.world (stack.test_case chosen test ns when target s)
+case_keeps None test ns when target s = tt
+case_keeps (Some v) test ns when target s = go (items.agrees (stack.holds test (v ∷ ns)) when)
+  where
+    go : (b : Bool) → Keeps s.situation.world (stack.by_case b target s)
+    go true = forward_keeps target s
+    go false = same s.situation.world
 
 back_keeps : (target : ℕ) (s : stack.State) → Keeps s.situation.world (stack.go_back target s)
 back_keeps target s = if_keeps s.situation.world (nat_le target s.place) _ _
@@ -256,6 +265,9 @@ act_keeps p items.quit s = λ cause e. absurd (cc)
 act_keeps p (items.branch test os when target) s =
     operands_keep s.situation.world os s.situation s.stack _
     (λ vs rest. branch_keeps (items.agrees (stack.holds test vs) when) target rest s)
+act_keeps p (items.choose o) s =
+    operand_keeps s.situation.world o s.situation s.stack _ (λ v rest. same s.situation.world)
+act_keeps p (items.case test ns when target) s = case_keeps s.chosen test ns when target s
 act_keeps p (items.jump target) s = forward_keeps target s
 act_keeps p (items.back target) s = back_keeps target s
 act_keeps p (items.call r os d) s = operands_keep s.situation.world os s.situation s.stack _

@@ -26,7 +26,7 @@ use Rattle.code.specs.Instructions.{plain}
 use Rattle.code.specs.Bytes.{item_bytes, place_of, offset_of, code_bytes}
 use Rattle.code.specs.Laws.{CodePlays}
 use Rattle.code.specs.HeldProgram.{sizes_of, HoldsProgram}
-use Rattle.code.proofs.Play.{items_in, address, Good}
+use Rattle.code.proofs.Play.{items_in, address, Good, none_chosen}
 use Rattle.code.proofs.Memory.{holds_on}
 use Rattle.code.proofs.Places.{next_place, ends_by, starts, follow, item_holds}
 use Rattle.code.proofs.Ends.{quits}
@@ -43,6 +43,7 @@ use Rattle.code.proofs.Equalities.{first_equal_led, also_equal_led}
 use Rattle.code.proofs.ItemsThatPrint.{new_line_led, print_number_led, print_text_led}
 use Rattle.code.proofs.Characters.{print_character_led}
 use Rattle.code.proofs.Branching.{branch_led}
+use Rattle.code.proofs.Choosing.{choose_led, case_led}
 use Rattle.code.proofs.Jumping.{jump_led, back_led}
 use Rattle.code.proofs.Calling.{call_led}
 use Rattle.code.proofs.Returning.{return_led}
@@ -85,6 +86,7 @@ module _ (story : List ℕ) (a : Addresses) (p : ProgramOf) (accepted : IsAccept
       globals = good.globals;
       sizes = good.sizes;
       stored = good.stored;
+      chosen = none_chosen story m;
     };
   }
 
@@ -157,10 +159,10 @@ module _ (story : List ℕ) (a : Addresses) (p : ProgramOf) (accepted : IsAccept
       go (items.entry width n o d) f st is text = entry_led c width n o d words is.0 is.1 is.2 good.room st
       go (items.assign_entry width n o q d) f st is text =
           assign_entry_led c width n o q d words is.0 is.1 is.2 is.3 good.room st
-      go (items.keep x) f st is text = keep_led c x words is st
-      go items.first_equal f st is text = first_equal_led c words good.room st
-      go items.also_equal f st is text = also_equal_led c words good.room st
-      go items.drop_below f st is text = drop_below_led c words st
+      go (items.keep x) f st is text = keep_led c x s.chosen words is st
+      go items.first_equal f st is text = first_equal_led c s.chosen words good.room st
+      go items.also_equal f st is text = also_equal_led c s.chosen words good.room st
+      go items.drop_below f st is text = drop_below_led c s.chosen words st
       go (items.print_text bytes) f st is text = print_text_led c bytes words text good.room st
       go (items.print_character o) f st is text = print_character_led c o words is good.room st
       go (items.print_number o) f st is text = print_number_led c o words is good.room st
@@ -168,9 +170,12 @@ module _ (story : List ℕ) (a : Addresses) (p : ProgramOf) (accepted : IsAccept
       go items.quit f st is text = quits (around c) m s.situation.locals words s.situation.world.text full
           (here c) s.situation.world.fuel s.situation.world
           (single c items.quit (plain operations.Quit []) refl refl st).held
-      go (items.branch test os when target) f st is text = branch_led c test os when target words is.0 is.1 good.room
-          st
-      go (items.jump target) f st is text = jump_led c target words good.room st
+      go (items.branch test os when target) f st is text =
+          branch_led c test os when target s.chosen words is.0 is.1 good.room st
+      go (items.choose o) f st is text = choose_led c o words is good.room st
+      go (items.case test ns when target) f st is text =
+          case_led c test ns when target s.chosen words is.0 is.1 good.room good.chosen st
+      go (items.jump target) f st is text = jump_led c target s.chosen words good.room good.chosen st
       go (items.back target) f st is text = back_led c target words good.room st
       go (items.call r os d) f st is text = call_led c r os d words is.0 is.1 is.4 is.2 good.room st
       go (items.return o) f st is text = return_led c o words is st

@@ -24,7 +24,8 @@ use Rattle.items.specs.Items as items
 use Rattle.checker.specs.declared.cause.Cause.TheVariants as causes
 use Rattle.code.specs.Addresses.{Addresses, fault_address}
 use Rattle.code.specs.Instructions.{plain, branching, fail, labelled, takes, operands, test_operation, tested_code}
-use Rattle.code.specs.Instructions.{asks_none, least_word, branch_code, calling, call_operation, call_result}
+use Rattle.code.specs.Instructions.{asks_none, least_word, branch_code, compared, case_code, calling, call_operation}
+use Rattle.code.specs.Instructions.{call_result}
 use Rattle.code.specs.Instructions.{call_code, divided, character_code, item_code, most_tested, most_arguments}
 use Rattle.code.specs.Instructions.{number_of, temporary, constant, pull, giving, result_in, entries_in, is_entry}
 use Rattle.code.specs.Instructions.{load_operation, store_operation, behind_comparison, tested_index, at_index}
@@ -310,6 +311,21 @@ branch_some test os when = go (asks_none test os)
     go true = omega (arith, tested_length items.less (os ++ items.number least_word ∷ []) when 2)
     go false = omega (arith, tested_length test os when 2)
 
+-- the test of a case likewise
+case_length : (test : Test) (ns : List ℕ) (when : Bool) (offset : ℕ)
+    → length (bytes_of_all (case_code test ns when offset)) + 1 ≡ length (bytes_of_all (case_code test ns when 2))
+    + size_with (form_for offset)
+case_length test ns when offset =
+    let op = test_operation test in
+    omega (
+      arith,
+      labelled_length op (compared ns) when offset,
+      labelled_length op (compared ns) when 2,
+    )
+
+case_some : (test : Test) (ns : List ℕ) (when : Bool) → 1 ≤ length (bytes_of_all (case_code test ns when 2))
+case_some test ns when = omega (arith, labelled_length (test_operation test) (compared ns) when 2)
+
 -- Items
 
 -- where arrays have these sizes
@@ -368,6 +384,7 @@ module _ (sizes : List ℕ) where
         length-append (bytes_of_all (character_code no_addresses o)) [],
       )
   same_length a offset (items.branch test os when target) e = absurd (cc)
+  same_length a offset (items.case test ns when target) e = absurd (cc)
   same_length a offset (items.jump target) e = refl
   same_length a offset (items.back target) e = refl
   same_length a offset (items.call r os d) e =
@@ -396,6 +413,19 @@ module _ (sizes : List ℕ) where
         length-append (bytes_of_all (branch_code test given when 2)) [],
       )
 
+  case_size : (a : Addresses) (n : ℕ) (rest : List ℕ) (test : Test) (ns : List ℕ) (when : Bool) (target : ℕ)
+      → length (item_bytes sizes a (offset_over (target - (n + 1)) rest) (items.case test ns when target))
+      ≡ part_size n (part_of sizes (items.case test ns when target)) rest
+  case_size a n rest test ns when target =
+      let offset = offset_over (target - (n + 1)) rest in
+      omega (
+        arith,
+        case_length test ns when offset,
+        case_some test ns when,
+        length-append (bytes_of_all (case_code test ns when offset)) [],
+        length-append (bytes_of_all (case_code test ns when 2)) [],
+      )
+
   -- the bytes of an item are those of its part
   pub item_length : (a : Addresses) (n : ℕ) (rest : List ℕ) (offset : ℕ) (i : Item)
       → ((target : ℕ) → target_of i ≡ Some target → offset ≡ offset_over (target - (n + 1)) rest)
@@ -403,4 +433,7 @@ module _ (sizes : List ℕ) where
   item_length a n rest offset (items.branch test os when target) is =
       ap (λ (k : ℕ). length (item_bytes sizes a k (items.branch test os when target))) (is target refl)
       ∙ branch_size a n rest test os when target
+  item_length a n rest offset (items.case test ns when target) is =
+      ap (λ (k : ℕ). length (item_bytes sizes a k (items.case test ns when target))) (is target refl)
+      ∙ case_size a n rest test ns when target
   item_length a n rest offset i is = omega (arith, same_length a offset i refl)

@@ -8,6 +8,7 @@ pub mod Calling
 pub mod Chains
 pub mod CharacterTests
 pub mod Characters
+pub mod Choosing
 pub mod Codes
 pub mod Delivering
 pub mod Ends

@@ -131,7 +131,7 @@ writes_ground base memory variable word ground low high =
 module _ (story : List ℕ) (a : Addresses) (globals : List ℕ) (arrays : List (List ℕ)) (memory : List ℕ)
     (ground : Ground (static_base_of story) memory) (few : length globals ≤ 232)
     (stored : Stored story a globals arrays memory) where
-  same_globals : globals_of memory ≡ globals_of story
+  pub same_globals : globals_of memory ≡ globals_of story
   same_globals =
       let high = stored.header 12 (omega arith) in
       let low = stored.header 13 (omega arith) in

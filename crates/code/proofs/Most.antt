@@ -15,7 +15,7 @@ use Rattle.std.proofs.Common.{◌≡◌, ℕ, ◌+◌, ◌*◌, ◌≤◌, List,
 use Rattle.std.specs.Prelude.{if◌then◌else◌, ◌+◌, ◌*◌, ℕ, List, [], ◌∷◌, length}
 
 -- An operand has 2 bytes, or 1 and an instruction `pull`; a label has 4 bytes at most, a fault inline 4, and the tests
--- of an index 10
+-- of an index 10. A case compares its word with three numbers at most.
 abbrev pub most : Item → ℕ
 most (items.move o d) = 5
 most (items.apply_prefix op o d) = 6
@@ -28,6 +28,8 @@ most items.first_equal = 19
 most items.also_equal = 25
 most items.drop_below = 3
 most (items.branch test os when target) = 6 + 4 * length os
+most (items.choose o) = 5
+most (items.case test ns when target) = 13
 most (items.jump target) = 3
 most (items.back target) = 3
 most (items.call r os d) = 9 + 4 * length os

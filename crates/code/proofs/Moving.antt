@@ -1,6 +1,6 @@
 -- Items that move, keep and drop words.
 use Rattle.std.proofs.Common.{◌≡◌, ℕ, ◌+◌, ◌≤◌, List, [], ◌∷◌, length, Bool, true, false, refl, sym, ap, ◌∙◌}
-use Rattle.std.proofs.Common.{subst, arith}
+use Rattle.std.proofs.Common.{Option, None, subst, arith}
 use Rattle.std.specs.Prelude.{nat_le, if◌then◌else◌, map}
 use Rattle.std.proofs.lemmas.Bool.{leb-true}
 use Rattle.zcore.specs.declared.instruction.Operand.TheVariants.{Small}
@@ -20,8 +20,8 @@ use Rattle.code.proofs.Parts.{machine as at_words, pushes, Writes, global_writes
 use Rattle.code.proofs.Steps.{point, one_step, one_operand, two_operands, small_value}
 use Rattle.code.proofs.SingleSteps.{pull_step, pull_below_step, copy_step}
 use Rattle.code.proofs.Fitting.{Shaped}
-use Rattle.code.proofs.Arriving.{Running, at, around, here, LedFrom, Stands, room_for, code_here, arrives, arrives_on}
-use Rattle.code.proofs.Arriving.{situation_here}
+use Rattle.code.proofs.Arriving.{Running, at, at_case, around, here, LedFrom, Stands, room_for, code_here, arrives}
+use Rattle.code.proofs.Arriving.{arrives_on, situation_here}
 use Rattle.code.proofs.Variables.{memory_with, variable_held}
 use Rattle.code.proofs.Temporaries.{scratch_here, made}
 use Rattle.code.proofs.Delivering.{memory_after, locals_after, stack_after, delivered_led, stored_step}
@@ -146,6 +146,7 @@ module _ (c : Running) where
         routine = routine;
         place = place + 1;
         stack = after;
+        chosen = None;
         callers = callers;
         situation = situation;
       }))
@@ -167,6 +168,7 @@ module _ (c : Running) where
         routine = routine;
         place = place + 1;
         stack = after;
+        chosen = None;
         callers = callers;
         situation = situation;
       }))
@@ -175,16 +177,24 @@ module _ (c : Running) where
     where
       go : (b : Bool) → nat_le (length after) 48 ≡ b
           → LedFrom c before (if b then stack.goes
-          (record { routine = routine; place = place + 1; stack = after; callers = callers; situation = situation })
+          (record {
+            routine = routine;
+            place = place + 1;
+            stack = after;
+            chosen = None;
+            callers = callers;
+            situation = situation;
+          })
           else stack.stuck)
       go true e = written_led before after m1 situation end is (leb-true _ _ e) stored locals_same globals_same
           arrays_same fuel text leads
       go false e = tt
 
-  pub keep_led : (x : source.Variable) (s : List ℕ) → IsVariableHere x → Stands c (items.keep x)
-      → LedFrom c s (stack.keep x s (at c s))
-  keep_led x [] is stands = tt
-  keep_led x (v ∷ s) is stands =
+  -- whatever word of a `switch` there is
+  pub keep_led : (x : source.Variable) (chosen : Option ℕ) (s : List ℕ) → IsVariableHere x → Stands c (items.keep x)
+      → LedFrom c s (stack.keep x s (at_case c chosen s))
+  keep_led x chosen [] is stands = tt
+  keep_led x chosen (v ∷ s) is stands =
       let held = variable_held c m x (scratch_here c) is in
       let i = copy (number_of x) in
       let there = single c (items.keep x) i refl refl stands in
@@ -199,10 +209,11 @@ module _ (c : Running) where
       (copy_step (around c) world.fuel m locals s world.text (memory_with c m x v) l1 (here c) (number_of x) v
       (held.writes v) there.held))
 
-  pub drop_below_led : (s : List ℕ) → Stands c items.drop_below → LedFrom c s (stack.drop_below s (at c s))
-  drop_below_led [] stands = tt
-  drop_below_led (v ∷ []) stands = tt
-  drop_below_led (v ∷ x ∷ s) stands =
+  pub drop_below_led : (chosen : Option ℕ) (s : List ℕ) → Stands c items.drop_below
+      → LedFrom c s (stack.drop_below s (at_case c chosen s))
+  drop_below_led chosen [] stands = tt
+  drop_below_led chosen (v ∷ []) stands = tt
+  drop_below_led chosen (v ∷ x ∷ s) stands =
       let i = pull 0 in
       let there = single c items.drop_below i refl refl stands in
       let end = here c + length (bytes_of i) in

@@ -138,6 +138,9 @@ module _ (sizes : List ℕ) where
       leads (items.branch test os when t) target e rest at =
           let same : t ≡ target = cc in
           branch_offset is rest n t at ∙ ap (λ (x : ℕ). offset_over (x - (n + 1)) rest) same
+      leads (items.case test ns when t) target e rest at =
+          let same : t ≡ target = cc in
+          branch_offset is rest n t at ∙ ap (λ (x : ℕ). offset_over (x - (n + 1)) rest) same
       leads i target e rest at = absurd (cc)
 
   -- Bytes

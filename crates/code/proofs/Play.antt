@@ -1,6 +1,6 @@
 -- Which state of the machine stands for a state of the machine of items.
 use Rattle.std.proofs.Common.{◌≡◌, ℕ, ◌+◌, ◌*◌, ◌<◌, ◌≤◌, List, [], ◌∷◌, ◌++◌, length, reverse, drop, slice_index}
-use Rattle.std.proofs.Common.{Option, None}
+use Rattle.std.proofs.Common.{Option, Some, None}
 use Rattle.std.specs.Prelude.{map}
 use Rattle.std.specs.List.{All, concat}
 use Rattle.zcore.specs.declared.next.Next.{Next}
@@ -53,6 +53,14 @@ pub record Stored (story : List ℕ) (a : Addresses) (globals : List ℕ) (array
     pub kept : drop (static_base_of story) memory ≡ drop (static_base_of story) story
     pub values : (g : ℕ) → g < length globals → word_at memory (globals_of story + 2 * g) ≡ slice_index globals g
     pub regions : HoldsArrays story a arrays memory
+
+-- a word of a `switch` that is tested stands in the last variable
+abbrev pub IsChosen : List ℕ → List ℕ → Option ℕ → Type 0
+IsChosen story memory chosen = (v : ℕ) → chosen ≡ Some v → word_at memory (globals_of story + 478) ≡ v
+
+-- where none is tested there is nothing to show
+pub none_chosen : (story memory : List ℕ) → IsChosen story memory None
+none_chosen story memory v e = absurd (cc)
 
 -- how many arguments the first of some calls was given, and the others
 abbrev pub first_count : List ℕ → ℕ
@@ -131,6 +139,7 @@ module _ (story : List ℕ) (a : Addresses) (p : ProgramOf) where
     pub globals : length s.situation.world.globals ≡ length p.globals
     pub sizes : map length s.situation.world.arrays ≡ sizes_of p
     pub stored : Stored story a s.situation.world.globals s.situation.world.arrays memory
+    pub chosen : IsChosen story memory s.chosen
 
   -- the machine comes to a state that stands for this one
   pub record Arrives (here : Next) (t : State) (s : stack.State) : Type 0 where

@@ -1,6 +1,6 @@
 -- The items of a routine print no texts but its own.
-use Rattle.std.proofs.Common.{ℕ, ◌+◌, List, [], ◌∷◌, ◌++◌, Bool, true, false}
-use Rattle.std.specs.Prelude.{if◌then◌else◌, not}
+use Rattle.std.proofs.Common.{ℕ, ◌+◌, List, [], ◌∷◌, ◌++◌, Bool, true, false, Option, Some, None}
+use Rattle.std.specs.Prelude.{if◌then◌else◌, not, ◌==◌}
 use Rattle.std.specs.List.{All}
 use Rattle.std.proofs.lemmas.List.Elements.{All-nil, All-cons, All-head, All-tail, All-append}
 use Rattle.expressions.specs.declared.tree.Binary.{Binary}
@@ -11,17 +11,19 @@ use Rattle.expressions.specs.declared.tree.Prefix.TheVariants as prefixes
 use Rattle.expressions.specs.declared.tree.Step.{Step}
 use Rattle.expressions.specs.declared.tree.Width.{Width}
 use Rattle.checker.specs.declared.resolved.Variable.{Variable}
-use Rattle.checker.specs.Resolved.{Value, Values, none, more, Printed, Action, Actions, stop, next, RoutineOf}
+use Rattle.checker.specs.Resolved.{Value, Values, none, more, Printed, Action, Actions, stop, next, CasesOf, RoutineOf}
 use Rattle.checker.specs.Resolved as source
 use Rattle.checker.specs.Meaning.{is_true}
-use Rattle.checker.specs.Printable.{IsPrintableItem, IsPrintableAction, ArePrintableActions}
+use Rattle.checker.specs.Printable.{IsPrintableItem, IsPrintableAction, ArePrintableActions, ArePrintableCases}
 use Rattle.lexer.specs.Printable.{IsPrintable}
 use Rattle.items.specs.Items.{Item, Operand, pushed, number, variable, Destination, push, into, nowhere, operand_of}
 use Rattle.items.specs.Items.{alone, left_of, if_pushed, is_few, agrees, value_count, operand_count, operands_count}
 use Rattle.items.specs.Items.{branch_count, many_count, moved, truth_items, after_items, kept_items, value_items}
 use Rattle.items.specs.Items.{operands_items, branch_items, many_items, also_items, printed_count, action_count}
-use Rattle.items.specs.Items.{actions_count, alone_items, printed_items, prints_items, Exits, exits_to, action_items}
-use Rattle.items.specs.Items.{actions_items, return_true, routine_items}
+use Rattle.items.specs.Items.{alone_items, printed_items, prints_items, Exits, exits_to, action_items}
+use Rattle.items.specs.Items.{actions_items, return_true, routine_items, once_count, once_items, test_count}
+use Rattle.items.specs.Items.{test_items, Group, groups_of, group_count, group_items, last_items, tests_count}
+use Rattle.items.specs.Items.{tests_items, over_count, over_items, actions_count, cases_count, cases_items}
 use Rattle.items.specs.Items as items
 
 -- a text that an item prints has only bytes from 32 to 126
@@ -252,6 +254,34 @@ prints_fine [] h at = nothing
 prints_fine (i ∷ is) h at = joined (printed_items at i) _ (printed_fine i (All-head IsPrintableItem i is h) at)
     (prints_fine is (All-tail IsPrintableItem i is h) (at + printed_count i))
 
+-- Loops and `switch`
+
+once_fine : (v : Option Value) (at : ℕ) → Fine (once_items at v)
+once_fine None at = nothing
+once_fine (Some v) at = (value_fine v).value at nowhere
+
+test_fine : (v : Option Value) (at end : ℕ) → Fine (test_items at v end)
+test_fine None at end = nothing
+test_fine (Some v) at end = (value_fine v).branch at false end
+
+group_fine : (g : Group) (at inside : ℕ) → Fine (group_items at g inside)
+group_fine (items.numbers ns) at inside = first _ _ tt nothing
+group_fine (items.range low high) at inside = first _ _ tt (first _ _ tt nothing)
+
+last_fine : (g : Group) (behind : ℕ) → Fine (last_items g behind)
+last_fine (items.numbers ns) behind = first _ _ tt nothing
+last_fine (items.range low high) behind = first _ _ tt (first _ _ tt nothing)
+
+tests_fine : (gs : List Group) (at inside behind : ℕ) → Fine (tests_items at gs inside behind)
+tests_fine [] at inside behind = first _ _ tt nothing
+tests_fine (g ∷ []) at inside behind = last_fine g behind
+tests_fine (g ∷ h ∷ gs) at inside behind =
+    joined (group_items at g inside) _ (group_fine g at inside)
+    (tests_fine (h ∷ gs) (at + group_count g) inside behind)
+
+over_fine : (later end : ℕ) → Fine (over_items later end)
+over_fine later end = either_fine (later == 0) _ _ nothing (first _ _ tt nothing)
+
 mutual
   action_fine : (x : Exits) (a : Action) → IsPrintableAction a → (at : ℕ) → Fine (action_items x at a)
   action_fine x source.empty h at = nothing
@@ -274,6 +304,28 @@ mutual
       joined (branch_items at v false _) _ ((value_fine v).branch at false _)
       (last (action_items inside (at + branch_count v false) a) _
       (action_fine inside a h (at + branch_count v false)) tt)
+  action_fine x (source.do_until a v) h at =
+      let end = at + action_count a + branch_count v true + 1 in
+      joined (action_items (exits_to (at + action_count a) end) at a) _
+      (action_fine (exits_to (at + action_count a) end) a h at)
+      (last (branch_items (at + action_count a) v true end) _ ((value_fine v).branch (at + action_count a) true end)
+      tt)
+  action_fine x (source.for_loop before test behind a) h at =
+      let tested = at + once_count before in
+      let inside = tested + test_count test in
+      let done = inside + action_count a in
+      let end = done + once_count behind + 1 in
+      joined (once_items at before) _ (once_fine before at)
+      (joined (test_items tested test end) _ (test_fine test tested end)
+      (joined (action_items (exits_to done end) inside a) _ (action_fine (exits_to done end) a h inside)
+      (last (once_items done behind) _ (once_fine behind done) tt)))
+  action_fine x (source.switch_on v cs) h at =
+      let tested = at + operand_count v (alone v) + 1 in
+      let end = tested + cases_count cs in
+      joined (alone_items at v) _ (alone_fine v at)
+      (first (items.choose (alone v)) _ tt (cases_fine (record x { breaks = end }) cs h tested end))
+  action_fine x source.break_out h at = first _ _ tt nothing
+  action_fine x source.continue_on h at = first _ _ tt nothing
   action_fine x (source.return_value v) h at = last (alone_items at v) _ (alone_fine v at) tt
   action_fine x source.quit h at = first _ _ tt nothing
   action_fine x (source.effect v) h at = (value_fine v).value at nowhere
@@ -282,6 +334,18 @@ mutual
   actions_fine x stop h at = nothing
   actions_fine x (next a rest) h at =
       joined (action_items x at a) _ (action_fine x a h.0 at) (actions_fine x rest h.1 (at + action_count a))
+
+  cases_fine : (x : Exits) (cs : CasesOf) → ArePrintableCases cs → (at end : ℕ) → Fine (cases_items x at cs end)
+  cases_fine x source.no_case h at end = nothing
+  cases_fine x (source.default_case xs) h at end = actions_fine x xs h at
+  cases_fine x (source.case gs xs rest) h at end =
+      let groups = groups_of gs in
+      let inside = at + tests_count groups in
+      let later = inside + actions_count xs + over_count (cases_count rest) in
+      joined (tests_items at groups inside later) _ (tests_fine groups at inside later)
+      (joined (actions_items x inside xs) _ (actions_fine x xs h.0 inside)
+      (joined (over_items (cases_count rest) end) _ (over_fine (cases_count rest) end)
+      (cases_fine x rest h.1 later end)))
 
 pub texts_printable : (r : RoutineOf) → ArePrintableActions r.body → All HasPrintableText (routine_items r)
 texts_printable r h =

@@ -29,7 +29,7 @@ use Rattle.code.proofs.Behind.{Holds, holds_on}
 use Rattle.code.specs.Instructions.{plain, number_of, call_result}
 use Rattle.code.specs.HeldProgram.{sizes_of}
 use Rattle.code.proofs.Play.{Leads, items_in, address, frames_of, frame_of, back_of, result_of, first_count}
-use Rattle.code.proofs.Play.{other_counts, IsCaller, Led}
+use Rattle.code.proofs.Play.{other_counts, IsCaller, Led, none_chosen}
 use Rattle.code.proofs.Parts.{Around, machine as at_words, pushes}
 use Rattle.code.proofs.Steps.{point, one_step, first_held, others_held}
 use Rattle.code.proofs.Ends.{does_after, quits}
@@ -165,6 +165,7 @@ module _ (c : Running) where
         globals = good.globals;
         sizes = good.sizes;
         stored = good.stored;
+        chosen = none_chosen story m;
       };
     }
 
@@ -173,7 +174,14 @@ module _ (c : Running) where
 
     abbrev resumed : List ℕ → Situation → stack.State
     resumed words situation =
-        record { routine = d.routine; place = d.place; stack = words; callers = callers; situation = situation }
+        record {
+          routine = d.routine;
+          place = d.place;
+          stack = words;
+          chosen = None;
+          callers = callers;
+          situation = situation;
+        }
 
     room : state.words (g ∷ others) < 65536
     room = let waiting = caller_words story a p accepted holds (d ∷ callers) counts all in omega (arith, waiting, few)
@@ -211,6 +219,7 @@ module _ (c : Running) where
             globals = good.globals;
             sizes = good.sizes;
             stored = good.stored;
+            chosen = none_chosen story m;
           };
           leads = one_step (point (here c) world.fuel) (point back world.fuel) (called_by (d ∷ callers) counts words)
               end made_so;
@@ -238,6 +247,7 @@ module _ (c : Running) where
             globals = good.globals;
             sizes = good.sizes;
             stored = good.stored;
+            chosen = none_chosen story m;
           };
           leads = one_step (point (here c) world.fuel) (point back world.fuel) (called_by (d ∷ callers) counts words)
               end made_so;
@@ -278,6 +288,7 @@ module _ (c : Running) where
             globals = held.globals_same v ∙ good.globals;
             sizes = ap (map length) (held.arrays_same v) ∙ good.sizes;
             stored = held.stored v;
+            chosen = none_chosen story m1;
           };
           leads = subst (λ t. Leads (point (here c) world.fuel) (called_by (d ∷ callers) counts words)
               (point back situation.world.fuel) (at_words e m1 situation.locals d.stack t))

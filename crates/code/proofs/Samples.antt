@@ -14,10 +14,10 @@ use Rattle.forms.specs.declared.layout.Form.TheVariants.{One, Two, Far}
 use Rattle.forms.specs.declared.layout.Part.{Part}
 use Rattle.forms.specs.declared.layout.BranchUse.{BranchUse}
 use Rattle.forms.specs.Layout.{uses}
-use Rattle.items.specs.Items.{Item, pushed, number, variable, push, into, nowhere, is_zero, same, move, operate, step}
-use Rattle.items.specs.Items.{entry, assign_entry, print_text, branch, call, return}
+use Rattle.items.specs.Items.{Item, pushed, number, variable, push, into, nowhere, is_zero, less, greater, same, move}
+use Rattle.items.specs.Items.{operate, step, entry, assign_entry, print_text, branch, choose, case, jump, call, return}
 use Rattle.code.specs.Addresses.{Addresses}
-use Rattle.code.specs.Bytes.{item_bytes, parts_of}
+use Rattle.code.specs.Bytes.{item_bytes, parts_of, code_bytes}
 use Rattle.code.specs.HeldProgram.{start_code}
 
 abbrev a : Addresses
@@ -137,6 +137,26 @@ compares : item_bytes sizes a 10 (branch same (variable x ∷ number 1 ∷ numbe
     ≡ 193 ∷ 149 ∷ 1 ∷ 1 ∷ 2 ∷ 3 ∷ 202 ∷ []
 unfolding bytes_of
 compares = refl
+
+-- pull V; store V 7; store V x, for the word of a `switch`
+chooses : written (choose pushed) ∷ written (choose (number 7)) ∷ written (choose (variable x)) ∷ []
+    ≡ (233 ∷ 127 ∷ 255 ∷ []) ∷ (13 ∷ 255 ∷ 7 ∷ []) ∷ (45 ∷ 255 ∷ 1 ∷ []) ∷ []
+unfolding bytes_of
+chooses = refl
+
+-- je V 1 2 300 ?L
+cases_of_three : item_bytes sizes a 10 (case same (1 ∷ 2 ∷ 300 ∷ []) true 9)
+    ≡ 193 ∷ 148 ∷ 255 ∷ 1 ∷ 2 ∷ 1 ∷ 44 ∷ 202 ∷ []
+unfolding bytes_of
+cases_of_three = refl
+
+-- switch (x) { 1 to 3, 7: y++; default: y--; }
+switches : code_bytes sizes a (choose (variable x) ∷ case less (1 ∷ []) true 3 ∷ case greater (3 ∷ []) false 4
+    ∷ case same (7 ∷ []) false 6 ∷ step steps.Increment y nowhere ∷ jump 7 ∷ step steps.Decrement y nowhere ∷ [])
+    ≡ 45 ∷ 255 ∷ 1 ∷ 66 ∷ 255 ∷ 1 ∷ 198 ∷ 67 ∷ 255 ∷ 3 ∷ 70 ∷ 65 ∷ 255 ∷ 7 ∷ 71 ∷ 149 ∷ 2 ∷ 140 ∷ 0 ∷ 4 ∷ 150 ∷ 2
+    ∷ []
+unfolding bytes_of
+switches = refl
 
 -- jz g ?~L in two bytes
 two_bytes : item_bytes sizes a 65 (branch is_zero (variable g ∷ []) false 9) ≡ 160 ∷ 16 ∷ 0 ∷ 65 ∷ []

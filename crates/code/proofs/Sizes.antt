@@ -1,7 +1,7 @@
 -- How many bytes items have.
 use Rattle.std.proofs.Common.{◌≡◌, ◌≤◌, ◌+◌, ◌-◌, ◌*◌, ◌%◌, ◌==◌, ℕ, Bool, true, false, List, [], ◌∷◌, ◌++◌, length}
 use Rattle.std.proofs.Common.{take, refl, ap, arith, length-append, append-nil}
-use Rattle.std.specs.Prelude.{nat_lt, if◌then◌else◌, slice_index}
+use Rattle.std.specs.Prelude.{nat_lt, if◌then◌else◌, map, slice_index}
 use Rattle.std.specs.List.{flat_map}
 use Rattle.std.proofs.lemmas.List.{length-take}
 use Rattle.zcore.specs.declared.instruction.Operand.{Operand}
@@ -33,7 +33,8 @@ use Rattle.code.specs.Instructions.{tested_code, asks_none, least_word, branch_c
 use Rattle.code.specs.Instructions.{calling, call_code, return_code, most_tested, most_arguments}
 use Rattle.code.specs.Instructions.{branching, pull, is_entry, entries_in, load_operation, store_operation}
 use Rattle.code.specs.Instructions.{tested_index, at_index, entry_code, assigned_takes, assigned_word, passed_on}
-use Rattle.code.specs.Instructions.{assign_entry_code}
+use Rattle.code.specs.Instructions.{assign_entry_code, chosen_variable, choose_code, most_compared, compared}
+use Rattle.code.specs.Instructions.{case_code}
 use Rattle.code.specs.Bytes.{bytes_of_all, no_addresses, part_of, parts_of, code_size}
 use Rattle.code.proofs.Most.{most, most_of}
 use Rattle.code.proofs.Lengths.{all_length, one_length, labelled_length, beside}
@@ -385,6 +386,43 @@ branch_few sizes test os when target n rest =
       label_few (form_for offset),
     )
 
+-- `switch`
+
+choose_few : (o : items.Operand) → length (bytes_of (choose_code o)) ≤ 5
+choose_few items.pushed = omega (arith, plain_few operations.Pull (Small chosen_variable) refl)
+choose_few (items.number n) = store_few chosen_variable (constant n) (constant_few (nat_lt n 256) n)
+choose_few (items.variable x) = store_few chosen_variable (Variable (spec.number_of x)) (omega arith)
+
+constants_few : (ns : List ℕ) → operand_count (map constant ns) ≤ 2 * length ns
+constants_few [] = omega arith
+constants_few (n ∷ ns) =
+    let more = constants_few ns in
+    omega (
+      arith,
+      more,
+      length-append (operand_bytes (constant n)) (flat_map operand_bytes (map constant ns)),
+      constant_few (nat_lt n 256) n,
+    )
+
+compared_few : (ns : List ℕ) → operand_count (compared ns) ≤ 7
+compared_few ns =
+    let given = take most_compared ns in
+    omega (arith, constants_few given, length-take most_compared ns)
+
+case_few : (sizes : List ℕ) (test : Test) (ns : List ℕ) (when : Bool) (target n : ℕ) (rest : List ℕ)
+    → part_size n (part_of sizes (items.case test ns when target)) rest ≤ 13
+case_few sizes test ns when target n rest =
+    let op = test_operation test in
+    let offset = offset_over (target - (n + 1)) rest in
+    omega (
+      arith,
+      labelled_length op (compared ns) when 2,
+      beside_few test (compared ns),
+      compared_few ns,
+      length-append (bytes_of_all (case_code test ns when 2)) [],
+      label_few (form_for offset),
+    )
+
 -- an item without a text
 no_text : (is : List Instruction) → length (bytes_of_all is ++ []) ≡ length (bytes_of_all is)
 no_text is = ap length (append-nil (bytes_of_all is))
@@ -425,6 +463,9 @@ module _ (sizes : List ℕ) where
   part_few items.new_line n rest = omega arith
   part_few items.quit n rest = omega arith
   part_few (items.branch test os when target) n rest = branch_few sizes test os when target n rest
+  part_few (items.choose o) n rest = omega
+      (arith, no_text (choose_code o ∷ []), one_length (choose_code o), choose_few o)
+  part_few (items.case test ns when target) n rest = case_few sizes test ns when target n rest
   part_few (items.jump target) n rest = omega arith
   part_few (items.back target) n rest = omega arith
   part_few (items.call r os d) n rest =

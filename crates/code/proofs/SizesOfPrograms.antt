@@ -6,11 +6,10 @@ use Rattle.lexer.specs.declared.token.Position.{Position}
 use Rattle.lexer.specs.declared.token.Sign.TheVariants as s
 use Rattle.lexer.specs.Token.{Lexeme, name, sign}
 use Rattle.expressions.specs.Tree.{NameTree}
-use Rattle.statements.specs.Tree.{StatementTrees}
-use Rattle.statements.specs.Grammar.{IsSs}
-use Rattle.syntax.specs.Tree.{LiteralTree, ValueTree, RoutineTree, DirectiveTree, ProgramTree}
-use Rattle.syntax.specs.Grammar.{weight_of, IsK, k_number, k_negative, k_character, k_true, k_false, k_nothing}
-use Rattle.syntax.specs.Grammar.{k_name, IsNames, v_value, IsValues, values_stop, values_next, IsDirective}
+use Rattle.statements.specs.Tree.{LiteralTree, StatementTrees}
+use Rattle.statements.specs.Grammar.{IsK, k_number, k_negative, k_character, k_true, k_false, k_nothing, k_name, IsSs}
+use Rattle.syntax.specs.Tree.{ValueTree, RoutineTree, DirectiveTree, ProgramTree}
+use Rattle.syntax.specs.Grammar.{weight_of, IsNames, v_value, IsValues, values_stop, values_next, IsDirective}
 use Rattle.syntax.specs.Grammar.{d_global, d_global_value, d_constant, d_array, d_routine}
 use Rattle.syntax.specs.Grammar.{IsDirectives, directives_stop, directives_next, IsProgram, program}
 use Rattle.syntax.proofs.Spelled.{weight_Ss, spelled_Names, weighs}

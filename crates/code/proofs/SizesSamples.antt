@@ -1,5 +1,5 @@
 -- Sizes of items and routines, computed, and a program whose weight bounds them.
-use Rattle.std.proofs.Common.{◌≡◌, ◌+◌, ℕ, List, [], ◌∷◌, refl}
+use Rattle.std.proofs.Common.{◌≡◌, ◌+◌, ℕ, true, List, [], ◌∷◌, refl}
 use Rattle.std.specs.Prelude.{codes}
 use Rattle.lexer.specs.declared.token.Position.{Position}
 use Rattle.lexer.specs.declared.token.Sign.TheVariants as s
@@ -74,6 +74,13 @@ accesses_have : least_size sizes (items.entry widths.Byte 1 items.pushed items.p
     ≡ 23 ∷ 29 ∷ 29 ∷ []
 unfolding bytes_of
 accesses_have = refl
+
+-- store 255 300; je with 255 and three large constants
+switches_have : least_size sizes (items.choose (items.number 300))
+    ∷ least_size sizes (items.case items.same (300 ∷ 300 ∷ 300 ∷ 300 ∷ []) true 5) ∷ []
+    ≡ 5 ∷ 10 ∷ []
+unfolding bytes_of
+switches_have = refl
 
 -- [ Main; ];
 empty_has : routine_size sizes (record { locals = 0; body = source.stop }) ≡ 2

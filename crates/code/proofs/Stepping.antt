@@ -20,7 +20,7 @@ use Rattle.items.specs.Stack as stack
 use Rattle.code.proofs.Behind.{Holds, holds_on}
 use Rattle.code.specs.Instructions.{number_of, push, store, stepping}
 use Rattle.code.specs.Bytes.{text_bytes}
-use Rattle.code.proofs.Play.{moves}
+use Rattle.code.proofs.Play.{moves, none_chosen}
 use Rattle.code.proofs.Parts.{machine as at_words, pushes}
 use Rattle.code.proofs.Steps.{point, one_step, first_held, others_held, one_operand, two_operands, small_value}
 use Rattle.code.proofs.Steps.{variable_value, step_is}
@@ -87,6 +87,7 @@ module _ (c : Running) where
       globals = held.globals_same (new_word op x) ∙ good.globals;
       sizes = ap (map length) (held.arrays_same (new_word op x)) ∙ good.sizes;
       stored = held.stored (new_word op x);
+      chosen = none_chosen story (new_memory op x);
     };
   }
 

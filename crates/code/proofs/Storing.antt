@@ -27,7 +27,7 @@ use Rattle.code.specs.Addresses.{fault_address}
 use Rattle.code.specs.Instructions.{number_of, plain, push, pull, store, entries_in, store_operation}
 use Rattle.code.specs.Instructions.{assigned_word, passed_on, at_index}
 use Rattle.code.proofs.Behind.{Holds, holds_on}
-use Rattle.code.proofs.Play.{Leads, Stored, stays}
+use Rattle.code.proofs.Play.{Leads, Stored, stays, none_chosen}
 use Rattle.code.proofs.Memory.{word_of, with_variable}
 use Rattle.code.proofs.Regions.{KeepsOutside}
 use Rattle.code.proofs.StoredEntries.{entry_address, written_at, last_byte, Inside, entry_inside, entry_keeps}
@@ -178,6 +178,7 @@ module _ (c : Running) where
         globals = good.globals;
         sizes = same_sizes ∙ good.sizes;
         stored = next_stored;
+        chosen = none_chosen story next_memory;
       };
     }
 

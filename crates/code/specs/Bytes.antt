@@ -36,6 +36,7 @@ item_bytes sizes a offset item = bytes_of_all (item_code sizes a offset item) ++
 -- the item to which one branches
 abbrev pub target_of : Item → Option ℕ
 target_of (items.branch test os when target) = Some target
+target_of (items.case test ns when target) = Some target
 target_of _ = None
 
 -- wherever all else stands
@@ -50,6 +51,7 @@ label_size (Some target) = 1
 -- where the item of a number leads to, from the place of the next one
 abbrev pub offset_of : (ℕ → ℕ) → ℕ → Item → ℕ
 offset_of places n (items.branch test os when target) = 2 + (places target - places (n + 1))
+offset_of places n (items.case test ns when target) = 2 + (places target - places (n + 1))
 offset_of places n (items.jump target) = jump_offset (places (n + 1)) (places target)
 offset_of places n (items.back target) = jump_offset (places (n + 1)) (places target)
 offset_of places n _ = 0

@@ -1,8 +1,10 @@
 -- How items are written: the instructions that do them (Z-Machine Standards Document 1.1, sections 4 and 15). Numbers
 -- and variables stand in place in an instruction; the other operands are on the stack of the routine's frame.
--- Variables from 248 on are the compiler's; none keeps its value beyond an item.
+-- Variables from 248 on are the compiler's; none keeps its value beyond an item but the last, which holds the word of a
+-- `switch` for the tests of its cases.
 use Rattle.std.specs.Prelude.{◌+◌, ◌-◌, ◌/◌, ◌%◌, ◌==◌, ◌&&◌, not, ℕ, zero, suc, nat_le, nat_lt, Bool, true, false}
-use Rattle.std.specs.Prelude.{if◌then◌else◌, List, [], ◌∷◌, ◌++◌, take, length, slice_index, Option, Some, None}
+use Rattle.std.specs.Prelude.{if◌then◌else◌, List, [], ◌∷◌, ◌++◌, map, take, length, slice_index}
+use Rattle.std.specs.Prelude.{Option, Some, None}
 use Rattle.zcore.specs.declared.instruction.Operand.{Operand}
 use Rattle.zcore.specs.declared.instruction.Operand.TheVariants.{Large, Small, Variable}
 use Rattle.zcore.specs.declared.instruction.Operation.{Operation}
@@ -331,6 +333,27 @@ branch_code test os when offset =
     if asks_none test os then tested_code items.less (os ++ items.number least_word ∷ []) when offset
     else tested_code test os when offset
 
+-- `switch`
+
+-- the variable of the word that cases are tested on
+abbrev pub chosen_variable : ℕ
+chosen_variable = 255
+
+abbrev pub choose_code : items.Operand → Instruction
+choose_code items.pushed = pull chosen_variable
+choose_code (items.number n) = store chosen_variable (constant n)
+choose_code (items.variable x) = store chosen_variable (Variable (number_of x))
+
+-- the most numbers that a word is compared with; an accepted program has no more
+abbrev pub most_compared : ℕ
+most_compared = 3
+
+abbrev pub compared : List ℕ → List Operand
+compared ns = Variable chosen_variable ∷ map constant (take most_compared ns)
+
+abbrev pub case_code : Test → List ℕ → Bool → ℕ → List Instruction
+case_code test ns when offset = labelled (test_operation test) (compared ns) when offset
+
 -- Calls and returns
 
 -- Up to three arguments have one byte of types, more have two; no argument has none (section 15, `call_1s` and
@@ -382,6 +405,8 @@ item_code sizes a offset (items.print_number o) = plain PrintNumber (in_place o 
 item_code sizes a offset items.new_line = plain NewLine [] ∷ []
 item_code sizes a offset items.quit = plain Quit [] ∷ []
 item_code sizes a offset (items.branch test os when target) = branch_code test (take most_tested os) when offset
+item_code sizes a offset (items.choose o) = choose_code o ∷ []
+item_code sizes a offset (items.case test ns when target) = case_code test ns when offset
 item_code sizes a offset (items.jump target) = plain Jump (Large (offset % 65536) ∷ []) ∷ []
 item_code sizes a offset (items.back target) = plain Jump (Large (offset % 65536) ∷ []) ∷ []
 item_code sizes a offset (items.call r os d) = call_code (slice_index a.routines r) (take most_arguments os) d

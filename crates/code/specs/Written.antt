@@ -58,6 +58,8 @@ abbrev pub branch_offsets : (ℕ → ℕ) → ℕ → List Item → List ℕ
 branch_offsets places n [] = []
 branch_offsets places n (items.branch test os when target ∷ is) =
     offset_of places n (items.branch test os when target) ∷ branch_offsets places (n + 1) is
+branch_offsets places n (items.case test ns when target ∷ is) =
+    offset_of places n (items.case test ns when target) ∷ branch_offsets places (n + 1) is
 branch_offsets places n (i ∷ is) = branch_offsets places (n + 1) is
 
 -- the code of a routine that is ready to be written: how many locals it has, the sizes of the arrays, and its items

@@ -23,6 +23,9 @@ use items::Destination;
 use std::alloc::AllocError;
 use zcore::{Operand, Operation};
 
+/// Words from this one on are negative as signed numbers.
+const FIRST_NEGATIVE: u16 = 0x8000;
+
 /// An array in a story, as entries of a width.
 #[derive(Clone, Copy)]
 pub struct Array {
@@ -66,7 +69,7 @@ fn entries_in(array: Array) -> u16
 fn is_entry(count: u16, index: u16) -> bool
     ensures { result ≡ spec.is_entry count index }
 {
-    index < 32768 && index < count
+    index < FIRST_NEGATIVE && index < count
 }
 
 /// How far a branch leads to behind a comparison with a constant.

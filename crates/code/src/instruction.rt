@@ -228,6 +228,9 @@ pub const SECOND: u8 = 249;
 
 pub const THIRD: u8 = 250;
 
+/// The variable of the word that the cases of a `switch` are tested on.
+pub const CHOSEN: u8 = 255;
+
 /// The text at a packed address is printed.
 pub fn print_fault(text: u16) -> Instruction
     ensures { instruction_of result ≡ spec.plain PrintPacked (Large text ∷ []) }

@@ -11,11 +11,11 @@ use crate::addresses::{Addresses, routine_address};
 use crate::calls::{put_call, put_return};
 use crate::entries::{array_of, put_assign_entry, put_entry};
 use crate::instruction::{Operands, plain, pull, put_all};
-use crate::jumps::{put_branch, put_jump};
+use crate::jumps::{put_branch, put_case, put_jump};
 use crate::operands::in_place;
 use crate::operators::{put_also_equal, put_binary, put_first_equal, put_prefix};
 use crate::printing::{put_character, put_text};
-use crate::words::{put_keep, put_move, put_step};
+use crate::words::{put_choose, put_keep, put_move, put_step};
 use items::Item;
 use std::alloc::{AllocError, Global};
 use zcore::Operation;
@@ -85,6 +85,10 @@ pub fn put_item(
         Item::Quit => put_bare(bytes, Operation::Quit)?,
         Item::Branch(test, operands, when, _) => {
             put_branch(bytes, alloc, *test, operands, *when, offset)?
+        }
+        Item::Choose(operand) => put_choose(bytes, *operand)?,
+        Item::Case(test, numbers, when, _) => {
+            put_case(bytes, alloc, *test, numbers, *when, offset)?
         }
         Item::Jump(_) | Item::Back(_) => put_jump(bytes, (offset % 65536) as u16)?,
         Item::Call(routine, operands, destination) => {

@@ -1,6 +1,6 @@
 //! Branches and jumps to other items.
 
-ghost use Rattle.std.specs.Prelude.{◌≡◌, ◌≤◌, ◌+◌, ◌++◌, [], ◌∷◌, length, take, not, OnOk};
+ghost use Rattle.std.specs.Prelude.{◌≡◌, ◌≤◌, ◌+◌, ◌++◌, [], ◌∷◌, length, take, not, IfOk, OnOk};
 ghost use Rattle.zcore.specs.declared.instruction.Operation.TheVariants.{Jump};
 ghost use Rattle.zcore.specs.declared.instruction.Operand.TheVariants.{Large};
 ghost use Rattle.items.specs.Items as source_items;
@@ -9,14 +9,17 @@ ghost use Rattle.code.specs.Instructions.{plain, labelled, tested_code, branch_c
 ghost use Rattle.code.specs.Instructions as spec;
 ghost use Rattle.code.specs.Bytes.{bytes_of_all};
 
-use crate::instruction::{Operands, plain, put_all, put_instruction};
-use crate::operands::{put_named, put_takes};
+use crate::instruction::{CHOSEN, Operands, plain, put_all, put_instruction};
+use crate::operands::{constant, put_named, put_takes};
 use items::Test;
 use std::alloc::{AllocError, Global};
 use zcore::{Branch, Operand, Operation};
 
 /// The most operands of an instruction that branches.
 const MOST_TESTED: usize = 4;
+
+/// The most numbers that the word of a `switch` is compared with.
+const MOST_COMPARED: usize = 3;
 
 /// The signed word that no word is less than.
 const LEAST_WORD: u16 = 0x8000;
@@ -153,4 +156,33 @@ pub fn put_branch(
     } else {
         put_tested(bytes, alloc, test, operands, when, offset)
     }
+}
+
+/// The word of a `switch` and the numbers that a test of its cases compares it with.
+fn compared(alloc: Global, numbers: &[u16]) -> Result<Vec<Operand>, AllocError>
+    ensures { IfOk result (λ v. v.items ≡ spec.compared numbers.now) }
+{
+    let mut operands = Vec::new(alloc);
+    operands.push(Operand::Variable(CHOSEN))?;
+    for number in &numbers[..numbers.len().min(MOST_COMPARED)] {
+        operands.push(constant(*number))?;
+    }
+    Ok(operands)
+}
+
+/// A branch by a test of the word of a `switch`.
+pub fn put_case(
+    bytes: &mut Vec<u8>,
+    alloc: Global,
+    test: Test,
+    numbers: &[u16],
+    when: bool,
+    offset: usize,
+) -> Result<(), AllocError>
+    ensures { OnOk result (bytes.new.items ≡ bytes.old.items
+        ++ bytes_of_all (spec.case_code (as_test test) numbers.now when offset)) }
+{
+    let operands = compared(alloc, numbers)?;
+    put_labelled(bytes, operation_of(test), &operands, when, offset)?;
+    Ok(())
 }

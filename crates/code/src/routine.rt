@@ -64,7 +64,7 @@ fn target_of(item: &Item<'_>) -> Option<usize>
     ensures { result ≡ spec.target_of (item_of item.now) }
 {
     match item {
-        Item::Branch(_, _, _, target) => Some(*target),
+        Item::Branch(_, _, _, target) | Item::Case(_, _, _, target) => Some(*target),
         _ => None,
     }
 }
@@ -130,7 +130,7 @@ fn offset_of(left: &[usize], number: usize, item: &Item<'_>) -> usize
     ensures { result ≡ spec.offset_of (place_in (reverse left.now)) number (item_of item.now) }
 {
     match item {
-        Item::Branch(_, _, _, target) => {
+        Item::Branch(_, _, _, target) | Item::Case(_, _, _, target) => {
             2 + place(left, *target).saturating_sub(place(left, number + 1))
         }
         Item::Jump(target) | Item::Back(target) => {

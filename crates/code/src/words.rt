@@ -8,7 +8,9 @@ ghost use Rattle.code.specs.Instructions as spec;
 ghost use Rattle.code.specs.Bytes.{bytes_of_all};
 ghost use Rattle.code.specs.Written.{instruction_of};
 
-use crate::instruction::{FIRST, Instruction, Operands, copy, plain, pull, push, put_all, store};
+use crate::instruction::{
+    CHOSEN, FIRST, Instruction, Operands, copy, plain, pull, push, put_all, store,
+};
 use crate::operands::{in_place, variable_number};
 use checker::Variable;
 use expressions::Step;
@@ -40,6 +42,17 @@ pub fn put_move(
         Destination::Push => put_all(bytes, &[push(in_place(operand))]),
         Destination::Into(variable) => put_all(bytes, &[moved_into(operand, variable)]),
         Destination::Nowhere => put_all(bytes, &[store(FIRST, in_place(operand))]),
+    }
+}
+
+/// The word of a `switch` goes to the variable that its cases are tested on.
+pub fn put_choose(bytes: &mut Vec<u8>, operand: items::Operand) -> Result<(), AllocError>
+    ensures { OnOk result (bytes.new.items ≡ bytes.old.items
+        ++ bytes_of_all (spec.choose_code (as_operand operand) ∷ [])) }
+{
+    match operand {
+        items::Operand::Pushed => put_all(bytes, &[pull(CHOSEN)]),
+        _ => put_all(bytes, &[store(CHOSEN, in_place(operand))]),
     }
 }
 

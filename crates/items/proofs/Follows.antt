@@ -1,5 +1,5 @@
 -- The items do what the tree means.
-use Rattle.std.proofs.Common.{◌≡◌, ℕ, zero, suc, List, [], ◌∷◌, length, Some, refl, sym, ap, ◌∙◌, subst, arith}
+use Rattle.std.proofs.Common.{◌≡◌, ℕ, zero, suc, List, [], ◌∷◌, length, Some, None, refl, sym, ap, ◌∙◌, subst, arith}
 use Rattle.std.specs.Prelude.{if◌then◌else◌, slice_index}
 use Rattle.std.specs.List.{All}
 use Rattle.std.proofs.lemmas.List.Elements.{All-head, All-tail}
@@ -60,7 +60,7 @@ leaves_calls p full (suc d) i r arguments =
 
 -- each routine is fine, also one that is not there
 routine_fine : (p : ProgramOf) (rs : List RoutineOf) → All (IsRoutine p) rs → (r : ℕ) → IsRoutine p (routine_at rs r)
-routine_fine p [] fine r = (omega arith, tt)
+routine_fine p [] fine r = (omega arith, tt, tt)
 routine_fine p (x ∷ rs) fine zero = All-head (IsRoutine p) x rs fine
 routine_fine p (x ∷ rs) fine (suc r) = routine_fine p rs (All-tail (IsRoutine p) x rs fine) r
 
@@ -105,6 +105,7 @@ module _ (p : ProgramOf) (full : ℕ) (fine : (r : ℕ) → IsRoutine p (routine
         routine = r;
         place = 0;
         stack = [];
+        chosen = None;
         callers = callers;
         situation = record { locals = locals_of R.locals arguments; world = last.world };
       }))

@@ -1,5 +1,5 @@
 -- A run leads from one place of a routine to another.
-use Rattle.std.proofs.Common.{◌≡◌, ℕ, ◌+◌, ◌≤◌, List, ◌∷◌, length, Bool, refl, ap, ◌∙◌, subst, arith}
+use Rattle.std.proofs.Common.{◌≡◌, ℕ, ◌+◌, ◌≤◌, List, ◌∷◌, length, None, Bool, refl, ap, ◌∙◌, subst, arith}
 use Rattle.std.specs.Prelude.{if◌then◌else◌}
 use Rattle.checker.specs.World.{Outcome, Situation, Comes, to, Part, bound, ◌>>=◌, units, with_value}
 use Rattle.checker.specs.Meaning.{is_true}
@@ -65,7 +65,8 @@ module _ (now : Running) where
   regroup {s = s} f g h l = as_part _ _ (bound_bound (f s) g h) l
 
   abbrev pub here : ℕ → List ℕ → Situation → State
-  here pc words s = record { routine = routine; place = pc; stack = words; callers = callers; situation = s }
+  here pc words s =
+      record { routine = routine; place = pc; stack = words; chosen = None; callers = callers; situation = s }
 
   abbrev pub stands : ℕ → List ℕ → Situation → Next
   stands pc words s = goes (here pc words s)

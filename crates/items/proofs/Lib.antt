@@ -9,6 +9,7 @@ mod Held
 mod Running
 mod Leads
 mod Steps
+mod Chosen
 mod Truths
 mod Evaluated
 mod Operations
@@ -20,6 +21,8 @@ mod EachValue
 mod Statements
 mod Conditionals
 mod Loops
+mod Groups
+mod Switches
 mod Routines
 mod Follows
 mod Fine
@@ -35,4 +38,7 @@ pub mod Reductions
 pub mod Values
 pub mod Assigned
 pub mod Alternatives
+pub mod Tests
+pub mod Rounds
+pub mod SwitchCases
 pub mod Actions

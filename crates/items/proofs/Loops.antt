@@ -1,25 +1,27 @@
 -- Loops.
-use Rattle.std.proofs.Common.{◌≡◌, ℕ, zero, suc, ◌+◌, ◌≤◌, [], Some, Bool, true, false, refl, ap, ◌∙◌, arith}
-use Rattle.std.specs.Prelude.{if◌then◌else◌, slice_get}
+use Rattle.std.proofs.Common.{◌≡◌, ℕ, zero, suc, ◌+◌, ◌≤◌, [], Option, Some, None, Bool, true, false, refl}
+use Rattle.std.proofs.Common.{sym, ap, ◌∙◌, arith}
+use Rattle.std.specs.Prelude.{not, if◌then◌else◌, slice_get}
 use Rattle.std.proofs.lemmas.Bool.{le-leb}
 use Rattle.zcore.specs.declared.place.Place.TheVariants as places
 use Rattle.zcore.specs.declared.place.Limit.TheVariants as limits
 use Rattle.checker.specs.Resolved.{Value, Action}
 use Rattle.checker.specs.Resolved as source
-use Rattle.checker.specs.Accepted.{IsWhole}
-use Rattle.checker.specs.World.{Situation, Comes, Part, bound, ◌>>=◌, give, ended, spend, units}
+use Rattle.checker.specs.Accepted.{IsWhole, IsPart}
+use Rattle.checker.specs.World.{Situation, Comes, to, Part, bound, ◌>>=◌, give, ended, spend, units}
 use Rattle.checker.specs.World as world
 use Rattle.checker.specs.Meaning.{is_true, evaluate, Ending, goes_on, breaks, continues, returns, behind_body, round}
-use Rattle.checker.specs.Meaning.{rounds, run}
-use Rattle.items.specs.Items.{agrees, branch_count, branch_items, action_count, Exits, exits_to, action_items}
+use Rattle.checker.specs.Meaning.{rounds, once, tested, behind_round, until, run}
+use Rattle.items.specs.Items.{nowhere, agrees, branch_count, branch_items, once_count, once_items, test_count}
+use Rattle.items.specs.Items.{test_items, action_count, Exits, exits_to, action_items}
 use Rattle.items.specs.Items as items
 use Rattle.items.specs.Stack.{stuck, after_part, act}
 use Rattle.items.proofs.Acts.{hand, spends}
 use Rattle.items.proofs.Counts.{branch_length}
-use Rattle.items.proofs.StatementCounts.{action_length}
+use Rattle.items.proofs.StatementCounts.{once_length, test_length, action_length}
 use Rattle.items.proofs.Running.{Does, ends_there, steps_on, Running, code, locals, calls}
-use Rattle.items.proofs.Standing.{split}
-use Rattle.items.proofs.Leads.{Leads, on, given, here, stands, goes_by, at_place}
+use Rattle.items.proofs.Standing.{HasAt, split}
+use Rattle.items.proofs.Leads.{Leads, on, given, here, stands, goes_by, at_place, begins_at}
 use Rattle.items.proofs.EachValue.{value_ok}
 use Rattle.items.proofs.Statements.{ended_at, goes_at}
 use Rattle.items.proofs.Conditionals.{ActionOk}
@@ -107,6 +109,15 @@ module _ (now : Running) where
     rounds_do h le x (suc n) s = round_does x (suc n) s _
         (λ last. goes_back x n back top end (rounds n test body behind) h le (λ later. rounds_do h le x n later))
 
+  -- as many goings back as there are units
+  loop_does : {s : Situation} {n : ℕ} (x : Exits) (test : Part ℕ) (body : Part Ending) (behind : Part Bool)
+      (pc end : ℕ)
+      → ((m : ℕ) (s : Situation)
+      → Leads now s m (stands now pc [] s) (rounds m test body behind s) (ended_at now x end))
+      → Leads now s n (stands now pc [] s) (rounds (units full s.world) test body behind s) (ended_at now x end)
+  loop_does {s = s} x test body behind pc end h =
+      record { does = λ k le d. (h (units full s.world) s).does k (omega arith) d }
+
   pub while_does : (v : Value) (a : Action) → IsWhole p (locals now) v → ActionOk now a
       → ActionOk now (source.while_do v a)
   while_does v a fine oka x s n pc q ahead has =
@@ -117,11 +128,89 @@ module _ (now : Running) where
       (branch_length v false pc (e + 1)) has in
       let ha = split (code now) m (action_items inside m a) _ q (action_count a) (action_length inside a m) h.1 in
       at_place now (ended_at now x) (e + 1) q ha.1.1
-      (record {
-        does = λ k le d. (rounds_do (evaluate (calls now) v) (run (calls now) full a) (give true) pc m e e
-            (e + 1)
-            (λ s1 n1. (value_ok now v).branch s1 n1 pc (e + 1) m [] false h.0 (omega arith) (omega (arith, fine.1)))
-            (λ s1 n1. oka inside s1 n1 m e (omega arith, omega arith) ha.0)
-            (λ s1 n1. given now {behind = λ wanted last. stands now (if wanted then e else e + 1) [] last} true)
-            ha.1.0 (omega arith) x (units full s.world) s).does k (omega arith) d;
-      })
+      (loop_does x (evaluate (calls now) v) (run (calls now) full a) (give true) pc (e + 1)
+      (rounds_do (evaluate (calls now) v) (run (calls now) full a) (give true) pc m e e (e + 1)
+      (λ s1 n1. (value_ok now v).branch s1 n1 pc (e + 1) m [] false h.0 (omega arith) (omega (arith, fine.1)))
+      (λ s1 n1. oka inside s1 n1 m e (omega arith, omega arith) ha.0)
+      (λ s1 n1. given now {behind = λ wanted last. stands now (if wanted then e else e + 1) [] last} true)
+      ha.1.0 (omega arith) x))
+
+  -- `until`, which leads to the end where its word is true
+  until_does : (v : Value) → IsWhole p (locals now) v → (s : Situation) (n pc t q : ℕ)
+      → HasAt (code now) pc (branch_items pc v true t) q → q ≤ t
+      → Leads now s n (stands now pc [] s) (until (calls now) v s)
+      (λ wanted last. stands now (if wanted then q else t) [] last)
+  until_does v fine s n pc t q has le = on now (evaluate (calls now) v) _
+      ((value_ok now v).branch s n pc t q [] true has le (omega (arith, fine.1))) (λ w last _. go (is_true w) last)
+    where
+      go : (b : Bool) (last : Situation) → Leads now last n (stands now (if agrees b true then t else q) [] last)
+          (to (not b) last) (λ wanted later. stands now (if wanted then q else t) [] later)
+      go true last = given now {behind = λ wanted later. stands now (if wanted then q else t) [] later} false
+      go false last = given now {behind = λ wanted later. stands now (if wanted then q else t) [] later} true
+
+  pub do_does : (v : Value) (a : Action) → IsWhole p (locals now) v → ActionOk now a
+      → ActionOk now (source.do_until a v)
+  do_does v a fine oka x s n pc q ahead has =
+      let m = pc + action_count a in
+      let e = m + branch_count v true in
+      let inside = exits_to m (e + 1) in
+      let h = split (code now) pc (action_items inside pc a) _ q (action_count a) (action_length inside a pc) has in
+      let hv = split (code now) m (branch_items m v true (e + 1)) _ q (branch_count v true)
+      (branch_length v true m (e + 1)) h.1 in
+      at_place now (ended_at now x) (e + 1) q hv.1.1
+      (loop_does x (give 1) (run (calls now) full a) (until (calls now) v) pc (e + 1)
+      (rounds_do (give 1) (run (calls now) full a) (until (calls now) v) pc pc m e (e + 1)
+      (λ s1 n1. given now {behind = goes_by now false (e + 1) pc []} 1)
+      (λ s1 n1. oka inside s1 n1 pc m (omega arith, omega arith) h.0)
+      (λ s1 n1. until_does v fine s1 n1 m (e + 1) e hv.0 (omega arith))
+      hv.1.0 (omega arith) x))
+
+  -- the parts of a `for`
+
+  once_does : (v : Option Value) → IsPart p (locals now) v → (s : Situation) (n pc q : ℕ)
+      → HasAt (code now) pc (once_items pc v) q → Leads now s n (stands now pc [] s) (once (calls now) v s)
+      (λ _ last. stands now q [] last)
+  once_does None fine s n pc q has =
+      begins_at now q pc [] (sym has) (given now {behind = λ (_ : Unit {0}) last. stands now q [] last} tt)
+  once_does (Some v) fine s n pc q has = on now (evaluate (calls now) v) _
+      ((value_ok now v).value s n pc q [] nowhere has (omega (arith, fine.1)))
+      (λ w last _. given now {behind = λ (_ : Unit {0}) last. stands now q [] last} tt)
+
+  test_does : (v : Option Value) → IsPart p (locals now) v → (s : Situation) (n pc t q : ℕ)
+      → HasAt (code now) pc (test_items pc v t) q → q ≤ t
+      → Leads now s n (stands now pc [] s) (tested (calls now) v s) (goes_by now false t q [])
+  test_does None fine s n pc t q has le =
+      begins_at now q pc [] (sym has) (given now {behind = goes_by now false t q []} 1)
+  test_does (Some v) fine s n pc t q has le =
+      (value_ok now v).branch s n pc t q [] false has le (omega (arith, fine.1))
+
+  behind_does : (v : Option Value) → IsPart p (locals now) v → (s : Situation) (n pc t q : ℕ)
+      → HasAt (code now) pc (once_items pc v) q → Leads now s n (stands now pc [] s) (behind_round (calls now) v s)
+      (λ wanted last. stands now (if wanted then q else t) [] last)
+  behind_does v fine s n pc t q has = on now (once (calls now) v) _ (once_does v fine s n pc q has)
+      (λ _ last _. given now {behind = λ wanted last. stands now (if wanted then q else t) [] last} true)
+
+  pub for_does : (before test behind : Option Value) (a : Action) → IsPart p (locals now) before
+      → IsPart p (locals now) test → IsPart p (locals now) behind → ActionOk now a
+      → ActionOk now (source.for_loop before test behind a)
+  for_does before test behind a fine_before fine_test fine_behind oka x s n pc q ahead has =
+      let top = pc + once_count before in
+      let m = top + test_count test in
+      let c = m + action_count a in
+      let e = c + once_count behind in
+      let inside = exits_to c (e + 1) in
+      let h = split (code now) pc (once_items pc before) _ q (once_count before) (once_length before pc) has in
+      let ht = split (code now) top (test_items top test (e + 1)) _ q (test_count test)
+      (test_length test top (e + 1)) h.1 in
+      let ha = split (code now) m (action_items inside m a) _ q (action_count a) (action_length inside a m) ht.1 in
+      let hb = split (code now) c (once_items c behind) _ q (once_count behind) (once_length behind c) ha.1 in
+      let each = run (calls now) full a in
+      let first = tested (calls now) test in
+      let last = behind_round (calls now) behind in
+      at_place now (ended_at now x) (e + 1) q hb.1.1
+      (on now (once (calls now) before) _ (once_does before fine_before s n pc top h.0)
+      (λ _ s1 _. loop_does x first each last top (e + 1)
+      (rounds_do first each last top m c e (e + 1)
+      (λ s2 n2. test_does test fine_test s2 n2 top (e + 1) m ht.0 (omega arith))
+      (λ s2 n2. oka inside s2 n2 m c (omega arith, omega arith) ha.0)
+      (λ s2 n2. behind_does behind fine_behind s2 n2 c (e + 1) e hb.0) hb.1.0 (omega arith) x)))

@@ -1,29 +1,31 @@
 -- A routine does what its body means.
 use Rattle.std.proofs.Common.{◌≡◌, ℕ, ◌+◌, [], ◌∷◌, length, Some, refl, ap, arith}
 use Rattle.std.specs.Prelude.{slice_get, map}
-use Rattle.checker.specs.Resolved.{none, Action, Actions, stop, next}
+use Rattle.checker.specs.Resolved.{none, Action, Actions, stop, next, CasesOf}
 use Rattle.checker.specs.Resolved as source
-use Rattle.checker.specs.Accepted.{IsAction, AreActions}
+use Rattle.checker.specs.Accepted.{IsAction, AreActions, AreCases}
 use Rattle.checker.specs.World.{Situation, to, ◌>>=◌, give, put, shown}
 use Rattle.checker.specs.Meaning.{put_line, evaluate, Ending, goes_on, breaks, continues, returns, print_all, run}
-use Rattle.checker.specs.Meaning.{run_all, routine_at, word_of}
+use Rattle.checker.specs.Meaning.{run_all, run_cases, routine_at, word_of}
 use Rattle.items.specs.Items.{nowhere, alone, operand_count, prints_count, action_count, actions_count, alone_items}
-use Rattle.items.specs.Items.{prints_items, return_true, Exits, exits_to, action_items, actions_items}
+use Rattle.items.specs.Items.{prints_items, return_true, Exits, exits_to, action_items, actions_items, cases_count, cases_items}
 use Rattle.items.specs.Items as items
 use Rattle.items.specs.Stack.{Next, return_to, act}
 use Rattle.items.proofs.Counts.{alone_length}
-use Rattle.items.proofs.StatementCounts.{prints_length, action_length, actions_length}
+use Rattle.items.proofs.StatementCounts.{prints_length, action_length, actions_length, cases_length}
 use Rattle.items.proofs.Acts.{keeps_put}
 use Rattle.items.proofs.Running.{ends_there, steps_on, Running, code, locals, calls}
 use Rattle.items.proofs.Standing.{HasAt, split, long, all_at}
 use Rattle.items.proofs.Leads.{Leads, on, given, here, stands, begins_at}
-use Rattle.items.proofs.Steps.{puts}
+use Rattle.items.proofs.Steps.{puts, jumps}
 use Rattle.items.proofs.Evaluated.{operand_held}
 use Rattle.items.proofs.EachValue.{value_ok}
 use Rattle.items.proofs.Statements.{ended_at, goes_at, follows_on, returns_by, alone_does, prints_do, line_does}
 use Rattle.items.proofs.Statements.{end_of_line}
 use Rattle.items.proofs.Conditionals.{IsAhead, ActionOk, if_does, else_does}
-use Rattle.items.proofs.Loops.{while_does}
+use Rattle.items.proofs.Loops.{while_does, do_does, for_does}
+use Rattle.items.proofs.Chosen.{with_it}
+use Rattle.items.proofs.Switches.{CasesOk, case_does, switch_does}
 
 module _ (now : Running) where
   open now use {p, full, routine, callers}
@@ -53,6 +55,21 @@ module _ (now : Running) where
     action_does (source.while_do v a) fine x s n pc q ahead has =
         while_does now v a fine.0 (action_does a fine.1) x s n pc q
         ahead has
+    action_does (source.do_until a v) fine x s n pc q ahead has =
+        do_does now v a fine.1 (action_does a fine.0) x s n pc q ahead has
+    action_does (source.for_loop before test behind a) fine x s n pc q ahead has =
+        for_does now before test behind a fine.0 fine.1 fine.2 (action_does a fine.3) x s n pc q ahead has
+    action_does (source.switch_on v cs) fine x s n pc q ahead has =
+        switch_does now v cs fine.0 (cases_do cs fine.1) x s n pc q ahead has
+    action_does source.break_out fine x s n pc q ahead has =
+        let behind = has.1 in
+        let first = ahead.0 in
+        jumps now pc x.breaks [] has.0 (omega (arith, behind, first)) (given now {behind = ended_at now x q} breaks)
+    action_does source.continue_on fine x s n pc q ahead has =
+        let behind = has.1 in
+        let second = ahead.1 in
+        jumps now pc x.continues [] has.0 (omega (arith, behind, second))
+        (given now {behind = ended_at now x q} continues)
     action_does (source.return_value v) fine x s n pc q ahead has =
         let m = pc + operand_count v (alone v) in
         let h = split (code now) pc (alone_items pc v) _ q (operand_count v (alone v)) (alone_length v pc) has in
@@ -84,6 +101,18 @@ module _ (now : Running) where
         follows_on now x m q (run (calls now) full a) (run_all (calls now) full rest)
         (action_does a fine.0 x s n pc m inner h.0)
         (λ last. actions_do rest fine.1 x last n m q ahead h.1)
+
+    cases_do : (cs : CasesOf) → AreCases p (locals now) cs → CasesOk now cs
+    cases_do source.no_case fine x v s n pc end q is ahead has = with_it now v pc (goes_at now x pc q has)
+    cases_do (source.default_case xs) fine x v s n pc end q is ahead has =
+        with_it now v pc (actions_do xs fine x s n pc q ahead has)
+    cases_do (source.case gs xs rest) fine x v s n pc end q is ahead has =
+        case_does now x v gs (actions_count xs) (cases_count rest) (run_all (calls now) full xs)
+        (run_cases (calls now) full v rest) (λ place. actions_items x place xs)
+        (λ place. cases_items x place rest end) s n pc end q (λ at. actions_length x xs at)
+        (λ at. cases_length x rest at end) is ahead has
+        (λ at after inner h. actions_do xs fine.0 x s n at after inner h)
+        (λ at h. cases_do rest fine.1 x v s n at end q is ahead h)
 
   -- the word that the routine returns
   abbrev hands : ℕ → Situation → Next

@@ -11,7 +11,7 @@ use Rattle.expressions.specs.declared.tree.Prefix.TheVariants as prefix
 use Rattle.expressions.specs.declared.tree.Step.TheVariants as steps
 use Rattle.expressions.specs.declared.tree.Width.TheVariants as widths
 use Rattle.statements.specs.Tree as s
-use Rattle.statements.specs.Tree.{StatementTree, StatementTrees}
+use Rattle.statements.specs.Tree.{StatementTree, StatementTrees, RangeTree}
 use Rattle.syntax.specs.declared.tree.ArrayKind.TheVariants as kinds
 use Rattle.syntax.specs.Tree as d
 use Rattle.syntax.specs.Tree.{DirectiveTree, ProgramTree}
@@ -170,7 +170,7 @@ entries = program
     ∷ d.array (record {
       name = the 1 (codes "b");
       kind = kinds.Bytes;
-      values = record { position = p 2; value = d.number_value 4 } ∷ [];
+      values = record { position = p 2; value = s.number_value 4 } ∷ [];
     })
     ∷ routine (codes "Main") []
     (s.effect (p 3) (assign (index (the 3 (codes "b")) widths.Byte (named (the 4 (codes "i")))) (p 5)
@@ -186,3 +186,31 @@ entries_do : runs 40 1000 (resolve_program entries)
     ≡ Some (says (codes "255 -256" ++ 10 ∷ 10 ∷ codes "[Fault: index out of range]" ++ 10 ∷ []))
 unfolding resolve_program table_of key_of look_up signed_text decimal quotient remainder
 entries_do = refl
+
+abbrev from_to : ℕ → ℕ → RangeTree
+from_to low high = record { low = s.number_value low; high = Some (s.number_value high) }
+
+abbrev alone : ℕ → RangeTree
+alone n = record { low = s.number_value n; high = None }
+
+-- Global i; [ Main; for (i = 0: i < 12: i++) {
+--   switch (i) { 0 to 2: continue; 4, 5, 6, 7, 8: break; 11: return; default: print "d"; } print i; } ];
+abbrev chooses : ProgramTree
+chooses = program
+    (d.global (the 0 (codes "i")) None
+    ∷ routine (codes "Main") []
+    (s.for_loop (p 1) (Some (assign (named (the 1 (codes "i"))) (p 2) (constant 0)))
+    (Some (compare comparison.Less (named (the 3 (codes "i"))) (constant 12)))
+    (Some (step_after (named (the 4 (codes "i"))) steps.Increment (p 5)))
+    (s.block (body (s.switch_on (p 6) (named (the 6 (codes "i")))
+    (s.case (from_to 0 2 ∷ []) (body (s.continue_at (p 7) ∷ []))
+    (s.case (alone 4 ∷ alone 5 ∷ alone 6 ∷ alone 7 ∷ alone 8 ∷ []) (body (s.break_at (p 8) ∷ []))
+    (s.case (alone 11 ∷ []) (body (s.return_value (p 9) (constant 1) ∷ []))
+    (s.default_case (body (s.print (words (codes "d") ∷ []) ∷ []))))))
+    ∷ s.print (item (named (the 10 (codes "i"))) ∷ []) ∷ []))) ∷ [])
+    ∷ [])
+
+-- the call of Main and eleven goings back
+chooses_does : runs 200 12 (resolve_program chooses) ≡ Some (says (codes "d345678d9d10"))
+unfolding resolve_program table_of key_of look_up signed_text decimal quotient remainder
+chooses_does = refl

@@ -1,5 +1,5 @@
 -- What stands for some statements.
-use Rattle.std.proofs.Common.{◌≡◌, [], ◌∷◌, true, false, refl}
+use Rattle.std.proofs.Common.{◌≡◌, [], ◌∷◌, Some, None, true, false, refl}
 use Rattle.std.specs.Prelude.{codes}
 use Rattle.expressions.specs.declared.tree.Binary.TheVariants as binaries
 use Rattle.expressions.specs.declared.tree.Comparison.TheVariants as comparisons
@@ -10,12 +10,13 @@ use Rattle.expressions.specs.declared.tree.Width.TheVariants as widths
 use Rattle.checker.specs.declared.resolved.Variable.{Variable}
 use Rattle.checker.specs.declared.resolved.Variable.TheVariants.{Local, Global}
 use Rattle.checker.specs.Resolved.{Value, none, more, read, number, call, compare, equal, binary, prefixed, assign}
-use Rattle.checker.specs.Resolved.{step_before, step_after, effect, if_then, if_else, while_do, return_value}
+use Rattle.checker.specs.Resolved.{step_before, step_after, effect, if_then, if_else, while_do, do_until, for_loop}
+use Rattle.checker.specs.Resolved.{switch_on, one, between, return_value, next, stop}
 use Rattle.checker.specs.Resolved.{text_alone}
 use Rattle.checker.specs.Resolved.{print, print_return, text, character_of, number_of}
 use Rattle.checker.specs.Resolved as source
-use Rattle.items.specs.Items.{Item, pushed, push, into, nowhere, less, same, is_zero, move, operate, step, branch}
-use Rattle.items.specs.Items.{jump, Exits, exits_to}
+use Rattle.items.specs.Items.{pushed, push, into, nowhere, less, greater, same, is_zero, move, operate, step, branch}
+use Rattle.items.specs.Items.{choose, jump, Exits, exits_to}
 use Rattle.items.specs.Items.{back, print_text, print_character, print_number, new_line, quit, action_items}
 use Rattle.items.specs.Items.{apply_prefix, keep, first_equal, also_equal, drop_below, return_true}
 use Rattle.items.specs.Items as items
@@ -192,6 +193,75 @@ many_compared : action_items outside 0
     ∷ items.call 7 [] nowhere
     ∷ []
 many_compared = refl
+
+-- Loops and `switch`
+
+-- for (x = 0: x < 3: x++) { if (x == y) continue; F(x); }
+counted_loop : action_items outside 0
+    (for_loop (Some (assign x (number 0))) (Some (compare comparisons.Less (read x) (number 3)))
+    (Some (step_after x steps.Increment)) (source.block
+    (next (if_then (equal equalities.Equal (read x) (more (read y) none)) source.continue_on)
+    (next (effect (call 7 (more (read x) none))) stop))))
+    ≡ move (items.number 0) (into x)
+    ∷ branch less (items.variable x ∷ items.number 3 ∷ []) false 7
+    ∷ branch same (items.variable x ∷ items.variable y ∷ []) false 4
+    ∷ jump 5
+    ∷ items.call 7 (items.variable x ∷ []) nowhere
+    ∷ step steps.Increment x nowhere
+    ∷ back 1
+    ∷ []
+counted_loop = refl
+
+-- for (::) F();
+endless_loop : action_items outside 0 (for_loop None None None (effect called))
+    ≡ items.call 7 [] nowhere ∷ back 0 ∷ []
+endless_loop = refl
+
+-- do { if (x) break; F(); } until (g);
+tested_behind : action_items outside 0
+    (do_until (source.block (next (if_then (read x) source.break_out) (next (effect called) stop))) (read g))
+    ≡ branch is_zero (items.variable x ∷ []) true 2
+    ∷ jump 5
+    ∷ items.call 7 [] nowhere
+    ∷ branch is_zero (items.variable g ∷ []) false 5
+    ∷ back 0
+    ∷ []
+tested_behind = refl
+
+-- switch (x) { 1 to 5, 7, 8, 9, 10: y++; default: F(); }
+grouped : action_items outside 0
+    (switch_on (read x)
+    (source.case (between 1 5 ∷ one 7 ∷ one 8 ∷ one 9 ∷ one 10 ∷ []) (next (effect (step_after y steps.Increment)) stop)
+    (source.default_case (next (effect called) stop))))
+    ≡ choose (items.variable x)
+    ∷ items.case less (1 ∷ []) true 3
+    ∷ items.case greater (5 ∷ []) false 5
+    ∷ items.case same (7 ∷ []) true 5
+    ∷ items.case same (10 ∷ 9 ∷ 8 ∷ []) false 7
+    ∷ step steps.Increment y nowhere
+    ∷ jump 8
+    ∷ items.call 7 [] nowhere
+    ∷ []
+grouped = refl
+
+-- switch (F()) { 1: if (x) break; y++; 2 to 4: quit; }
+chosen_by_call : action_items outside 0
+    (switch_on called
+    (source.case (one 1 ∷ [])
+    (next (if_then (read x) source.break_out) (next (effect (step_after y steps.Increment)) stop))
+    (source.case (between 2 4 ∷ []) (next source.quit stop) source.no_case)))
+    ≡ items.call 7 [] push
+    ∷ choose pushed
+    ∷ items.case same (1 ∷ []) false 7
+    ∷ branch is_zero (items.variable x ∷ []) true 5
+    ∷ jump 10
+    ∷ step steps.Increment y nowhere
+    ∷ jump 10
+    ∷ items.case less (2 ∷ []) true 10
+    ∷ items.case greater (4 ∷ []) true 10
+    ∷ quit
+    ∷ []
+chosen_by_call = refl
 
 -- Other statements
 

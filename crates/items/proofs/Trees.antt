@@ -1,6 +1,8 @@
 -- What a tree of the code stands for, a variant at a time.
 use Rattle.std.proofs.Common.{◌≡◌, ℕ, List, [], ◌∷◌, length, Bool, true, false, map, arith, refl, ap, sym, ◌∙◌}
+use Rattle.std.proofs.Common.{Option, Some, None}
 use Rattle.std.specs.Prelude.{◌||◌}
+use Rattle.std.specs.Option.{option_map}
 use Rattle.std.specs.Global.{Vec, Box}
 use Rattle.expressions.specs.declared.tree.Binary.{Binary}
 use Rattle.expressions.specs.declared.tree.Comparison.{Comparison}
@@ -8,6 +10,7 @@ use Rattle.expressions.specs.declared.tree.Equality.{Equality}
 use Rattle.expressions.specs.declared.tree.Prefix.{Prefix}
 use Rattle.expressions.specs.declared.tree.Step.{Step}
 use Rattle.expressions.specs.declared.tree.Width.{Width}
+use Rattle.checker.specs.declared.resolved.Span.{Span}
 use Rattle.checker.specs.declared.resolved.Variable.{Variable}
 use Rattle.checker.specs.declared.resolved.Value as code_value
 use Rattle.checker.specs.declared.resolved.Value.TheVariants as v
@@ -19,9 +22,11 @@ use Rattle.checker.specs.declared.resolved.Action.TheFolds.{fold-roll-Action}
 use Rattle.checker.specs.Resolved.{Value, number, read, call, prefixed, step_before, step_after, binary, compare}
 use Rattle.checker.specs.Resolved.{equal, entry, assign_entry}
 use Rattle.checker.specs.Resolved.{assign, more, Action, block, text_alone, print, print_return, if_then, if_else}
-use Rattle.checker.specs.Resolved.{while_do, return_value, effect, values_of, actions_of, chained, value_of}
-use Rattle.checker.specs.Resolved.{value_layer, printed_of, action_of, action_layer}
+use Rattle.checker.specs.Resolved.{while_do, do_until, for_loop, switch_on, return_value, effect, values_of}
+use Rattle.checker.specs.Resolved.{actions_of, cases_of, chained, value_of, value_layer, printed_of, case_of, other_of}
+use Rattle.checker.specs.Resolved.{action_of, action_layer}
 use Rattle.checker.specs.Accepted.{count_of}
+use Rattle.statements.proofs.Shapes.{mapped_twice}
 use Rattle.items.specs.Items as items
 use Rattle.items.specs.Writing.{link_of, change_links}
 
@@ -108,6 +113,33 @@ pub while_is : (t : code_action.Action) (e : code_value.Value) (x : Box code_act
     → action_of t
     ≡ while_do (value_of e) (action_of x.value)
 while_is t e x is = rw is (ap action_of (sym (s.rolls-While e x)) ∙ fold-roll-Action Action action_layer _)
+
+pub do_is : (t : code_action.Action) (x : Box code_action.Action) (e : code_value.Value) → t ≡ s.Do x e → action_of t
+    ≡ do_until (action_of x.value) (value_of e)
+do_is t x e is = rw is (ap action_of (sym (s.rolls-Do x e)) ∙ fold-roll-Action Action action_layer _)
+
+pub for_is : (t : code_action.Action) (a b c : Option code_value.Value) (x : Box code_action.Action)
+    → t ≡ s.For a b c x
+    → action_of t ≡ for_loop (option_map value_of a) (option_map value_of b) (option_map value_of c) (action_of x.value)
+for_is t a b c x is = rw is (ap action_of (sym (s.rolls-For a b c x)) ∙ fold-roll-Action Action action_layer _)
+
+made_switch : (e : code_value.Value) (cases : Vec (Vec Span × Vec code_action.Action))
+    (other : Option (Vec code_action.Action))
+    → action_of (s.Switch e cases other)
+    ≡ switch_on (value_of e) (cases_of (map case_of cases.items) (other_of other))
+unfolding case_of
+made_switch e cases None = ap action_of (sym (s.rolls-Switch e cases None))
+    ∙ fold-roll-Action Action action_layer _
+    ∙ ap (λ cs. switch_on (value_of e) (cases_of cs None)) (mapped_twice _ _ case_of (λ c. refl) cases.items)
+made_switch e cases (Some xs) = ap action_of (sym (s.rolls-Switch e cases (Some xs)))
+    ∙ fold-roll-Action Action action_layer _
+    ∙ ap (λ cs. switch_on (value_of e) (cases_of cs (Some (map action_of xs.items))))
+    (mapped_twice _ _ case_of (λ c. refl) cases.items)
+
+pub switch_is : (t : code_action.Action) (e : code_value.Value) (cases : Vec (Vec Span × Vec code_action.Action))
+    (other : Option (Vec code_action.Action)) → t ≡ s.Switch e cases other → action_of t
+    ≡ switch_on (value_of e) (cases_of (map case_of cases.items) (other_of other))
+switch_is t e cases other is = rw is (made_switch e cases other)
 
 pub return_is : (t : code_action.Action) (e : code_value.Value) → t ≡ s.ReturnValue e
     → action_of t ≡ return_value (value_of e)

@@ -1,16 +1,23 @@
 -- What the items of a routine name is there.
-use Rattle.std.proofs.Common.{◌≡◌, ℕ, ◌+◌, ◌<◌, List, [], ◌∷◌, length, false, arith, length-append}
+use Rattle.std.proofs.Common.{◌≡◌, ℕ, ◌+◌, ◌<◌, List, [], ◌∷◌, length, Option, Some, None, Bool, true}
+use Rattle.std.proofs.Common.{false, refl, arith, length-append}
+use Rattle.std.specs.Prelude.{◌==◌}
 use Rattle.std.specs.List.{All}
 use Rattle.std.proofs.lemmas.List.Elements.{All-head, All-tail}
-use Rattle.checker.specs.Resolved.{Value, none, Printed, Action, Actions, stop, next}
+use Rattle.checker.specs.Resolved.{Value, none, Printed, Action, Actions, stop, next, CasesOf}
 use Rattle.checker.specs.Resolved as source
-use Rattle.checker.specs.Accepted.{IsValue, IsPrinted, IsAction, AreActions}
+use Rattle.checker.specs.Accepted.{IsValue, IsPart, IsPrinted, IsAction, AreActions, AreCases}
 use Rattle.items.specs.Items.{nowhere, alone, operand_count, branch_count, branch_items, printed_count, prints_count}
 use Rattle.items.specs.Items.{action_count, actions_count, alone_items, printed_items, prints_items, return_true}
 use Rattle.items.specs.Items.{Exits, exits_to, action_items, actions_items, routine_items}
-use Rattle.items.specs.Laws.{ItemsAreWithin}
+use Rattle.items.specs.Items.{once_count, once_items, test_count, test_items, Test, less, greater, same, Group, numbers}
+use Rattle.items.specs.Items.{range, groups_of, group_count, group_items, last_items, tests_count, tests_items}
+use Rattle.items.specs.Items.{over_count, over_items, cases_count, cases_items}
+use Rattle.items.specs.Items as items
+use Rattle.items.specs.Laws.{IsTested, IsItem, ItemsAreWithin}
 use Rattle.items.proofs.StatementCounts.{actions_length}
-use Rattle.items.proofs.Fine.{Bounds, Fine, first, joined, last, last_two, nothing, operand_fine}
+use Rattle.items.proofs.Fine.{Bounds, Fine, either_fine, first, joined, last, last_two, nothing, operand_fine}
+use Rattle.items.proofs.Groups.{IsGroup, are_groups}
 use Rattle.items.proofs.FineValues.{operand_pushed, value_fine}
 
 module _ (here : Bounds) where
@@ -37,47 +44,143 @@ module _ (here : Bounds) where
       (printed_fine i (All-head (IsPrinted p locals) i is h) at (omega (arith, lt)))
       (prints_fine is (All-tail (IsPrinted p locals) i is h) (at + printed_count i) (omega (arith, lt)))
 
+  -- The parts of a `for`
+
+  once_fine : (v : Option Value) → IsPart p locals v → (at : ℕ) → at + once_count v < count
+      → Fine here (once_items at v)
+  once_fine None h at lt = nothing here
+  once_fine (Some v) h at lt = (value_fine here v h.0).value at nowhere tt lt
+
+  test_fine : (v : Option Value) → IsPart p locals v → (at end : ℕ) → at + test_count v < count → end < count
+      → Fine here (test_items at v end)
+  test_fine None h at end lt le = nothing here
+  test_fine (Some v) h at end lt le = (value_fine here v h.0).branch at false end lt le
+
+  -- `switch`
+
+  -- a test of a number, and one of some
+  compared : (test : Test) (n : ℕ) (when : Bool) (t : ℕ) → IsTested test 2 → t < count
+      → IsItem p locals count (items.case test (n ∷ []) when t)
+  compared test n when t is lt = (is, omega arith, lt)
+
+  among : (ns : List ℕ) (when : Bool) (t : ℕ) → IsGroup (numbers ns) → t < count
+      → IsItem p locals count (items.case same ns when t)
+  among ns when t is lt = let few = is.1 in ((omega arith, omega (arith, few)), is.0, lt)
+
+  group_fine : (g : Group) → IsGroup g → (at inside : ℕ) → at + group_count g < count → inside < count
+      → Fine here (group_items at g inside)
+  group_fine (numbers ns) h at inside lt li = first here _ _ (among ns true inside h li) (nothing here)
+  group_fine (range low high) h at inside lt li =
+      first here _ _ (compared less low true (at + 2) refl lt)
+      (first here _ _ (compared greater high false inside refl li) (nothing here))
+
+  last_fine : (g : Group) → IsGroup g → (behind : ℕ) → behind < count → Fine here (last_items g behind)
+  last_fine (numbers ns) h behind lb = first here _ _ (among ns false behind h lb) (nothing here)
+  last_fine (range low high) h behind lb = first here _ _ (compared less low true behind refl lb)
+      (first here _ _ (compared greater high true behind refl lb) (nothing here))
+
+  tests_fine : (gs : List Group) → All IsGroup gs → (at inside behind : ℕ) → at + tests_count gs < count
+      → inside < count → behind < count → Fine here (tests_items at gs inside behind)
+  tests_fine [] h at inside behind lt li lb = first here _ _ lb (nothing here)
+  tests_fine (g ∷ []) h at inside behind lt li lb = last_fine g (All-head IsGroup g [] h) behind lb
+  tests_fine (g ∷ k ∷ gs) h at inside behind lt li lb =
+      joined here (group_items at g inside) _
+      (group_fine g (All-head IsGroup g (k ∷ gs) h) at inside (omega (arith, lt)) li)
+      (tests_fine (k ∷ gs) (All-tail IsGroup g (k ∷ gs) h) (at + group_count g) inside behind (omega (arith, lt)) li lb)
+
+  over_fine : (later end : ℕ) → end < count → Fine here (over_items later end)
+  over_fine later end le =
+      either_fine here (later == 0) [] (items.jump end ∷ []) (λ _. nothing here)
+      (λ _. first here _ _ le (nothing here))
+
+  -- where statements lead that end there
+  abbrev AreThere : Exits → Type 0
+  AreThere x = (x.breaks < count) × (x.continues < count)
+
   mutual
-    action_fine : (x : Exits) (a : Action) → IsAction p locals a → (at : ℕ) → at + action_count a < count
+    action_fine : (x : Exits) (a : Action) → AreThere x → IsAction p locals a → (at : ℕ) → at + action_count a < count
         → Fine here (action_items x at a)
-    action_fine x source.empty h at lt = nothing here
-    action_fine x (source.block xs) h at lt = actions_fine x xs h at lt
-    action_fine x (source.text_alone bytes) h at lt =
+    action_fine x source.empty there h at lt = nothing here
+    action_fine x (source.block xs) there h at lt = actions_fine x xs there h at lt
+    action_fine x (source.text_alone bytes) there h at lt =
         first here _ _ tt (first here _ _ tt (first here _ _ tt (nothing here)))
-    action_fine x (source.print is) h at lt = prints_fine is h at lt
-    action_fine x (source.print_return is) h at lt =
+    action_fine x (source.print is) there h at lt = prints_fine is h at lt
+    action_fine x (source.print_return is) there h at lt =
         last_two here (prints_items at is) _ _ (prints_fine is h at (omega (arith, lt))) tt tt
-    action_fine x source.new_line h at lt = first here _ _ tt (nothing here)
-    action_fine x (source.if_then v a) h at lt =
+    action_fine x source.new_line there h at lt = first here _ _ tt (nothing here)
+    action_fine x (source.if_then v a) there h at lt =
         joined here (branch_items at v false (at + branch_count v false + action_count a)) _
         ((value_fine here v h.0.0).branch at false _ (omega (arith, lt)) (omega (arith, lt)))
-        (action_fine x a h.1 (at + branch_count v false) (omega (arith, lt)))
-    action_fine x (source.if_else v a b) h at lt =
+        (action_fine x a there h.1 (at + branch_count v false) (omega (arith, lt)))
+    action_fine x (source.if_else v a b) there h at lt =
         joined here (branch_items at v false (at + branch_count v false + action_count a + 1)) _
         ((value_fine here v h.0.0).branch at false _ (omega (arith, lt)) (omega (arith, lt)))
         (joined here (action_items x (at + branch_count v false) a) _
-        (action_fine x a h.1 (at + branch_count v false) (omega (arith, lt)))
+        (action_fine x a there h.1 (at + branch_count v false) (omega (arith, lt)))
         (first here _ _ (omega (arith, lt))
-        (action_fine x b h.2 (at + branch_count v false + action_count a + 1) (omega (arith, lt)))))
-    action_fine x (source.while_do v a) h at lt =
+        (action_fine x b there h.2 (at + branch_count v false + action_count a + 1) (omega (arith, lt)))))
+    action_fine x (source.while_do v a) there h at lt =
         let inside = exits_to (at + branch_count v false + action_count a)
         (at + branch_count v false + action_count a + 1) in
         joined here (branch_items at v false (at + branch_count v false + action_count a + 1)) _
         ((value_fine here v h.0.0).branch at false _ (omega (arith, lt)) (omega (arith, lt)))
         (last here (action_items inside (at + branch_count v false) a) _
-        (action_fine inside a h.1 (at + branch_count v false) (omega (arith, lt))) (omega (arith, lt)))
-    action_fine x (source.return_value v) h at lt =
+        (action_fine inside a (omega (arith, lt), omega (arith, lt)) h.1 (at + branch_count v false) (omega (arith, lt))) (omega (arith, lt)))
+    action_fine x (source.do_until a v) there h at lt =
+        let n = at + action_count a in
+        let e = n + branch_count v true + 1 in
+        let inside = exits_to n e in
+        joined here (action_items inside at a) _
+        (action_fine inside a (omega (arith, lt), omega (arith, lt)) h.0 at (omega (arith, lt)))
+        (last here (branch_items n v true e) _
+        ((value_fine here v h.1.0).branch n true e (omega (arith, lt)) (omega (arith, lt))) (omega (arith, lt)))
+    action_fine x (source.for_loop before test behind a) there h at lt =
+        let top = at + once_count before in
+        let n = top + test_count test in
+        let m = n + action_count a in
+        let e = m + once_count behind + 1 in
+        let inside = exits_to m e in
+        joined here (once_items at before) _ (once_fine before h.0 at (omega (arith, lt)))
+        (joined here (test_items top test e) _ (test_fine test h.1 top e (omega (arith, lt)) (omega (arith, lt)))
+        (joined here (action_items inside n a) _
+        (action_fine inside a (omega (arith, lt), omega (arith, lt)) h.3 n (omega (arith, lt)))
+        (last here (once_items m behind) _ (once_fine behind h.2 m (omega (arith, lt))) (omega (arith, lt)))))
+    action_fine x (source.switch_on v cs) there h at lt =
+        let n = at + operand_count v (alone v) + 1 in
+        let e = n + cases_count cs in
+        let inside : Exits = record x { breaks = e } in
+        joined here (alone_items at v) _ (alone_fine v h.0.0 at (omega (arith, lt)))
+        (first here _ _ (operand_fine here v none h.0.0)
+        (cases_fine inside cs (omega (arith, lt), there.1) h.1 n e (omega (arith, lt)) (omega (arith, lt))))
+    action_fine x source.break_out there h at lt = first here _ _ there.0 (nothing here)
+    action_fine x source.continue_on there h at lt = first here _ _ there.1 (nothing here)
+    action_fine x (source.return_value v) there h at lt =
         last here (alone_items at v) _ (alone_fine v h.0 at (omega (arith, lt)))
         (operand_fine here v none h.0)
-    action_fine x source.quit h at lt = first here _ _ tt (nothing here)
-    action_fine x (source.effect v) h at lt = (value_fine here v h.0).value at nowhere tt lt
+    action_fine x source.quit there h at lt = first here _ _ tt (nothing here)
+    action_fine x (source.effect v) there h at lt = (value_fine here v h.0).value at nowhere tt lt
 
-    actions_fine : (x : Exits) (xs : Actions) → AreActions p locals xs → (at : ℕ) → at + actions_count xs < count
+    actions_fine : (x : Exits) (xs : Actions) → AreThere x → AreActions p locals xs → (at : ℕ) → at + actions_count xs < count
         → Fine here (actions_items x at xs)
-    actions_fine x stop h at lt = nothing here
-    actions_fine x (next a rest) h at lt =
-        joined here (action_items x at a) _ (action_fine x a h.0 at (omega (arith, lt)))
-        (actions_fine x rest h.1 (at + action_count a) (omega (arith, lt)))
+    actions_fine x stop there h at lt = nothing here
+    actions_fine x (next a rest) there h at lt =
+        joined here (action_items x at a) _ (action_fine x a there h.0 at (omega (arith, lt)))
+        (actions_fine x rest there h.1 (at + action_count a) (omega (arith, lt)))
+
+    cases_fine : (x : Exits) (cs : CasesOf) → AreThere x → AreCases p locals cs → (at end : ℕ)
+        → at + cases_count cs < count → end < count → Fine here (cases_items x at cs end)
+    cases_fine x source.no_case there h at end lt le = nothing here
+    cases_fine x (source.default_case xs) there h at end lt le = actions_fine x xs there h at lt
+    cases_fine x (source.case gs xs rest) there h at end lt le =
+        let groups = groups_of gs in
+        let n = at + tests_count groups in
+        let later = cases_count rest in
+        let m = n + actions_count xs + over_count later in
+        joined here (tests_items at groups n m) _
+        (tests_fine groups (are_groups gs) at n m (omega (arith, lt)) (omega (arith, lt)) (omega (arith, lt)))
+        (joined here (actions_items x n xs) _ (actions_fine x xs there h.0 n (omega (arith, lt)))
+        (joined here (over_items later end) _ (over_fine later end le)
+        (cases_fine x rest there h.1 m end (omega (arith, lt)) le)))
 
 pub items_are_within : ItemsAreWithin
 items_are_within p r h =
@@ -87,4 +190,4 @@ items_are_within p r h =
     let e : n ≡ actions_count r.body + 1 =
     omega (arith, length-append (actions_items x 0 r.body) (return_true ∷ []), actions_length x r.body 0) in
     (last here (actions_items x 0 r.body) return_true
-    (actions_fine here x r.body h.1 0 (omega (arith, e))) tt).all
+    (actions_fine here x r.body (omega (arith, e), omega (arith, e)) h.1 0 (omega (arith, e))) tt).all

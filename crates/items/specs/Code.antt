@@ -1,6 +1,6 @@
 -- What the code's items stand for.
 use Rattle.std.specs.Prelude.{List, map}
-use Rattle.items.specs.Items.{Operand, Destination, Test, Item}
+use Rattle.items.specs.Items.{Operand, Destination, Test, Group, Item}
 use Rattle.items.specs.Items as items
 use Rattle.items.specs.declared.item.Operand as code_operand
 use Rattle.items.specs.declared.item.Operand.TheVariants as operands
@@ -8,6 +8,8 @@ use Rattle.items.specs.declared.item.Destination as code_destination
 use Rattle.items.specs.declared.item.Destination.TheVariants as destinations
 use Rattle.items.specs.declared.item.Test as code_test
 use Rattle.items.specs.declared.item.Test.TheVariants as tests
+use Rattle.items.specs.declared.group.Group as code_group
+use Rattle.items.specs.declared.group.Group.TheVariants as groups
 use Rattle.items.specs.declared.item.Item as code
 use Rattle.items.specs.declared.item.Item.TheVariants as variants
 
@@ -34,6 +36,11 @@ as_test tests.Less = items.less
 as_test tests.Greater = items.greater
 as_test tests.Same = items.same
 
+-- a group of tests of the code
+abbrev pub group_of : code_group.Group → Group
+group_of (groups.Numbers ns) = items.numbers ns.items
+group_of (groups.Range low high) = items.range low high
+
 -- an item of the code
 abbrev pub item_of : code.Item → Item
 item_of (variants.Move o d) = items.move (as_operand o) (as_destination d)
@@ -55,6 +62,8 @@ item_of variants.NewLine = items.new_line
 item_of variants.Quit = items.quit
 item_of (variants.Branch test os when target) =
     items.branch (as_test test) (as_operands os.items) when target
+item_of (variants.Choose o) = items.choose (as_operand o)
+item_of (variants.Case test ns when target) = items.case (as_test test) ns.items when target
 item_of (variants.Jump target) = items.jump target
 item_of (variants.Back target) = items.back target
 item_of (variants.Call r os d) = items.call r (as_operands os.items) (as_destination d)

@@ -1,6 +1,7 @@
 -- The items of a routine: one for each act of the language, with its operands, where its word goes, its tests and its
 -- fault inside.
 use Rattle.std.specs.Prelude.{◌||◌, ◌+◌, ◌==◌, not, ℕ, nat_le, Bool, true, false, if◌then◌else◌, List, [], ◌∷◌, ◌++◌}
+use Rattle.std.specs.Prelude.{nat_lt, length, Option, Some, None}
 use Rattle.expressions.specs.declared.tree.Binary.{Binary}
 use Rattle.expressions.specs.declared.tree.Binary.TheVariants as binaries
 use Rattle.expressions.specs.declared.tree.Comparison.{Comparison}
@@ -13,7 +14,8 @@ use Rattle.expressions.specs.declared.tree.Step.{Step}
 use Rattle.expressions.specs.declared.tree.Width.{Width}
 use Rattle.checker.specs.declared.resolved.Variable.{Variable}
 use Rattle.checker.specs.declared.resolved.Variable.TheVariants as variables
-use Rattle.checker.specs.Resolved.{Value, Values, none, more, Printed, Action, Actions, stop, next, RoutineOf}
+use Rattle.checker.specs.Resolved.{Value, Values, none, more, Printed, RangeOf, Action, Actions, stop, next}
+use Rattle.checker.specs.Resolved.{CasesOf, RoutineOf}
 use Rattle.checker.specs.Resolved as source
 use Rattle.checker.specs.Meaning.{is_true}
 use Rattle.checker.specs.Accepted.{count_of}
@@ -68,6 +70,10 @@ pub data Item : Type 0 where
   quit : Item
   -- forward, where the test holds, or where it does not
   branch : Test → List Operand → Bool → ℕ → Item
+  -- the word of a `switch`, which its cases test
+  choose : Operand → Item
+  -- forward, where the test holds of that word and these numbers, or where it does not
+  case : Test → List ℕ → Bool → ℕ → Item
   -- forward
   jump : ℕ → Item
   -- back, which costs a unit
@@ -431,6 +437,81 @@ abbrev pub prints_count : List Printed → ℕ
 prints_count [] = 0
 prints_count (i ∷ is) = printed_count i + prints_count is
 
+-- Loops
+
+-- a part of a `for` whose word goes nowhere, if it is there
+abbrev pub once_count : Option Value → ℕ
+once_count None = 0
+once_count (Some v) = value_count v nowhere
+
+abbrev pub once_items : ℕ → Option Value → List Item
+once_items at None = []
+once_items at (Some v) = value_items at v nowhere
+
+-- the test of a `for`, if it is there: where it does not hold it leads to the end
+abbrev pub test_count : Option Value → ℕ
+test_count None = 0
+test_count (Some v) = branch_count v false
+
+abbrev pub test_items : ℕ → Option Value → ℕ → List Item
+test_items at None end = []
+test_items at (Some v) end = branch_items at v false end
+
+-- `switch`
+
+-- what one test asks of the word, or two: that it is one of at most three numbers, or in a range
+pub data Group : Type 0 where
+  numbers : List ℕ → Group
+  range : ℕ → ℕ → Group
+
+-- a number before groups: a group of numbers takes it, where it has fewer than three
+abbrev pub with_number : ℕ → List Group → List Group
+with_number n (numbers ns ∷ groups) =
+    if nat_lt (length ns) 3 then numbers (ns ++ n ∷ []) ∷ groups else numbers (n ∷ []) ∷ numbers ns ∷ groups
+with_number n groups = numbers (n ∷ []) ∷ groups
+
+abbrev pub groups_of : List RangeOf → List Group
+groups_of [] = []
+groups_of (source.one n ∷ gs) = with_number n (groups_of gs)
+groups_of (source.between low high ∷ gs) = range low high ∷ groups_of gs
+
+abbrev pub group_count : Group → ℕ
+group_count (numbers ns) = 1
+group_count (range low high) = 2
+
+abbrev pub groups_count : List Group → ℕ
+groups_count [] = 0
+groups_count (g ∷ gs) = group_count g + groups_count gs
+
+-- what one group asks where others follow: to the statements of the case where it holds
+abbrev pub group_items : ℕ → Group → ℕ → List Item
+group_items at (numbers ns) inside = case same ns true inside ∷ []
+group_items at (range low high) inside =
+    case less (low ∷ []) true (at + 2) ∷ case greater (high ∷ []) false inside ∷ []
+
+-- what the last one asks: behind those statements where it does not hold
+abbrev pub last_items : Group → ℕ → List Item
+last_items (numbers ns) behind = case same ns false behind ∷ []
+last_items (range low high) behind = case less (low ∷ []) true behind ∷ case greater (high ∷ []) true behind ∷ []
+
+-- the tests of a case; one of none never holds
+abbrev pub tests_count : List Group → ℕ
+tests_count [] = 1
+tests_count (g ∷ gs) = groups_count (g ∷ gs)
+
+abbrev pub tests_items : ℕ → List Group → ℕ → ℕ → List Item
+tests_items at [] inside behind = jump behind ∷ []
+tests_items at (g ∷ []) inside behind = last_items g behind
+tests_items at (g ∷ h ∷ gs) inside behind =
+    group_items at g inside ++ tests_items (at + group_count g) (h ∷ gs) inside behind
+
+-- from the end of a case over so many items of the later ones
+abbrev pub over_count : ℕ → ℕ
+over_count later = if later == 0 then 0 else 1
+
+abbrev pub over_items : ℕ → ℕ → List Item
+over_items later end = if later == 0 then [] else jump end ∷ []
+
 abbrev mutual
   -- a statement
   pub action_count : Action → ℕ
@@ -443,6 +524,11 @@ abbrev mutual
   action_count (source.if_then v a) = branch_count v false + action_count a
   action_count (source.if_else v a b) = branch_count v false + action_count a + 1 + action_count b
   action_count (source.while_do v a) = branch_count v false + action_count a + 1
+  action_count (source.do_until a v) = action_count a + branch_count v true + 1
+  action_count (source.for_loop x y z a) = once_count x + test_count y + action_count a + once_count z + 1
+  action_count (source.switch_on v cs) = operand_count v (alone v) + 1 + cases_count cs
+  action_count source.break_out = 1
+  action_count source.continue_on = 1
   action_count (source.return_value v) = operand_count v (alone v) + 1
   action_count source.quit = 1
   action_count (source.effect v) = value_count v nowhere
@@ -451,6 +537,13 @@ abbrev mutual
   pub actions_count : Actions → ℕ
   actions_count stop = 0
   actions_count (next a rest) = action_count a + actions_count rest
+
+  -- the cases of a `switch`
+  pub cases_count : CasesOf → ℕ
+  cases_count source.no_case = 0
+  cases_count (source.default_case xs) = actions_count xs
+  cases_count (source.case gs xs rest) =
+      tests_count (groups_of gs) + actions_count xs + over_count (cases_count rest) + cases_count rest
 
 -- the items that push an operand which stands alone
 abbrev pub alone_items : ℕ → Value → List Item
@@ -480,6 +573,21 @@ pub record Exits : Type 0 where
 abbrev pub exits_to : ℕ → ℕ → Exits
 exits_to behind end = record { breaks = end; continues = behind }
 
+-- Behind what is done before the first round: the test, the body, what is done behind each round, and back to the
+-- test. They have so many items.
+abbrev pub for_items : ℕ → ℕ → ℕ → ℕ → (ℕ → List Item) → (Exits → ℕ → List Item) → (ℕ → List Item) → List Item
+for_items at tested body done test run behind =
+    test (at + tested + body + done + 1)
+    ++ (run (exits_to (at + tested + body) (at + tested + body + done + 1)) (at + tested)
+    ++ (behind (at + tested + body) ++ back at ∷ []))
+
+-- A case: its tests, its statements, and the way over the later cases. Statements and later cases have so many items.
+abbrev pub case_items : ℕ → List Group → ℕ → ℕ → ℕ → (ℕ → List Item) → (ℕ → List Item) → List Item
+case_items at groups body later end run rest =
+    tests_items at groups (at + tests_count groups) (at + tests_count groups + body + over_count later)
+    ++ (run (at + tests_count groups)
+    ++ (over_items later end ++ rest (at + tests_count groups + body + over_count later)))
+
 abbrev mutual
   -- a statement
   pub action_items : Exits → ℕ → Action → List Item
@@ -502,6 +610,22 @@ abbrev mutual
       ++ (action_items
       (exits_to (at + branch_count v false + action_count a) (at + branch_count v false + action_count a + 1))
       (at + branch_count v false) a ++ back at ∷ [])
+  action_items x at (source.do_until a v) =
+      action_items (exits_to (at + action_count a) (at + action_count a + branch_count v true + 1)) at a
+      ++ (branch_items (at + action_count a) v true (at + action_count a + branch_count v true + 1) ++ back at ∷ [])
+  action_items x at (source.for_loop before test behind a) =
+      once_items at before
+      ++ for_items (at + once_count before) (test_count test) (action_count a) (once_count behind)
+      (λ end. test_items (at + once_count before) test end)
+      (λ inside place. action_items inside place a)
+      (λ place. once_items place behind)
+  action_items x at (source.switch_on v cs) =
+      alone_items at v
+      ++ choose (alone v)
+      ∷ cases_items (record x { breaks = at + operand_count v (alone v) + 1 + cases_count cs })
+      (at + operand_count v (alone v) + 1) cs (at + operand_count v (alone v) + 1 + cases_count cs)
+  action_items x at source.break_out = jump x.breaks ∷ []
+  action_items x at source.continue_on = jump x.continues ∷ []
   action_items x at (source.return_value v) = alone_items at v ++ return (alone v) ∷ []
   action_items x at source.quit = quit ∷ []
   action_items x at (source.effect v) = value_items at v nowhere
@@ -510,6 +634,14 @@ abbrev mutual
   pub actions_items : Exits → ℕ → Actions → List Item
   actions_items x at stop = []
   actions_items x at (next a rest) = action_items x at a ++ actions_items x (at + action_count a) rest
+
+  -- the cases of a `switch` that ends there: the tests of each lead behind its statements where they do not hold
+  pub cases_items : Exits → ℕ → CasesOf → ℕ → List Item
+  cases_items x at source.no_case end = []
+  cases_items x at (source.default_case xs) end = actions_items x at xs
+  cases_items x at (source.case gs xs rest) end =
+      case_items at (groups_of gs) (actions_count xs) (cases_count rest) end (λ place. actions_items x place xs)
+      (λ place. cases_items x place rest end)
 
 -- A routine that runs off its end returns true. No statement of an accepted program breaks or continues outside of a
 -- loop; one would lead there too.

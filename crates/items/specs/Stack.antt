@@ -28,11 +28,13 @@ pub record Caller : Type 0 where
   pub stack : List ℕ
   pub locals : List ℕ
 
--- a place in a routine, its stack, the calls that wait, the newest first, and the locals with the world
+-- a place in a routine, its stack, the word of a `switch` whose cases are tested, the calls that wait, the newest
+-- first, and the locals with the world
 pub record State : Type 0 where
   pub routine : ℕ
   pub place : ℕ
   pub stack : List ℕ
+  pub chosen : Option ℕ
   pub callers : List Caller
   pub situation : Situation
 
@@ -77,7 +79,8 @@ after_part (over outcome) k = ends outcome
 
 -- with the item after this one, where this is left of the stack
 abbrev pub after : State → List ℕ → Situation → State
-after s stack situation = record s { place = s.place + 1; stack = stack; situation = situation }
+after s stack situation =
+    record s { place = s.place + 1; stack = stack; chosen = None; situation = situation }
 
 -- a part gives a word, which goes to its destination
 abbrev pub gives : Part ℕ → Destination → List ℕ → State → Next
@@ -128,14 +131,29 @@ holds _ _ = false
 
 -- to the target, or to the next item
 abbrev pub branch : Bool → ℕ → List ℕ → State → Next
-branch true target stack s = jump_forward target (record s { stack = stack })
+branch true target stack s = jump_forward target (record s { stack = stack; chosen = None })
 branch false target stack s = goes (after s stack s.situation)
+
+-- the word of a `switch` is there for the next item
+abbrev pub chooses : ℕ → List ℕ → State → Next
+chooses v stack s = goes (record (after s stack s.situation) { chosen = Some v })
+
+-- it stays, and the run goes on at the target, or with the next item
+abbrev pub by_case : Bool → ℕ → State → Next
+by_case true target s = jump_forward target s
+by_case false target s = goes (record s { place = s.place + 1 })
+
+-- a test of the word of a `switch`
+abbrev pub test_case : Option ℕ → Test → List ℕ → Bool → ℕ → State → Next
+test_case None test ns when target s = stuck
+test_case (Some v) test ns when target s = by_case (agrees (holds test (v ∷ ns)) when) target s
 
 -- going back costs a unit
 abbrev pub go_back : ℕ → State → Next
 go_back target s =
     if nat_le target s.place then
-    after_part (spend s.situation) (λ _ situation. goes (record s { place = target; situation = situation }))
+    after_part (spend s.situation)
+    (λ _ situation. goes (record s { place = target; chosen = None; situation = situation }))
     else stuck
 
 -- Calls
@@ -148,6 +166,7 @@ enter p r arguments callers situation =
       routine = r;
       place = 0;
       stack = [];
+      chosen = None;
       callers = callers;
       situation = record { locals = locals_of (routine_at p.routines r).locals arguments; world = after.world };
     }))
@@ -160,6 +179,7 @@ return_to (c ∷ callers) v w = delivered c.destination v (record {
   routine = c.routine;
   place = c.place;
   stack = c.stack;
+  chosen = None;
   callers = callers;
   situation = record { locals = c.locals; world = w };
 })
@@ -202,6 +222,8 @@ act p (Some items.new_line) s = prints put_line s.stack s
 act p (Some items.quit) s = ends (ended places.Quit s.situation.world)
 act p (Some (items.branch test os when target)) s =
     with_operands os s.situation s.stack (λ vs stack. branch (agrees (holds test vs) when) target stack s)
+act p (Some (items.choose o)) s = with_operand o s.situation s.stack (λ v stack. chooses v stack s)
+act p (Some (items.case test ns when target)) s = test_case s.chosen test ns when target s
 act p (Some (items.jump target)) s = jump_forward target s
 act p (Some (items.back target)) s = go_back target s
 act p (Some (items.call r os d)) s =

@@ -9,11 +9,15 @@ use Rattle.expressions.specs.declared.tree.Comparison.{Comparison}
 use Rattle.expressions.specs.declared.tree.Equality.{Equality}
 use Rattle.expressions.specs.declared.tree.Width.{Width}
 use Rattle.checker.specs.declared.resolved.Printed as code_printed
-use Rattle.checker.specs.Resolved.{Value, Values, none, more, Action, value_of, values_of, chained, printed_of}
+use Rattle.std.specs.Global.{Vec}
+use Rattle.checker.specs.declared.resolved.Span.{Span}
+use Rattle.checker.specs.declared.resolved.Action as code_action
+use Rattle.checker.specs.Resolved.{Value, Values, none, more, RangeOf, Action, Actions, CasesOf, value_of, values_of}
+use Rattle.checker.specs.Resolved.{chained, printed_of, case_of}
 use Rattle.checker.specs.Resolved as source
 use Rattle.items.specs.Items.{Item, Operand, pushed, changes, Destination, push, operand_of, operands_of, left_of}
 use Rattle.items.specs.Items.{if_pushed, is_few, branch_true, value_count, branch_count, truth_items, value_items}
-use Rattle.items.specs.Items.{operands_items, branch_items, moved, prints_items, Exits, action_items}
+use Rattle.items.specs.Items.{operands_items, branch_items, moved, prints_items, Exits, action_items, cases_items}
 use Rattle.items.specs.Items as items
 use Rattle.items.specs.Code.{as_operand, as_operands, as_destination, item_of, items_of}
 use Rattle.items.specs.declared.item.Item as code_item
@@ -31,6 +35,7 @@ written_in draft = items_of draft.items.items
 -- an item whose target is told by how many items there are from there on, where there are n in all
 abbrev pub numbered : ℕ → Item → Item
 numbered n (items.branch test os when left) = items.branch test os when (n - left)
+numbered n (items.case test ns when left) = items.case test ns when (n - left)
 numbered n (items.jump left) = items.jump (n - left)
 numbered n (items.back left) = items.back (n - left)
 numbered n i = i
@@ -258,6 +263,23 @@ exits_of n x = record { breaks = n - x.breaks; continues = n - x.continues }
 -- a statement
 abbrev pub WritesAction : Draft → Draft → code_exits.Exits → Action → Type 0
 WritesAction old new x a = Writes old new (λ n at. action_items (exits_of n x) at a)
+
+-- the cases of a `switch`, or those from some on; at its end so many items are left
+abbrev pub WritesCases : Draft → Draft → code_exits.Exits → CasesOf → ℕ → Type 0
+WritesCases old new x cs end = Writes old new (λ n at. cases_items (exits_of n x) at cs (n - end))
+
+-- cases before others
+abbrev pub cases_before : List (List RangeOf × Actions) → CasesOf → CasesOf
+cases_before [] later = later
+cases_before (c ∷ cs) later = source.case c.0 c.1 (cases_before cs later)
+
+-- these cases were written before the later ones of a `switch`
+abbrev pub LeavesCases : Draft → Draft → code_exits.Exits → List (Vec Span × Vec code_action.Action) → ℕ → Type 0
+LeavesCases old new x cs end =
+    (start : List Item) (later : CasesOf) → length start ≡ end
+    → Written start (written_in old) (λ n at. cases_items (exits_of n x) at later (n - end))
+    → Written start (written_in new)
+    (λ n at. cases_items (exits_of n x) at (cases_before (map case_of cs) later) (n - end))
 
 -- one item more, as it stands
 abbrev pub Puts : Draft → Draft → Item → Type 0

@@ -75,6 +75,9 @@ fn numbered(item: Item<'_>, count: usize) -> Item<'_>
         Item::Branch(test, operands, when, left) => {
             Item::Branch(test, operands, when, count.saturating_sub(left))
         }
+        Item::Case(test, numbers, when, left) => {
+            Item::Case(test, numbers, when, count.saturating_sub(left))
+        }
         Item::Jump(left) => Item::Jump(count.saturating_sub(left)),
         Item::Back(left) => Item::Back(count.saturating_sub(left)),
         other => other,

@@ -91,6 +91,12 @@ pub enum Item<'a> {
     /// Forward, where the test holds, or where it does not.
     Branch(Test, Vec<Operand>, bool, usize),
 
+    /// The word of a `switch`, which its cases test.
+    Choose(Operand),
+
+    /// Forward, where the test holds of that word and these numbers, or where it does not.
+    Case(Test, Vec<u16>, bool, usize),
+
     /// Forward.
     Jump(usize),
 

@@ -1,8 +1,11 @@
 //! A routine as items: the acts of its statements, one after another, with operands in place and branches by conditions.
 #![tactic(auto)]
 
+mod cases;
 mod draft;
 mod exits;
+mod group;
+mod heading;
 mod item;
 mod laws;
 mod operand;

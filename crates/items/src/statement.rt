@@ -1,17 +1,21 @@
 //! Statements as items.
 
 ghost use Rattle.std.specs.Prelude.{[], ◌∷◌, map, OnOk};
-ghost use Rattle.checker.specs.Resolved.{block, if_then, while_do, return_value, value_of, printed_of, action_of, actions_of};
+ghost use Rattle.std.specs.Option.{option_map};
+ghost use Rattle.checker.specs.Resolved.{block, if_then, while_do, do_until, for_loop, switch_on, return_value, value_of};
+ghost use Rattle.checker.specs.Resolved.{printed_of, action_of, actions_of, case_of, cases_of, other_of};
 ghost use Rattle.items.specs.Items.{new_line, return_true, printed_items};
-ghost use Rattle.items.specs.Writing.{Writes, WritesAction, WritesPrinted, WritesTaken};
+ghost use Rattle.items.specs.Writing.{Writes, WritesAction, WritesPrinted, WritesTaken, WritesCases, LeavesCases};
 
+use crate::cases::{put_over, put_tests};
 use crate::draft::{Draft, lead_back, put, written};
 use crate::exits::Exits;
+use crate::heading::{put_once, put_test};
 use crate::item::{Destination, Item, Operand};
 use crate::operand::alone;
 use crate::value::{put_operand, put_value};
 use crate::wanted::Wanted;
-use checker::{Action, Printed, Value};
+use checker::{Action, Printed, Span, Value};
 use std::alloc::AllocError;
 
 /// The items of statements, one after another.
@@ -62,6 +66,11 @@ fn put_statement<'a>(
             put_value(draft, test, Wanted::Branch(false, next))?;
         }
         Action::While(test, body) => put_while(draft, body, test)?,
+        Action::Do(body, test) => put_do(draft, body, test)?,
+        Action::For(before, test, behind, body) => put_for(draft, body, before, test, behind)?,
+        Action::Switch(value, cases, other) => put_switch(draft, exits, cases, other, value)?,
+        Action::Break => put(draft, Item::Jump(exits.breaks))?,
+        Action::Continue => put(draft, Item::Jump(exits.continues))?,
         Action::ReturnValue(value) => put_return(draft, value)?,
         Action::Quit => put(draft, Item::Quit)?,
         Action::Effect(value) => {
@@ -103,6 +112,122 @@ fn put_while<'a>(draft: &mut Draft<'a>, body: &Action<'a>, test: &Value) -> Resu
     put_statement(draft, inside, body)?;
     put_value(draft, test, Wanted::Branch(false, end))?;
     lead_back(draft, end);
+    Ok(())
+}
+
+/// `do`: the test goes back to the body where it is false.
+#[cycle(statements)]
+fn put_do<'a>(draft: &mut Draft<'a>, body: &Action<'a>, test: &Value) -> Result<(), AllocError>
+    ensures { OnOk result ((x : _) → WritesAction draft.old draft.new x (do_until (action_of body.now) (value_of test.now))) }
+{
+    let end = written(draft);
+    put(draft, Item::Back(0))?;
+    put_value(draft, test, Wanted::Branch(true, end))?;
+    let inside = Exits {
+        breaks: end,
+        continues: written(draft),
+    };
+    put_statement(draft, inside, body)?;
+    lead_back(draft, end);
+    Ok(())
+}
+
+/// `for`: behind the body and what is done behind each round it goes back to the test.
+#[cycle(statements)]
+fn put_for<'a>(
+    draft: &mut Draft<'a>,
+    body: &Action<'a>,
+    before: &Option<Value>,
+    test: &Option<Value>,
+    behind: &Option<Value>,
+) -> Result<(), AllocError>
+    ensures { OnOk result ((x : _) → WritesAction draft.old draft.new x (for_loop (option_map value_of before.now)
+        (option_map value_of test.now) (option_map value_of behind.now) (action_of body.now))) }
+{
+    let end = written(draft);
+    put(draft, Item::Back(0))?;
+    put_once(draft, behind)?;
+    let inside = Exits {
+        breaks: end,
+        continues: written(draft),
+    };
+    put_statement(draft, inside, body)?;
+    put_test(draft, test, end)?;
+    lead_back(draft, end);
+    put_once(draft, before)?;
+    Ok(())
+}
+
+/// `switch`: its word is chosen, and its cases follow.
+#[cycle(statements)]
+fn put_switch<'a>(
+    draft: &mut Draft<'a>,
+    exits: Exits,
+    cases: &[(Vec<Span>, Vec<Action<'a>>)],
+    other: &Option<Vec<Action<'a>>>,
+    value: &Value,
+) -> Result<(), AllocError>
+    ensures { OnOk result (WritesAction draft.old draft.new exits (switch_on (value_of value.now)
+        (cases_of (map case_of cases.now) (other_of other.now)))) }
+{
+    let end = written(draft);
+    let inside = Exits {
+        breaks: end,
+        continues: exits.continues,
+    };
+    put_other(draft, inside, other)?;
+    put_cases(draft, inside, cases, end)?;
+    let operand = alone(value);
+    put_after(draft, value, operand, Item::Choose(operand))?;
+    Ok(())
+}
+
+/// The statements of `default`.
+#[cycle(statements)]
+fn put_other<'a>(
+    draft: &mut Draft<'a>,
+    exits: Exits,
+    other: &Option<Vec<Action<'a>>>,
+) -> Result<(), AllocError>
+    ensures { OnOk result ((end : _) → WritesCases draft.old draft.new exits (cases_of [] (other_of other.now)) end) }
+{
+    match other {
+        None => Ok(()),
+        Some(statements) => put_statements(draft, exits, statements),
+    }
+}
+
+/// The cases of a `switch` of which the end leaves so many items, before what is written of it.
+#[cycle(statements)]
+fn put_cases<'a>(
+    draft: &mut Draft<'a>,
+    exits: Exits,
+    cases: &[(Vec<Span>, Vec<Action<'a>>)],
+    end: usize,
+) -> Result<(), AllocError>
+    ensures { OnOk result (LeavesCases draft.old draft.new exits cases.now end) }
+{
+    for done in 0..cases.len() {
+        put_case(draft, exits, &cases[cases.len() - 1 - done], end)?;
+    }
+    Ok(())
+}
+
+/// A case: its tests, its statements, and the way over what is written of the `switch`.
+#[cycle(statements)]
+fn put_case<'a>(
+    draft: &mut Draft<'a>,
+    exits: Exits,
+    case: &(Vec<Span>, Vec<Action<'a>>),
+    end: usize,
+) -> Result<(), AllocError>
+    ensures { OnOk result (LeavesCases draft.old draft.new exits (case.now ∷ []) end) }
+{
+    let behind = written(draft);
+    put_over(draft, end)?;
+    put_statements(draft, exits, &case.1)?;
+    let inside = written(draft);
+    put_tests(draft, &case.0, inside, behind)?;
     Ok(())
 }
 

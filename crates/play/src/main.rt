@@ -11,7 +11,7 @@ use crate::words::{Words, words_of};
 use session::{Session, run, status};
 use std::fmt::Display;
 use std::process::ExitCode;
-use std::{env, fs};
+use std::{env, fs, mem};
 
 /// The exit status where the story cannot be played.
 const REFUSED: u8 = 1;
@@ -59,7 +59,10 @@ fn play(rt: &HostRuntime, words: Words<'_>) -> ExitCode
         Ok(session) => session,
         Err(fault) => return refuse(rt, fault),
     };
-    match run(&mut rt.stdin(), &mut rt.stdout(), &mut session) {
+    let ran = run(&mut rt.stdin(), &mut rt.stdout(), &mut session);
+    // The process ends here: what each turn kept is not given back piece by piece.
+    mem::forget(session);
+    match ran {
         Ok(place) => ExitCode::from(status(&place)),
         Err(fault) => {
             let _ = eprintln!(rt; "play: {fault}");

@@ -1,32 +1,43 @@
 -- What has a tree is read as that tree, unless it is nested too deep.
-use Rattle.std.proofs.Common.{◌≡◌, ◌&&◌, ℕ, zero, suc, ◌≤◌, max, Bool, true, false, List, [], ◌∷◌, length, Result, Ok}
-use Rattle.std.proofs.Common.{refl, ap, arith}
+use Rattle.std.proofs.Common.{◌≡◌, ◌&&◌, not, ℕ, zero, suc, ◌≤◌, max, Bool, true, false, List, [], ◌∷◌, length, Option}
+use Rattle.std.proofs.Common.{Some, None, Result, Ok, refl, ap, arith}
 use Rattle.lexer.specs.declared.token.Position.{Position}
+use Rattle.lexer.specs.declared.token.Sign.{Sign}
 use Rattle.lexer.specs.declared.token.Sign.TheVariants as s
 use Rattle.lexer.specs.declared.token.Word.TheVariants as w
 use Rattle.lexer.specs.Token.{Lexeme, name, number, text, character, reserved, sign, position_of}
 use Rattle.expressions.specs.declared.error.Fault.{Fault}
 use Rattle.expressions.specs.Tree.{ExpressionTree}
+use Rattle.expressions.specs.Grammar.{nesting}
 use Rattle.expressions.specs.Nesting.{begins_expression}
-use Rattle.expressions.specs.Parse.{◌>>=◌, Parse, head, tail, is_sign, is_word, expect, whole, nested, expression}
+use Rattle.expressions.specs.Parse.{◌>>=◌, Parse, head, tail, is_sign, is_word, expect, expect_word, whole, nested}
+use Rattle.expressions.specs.Parse.{expression}
 use Rattle.expressions.proofs.Follow.{Stops, first_E}
 use Rattle.expressions.proofs.Limited.{Limited, bound, then, at_once, same, in_whole, Listed, listed_last}
 use Rattle.expressions.proofs.Limited.{listed_next, listed_all}
 use Rattle.expressions.proofs.Complete.{at_E}
-use Rattle.statements.specs.Tree.{PrintItemTree, text_item, character_item, number_item, StatementTree}
-use Rattle.statements.specs.Tree.{StatementTrees, trees_of, empty, block, text_alone, print, print_return, new_line}
-use Rattle.statements.specs.Tree.{if_then, if_else, while_do, return_alone, return_value, return_true, return_false}
-use Rattle.statements.specs.Tree.{quit, effect, stop, next}
-use Rattle.statements.specs.Grammar.{has_effect, else_follows, IsItem, item_text, item_character, item_number}
-use Rattle.statements.specs.Grammar.{IsItems, items_last, items_comma, IsS, s_empty, s_block, s_text, s_print}
-use Rattle.statements.specs.Grammar.{s_print_ret, s_new_line, s_if, s_if_else, s_while, s_return, s_return_value}
-use Rattle.statements.specs.Grammar.{s_rtrue, s_rfalse, s_quit, s_effect, IsSs, ss_stop, ss_next, item_nesting}
-use Rattle.statements.specs.Grammar.{items_nesting, statement_nesting, inside_nesting, body_nesting}
-use Rattle.statements.specs.Nesting.{begins_statement}
-use Rattle.statements.specs.Parse.{repeated, ended, character as cast, value, item, items, printed}
-use Rattle.statements.specs.Parse.{enclosed_condition, returned, alone, choice, repetition, braced, statement_over}
-use Rattle.statements.specs.Parse.{inside, braces, statement, statements}
-use Rattle.statements.proofs.Follow.{short_Item, short_S, no_cast}
+use Rattle.statements.specs.Tree.{RangeTree, HeadingTree, PrintItemTree, text_item, character_item, number_item}
+use Rattle.statements.specs.Tree.{StatementTree, StatementTrees, CaseTree, CaseTrees, trees_of, cases_of, empty, block}
+use Rattle.statements.specs.Tree.{text_alone, print, print_return, new_line, if_then, if_else, while_do, do_until}
+use Rattle.statements.specs.Tree.{for_loop, switch_on, break_at, continue_at, return_alone, return_value, return_true}
+use Rattle.statements.specs.Tree.{return_false, quit, effect, stop, next, no_case, default_case, case}
+use Rattle.statements.specs.Grammar.{has_effect, else_follows, effect_or_none, IsOptional, optional_none}
+use Rattle.statements.specs.Grammar.{optional_some, IsItem, item_text, item_character, item_number, IsItems}
+use Rattle.statements.specs.Grammar.{items_last, items_comma, IsS, s_empty, s_block, s_text, s_print, s_print_ret}
+use Rattle.statements.specs.Grammar.{s_new_line, s_if, s_if_else, s_while, s_do, s_for, s_switch, s_break, s_continue}
+use Rattle.statements.specs.Grammar.{s_return, s_return_value, s_rtrue, s_rfalse, s_quit, s_effect, IsSs, ss_stop}
+use Rattle.statements.specs.Grammar.{ss_next, IsCases, cases_none, cases_default, cases_next, item_nesting}
+use Rattle.statements.specs.Grammar.{items_nesting, optional_nesting, statement_nesting, inside_nesting}
+use Rattle.statements.specs.Grammar.{cases_nesting, body_nesting}
+use Rattle.statements.specs.Nesting.{begins_statement, begins_in_case}
+use Rattle.statements.specs.Parse.{as_long, repeated, begins_value, ranges, ended, cast, value, item, items, printed}
+use Rattle.statements.specs.Parse.{enclosed_condition, optional, optional_effect, heading, heading_in}
+use Rattle.statements.specs.Parse.{enclosed_heading, returned, alone, choice, repetition, entered, until, iteration}
+use Rattle.statements.specs.Parse.{one_case, cases, otherwise, selection, braced, statement_over, inside, braces}
+use Rattle.statements.specs.Parse.{bodies, statement, statements}
+use Rattle.statements.proofs.Follow.{short_Item, short_S, short_Ss, no_cast}
+use Rattle.statements.proofs.KnownValues.{short_Ranges, ranges_read, begins_Ranges, case_Ranges}
+use Rattle.statements.proofs.Labels.{case_S}
 
 -- ---- what `print` prints
 
@@ -115,6 +126,53 @@ pub listed_back : (xs : StatementTrees) → trees_of (listed xs) ≡ xs
 listed_back stop = refl
 listed_back (next x xs) = ap (next x) (listed_back xs)
 
+in_bodies : {n : ℕ} {xs : List StatementTree} {r : List Lexeme} (ts : List Lexeme) (d : ℕ)
+    → ((k : ℕ) → Limited (as_long begins_in_case (inside k) (length ts) ts) k n xs r)
+    → Limited (bodies d ts) d (suc n) xs r
+unfolding bodies
+in_bodies ts zero h = record { within = λ le. absurd (omega arith); beyond = λ lt. refl }
+in_bodies ts (suc d) h =
+    record { within = λ le. (h d).within (omega arith); beyond = λ lt. (h d).beyond (omega arith) }
+
+in_heading : {n : ℕ} {h : HeadingTree} {r : List Lexeme} (ts : List Lexeme) (d : ℕ)
+    → ((k : ℕ) → Limited (heading k ts) k n h r) → Limited (heading_in d ts) d (suc n) h r
+in_heading ts zero h = record { within = λ le. absurd (omega arith); beyond = λ lt. refl }
+in_heading ts (suc d) h =
+    record { within = λ le. (h d).within (omega arith); beyond = λ lt. (h d).beyond (omega arith) }
+
+-- the cases of a tree as a list, and the statements of its `default`; how deep these are nested with their brace
+
+abbrev pub case_list : CaseTrees → List CaseTree
+case_list no_case = []
+case_list (default_case xs) = []
+case_list (case gs xs cs) = (gs, xs) ∷ case_list cs
+
+abbrev pub default_list : CaseTrees → Option (List StatementTree)
+default_list no_case = None
+default_list (default_case xs) = Some (listed xs)
+default_list (case gs xs cs) = default_list cs
+
+pub cases_back : (cs : CaseTrees) → cases_of (case_list cs) (default_list cs) ≡ cs
+cases_back no_case = refl
+cases_back (default_case xs) = ap default_case (listed_back xs)
+cases_back (case gs xs cs) = ap (case gs xs) (cases_back cs)
+
+abbrev list_nesting : CaseTrees → ℕ
+list_nesting no_case = 0
+list_nesting (default_case xs) = 0
+list_nesting (case gs xs cs) = max (suc (inside_nesting xs)) (list_nesting cs)
+
+abbrev default_nesting : CaseTrees → ℕ
+default_nesting no_case = 0
+default_nesting (default_case xs) = suc (inside_nesting xs)
+default_nesting (case gs xs cs) = default_nesting cs
+
+deepest_case : (n : ℕ) (cs : CaseTrees)
+    → max (suc n) (max (list_nesting cs) (default_nesting cs)) ≡ suc (max n (cases_nesting cs))
+deepest_case n no_case = omega arith
+deepest_case n (default_case xs) = omega arith
+deepest_case n (case gs xs cs) = omega (arith, deepest_case n cs)
+
 module _ (d : ℕ) where
   step_empty : (p : Position) (r : List Lexeme) → Limited (statement d (sign s.Semicolon p ∷ r)) d 0 empty r
   unfolding statement statement_over
@@ -200,6 +258,89 @@ module _ (d : ℕ) where
   unfolding statement statement_over repetition
   step_while p ts t a = bound _ t (then _ a refl)
 
+  step_optional_none : (z : Sign) (r : List Lexeme) → is_sign z (head r) ≡ true → Limited (optional d z r) d 0 None r
+  unfolding optional
+  step_optional_none z r e = at_once (rw e refl)
+
+  step_optional_some : {n : ℕ} {e : ExpressionTree} {r : List Lexeme} (z : Sign) (ts : List Lexeme)
+      → is_sign z (head ts) ≡ false → Limited (expression (nested d) ts) d n e r
+      → Limited (optional d z ts) d n (Some e) r
+  unfolding optional
+  step_optional_some z ts e a = same {S = expression (nested d) ts >>= λ x. Ok (Some x.0, x.1)} (rw e refl)
+      (then _ a refl)
+
+  step_effect : {n : ℕ} {e : Option ExpressionTree} {r : List Lexeme} (z : Sign) (ts : List Lexeme)
+      → effect_or_none e ≡ true → Limited (optional d z ts) d n e r → Limited (optional_effect d z ts) d n e r
+  unfolding optional_effect
+  step_effect z ts f a = then _ a (rw f refl)
+
+  step_heading : {n l j : ℕ} {a b c : Option ExpressionTree} {k m r : List Lexeme} (i q o : Position)
+      (ts : List Lexeme) → Limited (optional_effect d s.Colon ts) d n a (sign s.Colon i ∷ k)
+      → Limited (optional d s.Colon k) d l b (sign s.Colon q ∷ m)
+      → Limited (optional_effect d s.CloseParenthesis m) d j c (sign s.CloseParenthesis o ∷ r)
+      → Limited (heading d ts) d (max n (max l j)) (record { before = a; test = b; behind = c }) r
+  unfolding heading expect
+  step_heading i q o ts a b c = bound _ a (bound _ b (then _ c refl))
+
+  step_enclosed : {n : ℕ} {h : HeadingTree} {r : List Lexeme} (q : Position) (m : List Lexeme)
+      → Limited (heading_in d m) d n h r → Limited (enclosed_heading d (sign s.OpenParenthesis q ∷ m)) d n h r
+  unfolding enclosed_heading expect
+  step_enclosed q m a = a
+
+  step_for : {n l : ℕ} {a b c : Option ExpressionTree} {x : StatementTree} {k r : List Lexeme} (p : Position)
+      (ts : List Lexeme) → Limited (enclosed_heading d ts) d n (record { before = a; test = b; behind = c }) k
+      → Limited (inside d k) d l x r → Limited (statement d (reserved w.For p ∷ ts)) d (max n l) (for_loop p a b c x) r
+  unfolding statement statement_over iteration
+  step_for p ts t a = bound _ t (then _ a refl)
+
+  step_entered : {n : ℕ} {x : StatementTree} {r : List Lexeme} (ts : List Lexeme) → begins_statement (head ts) ≡ true
+      → Limited (inside d ts) d n x r → Limited (entered (inside d) ts) d n x r
+  unfolding entered
+  step_entered ts e a = same {S = inside d ts} (rw e refl) a
+
+  step_do : {n l : ℕ} {x : StatementTree} {c : ExpressionTree} (p u q : Position) (ts m r : List Lexeme)
+      → Limited (entered (inside d) ts) d n x (reserved w.Until u ∷ m)
+      → Limited (enclosed_condition d m) d l c (sign s.Semicolon q ∷ r)
+      → Limited (statement d (reserved w.Do p ∷ ts)) d (max n l) (do_until p x c) r
+  unfolding statement statement_over until expect_word
+  step_do {x = x} {c = c} p u q ts m r a b = bound _ a (then _ b (step_ended (do_until p x c) q r))
+
+  step_break : (p q : Position) (r : List Lexeme)
+      → Limited (statement d (reserved w.Break p ∷ sign s.Semicolon q ∷ r)) d 0 (break_at p) r
+  unfolding statement statement_over
+  step_break p q r = at_once (step_ended (break_at p) q r)
+
+  step_continue : (p q : Position) (r : List Lexeme)
+      → Limited (statement d (reserved w.Continue p ∷ sign s.Semicolon q ∷ r)) d 0 (continue_at p) r
+  unfolding statement statement_over
+  step_continue p q r = at_once (step_ended (continue_at p) q r)
+
+  step_case : {n : ℕ} {r : List Lexeme} (gs : List RangeTree) (xs : StatementTrees) (q : Position)
+      (ts m : List Lexeme) → ranges ts ≡ Ok (gs, sign s.Colon q ∷ m) → Limited (bodies d m) d n (listed xs) r
+      → Limited (one_case (bodies d) ts) d n (gs, xs) r
+  unfolding one_case expect
+  step_case {r = r} gs xs q ts m e a = rw e (then _ a (ap (λ ys. Ok ((gs, ys), r)) (listed_back xs)))
+
+  step_no_default : (r : List Lexeme) → is_word w.Default (head r) ≡ false
+      → Limited (otherwise (braces d) r) d 0 None r
+  unfolding otherwise
+  step_no_default r e = at_once (rw e refl)
+
+  step_default : {n : ℕ} {xs : List StatementTree} {r : List Lexeme} (p q : Position) (m : List Lexeme)
+      → Limited (braces d m) d n xs r
+      → Limited (otherwise (braces d) (reserved w.Default p ∷ sign s.Colon q ∷ m)) d n (Some xs) r
+  unfolding otherwise expect
+  step_default p q m a = then _ a refl
+
+  step_switch : {n l j : ℕ} {e : ExpressionTree} {k m : List Lexeme} (p i q : Position) (cs : CaseTrees)
+      (ts r : List Lexeme) → Limited (enclosed_condition d ts) d n e (sign s.OpenBrace i ∷ k)
+      → Limited (cases (bodies d) k) d l (case_list cs) m
+      → Limited (otherwise (braces d) m) d j (default_list cs) (sign s.CloseBrace q ∷ r)
+      → Limited (statement d (reserved w.Switch p ∷ ts)) d (max n (max l j)) (switch_on p e cs) r
+  unfolding statement statement_over selection expect
+  step_switch {e = e} p i q cs ts r t a b = bound _ t
+      (bound _ a (then _ b (ap (λ c. Ok (switch_on p e c, r)) (cases_back cs))))
+
   -- what begins an expression begins no other statement
   statement_of : (ts : List Lexeme) → begins_expression (head ts) ≡ true → statement d ts ≡ alone d ts
   unfolding statement statement_over
@@ -255,6 +396,11 @@ first_S s_new_line = refl
 first_S (s_if c a e) = refl
 first_S (s_if_else c a b) = refl
 first_S (s_while c a) = refl
+first_S (s_do a c) = refl
+first_S (s_for a f b c g x) = refl
+first_S (s_switch e a) = refl
+first_S s_break = refl
+first_S s_continue = refl
 first_S s_return = refl
 first_S (s_return_value c) = refl
 first_S s_rtrue = refl
@@ -264,24 +410,89 @@ first_S {ts} (s_effect c f) = expression_statement (head ts) (first_E c)
 
 -- ---- items, as long as one begins
 
+module _ {A : Type 0} (begins : List Lexeme → Bool) (p : Parse A) (d : ℕ) where
+  as_long_stop : (n : ℕ) (r : List Lexeme) → begins r ≡ false → Limited (as_long begins p n r) d 0 [] r
+  unfolding as_long
+  as_long_stop zero r e = at_once refl
+  as_long_stop (suc n) r e = at_once (rw e refl)
+
+  as_long_next : {l j : ℕ} {x : A} {xs : List A} {m r : List Lexeme} (n : ℕ) (ts : List Lexeme) → begins ts ≡ true
+      → Limited (p ts) d l x m → Limited (as_long begins p n m) d j xs r
+      → Limited (as_long begins p (suc n) ts) d (max l j) (x ∷ xs) r
+  unfolding as_long
+  as_long_next n ts e a b = same {S = p ts >>= λ x. as_long begins p n x.1 >>= λ y. Ok (x.0 ∷ y.0, y.1)} (rw e refl)
+      (bound _ a (then _ b refl))
+
 module _ {A : Type 0} (begins : Lexeme → Bool) (p : Parse A) (d : ℕ) where
   pub repeated_stop : (n : ℕ) (r : List Lexeme) → begins (head r) ≡ false → Limited (repeated begins p n r) d 0 [] r
   unfolding repeated
-  repeated_stop zero r e = at_once refl
-  repeated_stop (suc n) r e = at_once (rw e refl)
+  repeated_stop n r e = as_long_stop (λ us. begins (head us)) p d n r e
 
   pub repeated_next : {l j : ℕ} {x : A} {xs : List A} {m r : List Lexeme} (n : ℕ) (ts : List Lexeme)
       → begins (head ts) ≡ true → Limited (p ts) d l x m → Limited (repeated begins p n m) d j xs r
       → Limited (repeated begins p (suc n) ts) d (max l j) (x ∷ xs) r
   unfolding repeated
-  repeated_next n ts e a b = same {S = p ts >>= λ x. repeated begins p n x.1 >>= λ y. Ok (x.0 ∷ y.0, y.1)}
-      (rw e refl) (bound _ a (then _ b refl))
+  repeated_next n ts e a b = as_long_next (λ us. begins (head us)) p d n ts e a b
 
 -- ---- statements
 
 brace_stops : (q : Position) → begins_statement (sign s.CloseBrace q) ≡ false
 unfolding begins_statement
 brace_stops q = refl
+
+-- a statement of a case goes on with it; the next case, `default` and a brace end it
+
+in_case : {ts r : List Lexeme} {x : StatementTree} → IsS ts x r → begins_in_case ts ≡ true
+in_case a = rw (first_S a, case_S a) refl
+
+not_both : (a : Bool) → (a && not true) ≡ false
+not_both true = refl
+not_both false = refl
+
+case_ends : {ts r : List Lexeme} {cs : CaseTrees} {q : Position} → IsCases ts cs (sign s.CloseBrace q ∷ r)
+    → begins_in_case ts ≡ false
+unfolding begins_statement
+case_ends cases_none = refl
+case_ends (cases_default a) = refl
+case_ends {ts} (cases_next g a b) = rw (case_Ranges g) (not_both (begins_statement (head ts)))
+
+-- ---- the parts of a `for`
+
+expression_colon : (t : Lexeme) → begins_expression t ≡ true → is_sign s.Colon t ≡ false
+expression_colon (sign s.Colon p) e = absurd cc
+expression_colon _ e = refl
+
+expression_close : (t : Lexeme) → begins_expression t ≡ true → is_sign s.CloseParenthesis t ≡ false
+expression_close (sign s.CloseParenthesis p) e = absurd cc
+expression_close _ e = refl
+
+at_Optional : {ts r : List Lexeme} {e : Option ExpressionTree} (z : Sign)
+    → ((t : Lexeme) → begins_expression t ≡ true → is_sign z t ≡ false) → IsOptional ts e r → (d : ℕ)
+    → is_sign z (head r) ≡ true → Stops 1 r → Limited (optional d z ts) d (optional_nesting e) e r
+at_Optional {ts} z differs optional_none d e st = step_optional_none d z ts e
+at_Optional {ts} z differs (optional_some a) d e st = step_optional_some d z ts (differs (head ts) (first_E a)) (at_E a d st)
+
+at_Heading : {m k l n : List Lexeme} {a b c : Option ExpressionTree} {i j o : Position}
+    → IsOptional m a (sign s.Colon i ∷ k) → effect_or_none a ≡ true → IsOptional k b (sign s.Colon j ∷ l)
+    → IsOptional l c (sign s.CloseParenthesis o ∷ n) → effect_or_none c ≡ true → (d : ℕ)
+    → Limited (heading d m) d (max (optional_nesting a) (max (optional_nesting b) (optional_nesting c)))
+    (record { before = a; test = b; behind = c }) n
+at_Heading {m} {k} {l} {i = i} {j = j} {o = o} a f b c g d = step_heading d i j o m
+    (step_effect d s.Colon m f (at_Optional s.Colon expression_colon a d refl (omega arith)))
+    (at_Optional s.Colon expression_colon b d refl (omega arith))
+    (step_effect d s.CloseParenthesis l g
+    (at_Optional s.CloseParenthesis expression_close c d refl (omega arith)))
+
+-- the cases of a tree are read from ts on, and its `default` behind them
+record Cased (d n : ℕ) (ts : List Lexeme) (cs : CaseTrees) (r : List Lexeme) : Type 0 where
+  rest : List Lexeme
+  list : Limited (repeated begins_value (one_case (bodies d)) n ts) d (list_nesting cs) (case_list cs) rest
+  default : Limited (otherwise (braces d) rest) d (default_nesting cs) (default_list cs) r
+
+all_cases : {d : ℕ} {ts : List Lexeme} {cs : CaseTrees} {r : List Lexeme} (c : Cased d (length ts) ts cs r)
+    → Limited (cases (bodies d) ts) d (list_nesting cs) (case_list cs) c.rest
+unfolding cases
+all_cases c = c.list
 
 mutual
   pub at_S : {ts r : List Lexeme} {x : StatementTree} → IsS ts x r → (d : ℕ)
@@ -305,6 +516,23 @@ mutual
       (step_while d p (sign s.OpenParenthesis q ∷ m)
       (step_condition d q o m k (in_whole m d (λ j. at_E c j (omega arith)))) (in_statement k d (λ j. at_S a j)))
       (omega arith)
+  at_S (s_do {m = m} {k = k} {r = r} {p = p} {q = q} {o = o} {u = u} {j = j} a c) d = up
+      (step_do d p u j m (sign s.OpenParenthesis q ∷ k) r
+      (step_entered d m (first_S a) (in_statement m d (λ i. at_S a i)))
+      (step_condition d q o k (sign s.Semicolon j ∷ r) (in_whole k d (λ i. at_E c i (omega arith)))))
+      (omega arith)
+  at_S (s_for {m = m} {n = n} {p = p} {q = q} a f b c g x) d = up
+      (step_for d p (sign s.OpenParenthesis q ∷ m)
+      (step_enclosed d q m (in_heading m d (λ i. at_Heading a f b c g i))) (in_statement n d (λ i. at_S x i)))
+      (omega arith)
+  at_S (s_switch {m = m} {k = k} {r = r} {p = p} {q = q} {o = o} {i = i} {j = j} {e = e} {cs = cs} a b) d =
+      let c = at_cases b d (length k) (omega arith) in
+      up
+      (step_switch d p i j cs (sign s.OpenParenthesis q ∷ m) r
+      (step_condition d q o m (sign s.OpenBrace i ∷ k) (in_whole m d (λ z. at_E a z (omega arith))))
+      (all_cases c) c.default) (deepest_case (nesting e) cs)
+  at_S (s_break {r = r} {p = p} {q = q}) d = step_break d p q r
+  at_S (s_continue {r = r} {p = p} {q = q}) d = step_continue d p q r
   at_S (s_return {r = r} {p = p} {q = q}) d = step_return d p q r
   at_S (s_return_value {m = m} {r = r} {p = p} {q = q} c) d = step_return_value d p q m r
       (expression_semicolon (head m) (first_E c)) (at_E c d (omega arith))
@@ -322,6 +550,38 @@ mutual
   at_block (ss_next a b) d zero le = absurd (omega (arith, short_S a))
   at_block {ts} (ss_next a b) d (suc n) le = repeated_next begins_statement (inside d) d n ts (first_S a)
       (in_statement ts d (λ j. at_S a j)) (at_block b d n (omega (arith, short_S a)))
+
+  at_body : {ts r : List Lexeme} {xs : StatementTrees} → IsSs ts xs r → begins_in_case r ≡ false → (d n : ℕ)
+      → length ts ≤ n → Limited (as_long begins_in_case (inside d) n ts) d (inside_nesting xs) (listed xs) r
+  at_body {r = r} ss_stop e d n le = as_long_stop begins_in_case (inside d) d n r e
+  at_body (ss_next a b) e d zero le = absurd (omega (arith, short_S a))
+  at_body {ts} (ss_next a b) e d (suc n) le = as_long_next begins_in_case (inside d) d n ts (in_case a)
+      (in_statement ts d (λ j. at_S a j)) (at_body b e d n (omega (arith, short_S a)))
+
+  at_cases : {ts r : List Lexeme} {cs : CaseTrees} {q : Position} → IsCases ts cs (sign s.CloseBrace q ∷ r)
+      → (d n : ℕ) → length ts ≤ n → Cased d n ts cs (sign s.CloseBrace q ∷ r)
+  at_cases {r = r} {q = q} cases_none d n le = record {
+    rest = sign s.CloseBrace q ∷ r;
+    list = repeated_stop begins_value (one_case (bodies d)) d n (sign s.CloseBrace q ∷ r) refl;
+    default = step_no_default d (sign s.CloseBrace q ∷ r) refl;
+  }
+  at_cases (cases_default {m = m} {p = p} {q = o} a) d n le = record {
+    rest = reserved w.Default p ∷ sign s.Colon o ∷ m;
+    list =
+        repeated_stop begins_value (one_case (bodies d)) d n (reserved w.Default p ∷ sign s.Colon o ∷ m) refl;
+    default = step_default d p o m (in_block m d (λ k. at_block a k (length m) (omega arith)));
+  }
+  at_cases (cases_next g a b) d zero le = absurd (omega (arith, short_Ranges g))
+  at_cases {ts} (cases_next {m = m} {p = p} {gs = gs} {xs = xs} g a b) d (suc n) le =
+      let c = at_cases b d n (omega (arith, short_Ranges g, short_Ss a)) in
+      record {
+        rest = c.rest;
+        list =
+            repeated_next begins_value (one_case (bodies d)) d n ts (begins_Ranges g)
+            (step_case d gs xs p ts m (ranges_read g)
+            (in_bodies m d (λ k. at_body a (case_ends b) k (length m) (omega arith)))) c.list;
+        default = c.default;
+      }
 
 -- statements directly in a routine, up to a token that begins none
 turns_Ss : {ts r : List Lexeme} {xs : StatementTrees} → IsSs ts xs r → begins_statement (head r) ≡ false → (d n : ℕ)

@@ -1,5 +1,5 @@
 -- The tokens at the two ends of a statement and of what `print` prints.
-use Rattle.std.proofs.Common.{◌≡◌, ◌&&◌, ◌<◌, ◌≤◌, Bool, true, false, List, length, Some, refl, arith}
+use Rattle.std.proofs.Common.{◌≡◌, ◌&&◌, ◌<◌, ◌≤◌, Bool, true, false, List, length, Option, Some, refl, arith}
 use Rattle.lexer.specs.declared.token.Sign.TheVariants as s
 use Rattle.lexer.specs.declared.token.Word.TheVariants as w
 use Rattle.lexer.specs.Token.{Lexeme, reserved, sign}
@@ -15,11 +15,13 @@ use Rattle.expressions.specs.Nesting.{begins_expression}
 use Rattle.expressions.specs.Parse.{head, tail, is_sign, is_word}
 use Rattle.expressions.proofs.Follow.{first_E}
 use Rattle.expressions.proofs.Short.{short_E}
-use Rattle.statements.specs.Tree.{PrintItemTree, StatementTree, StatementTrees}
-use Rattle.statements.specs.Grammar.{IsItem, item_text, item_character, item_number, IsItems, items_last, items_comma}
-use Rattle.statements.specs.Grammar.{IsS, s_empty, s_block, s_text, s_print, s_print_ret, s_new_line, s_if, s_if_else}
-use Rattle.statements.specs.Grammar.{s_while, s_return, s_return_value, s_rtrue, s_rfalse, s_quit, s_effect, IsSs}
-use Rattle.statements.specs.Grammar.{ss_stop, ss_next}
+use Rattle.statements.specs.Tree.{PrintItemTree, StatementTree, StatementTrees, CaseTrees}
+use Rattle.statements.specs.Grammar.{IsOptional, optional_none, optional_some, IsItem, item_text, item_character}
+use Rattle.statements.specs.Grammar.{item_number, IsItems, items_last, items_comma, IsS, s_empty, s_block, s_text}
+use Rattle.statements.specs.Grammar.{s_print, s_print_ret, s_new_line, s_if, s_if_else, s_while, s_do, s_for, s_switch}
+use Rattle.statements.specs.Grammar.{s_break, s_continue, s_return, s_return_value, s_rtrue, s_rfalse, s_quit, s_effect}
+use Rattle.statements.specs.Grammar.{IsSs, ss_stop, ss_next, IsCases, cases_none, cases_default, cases_next}
+use Rattle.statements.proofs.KnownValues.{short_Ranges}
 
 -- ---- each derivation takes a token
 
@@ -32,6 +34,10 @@ pub short_Items : {ts r : List Lexeme} {is : List PrintItemTree} → IsItems ts 
 short_Items (items_last a) = short_Item a
 short_Items (items_comma a b) = omega (arith, short_Item a, short_Items b)
 
+short_Optional : {ts r : List Lexeme} {e : Option ExpressionTree} → IsOptional ts e r → length r ≤ length ts
+short_Optional optional_none = omega arith
+short_Optional (optional_some a) = omega (arith, short_E a)
+
 mutual
   pub short_S : {ts r : List Lexeme} {x : StatementTree} → IsS ts x r → length r < length ts
   short_S s_empty = omega arith
@@ -43,6 +49,11 @@ mutual
   short_S (s_if c a e) = omega (arith, short_E c, short_S a)
   short_S (s_if_else c a b) = omega (arith, short_E c, short_S a, short_S b)
   short_S (s_while c a) = omega (arith, short_E c, short_S a)
+  short_S (s_do a c) = omega (arith, short_S a, short_E c)
+  short_S (s_for a f b c g x) = omega (arith, short_Optional a, short_Optional b, short_Optional c, short_S x)
+  short_S (s_switch e a) = omega (arith, short_E e, short_Cases a)
+  short_S s_break = omega arith
+  short_S s_continue = omega arith
   short_S s_return = omega arith
   short_S (s_return_value c) = omega (arith, short_E c)
   short_S s_rtrue = omega arith
@@ -53,6 +64,11 @@ mutual
   pub short_Ss : {ts r : List Lexeme} {xs : StatementTrees} → IsSs ts xs r → length r ≤ length ts
   short_Ss ss_stop = omega arith
   short_Ss (ss_next a b) = omega (arith, short_S a, short_Ss b)
+
+  pub short_Cases : {ts r : List Lexeme} {cs : CaseTrees} → IsCases ts cs r → length r ≤ length ts
+  short_Cases cases_none = omega arith
+  short_Cases (cases_default a) = omega (arith, short_Ss a)
+  short_Cases (cases_next g a b) = omega (arith, short_Ranges g, short_Ss a, short_Cases b)
 
 -- ---- tokens with which parts begin
 

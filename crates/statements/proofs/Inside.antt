@@ -1,12 +1,18 @@
 -- One nesting further in.
-use Rattle.std.proofs.Common.{◌≡◌, ℕ, zero, suc, ◌+◌, ◌-◌, ◌<◌, true, false, List, [], ◌∷◌, Result, Ok, Err, refl, ap}
+use Rattle.std.proofs.Common.{◌≡◌, ℕ, zero, suc, ◌+◌, ◌-◌, ◌<◌, true, false, List, [], ◌∷◌, length, Result, Ok, Err, refl, ap}
 use Rattle.std.proofs.Common.{arith}
-use Rattle.lexer.specs.Token.{Lexeme}
+use Rattle.std.specs.Prelude.{map}
+use Rattle.lexer.specs.declared.token.Token.{Token}
+use Rattle.lexer.specs.Token.{Lexeme, lexemes}
 use Rattle.expressions.specs.declared.error.Fault.{Fault}
 use Rattle.expressions.specs.declared.error.Fault.TheVariants.{Deep}
 use Rattle.expressions.specs.Parse.{head}
-use Rattle.statements.specs.Nesting.{begins_statement}
-use Rattle.statements.specs.Parse.{opened, repeated, inside, braces, statement, statements}
+use Rattle.statements.specs.declared.tree.Statement.{Statement}
+use Rattle.statements.specs.Tree.{statement_tree}
+use Rattle.statements.specs.Nesting.{begins_statement, begins_in_case}
+use Rattle.statements.specs.Parse.{opened, heading_in, heading, as_long, repeated, inside, braces}
+use Rattle.statements.specs.Parse.{bodies, statement, statements}
+use Rattle.statements.proofs.Loops.{joined, joined_none}
 
 pub opened_zero : {A : Type 0} (d : ℕ) (R : Result A Fault) → d ≡ 0 → opened d R ≡ Err Deep
 opened_zero zero R e = refl
@@ -16,10 +22,43 @@ pub opened_more : {A : Type 0} (d k : ℕ) (R : Result A Fault) → d ≡ k + 1 
 opened_more zero k R e = absurd (omega arith)
 opened_more (suc d) k R e = refl
 
-pub inside_below : (d : ℕ) (ts : List Lexeme) → 0 < d → inside d ts ≡ statement (d - 1) ts
+pub heading_zero : (d : ℕ) (ts : List Lexeme) → d ≡ 0 → heading_in d ts ≡ Err Deep
+heading_zero zero ts e = refl
+heading_zero (suc d) ts e = absurd (omega arith)
+
+pub heading_more : (d k : ℕ) (ts : List Lexeme) → d ≡ k + 1 → heading_in d ts ≡ heading k ts
+heading_more zero k ts e = absurd (omega arith)
+heading_more (suc d) k ts e = let same : d ≡ k = omega arith in ap (λ j. heading j ts) same
+
+pub inside_zero : (d : ℕ) (ts : List Lexeme) → d ≡ 0 → inside d ts ≡ Err Deep
+unfolding inside
+inside_zero zero ts e = refl
+inside_zero (suc d) ts e = absurd (omega arith)
+
+pub inside_more : (d k : ℕ) (ts : List Lexeme) → d ≡ k + 1 → inside d ts ≡ statement k ts
 unfolding inside statement
-inside_below zero ts h = absurd (omega arith)
-inside_below (suc d) ts h = let same : d ≡ suc d - 1 = omega arith in ap (λ j. statement j ts) same
+inside_more zero k ts e = absurd (omega arith)
+inside_more (suc d) k ts e = let same : d ≡ k = omega arith in ap (λ j. statement j ts) same
+
+pub bodies_zero : (d : ℕ) (ts : List Lexeme) → d ≡ 0 → bodies d ts ≡ Err Deep
+unfolding bodies
+bodies_zero zero ts e = refl
+bodies_zero (suc d) ts e = absurd (omega arith)
+
+count : (ts : List Token) → length (lexemes ts) ≡ length ts
+count [] = refl
+count (t ∷ ts) = ap suc (count ts)
+
+-- nothing is read yet
+pub bodies_begun : (d k : ℕ) (found : List Statement) (ts : List Token) → d ≡ k + 1 → found ≡ []
+    → joined (map statement_tree found) (as_long begins_in_case (inside k) (length ts - 0) (lexemes ts))
+    ≡ bodies d (lexemes ts)
+unfolding bodies
+bodies_begun zero k found ts more none = absurd (omega arith)
+bodies_begun (suc d) k found ts more none =
+    let same : k ≡ d = omega arith in
+    let all : length ts - 0 ≡ length (lexemes ts) = omega (arith, count ts) in
+    rw (none, all, same) (joined_none _)
 
 -- behind a brace: no nesting is left for it, or none for the statement that begins; nothing begins; a statement
 -- begins
@@ -30,14 +69,14 @@ braces_zero zero ts e = refl
 braces_zero (suc d) ts e = absurd (omega arith)
 
 pub braces_last : (d : ℕ) (ts : List Lexeme) → d ≡ 1 → begins_statement (head ts) ≡ true → braces d ts ≡ Err Deep
-unfolding braces repeated begins_statement
+unfolding braces repeated as_long begins_statement
 braces_last d [] e b = absurd cc
 braces_last zero (t ∷ ts) e b = absurd (omega arith)
 braces_last (suc zero) (t ∷ ts) e b = rw b refl
 braces_last (suc (suc d)) (t ∷ ts) e b = absurd (omega arith)
 
 pub braces_empty : (d : ℕ) (ts : List Lexeme) → 0 < d → begins_statement (head ts) ≡ false → braces d ts ≡ Ok ([], ts)
-unfolding braces repeated
+unfolding braces repeated as_long
 braces_empty zero ts e b = absurd (omega arith)
 braces_empty (suc d) [] e b = refl
 braces_empty (suc d) (t ∷ ts) e b = rw b refl

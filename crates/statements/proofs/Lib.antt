@@ -1,7 +1,10 @@
+pub mod Shapes
 pub mod Inside
 pub mod Cases
 pub mod Loops
 pub mod Effect
+pub mod KnownValues
+pub mod Labels
 pub mod Sound
 pub mod Follow
 pub mod Complete

@@ -7,7 +7,7 @@ use Rattle.expressions.specs.declared.error.Fault.{Fault}
 use Rattle.expressions.specs.declared.error.ParseError.{ParseError}
 use Rattle.expressions.specs.declared.error.ParseError.TheVariants as errors
 use Rattle.expressions.specs.Parse.{◌>>=◌, Fails, Parse, head, tail, further}
-use Rattle.statements.specs.Parse.{repeated}
+use Rattle.statements.specs.Parse.{as_long, repeated}
 
 abbrev pub joined : {A : Type 0} → List A → Result (List A × List Lexeme) Fault → Result (List A × List Lexeme) Fault
 joined front r = r >>= λ x. Ok (front ++ x.0, x.1)
@@ -33,35 +33,60 @@ joined_more view front x (Err f) = refl
 joined_last : {A : Type 0} (front : List A) (ts : List Lexeme) → joined front (Ok ([], ts)) ≡ Ok (front, ts)
 joined_last front ts = ap (λ z. Ok (z, ts)) (append_none front)
 
+module _ {X A : Type 0} (view : X → A) (begins : List Lexeme → Bool) (p : Parse A) where
+  pub as_long_out : (n i : ℕ) (front : List X) (ts : List Lexeme) → n ≤ i
+      → joined (map view front) (as_long begins p (n - i) ts) ≡ Ok (map view front, ts)
+  unfolding as_long
+  as_long_out n i front ts le = let k : n - i ≡ 0 = omega arith in rw k (joined_last (map view front) ts)
+
+  pub as_long_done : (n : ℕ) (front : List X) (ts : List Lexeme) → begins ts ≡ false
+      → joined (map view front) (as_long begins p n ts) ≡ Ok (map view front, ts)
+  unfolding as_long
+  as_long_done zero front ts e = joined_last (map view front) ts
+  as_long_done (suc n) front ts e = rw e (joined_last (map view front) ts)
+
+  pub as_long_more : (n i : ℕ) (front : List X) (ts : List Lexeme) (x : X) (r : List Lexeme) → i < n
+      → begins ts ≡ true → p ts ≡ Ok (view x, r)
+      → joined (map view front) (as_long begins p (n - i) ts)
+      ≡ joined (map view (front ++ x ∷ [])) (as_long begins p (n - (i + 1)) r)
+  unfolding as_long
+  as_long_more n i front ts x r lt e h = let k : n - i ≡ suc (n - (i + 1)) = omega arith in
+      rw (k, e, h) (joined_more view front x (as_long begins p (n - (i + 1)) r))
+
+  pub as_long_fails : (e : ParseError) (n i : ℕ) (front : List X) (ts : List Lexeme)
+      (total : Result (List A × List Lexeme) Fault) → i < n → begins ts ≡ true → Fails e (p ts)
+      → joined (map view front) (as_long begins p (n - i) ts) ≡ total → Fails e total
+  unfolding as_long
+  as_long_fails errors.Memory n i front ts total lt c h so_far = tt
+  as_long_fails (errors.Fault f line) n i front ts total lt c h so_far =
+      let k : n - i ≡ suc (n - (i + 1)) = omega arith in
+      let one : joined (map view front) (as_long begins p (n - i) ts) ≡ Err f = rw (k, c, h) refl in
+      sym so_far ∙ one
+
 module _ {X A : Type 0} (view : X → A) (begins : Lexeme → Bool) (p : Parse A) where
   pub repeated_out : (n i : ℕ) (front : List X) (ts : List Lexeme) → n ≤ i
       → joined (map view front) (repeated begins p (n - i) ts) ≡ Ok (map view front, ts)
   unfolding repeated
-  repeated_out n i front ts le = let k : n - i ≡ 0 = omega arith in rw k (joined_last (map view front) ts)
+  repeated_out n i front ts le = as_long_out view (λ us. begins (head us)) p n i front ts le
 
   pub repeated_done : (n : ℕ) (front : List X) (ts : List Lexeme) → begins (head ts) ≡ false
       → joined (map view front) (repeated begins p n ts) ≡ Ok (map view front, ts)
   unfolding repeated
-  repeated_done zero front ts e = joined_last (map view front) ts
-  repeated_done (suc n) front ts e = rw e (joined_last (map view front) ts)
+  repeated_done n front ts e = as_long_done view (λ us. begins (head us)) p n front ts e
 
   pub repeated_more : (n i : ℕ) (front : List X) (ts : List Lexeme) (x : X) (r : List Lexeme) → i < n
       → begins (head ts) ≡ true → p ts ≡ Ok (view x, r)
       → joined (map view front) (repeated begins p (n - i) ts)
       ≡ joined (map view (front ++ x ∷ [])) (repeated begins p (n - (i + 1)) r)
   unfolding repeated
-  repeated_more n i front ts x r lt e h = let k : n - i ≡ suc (n - (i + 1)) = omega arith in
-      rw (k, e, h) (joined_more view front x (repeated begins p (n - (i + 1)) r))
+  repeated_more n i front ts x r lt e h = as_long_more view (λ us. begins (head us)) p n i front ts x r lt e h
 
   pub repeated_fails : (e : ParseError) (n i : ℕ) (front : List X) (ts : List Lexeme)
       (total : Result (List A × List Lexeme) Fault) → i < n → begins (head ts) ≡ true → Fails e (p ts)
       → joined (map view front) (repeated begins p (n - i) ts) ≡ total → Fails e total
   unfolding repeated
-  repeated_fails errors.Memory n i front ts total lt c h so_far = tt
-  repeated_fails (errors.Fault f line) n i front ts total lt c h so_far =
-      let k : n - i ≡ suc (n - (i + 1)) = omega arith in
-      let one : joined (map view front) (repeated begins p (n - i) ts) ≡ Err f = rw (k, c, h) refl in
-      sym so_far ∙ one
+  repeated_fails e n i front ts total lt c h so_far = as_long_fails view (λ us. begins (head us)) p e n i front ts
+      total lt c h so_far
 
   pub further_out : (n i : ℕ) (front : List X) (ts : List Lexeme) → n ≤ i
       → joined (map view front) (further begins p (n - i) ts) ≡ Ok (map view front, ts)

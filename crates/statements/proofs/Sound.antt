@@ -1,39 +1,54 @@
 -- What is read derives in the grammar and is nested no deeper than was allowed; and where the fault is that a token
 -- stands too deep, one does.
-use Rattle.std.proofs.Common.{◌≡◌, ◌&&◌, ℕ, zero, suc, ◌<◌, ◌≤◌, ◌⊎◌, Bool, true, false, List, [], ◌∷◌, length, refl}
-use Rattle.std.proofs.Common.{sym, ap, subst, ◌∙◌, inl, inr, arith}
+use Rattle.std.proofs.Common.{◌≡◌, ◌&&◌, ℕ, zero, suc, ◌-◌, ◌<◌, ◌≤◌, max, ◌⊎◌, Bool, true, false, List, [], ◌∷◌}
+use Rattle.std.proofs.Common.{length, Option, Some, None, refl, sym, ap, subst, ◌∙◌, inl, inr, arith}
 use Rattle.lexer.specs.declared.token.Position.{Position}
+use Rattle.lexer.specs.declared.token.Sign.{Sign}
 use Rattle.lexer.specs.declared.token.Sign.TheVariants as s
 use Rattle.lexer.specs.declared.token.Word.TheVariants as w
 use Rattle.lexer.specs.Token.{Lexeme, text, reserved, sign, position_of}
 use Rattle.expressions.specs.Tree.{ExpressionTree}
 use Rattle.expressions.specs.Grammar.{IsE, nesting}
 use Rattle.expressions.specs.Nesting.{DeepE}
-use Rattle.expressions.specs.Parse.{Parse, head, tail, is_sign, is_word, expect}
+use Rattle.expressions.specs.Parse.{Parse, head, tail, is_sign, is_word, expect, expect_word}
 use Rattle.expressions.proofs.Judged.{Judged, judged_read, judged_grammar, judged_deep, judged_then, judged_after}
 use Rattle.expressions.proofs.Judged.{judged_by, judged_as}
-use Rattle.expressions.proofs.Tokens.{at_sign, at_word, is_that_sign, expect_ok, expect_not_deep}
+use Rattle.expressions.proofs.Tokens.{at_sign, at_word, is_that_sign, expect_ok, expect_not_deep, expect_word_ok}
+use Rattle.expressions.proofs.Tokens.{expect_word_not_deep}
 use Rattle.expressions.proofs.Repeated.{list_judged}
 use Rattle.expressions.proofs.Short.{short_E}
 use Rattle.expressions.proofs.Sound.{judged_E, judged_whole}
-use Rattle.statements.specs.Tree.{PrintItemTree, text_item, character_item, number_item, StatementTree, trees_of}
-use Rattle.statements.specs.Tree.{empty, block, text_alone, print, print_return, new_line, if_then, if_else, while_do}
-use Rattle.statements.specs.Tree.{return_alone, return_value, return_true, return_false, quit, effect}
-use Rattle.statements.specs.Grammar.{has_effect, else_follows, IsItem, item_text, item_character, item_number}
-use Rattle.statements.specs.Grammar.{IsItems, items_last, items_comma, IsS, s_empty, s_block, s_text, s_print}
-use Rattle.statements.specs.Grammar.{s_print_ret, s_new_line, s_if, s_if_else, s_while, s_return, s_return_value}
-use Rattle.statements.specs.Grammar.{s_rtrue, s_rfalse, s_quit, s_effect, IsSs, ss_stop, ss_next, item_nesting}
-use Rattle.statements.specs.Grammar.{items_nesting, statement_nesting, inside_nesting, body_nesting}
-use Rattle.statements.specs.Nesting.{begins_statement, DeepItem, deep_item_parenthesis, deep_item_character}
-use Rattle.statements.specs.Nesting.{deep_item_number, DeepItems, deep_items_first, deep_items_next, DeepS}
-use Rattle.statements.specs.Nesting.{deep_s_brace, deep_s_block, deep_s_print, deep_s_print_ret, deep_s_if}
-use Rattle.statements.specs.Nesting.{deep_s_if_condition, deep_s_if_then, deep_s_if_else, deep_s_while}
-use Rattle.statements.specs.Nesting.{deep_s_while_condition, deep_s_while_do, deep_s_return, deep_s_effect}
-use Rattle.statements.specs.Nesting.{DeepInside, deep_inside_begins, deep_inside_first, deep_inside_next, DeepSs}
+use Rattle.statements.specs.Tree.{HeadingTree, PrintItemTree, text_item, character_item, number_item, StatementTree}
+use Rattle.statements.specs.Tree.{CaseTree, trees_of, cases_of, empty, block, text_alone, print, print_return, new_line}
+use Rattle.statements.specs.Tree.{if_then, if_else, while_do, do_until, for_loop, switch_on, break_at, continue_at}
+use Rattle.statements.specs.Tree.{return_alone, return_value, return_true, return_false, quit, effect, default_case}
+use Rattle.statements.specs.Grammar.{has_effect, else_follows, effect_or_none, IsRanges, IsOptional, optional_none}
+use Rattle.statements.specs.Grammar.{optional_some, IsItem, item_text, item_character, item_number, IsItems}
+use Rattle.statements.specs.Grammar.{items_last, items_comma, IsS, s_empty, s_block, s_text, s_print, s_print_ret}
+use Rattle.statements.specs.Grammar.{s_new_line, s_if, s_if_else, s_while, s_do, s_for, s_switch, s_break, s_continue}
+use Rattle.statements.specs.Grammar.{s_return, s_return_value, s_rtrue, s_rfalse, s_quit, s_effect, IsSs, ss_stop}
+use Rattle.statements.specs.Grammar.{ss_next, IsCases, cases_none, cases_default, cases_next, item_nesting}
+use Rattle.statements.specs.Grammar.{items_nesting, optional_nesting, statement_nesting, inside_nesting}
+use Rattle.statements.specs.Grammar.{cases_nesting, body_nesting}
+use Rattle.statements.specs.Nesting.{begins_statement, begins_in_case, DeepItem, deep_item_parenthesis}
+use Rattle.statements.specs.Nesting.{deep_item_character, deep_item_number, DeepItems, deep_items_first}
+use Rattle.statements.specs.Nesting.{deep_items_next, DeepHeading, deep_heading_before, deep_heading_test}
+use Rattle.statements.specs.Nesting.{deep_heading_behind, DeepS, deep_s_brace, deep_s_block, deep_s_print}
+use Rattle.statements.specs.Nesting.{deep_s_print_ret, deep_s_if, deep_s_if_condition, deep_s_if_then, deep_s_if_else}
+use Rattle.statements.specs.Nesting.{deep_s_while, deep_s_while_condition, deep_s_while_do, deep_s_do_begins}
+use Rattle.statements.specs.Nesting.{deep_s_do, deep_s_until, deep_s_until_condition, deep_s_for, deep_s_for_parts}
+use Rattle.statements.specs.Nesting.{deep_s_for_body, deep_s_switch, deep_s_switch_value, deep_s_switch_brace}
+use Rattle.statements.specs.Nesting.{deep_s_switch_cases, deep_s_return, deep_s_effect, DeepInside}
+use Rattle.statements.specs.Nesting.{deep_inside_begins, deep_inside_first, deep_inside_next, DeepCases}
+use Rattle.statements.specs.Nesting.{deep_cases_first, deep_cases_next, deep_cases_default, DeepInCase}
+use Rattle.statements.specs.Nesting.{deep_in_case_begins, deep_in_case_first, deep_in_case_next, DeepSs}
 use Rattle.statements.specs.Nesting.{deep_ss_first, deep_ss_next}
-use Rattle.statements.specs.Parse.{repeated, ended, character, value, item, items, printed, enclosed_condition}
-use Rattle.statements.specs.Parse.{returned, alone, choice, repetition, braced, statement_over, inside, braces}
-use Rattle.statements.specs.Parse.{statement, statements}
+use Rattle.statements.specs.Parse.{as_long, repeated, begins_value, ended, cast, value, item, items, printed}
+use Rattle.statements.specs.Parse.{enclosed_condition, optional, optional_effect, heading, heading_in}
+use Rattle.statements.specs.Parse.{enclosed_heading, returned, alone, choice, repetition, entered, until, iteration}
+use Rattle.statements.specs.Parse.{one_case, cases, otherwise, selection, braced, statement_over, inside}
+use Rattle.statements.specs.Parse.{braces, bodies, statement, statements}
+use Rattle.statements.proofs.KnownValues.{ranges_judged}
 
 -- one nesting further in: at its first token, or behind that
 deeper : (D E : ℕ → Type 0) (d : ℕ) → E 1 → ((n : ℕ) → D n → E (suc n)) → (d ≡ 0) ⊎ D d → E (suc d)
@@ -46,6 +61,24 @@ both false b e = absurd cc
 
 -- ---- items, as long as one begins
 
+module _ {A : Type 0} (begins : List Lexeme → Bool) (p : Parse A) (Q : List Lexeme → A → List Lexeme → Type 0)
+    (L : List Lexeme → List A → List Lexeme → Type 0) (DQ DL : List Lexeme → Type 0)
+    (last : (r : List Lexeme) → L r [] r)
+    (onward : (ts : List Lexeme) (a : A) (m : List Lexeme) (xs : List A) (r : List Lexeme) → Q ts a m → L m xs r
+    → L ts (a ∷ xs) r)
+    (deep_first : (ts : List Lexeme) → begins ts ≡ true → DQ ts → DL ts)
+    (deep_next : (ts : List Lexeme) (a : A) (m : List Lexeme) → Q ts a m → DL m → DL ts)
+    (one : (ts : List Lexeme) → Judged (Q ts) (DQ ts) (p ts)) where
+  as_long_judged : (n : ℕ) (ts : List Lexeme) → Judged (L ts) (DL ts) (as_long begins p n ts)
+  unfolding as_long
+  as_long_judged zero ts = judged_read [] ts (last ts)
+  as_long_judged (suc n) ts =
+      judged_by (begins ts) _ _
+      (λ e. judged_then _ (one ts)
+      (λ a r q. judged_then _ (as_long_judged n r) (λ xs u l. judged_read (a ∷ xs) u (onward ts a r xs u q l))
+      (λ x. deep_next ts a r q x)) (λ x. deep_first ts e x))
+      (λ e. judged_read [] ts (last ts))
+
 module _ {A : Type 0} (begins : Lexeme → Bool) (p : Parse A) (Q : List Lexeme → A → List Lexeme → Type 0)
     (L : List Lexeme → List A → List Lexeme → Type 0) (DQ DL : List Lexeme → Type 0)
     (last : (r : List Lexeme) → L r [] r)
@@ -56,13 +89,7 @@ module _ {A : Type 0} (begins : Lexeme → Bool) (p : Parse A) (Q : List Lexeme 
     (one : (ts : List Lexeme) → Judged (Q ts) (DQ ts) (p ts)) where
   pub repeated_judged : (n : ℕ) (ts : List Lexeme) → Judged (L ts) (DL ts) (repeated begins p n ts)
   unfolding repeated
-  repeated_judged zero ts = judged_read [] ts (last ts)
-  repeated_judged (suc n) ts =
-      judged_by (begins (head ts)) _ _
-      (λ e. judged_then _ (one ts)
-      (λ a r q. judged_then _ (repeated_judged n r) (λ xs u l. judged_read (a ∷ xs) u (onward ts a r xs u q l))
-      (λ x. deep_next ts a r q x)) (λ x. deep_first ts e x))
-      (λ e. judged_read [] ts (last ts))
+  repeated_judged n ts = as_long_judged (λ us. begins (head us)) p Q L DQ DL last onward deep_first deep_next one n ts
 
 -- ---- statements without statements inside them
 
@@ -93,8 +120,8 @@ from_character p q o (t ∷ m) e r h = item_character h
 character_judged : (d : ℕ) (p q : Position) (m : List Lexeme)
     → Judged (λ i r. IsItem (sign s.OpenParenthesis p ∷ reserved w.Char q ∷ m) i r × (item_nesting i ≤ d))
     (DeepItem (suc d) (sign s.OpenParenthesis p ∷ reserved w.Char q ∷ m))
-    (character d (sign s.OpenParenthesis p ∷ reserved w.Char q ∷ m))
-unfolding character
+    (cast d (sign s.OpenParenthesis p ∷ reserved w.Char q ∷ m))
+unfolding cast
 character_judged zero p q m = judged_deep deep_item_parenthesis
 character_judged (suc d) p q m =
     judged_after (expect s.CloseParenthesis m) _
@@ -120,7 +147,7 @@ value_judged d ts =
     let b = both (is_sign s.OpenParenthesis (head ts)) (is_word w.Char (head (tail ts))) e in
     let at = at_sign s.OpenParenthesis ts b.0 ∙ ap (λ u. sign s.OpenParenthesis (position_of (head ts)) ∷ u)
     (at_word w.Char (tail ts) b.1) in
-    subst (λ us. Judged (λ i r. IsItem us i r × (item_nesting i ≤ d)) (DeepItem (suc d) us) (character d us))
+    subst (λ us. Judged (λ i r. IsItem us i r × (item_nesting i ≤ d)) (DeepItem (suc d) us) (cast d us))
     (sym at) (character_judged d (position_of (head ts)) (position_of (head (tail ts))) (tail (tail ts))))
     (λ e. judged_then _ (judged_E d ts) (λ a r h. judged_read _ r (from_number ts a r h.0, h.1))
     (λ x. deep_item_number x))
@@ -183,6 +210,109 @@ alone_judged d ts =
     (λ f. judged_grammar))
     (λ x. deep_s_effect x)
 
+-- ---- the parts of a `for`
+
+optional_judged : (d : ℕ) (z : Sign) (ts : List Lexeme)
+    → Judged (λ e r. IsOptional ts e r × (optional_nesting e ≤ d)) (DeepE (suc d) ts) (optional d z ts)
+unfolding optional
+optional_judged d z ts =
+    judged_by (is_sign z (head ts)) _ _
+    (λ e. judged_read None ts (optional_none, omega arith))
+    (λ e. judged_then _ (judged_E d ts) (λ a r h. judged_read (Some a) r (optional_some h.0, h.1)) (λ x. x))
+
+effect_judged : (d : ℕ) (z : Sign) (ts : List Lexeme)
+    → Judged (λ e r. IsOptional ts e r × (effect_or_none e ≡ true) × (optional_nesting e ≤ d)) (DeepE (suc d) ts)
+    (optional_effect d z ts)
+unfolding optional_effect
+effect_judged d z ts =
+    judged_then _ (optional_judged d z ts)
+    (λ e r h. judged_by (effect_or_none e) _ _ (λ f. judged_read e r (h.0, f, h.1)) (λ f. judged_grammar))
+    (λ x. x)
+
+abbrev pub heading_nesting : HeadingTree → ℕ
+heading_nesting h = max (optional_nesting h.before) (max (optional_nesting h.test) (optional_nesting h.behind))
+
+pub record IsHeading (ts : List Lexeme) (h : HeadingTree) (r : List Lexeme) : Type 0 where
+  pub first : Position
+  pub second : Position
+  pub closes : Position
+  pub from_test : List Lexeme
+  pub from_behind : List Lexeme
+  pub before : IsOptional ts h.before (sign s.Colon first ∷ from_test)
+  pub before_effect : effect_or_none h.before ≡ true
+  pub test : IsOptional from_test h.test (sign s.Colon second ∷ from_behind)
+  pub behind : IsOptional from_behind h.behind (sign s.CloseParenthesis closes ∷ r)
+  pub behind_effect : effect_or_none h.behind ≡ true
+
+heading_judged : (d : ℕ) (ts : List Lexeme) → Judged (λ h r. IsHeading ts h r × (heading_nesting h ≤ d))
+    (DeepHeading (suc d) ts) (heading d ts)
+unfolding heading
+heading_judged d ts =
+    judged_then _ (effect_judged d s.Colon ts)
+    (λ a u h. judged_after (expect s.Colon u) _
+    (λ k e.
+    let before = subst (λ v. IsOptional ts a v) (expect_ok s.Colon u k e) h.0 in
+    judged_then _ (optional_judged d s.Colon k)
+    (λ b v g. judged_after (expect s.Colon v) _
+    (λ l f.
+    let test = subst (λ x. IsOptional k b x) (expect_ok s.Colon v l f) g.0 in
+    judged_then _ (effect_judged d s.CloseParenthesis l)
+    (λ c x i. judged_after (expect s.CloseParenthesis x) _
+    (λ r j. judged_read (record { before = a; test = b; behind = c }) r (
+      record {
+        first = position_of (head u);
+        second = position_of (head v);
+        closes = position_of (head x);
+        from_test = k;
+        from_behind = l;
+        before = before;
+        before_effect = h.1;
+        test = test;
+        behind = subst (λ y. IsOptional l c y) (expect_ok s.CloseParenthesis x r j) i.0;
+        behind_effect = i.1;
+      },
+      omega (arith, h.2, g.1, i.2),
+    ))
+    (λ j. absurd (expect_not_deep s.CloseParenthesis x j)))
+    (λ z. deep_heading_behind before h.1 test z))
+    (λ f. absurd (expect_not_deep s.Colon v f)))
+    (λ z. deep_heading_test before h.1 z))
+    (λ e. absurd (expect_not_deep s.Colon u e)))
+    (λ z. deep_heading_before z)
+
+pub record IsEnclosed (d : ℕ) (ts : List Lexeme) (h : HeadingTree) (r : List Lexeme) : Type 0 where
+  pub opens : Position
+  pub from : List Lexeme
+  pub at : ts ≡ sign s.OpenParenthesis opens ∷ from
+  pub parts : IsHeading from h r
+  pub within : heading_nesting h < d
+
+pub record DeepEnclosed (d : ℕ) (ts : List Lexeme) : Type 0 where
+  pub opens : Position
+  pub from : List Lexeme
+  pub at : ts ≡ sign s.OpenParenthesis opens ∷ from
+  pub deep : (d ≡ 0) ⊎ DeepHeading d from
+
+heading_in_judged : (d : ℕ) (ts : List Lexeme) → Judged (λ h r. IsHeading ts h r × (heading_nesting h < d))
+    ((d ≡ 0) ⊎ DeepHeading d ts) (heading_in d ts)
+heading_in_judged zero ts = judged_deep (inl refl)
+heading_in_judged (suc d) ts = judged_as (heading_judged d ts) (λ h r q. (q.0, omega (arith, q.1))) (λ x. inr x)
+
+enclosed_judged : (d : ℕ) (ts : List Lexeme) → Judged (IsEnclosed d ts) (DeepEnclosed d ts) (enclosed_heading d ts)
+unfolding enclosed_heading
+enclosed_judged d ts =
+    judged_after (expect s.OpenParenthesis ts) _
+    (λ m e. judged_as (heading_in_judged d m)
+    (λ h r q. record {
+      opens = position_of (head ts);
+      from = m;
+      at = expect_ok s.OpenParenthesis ts m e;
+      parts = q.0;
+      within = q.1;
+    })
+    (λ x. record { opens = position_of (head ts); from = m; at = expect_ok s.OpenParenthesis ts m e; deep = x }))
+    (λ e. absurd (expect_not_deep s.OpenParenthesis ts e))
+
 -- ---- conditions
 
 pub record IsCondition (d : ℕ) (ts : List Lexeme) (c : ExpressionTree) (r : List Lexeme) : Type 0 where
@@ -231,8 +361,167 @@ pub record Inner (d : ℕ) : Type 0 where
       ((d ≡ 0) ⊎ DeepS d ts) (inside d ts)
   pub in_block : (ts : List Lexeme) → Judged (λ xs r. IsSs ts (trees_of xs) r × (inside_nesting (trees_of xs) < d))
       ((d ≡ 0) ⊎ DeepInside d ts) (braces d ts)
+  pub in_case : (ts : List Lexeme) → Judged (λ xs r. IsSs ts (trees_of xs) r × (inside_nesting (trees_of xs) < d))
+      ((d ≡ 0) ⊎ DeepInCase d ts) (bodies d ts)
+
+-- the cases cs from ts on, up to r: with those that follow they are cases
+record AreCases (d : ℕ) (ts : List Lexeme) (cs : List CaseTree) (r : List Lexeme) : Type 0 where
+  goes_on : (other : Option (List StatementTree)) (v : List Lexeme) → IsCases r (cases_of [] other) v
+      → IsCases ts (cases_of cs other) v
+  within : (other : Option (List StatementTree)) → cases_nesting (cases_of [] other) ≤ d - 1
+      → cases_nesting (cases_of cs other) ≤ d - 1
+  deep : DeepCases d r → DeepCases d ts
+
+record IsCase (d : ℕ) (ts : List Lexeme) (c : CaseTree) (r : List Lexeme) : Type 0 where
+  colon : Position
+  from : List Lexeme
+  ranges_are : IsRanges ts c.0 (sign s.Colon colon ∷ from)
+  body_is : IsSs from c.1 r
+  within : inside_nesting c.1 < d
 
 module _ (d : ℕ) (inner : Inner d) where
+  do_begun : (p : Position) (ts : List Lexeme) → begins_statement (head ts) ≡ true → (d ≡ 0) ⊎ DeepS d ts
+      → DeepS (suc d) (reserved w.Do p ∷ ts)
+  unfolding begins_statement
+  do_begun p [] e z = absurd cc
+  do_begun p (t ∷ ts) e z = deeper (λ n. DeepS n (t ∷ ts)) (λ n. DeepS n (reserved w.Do p ∷ t ∷ ts)) d
+      (deep_s_do_begins e) (λ n x. deep_s_do x) z
+
+  entered_judged : (p : Position) (ts : List Lexeme) → Judged (λ x r. IsS ts x r × (statement_nesting x < d))
+      (DeepS (suc d) (reserved w.Do p ∷ ts)) (entered (inside d) ts)
+  unfolding entered
+  entered_judged p ts = judged_by (begins_statement (head ts)) _ _
+      (λ e. judged_as (inner.in_statement ts) (λ a r h. h) (λ z. do_begun p ts e z)) (λ e. judged_grammar)
+
+  until_judged : (p : Position) (ts : List Lexeme)
+      → Judged (λ x r. IsS (reserved w.Do p ∷ ts) x r × (statement_nesting x ≤ d))
+      (DeepS (suc d) (reserved w.Do p ∷ ts)) (until d (inside d) p ts)
+  unfolding until
+  until_judged p ts =
+      judged_then _ (entered_judged p ts)
+      (λ x u g. judged_after (expect_word w.Until u) _
+      (λ v e. judged_then _ (condition_judged d v)
+      (λ c r h.
+      let body = subst (λ us. IsS ts x us)
+      (expect_word_ok w.Until u v e ∙ ap (λ us. reserved w.Until (position_of (head u)) ∷ us) h.at) g.0 in
+      ended_judged (do_until p x c) r
+      (λ q o z. (
+        s_do body (subst (λ us. IsE h.from c (sign s.CloseParenthesis h.closes ∷ us)) z h.derives),
+        omega (arith, h.within, g.1),
+      )))
+      (λ h.
+      let body = subst (λ us. IsS ts x us)
+      (expect_word_ok w.Until u v e ∙ ap (λ us. reserved w.Until (position_of (head u)) ∷ us) h.at) g.0 in
+      deeper (λ n. DeepE n h.from) (λ n. DeepS n (reserved w.Do p ∷ ts)) d (deep_s_until body)
+      (λ n y. deep_s_until_condition body y) h.deep))
+      (λ e. absurd (expect_word_not_deep w.Until u e)))
+      (λ z. z)
+
+  iteration_judged : (p : Position) (ts : List Lexeme)
+      → Judged (λ x r. IsS (reserved w.For p ∷ ts) x r × (statement_nesting x ≤ d))
+      (DeepS (suc d) (reserved w.For p ∷ ts)) (iteration d (inside d) p ts)
+  unfolding iteration
+  iteration_judged p ts =
+      judged_then _ (enclosed_judged d ts)
+      (λ h r q.
+      let parts = q.parts in
+      judged_then _ (inner.in_statement r)
+      (λ x u g. judged_read _ u (
+        subst (λ us. IsS (reserved w.For p ∷ us) (for_loop p h.before h.test h.behind x) u) (sym q.at)
+            (s_for parts.before parts.before_effect parts.test parts.behind parts.behind_effect g.0),
+        omega (arith, q.within, g.1),
+      ))
+      (λ z. subst (λ us. DeepS (suc d) (reserved w.For p ∷ us)) (sym q.at)
+      (deeper (λ n. DeepS n r) (λ n. DeepS n (reserved w.For p ∷ sign s.OpenParenthesis q.opens ∷ q.from)) d
+      deep_s_for
+      (λ n x. deep_s_for_body parts.before parts.before_effect parts.test parts.behind parts.behind_effect x) z)))
+      (λ h. subst (λ us. DeepS (suc d) (reserved w.For p ∷ us)) (sym h.at)
+      (deeper (λ n. DeepHeading n h.from) (λ n. DeepS n (reserved w.For p ∷ sign s.OpenParenthesis h.opens ∷ h.from))
+      d deep_s_for (λ n x. deep_s_for_parts x) h.deep))
+
+  -- ---- cases
+
+  one_case_judged : (ts : List Lexeme) → Judged (IsCase d ts) ((d ≡ 0) ⊎ DeepCases d ts) (one_case (bodies d) ts)
+  unfolding one_case
+  one_case_judged ts =
+      judged_then _ (ranges_judged ts)
+      (λ gs u h. judged_after (expect s.Colon u) _
+      (λ m e.
+      let labelled = subst (λ v. IsRanges ts gs v) (expect_ok s.Colon u m e) h in
+      judged_then _ (inner.in_case m)
+      (λ xs r g. judged_read (gs, trees_of xs) r
+      (record { colon = position_of (head u); from = m; ranges_are = labelled; body_is = g.0; within = g.1 }))
+      (λ z. elim z [ inl n ↦ inl n | inr x ↦ inr (deep_cases_first labelled x) ]))
+      (λ e. absurd (expect_not_deep s.Colon u e)))
+      (λ x. absurd x)
+
+  cases_judged : (ts : List Lexeme) → Judged (AreCases d ts) ((d ≡ 0) ⊎ DeepCases d ts) (cases (bodies d) ts)
+  unfolding cases
+  cases_judged ts =
+      repeated_judged begins_value (one_case (bodies d)) (IsCase d) (AreCases d) (λ us. (d ≡ 0) ⊎ DeepCases d us)
+      (λ us. (d ≡ 0) ⊎ DeepCases d us)
+      (λ r. record { goes_on = λ other v h. h; within = λ other h. h; deep = λ x. x })
+      (λ us c m cs r q l. record {
+        goes_on = λ other v h. cases_next q.ranges_are q.body_is (l.goes_on other v h);
+        within = λ other h. omega (arith, q.within, l.within other h);
+        deep = λ x. deep_cases_next q.ranges_are q.body_is (l.deep x);
+      })
+      (λ us e x. x)
+      (λ us c m q z. elim z [ inl n ↦ inl n | inr x ↦ inr (deep_cases_next q.ranges_are q.body_is x) ])
+      one_case_judged (length ts) ts
+
+  otherwise_judged : (ts : List Lexeme)
+      → Judged (λ o r. IsCases ts (cases_of [] o) r × (cases_nesting (cases_of [] o) ≤ d - 1))
+      ((d ≡ 0) ⊎ DeepCases d ts) (otherwise (braces d) ts)
+  unfolding otherwise
+  otherwise_judged ts =
+      judged_by (is_word w.Default (head ts)) _ _
+      (λ e. judged_after (expect s.Colon (tail ts)) _
+      (λ m f.
+      let at = at_word w.Default ts e
+      ∙ ap (λ us. reserved w.Default (position_of (head ts)) ∷ us) (expect_ok s.Colon (tail ts) m f) in
+      judged_then _ (inner.in_block m)
+      (λ xs r g. judged_read (Some xs) r (
+        subst (λ us. IsCases us (default_case (trees_of xs)) r) (sym at) (cases_default g.0),
+        omega (arith, g.1),
+      ))
+      (λ z. elim z
+      [ inl n ↦ inl n | inr x ↦ inr (subst (λ us. DeepCases d us) (sym at) (deep_cases_default x)) ]))
+      (λ f. absurd (expect_not_deep s.Colon (tail ts) f)))
+      (λ e. judged_read None ts (cases_none, omega arith))
+
+  selection_judged : (p : Position) (ts : List Lexeme)
+      → Judged (λ x r. IsS (reserved w.Switch p ∷ ts) x r × (statement_nesting x ≤ d))
+      (DeepS (suc d) (reserved w.Switch p ∷ ts)) (selection d (braces d) (bodies d) p ts)
+  unfolding selection
+  selection_judged p ts =
+      judged_then _ (condition_judged d ts)
+      (λ a u h. judged_after (expect s.OpenBrace u) _
+      (λ m e.
+      let value = subst (λ us. IsE h.from a (sign s.CloseParenthesis h.closes ∷ us)) (expect_ok s.OpenBrace u m e)
+      h.derives in
+      let up : (d ≡ 0) ⊎ DeepCases d m → DeepS (suc d) (reserved w.Switch p ∷ ts) = λ z.
+      subst (λ us. DeepS (suc d) (reserved w.Switch p ∷ us)) (sym h.at)
+      (deeper (λ n. DeepCases n m)
+      (λ n. DeepS n (reserved w.Switch p ∷ sign s.OpenParenthesis h.opens ∷ h.from)) d
+      (deep_s_switch_brace value) (λ n x. deep_s_switch_cases value x) z) in
+      judged_then _ (cases_judged m)
+      (λ cs v l. judged_then _ (otherwise_judged v)
+      (λ o y g. judged_after (expect s.CloseBrace y) _
+      (λ r f. judged_read (switch_on p a (cases_of cs o)) r (
+        subst (λ us. IsS (reserved w.Switch p ∷ us) (switch_on p a (cases_of cs o)) r) (sym h.at)
+            (s_switch value
+            (subst (λ us. IsCases m (cases_of cs o) us) (expect_ok s.CloseBrace y r f) (l.goes_on o y g.0))),
+        omega (arith, h.within, l.within o g.1),
+      ))
+      (λ f. absurd (expect_not_deep s.CloseBrace y f)))
+      (λ z. up (elim z [ inl n ↦ inl n | inr x ↦ inr (l.deep x) ])))
+      up)
+      (λ e. absurd (expect_not_deep s.OpenBrace u e)))
+      (λ h. subst (λ us. DeepS (suc d) (reserved w.Switch p ∷ us)) (sym h.at)
+      (deeper (λ n. DeepE n h.from) (λ n. DeepS n (reserved w.Switch p ∷ sign s.OpenParenthesis h.opens ∷ h.from)) d
+      deep_s_switch (λ n x. deep_s_switch_value x) h.deep))
+
   choice_judged : (p : Position) (ts : List Lexeme)
       → Judged (λ x r. IsS (reserved w.If p ∷ ts) x r × (statement_nesting x ≤ d))
       (DeepS (suc d) (reserved w.If p ∷ ts)) (choice d (inside d) p ts)
@@ -284,7 +573,7 @@ module _ (d : ℕ) (inner : Inner d) where
 
   braced_judged : (p : Position) (ts : List Lexeme)
       → Judged (λ x r. IsS (sign s.OpenBrace p ∷ ts) x r × (statement_nesting x ≤ d))
-      (DeepS (suc d) (sign s.OpenBrace p ∷ ts)) (braced d (inside d) (braces d) ts)
+      (DeepS (suc d) (sign s.OpenBrace p ∷ ts)) (braced (braces d) ts)
   unfolding braced
   braced_judged p ts =
       judged_then _ (inner.in_block ts)
@@ -296,7 +585,7 @@ module _ (d : ℕ) (inner : Inner d) where
       (λ n x. deep_s_block x) z)
 
   over_judged : (ts : List Lexeme) → Judged (λ x r. IsS ts x r × (statement_nesting x ≤ d)) (DeepS (suc d) ts)
-      (statement_over d (inside d) (braces d) ts)
+      (statement_over d (inside d) (braces d) (bodies d) ts)
   unfolding statement_over
   over_judged (sign s.Semicolon p ∷ ts) = judged_read empty ts (s_empty, omega arith)
   over_judged (sign s.OpenBrace p ∷ ts) = braced_judged p ts
@@ -310,6 +599,13 @@ module _ (d : ℕ) (inner : Inner d) where
       (λ q r e. (subst (λ u. IsS (reserved w.NewLine p ∷ u) new_line r) (sym e) s_new_line, omega arith))
   over_judged (reserved w.If p ∷ ts) = choice_judged p ts
   over_judged (reserved w.While p ∷ ts) = repetition_judged p ts
+  over_judged (reserved w.Do p ∷ ts) = until_judged p ts
+  over_judged (reserved w.For p ∷ ts) = iteration_judged p ts
+  over_judged (reserved w.Switch p ∷ ts) = selection_judged p ts
+  over_judged (reserved w.Break p ∷ ts) = ended_judged (break_at p) ts
+      (λ q r e. (subst (λ u. IsS (reserved w.Break p ∷ u) (break_at p) r) (sym e) s_break, omega arith))
+  over_judged (reserved w.Continue p ∷ ts) = ended_judged (continue_at p) ts
+      (λ q r e. (subst (λ u. IsS (reserved w.Continue p ∷ u) (continue_at p) r) (sym e) s_continue, omega arith))
   over_judged (reserved w.Return p ∷ ts) = returned_judged d p ts
   over_judged (reserved w.Rtrue p ∷ ts) = ended_judged return_true ts
       (λ q r e. (subst (λ u. IsS (reserved w.Rtrue p ∷ u) return_true r) (sym e) s_rtrue, omega arith))
@@ -339,13 +635,36 @@ module _ (d : ℕ) (inner : Inner d) where
       (λ us x m q z. deep_inside_next q.0 z)
       inner.in_statement n ts
 
+  case_begun : (ts : List Lexeme) → begins_in_case ts ≡ true → (d ≡ 0) ⊎ DeepS d ts → DeepInCase (suc d) ts
+  case_begun ts e z = deeper (λ n. DeepS n ts) (λ n. DeepInCase n ts) d (deep_in_case_begins e)
+      (λ n x. deep_in_case_first x) z
+
+  bodies_judged : (n : ℕ) (ts : List Lexeme) → Judged
+      (λ xs r. IsSs ts (trees_of xs) r × (inside_nesting (trees_of xs) ≤ d)) (DeepInCase (suc d) ts)
+      (as_long begins_in_case (inside d) n ts)
+  bodies_judged n ts =
+      as_long_judged begins_in_case (inside d) (λ us x r. IsS us x r × (statement_nesting x < d))
+      (λ us xs r. IsSs us (trees_of xs) r × (inside_nesting (trees_of xs) ≤ d)) (λ us. (d ≡ 0) ⊎ DeepS d us)
+      (DeepInCase (suc d))
+      (λ r. (ss_stop, omega arith))
+      (λ us x m xs r q l. (ss_next q.0 l.0, omega (arith, q.1, l.1)))
+      case_begun
+      (λ us x m q z. deep_in_case_next q.0 z)
+      inner.in_statement n ts
+
 inner_judged : (d : ℕ) → Inner d
-unfolding inside braces
-inner_judged zero = record { in_statement = λ ts. judged_deep (inl refl); in_block = λ ts. judged_deep (inl refl) }
+unfolding inside braces bodies
+inner_judged zero = record {
+  in_statement = λ ts. judged_deep (inl refl);
+  in_block = λ ts. judged_deep (inl refl);
+  in_case = λ ts. judged_deep (inl refl);
+}
 inner_judged (suc d) = record {
   in_statement = λ ts. judged_as (over_judged d (inner_judged d) ts) (λ a r h. (h.0, omega (arith, h.1)))
       (λ h. inr h);
   in_block = λ ts. judged_as (block_judged d (inner_judged d) (length ts) ts) (λ a r h. (h.0, omega (arith, h.1)))
+      (λ h. inr h);
+  in_case = λ ts. judged_as (bodies_judged d (inner_judged d) (length ts) ts) (λ a r h. (h.0, omega (arith, h.1)))
       (λ h. inr h);
 }
 

@@ -1,17 +1,18 @@
 -- The grammar of statements: a relation between the tokens from a place on, the tree, and the tokens after it, with
 -- one case for each alternative. An `else` belongs to the nearest `if`: an `if` without one stands only where no
 -- `else` follows.
-use Rattle.std.specs.Prelude.{◌≡◌, ℕ, suc, max, Bool, true, false, List, [], ◌∷◌}
+use Rattle.std.specs.Prelude.{◌≡◌, ◌-◌, ◌%◌, ℕ, suc, max, Bool, true, false, List, [], ◌∷◌, Option, Some, None}
 use Rattle.lexer.specs.declared.token.Position.{Position}
 use Rattle.lexer.specs.declared.token.Sign.TheVariants as s
 use Rattle.lexer.specs.declared.token.Word.TheVariants as w
-use Rattle.lexer.specs.Token.{Lexeme, text, reserved, sign, position_of}
+use Rattle.lexer.specs.Token.{Lexeme, name, number, text, character, reserved, sign, position_of}
 use Rattle.expressions.specs.Tree.{ExpressionTree, call, parenthesised, step_before, step_after, assign}
 use Rattle.expressions.specs.Grammar.{IsE, nesting}
-use Rattle.statements.specs.Tree.{PrintItemTree, text_item, character_item, number_item, StatementTree}
-use Rattle.statements.specs.Tree.{StatementTrees, empty, block, text_alone, print, print_return, new_line, if_then}
-use Rattle.statements.specs.Tree.{if_else, while_do, return_alone, return_value, return_true, return_false, quit}
-use Rattle.statements.specs.Tree.{effect, stop, next}
+use Rattle.statements.specs.Tree.{LiteralTree, number_value, named_value, RangeTree, PrintItemTree, text_item}
+use Rattle.statements.specs.Tree.{character_item, number_item, StatementTree, StatementTrees, CaseTrees, empty, block}
+use Rattle.statements.specs.Tree.{text_alone, print, print_return, new_line, if_then, if_else, while_do, do_until}
+use Rattle.statements.specs.Tree.{for_loop, switch_on, break_at, continue_at, return_alone, return_value, return_true}
+use Rattle.statements.specs.Tree.{return_false, quit, effect, stop, next, no_case, default_case, case}
 
 -- an expression that can stand alone: parentheses apart, its root is an assignment, a step or a call
 abbrev pub has_effect : ExpressionTree → Bool
@@ -26,6 +27,40 @@ has_effect _ = false
 abbrev pub else_follows : List Lexeme → Bool
 else_follows (reserved w.Else p ∷ ts) = true
 else_follows _ = false
+
+-- K = ["-"] number | char | name | "true" | "false" | "nothing"
+pub data IsK : List Lexeme → LiteralTree → List Lexeme → Type 0 where
+  k_number : {r : List Lexeme} {p : Position} {n : ℕ} → IsK (number n p ∷ r) (number_value n) r
+  k_negative : {r : List Lexeme} {p q : Position} {n : ℕ}
+      → IsK (sign s.Minus p ∷ number n q ∷ r) (number_value ((65536 - n) % 65536)) r
+  k_character : {r : List Lexeme} {p : Position} {c : ℕ} → IsK (character c p ∷ r) (number_value c) r
+  k_true : {r : List Lexeme} {p : Position} → IsK (reserved w.True p ∷ r) (number_value 1) r
+  k_false : {r : List Lexeme} {p : Position} → IsK (reserved w.False p ∷ r) (number_value 0) r
+  k_nothing : {r : List Lexeme} {p : Position} → IsK (reserved w.Nothing p ∷ r) (number_value 0) r
+  k_name : {r : List Lexeme} {p : Position} {n : List ℕ}
+      → IsK (name n p ∷ r) (named_value (record { text = n; position = p })) r
+
+-- Range = K ["to" K]
+pub data IsRange : List Lexeme → RangeTree → List Lexeme → Type 0 where
+  range_alone : {ts r : List Lexeme} {k : LiteralTree} → IsK ts k r → IsRange ts (record { low = k; high = None }) r
+  range_to : {ts m r : List Lexeme} {p : Position} {k l : LiteralTree} → IsK ts k (reserved w.To p ∷ m) → IsK m l r
+      → IsRange ts (record { low = k; high = Some l }) r
+
+-- Range {"," Range}
+pub data IsRanges : List Lexeme → List RangeTree → List Lexeme → Type 0 where
+  ranges_last : {ts r : List Lexeme} {g : RangeTree} → IsRange ts g r → IsRanges ts (g ∷ []) r
+  ranges_comma : {ts m r : List Lexeme} {p : Position} {g : RangeTree} {gs : List RangeTree}
+      → IsRange ts g (sign s.Comma p ∷ m) → IsRanges m gs r → IsRanges ts (g ∷ gs) r
+
+-- [E]
+pub data IsOptional : List Lexeme → Option ExpressionTree → List Lexeme → Type 0 where
+  optional_none : {r : List Lexeme} → IsOptional r None r
+  optional_some : {ts r : List Lexeme} {e : ExpressionTree} → IsE ts e r → IsOptional ts (Some e) r
+
+-- an expression that is absent or can stand alone
+abbrev pub effect_or_none : Option ExpressionTree → Bool
+effect_or_none None = true
+effect_or_none (Some e) = has_effect e
 
 -- Item = text | "(" "char" ")" E | E
 pub data IsItem : List Lexeme → PrintItemTree → List Lexeme → Type 0 where
@@ -44,8 +79,9 @@ pub data IsItems : List Lexeme → List PrintItemTree → List Lexeme → Type 0
 
 mutual
   -- S = ";" | "{" {S} "}" | text ";" | ("print" | "print_ret") Item {"," Item} ";" | "new_line" ";"
-  -- | "if" "(" E ")" S ["else" S] | "while" "(" E ")" S | "return" [E] ";" | "rtrue" ";" | "rfalse" ";" | "quit" ";"
-  -- | X ";"
+  -- | "if" "(" E ")" S ["else" S] | "while" "(" E ")" S | "do" S "until" "(" E ")" ";"
+  -- | "for" "(" [X] ":" [E] ":" [X] ")" S | "switch" "(" E ")" "{" {Case} ["default" ":" {S}] "}"
+  -- | "break" ";" | "continue" ";" | "return" [E] ";" | "rtrue" ";" | "rfalse" ";" | "quit" ";" | X ";"
   pub data IsS : List Lexeme → StatementTree → List Lexeme → Type 0 where
     s_empty : {r : List Lexeme} {p : Position} → IsS (sign s.Semicolon p ∷ r) empty r
     s_block : {m r : List Lexeme} {p q : Position} {xs : StatementTrees} → IsSs m xs (sign s.CloseBrace q ∷ r)
@@ -66,6 +102,19 @@ mutual
     s_while : {m k r : List Lexeme} {p q o : Position} {c : ExpressionTree} {x : StatementTree}
         → IsE m c (sign s.CloseParenthesis o ∷ k) → IsS k x r
         → IsS (reserved w.While p ∷ sign s.OpenParenthesis q ∷ m) (while_do p c x) r
+    s_do : {m k r : List Lexeme} {p q o u j : Position} {x : StatementTree} {c : ExpressionTree}
+        → IsS m x (reserved w.Until u ∷ sign s.OpenParenthesis q ∷ k)
+        → IsE k c (sign s.CloseParenthesis o ∷ sign s.Semicolon j ∷ r) → IsS (reserved w.Do p ∷ m) (do_until p x c) r
+    s_for : {m k l n r : List Lexeme} {p q o i j : Position} {a b c : Option ExpressionTree} {x : StatementTree}
+        → IsOptional m a (sign s.Colon i ∷ k) → effect_or_none a ≡ true → IsOptional k b (sign s.Colon j ∷ l)
+        → IsOptional l c (sign s.CloseParenthesis o ∷ n) → effect_or_none c ≡ true → IsS n x r
+        → IsS (reserved w.For p ∷ sign s.OpenParenthesis q ∷ m) (for_loop p a b c x) r
+    s_switch : {m k r : List Lexeme} {p q o i j : Position} {e : ExpressionTree} {cs : CaseTrees}
+        → IsE m e (sign s.CloseParenthesis o ∷ sign s.OpenBrace i ∷ k) → IsCases k cs (sign s.CloseBrace j ∷ r)
+        → IsS (reserved w.Switch p ∷ sign s.OpenParenthesis q ∷ m) (switch_on p e cs) r
+    s_break : {r : List Lexeme} {p q : Position} → IsS (reserved w.Break p ∷ sign s.Semicolon q ∷ r) (break_at p) r
+    s_continue : {r : List Lexeme} {p q : Position}
+        → IsS (reserved w.Continue p ∷ sign s.Semicolon q ∷ r) (continue_at p) r
     s_return : {r : List Lexeme} {p q : Position} → IsS (reserved w.Return p ∷ sign s.Semicolon q ∷ r) return_alone r
     s_return_value : {m r : List Lexeme} {p q : Position} {e : ExpressionTree} → IsE m e (sign s.Semicolon q ∷ r)
         → IsS (reserved w.Return p ∷ m) (return_value p e) r
@@ -81,8 +130,17 @@ mutual
     ss_next : {ts m r : List Lexeme} {x : StatementTree} {xs : StatementTrees} → IsS ts x m → IsSs m xs r
         → IsSs ts (next x xs) r
 
--- How deep a tree is nested: a brace, a statement inside a statement, and the parenthesis of a condition or of
--- `(char)` count beside the nesting of expressions. A statement directly in a routine does not count.
+  -- {Case} ["default" ":" {S}] and Case = Range {"," Range} ":" {S}
+  pub data IsCases : List Lexeme → CaseTrees → List Lexeme → Type 0 where
+    cases_none : {r : List Lexeme} → IsCases r no_case r
+    cases_default : {m r : List Lexeme} {p q : Position} {xs : StatementTrees} → IsSs m xs r
+        → IsCases (reserved w.Default p ∷ sign s.Colon q ∷ m) (default_case xs) r
+    cases_next : {ts m k r : List Lexeme} {p : Position} {gs : List RangeTree} {xs : StatementTrees} {cs : CaseTrees}
+        → IsRanges ts gs (sign s.Colon p ∷ m) → IsSs m xs k → IsCases k cs r → IsCases ts (case gs xs cs) r
+
+-- How deep a tree is nested: a brace, a statement inside a statement, and the parenthesis of a condition, of the parts
+-- of a `for` or of `(char)` count beside the nesting of expressions. A statement directly in a routine does not count.
+-- A case stands where the brace of its `switch` leads.
 
 abbrev pub item_nesting : PrintItemTree → ℕ
 item_nesting (text_item s) = 0
@@ -92,6 +150,10 @@ item_nesting (number_item p e) = nesting e
 abbrev pub items_nesting : List PrintItemTree → ℕ
 items_nesting [] = 0
 items_nesting (i ∷ is) = max (item_nesting i) (items_nesting is)
+
+abbrev pub optional_nesting : Option ExpressionTree → ℕ
+optional_nesting None = 0
+optional_nesting (Some e) = nesting e
 
 abbrev mutual
   pub statement_nesting : StatementTree → ℕ
@@ -104,6 +166,12 @@ abbrev mutual
   statement_nesting (if_then p c x) = suc (max (nesting c) (statement_nesting x))
   statement_nesting (if_else p c x y) = suc (max (nesting c) (max (statement_nesting x) (statement_nesting y)))
   statement_nesting (while_do p c x) = suc (max (nesting c) (statement_nesting x))
+  statement_nesting (do_until p x c) = suc (max (statement_nesting x) (nesting c))
+  statement_nesting (for_loop p a b c x) = suc
+      (max (max (optional_nesting a) (max (optional_nesting b) (optional_nesting c))) (statement_nesting x))
+  statement_nesting (switch_on p e cs) = suc (max (nesting e) (cases_nesting cs))
+  statement_nesting (break_at p) = 0
+  statement_nesting (continue_at p) = 0
   statement_nesting return_alone = 0
   statement_nesting (return_value p e) = nesting e
   statement_nesting return_true = 0
@@ -115,6 +183,11 @@ abbrev mutual
   pub inside_nesting : StatementTrees → ℕ
   inside_nesting stop = 0
   inside_nesting (next x xs) = max (suc (statement_nesting x)) (inside_nesting xs)
+
+  pub cases_nesting : CaseTrees → ℕ
+  cases_nesting no_case = 0
+  cases_nesting (default_case xs) = inside_nesting xs
+  cases_nesting (case gs xs cs) = max (inside_nesting xs) (cases_nesting cs)
 
 -- of statements directly in a routine
 abbrev pub body_nesting : StatementTrees → ℕ

@@ -2,18 +2,20 @@
 -- each place at which a part can stand in an alternative of the grammar.
 --
 -- DeepS n ts: a statement that begins at ts can be read as far as a token that stands n nestings deep in it. What
--- lies before that token in its parts is complete. A brace and the parenthesis of a condition or of `(char)` stand
--- one deeper than what holds them, and so does the first token of a statement inside a statement.
-use Rattle.std.specs.Prelude.{◌≡◌, Bool, true, ℕ, suc, List, ◌∷◌}
+-- lies before that token in its parts is complete. A brace and the parenthesis of a condition, of the parts of a `for`
+-- or of `(char)` stand one deeper than what holds them, and so does the first token of a statement inside a statement.
+-- What begins a case is no statement, and stands no deeper than its brace.
+use Rattle.std.specs.Prelude.{◌≡◌, ◌&&◌, not, Bool, true, false, ℕ, suc, List, ◌∷◌, Option}
 use Rattle.lexer.specs.declared.token.Position.{Position}
 use Rattle.lexer.specs.declared.token.Sign.TheVariants as s
 use Rattle.lexer.specs.declared.token.Word.TheVariants as w
-use Rattle.lexer.specs.Token.{Lexeme, text, reserved, sign}
+use Rattle.lexer.specs.Token.{Lexeme, name, number, text, character, reserved, sign}
 use Rattle.expressions.specs.Tree.{ExpressionTree}
 use Rattle.expressions.specs.Grammar.{IsE}
 use Rattle.expressions.specs.Nesting.{begins_expression, DeepE}
-use Rattle.statements.specs.Tree.{PrintItemTree, StatementTree}
-use Rattle.statements.specs.Grammar.{IsItem, IsS}
+use Rattle.expressions.specs.Parse.{head, tail}
+use Rattle.statements.specs.Tree.{RangeTree, PrintItemTree, StatementTree, StatementTrees}
+use Rattle.statements.specs.Grammar.{IsRanges, IsOptional, effect_or_none, IsItem, IsS, IsSs}
 
 -- the tokens with which a statement can begin
 unfoldable pub begins_statement : Lexeme → Bool
@@ -25,11 +27,41 @@ begins_statement (reserved w.PrintRet _) = true
 begins_statement (reserved w.NewLine _) = true
 begins_statement (reserved w.If _) = true
 begins_statement (reserved w.While _) = true
+begins_statement (reserved w.Do _) = true
+begins_statement (reserved w.For _) = true
+begins_statement (reserved w.Switch _) = true
+begins_statement (reserved w.Break _) = true
+begins_statement (reserved w.Continue _) = true
 begins_statement (reserved w.Return _) = true
 begins_statement (reserved w.Rtrue _) = true
 begins_statement (reserved w.Rfalse _) = true
 begins_statement (reserved w.Quit _) = true
 begins_statement t = begins_expression t
+
+-- the tokens that can stand behind a value at the beginning of a case
+abbrev pub goes_on_in_case : Lexeme → Bool
+goes_on_in_case (sign s.Comma _) = true
+goes_on_in_case (sign s.Colon _) = true
+goes_on_in_case (reserved w.To _) = true
+goes_on_in_case _ = false
+
+-- three tokens with which a case can begin: a value, and `,`, `to` or `:` behind it
+abbrev pub case_begins : Lexeme → Lexeme → Lexeme → Bool
+case_begins (number _ _) t u = goes_on_in_case t
+case_begins (character _ _) t u = goes_on_in_case t
+case_begins (reserved w.True _) t u = goes_on_in_case t
+case_begins (reserved w.False _) t u = goes_on_in_case t
+case_begins (reserved w.Nothing _) t u = goes_on_in_case t
+case_begins (name _ _) t u = goes_on_in_case t
+case_begins (sign s.Minus _) (number _ _) u = goes_on_in_case u
+case_begins _ t u = false
+
+unfoldable pub begins_case : List Lexeme → Bool
+begins_case ts = case_begins (head ts) (head (tail ts)) (head (tail (tail ts)))
+
+-- a statement of a case goes on with it
+abbrev pub begins_in_case : List Lexeme → Bool
+begins_in_case ts = begins_statement (head ts) && not (begins_case ts)
 
 -- Item = text | "(" "char" ")" E | E
 pub data DeepItem : ℕ → List Lexeme → Type 0 where
@@ -45,10 +77,19 @@ pub data DeepItems : ℕ → List Lexeme → Type 0 where
   deep_items_next : {n : ℕ} {ts m : List Lexeme} {p : Position} {i : PrintItemTree}
       → IsItem ts i (sign s.Comma p ∷ m) → DeepItems n m → DeepItems n ts
 
+-- [X] ":" [E] ":" [X]
+pub data DeepHeading : ℕ → List Lexeme → Type 0 where
+  deep_heading_before : {n : ℕ} {m : List Lexeme} → DeepE n m → DeepHeading n m
+  deep_heading_test : {n : ℕ} {m k : List Lexeme} {p : Position} {a : Option ExpressionTree}
+      → IsOptional m a (sign s.Colon p ∷ k) → effect_or_none a ≡ true → DeepE n k → DeepHeading n m
+  deep_heading_behind : {n : ℕ} {m k l : List Lexeme} {p q : Position} {a b : Option ExpressionTree}
+      → IsOptional m a (sign s.Colon p ∷ k) → effect_or_none a ≡ true → IsOptional k b (sign s.Colon q ∷ l)
+      → DeepE n l → DeepHeading n m
+
 mutual
-  -- S = .. | "{" {S} "}" | ("print" | "print_ret") Item {"," Item} ";" | "if" "(" E ")" S ["else" S] | "while" "(" E
-  -- ")" S
-  --   | "return" [E] ";" | X ";"
+  -- S = .. | "{" {S} "}" | ("print" | "print_ret") Item {"," Item} ";" | "if" "(" E ")" S ["else" S]
+  --   | "while" "(" E ")" S | "do" S "until" "(" E ")" ";" | "for" "(" [X] ":" [E] ":" [X] ")" S
+  --   | "switch" "(" E ")" "{" {Case} ["default" ":" {S}] "}" | "return" [E] ";" | X ";"
   pub data DeepS : ℕ → List Lexeme → Type 0 where
     deep_s_brace : {m : List Lexeme} {p : Position} → DeepS 1 (sign s.OpenBrace p ∷ m)
     deep_s_block : {n : ℕ} {m : List Lexeme} {p : Position} → DeepInside n m → DeepS (suc n) (sign s.OpenBrace p ∷ m)
@@ -69,6 +110,30 @@ mutual
     deep_s_while_do : {n : ℕ} {m k : List Lexeme} {p q o : Position} {c : ExpressionTree}
         → IsE m c (sign s.CloseParenthesis o ∷ k) → DeepS n k
         → DeepS (suc n) (reserved w.While p ∷ sign s.OpenParenthesis q ∷ m)
+    deep_s_do_begins : {m : List Lexeme} {t : Lexeme} {p : Position} → begins_statement t ≡ true
+        → DeepS 1 (reserved w.Do p ∷ t ∷ m)
+    deep_s_do : {n : ℕ} {m : List Lexeme} {p : Position} → DeepS n m → DeepS (suc n) (reserved w.Do p ∷ m)
+    deep_s_until : {m k : List Lexeme} {p q u : Position} {x : StatementTree}
+        → IsS m x (reserved w.Until u ∷ sign s.OpenParenthesis q ∷ k) → DeepS 1 (reserved w.Do p ∷ m)
+    deep_s_until_condition : {n : ℕ} {m k : List Lexeme} {p q u : Position} {x : StatementTree}
+        → IsS m x (reserved w.Until u ∷ sign s.OpenParenthesis q ∷ k) → DeepE n k
+        → DeepS (suc n) (reserved w.Do p ∷ m)
+    deep_s_for : {m : List Lexeme} {p q : Position} → DeepS 1 (reserved w.For p ∷ sign s.OpenParenthesis q ∷ m)
+    deep_s_for_parts : {n : ℕ} {m : List Lexeme} {p q : Position} → DeepHeading n m
+        → DeepS (suc n) (reserved w.For p ∷ sign s.OpenParenthesis q ∷ m)
+    deep_s_for_body : {n : ℕ} {m k l o : List Lexeme} {p q i j z : Position} {a b c : Option ExpressionTree}
+        → IsOptional m a (sign s.Colon i ∷ k) → effect_or_none a ≡ true → IsOptional k b (sign s.Colon j ∷ l)
+        → IsOptional l c (sign s.CloseParenthesis z ∷ o) → effect_or_none c ≡ true → DeepS n o
+        → DeepS (suc n) (reserved w.For p ∷ sign s.OpenParenthesis q ∷ m)
+    deep_s_switch : {m : List Lexeme} {p q : Position} → DeepS 1 (reserved w.Switch p ∷ sign s.OpenParenthesis q ∷ m)
+    deep_s_switch_value : {n : ℕ} {m : List Lexeme} {p q : Position} → DeepE n m
+        → DeepS (suc n) (reserved w.Switch p ∷ sign s.OpenParenthesis q ∷ m)
+    deep_s_switch_brace : {m k : List Lexeme} {p q o i : Position} {e : ExpressionTree}
+        → IsE m e (sign s.CloseParenthesis o ∷ sign s.OpenBrace i ∷ k)
+        → DeepS 1 (reserved w.Switch p ∷ sign s.OpenParenthesis q ∷ m)
+    deep_s_switch_cases : {n : ℕ} {m k : List Lexeme} {p q o i : Position} {e : ExpressionTree}
+        → IsE m e (sign s.CloseParenthesis o ∷ sign s.OpenBrace i ∷ k) → DeepCases n k
+        → DeepS (suc n) (reserved w.Switch p ∷ sign s.OpenParenthesis q ∷ m)
     deep_s_return : {n : ℕ} {m : List Lexeme} {p : Position} → DeepE n m → DeepS n (reserved w.Return p ∷ m)
     deep_s_effect : {n : ℕ} {ts : List Lexeme} → DeepE n ts → DeepS n ts
 
@@ -78,6 +143,22 @@ mutual
     deep_inside_first : {n : ℕ} {ts : List Lexeme} → DeepS n ts → DeepInside (suc n) ts
     deep_inside_next : {n : ℕ} {ts m : List Lexeme} {x : StatementTree} → IsS ts x m → DeepInside n m
         → DeepInside n ts
+
+  -- {Case} ["default" ":" {S}]
+  pub data DeepCases : ℕ → List Lexeme → Type 0 where
+    deep_cases_first : {n : ℕ} {ts m : List Lexeme} {p : Position} {gs : List RangeTree}
+        → IsRanges ts gs (sign s.Colon p ∷ m) → DeepInCase n m → DeepCases n ts
+    deep_cases_next : {n : ℕ} {ts m k : List Lexeme} {p : Position} {gs : List RangeTree} {xs : StatementTrees}
+        → IsRanges ts gs (sign s.Colon p ∷ m) → IsSs m xs k → DeepCases n k → DeepCases n ts
+    deep_cases_default : {n : ℕ} {m : List Lexeme} {p q : Position} → DeepInside n m
+        → DeepCases n (reserved w.Default p ∷ sign s.Colon q ∷ m)
+
+  -- {S} in a case: what begins the next case is no statement
+  pub data DeepInCase : ℕ → List Lexeme → Type 0 where
+    deep_in_case_begins : {ts : List Lexeme} → begins_in_case ts ≡ true → DeepInCase 1 ts
+    deep_in_case_first : {n : ℕ} {ts : List Lexeme} → DeepS n ts → DeepInCase (suc n) ts
+    deep_in_case_next : {n : ℕ} {ts m : List Lexeme} {x : StatementTree} → IsS ts x m → DeepInCase n m
+        → DeepInCase n ts
 
 -- {S} directly in a routine
 pub data DeepSs : ℕ → List Lexeme → Type 0 where

@@ -1,27 +1,76 @@
 -- Words of proofs: statements, read from left to right: functions from a list of tokens to a tree and the tokens
 -- after it.
-use Rattle.std.specs.Prelude.{◌&&◌, if◌then◌else◌, Bool, ℕ, zero, suc, List, [], ◌∷◌, length, Result, Ok, Err}
+use Rattle.std.specs.Prelude.{◌&&◌, ◌-◌, ◌%◌, if◌then◌else◌, Bool, true, false, ℕ, zero, suc, List, [], ◌∷◌, length}
+use Rattle.std.specs.Prelude.{Option, Some, None, Result, Ok, Err}
 use Rattle.lexer.specs.declared.token.Position.{Position}
+use Rattle.lexer.specs.declared.token.Sign.{Sign}
 use Rattle.lexer.specs.declared.token.Sign.TheVariants as s
 use Rattle.lexer.specs.declared.token.Word.TheVariants as w
-use Rattle.lexer.specs.Token.{Lexeme, text, reserved, sign, position_of}
+use Rattle.lexer.specs.Token.{Lexeme, name, number, text, character, reserved, sign, position_of}
 use Rattle.expressions.specs.declared.error.Fault.{Fault}
 use Rattle.expressions.specs.declared.error.Fault.TheVariants.{Grammar, Deep}
 use Rattle.expressions.specs.Tree.{ExpressionTree}
-use Rattle.expressions.specs.Parse.{Parse, ◌>>=◌, head, tail, is_sign, is_word, expect, list, whole, nested}
-use Rattle.expressions.specs.Parse.{expression}
-use Rattle.statements.specs.Tree.{PrintItemTree, text_item, character_item, number_item, StatementTree, trees_of}
+use Rattle.expressions.specs.Parse.{Parse, ◌>>=◌, head, tail, is_sign, is_word, expect, expect_word, list, whole}
+use Rattle.expressions.specs.Parse.{nested, expression}
+use Rattle.statements.specs.Tree.{LiteralTree, number_value, named_value, RangeTree, HeadingTree, PrintItemTree}
+use Rattle.statements.specs.Tree.{text_item, character_item, number_item, StatementTree, CaseTree, trees_of, cases_of}
 use Rattle.statements.specs.Tree.{empty, block, text_alone, print, print_return, new_line, if_then, if_else, while_do}
-use Rattle.statements.specs.Tree.{return_alone, return_value, return_true, return_false, quit, effect}
-use Rattle.statements.specs.Grammar.{has_effect, else_follows}
-use Rattle.statements.specs.Nesting.{begins_statement}
+use Rattle.statements.specs.Tree.{do_until, for_loop, switch_on, break_at, continue_at, return_alone, return_value}
+use Rattle.statements.specs.Tree.{return_true, return_false, quit, effect}
+use Rattle.statements.specs.Grammar.{has_effect, effect_or_none, else_follows}
+use Rattle.statements.specs.Nesting.{begins_statement, begins_in_case}
 
--- items, as long as the next token begins one. The number bounds the turns; the count of tokens is enough.
-unfoldable pub repeated : {A : Type 0} → (Lexeme → Bool) → Parse A → ℕ → Parse (List A)
-repeated begins item zero ts = Ok ([], ts)
-repeated begins item (suc n) ts =
-    if begins (head ts) then (item ts >>= λ x. repeated begins item n x.1 >>= λ y. Ok (x.0 ∷ y.0, y.1))
+-- items, as long as the tokens begin one. The number bounds the turns; the count of tokens is enough.
+unfoldable pub as_long : {A : Type 0} → (List Lexeme → Bool) → Parse A → ℕ → Parse (List A)
+as_long begins item zero ts = Ok ([], ts)
+as_long begins item (suc n) ts =
+    if begins ts then (item ts >>= λ x. as_long begins item n x.1 >>= λ y. Ok (x.0 ∷ y.0, y.1))
     else Ok ([], ts)
+
+-- as long as the next token begins one
+unfoldable pub repeated : {A : Type 0} → (Lexeme → Bool) → Parse A → ℕ → Parse (List A)
+repeated begins item n ts = as_long (λ us. begins (head us)) item n ts
+
+-- ---- values that are known before a story runs
+
+abbrev pub negative_on : Lexeme → Parse LiteralTree
+negative_on (number n p) ts = Ok (number_value ((65536 - n) % 65536), ts)
+negative_on _ ts = Err Grammar
+
+abbrev pub value_on : Lexeme → Parse LiteralTree
+value_on (number n p) ts = Ok (number_value n, ts)
+value_on (character c p) ts = Ok (number_value c, ts)
+value_on (reserved w.True p) ts = Ok (number_value 1, ts)
+value_on (reserved w.False p) ts = Ok (number_value 0, ts)
+value_on (reserved w.Nothing p) ts = Ok (number_value 0, ts)
+value_on (name n p) ts = Ok (named_value (record { text = n; position = p }), ts)
+value_on (sign s.Minus p) ts = negative_on (head ts) (tail ts)
+value_on _ ts = Err Grammar
+
+unfoldable pub known_value : Parse LiteralTree
+known_value ts = value_on (head ts) (tail ts)
+
+abbrev pub begins_value : Lexeme → Bool
+begins_value (number _ _) = true
+begins_value (character _ _) = true
+begins_value (reserved w.True _) = true
+begins_value (reserved w.False _) = true
+begins_value (reserved w.Nothing _) = true
+begins_value (name _ _) = true
+begins_value (sign s.Minus _) = true
+begins_value _ = false
+
+unfoldable pub range : Parse RangeTree
+range ts = do
+  k ← known_value ts
+  if is_word w.To (head k.1)
+      then (known_value (tail k.1) >>= λ l. Ok (record { low = k.0; high = Some l.0 }, l.1))
+      else Ok (record { low = k.0; high = None }, k.1)
+
+unfoldable pub ranges : Parse (List RangeTree)
+ranges ts = list (is_sign s.Comma) range ts
+
+-- ---- statements
 
 -- behind a token that opens a nesting, where so many may be opened
 abbrev pub opened : {A : Type 0} → ℕ → Result A Fault → Result A Fault
@@ -36,17 +85,21 @@ ended x ts = expect s.Semicolon ts >>= λ r. Ok (x, r)
 abbrev pub block_of : List StatementTree → Parse StatementTree
 block_of xs ts = expect s.CloseBrace ts >>= λ r. Ok (block (trees_of xs), r)
 
+-- a `switch` behind its cases and the statements of `default`, with its second brace
+abbrev pub switch_of : Position → ExpressionTree → List CaseTree → Option (List StatementTree) → Parse StatementTree
+switch_of p e cs other ts = expect s.CloseBrace ts >>= λ r. Ok (switch_on p e (cases_of cs other), r)
+
 -- where d nestings more may be opened
 module _ (d : ℕ) where
   -- `(char)` and a value
-  unfoldable pub character : Parse PrintItemTree
-  character ts = opened d
+  unfoldable pub cast : Parse PrintItemTree
+  cast ts = opened d
       (expect s.CloseParenthesis (tail (tail ts)) >>= λ r. expression (nested d) r
       >>= λ x. Ok (character_item (position_of (head r)) x.0, x.1))
 
   unfoldable pub value : Parse PrintItemTree
   value ts =
-      if is_sign s.OpenParenthesis (head ts) && is_word w.Char (head (tail ts)) then character ts
+      if is_sign s.OpenParenthesis (head ts) && is_word w.Char (head (tail ts)) then cast ts
       else (expression (nested d) ts >>= λ x. Ok (number_item (position_of (head ts)) x.0, x.1))
 
   abbrev pub item_on : Lexeme → Parse PrintItemTree
@@ -70,6 +123,27 @@ module _ (d : ℕ) where
     u ← expect s.CloseParenthesis x.1
     Ok (x.0, u)
 
+  -- an expression, where that sign is not the next token
+  unfoldable pub optional : Sign → Parse (Option ExpressionTree)
+  optional s ts =
+      if is_sign s (head ts) then Ok (None, ts)
+      else (expression (nested d) ts >>= λ x. Ok (Some x.0, x.1))
+
+  -- it must have an effect
+  unfoldable pub optional_effect : Sign → Parse (Option ExpressionTree)
+  optional_effect s ts = optional s ts >>= λ x. if effect_or_none x.0 then Ok x else Err Grammar
+
+  -- the parts of a `for`, with the parenthesis behind them
+  unfoldable pub heading : Parse HeadingTree
+  heading ts = do
+    a ← optional_effect s.Colon ts
+    k ← expect s.Colon a.1
+    b ← optional s.Colon k
+    l ← expect s.Colon b.1
+    c ← optional_effect s.CloseParenthesis l
+    r ← expect s.CloseParenthesis c.1
+    Ok (record { before = a.0; test = b.0; behind = c.0 }, r)
+
   unfoldable pub returned : Position → Parse StatementTree
   returned p ts =
       if is_sign s.Semicolon (head ts) then Ok (return_alone, tail ts)
@@ -89,40 +163,101 @@ module _ (d : ℕ) where
   plain_on (reserved w.Print p) ts = printed print (tail ts)
   plain_on (reserved w.PrintRet p) ts = printed print_return (tail ts)
   plain_on (reserved w.NewLine p) ts = ended new_line (tail ts)
+  plain_on (reserved w.Break p) ts = ended (break_at p) (tail ts)
+  plain_on (reserved w.Continue p) ts = ended (continue_at p) (tail ts)
   plain_on (reserved w.Return p) ts = returned p (tail ts)
   plain_on (reserved w.Rtrue p) ts = ended return_true (tail ts)
   plain_on (reserved w.Rfalse p) ts = ended return_false (tail ts)
   plain_on (reserved w.Quit p) ts = ended quit (tail ts)
   plain_on _ ts = alone ts
 
+-- those parts in parentheses, where d nestings more may be opened
+abbrev pub heading_in : ℕ → Parse HeadingTree
+heading_in zero ts = Err Deep
+heading_in (suc d) ts = heading d ts
+
+unfoldable pub enclosed_heading : ℕ → Parse HeadingTree
+enclosed_heading d ts = expect s.OpenParenthesis ts >>= λ r. heading_in d r
+
+-- the statement behind `do`, over a statement one nesting further in
+unfoldable pub entered : Parse StatementTree → Parse StatementTree
+entered inside ts = if begins_statement (head ts) then inside ts else Err Grammar
+
+-- over the statements of a block or of `default`
+module _ (braces : Parse (List StatementTree)) where
+  unfoldable pub braced : Parse StatementTree
+  braced ts = do
+    x ← braces ts
+    r ← expect s.CloseBrace x.1
+    Ok (block (trees_of x.0), r)
+
+  unfoldable pub otherwise : Parse (Option (List StatementTree))
+  otherwise ts =
+      if is_word w.Default (head ts)
+      then (expect s.Colon (tail ts) >>= λ m. braces m >>= λ xs. Ok (Some xs.0, xs.1))
+      else Ok (None, ts)
+
+-- over the statements of a case
+module _ (bodies : Parse (List StatementTree)) where
+  unfoldable pub one_case : Parse CaseTree
+  one_case ts = do
+    gs ← ranges ts
+    m ← expect s.Colon gs.1
+    xs ← bodies m
+    Ok ((gs.0, trees_of xs.0), xs.1)
+
+  unfoldable pub cases : Parse (List CaseTree)
+  cases ts = repeated begins_value one_case (length ts) ts
+
+module _ (d : ℕ) where
   -- over a statement one nesting further in
   module _ (inside : Parse StatementTree) where
     unfoldable pub choice : Position → Parse StatementTree
     choice p ts = do
-      c ← enclosed_condition ts
+      c ← enclosed_condition d ts
       x ← inside c.1
       if else_follows x.1 then (inside (tail x.1) >>= λ y. Ok (if_else p c.0 x.0 y.0, y.1))
           else Ok (if_then p c.0 x.0, x.1)
 
     unfoldable pub repetition : Position → Parse StatementTree
     repetition p ts = do
-      c ← enclosed_condition ts
+      c ← enclosed_condition d ts
       x ← inside c.1
       Ok (while_do p c.0 x.0, x.1)
 
-  -- over that, and the statements of a block behind its brace
-  module _ (inside : Parse StatementTree) (braces : Parse (List StatementTree)) where
-    unfoldable pub braced : Parse StatementTree
-    braced ts = do
-      x ← braces ts
-      r ← expect s.CloseBrace x.1
-      Ok (block (trees_of x.0), r)
+    unfoldable pub until : Position → Parse StatementTree
+    until p ts = do
+      x ← entered inside ts
+      u ← expect_word w.Until x.1
+      c ← enclosed_condition d u
+      ended (do_until p x.0 c.0) c.1
 
+    unfoldable pub iteration : Position → Parse StatementTree
+    iteration p ts = do
+      h ← enclosed_heading d ts
+      x ← inside h.1
+      Ok (for_loop p h.0.before h.0.test h.0.behind x.0, x.1)
+
+  -- over the statements of a block or of `default`, and those of a case
+  module _ (braces bodies : Parse (List StatementTree)) where
+    unfoldable pub selection : Position → Parse StatementTree
+    selection p ts = do
+      e ← enclosed_condition d ts
+      m ← expect s.OpenBrace e.1
+      cs ← cases bodies m
+      o ← otherwise braces cs.1
+      switch_of p e.0 cs.0 o.0 o.1
+
+  -- over all of these
+  module _ (inside : Parse StatementTree) (braces bodies : Parse (List StatementTree)) where
     abbrev pub statement_on : Lexeme → List Lexeme → Result (StatementTree × List Lexeme) Fault
-    statement_on (sign s.OpenBrace p) ts = braced (tail ts)
+    statement_on (sign s.OpenBrace p) ts = braced braces (tail ts)
     statement_on (reserved w.If p) ts = choice inside p (tail ts)
     statement_on (reserved w.While p) ts = repetition inside p (tail ts)
-    statement_on t ts = plain_on t ts
+    statement_on (reserved w.Do p) ts = until inside p (tail ts)
+    statement_on (reserved w.For p) ts = iteration inside p (tail ts)
+    statement_on (reserved w.Switch p) ts = selection braces bodies p (tail ts)
+    statement_on t ts = plain_on d t ts
 
     unfoldable pub statement_over : Parse StatementTree
     statement_over ts = statement_on (head ts) ts
@@ -131,15 +266,20 @@ unfoldable mutual
   -- a statement one nesting further in
   pub inside : ℕ → Parse StatementTree
   inside zero ts = Err Deep
-  inside (suc d) ts = statement_over d (inside d) (braces d) ts
+  inside (suc d) ts = statement_over d (inside d) (braces d) (bodies d) ts
 
   -- the statements of a block, behind its brace
   pub braces : ℕ → Parse (List StatementTree)
   braces zero ts = Err Deep
   braces (suc d) ts = repeated begins_statement (inside d) (length ts) ts
 
+  -- the statements of a case, where d nestings more may be opened before the brace of its `switch`
+  pub bodies : ℕ → Parse (List StatementTree)
+  bodies zero ts = Err Deep
+  bodies (suc d) ts = as_long begins_in_case (inside d) (length ts) ts
+
 unfoldable pub statement : ℕ → Parse StatementTree
-statement d ts = statement_over d (inside d) (braces d) ts
+statement d ts = statement_over d (inside d) (braces d) (bodies d) ts
 
 -- statements, up to a token that begins none
 unfoldable pub statements : ℕ → Parse (List StatementTree)

@@ -1,11 +1,32 @@
 -- Trees of statements, without where they lie in memory.
-use Rattle.std.specs.Prelude.{ℕ, List, [], ◌∷◌, map}
+use Rattle.std.specs.Prelude.{ℕ, List, [], ◌∷◌, map, Option, Some, None}
+use Rattle.std.specs.Global.{Vec, Box}
+use Rattle.std.specs.Option.{option_map}
 use Rattle.lexer.specs.declared.token.Position.{Position}
-use Rattle.expressions.specs.Tree.{ExpressionTree, expression_tree}
+use Rattle.expressions.specs.declared.tree.Expression.{Expression}
+use Rattle.expressions.specs.Tree.{NameTree, name_tree, ExpressionTree, expression_tree}
+use Rattle.statements.specs.declared.tree.Literal.{Literal}
+use Rattle.statements.specs.declared.tree.Literal.TheVariants as values
+use Rattle.statements.specs.declared.tree.Range.{Range}
+use Rattle.statements.specs.declared.tree.Heading.{Heading}
 use Rattle.statements.specs.declared.tree.PrintItem.{PrintItem}
 use Rattle.statements.specs.declared.tree.PrintItem.TheVariants as items
 use Rattle.statements.specs.declared.tree.Statement.{Statement, fold-Statement}
 use Rattle.statements.specs.declared.tree.Statement.TheOpen.{Statement-F}
+
+pub data LiteralTree : Type 0 where
+  number_value : ℕ → LiteralTree
+  named_value : NameTree → LiteralTree
+
+pub record RangeTree : Type 0 where
+  pub low : LiteralTree
+  pub high : Option LiteralTree
+
+-- what stands in the parentheses of a `for`
+pub record HeadingTree : Type 0 where
+  pub before : Option ExpressionTree
+  pub test : Option ExpressionTree
+  pub behind : Option ExpressionTree
 
 pub data PrintItemTree : Type 0 where
   text_item : List ℕ → PrintItemTree
@@ -23,6 +44,13 @@ mutual
     if_then : Position → ExpressionTree → StatementTree → StatementTree
     if_else : Position → ExpressionTree → StatementTree → StatementTree → StatementTree
     while_do : Position → ExpressionTree → StatementTree → StatementTree
+    do_until : Position → StatementTree → ExpressionTree → StatementTree
+    -- what is done before the first round, the test, and what is done behind each round
+    for_loop : Position → Option ExpressionTree → Option ExpressionTree → Option ExpressionTree → StatementTree
+        → StatementTree
+    switch_on : Position → ExpressionTree → CaseTrees → StatementTree
+    break_at : Position → StatementTree
+    continue_at : Position → StatementTree
     return_alone : StatementTree
     return_value : Position → ExpressionTree → StatementTree
     return_true : StatementTree
@@ -34,7 +62,30 @@ mutual
     stop : StatementTrees
     next : StatementTree → StatementTrees → StatementTrees
 
+  -- `default` is last
+  pub data CaseTrees : Type 0 where
+    no_case : CaseTrees
+    default_case : StatementTrees → CaseTrees
+    case : List RangeTree → StatementTrees → CaseTrees → CaseTrees
+
 -- The tree of a statement of the code
+
+abbrev pub literal_tree : Literal → LiteralTree
+literal_tree (values.Number n) = number_value n
+literal_tree (values.Named n) = named_value (name_tree n)
+
+abbrev pub range_tree : Range → RangeTree
+range_tree r = record { low = literal_tree r.low; high = option_map literal_tree r.high }
+
+-- a case: its ranges and its statements
+abbrev pub CaseTree : Type 0
+CaseTree = List RangeTree × StatementTrees
+
+abbrev pub part_tree : Option (Box Expression) → Option ExpressionTree
+part_tree e = option_map (λ x. expression_tree x.value) e
+
+abbrev pub heading_tree : Heading → HeadingTree
+heading_tree h = record { before = part_tree h.before; test = part_tree h.test; behind = part_tree h.behind }
 
 abbrev pub item_tree : PrintItem → PrintItemTree
 item_tree (items.Text s) = text_item s.now
@@ -44,6 +95,12 @@ item_tree (items.Number p e) = number_item p (expression_tree e.value)
 abbrev pub trees_of : List StatementTree → StatementTrees
 trees_of [] = stop
 trees_of (x ∷ xs) = next x (trees_of xs)
+
+-- cases, and the statements of `default`
+abbrev pub cases_of : List CaseTree → Option (List StatementTree) → CaseTrees
+cases_of [] None = no_case
+cases_of [] (Some xs) = default_case (trees_of xs)
+cases_of (c ∷ cs) other = case c.0 c.1 (cases_of cs other)
 
 abbrev pub layer : Statement-F StatementTree → StatementTree
 layer Statement-F.Empty = empty
@@ -55,6 +112,13 @@ layer Statement-F.NewLine = new_line
 layer (Statement-F.If p c x) = if_then p (expression_tree c.value) x.value
 layer (Statement-F.IfElse p c x y) = if_else p (expression_tree c.value) x.value y.value
 layer (Statement-F.While p c x) = while_do p (expression_tree c.value) x.value
+layer (Statement-F.Do p x c) = do_until p x.value (expression_tree c.value)
+layer (Statement-F.For p h x) = for_loop p (part_tree h.before) (part_tree h.test) (part_tree h.behind) x.value
+layer (Statement-F.Switch p e cases other) = switch_on p (expression_tree e.value)
+    (cases_of (map (λ c. (map range_tree c.0.items, trees_of c.1.items)) cases.items)
+    (option_map (λ xs. xs.items) other))
+layer (Statement-F.Break p) = break_at p
+layer (Statement-F.Continue p) = continue_at p
 layer Statement-F.Return = return_alone
 layer (Statement-F.ReturnValue p e) = return_value p (expression_tree e.value)
 layer Statement-F.ReturnTrue = return_true
@@ -64,3 +128,11 @@ layer (Statement-F.Effect p e) = effect p (expression_tree e.value)
 
 abbrev pub statement_tree : Statement → StatementTree
 statement_tree = fold-Statement StatementTree layer
+
+-- a case of the code, and the statements of `default`
+
+unfoldable pub case_tree : Vec Range × Vec Statement → CaseTree
+case_tree c = (map range_tree c.0.items, trees_of (map statement_tree c.1.items))
+
+abbrev pub other_tree : Option (Vec Statement) → Option (List StatementTree)
+other_tree other = option_map (λ xs. map statement_tree xs.items) other

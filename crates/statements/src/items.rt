@@ -12,13 +12,13 @@ use lexer::{Kind, Sign, Token, Word};
 use std::alloc::Global;
 
 // `(char)` and a value, where its first two tokens have been seen.
-#[tactic(auto, unfolding(crate::specs::Parse::character), using(crate::proofs::Inside::opened_zero, crate::proofs::Inside::opened_more))]
+#[tactic(auto, unfolding(crate::specs::Parse::cast), using(crate::proofs::Inside::opened_zero, crate::proofs::Inside::opened_more))]
 fn character<'t, 'a>(
     alloc: Global,
     depth: usize,
     tokens: &'t [Token<'a>],
 ) -> Result<(PrintItem<'a>, &'t [Token<'a>]), ParseError>
-    ensures { Gives (λ x. (item_tree x.0, lexemes x.1.now)) result (spec.character depth (lexemes tokens.now)) }
+    ensures { Gives (λ x. (item_tree x.0, lexemes x.1.now)) result (spec.cast depth (lexemes tokens.now)) }
 {
     open(depth, tokens)?;
     let begin = expect(Sign::CloseParenthesis, skip(skip(tokens)))?;

@@ -5,13 +5,17 @@ ghost use Rattle.lexer.specs.Token.{lexeme, lexemes};
 ghost use Rattle.expressions.specs.Parse.{Gives, tail};
 ghost use Rattle.statements.specs.Grammar as grammar;
 ghost use Rattle.statements.specs.Nesting as nesting;
-ghost use Rattle.statements.specs.Tree.{statement_tree};
+ghost use Rattle.statements.specs.Tree.{statement_tree, case_tree, other_tree};
 ghost use Rattle.statements.specs.Parse as spec;
 
+use crate::headings::enclosed_heading;
 use crate::parts;
 use crate::simple::{enclosed_condition, plain};
-use crate::tree::Statement;
-use expressions::{ParseError, begins_expression, is_word, open, peek, skip};
+use crate::tree::{Range, Statement};
+use crate::values::{begins_case, begins_value, ranges};
+use expressions::{
+    Fault, ParseError, begins_expression, expect, expect_word, fault_at, is_word, open, peek, skip,
+};
 use lexer::{Kind, Position, Sign, Token, Word};
 use std::alloc::Global;
 
@@ -24,10 +28,18 @@ fn begins_statement(token: Token<'_>) -> bool
         Kind::Text(_) => true,
         Kind::Sign(Sign::Semicolon | Sign::OpenBrace) => true,
         Kind::Reserved(Word::Print | Word::PrintRet | Word::NewLine) => true,
-        Kind::Reserved(Word::If | Word::While) => true,
+        Kind::Reserved(Word::If | Word::While | Word::Do | Word::For | Word::Switch) => true,
+        Kind::Reserved(Word::Break | Word::Continue) => true,
         Kind::Reserved(Word::Return | Word::Rtrue | Word::Rfalse | Word::Quit) => true,
         _ => begins_expression(token),
     }
+}
+
+// Whether a statement of a case can begin with these tokens: what begins the next case is none.
+fn begins_in_case(tokens: &[Token<'_>]) -> bool
+    ensures { result ≡ nesting.begins_in_case (lexemes tokens.now) }
+{
+    begins_statement(peek(tokens)) && !begins_case(tokens)
 }
 
 fn else_follows(tokens: &[Token<'_>]) -> bool
@@ -50,13 +62,19 @@ fn same<'t, 'a>(tokens: &'t [Token<'a>]) -> &'t [Token<'a>]
 ///
 /// ```text
 /// S = ";" | "{" {S} "}" | text ";" | ("print" | "print_ret") Item {"," Item} ";" | "new_line" ";"
-///   | "if" "(" E ")" S ["else" S] | "while" "(" E ")" S | "return" [E] ";" | "rtrue" ";" | "rfalse" ";" | "quit" ";" | X ";"
+///   | "if" "(" E ")" S ["else" S] | "while" "(" E ")" S | "do" S "until" "(" E ")" ";"
+///   | "for" "(" [X] ":" [E] ":" [X] ")" S | "switch" "(" E ")" "{" {Case} ["default" ":" {S}] "}"
+///   | "break" ";" | "continue" ";" | "return" [E] ";" | "rtrue" ";" | "rfalse" ";" | "quit" ";" | X ";"
 /// Item = text | "(" "char" ")" E | E
+/// Case = Range {"," Range} ":" {S}
+/// Range = K ["to" K]
+/// K = ["-"] number | char | name | "true" | "false" | "nothing"
 /// ```
 ///
 /// where E is an expression and X one with an effect: an assignment, a step or a call, in parentheses or not. An `else`
-/// belongs to the nearest `if`. Braces, the parentheses of a condition and of `(char)`, and a statement inside a statement
-/// are nestings, as are those of expressions.
+/// belongs to the nearest `if`. In a `switch` a K followed by `,`, `to` or `:` begins a case. Braces, the parentheses of a
+/// condition, of the parts of a `for` and of `(char)`, and a statement inside a statement are nestings, as are those of
+/// expressions.
 ///
 /// # Errors
 ///
@@ -85,7 +103,8 @@ pub fn statements<'t, 'a>(
     Ok((found, rest))
 }
 
-// The statements of a block, from its brace on. The brace is a nesting, and so is each statement inside.
+// The statements of a block or of `default`, from its brace or its colon on. Its brace is a nesting, and so is each
+// statement inside.
 #[cycle(statement)]
 #[tactic(auto, using(crate::proofs::Inside::braces_zero, crate::proofs::Inside::braces_last, crate::proofs::Inside::braces_empty, crate::proofs::Inside::braces_below))]
 fn braces<'t, 'a>(
@@ -111,23 +130,23 @@ fn block<'t, 'a>(
     depth: usize,
     tokens: &'t [Token<'a>],
 ) -> Result<(Box<Statement<'a>>, &'t [Token<'a>]), ParseError>
-    ensures { Gives (λ x. (statement_tree x.0.value, lexemes x.1.now)) result (spec.braced depth (spec.inside depth) (spec.braces depth) (tail (lexemes tokens.now))) }
+    ensures { Gives (λ x. (statement_tree x.0.value, lexemes x.1.now)) result (spec.braced (spec.braces depth) (tail (lexemes tokens.now))) }
 {
     parts::block(alloc, braces(alloc, depth, tokens))
 }
 
 // A statement one nesting further in than where `depth` may be opened.
 #[cycle(statement)]
-#[tactic(auto, using(crate::proofs::Inside::inside_below))]
+#[tactic(auto, using(crate::proofs::Inside::inside_zero, crate::proofs::Inside::inside_more))]
 fn further_in<'t, 'a>(
     alloc: Global,
     depth: usize,
     tokens: &'t [Token<'a>],
 ) -> Result<(Box<Statement<'a>>, &'t [Token<'a>]), ParseError>
-    requires { 0 < depth }
     ensures { Gives (λ x. (statement_tree x.0.value, lexemes x.1.now)) result (spec.inside depth (lexemes tokens.now)) }
 {
-    statement(alloc, depth - 1, tokens)
+    let inside = open(depth, tokens)?;
+    statement(alloc, inside, tokens)
 }
 
 // What follows `if`, which stands at `position`.
@@ -166,6 +185,158 @@ fn repetition<'t, 'a>(
     parts::while_do(alloc, position, condition, body)
 }
 
+// The statement behind `do`.
+#[cycle(statement)]
+#[tactic(auto, unfolding(crate::specs::Parse::entered))]
+fn entered<'t, 'a>(
+    alloc: Global,
+    depth: usize,
+    tokens: &'t [Token<'a>],
+) -> Result<(Box<Statement<'a>>, &'t [Token<'a>]), ParseError>
+    ensures { Gives (λ x. (statement_tree x.0.value, lexemes x.1.now)) result (spec.entered (spec.inside depth) (lexemes tokens.now)) }
+{
+    if !begins_statement(peek(tokens)) {
+        return Err(fault_at(Fault::Grammar, tokens));
+    }
+    further_in(alloc, depth, tokens)
+}
+
+// What follows `do`, which stands at `position`.
+#[cycle(statement)]
+#[tactic(auto, unfolding(crate::specs::Parse::until))]
+fn until<'t, 'a>(
+    alloc: Global,
+    depth: usize,
+    position: Position,
+    tokens: &'t [Token<'a>],
+) -> Result<(Box<Statement<'a>>, &'t [Token<'a>]), ParseError>
+    ensures { Gives (λ x. (statement_tree x.0.value, lexemes x.1.now)) result (spec.until depth (spec.inside depth) position (lexemes tokens.now)) }
+{
+    let (body, rest) = entered(alloc, depth, tokens)?;
+    let rest = expect_word(Word::Until, rest)?;
+    let condition = enclosed_condition(alloc, depth, rest);
+    parts::do_until(alloc, position, body, condition)
+}
+
+// What follows `for`, which stands at `position`.
+#[cycle(statement)]
+#[tactic(auto, unfolding(crate::specs::Parse::iteration))]
+fn iteration<'t, 'a>(
+    alloc: Global,
+    depth: usize,
+    position: Position,
+    tokens: &'t [Token<'a>],
+) -> Result<(Box<Statement<'a>>, &'t [Token<'a>]), ParseError>
+    ensures { Gives (λ x. (statement_tree x.0.value, lexemes x.1.now)) result (spec.iteration depth (spec.inside depth) position (lexemes tokens.now)) }
+{
+    let (heading, rest) = enclosed_heading(alloc, depth, tokens)?;
+    let body = further_in(alloc, depth, rest);
+    parts::for_loop(alloc, position, heading, body)
+}
+
+// The statements of a case, up to the next case. The brace of its `switch` is a nesting, and so is each statement.
+#[cycle(statement)]
+#[tactic(auto, using(crate::proofs::Inside::bodies_zero, crate::proofs::Loops::as_long_out, crate::proofs::Loops::as_long_done, crate::proofs::Loops::as_long_more, crate::proofs::Loops::as_long_fails, crate::proofs::Loops::joined_none))]
+fn bodies<'t, 'a>(
+    alloc: Global,
+    depth: usize,
+    tokens: &'t [Token<'a>],
+) -> Result<(Vec<Statement<'a>>, &'t [Token<'a>]), ParseError>
+    ensures { Gives (λ x. (map statement_tree x.0.items, lexemes x.1.now)) result (spec.bodies depth (lexemes tokens.now)) }
+{
+    let inside = open(depth, tokens)?;
+    let mut found = Vec::new(alloc);
+    let mut rest = tokens;
+    for _turn in 0..tokens.len() {
+        if !begins_in_case(rest) {
+            break;
+        }
+        let (next, after) = further_in(alloc, inside, rest)?;
+        parts::add(&mut found, next)?;
+        rest = same(after);
+    }
+    Ok((found, rest))
+}
+
+// A case: its ranges, and its statements behind a colon.
+#[cycle(statement)]
+#[tactic(auto, unfolding(crate::specs::Parse::one_case, crate::specs::Tree::case_tree))]
+fn one_case<'t, 'a>(
+    alloc: Global,
+    depth: usize,
+    tokens: &'t [Token<'a>],
+) -> Result<((Vec<Range<'a>>, Vec<Statement<'a>>), &'t [Token<'a>]), ParseError>
+    ensures { Gives (λ x. (case_tree x.0, lexemes x.1.now)) result (spec.one_case (spec.bodies depth) (lexemes tokens.now)) }
+{
+    let (ranges, rest) = ranges(alloc, tokens)?;
+    let rest = expect(Sign::Colon, rest)?;
+    let (body, rest) = bodies(alloc, depth, rest)?;
+    Ok(((ranges, body), rest))
+}
+
+// Cases, up to `default` or a brace.
+#[cycle(statement)]
+#[tactic(auto, unfolding(crate::specs::Parse::cases), using(crate::proofs::Loops::repeated_out, crate::proofs::Loops::repeated_done, crate::proofs::Loops::repeated_more, crate::proofs::Loops::repeated_fails, crate::proofs::Loops::joined_none))]
+fn cases<'t, 'a>(
+    alloc: Global,
+    depth: usize,
+    tokens: &'t [Token<'a>],
+) -> Result<(Vec<(Vec<Range<'a>>, Vec<Statement<'a>>)>, &'t [Token<'a>]), ParseError>
+    ensures { Gives (λ x. (map case_tree x.0.items, lexemes x.1.now)) result (spec.cases (spec.bodies depth) (lexemes tokens.now)) }
+{
+    let mut found = Vec::new(alloc);
+    let mut rest = tokens;
+    for _turn in 0..tokens.len() {
+        if !begins_value(peek(rest)) {
+            break;
+        }
+        match one_case(alloc, depth, rest) {
+            Ok((next, after)) => {
+                parts::add_case(&mut found, next)?;
+                rest = same(after);
+            }
+            Err(e) => return Err(e),
+        }
+    }
+    Ok((found, rest))
+}
+
+// The statements of `default`, where it comes next.
+#[cycle(statement)]
+#[tactic(auto, unfolding(crate::specs::Parse::otherwise))]
+fn otherwise<'t, 'a>(
+    alloc: Global,
+    depth: usize,
+    tokens: &'t [Token<'a>],
+) -> Result<(Option<Vec<Statement<'a>>>, &'t [Token<'a>]), ParseError>
+    ensures { Gives (λ x. (other_tree x.0, lexemes x.1.now)) result (spec.otherwise (spec.braces depth) (lexemes tokens.now)) }
+{
+    if !is_word(peek(tokens), Word::Default) {
+        return Ok((None, tokens));
+    }
+    let colon = skip(tokens);
+    expect(Sign::Colon, colon)?;
+    parts::default_case(braces(alloc, depth, colon))
+}
+
+// What follows `switch`, which stands at `position`.
+#[cycle(statement)]
+#[tactic(auto, unfolding(crate::specs::Parse::selection))]
+fn selection<'t, 'a>(
+    alloc: Global,
+    depth: usize,
+    position: Position,
+    tokens: &'t [Token<'a>],
+) -> Result<(Box<Statement<'a>>, &'t [Token<'a>]), ParseError>
+    ensures { Gives (λ x. (statement_tree x.0.value, lexemes x.1.now)) result (spec.selection depth (spec.braces depth) (spec.bodies depth) position (lexemes tokens.now)) }
+{
+    let (value, rest) = enclosed_condition(alloc, depth, tokens)?;
+    let rest = expect(Sign::OpenBrace, rest)?;
+    let (cases, rest) = cases(alloc, depth, rest)?;
+    let other = otherwise(alloc, depth, rest);
+    parts::switch_on(alloc, position, value, cases, other)
+}
+
 // A statement in which `depth` nestings more may be opened, and the tokens after it.
 #[cycle(statement)]
 #[tactic(auto, unfolding(crate::specs::Parse::statement, crate::specs::Parse::statement_over))]
@@ -182,6 +353,9 @@ fn statement<'t, 'a>(
         Kind::Sign(Sign::OpenBrace) => block(alloc, depth, tokens),
         Kind::Reserved(Word::If) => choice(alloc, depth, first.position, rest),
         Kind::Reserved(Word::While) => repetition(alloc, depth, first.position, rest),
+        Kind::Reserved(Word::Do) => until(alloc, depth, first.position, rest),
+        Kind::Reserved(Word::For) => iteration(alloc, depth, first.position, rest),
+        Kind::Reserved(Word::Switch) => selection(alloc, depth, first.position, rest),
         _ => plain(alloc, depth, tokens),
     }
 }

@@ -2,15 +2,16 @@
 //! part's fault, or the tree that the part belongs to and the tokens after it. Trees come and go in boxes, and a kind of
 //! statement is spelled here and in `simple` alone.
 
-ghost use Rattle.std.specs.Prelude.{◌≡◌, IfErr, IfOk, Ok, map, List, [], ◌∷◌, ◌++◌};
+ghost use Rattle.std.specs.Prelude.{◌≡◌, IfErr, IfOk, Ok, map, List, Option, Some, [], ◌∷◌, ◌++◌};
 ghost use Rattle.lexer.specs.Token.{Lexeme, lexemes};
 ghost use Rattle.expressions.specs.Tree.{expression_tree};
-ghost use Rattle.expressions.specs.Parse.{Gives, GoesOn};
+ghost use Rattle.expressions.specs.Parse.{Gives, GoesOn, ReadOne};
 ghost use Rattle.statements.specs.Tree as tree;
-ghost use Rattle.statements.specs.Tree.{StatementTree, statement_tree};
+ghost use Rattle.statements.specs.Tree.{StatementTree, statement_tree, case_tree, other_tree, heading_tree};
 ghost use Rattle.statements.specs.Parse as spec;
 
-use crate::tree::Statement;
+use crate::simple::ended;
+use crate::tree::{Heading, Range, Statement};
 use expressions::{Expression, ParseError, expect};
 use lexer::{Position, Sign, Token};
 use std::alloc::Global;
@@ -104,6 +105,87 @@ pub fn while_do<'t, 'a>(
 {
     match body {
         Ok((body, rest)) => in_box(alloc, Statement::While(position, condition, body), rest),
+        Err(e) => Err(e),
+    }
+}
+
+/// `do`, behind its condition.
+#[tactic(auto, using(expressions::proofs::GoesOn::part_fails, expressions::proofs::GoesOn::part_made))]
+pub fn do_until<'t, 'a>(
+    alloc: Global,
+    position: Position,
+    body: Box<Statement<'a>>,
+    condition: Result<(Box<Expression<'a>>, &'t [Token<'a>]), ParseError>,
+) -> Result<(Box<Statement<'a>>, &'t [Token<'a>]), ParseError>
+    ensures { GoesOn {A = ReadOne} {B = StatementTree × List Lexeme} (λ x. (expression_tree x.0.value, lexemes x.1.now)) condition.entry (λ x. (statement_tree x.0.value, lexemes x.1.now)) result (λ x. spec.ended (tree.do_until position (statement_tree body.entry.value) x.0) x.1) }
+{
+    match condition {
+        Ok((condition, rest)) => ended(alloc, Statement::Do(position, body, condition), rest),
+        Err(e) => Err(e),
+    }
+}
+
+/// `for`.
+#[tactic(auto, using(expressions::proofs::GoesOn::part_fails, expressions::proofs::GoesOn::part_made))]
+pub fn for_loop<'t, 'a>(
+    alloc: Global,
+    position: Position,
+    heading: Heading<'a>,
+    body: Result<(Box<Statement<'a>>, &'t [Token<'a>]), ParseError>,
+) -> Result<(Box<Statement<'a>>, &'t [Token<'a>]), ParseError>
+    ensures { GoesOn {A = StatementTree × List Lexeme} {B = StatementTree × List Lexeme} (λ x. (statement_tree x.0.value, lexemes x.1.now)) body.entry (λ x. (statement_tree x.0.value, lexemes x.1.now)) result (λ x. Ok (tree.for_loop position (heading_tree heading.entry).before (heading_tree heading.entry).test (heading_tree heading.entry).behind x.0, x.1)) }
+{
+    match body {
+        Ok((body, rest)) => in_box(alloc, Statement::For(position, heading, body), rest),
+        Err(e) => Err(e),
+    }
+}
+
+/// One more case in a row.
+pub fn add_case<'a>(
+    cases: &mut Vec<(Vec<Range<'a>>, Vec<Statement<'a>>)>,
+    next: (Vec<Range<'a>>, Vec<Statement<'a>>),
+) -> Result<(), ParseError>
+    ensures ok { IfOk result (λ _. cases.new.items ≡ cases.old.items ++ next.entry ∷ []) }
+    ensures err { IfErr result (λ e. e ≡ ParseError.Memory) }
+{
+    cases.push(next)?;
+    Ok(())
+}
+
+/// The statements of `default`.
+#[tactic(auto, using(expressions::proofs::GoesOn::part_fails, expressions::proofs::GoesOn::part_made))]
+pub fn default_case<'t, 'a>(
+    statements: Result<(Vec<Statement<'a>>, &'t [Token<'a>]), ParseError>,
+) -> Result<(Option<Vec<Statement<'a>>>, &'t [Token<'a>]), ParseError>
+    ensures { GoesOn {A = List StatementTree × List Lexeme} {B = Option (List StatementTree) × List Lexeme} (λ x. (map statement_tree x.0.items, lexemes x.1.now)) statements.entry (λ x. (other_tree x.0, lexemes x.1.now)) result (λ x. Ok (Some x.0, x.1)) }
+{
+    match statements {
+        Ok((found, rest)) => Ok((Some(found), rest)),
+        Err(e) => Err(e),
+    }
+}
+
+/// `switch`, with its second brace.
+#[tactic(auto, using(expressions::proofs::GoesOn::part_fails, expressions::proofs::GoesOn::part_made))]
+pub fn switch_on<'t, 'a>(
+    alloc: Global,
+    position: Position,
+    value: Box<Expression<'a>>,
+    cases: Vec<(Vec<Range<'a>>, Vec<Statement<'a>>)>,
+    other: Result<(Option<Vec<Statement<'a>>>, &'t [Token<'a>]), ParseError>,
+) -> Result<(Box<Statement<'a>>, &'t [Token<'a>]), ParseError>
+    ensures { GoesOn {A = Option (List StatementTree) × List Lexeme} {B = StatementTree × List Lexeme} (λ x. (other_tree x.0, lexemes x.1.now)) other.entry (λ x. (statement_tree x.0.value, lexemes x.1.now)) result (λ x. spec.switch_of position (expression_tree value.entry.value) (map case_tree cases.entry.items) x.0 x.1) }
+{
+    match other {
+        Ok((other, rest)) => match expect(Sign::CloseBrace, rest) {
+            Ok(rest) => in_box(
+                alloc,
+                Statement::Switch(position, value, cases, other),
+                rest,
+            ),
+            Err(e) => Err(e),
+        },
         Err(e) => Err(e),
     }
 }

@@ -140,8 +140,8 @@ fn returned<'t, 'a>(
     }
 }
 
-/// Whether the expression can stand alone: parentheses apart, it is an assignment, a step or a call.
-fn has_effect(e: &Expression<'_>) -> bool
+//// Whether the expression can stand alone: parentheses apart, it is an assignment, a step or a call.
+pub fn has_effect(e: &Expression<'_>) -> bool
     ensures { result ≡ grammar.has_effect (expression_tree e.now) }
 {
     match e {
@@ -205,6 +205,8 @@ pub fn plain<'t, 'a>(
         Kind::Reserved(Word::Print) => print(alloc, depth, rest),
         Kind::Reserved(Word::PrintRet) => print_return(alloc, depth, rest),
         Kind::Reserved(Word::NewLine) => ended(alloc, Statement::NewLine, rest),
+        Kind::Reserved(Word::Break) => ended(alloc, Statement::Break(first.position), rest),
+        Kind::Reserved(Word::Continue) => ended(alloc, Statement::Continue(first.position), rest),
         Kind::Reserved(Word::Return) => returned(alloc, depth, first.position, rest),
         Kind::Reserved(Word::Rtrue) => ended(alloc, Statement::ReturnTrue, rest),
         Kind::Reserved(Word::Rfalse) => ended(alloc, Statement::ReturnFalse, rest),

@@ -1,7 +1,33 @@
 //! Trees of statements.
 
-use expressions::Expression;
+use expressions::{Expression, Name};
 use lexer::Position;
+
+/// A value that is known before a story runs.
+#[derive(Clone, Copy)]
+pub enum Literal<'a> {
+    /// A number, with its sign as a word; a character; `true` is 1, `false` and `nothing` are 0.
+    Number(u16),
+
+    /// The value of a name.
+    Named(Name<'a>),
+}
+
+/// The values for which a case of a `switch` is meant: one alone, or those from one to another.
+#[derive(Clone, Copy)]
+pub struct Range<'a> {
+    pub low: Literal<'a>,
+    pub high: Option<Literal<'a>>,
+}
+
+/// What stands in the parentheses of a `for`: what is done before the first round, the test of each round, and what is done
+/// behind each round. A test that is absent is true.
+#[derive(Drop)]
+pub struct Heading<'a> {
+    pub before: Option<Box<Expression<'a>>>,
+    pub test: Option<Box<Expression<'a>>>,
+    pub behind: Option<Box<Expression<'a>>>,
+}
 
 /// What `print` prints.
 #[derive(Drop)]
@@ -16,7 +42,7 @@ pub enum PrintItem<'a> {
     Number(Position, Box<Expression<'a>>),
 }
 
-/// A statement. Where it has expressions, the position of its first token stands with it.
+/// A statement. Where it has expressions, and for `break` and `continue`, the position of its first token stands with it.
 #[derive(Drop)]
 pub enum Statement<'a> {
     /// `;` alone.
@@ -33,6 +59,19 @@ pub enum Statement<'a> {
     If(Position, Box<Expression<'a>>, Box<Statement<'a>>),
     IfElse(Position, Box<Expression<'a>>, Box<Statement<'a>>, Box<Statement<'a>>),
     While(Position, Box<Expression<'a>>, Box<Statement<'a>>),
+    Do(Position, Box<Statement<'a>>, Box<Expression<'a>>),
+    For(Position, Heading<'a>, Box<Statement<'a>>),
+
+    /// A `switch`: its value, its cases, and the statements of its `default`.
+    Switch(
+        Position,
+        Box<Expression<'a>>,
+        Vec<(Vec<Range<'a>>, Vec<Statement<'a>>)>,
+        Option<Vec<Statement<'a>>>,
+    ),
+
+    Break(Position),
+    Continue(Position),
 
     /// `return` alone: true.
     Return,

@@ -10,46 +10,27 @@ use Rattle.expressions.specs.declared.error.Fault.TheVariants.{Deep}
 use Rattle.expressions.specs.Tree.{NameTree}
 use Rattle.expressions.specs.Parse.{head, is_name, expect}
 use Rattle.expressions.proofs.Limited.{Limited, then, at_once}
-use Rattle.statements.specs.Tree.{StatementTrees}
+use Rattle.statements.specs.Tree.{LiteralTree, StatementTrees}
 use Rattle.statements.specs.Nesting.{begins_statement}
-use Rattle.statements.specs.Parse.{repeated, statements}
+use Rattle.statements.specs.Parse.{as_long, repeated, known_value, begins_value, statements}
 use Rattle.statements.proofs.Complete.{listed, listed_back, at_Ss, repeated_stop, repeated_next}
 use Rattle.statements.proofs.Follow.{short_Ss}
+use Rattle.statements.proofs.KnownValues.{known_read, short_K, begins_K}
 use Rattle.syntax.specs.declared.tree.ArrayKind.{ArrayKind}
-use Rattle.syntax.specs.Tree.{LiteralTree, ValueTree, RoutineTree, DirectiveTree, global, constant, array, routine}
+use Rattle.syntax.specs.Tree.{ValueTree, RoutineTree, DirectiveTree, global, constant, array, routine}
 use Rattle.syntax.specs.Tree.{ProgramTree}
-use Rattle.syntax.specs.Grammar.{weight_of, IsK, k_number, k_negative, k_character, k_true, k_false, k_nothing}
-use Rattle.syntax.specs.Grammar.{k_name, IsNames, names_stop, names_next, IsValue, v_value, IsValues, values_stop}
+use Rattle.syntax.specs.Grammar.{weight_of, IsNames, names_stop, names_next, IsValue, v_value, IsValues, values_stop}
 use Rattle.syntax.specs.Grammar.{values_next, kind_of, IsDirective, d_global, d_global_value, d_constant, d_array}
 use Rattle.syntax.specs.Grammar.{d_routine, IsDirectives, directives_stop, directives_next, IsProgram}
 use Rattle.syntax.specs.Grammar.{program as program_is, directive_nesting, directives_nesting, program_nesting}
-use Rattle.syntax.specs.Parse.{named, names, value, begins_value, placed, values, kind, array_behind, ended}
+use Rattle.syntax.specs.Parse.{named, names, placed, values, kind, array_behind, ended}
 use Rattle.syntax.specs.Parse.{global_behind, constant_behind, goes_on, routine_at, directive, directives, program}
 
--- ---- names and values
-
-value_read : {ts r : List Lexeme} {k : LiteralTree} → IsK ts k r → value ts ≡ Ok (k, r)
-unfolding value
-value_read k_number = refl
-value_read k_negative = refl
-value_read k_character = refl
-value_read k_true = refl
-value_read k_false = refl
-value_read k_nothing = refl
-value_read k_name = refl
-
-short_K : {ts r : List Lexeme} {k : LiteralTree} → IsK ts k r → length r < length ts
-short_K k_number = omega arith
-short_K k_negative = omega arith
-short_K k_character = omega arith
-short_K k_true = omega arith
-short_K k_false = omega arith
-short_K k_nothing = omega arith
-short_K k_name = omega arith
+-- ---- names
 
 turns_Names : {ts r : List Lexeme} {ns : List NameTree} → IsNames ts ns r → is_name (head r) ≡ false → (n : ℕ)
     → length ts ≤ n → repeated is_name named n ts ≡ Ok (ns, r)
-unfolding repeated named
+unfolding repeated as_long named
 turns_Names names_stop e zero le = refl
 turns_Names names_stop e (suc n) le = rw e refl
 turns_Names (names_next a) e zero le = absurd (omega arith)
@@ -66,21 +47,12 @@ short_Names (names_next a) = omega (arith, short_Names a)
 
 -- ---- values of arrays
 
-begins_K : {ts r : List Lexeme} {k : LiteralTree} → IsK ts k r → begins_value (head ts) ≡ true
-begins_K k_number = refl
-begins_K k_negative = refl
-begins_K k_character = refl
-begins_K k_true = refl
-begins_K k_false = refl
-begins_K k_nothing = refl
-begins_K k_name = refl
-
 begins_Value : {ts r : List Lexeme} {v : ValueTree} → IsValue ts v r → begins_value (head ts) ≡ true
 begins_Value (v_value a) = begins_K a
 
 placed_read : {ts r : List Lexeme} {v : ValueTree} → IsValue ts v r → placed ts ≡ Ok (v, r)
 unfolding placed
-placed_read (v_value a) = rw (value_read a) refl
+placed_read (v_value a) = rw (known_read a) refl
 
 short_Value : {ts r : List Lexeme} {v : ValueTree} → IsValue ts v r → length r < length ts
 short_Value (v_value a) = short_K a
@@ -91,7 +63,7 @@ short_Values (values_next a b) = omega (arith, short_Value a, short_Values b)
 
 turns_Values : {ts r : List Lexeme} {vs : List ValueTree} → IsValues ts vs r → begins_value (head r) ≡ false
     → (n : ℕ) → length ts ≤ n → repeated begins_value placed n ts ≡ Ok (vs, r)
-unfolding repeated
+unfolding repeated as_long
 turns_Values values_stop e zero le = refl
 turns_Values values_stop e (suc n) le = rw e refl
 turns_Values (values_next a b) e zero le = absurd (omega (arith, short_Value a))
@@ -133,14 +105,14 @@ module _ (d : ℕ) where
   step_global p q o n r = at_once refl
 
   step_global_value : (p q o l : Position) (n : List ℕ) (k : LiteralTree) (m r : List Lexeme)
-      → value m ≡ Ok (k, sign s.Semicolon l ∷ r)
+      → known_value m ≡ Ok (k, sign s.Semicolon l ∷ r)
       → Limited (directive d (reserved w.Global p ∷ name n q ∷ sign s.Assign o ∷ m)) d 0
       (global (record { text = n; position = q }) (Some k)) r
   unfolding directive global_behind named ended expect
   step_global_value p q o l n k m r e = at_once (rw e refl)
 
   step_constant : (p q o l : Position) (n : List ℕ) (k : LiteralTree) (m r : List Lexeme)
-      → value m ≡ Ok (k, sign s.Semicolon l ∷ r)
+      → known_value m ≡ Ok (k, sign s.Semicolon l ∷ r)
       → Limited (directive d (reserved w.Constant p ∷ name n q ∷ sign s.Assign o ∷ m)) d 0
       (constant (record { text = n; position = q }) k) r
   unfolding directive constant_behind named ended expect
@@ -186,9 +158,9 @@ module _ (d : ℕ) where
       → Limited (directive d ts) d (directive_nesting x) x r
   at_Directive (d_global {r = r} {p = p} {q = q} {o = o} {n = n}) = step_global p q o n r
   at_Directive (d_global_value {m = m} {r = r} {p = p} {q = q} {o = o} {l = l} {n = n} {k = k} a) = step_global_value
-      p q o l n k m r (value_read a)
+      p q o l n k m r (known_read a)
   at_Directive (d_constant {m = m} {r = r} {p = p} {q = q} {o = o} {l = l} {n = n} {k = k} a) = step_constant p q o l
-      n k m r (value_read a)
+      n k m r (known_read a)
   at_Directive (d_array {m = m} {r = r} {p = p} {q = q} {o = o} {t = t} {n = n} {k = k} {vs = vs} e a lt) = step_array
       p q o t n k vs m r e (values_read a lt refl)
   at_Directive

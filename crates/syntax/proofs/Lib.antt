@@ -1,4 +1,4 @@
-pub mod Names
+pub mod NamesRead
 pub mod Weights
 pub mod Spelled
 pub mod Sound

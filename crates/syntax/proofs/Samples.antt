@@ -8,10 +8,11 @@ use Rattle.lexer.specs.declared.token.Word.TheVariants as w
 use Rattle.lexer.specs.Token.{name, number, reserved, sign}
 use Rattle.lexer.specs.Printable.{IsPrintable}
 use Rattle.expressions.specs.Tree.{NameTree, named}
-use Rattle.statements.specs.Tree.{text_item, number_item, block, text_alone, print, stop, next}
+use Rattle.statements.specs.Tree.{LiteralTree, number_value, named_value, text_item, number_item, block, text_alone, print, stop, next}
 use Rattle.syntax.specs.declared.tree.ArrayKind.TheVariants as kind
-use Rattle.syntax.specs.Tree.{LiteralTree, ValueTree, number_value, named_value, DirectiveTree, array, routine}
-use Rattle.syntax.specs.Grammar.{k_number, k_negative, k_name, v_value, values_stop, values_next, IsDirective}
+use Rattle.statements.specs.Grammar.{k_number, k_negative, k_name}
+use Rattle.syntax.specs.Tree.{ValueTree, DirectiveTree, array, routine}
+use Rattle.syntax.specs.Grammar.{v_value, values_stop, values_next, IsDirective}
 use Rattle.syntax.specs.Grammar.{d_array}
 use Rattle.syntax.specs.Printable.{IsPrintableStatement}
 use Rattle.syntax.specs.Laws.{IsWeighed}
@@ -34,7 +35,7 @@ main = routine
 
 -- 11 tokens, and 2 bytes of a text
 main_weighed : IsWeighed main
-main_weighed = refl
+main_weighed = (0, omega arith, refl)
 
 line_feed_does_not : IsPrintableStatement (block (next (text_alone (10 ∷ [])) stop)) → ⊥
 line_feed_does_not h = let printable = All-head IsPrintable 10 [] h.0 in omega (arith, printable.0)

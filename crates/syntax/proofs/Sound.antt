@@ -1,29 +1,30 @@
 -- What is read derives in the grammar and is nested no deeper than was allowed; and where the fault is that a token
 -- stands too deep, one does.
-use Rattle.std.proofs.Common.{◌≡◌, ℕ, suc, ◌-◌, ◌%◌, ◌<◌, ◌≤◌, List, [], ◌∷◌, length, Option, Some, None, refl, sym}
+use Rattle.std.proofs.Common.{◌≡◌, ℕ, suc, ◌-◌, ◌<◌, ◌≤◌, List, [], ◌∷◌, length, Option, Some, None, refl, sym}
 use Rattle.std.proofs.Common.{ap, subst, ◌∙◌, arith}
 use Rattle.lexer.specs.declared.token.Position.{Position}
 use Rattle.lexer.specs.declared.token.Sign.TheVariants as s
 use Rattle.lexer.specs.declared.token.Word.TheVariants as w
-use Rattle.lexer.specs.Token.{Lexeme, name, number, character, reserved, sign, position_of}
+use Rattle.lexer.specs.Token.{Lexeme, name, reserved, sign, position_of}
 use Rattle.expressions.specs.Parse.{head, tail, is_name, is_sign, expect}
 use Rattle.expressions.proofs.Judged.{Judged, judged_read, judged_grammar, judged_then, judged_after, judged_by}
 use Rattle.expressions.proofs.Tokens.{at_sign, expect_ok, expect_not_deep}
 use Rattle.statements.specs.Tree.{trees_of}
-use Rattle.statements.specs.Grammar.{IsSs, body_nesting}
+use Rattle.statements.specs.Grammar.{IsK, IsSs, body_nesting}
+use Rattle.statements.specs.Parse.{known_value, begins_value}
+use Rattle.statements.proofs.KnownValues.{known_judged}
 use Rattle.statements.proofs.Sound.{repeated_judged, judged_Ss}
 use Rattle.syntax.specs.declared.tree.ArrayKind.{ArrayKind}
-use Rattle.syntax.specs.Tree.{number_value, named_value, DirectiveTree, global, constant, array, routine}
-use Rattle.syntax.specs.Grammar.{weight_of, IsK, k_number, k_negative, k_character, k_true, k_false, k_nothing}
-use Rattle.syntax.specs.Grammar.{k_name, IsNames, names_stop, names_next, IsValue, v_value, IsValues, values_stop}
+use Rattle.syntax.specs.Tree.{DirectiveTree, global, constant, array, routine}
+use Rattle.syntax.specs.Grammar.{weight_of, IsNames, names_stop, names_next, IsValue, v_value, IsValues, values_stop}
 use Rattle.syntax.specs.Grammar.{values_next, kind_of, IsDirective, d_global, d_global_value}
 use Rattle.syntax.specs.Grammar.{d_constant, d_array, d_routine, IsDirectives, directives_stop, directives_next}
 use Rattle.syntax.specs.Grammar.{directive_nesting, directives_nesting}
 use Rattle.syntax.specs.Nesting.{DeepDirective, deep_d_routine, DeepProgram, deep_program_first, deep_program_next}
-use Rattle.syntax.specs.Parse.{named, names, value, begins_value, placed, values, kind_on, kind, array_behind, ended}
+use Rattle.syntax.specs.Parse.{named, names, placed, values, kind_on, kind, array_behind, ended}
 use Rattle.syntax.specs.Parse.{global_behind, constant_behind, goes_on, routine_at, directive, directives}
 
--- ---- names and values: in them no token stands too deep
+-- ---- names: in them no token stands too deep
 
 pub named_judged : (ts : List Lexeme) → Judged (λ n r. ts ≡ name n.text n.position ∷ r) ⊥ (named ts)
 unfolding named
@@ -41,23 +42,12 @@ names_judged ts =
     (λ us n m q x. x)
     named_judged (length ts) ts
 
-value_judged : (ts : List Lexeme) → Judged (λ k r. IsK ts k r) ⊥ (value ts)
-unfolding value
-value_judged (number n p ∷ ts) = judged_read (number_value n) ts k_number
-value_judged (character c p ∷ ts) = judged_read (number_value c) ts k_character
-value_judged (reserved w.True p ∷ ts) = judged_read (number_value 1) ts k_true
-value_judged (reserved w.False p ∷ ts) = judged_read (number_value 0) ts k_false
-value_judged (reserved w.Nothing p ∷ ts) = judged_read (number_value 0) ts k_nothing
-value_judged (name n p ∷ ts) = judged_read (named_value (record { text = n; position = p })) ts k_name
-value_judged (sign s.Minus p ∷ number n q ∷ ts) = judged_read (number_value ((65536 - n) % 65536)) ts k_negative
-value_judged _ = judged_grammar
-
 -- ---- arrays
 
 placed_judged : (ts : List Lexeme) → Judged (λ v r. IsValue ts v r) ⊥ (placed ts)
-unfolding placed value
+unfolding placed known_value
 placed_judged [] = judged_grammar
-placed_judged (t ∷ m) = judged_then _ (value_judged (t ∷ m)) (λ k r h. judged_read _ r (v_value h)) (λ x. x)
+placed_judged (t ∷ m) = judged_then _ (known_judged (t ∷ m)) (λ k r h. judged_read _ r (v_value h)) (λ x. x)
 
 values_judged : (ts : List Lexeme) → Judged (λ vs r. IsValues ts vs r × (0 < length vs)) ⊥ (values ts)
 unfolding values
@@ -102,7 +92,7 @@ module _ (d : ℕ) where
       (λ n r q. judged_by (is_sign s.Assign (head r)) _ _
       (λ e.
       let at = q ∙ ap (λ u. name n.text n.position ∷ u) (at_sign s.Assign r e) in
-      judged_then _ (value_judged (tail r))
+      judged_then _ (known_judged (tail r))
       (λ k u h. ended_judged (global n (Some k)) u
       (λ l v x. (
         subst (λ us. IsDirective (reserved w.Global p ∷ us) (global n (Some k)) v) (sym at)
@@ -127,7 +117,7 @@ module _ (d : ℕ) where
       (λ n r q. judged_after (expect s.Assign r) _
       (λ m e.
       let at = q ∙ ap (λ u. name n.text n.position ∷ u) (expect_ok s.Assign r m e) in
-      judged_then _ (value_judged m)
+      judged_then _ (known_judged m)
       (λ k u h. ended_judged (constant n k) u
       (λ l v x. (
         subst (λ us. IsDirective (reserved w.Constant p ∷ us) (constant n k) v) (sym at)

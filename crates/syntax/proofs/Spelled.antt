@@ -1,6 +1,7 @@
 -- The tokens of a derivation: they stand at the front, and weigh what their tree weighs.
-use Rattle.std.proofs.Common.{◌≡◌, ℕ, ◌+◌, ◌*◌, List, [], ◌∷◌, ◌++◌, append_assoc, length, Some, refl, sym, ap, ◌∙◌}
-use Rattle.std.proofs.Common.{arith}
+use Rattle.std.proofs.Common.{◌≡◌, ℕ, ◌≤◌, ◌+◌, ◌*◌, List, [], ◌∷◌, ◌++◌, append_assoc, length, Option, Some, refl}
+use Rattle.std.proofs.Common.{sym, ap, ◌∙◌, arith}
+use Rattle.lexer.specs.declared.token.Position.{Position}
 use Rattle.lexer.specs.declared.token.Sign.TheVariants as s
 use Rattle.lexer.specs.declared.token.Word.TheVariants as w
 use Rattle.lexer.specs.Token.{Lexeme, name, number, text, character, reserved, sign}
@@ -17,14 +18,18 @@ use Rattle.expressions.specs.Grammar.{e3_plain, e3_add, IsE4, e4_plain, e4_scale
 use Rattle.expressions.specs.Grammar.{e5_plain, e5_index, IsU, u_plain, u_minus, u_before, u_after, IsP, p_number}
 use Rattle.expressions.specs.Grammar.{p_character, p_true, p_false, p_nothing, p_name, p_call, p_call_with}
 use Rattle.expressions.specs.Grammar.{p_parenthesised, IsArguments, arguments_last, arguments_comma}
-use Rattle.statements.specs.Tree.{PrintItemTree, StatementTree, StatementTrees}
-use Rattle.statements.specs.Grammar.{IsItem, item_text, item_character, item_number, IsItems, items_last, items_comma}
-use Rattle.statements.specs.Grammar.{IsS, s_empty, s_block, s_text, s_print, s_print_ret, s_new_line, s_if, s_if_else}
-use Rattle.statements.specs.Grammar.{s_while, s_return, s_return_value, s_rtrue, s_rfalse, s_quit, s_effect, IsSs}
-use Rattle.statements.specs.Grammar.{ss_stop, ss_next}
+use Rattle.statements.specs.Tree.{LiteralTree, RangeTree, PrintItemTree, StatementTree, StatementTrees, CaseTrees}
+use Rattle.statements.specs.Grammar.{IsK, k_number, k_negative, k_character, k_true, k_false, k_nothing, k_name}
+use Rattle.statements.specs.Grammar.{IsRange, range_alone, range_to, IsRanges, ranges_last, ranges_comma, IsOptional}
+use Rattle.statements.specs.Grammar.{optional_none, optional_some, IsItem, item_text, item_character, item_number}
+use Rattle.statements.specs.Grammar.{IsItems, items_last, items_comma, IsS, s_empty, s_block, s_text, s_print}
+use Rattle.statements.specs.Grammar.{s_print_ret, s_new_line, s_if, s_if_else, s_while, s_do, s_for, s_switch, s_break}
+use Rattle.statements.specs.Grammar.{s_continue, s_return, s_return_value, s_rtrue, s_rfalse, s_quit, s_effect, IsSs}
+use Rattle.statements.specs.Grammar.{ss_stop, ss_next, IsCases, cases_none, cases_default, cases_next}
 use Rattle.syntax.specs.Grammar.{token_weight, weight_of, IsNames, names_stop, names_next}
-use Rattle.syntax.specs.Weight.{expression_weight, expression_weights, item_weight, item_weights, statement_weight}
-use Rattle.syntax.specs.Weight.{statement_weights}
+use Rattle.syntax.specs.Weight.{expression_weight, expression_weights, item_weight, item_weights, range_weight}
+use Rattle.syntax.specs.Weight.{range_weights, optional_weight, statement_weight, statement_weights, case_weights}
+use Rattle.syntax.specs.Weight.{upper_values, range_values, statement_values, statements_values, case_values}
 
 -- tokens of weight w, and then r
 pub record Spelled (w : ℕ) (ts r : List Lexeme) : Type 0 where
@@ -55,6 +60,52 @@ weighing a e = record { front = a.front; at = a.at; weight = a.weight ∙ e }
 
 pub weighs : {w : ℕ} {ts r : List Lexeme} → Spelled w ts r → weight_of ts ≡ w + weight_of r
 weighs {r = r} a = ap weight_of a.at ∙ weight_append a.front r ∙ ap (λ n. n + weight_of r) a.weight
+
+-- tokens of weight w beside some signs `-`, at most n, and then r
+pub record SpelledAbout (w n : ℕ) (ts r : List Lexeme) : Type 0 where
+  pub front : List Lexeme
+  pub at : ts ≡ front ++ r
+  pub signs : ℕ
+  pub few : signs ≤ n
+  pub weight : weight_of front ≡ w + 32 * signs
+
+pub about : {v w n : ℕ} {ts r : List Lexeme} → Spelled v ts r → v ≡ w → SpelledAbout w n ts r
+about a e =
+    record { front = a.front; at = a.at; signs = 0; few = omega arith; weight = omega (arith, a.weight, e) }
+
+pub behind_about : {w n : ℕ} {m r : List Lexeme} (t : Lexeme) → SpelledAbout w n m r
+    → SpelledAbout (token_weight t + w) n (t ∷ m) r
+behind_about t a = record {
+  front = t ∷ a.front;
+  at = ap (λ u. t ∷ u) a.at;
+  signs = a.signs;
+  few = a.few;
+  weight = omega (arith, a.weight);
+}
+
+pub joined_about : {v w j k : ℕ} {ts m r : List Lexeme} → SpelledAbout v j ts m → SpelledAbout w k m r
+    → SpelledAbout (v + w) (j + k) ts r
+joined_about {r = r} a b = record {
+  front = a.front ++ b.front;
+  at = a.at ∙ ap (λ u. a.front ++ u) b.at ∙ sym (append_assoc a.front b.front r);
+  signs = a.signs + b.signs;
+  few = omega (arith, a.few, b.few);
+  weight = omega (arith, weight_append a.front b.front, a.weight, b.weight);
+}
+
+pub weighing_about : {v w j k : ℕ} {ts r : List Lexeme} → SpelledAbout v j ts r → v ≡ w → j ≤ k
+    → SpelledAbout w k ts r
+weighing_about a e le = record {
+  front = a.front;
+  at = a.at;
+  signs = a.signs;
+  few = omega (arith, a.few, le);
+  weight = omega (arith, a.weight, e);
+}
+
+pub weighs_about : {w n : ℕ} {ts r : List Lexeme} (a : SpelledAbout w n ts r)
+    → weight_of ts ≡ w + 32 * a.signs + weight_of r
+weighs_about {r = r} a = ap weight_of a.at ∙ weight_append a.front r ∙ ap (λ n. n + weight_of r) a.weight
 
 -- ---- operators
 
@@ -190,66 +241,138 @@ spelled_Items t h (items_last a) = weighing (behind t (spelled_Item a)) (omega (
 spelled_Items t h (items_comma {p = p} a b) = weighing
     (behind t (joined (spelled_Item a) (spelled_Items (sign s.Comma p) refl b))) (omega (arith, h))
 
+-- a word and a condition in parentheses
+opened : {m k : List Lexeme} {e : ExpressionTree} (t : Lexeme) (q o : Position) → token_weight t ≡ 32
+    → IsE m e (sign s.CloseParenthesis o ∷ k)
+    → SpelledAbout (96 + expression_weight e) 0 (t ∷ sign s.OpenParenthesis q ∷ m) k
+opened {k = k} t q o h a = about
+    (behind t
+    (behind (sign s.OpenParenthesis q)
+    (joined (spelled_E a) (behind (sign s.CloseParenthesis o) (spelled_none k))))) (omega (arith, h))
+
+-- ---- what begins a case
+
+spelled_K : {ts r : List Lexeme} {k : LiteralTree} → IsK ts k r → SpelledAbout 32 1 ts r
+spelled_K (k_number {r = r} {p = p} {n = n}) = about (behind (number n p) (spelled_none r)) refl
+spelled_K (k_negative {r = r} {p = p} {q = q} {n = n}) = record {
+  front = sign s.Minus p ∷ number n q ∷ [];
+  at = refl;
+  signs = 1;
+  few = omega arith;
+  weight = refl;
+}
+spelled_K (k_character {r = r} {p = p} {c = c}) = about (behind (character c p) (spelled_none r)) refl
+spelled_K (k_true {r = r} {p = p}) = about (behind (reserved w.True p) (spelled_none r)) refl
+spelled_K (k_false {r = r} {p = p}) = about (behind (reserved w.False p) (spelled_none r)) refl
+spelled_K (k_nothing {r = r} {p = p}) = about (behind (reserved w.Nothing p) (spelled_none r)) refl
+spelled_K (k_name {r = r} {p = p} {n = n}) = about (behind (name n p) (spelled_none r)) refl
+
+spelled_Range : {ts r : List Lexeme} {g : RangeTree} → IsRange ts g r
+    → SpelledAbout (range_weight g) (1 + upper_values g.high) ts r
+spelled_Range (range_alone a) = weighing_about (spelled_K a) (omega arith) (omega arith)
+spelled_Range (range_to {p = p} a b) = weighing_about
+    (joined_about (spelled_K a) (behind_about (reserved w.To p) (spelled_K b))) (omega arith) (omega arith)
+
+-- with the token behind them
+pub spelled_Labels : {ts r : List Lexeme} {gs : List RangeTree} {p : Position} → IsRanges ts gs (sign s.Colon p ∷ r)
+    → SpelledAbout (range_weights gs) (range_values gs) ts r
+spelled_Labels {r = r} {p = p} (ranges_last a) = weighing_about
+    (joined_about (spelled_Range a) (about {n = 0} (behind (sign s.Colon p) (spelled_none r)) refl)) (omega arith)
+    (omega arith)
+spelled_Labels (ranges_comma {p = p} a b) = weighing_about
+    (joined_about (spelled_Range a) (behind_about (sign s.Comma p) (spelled_Labels b))) (omega arith) (omega arith)
+
+spelled_Optional : {ts r : List Lexeme} {e : Option ExpressionTree} → IsOptional ts e r
+    → Spelled (optional_weight e) ts r
+spelled_Optional {ts} optional_none = spelled_none ts
+spelled_Optional (optional_some a) = spelled_E a
+
 -- two tokens
-pair : {w : ℕ} (t u : Lexeme) (r : List Lexeme) → token_weight t + token_weight u ≡ w → Spelled w (t ∷ u ∷ r) r
-pair t u r e = weighing (behind t (behind u (spelled_none r))) (omega (arith, e))
+pair_about : {w n : ℕ} (t u : Lexeme) (r : List Lexeme) → token_weight t + token_weight u ≡ w
+    → SpelledAbout w n (t ∷ u ∷ r) r
+pair_about t u r e = about (behind t (behind u (spelled_none r))) (omega (arith, e))
 
 mutual
-  pub spelled_S : {ts r : List Lexeme} {x : StatementTree} → IsS ts x r → Spelled (statement_weight x) ts r
-  spelled_S (s_empty {r = r} {p = p}) = behind (sign s.Semicolon p) (spelled_none r)
-  spelled_S (s_block {r = r} {p = p} {q = q} a) = weighing
-      (behind (sign s.OpenBrace p) (joined (spelled_Ss a) (behind (sign s.CloseBrace q) (spelled_none r))))
-      (omega arith)
-  spelled_S (s_text {r = r} {p = p} {q = q} {bytes = bytes}) = pair (text bytes p) (sign s.Semicolon q) r
-      (omega arith)
-  spelled_S (s_print {r = r} {p = p} {q = q} a) = weighing
+  pub spelled_S : {ts r : List Lexeme} {x : StatementTree} → IsS ts x r
+      → SpelledAbout (statement_weight x) (statement_values x) ts r
+  spelled_S (s_empty {r = r} {p = p}) = about (behind (sign s.Semicolon p) (spelled_none r)) refl
+  spelled_S (s_block {r = r} {p = p} {q = q} a) = weighing_about
+      (behind_about (sign s.OpenBrace p)
+      (joined_about (spelled_Ss a) (about {n = 0} (behind (sign s.CloseBrace q) (spelled_none r)) refl)))
+      (omega arith) (omega arith)
+  spelled_S (s_text {r = r} {p = p} {q = q} {bytes = bytes}) = pair_about (text bytes p) (sign s.Semicolon q) r (omega arith)
+  spelled_S (s_print {r = r} {p = p} {q = q} a) = about
       (joined (spelled_Items (reserved w.Print p) refl a) (behind (sign s.Semicolon q) (spelled_none r)))
       (omega arith)
-  spelled_S (s_print_ret {r = r} {p = p} {q = q} a) = weighing
+  spelled_S (s_print_ret {r = r} {p = p} {q = q} a) = about
       (joined (spelled_Items (reserved w.PrintRet p) refl a) (behind (sign s.Semicolon q) (spelled_none r)))
       (omega arith)
-  spelled_S (s_new_line {r = r} {p = p} {q = q}) = pair (reserved w.NewLine p) (sign s.Semicolon q) r refl
-  spelled_S (s_if {p = p} {q = q} {o = o} c a e) = weighing
-      (behind (reserved w.If p)
-      (behind (sign s.OpenParenthesis q) (joined (spelled_E c) (behind (sign s.CloseParenthesis o) (spelled_S a)))))
-      (omega arith)
-  spelled_S (s_if_else {p = p} {q = q} {o = o} {e = e} c a b) = weighing
-      (behind (reserved w.If p)
-      (behind (sign s.OpenParenthesis q)
-      (joined (spelled_E c)
-      (behind (sign s.CloseParenthesis o) (joined (spelled_S a) (behind (reserved w.Else e) (spelled_S b)))))))
-      (omega arith)
-  spelled_S (s_while {p = p} {q = q} {o = o} c a) = weighing
-      (behind (reserved w.While p)
-      (behind (sign s.OpenParenthesis q) (joined (spelled_E c) (behind (sign s.CloseParenthesis o) (spelled_S a)))))
-      (omega arith)
-  spelled_S (s_return {r = r} {p = p} {q = q}) = pair (reserved w.Return p) (sign s.Semicolon q) r refl
-  spelled_S (s_return_value {r = r} {p = p} {q = q} c) = weighing
+  spelled_S (s_new_line {r = r} {p = p} {q = q}) = pair_about (reserved w.NewLine p) (sign s.Semicolon q) r refl
+  spelled_S (s_if {p = p} {q = q} {o = o} c a e) = weighing_about
+      (joined_about (opened (reserved w.If p) q o refl c) (spelled_S a)) (omega arith) (omega arith)
+  spelled_S (s_if_else {p = p} {q = q} {o = o} {e = e} c a b) = weighing_about
+      (joined_about (opened (reserved w.If p) q o refl c)
+      (joined_about (spelled_S a) (behind_about (reserved w.Else e) (spelled_S b)))) (omega arith) (omega arith)
+  spelled_S (s_while {p = p} {q = q} {o = o} c a) = weighing_about
+      (joined_about (opened (reserved w.While p) q o refl c) (spelled_S a)) (omega arith) (omega arith)
+  spelled_S (s_do {r = r} {p = p} {q = q} {o = o} {u = u} {j = j} a c) = weighing_about
+      (behind_about (reserved w.Do p)
+      (joined_about (spelled_S a)
+      (joined_about (opened (reserved w.Until u) q o refl c)
+      (about {n = 0} (behind (sign s.Semicolon j) (spelled_none r)) refl)))) (omega arith) (omega arith)
+  spelled_S (s_for {p = p} {q = q} {o = o} {i = i} {j = j} a f b c g x) = weighing_about
+      (behind_about (reserved w.For p)
+      (behind_about (sign s.OpenParenthesis q)
+      (joined_about (about {n = 0} (spelled_Optional a) refl)
+      (behind_about (sign s.Colon i)
+      (joined_about (about {n = 0} (spelled_Optional b) refl)
+      (behind_about (sign s.Colon j)
+      (joined_about (about {n = 0} (spelled_Optional c) refl)
+      (behind_about (sign s.CloseParenthesis o) (spelled_S x))))))))) (omega arith) (omega arith)
+  spelled_S (s_switch {r = r} {p = p} {q = q} {o = o} {i = i} {j = j} e a) = weighing_about
+      (joined_about (opened (reserved w.Switch p) q o refl e)
+      (behind_about (sign s.OpenBrace i)
+      (joined_about (spelled_Cases a) (about {n = 0} (behind (sign s.CloseBrace j) (spelled_none r)) refl))))
+      (omega arith) (omega arith)
+  spelled_S (s_break {r = r} {p = p} {q = q}) = pair_about (reserved w.Break p) (sign s.Semicolon q) r refl
+  spelled_S (s_continue {r = r} {p = p} {q = q}) = pair_about (reserved w.Continue p) (sign s.Semicolon q) r refl
+  spelled_S (s_return {r = r} {p = p} {q = q}) = pair_about (reserved w.Return p) (sign s.Semicolon q) r refl
+  spelled_S (s_return_value {r = r} {p = p} {q = q} c) = about
       (behind (reserved w.Return p) (joined (spelled_E c) (behind (sign s.Semicolon q) (spelled_none r))))
       (omega arith)
-  spelled_S (s_rtrue {r = r} {p = p} {q = q}) = pair (reserved w.Rtrue p) (sign s.Semicolon q) r refl
-  spelled_S (s_rfalse {r = r} {p = p} {q = q}) = pair (reserved w.Rfalse p) (sign s.Semicolon q) r refl
-  spelled_S (s_quit {r = r} {p = p} {q = q}) = pair (reserved w.Quit p) (sign s.Semicolon q) r refl
-  spelled_S (s_effect {r = r} {q = q} c f) = weighing
+  spelled_S (s_rtrue {r = r} {p = p} {q = q}) = pair_about (reserved w.Rtrue p) (sign s.Semicolon q) r refl
+  spelled_S (s_rfalse {r = r} {p = p} {q = q}) = pair_about (reserved w.Rfalse p) (sign s.Semicolon q) r refl
+  spelled_S (s_quit {r = r} {p = p} {q = q}) = pair_about (reserved w.Quit p) (sign s.Semicolon q) r refl
+  spelled_S (s_effect {r = r} {q = q} c f) = about
       (joined (spelled_E c) (behind (sign s.Semicolon q) (spelled_none r))) (omega arith)
 
-  pub spelled_Ss : {ts r : List Lexeme} {xs : StatementTrees} → IsSs ts xs r → Spelled (statement_weights xs) ts r
-  spelled_Ss {ts} ss_stop = spelled_none ts
-  spelled_Ss (ss_next a b) = joined (spelled_S a) (spelled_Ss b)
+  pub spelled_Ss : {ts r : List Lexeme} {xs : StatementTrees} → IsSs ts xs r
+      → SpelledAbout (statement_weights xs) (statements_values xs) ts r
+  spelled_Ss {ts} ss_stop = about (spelled_none ts) refl
+  spelled_Ss (ss_next a b) = joined_about (spelled_S a) (spelled_Ss b)
+
+  spelled_Cases : {ts r : List Lexeme} {cs : CaseTrees} → IsCases ts cs r
+      → SpelledAbout (case_weights cs) (case_values cs) ts r
+  spelled_Cases {ts} cases_none = about (spelled_none ts) refl
+  spelled_Cases (cases_default {p = p} {q = q} a) = weighing_about
+      (behind_about (reserved w.Default p) (behind_about (sign s.Colon q) (spelled_Ss a))) (omega arith)
+      (omega arith)
+  spelled_Cases (cases_next g a b) = weighing_about
+      (joined_about (spelled_Labels g) (joined_about (spelled_Ss a) (spelled_Cases b))) (omega arith) (omega arith)
 
 pub spelled_Names : {ts r : List Lexeme} {ns : List NameTree} → IsNames ts ns r → Spelled (32 * length ns) ts r
 spelled_Names {ts} names_stop = spelled_none ts
 spelled_Names (names_next {p = p} {n = n} a) = weighing (behind (name n p) (spelled_Names a)) (omega arith)
 
--- the weight of a derivation's tokens is that of its tree
+-- the weight of a derivation's tokens is that of its tree, and of a statement's at least that
 
 pub weight_E : {ts r : List Lexeme} {e : ExpressionTree} → IsE ts e r
     → weight_of ts ≡ expression_weight e + weight_of r
 weight_E a = weighs (spelled_E a)
 
-pub weight_S : {ts r : List Lexeme} {x : StatementTree} → IsS ts x r → weight_of ts ≡ statement_weight x + weight_of r
-weight_S a = weighs (spelled_S a)
+pub weight_S : {ts r : List Lexeme} {x : StatementTree} → IsS ts x r → statement_weight x + weight_of r ≤ weight_of ts
+weight_S a = omega (arith, weighs_about (spelled_S a))
 
 pub weight_Ss : {ts r : List Lexeme} {xs : StatementTrees} → IsSs ts xs r
-    → weight_of ts ≡ statement_weights xs + weight_of r
-weight_Ss a = weighs (spelled_Ss a)
+    → statement_weights xs + weight_of r ≤ weight_of ts
+weight_Ss a = omega (arith, weighs_about (spelled_Ss a))

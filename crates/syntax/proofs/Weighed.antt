@@ -7,14 +7,15 @@ use Rattle.syntax.specs.Tree.{DirectiveTree, ProgramTree}
 use Rattle.syntax.specs.Grammar.{IsDirective, d_global, d_global_value, d_constant, d_array, d_routine, IsDirectives}
 use Rattle.syntax.specs.Grammar.{directives_stop, directives_next, IsProgram, program}
 use Rattle.syntax.specs.Laws.{IsWeighed, WeighedRoutines}
-use Rattle.syntax.proofs.Spelled.{spelled_Names, weighs, weight_Ss}
+use Rattle.syntax.proofs.Spelled.{spelled_Names, weighs, spelled_Ss, weighs_about}
 
 directive_weighed : {ts r : List Lexeme} {d : DirectiveTree} → IsDirective ts d r → IsWeighed d
 directive_weighed d_global = tt
 directive_weighed (d_global_value a) = tt
 directive_weighed (d_constant a) = tt
 directive_weighed (d_array o a lt) = tt
-directive_weighed (d_routine a b) = omega (arith, weighs (spelled_Names a), weight_Ss b)
+directive_weighed (d_routine a b) = let body = spelled_Ss b in
+    (body.signs, body.few, omega (arith, weighs (spelled_Names a), weighs_about body))
 
 directives_weighed : {ts r : List Lexeme} {ds : List DirectiveTree} → IsDirectives ts ds r → All IsWeighed ds
 directives_weighed directives_stop = All-nil IsWeighed

@@ -1,17 +1,16 @@
 -- The grammar of programs: a relation between the tokens from a place on, the tree, and the tokens after it, with one
 -- case for each alternative.
-use Rattle.std.specs.Prelude.{◌≡◌, ◌<◌, ◌+◌, ◌-◌, ◌*◌, ◌%◌, ℕ, max, List, [], ◌∷◌, length, Option, Some, None}
+use Rattle.std.specs.Prelude.{◌≡◌, ◌<◌, ◌+◌, ◌-◌, ◌*◌, ℕ, max, List, [], ◌∷◌, length, Option, Some, None}
 use Rattle.lexer.specs.declared.token.Position.{Position}
 use Rattle.lexer.specs.declared.token.Sign.TheVariants as s
 use Rattle.lexer.specs.declared.token.Word.TheVariants as w
-use Rattle.lexer.specs.Token.{Lexeme, name, number, text, character, reserved, sign, end, position_of}
+use Rattle.lexer.specs.Token.{Lexeme, name, text, reserved, sign, end, position_of}
 use Rattle.expressions.specs.Tree.{NameTree}
-use Rattle.statements.specs.Tree.{StatementTrees}
-use Rattle.statements.specs.Grammar.{IsSs, body_nesting}
+use Rattle.statements.specs.Tree.{LiteralTree, StatementTrees}
+use Rattle.statements.specs.Grammar.{IsK, IsSs, body_nesting}
 use Rattle.syntax.specs.declared.tree.ArrayKind.{ArrayKind}
 use Rattle.syntax.specs.declared.tree.ArrayKind.TheVariants as kind
-use Rattle.syntax.specs.Tree.{LiteralTree, number_value, named_value, ValueTree, DirectiveTree, global, constant}
-use Rattle.syntax.specs.Tree.{array, routine, ProgramTree}
+use Rattle.syntax.specs.Tree.{ValueTree, DirectiveTree, global, constant, array, routine, ProgramTree}
 
 -- The weight of tokens: 32 for each but the end, and 3 for each byte between the quotes of a text
 
@@ -23,18 +22,6 @@ token_weight _ = 32
 abbrev pub weight_of : List Lexeme → ℕ
 weight_of [] = 0
 weight_of (t ∷ ts) = token_weight t + weight_of ts
-
--- K = ["-"] number | char | name | "true" | "false" | "nothing"
-pub data IsK : List Lexeme → LiteralTree → List Lexeme → Type 0 where
-  k_number : {r : List Lexeme} {p : Position} {n : ℕ} → IsK (number n p ∷ r) (number_value n) r
-  k_negative : {r : List Lexeme} {p q : Position} {n : ℕ}
-      → IsK (sign s.Minus p ∷ number n q ∷ r) (number_value ((65536 - n) % 65536)) r
-  k_character : {r : List Lexeme} {p : Position} {c : ℕ} → IsK (character c p ∷ r) (number_value c) r
-  k_true : {r : List Lexeme} {p : Position} → IsK (reserved w.True p ∷ r) (number_value 1) r
-  k_false : {r : List Lexeme} {p : Position} → IsK (reserved w.False p ∷ r) (number_value 0) r
-  k_nothing : {r : List Lexeme} {p : Position} → IsK (reserved w.Nothing p ∷ r) (number_value 0) r
-  k_name : {r : List Lexeme} {p : Position} {n : List ℕ}
-      → IsK (name n p ∷ r) (named_value (record { text = n; position = p })) r
 
 -- {name}
 pub data IsNames : List Lexeme → List NameTree → List Lexeme → Type 0 where

@@ -1,23 +1,23 @@
 -- Words of proofs: programs, read from left to right: functions from a list of tokens to a tree and the tokens after
 -- it.
-use Rattle.std.specs.Prelude.{◌-◌, ◌%◌, if◌then◌else◌, Bool, true, false, ℕ, List, [], ◌∷◌, length, Option, Some}
+use Rattle.std.specs.Prelude.{◌-◌, if◌then◌else◌, Bool, true, false, ℕ, List, [], ◌∷◌, length, Option, Some}
 use Rattle.std.specs.Prelude.{None, Result, Ok, Err}
 use Rattle.lexer.specs.declared.token.Position.{Position}
 use Rattle.lexer.specs.declared.token.Sign.TheVariants as s
 use Rattle.lexer.specs.declared.token.Word.TheVariants as w
-use Rattle.lexer.specs.Token.{Lexeme, name, number, character, reserved, sign, end, position_of}
+use Rattle.lexer.specs.Token.{Lexeme, name, reserved, sign, end, position_of}
 use Rattle.expressions.specs.declared.error.Fault.{Fault}
 use Rattle.expressions.specs.declared.error.Fault.TheVariants.{Grammar}
 use Rattle.expressions.specs.Tree.{NameTree}
 use Rattle.expressions.specs.Parse.{Parse, ◌>>=◌, head, tail, is_name, is_sign, expect}
 use Rattle.statements.specs.Tree.{trees_of}
-use Rattle.statements.specs.Parse.{repeated, statements}
+use Rattle.statements.specs.Parse.{repeated, known_value, begins_value, statements}
 use Rattle.syntax.specs.declared.tree.ArrayKind.{ArrayKind}
-use Rattle.syntax.specs.Tree.{LiteralTree, number_value, named_value, ValueTree, ArrayTree, RoutineTree}
+use Rattle.syntax.specs.Tree.{ValueTree, ArrayTree, RoutineTree}
 use Rattle.syntax.specs.Tree.{DirectiveTree, global, constant, array, routine, ProgramTree}
 use Rattle.syntax.specs.Grammar.{weight_of, kind_of}
 
--- ---- names and values
+-- ---- names
 
 abbrev pub named_on : Lexeme → Parse NameTree
 named_on (name n p) ts = Ok (record { text = n; position = p }, ts)
@@ -29,37 +29,10 @@ named ts = named_on (head ts) (tail ts)
 unfoldable pub names : Parse (List NameTree)
 names ts = repeated is_name named (length ts) ts
 
-abbrev pub negative_on : Lexeme → Parse LiteralTree
-negative_on (number n p) ts = Ok (number_value ((65536 - n) % 65536), ts)
-negative_on _ ts = Err Grammar
-
-abbrev pub value_on : Lexeme → Parse LiteralTree
-value_on (number n p) ts = Ok (number_value n, ts)
-value_on (character c p) ts = Ok (number_value c, ts)
-value_on (reserved w.True p) ts = Ok (number_value 1, ts)
-value_on (reserved w.False p) ts = Ok (number_value 0, ts)
-value_on (reserved w.Nothing p) ts = Ok (number_value 0, ts)
-value_on (name n p) ts = Ok (named_value (record { text = n; position = p }), ts)
-value_on (sign s.Minus p) ts = negative_on (head ts) (tail ts)
-value_on _ ts = Err Grammar
-
-unfoldable pub value : Parse LiteralTree
-value ts = value_on (head ts) (tail ts)
-
 -- ---- arrays
 
-abbrev pub begins_value : Lexeme → Bool
-begins_value (number _ _) = true
-begins_value (character _ _) = true
-begins_value (reserved w.True _) = true
-begins_value (reserved w.False _) = true
-begins_value (reserved w.Nothing _) = true
-begins_value (name _ _) = true
-begins_value (sign s.Minus _) = true
-begins_value _ = false
-
 unfoldable pub placed : Parse ValueTree
-placed ts = value ts >>= λ k. Ok (record { position = position_of (head ts); value = k.0 }, k.1)
+placed ts = known_value ts >>= λ k. Ok (record { position = position_of (head ts); value = k.0 }, k.1)
 
 unfoldable pub values : Parse (List ValueTree)
 values ts = placed ts >>= λ v. repeated begins_value placed (length v.1) v.1 >>= λ vs. Ok (v.0 ∷ vs.0, vs.1)
@@ -87,14 +60,14 @@ ended d ts = expect s.Semicolon ts >>= λ r. Ok (d, r)
 unfoldable pub global_behind : Parse DirectiveTree
 global_behind ts = do
   n ← named ts
-  if is_sign s.Assign (head n.1) then (value (tail n.1) >>= λ k. ended (global n.0 (Some k.0)) k.1)
+  if is_sign s.Assign (head n.1) then (known_value (tail n.1) >>= λ k. ended (global n.0 (Some k.0)) k.1)
       else ended (global n.0 None) n.1
 
 unfoldable pub constant_behind : Parse DirectiveTree
 constant_behind ts = do
   n ← named ts
   m ← expect s.Assign n.1
-  k ← value m
+  k ← known_value m
   ended (constant n.0 k.0) k.1
 
 -- ---- programs

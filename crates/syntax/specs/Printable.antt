@@ -1,8 +1,9 @@
 -- Programs whose texts print: each of their bytes is one of 32 to 126.
 use Rattle.std.specs.List.{All}
 use Rattle.lexer.specs.Printable.{IsPrintable}
-use Rattle.statements.specs.Tree.{PrintItemTree, text_item, StatementTree, StatementTrees, block, text_alone, print}
-use Rattle.statements.specs.Tree.{print_return, if_then, if_else, while_do, stop, next}
+use Rattle.statements.specs.Tree.{PrintItemTree, text_item, StatementTree, StatementTrees, CaseTrees, block}
+use Rattle.statements.specs.Tree.{text_alone, print, print_return, if_then, if_else, while_do, do_until, for_loop}
+use Rattle.statements.specs.Tree.{switch_on, stop, next, no_case, default_case, case}
 use Rattle.syntax.specs.Tree.{DirectiveTree, routine, ProgramTree}
 
 abbrev pub IsPrintableItem : PrintItemTree → Type 0
@@ -18,11 +19,19 @@ abbrev mutual
   IsPrintableStatement (if_then p c x) = IsPrintableStatement x
   IsPrintableStatement (if_else p c x y) = IsPrintableStatement x × IsPrintableStatement y
   IsPrintableStatement (while_do p c x) = IsPrintableStatement x
+  IsPrintableStatement (do_until p x c) = IsPrintableStatement x
+  IsPrintableStatement (for_loop p a b c x) = IsPrintableStatement x
+  IsPrintableStatement (switch_on p e cs) = ArePrintableCases cs
   IsPrintableStatement _ = Unit {0}
 
   pub ArePrintableStatements : StatementTrees → Type 0
   ArePrintableStatements stop = Unit {0}
   ArePrintableStatements (next x xs) = IsPrintableStatement x × ArePrintableStatements xs
+
+  pub ArePrintableCases : CaseTrees → Type 0
+  ArePrintableCases no_case = Unit {0}
+  ArePrintableCases (default_case xs) = ArePrintableStatements xs
+  ArePrintableCases (case gs xs cs) = ArePrintableStatements xs × ArePrintableCases cs
 
 abbrev pub IsPrintableDirective : DirectiveTree → Type 0
 IsPrintableDirective (routine r) = ArePrintableStatements r.body

@@ -2,9 +2,8 @@
 use Rattle.std.specs.Prelude.{ℕ, List, map, Option, Some, None}
 use Rattle.lexer.specs.declared.token.Position.{Position}
 use Rattle.expressions.specs.Tree.{NameTree, name_tree}
-use Rattle.statements.specs.Tree.{StatementTrees, statement_tree, trees_of}
-use Rattle.syntax.specs.declared.tree.Literal.{Literal}
-use Rattle.syntax.specs.declared.tree.Literal.TheVariants as values
+use Rattle.statements.specs.declared.tree.Literal.{Literal}
+use Rattle.statements.specs.Tree.{LiteralTree, literal_tree, StatementTrees, statement_tree, trees_of}
 use Rattle.syntax.specs.declared.tree.ArrayKind.{ArrayKind}
 use Rattle.syntax.specs.declared.tree.ArrayValue.{ArrayValue}
 use Rattle.syntax.specs.declared.tree.Array.{Array}
@@ -12,10 +11,6 @@ use Rattle.syntax.specs.declared.tree.Routine.{Routine}
 use Rattle.syntax.specs.declared.tree.Directive.{Directive}
 use Rattle.syntax.specs.declared.tree.Directive.TheVariants as directives
 use Rattle.syntax.specs.declared.tree.Program.{Program}
-
-pub data LiteralTree : Type 0 where
-  number_value : ℕ → LiteralTree
-  named_value : NameTree → LiteralTree
 
 -- a value of an array, and the position of its first token
 pub record ValueTree : Type 0 where
@@ -45,10 +40,6 @@ pub record ProgramTree : Type 0 where
   pub weight : ℕ
 
 -- The tree of a program of the code
-
-abbrev pub literal_tree : Literal → LiteralTree
-literal_tree (values.Number n) = number_value n
-literal_tree (values.Named n) = named_value (name_tree n)
 
 abbrev pub optional_tree : Option Literal → Option LiteralTree
 optional_tree None = None

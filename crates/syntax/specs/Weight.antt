@@ -1,12 +1,14 @@
 -- The weight of a tree: that of the tokens it was read from. Each token weighs 32, and each byte of a text 3 more. An
--- argument, a value of a comparison and an item count one token more, which stands before or after it.
-use Rattle.std.specs.Prelude.{◌+◌, ◌*◌, ℕ, List, [], ◌∷◌, length}
+-- argument, a value of a comparison, an item and a range count one token more, which stands before or after it. A `-`
+-- before a value of a range is not in its tree, and does not count here: there is at most one for each such value.
+use Rattle.std.specs.Prelude.{◌+◌, ◌*◌, ℕ, List, [], ◌∷◌, length, Option, Some, None}
 use Rattle.expressions.specs.Tree.{ExpressionTree, ExpressionTrees, constant, named, call, index, parenthesised}
 use Rattle.expressions.specs.Tree.{prefixed, step_before, step_after, binary, compare, equal, assign, none, more}
-use Rattle.statements.specs.Tree.{PrintItemTree, text_item, character_item, number_item, StatementTree}
-use Rattle.statements.specs.Tree.{StatementTrees, empty, block, text_alone, print, print_return, new_line, if_then}
-use Rattle.statements.specs.Tree.{if_else, while_do, return_alone, return_value, return_true, return_false, quit}
-use Rattle.statements.specs.Tree.{effect, stop, next}
+use Rattle.statements.specs.Tree.{LiteralTree, RangeTree, PrintItemTree, text_item, character_item, number_item}
+use Rattle.statements.specs.Tree.{StatementTree, StatementTrees, CaseTrees, empty, block, text_alone, print}
+use Rattle.statements.specs.Tree.{print_return, new_line, if_then, if_else, while_do, do_until, for_loop, switch_on}
+use Rattle.statements.specs.Tree.{break_at, continue_at, return_alone, return_value, return_true, return_false, quit}
+use Rattle.statements.specs.Tree.{effect, stop, next, no_case, default_case, case}
 
 abbrev mutual
   pub expression_weight : ExpressionTree → ℕ
@@ -37,6 +39,21 @@ abbrev pub item_weights : List PrintItemTree → ℕ
 item_weights [] = 0
 item_weights (i ∷ is) = item_weight i + 32 + item_weights is
 
+abbrev pub upper_weight : Option LiteralTree → ℕ
+upper_weight None = 0
+upper_weight (Some k) = 64
+
+abbrev pub range_weight : RangeTree → ℕ
+range_weight g = 32 + upper_weight g.high
+
+abbrev pub range_weights : List RangeTree → ℕ
+range_weights [] = 0
+range_weights (g ∷ gs) = range_weight g + 32 + range_weights gs
+
+abbrev pub optional_weight : Option ExpressionTree → ℕ
+optional_weight None = 0
+optional_weight (Some e) = expression_weight e
+
 abbrev mutual
   pub statement_weight : StatementTree → ℕ
   statement_weight empty = 32
@@ -48,6 +65,12 @@ abbrev mutual
   statement_weight (if_then p c x) = 96 + expression_weight c + statement_weight x
   statement_weight (if_else p c x y) = 128 + expression_weight c + statement_weight x + statement_weight y
   statement_weight (while_do p c x) = 96 + expression_weight c + statement_weight x
+  statement_weight (do_until p x c) = 160 + statement_weight x + expression_weight c
+  statement_weight (for_loop p a b c x) = 160 + optional_weight a + optional_weight b + optional_weight c
+      + statement_weight x
+  statement_weight (switch_on p e cs) = 160 + expression_weight e + case_weights cs
+  statement_weight (break_at p) = 64
+  statement_weight (continue_at p) = 64
   statement_weight return_alone = 64
   statement_weight (return_value p e) = 64 + expression_weight e
   statement_weight return_true = 64
@@ -58,3 +81,38 @@ abbrev mutual
   pub statement_weights : StatementTrees → ℕ
   statement_weights stop = 0
   statement_weights (next x xs) = statement_weight x + statement_weights xs
+
+  pub case_weights : CaseTrees → ℕ
+  case_weights no_case = 0
+  case_weights (default_case xs) = 64 + statement_weights xs
+  case_weights (case gs xs cs) = range_weights gs + statement_weights xs + case_weights cs
+
+-- how many values the ranges of a tree have
+
+abbrev pub upper_values : Option LiteralTree → ℕ
+upper_values None = 0
+upper_values (Some k) = 1
+
+abbrev pub range_values : List RangeTree → ℕ
+range_values [] = 0
+range_values (g ∷ gs) = 1 + upper_values g.high + range_values gs
+
+abbrev mutual
+  pub statement_values : StatementTree → ℕ
+  statement_values (block xs) = statements_values xs
+  statement_values (if_then p c x) = statement_values x
+  statement_values (if_else p c x y) = statement_values x + statement_values y
+  statement_values (while_do p c x) = statement_values x
+  statement_values (do_until p x c) = statement_values x
+  statement_values (for_loop p a b c x) = statement_values x
+  statement_values (switch_on p e cs) = case_values cs
+  statement_values _ = 0
+
+  pub statements_values : StatementTrees → ℕ
+  statements_values stop = 0
+  statements_values (next x xs) = statement_values x + statements_values xs
+
+  pub case_values : CaseTrees → ℕ
+  case_values no_case = 0
+  case_values (default_case xs) = statements_values xs
+  case_values (case gs xs cs) = range_values gs + statements_values xs + case_values cs

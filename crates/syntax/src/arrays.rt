@@ -7,10 +7,11 @@ ghost use Rattle.syntax.specs.Tree.{value_tree, array_tree};
 ghost use Rattle.syntax.specs.Grammar as grammar;
 ghost use Rattle.syntax.specs.Parse as spec;
 
+use crate::names::named;
 use crate::tree::{Array, ArrayKind, ArrayValue};
-use crate::values::{named, value};
 use expressions::{Fault, ParseError, expect, fault_at, peek, position, skip};
 use lexer::{Kind, Sign, Token, Word};
+use statements::{begins_value, known_value};
 use std::alloc::Global;
 
 // The kind of array that the token names.
@@ -37,25 +38,13 @@ fn kind<'t, 'a>(tokens: &'t [Token<'a>]) -> Result<(ArrayKind, &'t [Token<'a>]),
     }
 }
 
-// Whether a value can begin with the token.
-fn begins_value(token: Token<'_>) -> bool
-    ensures { result ≡ spec.begins_value (lexeme token.entry) }
-{
-    match token.kind {
-        Kind::Number(_) | Kind::Character(_) | Kind::Name(_) => true,
-        Kind::Reserved(word) => matches!(word, Word::True | Word::False | Word::Nothing),
-        Kind::Sign(sign) => matches!(sign, Sign::Minus),
-        _ => false,
-    }
-}
-
 // A value, with the position of its first token.
 #[tactic(auto, unfolding(crate::specs::Parse::placed))]
 fn placed<'t, 'a>(tokens: &'t [Token<'a>]) -> Result<(ArrayValue<'a>, &'t [Token<'a>]), ParseError>
     ensures { Gives (λ x. (value_tree x.0, lexemes x.1.now)) result (spec.placed (lexemes tokens.now)) }
 {
     let position = position(tokens);
-    let (value, rest) = value(tokens)?;
+    let (value, rest) = known_value(tokens)?;
     Ok((ArrayValue { position, value }, rest))
 }
 

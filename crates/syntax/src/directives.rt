@@ -7,12 +7,12 @@ ghost use Rattle.syntax.specs.Tree.{routine_tree, directive_tree};
 ghost use Rattle.syntax.specs.Parse as spec;
 
 use crate::arrays::array;
+use crate::names::{named, names};
 use crate::tree::{Directive, Routine};
-use crate::values::{named, names, value};
 use crate::weight::weight_before;
 use expressions::{Fault, ParseError, expect, fault_at, is_sign, peek, skip};
 use lexer::{Kind, Sign, Token, Word};
-use statements::statements;
+use statements::{known_value, statements};
 use std::alloc::Global;
 
 // How many nestings may be opened in a statement of a routine.
@@ -40,7 +40,7 @@ fn global<'t, 'a>(tokens: &'t [Token<'a>]) -> Result<(Directive<'a>, &'t [Token<
     if !is_sign(peek(rest), Sign::Assign) {
         return ended(Directive::Global(name, None), rest);
     }
-    let (first, rest) = value(skip(rest))?;
+    let (first, rest) = known_value(skip(rest))?;
     ended(Directive::Global(name, Some(first)), rest)
 }
 
@@ -51,7 +51,7 @@ fn constant<'t, 'a>(tokens: &'t [Token<'a>]) -> Result<(Directive<'a>, &'t [Toke
 {
     let (name, rest) = named(tokens)?;
     let rest = expect(Sign::Assign, rest)?;
-    let (value, rest) = value(rest)?;
+    let (value, rest) = known_value(rest)?;
     ended(Directive::Constant(name, value), rest)
 }
 

@@ -4,14 +4,14 @@
 mod arrays;
 mod directives;
 mod laws;
+mod names;
 mod program;
 mod tree;
-mod values;
 mod weight;
 
 pub use expressions::{Binary, Comparison, Equality, Expression, Name, Prefix, Step, Width};
 pub use laws::{printable_trees, weighed_routines};
 pub use lexer::{Kind, Position, Sign, SourceFault, Token, Word, lex};
 pub use program::{one_tree, parse};
-pub use statements::{PrintItem, Statement};
-pub use tree::{Array, ArrayKind, ArrayValue, Directive, Literal, Program, Routine};
+pub use statements::{Heading, Literal, PrintItem, Range, Statement};
+pub use tree::{Array, ArrayKind, ArrayValue, Directive, Program, Routine};

@@ -2,17 +2,7 @@
 
 use expressions::Name;
 use lexer::Position;
-use statements::Statement;
-
-/// A value that is known before a story runs.
-#[derive(Clone, Copy)]
-pub enum Literal<'a> {
-    /// A number, with its sign as a word; a character; `true` is 1, `false` and `nothing` are 0.
-    Number(u16),
-
-    /// The value of a name.
-    Named(Name<'a>),
-}
+use statements::{Literal, Statement};
 
 /// What an array holds.
 #[derive(Clone, Copy)]

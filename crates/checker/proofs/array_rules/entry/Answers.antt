@@ -1,5 +1,5 @@
 use Rattle.std.proofs.Common.{ℕ, ap, ◌∙◌}
-use Rattle.syntax.specs.Tree.{literal_tree}
+use Rattle.statements.specs.Tree.{literal_tree}
 use Rattle.checker.specs.Names.{literal_value, or_zero}
 use Rattle.checker.specs.Noted.{noted}
 use Rattle.checker.specs.Literals.{literal_breaches}

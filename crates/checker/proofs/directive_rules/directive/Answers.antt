@@ -1,7 +1,8 @@
 use Rattle.std.proofs.Common.{◌≡◌, refl, sym, ap, ◌∙◌}
 use Rattle.expressions.specs.Tree.{name_tree}
 use Rattle.syntax.specs.Tree.{DirectiveTree, global, constant, array, routine, directive_tree, optional_tree}
-use Rattle.syntax.specs.Tree.{literal_tree, array_tree, routine_tree}
+use Rattle.statements.specs.Tree.{literal_tree}
+use Rattle.syntax.specs.Tree.{array_tree, routine_tree}
 use Rattle.checker.specs.Noted.{noted}
 use Rattle.checker.specs.Literals.{named_breaches}
 use Rattle.checker.specs.Arrays.{array_breaches}

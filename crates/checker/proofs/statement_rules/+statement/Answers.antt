@@ -1,20 +1,26 @@
-use Rattle.std.proofs.Common.{sym, ◌∙◌}
+use Rattle.std.proofs.Common.{Option, None, refl, sym, ◌∙◌}
+use Rattle.std.specs.Global.{Vec}
 use Rattle.std.specs.Prelude.{map}
+use Rattle.expressions.specs.Tree.{expression_tree}
+use Rattle.statements.specs.declared.tree.Range.{Range}
 use Rattle.statements.specs.declared.tree.Statement.{Statement}
+use Rattle.statements.specs.Tree.{other_tree}
 use Rattle.checker.specs.declared.resolved.Value.TheVariants as made
 use Rattle.checker.specs.Resolved as values
-use Rattle.checker.specs.Resolved.{Action, action_of}
+use Rattle.checker.specs.Resolved.{Value, Action, value_of, action_of, case_of, other_of}
 use Rattle.checker.specs.Scope.{look_in}
-use Rattle.checker.specs.Walk.{resolved_statement, own_statement_breaches}
+use Rattle.checker.specs.Walk.{resolved_statement, own_statement_breaches, resolved_case, own_case_breaches}
 use Rattle.checker.proofs.Each.{each_next, each_end, value_next, value_end}
 use Rattle.checker.proofs.Shapes.{is_empty_statement, is_text_statement, is_new_line_statement, is_quit_statement}
 use Rattle.checker.proofs.Shapes.{is_block_statement, is_print_statement, is_print_return_statement, is_if_statement}
 use Rattle.checker.proofs.Shapes.{is_if_else_statement, is_while_statement, is_return_value_statement}
 use Rattle.checker.proofs.Shapes.{is_effect_statement, is_return_statement, is_return_true_statement}
-use Rattle.checker.proofs.Shapes.{is_return_false_statement}
+use Rattle.checker.proofs.Shapes.{is_return_false_statement, is_do_statement, is_for_statement, is_switch_statement}
+use Rattle.checker.proofs.Shapes.{is_break_statement, is_continue_statement}
 use Rattle.checker.proofs.Walks.{leaf, one, two, made_number, made_empty, made_text, made_new_line, made_quit}
-use Rattle.checker.proofs.Walks.{made_return_value, made_block, made_if_then, made_if_else, made_while_do}
-use Rattle.checker.proofs.Forms.{statements_walked}
+use Rattle.checker.proofs.Walks.{made_return_value, made_block, made_if_then, made_if_else, made_while_do, made_do}
+use Rattle.checker.proofs.Walks.{made_for, made_switch, made_break, made_continue}
+use Rattle.checker.proofs.Forms.{statements_walked, case_walked, other_walked, switch_walked}
 use Rattle.checker.proofs.statement_rules.+statement.Goals as goal
 
 abbrev pair : Action → Action → Action × Action
@@ -63,6 +69,85 @@ if_else-returns t c =
     rw (made_if_else c.in-Ok.condition c.in-Ok-boxed.first c.in-Ok-boxed-2.otherwise)
     (two (λ v (ab : Action × Action). values.if_else v ab.0 ab.1) c.in-Ok.ensures
     (two pair c.in-Ok-boxed.ensures c.in-Ok-boxed-2.ensures))
+
+pub do_until-returns : goal.do_until-returns
+do_until-returns t c around = rw (made_do c.in-Ok.body c.in-Ok-whole.condition)
+    (two values.do_until c.in-Ok.ensures c.in-Ok-whole.ensures)
+
+pub for_loop-returns : goal.for_loop-returns
+for_loop-returns t c around = rw (made_for c.in-Ok.before c.in-Ok.test c.in-Ok.behind c.in-Ok-boxed.body)
+    (two (λ (h : Option Value × Option Value × Option Value) (x : Action). values.for_loop h.0 h.1 h.2 x)
+    c.in-Ok.ensures c.in-Ok-boxed.ensures)
+
+pub one_case-returns : goal.one_case-returns
+one_case-returns t c = case_walked (look_in c.args.scope.now) c.args.around c.args.given.now c.in-Ok.spans
+    c.in-Ok-all_statements.body c.deref.result.now c.deref-2.result.now c.deref.ensures.value c.deref-2.ensures.value
+    c.in-Ok.ensures c.in-Ok-all_statements.ensures
+
+pub all_cases-loop-c-preserved : goal.all_cases-loop-c-preserved
+all_cases-loop-c-preserved t c =
+    let f = λ (x : Vec Range × Vec Statement). own_case_breaches (look_in c.args.scope.now) c.args.around x in
+    let g = λ (x : Vec Range × Vec Statement). resolved_case (look_in c.args.scope.now) x in
+    record {
+      value = rw c.in_ok-push.ensures.items
+          (value_next f g case_of c.loop-c.found.items c.in-Ok.resolved c.args.given.now c.loop-c.c-index
+          c.c-item.result c.loop-c-test.true c.c-item.is c.loop-c.invariant.value c.in-Ok.ensures.value);
+      least = rw c.in-Ok.ensures.breaches
+          (sym (each_next f g case_of c.loop-c.least c.args.given.now c.loop-c.c-index c.c-item.result
+          c.loop-c-test.true c.c-item.is) ∙ c.loop-c.invariant.least);
+    }
+
+pub all_cases-returns : goal.all_cases-returns
+all_cases-returns t c =
+    let f = λ (x : Vec Range × Vec Statement). own_case_breaches (look_in c.args.scope.now) c.args.around x in
+    let g = λ (x : Vec Range × Vec Statement). resolved_case (look_in c.args.scope.now) x in
+    record {
+      value = c.loop-c.invariant.value ∙ value_end f g case_of c.args.given.now c.loop-c.c-index c.loop-c-test.false;
+      breaches = sym (each_end f g case_of c.loop-c.least c.args.given.now c.loop-c.c-index c.loop-c-test.false)
+          ∙ c.loop-c.invariant.least;
+    }
+
+pub otherwise-returns-in-None : goal.otherwise-returns-in-None
+otherwise-returns-in-None t c = rw c.in-None.is (leaf c.args.least.now None)
+
+pub otherwise-returns-in-Ok : goal.otherwise-returns-in-Ok
+otherwise-returns-in-Ok t c = rw c.in-Some.is
+    (other_walked (look_in c.args.scope.now) c.args.around c.deref.result.now c.in-Some.all.items
+    (map action_of c.in-Ok.found.items) c.deref.ensures.value c.in-Ok.ensures)
+
+pub switch_on-returns : goal.switch_on-returns
+switch_on-returns t c around is = rw (made_switch c.in-Ok.value c.in-Ok-all_cases.cases c.in-Ok-otherwise.other)
+    (switch_walked (look_in c.args.scope.now) around c.args.inside c.args.position (expression_tree c.args.value.now)
+    (value_of c.in-Ok.value) c.args.cases.now (other_tree c.args.other.now)
+    (map case_of c.in-Ok-all_cases.cases.items) (other_of c.in-Ok-otherwise.other) is c.in-Ok.ensures
+    c.in-Ok-all_cases.ensures c.in-Ok-otherwise.ensures)
+
+pub statement-returns-in-Do : goal.statement-returns-in-Do
+statement-returns-in-Do t c = let v = c.in-Do in
+    rw (is_do_statement c.args.s.now v.position v.body v.condition v.is, ← c.deref-in-Do.ensures)
+    (c.do_until.ensures c.args.around)
+
+pub statement-returns-in-For : goal.statement-returns-in-For
+statement-returns-in-For t c = let v = c.in-For in
+    rw (is_for_statement c.args.s.now v.position v.parts v.body v.is) (c.for_loop.ensures c.args.around)
+
+pub statement-returns-in-Switch : goal.statement-returns-in-Switch
+statement-returns-in-Switch t c = let v = c.in-Switch in
+    rw (
+      is_switch_statement c.args.s.now v.position v.value v.cases v.other v.is,
+      ← c.deref-in-Switch.ensures.value,
+      ← c.deref-in-Switch-2.ensures,
+    )
+    (c.switch_on.ensures c.args.around c.in_switch.ensures)
+
+pub statement-returns-in-Break : goal.statement-returns-in-Break
+statement-returns-in-Break t c = rw (is_break_statement c.args.s.now c.in-Break.position c.in-Break.is, made_break)
+    (record { value = refl; breaches = c.outside.ensures })
+
+pub statement-returns-in-Continue : goal.statement-returns-in-Continue
+statement-returns-in-Continue t c = rw
+    (is_continue_statement c.args.s.now c.in-Continue.position c.in-Continue.is, made_continue)
+    (record { value = refl; breaches = c.outside-in-Continue.ensures })
 
 pub statement-returns-in-Block : goal.statement-returns-in-Block
 statement-returns-in-Block t c = let v = c.in-Block in

@@ -1,10 +1,17 @@
-use Rattle.std.proofs.Common.{◌≡◌, ℕ, ◌+◌, ◌-◌, ◌<◌, List, length, map, drop, sym, subst, arith}
+use Rattle.std.proofs.Common.{◌≡◌, ℕ, ◌+◌, ◌-◌, ◌<◌, List, [], length, map, drop, refl, sym, subst, arith}
 use Rattle.checker.specs.declared.resolved.Printed as code_printed
 use Rattle.checker.specs.declared.resolved.Action as code_action
-use Rattle.checker.specs.Resolved.{Action, while_do, value_of, printed_of, action_of, actions_of}
-use Rattle.items.specs.Items.{action_items, actions_items, prints_items}
-use Rattle.items.specs.Writing.{written_in, Written, exits_of}
-use Rattle.items.proofs.Trees.{text_is, print_return_is, if_else_is, while_is, return_is}
+use Rattle.std.specs.Global.{Vec}
+use Rattle.std.specs.Option.{option_map}
+use Rattle.checker.specs.declared.resolved.Span.{Span}
+use Rattle.checker.specs.Resolved.{Action, CasesOf, while_do, do_until, for_loop, switch_on, value_of, printed_of}
+use Rattle.checker.specs.Resolved.{range_of, action_of, actions_of, case_of, cases_of, other_of}
+use Rattle.items.specs.Items.{action_items, actions_items, cases_items, prints_items, groups_of, tests_items}
+use Rattle.items.specs.declared.exits.Exits.{Exits}
+use Rattle.items.specs.Writing.{written_in, Written, exits_of, LeavesCases}
+use Rattle.items.proofs.Trees.{text_is, print_return_is, if_else_is, while_is, do_is, for_is, switch_is, return_is}
+use Rattle.items.proofs.Rounds.{do_more, for_more}
+use Rattle.items.proofs.SwitchCases.{case_leaves, case_next, cases_all, switch_more}
 use Rattle.items.proofs.Actions.{if_more, else_more, while_more, text_more, print_return_more, action_next}
 use Rattle.items.proofs.statement.+statements.Goals as goal
 
@@ -88,3 +95,89 @@ put_statement-returns-in_ok-put_return-in-ReturnValue t c =
     let P : Action → Type 0 = λ a. Written (written_in c.args.draft.now) (written_in c.put_return.new.draft)
     (λ n at. action_items (exits_of n c.args.exits) at a) in
     subst P (sym (return_is _ _ x.is)) (c.in_ok-put_return-in-ReturnValue.ensures c.args.exits)
+
+pub put_do-returns : goal.put_do-returns
+put_do-returns t c = do_more _ _ _ _ _ (value_of c.args.test.now) (action_of c.args.body.now) _
+    c.written-end.ensures c.in_ok-put.ensures c.in_ok-put_value.ensures c.written.ensures
+    c.in_ok-put_statement.ensures c.lead_back.ensures
+
+pub put_for-returns : goal.put_for-returns
+put_for-returns t c = for_more _ _ _ _ _ _ _ (option_map value_of c.args.before.now)
+    (option_map value_of c.args.test.now) (option_map value_of c.args.behind.now) (action_of c.args.body.now) _
+    c.written-end.ensures c.in_ok-put.ensures c.in_ok-put_once.ensures c.written.ensures
+    c.in_ok-put_statement.ensures c.in_ok-put_test.ensures c.lead_back.ensures c.in_ok-put_once-2.ensures
+
+pub put_case-returns : goal.put_case-returns
+put_case-returns t c =
+    let old = c.args.draft.now in
+    let over = c.put_over.new.draft in
+    let body = c.put_statements.new.draft in
+    let P : List code_action.Action → Type 0 = λ l. Written (written_in over) (written_in body)
+    (λ n at. actions_items (exits_of n c.args.exits) at (actions_of (map action_of l))) in
+    let Q : List Span → Type 0 = λ l. Written (written_in body) (written_in c.put_tests.new.draft)
+    (λ n at. tests_items at (groups_of (map range_of l)) (n - c.written-inside.result) (n - c.written-behind.result)) in
+    case_leaves old over body c.put_tests.new.draft c.args.exits c.args.case.now c.args.end c.written-inside.result
+    c.written-behind.result c.written-behind.ensures c.in_ok-put_over.ensures
+    (subst P c.deref.ensures.value c.in_ok-put_statements.ensures) c.written-inside.ensures
+    (subst Q c.deref-2.ensures.value c.in_ok-put_tests.ensures)
+
+pub put_cases-loop-done-preserved : goal.put_cases-loop-done-preserved
+put_cases-loop-done-preserved t c =
+    let xs = c.args.cases.now in
+    let i = length xs - 1 - c.loop-done.done in
+    let lt : c.loop-done.done < length xs = c.loop-done-test.true in
+    let P : ℕ → Type 0 = λ k. LeavesCases c.args.draft.now c.loop-done.draft c.args.exits (drop k xs) c.args.end in
+    let Q : ℕ → Type 0 = λ k. LeavesCases c.args.draft.now c.put_case.new.draft c.args.exits (drop k xs) c.args.end in
+    let before : length xs - c.loop-done.done ≡ i + 1 = omega (arith, lt) in
+    let after : i ≡ length xs - (c.loop-done.done + 1) = omega arith in
+    subst Q after (case_next c.args.draft.now c.loop-done.draft c.put_case.new.draft c.args.exits xs i _ c.args.end
+    (omega (arith, lt)) c.index-cases-cases.is (subst P before c.loop-done.invariant) c.in_ok-put_case.ensures)
+
+pub put_switch-returns : goal.put_switch-returns
+put_switch-returns t c =
+    let old = c.args.draft.now in
+    let end = c.written-end.result in
+    let inside : Exits = record { breaks = end; continues = c.args.exits.continues } in
+    let cs = map case_of c.args.cases.now in
+    let other = other_of c.args.other.now in
+    let P : CasesOf → Type 0 = λ l. Written (written_in old) (written_in c.put_cases.new.draft)
+    (λ n at. cases_items (exits_of n inside) at l (n - end)) in
+    switch_more _ _ _ c.args.exits _ (value_of c.args.value.now) (cases_of cs other) inside c.written-end.ensures refl
+    c.alone-operand.ensures
+    (subst P (cases_all cs other) (c.in_ok-put_cases.ensures (written_in old) (cases_of [] other)
+    (sym c.written-end.ensures) (c.in_ok-put_other.ensures end)))
+    c.in_ok-put_after.ensures
+
+pub put_statement-returns-in_ok-put_do-in-Do : goal.put_statement-returns-in_ok-put_do-in-Do
+put_statement-returns-in_ok-put_do-in-Do t c =
+    let x = c.in-Do in
+    let P : Action → Type 0 = λ a. Written (written_in c.args.draft.now) (written_in c.put_do.new.draft)
+    (λ n at. action_items (exits_of n c.args.exits) at a) in
+    let Q : code_action.Action → Type 0 =
+    λ s. Written (written_in c.args.draft.now) (written_in c.put_do.new.draft)
+    (λ n at. action_items (exits_of n c.args.exits) at (do_until (action_of s) (value_of x.test))) in
+    subst P (sym (do_is _ _ _ x.is)) (subst Q c.deref-in-Do.ensures (c.in_ok-put_do-in-Do.ensures c.args.exits))
+
+pub put_statement-returns-in_ok-put_for-in-For : goal.put_statement-returns-in_ok-put_for-in-For
+put_statement-returns-in_ok-put_for-in-For t c =
+    let x = c.in-For in
+    let P : Action → Type 0 = λ a. Written (written_in c.args.draft.now) (written_in c.put_for.new.draft)
+    (λ n at. action_items (exits_of n c.args.exits) at a) in
+    let Q : code_action.Action → Type 0 =
+    λ s. Written (written_in c.args.draft.now) (written_in c.put_for.new.draft)
+    (λ n at. action_items (exits_of n c.args.exits) at (for_loop (option_map value_of x.before)
+    (option_map value_of x.test) (option_map value_of x.behind) (action_of s))) in
+    subst P (sym (for_is _ _ _ _ _ x.is)) (subst Q c.deref-in-For.ensures
+    (c.in_ok-put_for-in-For.ensures c.args.exits))
+
+pub put_statement-returns-in_ok-put_switch-in-Switch : goal.put_statement-returns-in_ok-put_switch-in-Switch
+put_statement-returns-in_ok-put_switch-in-Switch t c =
+    let x = c.in-Switch in
+    let P : Action → Type 0 = λ a. Written (written_in c.args.draft.now) (written_in c.put_switch.new.draft)
+    (λ n at. action_items (exits_of n c.args.exits) at a) in
+    let Q : List (Vec Span × Vec code_action.Action) → Type 0 =
+    λ l. Written (written_in c.args.draft.now) (written_in c.put_switch.new.draft)
+    (λ n at. action_items (exits_of n c.args.exits) at (switch_on (value_of x.value)
+    (cases_of (map case_of l) (other_of x.other)))) in
+    subst P (sym (switch_is _ _ _ _ x.is)) (subst Q c.deref-in-Switch.ensures.value
+    c.in_ok-put_switch-in-Switch.ensures)

@@ -1,0 +1,116 @@
+-- What is written for `do` and `for`.
+use Rattle.std.proofs.Common.{◌≡◌, ℕ, ◌+◌, ◌-◌, List, [], ◌∷◌, ◌++◌, length, slice_set, true, Option, refl, sym, ap}
+use Rattle.std.proofs.Common.{◌∙◌, arith, append_assoc, length-append}
+use Rattle.std.proofs.Math.Seq.{set-append_seam}
+use Rattle.checker.specs.Resolved.{Value, Action}
+use Rattle.checker.specs.Resolved as source
+use Rattle.items.specs.Items.{Item, branch_count, branch_items, action_count, action_items, once_count, once_items}
+use Rattle.items.specs.Items.{test_count, test_items, for_items, exits_to}
+use Rattle.items.specs.Items as items
+use Rattle.items.specs.declared.wanted.Wanted.TheVariants.{Branch}
+use Rattle.items.specs.declared.exits.Exits.{Exits}
+use Rattle.items.specs.Writing.{Written, wanted_items, exits_of}
+use Rattle.items.proofs.Counts.{branch_length, joined}
+use Rattle.items.proofs.StatementCounts.{action_length, once_length, test_length}
+use Rattle.items.proofs.Written.{one, counted, both, as_items}
+
+-- a round that ends in a way back to its first item
+looped : (c c1 c2 c3 : List Item) (f : ℕ → ℕ → List Item) (k end : ℕ) → ((n at : ℕ) → length (f n at) ≡ k)
+    → end ≡ length c → c1 ≡ c ++ items.back 0 ∷ [] → Written c1 c2 f
+    → c3 ≡ slice_set c2 end (items.back (length c2))
+    → Written c c3 (λ n at. f n at ++ items.back at ∷ [])
+looped c c1 c2 c3 f k end long ee e1 w e3 =
+    let there = items.back (length c2) in
+    let whole : c2 ≡ c ++ items.back 0 ∷ w.more = w.is ∙ ap (λ l. l ++ w.more) e1
+    ∙ append_assoc c (items.back 0 ∷ []) w.more in
+    let led : c3 ≡ c ++ there ∷ w.more = e3 ∙ ap (λ l. slice_set l end there) whole
+    ∙ ap (λ i. slice_set (c ++ items.back 0 ∷ w.more) i there) ee ∙ set-append_seam c (items.back 0) w.more there in
+    let l3 : length c3 ≡ length c2 = ap length led
+    ∙ omega (arith, length-append c (there ∷ w.more), length-append c (items.back 0 ∷ w.more))
+    ∙ sym (ap length whole) in
+    let w3 : Written (c ++ there ∷ []) c3 f =
+    record {
+      more = w.more;
+      is = led ∙ sym (append_assoc c (there ∷ []) w.more);
+      are = λ n le. w.are n (omega (arith, le, l3)) ∙ ap (λ i. f n (n - i)) (sym l3);
+    } in
+    as_items (λ n at h. let b : n - length c2 ≡ at = omega (arith, h, l3) in
+    ap (λ b. f n at ++ items.back b ∷ []) b)
+    (both k long (one c (c ++ there ∷ []) there refl) w3)
+
+pub do_more : (c c1 c2 c3 c4 : List Item) (v : Value) (a : Action) (x : Exits) → x.breaks ≡ length c → c1
+    ≡ c ++ items.back 0 ∷ [] → Written c1 c2 (wanted_items (Branch true x.breaks) v) → x.continues ≡ length c2
+    → Written c2 c3 (λ n at. action_items (exits_of n x) at a)
+    → c4 ≡ slice_set c3 x.breaks (items.back (length c3)) → (y : Exits)
+    → Written c c4 (λ n at. action_items (exits_of n y) at (source.do_until a v))
+do_more c c1 c2 c3 c4 v a x ee e1 wv ec wa e4 y =
+    let k = branch_count v true in
+    let m = action_count a in
+    let end = x.breaks in
+    let long_v = λ (n at : ℕ). branch_length v true at (n - end) in
+    let long_a = λ (n at : ℕ). action_length (exits_of n x) a at in
+    let w = both m long_a wv wa in
+    let long = λ (n at : ℕ). joined (action_items (exits_of n x) at a) (branch_items (at + m) v true (n - end)) m k
+    (long_a n at) (long_v n (at + m)) in
+    let l1 = counted 1 (λ n at. refl) (one c c1 (items.back 0) e1) in
+    let l2 = counted k long_v wv in
+    let around = looped c c1 c3 c4 _ (m + k) end long ee e1 w e4 in
+    let l4 = counted (m + k + 1) (λ n at. joined _ (items.back at ∷ []) (m + k) 1 (long n at) refl) around in
+    as_items (λ n at h.
+    let t : n - end ≡ at + m + k + 1 = omega (arith, h, l4, ee) in
+    let s : n - x.continues ≡ at + m = omega (arith, h, l1, l2, l4, ec) in
+    ap (λ t. (action_items (exits_to (n - x.continues) t) at a ++ branch_items (at + m) v true t)
+    ++ items.back at ∷ []) t
+    ∙ ap (λ s. (action_items (exits_to s (at + m + k + 1)) at a ++ branch_items (at + m) v true (at + m + k + 1))
+    ++ items.back at ∷ []) s
+    ∙ append_assoc (action_items (exits_to (at + m) (at + m + k + 1)) at a)
+    (branch_items (at + m) v true (at + m + k + 1)) (items.back at ∷ []))
+    around
+
+-- the test, the body, and what is done behind each round
+rounds_more : (c c1 c2 c3 c4 c5 : List Item) (test behind : Option Value) (a : Action) (x : Exits) → x.breaks
+    ≡ length c → c1 ≡ c ++ items.back 0 ∷ [] → Written c1 c2 (λ n at. once_items at behind) → x.continues
+    ≡ length c2 → Written c2 c3 (λ n at. action_items (exits_of n x) at a)
+    → Written c3 c4 (λ n at. test_items at test (n - x.breaks))
+    → c5 ≡ slice_set c4 x.breaks (items.back (length c4))
+    → Written c c5 (λ n at. for_items at (test_count test) (action_count a) (once_count behind)
+    (λ end. test_items at test end) (λ inside place. action_items inside place a) (λ place. once_items place behind))
+rounds_more c c1 c2 c3 c4 c5 test behind a x ee e1 wb ec wa wt e5 =
+    let k = test_count test in
+    let m = action_count a in
+    let d = once_count behind in
+    let end = x.breaks in
+    let long_b = λ (n at : ℕ). once_length behind at in
+    let long_a = λ (n at : ℕ). action_length (exits_of n x) a at in
+    let long_t = λ (n at : ℕ). test_length test at (n - end) in
+    let w = both k long_t (both m long_a wb wa) wt in
+    let long = λ (n at : ℕ). joined (test_items at test (n - end)) _ k (m + d) (long_t n at)
+    (joined (action_items (exits_of n x) (at + k) a) (once_items (at + k + m) behind) m d (long_a n (at + k))
+    (long_b n (at + k + m))) in
+    let l1 = counted 1 (λ n at. refl) (one c c1 (items.back 0) e1) in
+    let l2 = counted d long_b wb in
+    let around = looped c c1 c4 c5 _ (k + (m + d)) end long ee e1 w e5 in
+    let l5 = counted (k + (m + d) + 1) (λ n at. joined _ (items.back at ∷ []) (k + (m + d)) 1 (long n at) refl)
+    around in
+    as_items (λ n at h.
+    let t : n - end ≡ at + k + m + d + 1 = omega (arith, h, l5, ee) in
+    let s : n - x.continues ≡ at + k + m = omega (arith, h, l1, l2, l5, ec) in
+    let last = once_items (at + k + m) behind in
+    let back = items.back at ∷ [] in
+    let stop = at + k + m + d + 1 in
+    ap (λ t. (test_items at test t ++ (action_items (exits_to (n - x.continues) t) (at + k) a ++ last)) ++ back) t
+    ∙ ap (λ s. (test_items at test stop ++ (action_items (exits_to s stop) (at + k) a ++ last)) ++ back) s
+    ∙ append_assoc (test_items at test stop) (action_items (exits_to (at + k + m) stop) (at + k) a ++ last) back
+    ∙ ap (λ l. test_items at test stop ++ l)
+    (append_assoc (action_items (exits_to (at + k + m) stop) (at + k) a) last back))
+    around
+
+pub for_more : (c c1 c2 c3 c4 c5 c6 : List Item) (before test behind : Option Value) (a : Action) (x : Exits)
+    → x.breaks ≡ length c → c1 ≡ c ++ items.back 0 ∷ [] → Written c1 c2 (λ n at. once_items at behind)
+    → x.continues ≡ length c2 → Written c2 c3 (λ n at. action_items (exits_of n x) at a)
+    → Written c3 c4 (λ n at. test_items at test (n - x.breaks))
+    → c5 ≡ slice_set c4 x.breaks (items.back (length c4)) → Written c5 c6 (λ n at. once_items at before)
+    → (y : Exits) → Written c c6 (λ n at. action_items (exits_of n y) at (source.for_loop before test behind a))
+for_more c c1 c2 c3 c4 c5 c6 before test behind a x ee e1 wb ec wa wt e5 wf y =
+    both (once_count before) (λ n at. once_length before at)
+    (rounds_more c c1 c2 c3 c4 c5 test behind a x ee e1 wb ec wa wt e5) wf

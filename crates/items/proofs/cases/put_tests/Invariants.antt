@@ -1,0 +1,13 @@
+use Rattle.std.proofs.Common.{◌-◌, List, [], ◌∷◌, ◌++◌, map, take, reverse}
+use Rattle.items.specs.Items.{Item, Group, last_items, tests_items}
+use Rattle.items.specs.Code.{group_of}
+use Rattle.items.specs.Writing.{written_in, Written}
+use Rattle.items.proofs.cases.put_tests.Given as goal
+
+-- before the last group stand those that were written since
+abbrev pub invariant-loop-group : goal.invariant-loop-group
+invariant-loop-group l = (c : List Item) (g : Group)
+    → Written c (written_in l.initial.draft) (λ n at. last_items g (n - l.behind))
+    → Written c (written_in l.draft)
+    (λ n at. tests_items at (reverse (map group_of (take l.group-index l.group-items)) ++ g ∷ []) (n - l.inside)
+    (n - l.behind))

@@ -1,0 +1,34 @@
+//! The parts of a `for`.
+
+ghost use Rattle.std.specs.Prelude.{◌-◌, OnOk};
+ghost use Rattle.std.specs.Option.{option_map};
+ghost use Rattle.checker.specs.Resolved.{value_of};
+ghost use Rattle.items.specs.Items.{once_items, test_items};
+ghost use Rattle.items.specs.Writing.{Writes};
+
+use crate::draft::Draft;
+use crate::item::Destination;
+use crate::value::put_value;
+use crate::wanted::Wanted;
+use checker::Value;
+use std::alloc::AllocError;
+
+/// A part whose word goes nowhere, if it is there.
+pub fn put_once(draft: &mut Draft<'_>, part: &Option<Value>) -> Result<(), AllocError>
+    ensures { OnOk result (Writes draft.old draft.new (λ n at. once_items at (option_map value_of part.now))) }
+{
+    match part {
+        None => Ok(()),
+        Some(value) => put_value(draft, value, Wanted::Word(Destination::Nowhere)),
+    }
+}
+
+/// The test, if it is there: where it does not hold it leads to where so many items are left.
+pub fn put_test(draft: &mut Draft<'_>, test: &Option<Value>, end: usize) -> Result<(), AllocError>
+    ensures { OnOk result (Writes draft.old draft.new (λ n at. test_items at (option_map value_of test.now) (n - end))) }
+{
+    match test {
+        None => Ok(()),
+        Some(value) => put_value(draft, value, Wanted::Branch(false, end)),
+    }
+}

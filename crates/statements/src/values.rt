@@ -1,0 +1,145 @@
+//! Values that are known before a story runs, and what begins a case, read from tokens.
+
+ghost use Rattle.std.specs.Prelude.{◌≡◌, map};
+ghost use Rattle.lexer.specs.Token.{lexeme, lexemes};
+ghost use Rattle.expressions.specs.Parse.{Gives, head, tail};
+ghost use Rattle.statements.specs.Nesting as nesting;
+ghost use Rattle.statements.specs.Tree.{literal_tree, range_tree};
+ghost use Rattle.statements.specs.Parse as spec;
+
+use crate::tree::{Literal, Range};
+use expressions::{Fault, Name, ParseError, fault_at, is_sign, is_word, peek, skip};
+use lexer::{Kind, Sign, Token, Word};
+use std::alloc::Global;
+
+// The number behind a `-`.
+fn negative<'t, 'a>(tokens: &'t [Token<'a>]) -> Result<(Literal<'a>, &'t [Token<'a>]), ParseError>
+    ensures { Gives (λ x. (literal_tree x.0, lexemes x.1.now)) result
+        (spec.negative_on (head (lexemes tokens.now)) (tail (lexemes tokens.now))) }
+{
+    match peek(tokens).kind {
+        Kind::Number(number) => Ok((Literal::Number(number.wrapping_neg()), skip(tokens))),
+        _ => Err(fault_at(Fault::Grammar, tokens)),
+    }
+}
+
+/// A value that is known before a story runs.
+///
+/// # Errors
+///
+/// `Fault::Grammar`: the tokens begin no value.
+#[tactic(auto, unfolding(crate::specs::Parse::known_value))]
+pub fn known_value<'t, 'a>(
+    tokens: &'t [Token<'a>],
+) -> Result<(Literal<'a>, &'t [Token<'a>]), ParseError>
+    ensures { Gives (λ x. (literal_tree x.0, lexemes x.1.now)) result (spec.known_value (lexemes tokens.now)) }
+{
+    let first = peek(tokens);
+    let rest = skip(tokens);
+    match first.kind {
+        Kind::Number(number) => Ok((Literal::Number(number), rest)),
+        Kind::Character(character) => Ok((Literal::Number(character as u16), rest)),
+        Kind::Reserved(Word::True) => Ok((Literal::Number(1), rest)),
+        Kind::Reserved(Word::False) => Ok((Literal::Number(0), rest)),
+        Kind::Reserved(Word::Nothing) => Ok((Literal::Number(0), rest)),
+        Kind::Name(text) => {
+            let name = Name {
+                text,
+                position: first.position,
+            };
+            Ok((Literal::Named(name), rest))
+        }
+        Kind::Sign(Sign::Minus) => negative(rest),
+        _ => Err(fault_at(Fault::Grammar, tokens)),
+    }
+}
+
+/// Whether a value can begin with the token.
+pub fn begins_value(token: Token<'_>) -> bool
+    ensures { result ≡ spec.begins_value (lexeme token.entry) }
+{
+    match token.kind {
+        Kind::Number(_) | Kind::Character(_) | Kind::Name(_) => true,
+        Kind::Reserved(word) => matches!(word, Word::True | Word::False | Word::Nothing),
+        Kind::Sign(sign) => matches!(sign, Sign::Minus),
+        _ => false,
+    }
+}
+
+// Whether the token can stand behind a value at the beginning of a case.
+fn goes_on_in_case(token: Token<'_>) -> bool
+    ensures { result ≡ nesting.goes_on_in_case (lexeme token.entry) }
+{
+    match token.kind {
+        Kind::Sign(sign) => matches!(sign, Sign::Comma | Sign::Colon),
+        Kind::Reserved(word) => matches!(word, Word::To),
+        _ => false,
+    }
+}
+
+// Whether a case can begin with these three tokens.
+fn case_begins(first: Token<'_>, second: Token<'_>, third: Token<'_>) -> bool
+    ensures { result ≡ nesting.case_begins (lexeme first.entry) (lexeme second.entry) (lexeme third.entry) }
+{
+    match first.kind {
+        Kind::Number(_) | Kind::Character(_) | Kind::Name(_) => goes_on_in_case(second),
+        Kind::Reserved(Word::True | Word::False | Word::Nothing) => goes_on_in_case(second),
+        Kind::Sign(Sign::Minus) => match second.kind {
+            Kind::Number(_) => goes_on_in_case(third),
+            _ => false,
+        },
+        _ => false,
+    }
+}
+
+/// Whether the tokens begin a case of a `switch`: a value, and `,`, `to` or `:` behind it.
+#[tactic(auto, unfolding(crate::specs::Nesting::begins_case))]
+pub fn begins_case(tokens: &[Token<'_>]) -> bool
+    ensures { result ≡ nesting.begins_case (lexemes tokens.now) }
+{
+    let behind = skip(tokens);
+    case_begins(peek(tokens), peek(behind), peek(skip(behind)))
+}
+
+// The values for which a case is meant: one alone, or those from one to another.
+#[tactic(auto, unfolding(crate::specs::Parse::range))]
+fn range<'t, 'a>(tokens: &'t [Token<'a>]) -> Result<(Range<'a>, &'t [Token<'a>]), ParseError>
+    ensures { Gives (λ x. (range_tree x.0, lexemes x.1.now)) result (spec.range (lexemes tokens.now)) }
+{
+    let (low, rest) = known_value(tokens)?;
+    if !is_word(peek(rest), Word::To) {
+        return Ok((Range { low, high: None }, rest));
+    }
+    let (high, rest) = known_value(skip(rest))?;
+    let range = Range {
+        low,
+        high: Some(high),
+    };
+    Ok((range, rest))
+}
+
+/// What a case is meant for, with commas between its ranges.
+///
+/// # Errors
+///
+/// `Fault::Grammar`: the tokens begin no value; `Memory`: a growth is refused.
+#[tactic(auto, unfolding(crate::specs::Parse::ranges, expressions::specs::Parse::list), using(crate::proofs::Loops::further_out, crate::proofs::Loops::further_done, crate::proofs::Loops::further_more, crate::proofs::Loops::further_fails))]
+pub fn ranges<'t, 'a>(
+    alloc: Global,
+    tokens: &'t [Token<'a>],
+) -> Result<(Vec<Range<'a>>, &'t [Token<'a>]), ParseError>
+    ensures { Gives (λ x. (map range_tree x.0.items, lexemes x.1.now)) result (spec.ranges (lexemes tokens.now)) }
+{
+    let mut found = Vec::new(alloc);
+    let (first, mut rest) = range(tokens)?;
+    found.push(first)?;
+    for _turn in 0..rest.len() {
+        if !is_sign(peek(rest), Sign::Comma) {
+            break;
+        }
+        let (next, after) = range(skip(rest))?;
+        found.push(next)?;
+        rest = after;
+    }
+    Ok((found, rest))
+}
