@@ -1,31 +1,36 @@
 -- A program that breaks no rule resolves to one within the limits.
-use Rattle.std.proofs.Common.{◌≡◌, ℕ, ◌+◌, ◌<◌, ◌≤◌, nat_le, false, List, [], ◌∷◌, ◌++◌, length, Option, Some, None}
+use Rattle.std.proofs.Common.{◌≡◌, ℕ, ◌+◌, ◌^◌, ◌<◌, ◌≤◌, nat_le, false, List, [], ◌∷◌, ◌++◌, length, Option, Some, None}
 use Rattle.std.proofs.Common.{cond, refl, sym, subst, length-append, arith}
 use Rattle.std.specs.List.{All}
+use Rattle.std.specs.List.Sorted.{IsStrictlyIncreasing}
 use Rattle.std.proofs.lemmas.Bool.Decides.{nat_tests}
 use Rattle.std.proofs.lemmas.List.Elements.{All-nil, All-cons}
 use Rattle.lexer.specs.declared.token.Position.{Position}
 use Rattle.expressions.specs.Tree.{NameTree}
 use Rattle.syntax.specs.Tree.{RoutineTree, DirectiveTree, global, constant, array, routine}
-use Rattle.checker.specs.declared.binding.Binding.{Binding}
-use Rattle.checker.specs.declared.binding.Binding.TheVariants as bindings
-use Rattle.checker.specs.Breaches.{at}
-use Rattle.checker.specs.declared.counts.Counts.{Counts}
-use Rattle.checker.specs.Names.{Table, in_table, first_table, no_counts, counts_after, with_directive, table_of}
-use Rattle.checker.specs.Names.{look_up}
-use Rattle.checker.specs.Resolved.{ProgramOf}
-use Rattle.checker.specs.Meaning.{routine_at}
-use Rattle.checker.specs.Statements.{outside, statements_breaches}
-use Rattle.checker.specs.Literals.{initial_breaches}
+use Rattle.names.specs.declared.binding.Binding.{Binding}
+use Rattle.names.specs.declared.binding.Binding.TheVariants as bindings
+use Rattle.names.specs.Breaches.{at}
+use Rattle.names.specs.declared.counts.Counts.{Counts}
+use Rattle.names.specs.Names.{Table, in_table, first_table, no_counts, counts_after, with_directive, table_of}
+use Rattle.names.specs.Names.{File, look_up, seen_from}
+use Rattle.names.specs.Keys.{keys_of}
+use Rattle.meaning.specs.Resolved.{ProgramOf}
+use Rattle.meaning.specs.Meaning.{routine_at}
+use Rattle.rules.specs.Statements.{statements_breaches}
+use Rattle.meaning.specs.Around.{outside}
+use Rattle.rules.specs.Literals.{initial_breaches}
 use Rattle.checker.specs.Arrays.{array_breaches, array_bytes}
 use Rattle.checker.specs.Programs.{twice, has_local, locals_breaches, routine_breaches}
 use Rattle.checker.specs.Programs.{directive_breaches, directives_breaches, main_key, first_routine, position_or}
 use Rattle.checker.specs.Programs.{main_breaches, program_breaches, globals_of, arrays_of, resolve_routine}
 use Rattle.checker.specs.Programs.{routines_of}
-use Rattle.checker.specs.Programs.{routine_number, resolve_program}
-use Rattle.checker.specs.Accepted.{IsRoutine, IsArray, IsAccepted}
+use Rattle.checker.specs.Programs.{routine_number, resolve_with, file_of, resolve_program}
+use Rattle.meaning.specs.Accepted.{IsRoutine, IsArray, IsAccepted}
 use Rattle.checker.specs.Laws.{AcceptedPrograms}
 use Rattle.checker.proofs.Whole.{made}
+use Rattle.names.proofs.Gathered.{keys_ascend}
+use Rattle.names.proofs.SmallKeys.{keys_small}
 use Rattle.checker.proofs.ArrayBytes.{array_short}
 use Rattle.checker.proofs.Unbroken.{left_empty, right_empty, kept, IsMeant, statements_within}
 use Rattle.checker.proofs.Unbroken.{statements_stand}
@@ -50,103 +55,103 @@ locals_few before (l ∷ ls) few h =
     (right_empty many (locals_breaches (before ++ l ∷ []) ls) rest) in
     omega (arith, all, longer)
 
-globals_few : (whole t : Table) (counts : Counts) (ds : List DirectiveTree) → counts.globals ≤ 232
-    → directives_breaches whole t counts ds ≡ [] → counts.globals + length (globals_of whole ds) ≤ 232
-globals_few whole t counts [] few h = omega (arith, few)
-globals_few whole t counts (global n v ∷ ds) few h =
+globals_few : (file : File) (t : Table) (counts : Counts) (ds : List DirectiveTree) → counts.globals ≤ 232
+    → directives_breaches file.table t counts ds ≡ [] → counts.globals + length (globals_of file ds) ≤ 232
+globals_few file t counts [] few h = omega (arith, few)
+globals_few file t counts (global n v ∷ ds) few h =
     let d = global n v in
-    let own = directive_breaches whole t counts d in
-    let rest = directives_breaches whole (with_directive t counts d) (counts_after counts d) ds in
+    let own = directive_breaches file.table t counts d in
+    let rest = directives_breaches file.table (with_directive t counts d) (counts_after counts d) ds in
     let many = cond (nat_le 232 counts.globals) (at n.position 24) [] in
-    let here = left_empty many (initial_breaches whole v)
-    (right_empty (twice t n) (many ++ initial_breaches whole v) (left_empty own rest h)) in
+    let here = left_empty many (initial_breaches file.table v)
+    (right_empty (twice t n) (many ++ initial_breaches file.table v) (left_empty own rest h)) in
     let room = below 232 counts.globals (kept (nat_le 232 counts.globals) n.position 24 here) in
-    let all = globals_few whole (with_directive t counts d) (counts_after counts d) ds (omega (arith, room))
+    let all = globals_few file (with_directive t counts d) (counts_after counts d) ds (omega (arith, room))
     (right_empty own rest h) in
     omega (arith, all)
-globals_few whole t counts (constant n v ∷ ds) few h =
+globals_few file t counts (constant n v ∷ ds) few h =
     let d = constant n v in
-    globals_few whole (with_directive t counts d) counts ds few
-    (right_empty (directive_breaches whole t counts d)
-    (directives_breaches whole (with_directive t counts d) counts ds) h)
-globals_few whole t counts (array a ∷ ds) few h =
+    globals_few file (with_directive t counts d) counts ds few
+    (right_empty (directive_breaches file.table t counts d)
+    (directives_breaches file.table (with_directive t counts d) counts ds) h)
+globals_few file t counts (array a ∷ ds) few h =
     let d = array a in
-    globals_few whole (with_directive t counts d) (counts_after counts d) ds few
-    (right_empty (directive_breaches whole t counts d)
-    (directives_breaches whole (with_directive t counts d) (counts_after counts d) ds) h)
-globals_few whole t counts (routine r ∷ ds) few h =
+    globals_few file (with_directive t counts d) (counts_after counts d) ds few
+    (right_empty (directive_breaches file.table t counts d)
+    (directives_breaches file.table (with_directive t counts d) (counts_after counts d) ds) h)
+globals_few file t counts (routine r ∷ ds) few h =
     let d = routine r in
-    globals_few whole (with_directive t counts d) (counts_after counts d) ds few
-    (right_empty (directive_breaches whole t counts d)
-    (directives_breaches whole (with_directive t counts d) (counts_after counts d) ds) h)
+    globals_few file (with_directive t counts d) (counts_after counts d) ds few
+    (right_empty (directive_breaches file.table t counts d)
+    (directives_breaches file.table (with_directive t counts d) (counts_after counts d) ds) h)
 
 -- Arrays
 
-arrays_within : (whole t : Table) (counts : Counts) (ds : List DirectiveTree)
-    → directives_breaches whole t counts ds ≡ [] → All IsArray (arrays_of whole ds)
-arrays_within whole t counts [] h = All-nil IsArray
-arrays_within whole t counts (global n v ∷ ds) h =
+arrays_within : (file : File) (t : Table) (counts : Counts) (ds : List DirectiveTree)
+    → directives_breaches file.table t counts ds ≡ [] → All IsArray (arrays_of file ds)
+arrays_within file t counts [] h = All-nil IsArray
+arrays_within file t counts (global n v ∷ ds) h =
     let d = global n v in
-    arrays_within whole (with_directive t counts d) (counts_after counts d) ds
-    (right_empty (directive_breaches whole t counts d)
-    (directives_breaches whole (with_directive t counts d) (counts_after counts d) ds) h)
-arrays_within whole t counts (constant n v ∷ ds) h =
+    arrays_within file (with_directive t counts d) (counts_after counts d) ds
+    (right_empty (directive_breaches file.table t counts d)
+    (directives_breaches file.table (with_directive t counts d) (counts_after counts d) ds) h)
+arrays_within file t counts (constant n v ∷ ds) h =
     let d = constant n v in
-    arrays_within whole (with_directive t counts d) counts ds
-    (right_empty (directive_breaches whole t counts d)
-    (directives_breaches whole (with_directive t counts d) counts ds) h)
-arrays_within whole t counts (array a ∷ ds) h =
+    arrays_within file (with_directive t counts d) counts ds
+    (right_empty (directive_breaches file.table t counts d)
+    (directives_breaches file.table (with_directive t counts d) counts ds) h)
+arrays_within file t counts (array a ∷ ds) h =
     let d = array a in
-    let own = directive_breaches whole t counts d in
-    let rest = directives_breaches whole (with_directive t counts d) (counts_after counts d) ds in
-    All-cons IsArray (array_bytes whole a) (arrays_of whole ds)
-    (array_short whole a (right_empty (twice t a.name) (array_breaches whole a) (left_empty own rest h)))
-    (arrays_within whole (with_directive t counts d) (counts_after counts d) ds (right_empty own rest h))
-arrays_within whole t counts (routine r ∷ ds) h =
+    let own = directive_breaches file.table t counts d in
+    let rest = directives_breaches file.table (with_directive t counts d) (counts_after counts d) ds in
+    All-cons IsArray (array_bytes file a) (arrays_of file ds)
+    (array_short file a (right_empty (twice t a.name) (array_breaches file.table a) (left_empty own rest h)))
+    (arrays_within file (with_directive t counts d) (counts_after counts d) ds (right_empty own rest h))
+arrays_within file t counts (routine r ∷ ds) h =
     let d = routine r in
-    arrays_within whole (with_directive t counts d) (counts_after counts d) ds
-    (right_empty (directive_breaches whole t counts d)
-    (directives_breaches whole (with_directive t counts d) (counts_after counts d) ds) h)
+    arrays_within file (with_directive t counts d) (counts_after counts d) ds
+    (right_empty (directive_breaches file.table t counts d)
+    (directives_breaches file.table (with_directive t counts d) (counts_after counts d) ds) h)
 
 -- Routines
 
-module _ (p : ProgramOf) (whole : Table)
-    (entries : AreEntries (length p.globals) (length p.arrays) p.routines whole) where
-  routine_within : (r : RoutineTree) → routine_breaches whole r ≡ [] → IsRoutine p (resolve_routine whole r)
+module _ (p : ProgramOf) (file : File)
+    (entries : AreEntries (length p.globals) (length p.arrays) p.routines file.table) where
+  routine_within : (r : RoutineTree) → routine_breaches file.table r ≡ [] → IsRoutine p (resolve_routine file r)
   routine_within r h =
       let names = locals_breaches [] r.locals in
-      let body = statements_breaches (look_up whole r.locals) outside r.body in
+      let body = statements_breaches (look_up file.table r.locals) outside r.body in
       let few = locals_few [] r.locals (omega arith) (left_empty names body h) in (
         omega (arith, few),
-        statements_within p (length r.locals) (look_up whole r.locals)
-            (λ name. name_meant p whole r.locals name entries) outside r.body (right_empty names body h),
-        statements_stand (look_up whole r.locals) outside r.body (right_empty names body h),
+        statements_within p (length r.locals) (seen_from file r.locals)
+            (λ name. name_meant p file.table r.locals name entries) outside r.body (right_empty names body h),
+        statements_stand (seen_from file r.locals) outside r.body (right_empty names body h),
       )
 
   routines_within : (t : Table) (counts : Counts) (ds : List DirectiveTree)
-      → directives_breaches whole t counts ds ≡ [] → All (IsRoutine p) (routines_of whole ds)
+      → directives_breaches file.table t counts ds ≡ [] → All (IsRoutine p) (routines_of file ds)
   routines_within t counts [] h = All-nil (IsRoutine p)
   routines_within t counts (global n v ∷ ds) h =
       let d = global n v in
       routines_within (with_directive t counts d) (counts_after counts d) ds
-      (right_empty (directive_breaches whole t counts d)
-      (directives_breaches whole (with_directive t counts d) (counts_after counts d) ds) h)
+      (right_empty (directive_breaches file.table t counts d)
+      (directives_breaches file.table (with_directive t counts d) (counts_after counts d) ds) h)
   routines_within t counts (constant n v ∷ ds) h =
       let d = constant n v in
       routines_within (with_directive t counts d) counts ds
-      (right_empty (directive_breaches whole t counts d)
-      (directives_breaches whole (with_directive t counts d) counts ds) h)
+      (right_empty (directive_breaches file.table t counts d)
+      (directives_breaches file.table (with_directive t counts d) counts ds) h)
   routines_within t counts (array a ∷ ds) h =
       let d = array a in
       routines_within (with_directive t counts d) (counts_after counts d) ds
-      (right_empty (directive_breaches whole t counts d)
-      (directives_breaches whole (with_directive t counts d) (counts_after counts d) ds) h)
+      (right_empty (directive_breaches file.table t counts d)
+      (directives_breaches file.table (with_directive t counts d) (counts_after counts d) ds) h)
   routines_within t counts (routine r ∷ ds) h =
       let d = routine r in
-      let own = directive_breaches whole t counts d in
-      let rest = directives_breaches whole (with_directive t counts d) (counts_after counts d) ds in
-      All-cons (IsRoutine p) (resolve_routine whole r) (routines_of whole ds)
-      (routine_within r (right_empty (twice t r.name) (routine_breaches whole r) (left_empty own rest h)))
+      let own = directive_breaches file.table t counts d in
+      let rest = directives_breaches file.table (with_directive t counts d) (counts_after counts d) ds in
+      All-cons (IsRoutine p) (resolve_routine file r) (routines_of file ds)
+      (routine_within r (right_empty (twice t r.name) (routine_breaches file.table r) (left_empty own rest h)))
       (routines_within (with_directive t counts d) (counts_after counts d) ds (right_empty own rest h))
 
   -- Main
@@ -170,31 +175,35 @@ module _ (p : ProgramOf) (whole : Table)
 
 -- Programs
 
-accepted : (ds : List DirectiveTree) (end : Position) (name : Option NameTree) (whole : Table) → whole ≡ table_of ds
-    → directives_breaches whole first_table no_counts ds ++ main_breaches end name (in_table whole main_key) ≡ []
+accepted : (ds : List DirectiveTree) (end : Position) (name : Option NameTree) (keys : List ℕ) (file : File)
+    → All (λ k. k < 2 ^ 48) keys → IsStrictlyIncreasing keys → file.table ≡ table_of ds
+    → directives_breaches file.table first_table no_counts ds ++ main_breaches end name (in_table file.table main_key)
+    ≡ []
     → IsAccepted
-    (made (globals_of whole ds) (arrays_of whole ds) (routines_of whole ds)
-    (routine_number (in_table whole main_key)))
-accepted ds end name whole is h =
-    let p : ProgramOf = made (globals_of whole ds) (arrays_of whole ds) (routines_of whole ds)
-    (routine_number (in_table whole main_key)) in
-    let entries : AreEntries (length p.globals) (length p.arrays) p.routines whole = subst
+    (made (globals_of file ds) (arrays_of file ds) keys (routines_of file ds)
+    (routine_number (in_table file.table main_key)))
+accepted ds end name keys file small ascending is h =
+    let p : ProgramOf = made (globals_of file ds) (arrays_of file ds) keys (routines_of file ds)
+    (routine_number (in_table file.table main_key)) in
+    let entries : AreEntries (length p.globals) (length p.arrays) p.routines file.table = subst
     (λ (t : Table). AreEntries (length p.globals) (length p.arrays) p.routines t) (sym is)
-    (file_entries (length p.globals) (length p.arrays) p.routines whole ds refl refl refl) in
-    let all = directives_breaches whole first_table no_counts ds in
-    let main = main_breaches end name (in_table whole main_key) in
-    let kept_main = main_within p whole entries end name (in_table whole main_key)
-    (found_meant p 0 whole main_key entries) (right_empty all main h) in
-    let few = globals_few whole first_table no_counts ds (omega arith) (left_empty all main h) in
+    (file_entries (length p.globals) (length p.arrays) p.routines file ds refl refl refl) in
+    let all = directives_breaches file.table first_table no_counts ds in
+    let main = main_breaches end name (in_table file.table main_key) in
+    let kept_main = main_within p file entries end name (in_table file.table main_key)
+    (found_meant p 0 file.table main_key entries) (right_empty all main h) in
+    let few = globals_few file first_table no_counts ds (omega arith) (left_empty all main h) in
     record {
       globals = omega (arith, few);
-      arrays = arrays_within whole first_table no_counts ds (left_empty all main h);
-      routines = routines_within p whole entries first_table no_counts ds (left_empty all main h);
+      arrays = arrays_within file first_table no_counts ds (left_empty all main h);
+      routines = routines_within p file entries first_table no_counts ds (left_empty all main h);
       main = kept_main.there;
       alone = kept_main.alone;
+      keys = small;
+      ascending = ascending;
     }
 
 pub accepted_programs : AcceptedPrograms
-unfolding program_breaches resolve_program
-accepted_programs p h = accepted p.directives p.end (first_routine p.directives main_key) (table_of p.directives)
-    refl h
+unfolding program_breaches resolve_program resolve_with file_of
+accepted_programs p h = accepted p.directives p.end (first_routine p.directives main_key) (keys_of p.words) (file_of p)
+    (keys_small p.words) (keys_ascend p.words) refl h

@@ -1,6 +1,6 @@
 -- What arrays begin with, part by part.
 use Rattle.std.proofs.Common.{◌≡◌, ◌≢◌, ℕ, suc, ◌+◌, ◌-◌, ◌*◌, ◌<◌, ◌≤◌, Bool, true, false, cond, nat_le, List}
-use Rattle.std.proofs.Common.{[], ◌∷◌, ◌++◌, length, drop, slice_index_or, Option, Some, append_assoc, refl, sym, ap}
+use Rattle.std.proofs.Common.{[], ◌∷◌, ◌++◌, length, drop, slice_index_or, Option, Some, None, append_assoc, refl, sym, ap}
 use Rattle.std.proofs.Common.{◌∙◌, arith}
 use Rattle.std.specs.Prelude.{map, replicate, ◌&&◌}
 use Rattle.std.specs.List.{flat_map}
@@ -15,18 +15,21 @@ use Rattle.syntax.specs.declared.tree.ArrayKind.TheVariants as kinds
 use Rattle.syntax.specs.declared.tree.ArrayValue.{ArrayValue}
 use Rattle.statements.specs.Tree.{literal_tree}
 use Rattle.syntax.specs.Tree.{ValueTree, ArrayTree, value_tree}
-use Rattle.checker.specs.declared.arrays.Arrays.{Arrays}
-use Rattle.checker.specs.declared.breach.Breach.{Breach}
-use Rattle.checker.specs.Breaches.{at}
-use Rattle.checker.specs.Names.{Table, literal_number, or_zero}
-use Rattle.checker.specs.Noted.{noted}
-use Rattle.checker.specs.Literals.{literal_breaches}
-use Rattle.checker.specs.Arrays.{width_of, array_size, is_told, is_size, size_breaches, entry_breaches}
+use Rattle.meaning.specs.declared.arrays.Arrays.{Arrays}
+use Rattle.names.specs.declared.breach.Breach.{Breach}
+use Rattle.names.specs.Breaches.{at}
+use Rattle.names.specs.declared.known.Known.{Known}
+use Rattle.names.specs.declared.known.Known.TheVariants as knowns
+use Rattle.names.specs.Names.{Table, File, literal_known}
+use Rattle.names.specs.Noted.{noted}
+use Rattle.rules.specs.Literals.{literal_breaches}
+use Rattle.checker.specs.Arrays.{width_of, array_size, is_told, is_size, count_breaches, size_breaches, entry_breaches}
 use Rattle.checker.specs.Arrays.{values_breaches, entry_value, zeros, entries_of, entry_bytes, bytes_of}
 use Rattle.checker.specs.Arrays.{array_breaches, array_bytes}
-use Rattle.checker.specs.Walk.{most, number_bytes, own_entry_bytes, own_entry_breaches, IsArrayAdded}
-use Rattle.checker.proofs.Noted.{noted_none, noted_append, noted_two}
-use Rattle.checker.proofs.Directives.{drop_cons, drop_end, nothing_more}
+use Rattle.checker.specs.Found.{most, number_bytes, own_entry_bytes, own_entry_breaches, IsArrayAdded}
+use Rattle.names.proofs.Noted.{noted_none, noted_append, noted_two}
+use Rattle.names.proofs.Dropped.{drop_cons, drop_end}
+use Rattle.checker.proofs.Directives.{nothing_more}
 use Rattle.checker.proofs.Unbroken.{left_empty}
 
 -- Sizes
@@ -75,9 +78,14 @@ none_short kinds.Words = omega arith
 none_short kinds.String = omega arith
 none_short kinds.Table = omega arith
 
-zeros_short : (kind : ArrayKind) (n : ℕ) (c : Bool) → is_size kind n ≡ c → array_size kind (cond c n 0) ≤ 32000
-zeros_short kind n true h = size_within kind n h
-zeros_short kind n false h = none_short kind
+number_short : (kind : ArrayKind) (n : ℕ) (c : Bool) → is_size kind n ≡ c → array_size kind (cond c n 0) ≤ 32000
+number_short kind n true h = size_within kind n h
+number_short kind n false h = none_short kind
+
+zeros_short : (kind : ArrayKind) (size : Option Known) → array_size kind (zeros kind size) ≤ 32000
+zeros_short kind None = none_short kind
+zeros_short kind (Some (knowns.Number n)) = number_short kind n (is_size kind n) refl
+zeros_short kind (Some (knowns.Key key)) = none_short kind
 
 map_length : {A B : Type 0} (f : A → B) (xs : List A) → length (map f xs) ≡ length xs
 map_length f [] = refl
@@ -94,22 +102,44 @@ is_kept : (c : Bool) (p : Position) → cond c [] (at p 28) ≡ [] → c ≡ tru
 is_kept true p h = refl
 is_kept false p h = absurd cc
 
-values_short : (whole : Table) (p : Position) (kind : ArrayKind) (vs : List ValueTree)
-    → values_breaches whole p kind vs ≡ [] → length (bytes_of kind (entries_of whole kind vs)) ≤ 32000
-values_short whole p kind [] h = short_of kind [] 0 refl (none_short kind)
-values_short whole p kind (v ∷ []) h =
-    let n = entry_value whole v in
-    short_of kind (replicate (zeros kind n) 0) (zeros kind n) (length-replicate (zeros kind n) 0)
-    (zeros_short kind n (is_size kind n) refl)
-values_short whole p kind (v ∷ w ∷ vs) h =
+values_short : (file : File) (p : Position) (kind : ArrayKind) (vs : List ValueTree)
+    → values_breaches file.table p kind vs ≡ [] → length (bytes_of kind (entries_of file kind vs)) ≤ 32000
+values_short file p kind [] h = short_of kind [] 0 refl (none_short kind)
+values_short file p kind (v ∷ []) h =
+    let n = zeros kind (literal_known file.table v.value) in
+    short_of kind (replicate n 0) n (length-replicate n 0) (zeros_short kind (literal_known file.table v.value))
+values_short file p kind (v ∷ w ∷ vs) h =
     let n = length (v ∷ w ∷ vs) in
     let fits = is_kept (is_size kind n) p
-    (left_empty (size_breaches p kind (Some n)) (flat_map (entry_breaches whole (width_of kind)) (v ∷ w ∷ vs)) h) in
-    short_of kind (map (entry_value whole) (v ∷ w ∷ vs)) n (map_length (entry_value whole) (v ∷ w ∷ vs))
+    (left_empty (count_breaches p kind n) (flat_map (entry_breaches file.table (width_of kind)) (v ∷ w ∷ vs)) h) in
+    short_of kind (map (entry_value file) (v ∷ w ∷ vs)) n (map_length (entry_value file) (v ∷ w ∷ vs))
     (size_within kind n fits)
 
-pub array_short : (whole : Table) (a : ArrayTree) → array_breaches whole a ≡ [] → length (array_bytes whole a) ≤ 32000
-array_short whole a h = values_short whole a.name.position a.kind a.values h
+pub array_short : (file : File) (a : ArrayTree) → array_breaches file.table a ≡ []
+    → length (array_bytes file a) ≤ 32000
+array_short file a h = values_short file a.name.position a.kind a.values h
+
+-- How many bytes an array has does not rest on the numbers of keys
+
+abbrev with_numbers : Table → (ℕ → ℕ) → File
+with_numbers table number = record { table = table; number = number }
+
+entries_alike : (table : Table) (f g : ℕ → ℕ) (kind : ArrayKind) (vs : List ValueTree)
+    → length (entries_of (with_numbers table f) kind vs) ≡ length (entries_of (with_numbers table g) kind vs)
+entries_alike table f g kind [] = refl
+entries_alike table f g kind (v ∷ []) = refl
+entries_alike table f g kind (v ∷ w ∷ vs) =
+    map_length (entry_value (with_numbers table f)) (v ∷ w ∷ vs)
+    ∙ sym (map_length (entry_value (with_numbers table g)) (v ∷ w ∷ vs))
+
+pub array_alike : (table : Table) (f g : ℕ → ℕ) (a : ArrayTree)
+    → length (array_bytes (record { table = table; number = f }) a)
+    ≡ length (array_bytes (record { table = table; number = g }) a)
+array_alike table f g a =
+    let left : List ℕ = entries_of (with_numbers table f) a.kind a.values in
+    let right : List ℕ = entries_of (with_numbers table g) a.kind a.values in
+    bytes_length a.kind left ∙ ap (array_size a.kind) (entries_alike table f g a.kind a.values)
+    ∙ sym (bytes_length a.kind right)
 
 -- Parts that are added
 
@@ -126,12 +156,12 @@ one_added {A = A} f xs i d before after whole lt more h =
     ∙ h)
 
 -- one more entry is added
-pub entry_added : (whole : Table) (w : Width) (xs : List ArrayValue) (i : ℕ) (d : ArrayValue) (n : ℕ)
-    (before after all : List ℕ) → i < length xs → n ≡ entry_value whole (value_tree (slice_index_or xs i d))
-    → after ≡ before ++ entry_bytes w n → before ++ flat_map (own_entry_bytes whole w) (drop i xs) ≡ all
-    → after ++ flat_map (own_entry_bytes whole w) (drop (i + 1) xs) ≡ all
-entry_added whole w xs i d n before after all lt is more h =
-    one_added (own_entry_bytes whole w) xs i d before after all lt
+pub entry_added : (file : File) (w : Width) (xs : List ArrayValue) (i : ℕ) (d : ArrayValue) (n : ℕ)
+    (before after all : List ℕ) → i < length xs → n ≡ entry_value file (value_tree (slice_index_or xs i d))
+    → after ≡ before ++ entry_bytes w n → before ++ flat_map (own_entry_bytes file w) (drop i xs) ≡ all
+    → after ++ flat_map (own_entry_bytes file w) (drop (i + 1) xs) ≡ all
+entry_added file w xs i d n before after all lt is more h =
+    one_added (own_entry_bytes file w) xs i d before after all lt
     (more ∙ ap (λ (k : ℕ). before ++ entry_bytes w k) is) h
 
 -- and its rules are noted
@@ -186,33 +216,33 @@ alone (x ∷ []) d n = refl
 alone (x ∷ y ∷ xs) d n = absurd (omega (arith, n))
 
 pub sized_breaks : (whole : Table) (position : Position) (kind : ArrayKind) (values : List ArrayValue)
-    (d : ArrayValue) (size : Option ℕ) (m o q : Option Breach) → length values ≡ 1
-    → size ≡ literal_number whole (literal_tree (slice_index_or values 0 d).value)
+    (d : ArrayValue) (size : Option Known) (m o q : Option Breach) → length values ≡ 1
+    → size ≡ literal_known whole (literal_tree (slice_index_or values 0 d).value)
     → o ≡ noted m (literal_breaches whole (literal_tree (slice_index_or values 0 d).value))
     → q ≡ noted o (size_breaches position kind size)
     → q ≡ noted m (values_breaches whole position kind (map value_tree values))
 sized_breaks whole position kind values d size m o q one number a b =
     let tree = literal_tree (slice_index_or values 0 d).value in
-    noted_two m o q (literal_breaches whole tree) (size_breaches position kind (literal_number whole tree)) a
-    (b ∙ ap (λ (s : Option ℕ). noted o (size_breaches position kind s)) number)
+    noted_two m o q (literal_breaches whole tree) (size_breaches position kind (literal_known whole tree)) a
+    (b ∙ ap (λ (s : Option Known). noted o (size_breaches position kind s)) number)
     ∙ ap (λ (vs : List ArrayValue). noted m (values_breaches whole position kind (map value_tree vs)))
     (sym (alone values d one))
 
-pub sized_adds : (whole : Table) (kind : ArrayKind) (values : List ArrayValue) (d : ArrayValue) (size : Option ℕ)
+pub sized_adds : (file : File) (kind : ArrayKind) (values : List ArrayValue) (d : ArrayValue) (size : Option Known)
     (n : ℕ) (old mid new : List ℕ) → length values ≡ 1
-    → size ≡ literal_number whole (literal_tree (slice_index_or values 0 d).value) → n ≡ zeros kind (or_zero size)
+    → size ≡ literal_known file.table (literal_tree (slice_index_or values 0 d).value) → n ≡ zeros kind size
     → mid ≡ old ++ number_bytes kind n → new ≡ mid ++ flat_map (entry_bytes (width_of kind)) (replicate n 0)
-    → new ≡ old ++ bytes_of kind (entries_of whole kind (map value_tree values))
-sized_adds whole kind values d size n old mid new one number count a b =
-    let e : n ≡ zeros kind (entry_value whole (value_tree (slice_index_or values 0 d))) = count
-    ∙ ap (λ (s : Option ℕ). zeros kind (or_zero s)) number in
+    → new ≡ old ++ bytes_of kind (entries_of file kind (map value_tree values))
+sized_adds file kind values d size n old mid new one number count a b =
+    let e : n ≡ zeros kind (literal_known file.table (literal_tree (slice_index_or values 0 d).value)) = count
+    ∙ ap (zeros kind) number in
     b ∙ ap (λ (z : List ℕ). z ++ flat_map (entry_bytes (width_of kind)) (replicate n 0)) a
     ∙ append_assoc old (number_bytes kind n) (flat_map (entry_bytes (width_of kind)) (replicate n 0))
     ∙ ap (λ (k : ℕ). old ++ (number_bytes kind k ++ flat_map (entry_bytes (width_of kind)) (replicate n 0)))
     (sym (length-replicate n 0))
     ∙ ap (λ (z : List ℕ). old ++ z) (sym (number_first kind (replicate n 0)))
     ∙ ap (λ (k : ℕ). old ++ bytes_of kind (replicate k 0)) e
-    ∙ ap (λ (vs : List ArrayValue). old ++ bytes_of kind (entries_of whole kind (map value_tree vs)))
+    ∙ ap (λ (vs : List ArrayValue). old ++ bytes_of kind (entries_of file kind (map value_tree vs)))
     (sym (alone values d one))
 
 -- Several values
@@ -222,16 +252,16 @@ flat_map_map : {A B C : Type 0} (f : B → List C) (g : A → B) (xs : List A)
 flat_map_map f g [] = refl
 flat_map_map {C = C} f g (x ∷ xs) = ap (λ (r : List C). f (g x) ++ r) (flat_map_map f g xs)
 
-several_entries : (whole : Table) (kind : ArrayKind) (vs : List ValueTree) → length vs ≢ 1
-    → entries_of whole kind vs ≡ map (entry_value whole) vs
-several_entries whole kind [] n = refl
-several_entries whole kind (v ∷ []) n = absurd (n refl)
-several_entries whole kind (v ∷ w ∷ vs) n = refl
+several_entries : (file : File) (kind : ArrayKind) (vs : List ValueTree) → length vs ≢ 1
+    → entries_of file kind vs ≡ map (entry_value file) vs
+several_entries file kind [] n = refl
+several_entries file kind (v ∷ []) n = absurd (n refl)
+several_entries file kind (v ∷ w ∷ vs) n = refl
 
 several_break : (whole : Table) (p : Position) (kind : ArrayKind) (vs : List ValueTree) → length vs ≢ 1
     → values_breaches whole p kind vs
-    ≡ size_breaches p kind (Some (length vs)) ++ flat_map (entry_breaches whole (width_of kind)) vs
-several_break whole p kind [] n = nothing_more (size_breaches p kind (Some 0))
+    ≡ count_breaches p kind (length vs) ++ flat_map (entry_breaches whole (width_of kind)) vs
+several_break whole p kind [] n = nothing_more (count_breaches p kind 0)
 several_break whole p kind (v ∷ []) n = absurd (n refl)
 several_break whole p kind (v ∷ w ∷ vs) n = refl
 
@@ -240,38 +270,38 @@ still_several values n = λ e. n (sym (map_length value_tree values) ∙ e)
 
 pub listed_breaks : (whole : Table) (position : Position) (kind : ArrayKind) (values : List ArrayValue) (n : ℕ)
     (w : Width) (m o q : Option Breach) → length values ≢ 1 → n ≡ length values → w ≡ width_of kind
-    → o ≡ noted m (size_breaches position kind (Some n)) → q ≡ noted o (flat_map (own_entry_breaches whole w) values)
+    → o ≡ noted m (count_breaches position kind n) → q ≡ noted o (flat_map (own_entry_breaches whole w) values)
     → q ≡ noted m (values_breaches whole position kind (map value_tree values))
 listed_breaks whole position kind values n w m o q more count width a b =
     let trees = map value_tree values in
     let k : n ≡ length trees = count ∙ sym (map_length value_tree values) in
-    noted_two m o q (size_breaches position kind (Some (length trees)))
+    noted_two m o q (count_breaches position kind (length trees))
     (flat_map (entry_breaches whole (width_of kind)) trees)
-    (a ∙ ap (λ (j : ℕ). noted m (size_breaches position kind (Some j))) k)
+    (a ∙ ap (λ (j : ℕ). noted m (count_breaches position kind j)) k)
     (b ∙ ap (λ (v : Width). noted o (flat_map (own_entry_breaches whole v) values)) width
     ∙ ap (λ (bs : List Breach). noted o bs)
     (sym (flat_map_map (entry_breaches whole (width_of kind)) value_tree values)))
     ∙ ap (λ (bs : List Breach). noted m bs)
     (sym (several_break whole position kind trees (still_several values more)))
 
-pub listed_adds : (whole : Table) (kind : ArrayKind) (values : List ArrayValue) (n : ℕ) (w : Width)
+pub listed_adds : (file : File) (kind : ArrayKind) (values : List ArrayValue) (n : ℕ) (w : Width)
     (old mid new : List ℕ) → length values ≢ 1 → n ≡ length values → w ≡ width_of kind
-    → mid ≡ old ++ number_bytes kind n → new ≡ mid ++ flat_map (own_entry_bytes whole w) values
-    → new ≡ old ++ bytes_of kind (entries_of whole kind (map value_tree values))
-listed_adds whole kind values n w old mid new more count width a b =
+    → mid ≡ old ++ number_bytes kind n → new ≡ mid ++ flat_map (own_entry_bytes file w) values
+    → new ≡ old ++ bytes_of kind (entries_of file kind (map value_tree values))
+listed_adds file kind values n w old mid new more count width a b =
     let trees = map value_tree values in
-    let es : List ℕ = map (entry_value whole) trees in
-    let k : n ≡ length es = count ∙ sym (map_length value_tree values) ∙ sym (map_length (entry_value whole) trees) in
-    let flat : flat_map (own_entry_bytes whole w) values ≡ flat_map (entry_bytes (width_of kind)) es =
-    ap (λ (v : Width). flat_map (own_entry_bytes whole v) values) width
-    ∙ sym (flat_map_map (λ (t : ValueTree). entry_bytes (width_of kind) (entry_value whole t)) value_tree values)
-    ∙ sym (flat_map_map (entry_bytes (width_of kind)) (entry_value whole) trees) in
-    b ∙ ap (λ (z : List ℕ). z ++ flat_map (own_entry_bytes whole w) values) a
-    ∙ append_assoc old (number_bytes kind n) (flat_map (own_entry_bytes whole w) values)
+    let es : List ℕ = map (entry_value file) trees in
+    let k : n ≡ length es = count ∙ sym (map_length value_tree values) ∙ sym (map_length (entry_value file) trees) in
+    let flat : flat_map (own_entry_bytes file w) values ≡ flat_map (entry_bytes (width_of kind)) es =
+    ap (λ (v : Width). flat_map (own_entry_bytes file v) values) width
+    ∙ sym (flat_map_map (λ (t : ValueTree). entry_bytes (width_of kind) (entry_value file t)) value_tree values)
+    ∙ sym (flat_map_map (entry_bytes (width_of kind)) (entry_value file) trees) in
+    b ∙ ap (λ (z : List ℕ). z ++ flat_map (own_entry_bytes file w) values) a
+    ∙ append_assoc old (number_bytes kind n) (flat_map (own_entry_bytes file w) values)
     ∙ ap (λ (z : List ℕ). old ++ (number_bytes kind n ++ z)) flat
     ∙ ap (λ (j : ℕ). old ++ (number_bytes kind j ++ flat_map (entry_bytes (width_of kind)) es)) k
     ∙ ap (λ (z : List ℕ). old ++ z) (sym (number_first kind es))
-    ∙ ap (λ (z : List ℕ). old ++ bytes_of kind z) (sym (several_entries whole kind trees (still_several values more)))
+    ∙ ap (λ (z : List ℕ). old ++ bytes_of kind z) (sym (several_entries file kind trees (still_several values more)))
 
 -- a whole array
 pub array_added : (old new : Arrays) (bytes mid : List ℕ) (n : ℕ) → mid ≡ old.bytes.items ++ bytes

@@ -10,12 +10,12 @@ use Rattle.syntax.specs.declared.tree.ArrayKind.{ArrayKind}
 use Rattle.syntax.specs.declared.tree.ArrayKind.TheVariants as kinds
 use Rattle.syntax.specs.Tree as d
 use Rattle.syntax.specs.Tree.{DirectiveTree, ProgramTree}
-use Rattle.checker.specs.Breaches.{at}
-use Rattle.checker.specs.Programs.{program_breaches, resolve_program}
-use Rattle.checker.specs.Names.{table_of, key_of, look_up}
+use Rattle.names.specs.Breaches.{at}
+use Rattle.checker.specs.Programs.{program_breaches, resolve_with, file_of, resolve_program}
+use Rattle.names.specs.Names.{table_of, key_of, look_up}
 use Rattle.zcore.specs.Arithmetic.{signed_text, decimal, quotient, remainder}
-use Rattle.checker.specs.Temporaries.{need}
-use Rattle.checker.specs.Meaning.{meaning}
+use Rattle.rules.specs.Temporaries.{need}
+use Rattle.meaning.specs.Meaning.{meaning}
 use Rattle.checker.proofs.Samples.{p, the, item, words, routine, program, says}
 
 -- values, the first at position 1
@@ -54,22 +54,8 @@ unfolding program_breaches table_of key_of look_up
 four_kinds_fine = refl
 
 four_kinds_mean : meaning (resolve_program four_kinds) 1000 [] ≡ says (codes "300 2 98 2 6 44" ++ 10 ∷ [])
-unfolding meaning resolve_program table_of key_of look_up signed_text decimal quotient remainder
+unfolding meaning resolve_program resolve_with file_of table_of key_of look_up signed_text decimal quotient remainder
 four_kinds_mean = refl
-
--- Array b -> 3; [ Main; print b-->0; print b-->1; ];
-abbrev outside_array : ProgramTree
-outside_array = program
-    (array (codes "b") kinds.Bytes (3 ∷ [])
-    ∷ routine (codes "Main") []
-    (s.print (item (word (codes "b") (constant 0)) ∷ [])
-    ∷ s.print (item (word (codes "b") (constant 1)) ∷ []) ∷ [])
-    ∷ [])
-
-outside_array_means : meaning (resolve_program outside_array) 1000 []
-    ≡ says (codes "0" ++ 10 ∷ codes "[Fault: index out of range]" ++ 10 ∷ [])
-unfolding meaning resolve_program table_of key_of look_up signed_text decimal quotient remainder
-outside_array_means = refl
 
 -- Array b -> 4;
 -- [ Main; print b->1 = 511, " ", b-->0, " ", (b->3) = 7, " "; b-->1 = 258; print b->2, " ", b->3, "^"; ];
@@ -93,7 +79,7 @@ unfolding program_breaches table_of key_of look_up
 written_fine = refl
 
 written_means : meaning (resolve_program written) 1000 [] ≡ says (codes "511 255 7 1 2" ++ 10 ∷ [])
-unfolding meaning resolve_program table_of key_of look_up signed_text decimal quotient remainder
+unfolding meaning resolve_program resolve_with file_of table_of key_of look_up signed_text decimal quotient remainder
 written_means = refl
 
 -- Rules

@@ -3,13 +3,14 @@ use Rattle.std.proofs.Common.{◌≡◌, ℕ, ◌+◌, ◌<◌, ◌≤◌, Bool,
 use Rattle.std.proofs.Common.{None, cond, is_some, refl, sym, ap, ◌∙◌, append_assoc, length-append, arith}
 use Rattle.expressions.specs.Tree.{NameTree}
 use Rattle.syntax.specs.Tree.{DirectiveTree, global, constant, array, routine}
-use Rattle.checker.specs.declared.binding.Binding.{Binding}
-use Rattle.checker.specs.declared.binding.Binding.TheVariants as bindings
-use Rattle.checker.specs.declared.counts.Counts.{Counts}
-use Rattle.checker.specs.Names.{Table, key_of, same_key, in_table, first_table, literal_value, with_name, no_counts}
-use Rattle.checker.specs.Names.{counts_after, with_directive, table_from, table_of, local_from, local_first, look_up}
-use Rattle.checker.specs.Resolved.{RoutineOf, ProgramOf}
-use Rattle.checker.specs.Meaning.{routine_at}
+use Rattle.names.specs.declared.binding.Binding.{Binding}
+use Rattle.names.specs.declared.binding.Binding.TheVariants as bindings
+use Rattle.names.specs.declared.counts.Counts.{Counts}
+use Rattle.names.specs.Keys.{or_zero}
+use Rattle.names.specs.Names.{Table, File, key_of, same_key, in_table, first_table, literal_known, with_name, no_counts}
+use Rattle.names.specs.Names.{counts_after, with_directive, table_from, table_of, local_from, local_first, look_up}
+use Rattle.meaning.specs.Resolved.{RoutineOf, ProgramOf}
+use Rattle.meaning.specs.Meaning.{routine_at}
 use Rattle.checker.specs.Programs.{globals_of, arrays_of, resolve_routine, routines_of}
 use Rattle.checker.proofs.Unbroken.{IsMeant}
 
@@ -45,40 +46,40 @@ module _ (globals arrays : ℕ) (routines : List RoutineOf) where
   name_more t n b h i = perhaps_more (is_some (in_table t (key_of n.text))) t (key_of n.text) b h i
 
   -- the table of a file, from a place on, before which there are these routines
-  table_entries : (whole t : Table) (counts : Counts) (front : List RoutineOf) (ds : List DirectiveTree)
-      → AreEntries t → counts.globals + length (globals_of whole ds) ≡ globals
-      → counts.arrays + length (arrays_of whole ds) ≡ arrays → counts.routines ≡ length front
-      → front ++ routines_of whole ds ≡ routines → AreEntries (table_from t counts ds)
-  table_entries whole t counts front [] h g a n r = h
-  table_entries whole t counts front (global name v ∷ ds) h g a n r =
+  table_entries : (file : File) (t : Table) (counts : Counts) (front : List RoutineOf) (ds : List DirectiveTree)
+      → AreEntries t → counts.globals + length (globals_of file ds) ≡ globals
+      → counts.arrays + length (arrays_of file ds) ≡ arrays → counts.routines ≡ length front
+      → front ++ routines_of file ds ≡ routines → AreEntries (table_from t counts ds)
+  table_entries file t counts front [] h g a n r = h
+  table_entries file t counts front (global name v ∷ ds) h g a n r =
       let d = global name v in
-      table_entries whole (with_directive t counts d) (counts_after counts d) front ds
+      table_entries file (with_directive t counts d) (counts_after counts d) front ds
       (name_more t name (bindings.Global counts.globals) h (omega (arith, g))) (omega (arith, g)) a n r
-  table_entries whole t counts front (constant name v ∷ ds) h g a n r =
-      table_entries whole (with_directive t counts (constant name v)) counts front ds
-      (name_more t name (bindings.Constant (literal_value t v)) h tt) g a n r
-  table_entries whole t counts front (array x ∷ ds) h g a n r =
+  table_entries file t counts front (constant name v ∷ ds) h g a n r =
+      table_entries file (with_directive t counts (constant name v)) counts front ds
+      (name_more t name (bindings.Constant (or_zero (literal_known t v))) h tt) g a n r
+  table_entries file t counts front (array x ∷ ds) h g a n r =
       let d = array x in
-      table_entries whole (with_directive t counts d) (counts_after counts d) front ds
+      table_entries file (with_directive t counts d) (counts_after counts d) front ds
       (name_more t x.name (bindings.Array counts.arrays x.kind) h (omega (arith, a))) g (omega (arith, a)) n r
-  table_entries whole t counts front (routine x ∷ ds) h g a n r =
+  table_entries file t counts front (routine x ∷ ds) h g a n r =
       let d = routine x in
       let number : ℕ = counts.routines in
-      let made : RoutineOf = resolve_routine whole x in
-      let rest : List RoutineOf = routines_of whole ds in
+      let made : RoutineOf = resolve_routine file x in
+      let rest : List RoutineOf = routines_of file ds in
       let there : number < length routines = omega (arith, n, ap length r, length-append front (made ∷ rest)) in
       let same : (routine_at routines number).locals
       ≡ length x.locals = ap (λ (rs : List RoutineOf). (routine_at rs number).locals) (sym r)
       ∙ ap (λ (m : ℕ). (routine_at (front ++ made ∷ rest) m).locals) n
       ∙ ap (λ (s : RoutineOf). s.locals) (routine_here front made rest) in
-      table_entries whole (with_directive t counts d) (counts_after counts d)
+      table_entries file (with_directive t counts d) (counts_after counts d)
       (front ++ made ∷ []) ds (name_more t x.name (bindings.Routine number (length x.locals)) h (there, same)) g a
       (omega (arith, n, length-append front (made ∷ []))) (append_assoc front (made ∷ []) rest ∙ r)
 
-  pub file_entries : (whole : Table) (ds : List DirectiveTree) → length (globals_of whole ds) ≡ globals
-      → length (arrays_of whole ds) ≡ arrays → routines_of whole ds ≡ routines → AreEntries (table_of ds)
+  pub file_entries : (file : File) (ds : List DirectiveTree) → length (globals_of file ds) ≡ globals
+      → length (arrays_of file ds) ≡ arrays → routines_of file ds ≡ routines → AreEntries (table_of ds)
   unfolding table_of
-  file_entries whole ds g a r = table_entries whole first_table no_counts [] ds (tt, tt) (omega (arith, g))
+  file_entries file ds g a r = table_entries file first_table no_counts [] ds (tt, tt) (omega (arith, g))
       (omega (arith, a)) refl r
 
 -- What is found

@@ -1,6 +1,6 @@
 -- Directives, one at a time.
-use Rattle.std.proofs.Common.{◌≡◌, ℕ, zero, suc, ◌+◌, ◌<◌, ◌≤◌, List, [], ◌∷◌, ◌++◌, length, drop, slice_index_or}
-use Rattle.std.proofs.Common.{Option, append_assoc, refl, sym, subst, ap, ◌∙◌, arith}
+use Rattle.std.proofs.Common.{◌≡◌, ℕ, ◌+◌, ◌<◌, ◌≤◌, List, [], ◌∷◌, ◌++◌, length, drop, slice_index_or}
+use Rattle.std.proofs.Common.{Option, append_assoc, refl, sym, subst, ap, ◌∙◌}
 use Rattle.std.specs.Prelude.{map}
 use Rattle.std.specs.List.{concat}
 use Rattle.std.specs.Global.{Vec}
@@ -9,54 +9,21 @@ use Rattle.expressions.specs.Tree.{NameTree}
 use Rattle.statements.specs.Tree.{LiteralTree}
 use Rattle.syntax.specs.Tree.{ArrayTree, RoutineTree, DirectiveTree, global, constant, array, routine}
 use Rattle.syntax.specs.Tree.{directive_tree}
-use Rattle.checker.specs.declared.arrays.Arrays.{Arrays}
-use Rattle.checker.specs.declared.breach.Breach.{Breach}
-use Rattle.checker.specs.declared.checked.CheckedRoutine.{CheckedRoutine}
+use Rattle.meaning.specs.declared.arrays.Arrays.{Arrays}
+use Rattle.names.specs.declared.breach.Breach.{Breach}
+use Rattle.meaning.specs.declared.checked.CheckedRoutine.{CheckedRoutine}
 use Rattle.checker.specs.declared.directive_rules.Found.{Found}
-use Rattle.checker.specs.declared.counts.Counts.{Counts}
-use Rattle.checker.specs.Names.{Table, AreFewer, counts_after, with_directive}
-use Rattle.checker.specs.Noted.{noted}
-use Rattle.checker.proofs.Noted.{noted_append}
-use Rattle.checker.specs.Resolved.{RoutineOf, routine_of, title_of}
+use Rattle.names.specs.declared.counts.Counts.{Counts}
+use Rattle.names.specs.Names.{Table, File, counts_after, with_directive}
+use Rattle.names.specs.Noted.{noted}
+use Rattle.names.proofs.Dropped.{drop_here, drop_end}
+use Rattle.names.proofs.Noted.{noted_append}
+use Rattle.meaning.specs.Resolved.{RoutineOf, routine_of, title_of}
 use Rattle.checker.specs.Arrays.{array_bytes}
-use Rattle.checker.specs.Literals.{initial_value}
-use Rattle.checker.specs.Walk.{IsArrayAdded, IsAdded, IsAdding}
+use Rattle.rules.specs.Literals.{initial_value}
+use Rattle.checker.specs.Found.{IsArrayAdded, IsAdded, IsAdding}
 use Rattle.checker.specs.Programs.{globals_of, arrays_of, routines_of, resolve_routine, routine_trees, title}
 use Rattle.checker.specs.Programs.{directive_breaches, directives_breaches}
-
--- one directive defines one name
-pub counts_fit : (d : DirectiveTree) (counts : Counts) (i : ℕ) → AreFewer (i + 1) counts
-    → AreFewer (i + 1 + 1) (counts_after counts d)
-counts_fit (global n v) counts i h = let g = h.0 in let a = h.1 in let r = h.2 in
-    (omega (arith, g), omega (arith, a), omega (arith, r))
-counts_fit (constant n v) counts i h = let g = h.0 in let a = h.1 in let r = h.2 in
-    (omega (arith, g), omega (arith, a), omega (arith, r))
-counts_fit (array x) counts i h = let g = h.0 in let a = h.1 in let r = h.2 in
-    (omega (arith, g), omega (arith, a), omega (arith, r))
-counts_fit (routine x) counts i h = let g = h.0 in let a = h.1 in let r = h.2 in
-    (omega (arith, g), omega (arith, a), omega (arith, r))
-
-pub fewer : (m n : ℕ) (counts : Counts) → m ≤ n → AreFewer m counts → AreFewer n counts
-fewer m n counts le h = let g = h.0 in let a = h.1 in let r = h.2 in
-    (omega (arith, g, le), omega (arith, a, le), omega (arith, r, le))
-
--- what is left of a list, before one of it and at the end
-pub drop_cons : {A : Type 0} (xs : List A) (i : ℕ) (x : A) → i < length xs
-    → drop i xs ≡ slice_index_or xs i x ∷ drop (suc i) xs
-drop_cons [] i x h = absurd (omega arith)
-drop_cons (y ∷ ys) zero x h = refl
-drop_cons (y ∷ ys) (suc i) x h = drop_cons ys i x (omega arith)
-
-pub drop_here : {A : Type 0} (xs : List A) (i : ℕ) (x : A) → i < length xs → x ≡ slice_index_or xs i x
-    → drop i xs ≡ x ∷ drop (i + 1) xs
-drop_here {A = A} xs i x h is = let j : i + 1 ≡ suc i = omega arith in
-    rw j (drop_cons xs i x h ∙ ap (λ (y : A). y ∷ drop (suc i) xs) (sym is))
-
-pub drop_end : {A : Type 0} (xs : List A) (i : ℕ) → length xs ≤ i → drop i xs ≡ []
-drop_end [] zero h = refl
-drop_end [] (suc i) h = refl
-drop_end (x ∷ xs) zero h = absurd (omega arith)
-drop_end (x ∷ xs) (suc i) h = drop_end xs i (omega arith)
 
 pub nothing_more : {A : Type 0} (xs : List A) → xs ≡ xs ++ []
 nothing_more [] = refl
@@ -66,19 +33,19 @@ map_push : {A B : Type 0} (f : A → B) (xs : List A) (x : A) → map f (xs ++ x
 map_push f [] x = refl
 map_push f (y ∷ ys) x = ap (λ r. f y ∷ r) (map_push f ys x)
 
-globals_more : (whole : Table) (d : DirectiveTree) (ds : List DirectiveTree)
-    → globals_of whole (d ∷ ds) ≡ globals_of whole (d ∷ []) ++ globals_of whole ds
-globals_more whole (global n v) ds = refl
-globals_more whole (constant n v) ds = refl
-globals_more whole (array a) ds = refl
-globals_more whole (routine r) ds = refl
+globals_more : (file : File) (d : DirectiveTree) (ds : List DirectiveTree)
+    → globals_of file (d ∷ ds) ≡ globals_of file (d ∷ []) ++ globals_of file ds
+globals_more file (global n v) ds = refl
+globals_more file (constant n v) ds = refl
+globals_more file (array a) ds = refl
+globals_more file (routine r) ds = refl
 
-routines_more : (whole : Table) (d : DirectiveTree) (ds : List DirectiveTree)
-    → routines_of whole (d ∷ ds) ≡ routines_of whole (d ∷ []) ++ routines_of whole ds
-routines_more whole (global n v) ds = refl
-routines_more whole (constant n v) ds = refl
-routines_more whole (array a) ds = refl
-routines_more whole (routine r) ds = refl
+routines_more : (file : File) (d : DirectiveTree) (ds : List DirectiveTree)
+    → routines_of file (d ∷ ds) ≡ routines_of file (d ∷ []) ++ routines_of file ds
+routines_more file (global n v) ds = refl
+routines_more file (constant n v) ds = refl
+routines_more file (array a) ds = refl
+routines_more file (routine r) ds = refl
 
 titles_more : (d : DirectiveTree) (ds : List DirectiveTree)
     → map title (routine_trees (d ∷ ds)) ≡ map title (routine_trees (d ∷ [])) ++ map title (routine_trees ds)
@@ -87,20 +54,20 @@ titles_more (constant n v) ds = refl
 titles_more (array a) ds = refl
 titles_more (routine r) ds = refl
 
-bytes_more : (whole : Table) (d : DirectiveTree) (ds : List DirectiveTree)
-    → concat (arrays_of whole (d ∷ ds)) ≡ concat (arrays_of whole (d ∷ [])) ++ concat (arrays_of whole ds)
-bytes_more whole (global n v) ds = refl
-bytes_more whole (constant n v) ds = refl
-bytes_more whole (array a) ds = ap (λ (x : List ℕ). x ++ concat (arrays_of whole ds))
-    (nothing_more (array_bytes whole a))
-bytes_more whole (routine r) ds = refl
+pub bytes_more : (file : File) (d : DirectiveTree) (ds : List DirectiveTree)
+    → concat (arrays_of file (d ∷ ds)) ≡ concat (arrays_of file (d ∷ [])) ++ concat (arrays_of file ds)
+bytes_more file (global n v) ds = refl
+bytes_more file (constant n v) ds = refl
+bytes_more file (array a) ds = ap (λ (x : List ℕ). x ++ concat (arrays_of file ds))
+    (nothing_more (array_bytes file a))
+bytes_more file (routine r) ds = refl
 
-sizes_more : (whole : Table) (d : DirectiveTree) (ds : List DirectiveTree)
-    → map length (arrays_of whole (d ∷ ds)) ≡ map length (arrays_of whole (d ∷ [])) ++ map length (arrays_of whole ds)
-sizes_more whole (global n v) ds = refl
-sizes_more whole (constant n v) ds = refl
-sizes_more whole (array a) ds = refl
-sizes_more whole (routine r) ds = refl
+sizes_more : (file : File) (d : DirectiveTree) (ds : List DirectiveTree)
+    → map length (arrays_of file (d ∷ ds)) ≡ map length (arrays_of file (d ∷ [])) ++ map length (arrays_of file ds)
+sizes_more file (global n v) ds = refl
+sizes_more file (constant n v) ds = refl
+sizes_more file (array a) ds = refl
+sizes_more file (routine r) ds = refl
 
 -- what one directive adds
 
@@ -110,11 +77,11 @@ same_bytes old new same = ap (λ (a : Arrays). a.bytes.items) same ∙ nothing_m
 same_sizes : (old new : Arrays) → new ≡ old → new.sizes.items ≡ old.sizes.items ++ []
 same_sizes old new same = ap (λ (a : Arrays). a.sizes.items) same ∙ nothing_more old.sizes.items
 
-pub added_global : (whole : Table) (d : DirectiveTree) (n : NameTree) (v : Option LiteralTree) (old new : Found)
+pub added_global : (file : File) (d : DirectiveTree) (n : NameTree) (v : Option LiteralTree) (old new : Found)
     (x : ℕ)
-    → d ≡ global n v → new.globals.items ≡ old.globals.items ++ x ∷ [] → x ≡ initial_value whole v
-    → new.arrays ≡ old.arrays → new.routines ≡ old.routines → IsAdded whole (d ∷ []) old new
-added_global whole d n v old new x is more value kept same = rw is (record {
+    → d ≡ global n v → new.globals.items ≡ old.globals.items ++ x ∷ [] → x ≡ initial_value file v
+    → new.arrays ≡ old.arrays → new.routines ≡ old.routines → IsAdded file (d ∷ []) old new
+added_global file d n v old new x is more value kept same = rw is (record {
   globals = more ∙ ap (λ y. old.globals.items ++ y ∷ []) value;
   bytes = same_bytes old.arrays new.arrays kept;
   sizes = same_sizes old.arrays new.arrays kept;
@@ -124,9 +91,9 @@ added_global whole d n v old new x is more value kept same = rw is (record {
       ∙ nothing_more (map title_of old.routines.items);
 })
 
-pub added_constant : (whole : Table) (d : DirectiveTree) (n : NameTree) (v : LiteralTree) (old : Found)
-    → d ≡ constant n v → IsAdded whole (d ∷ []) old old
-added_constant whole d n v old is = rw is (record {
+pub added_constant : (file : File) (d : DirectiveTree) (n : NameTree) (v : LiteralTree) (old : Found)
+    → d ≡ constant n v → IsAdded file (d ∷ []) old old
+added_constant file d n v old is = rw is (record {
   globals = nothing_more old.globals.items;
   bytes = nothing_more old.arrays.bytes.items;
   sizes = nothing_more old.arrays.sizes.items;
@@ -134,13 +101,13 @@ added_constant whole d n v old is = rw is (record {
   titles = nothing_more (map title_of old.routines.items);
 })
 
-pub added_array : (whole : Table) (d : DirectiveTree) (a : ArrayTree) (old new : Found) → d ≡ array a
-    → IsArrayAdded (array_bytes whole a) old.arrays new.arrays → new.globals ≡ old.globals
-    → new.routines ≡ old.routines → IsAdded whole (d ∷ []) old new
-added_array whole d a old new is more kept same = rw is (record {
+pub added_array : (file : File) (d : DirectiveTree) (a : ArrayTree) (old new : Found) → d ≡ array a
+    → IsArrayAdded (array_bytes file a) old.arrays new.arrays → new.globals ≡ old.globals
+    → new.routines ≡ old.routines → IsAdded file (d ∷ []) old new
+added_array file d a old new is more kept same = rw is (record {
   globals = ap (λ (gs : Vec ℕ). gs.items) kept ∙ nothing_more old.globals.items;
   bytes = more.bytes_added
-      ∙ ap (λ (x : List ℕ). old.arrays.bytes.items ++ x) (nothing_more (array_bytes whole a));
+      ∙ ap (λ (x : List ℕ). old.arrays.bytes.items ++ x) (nothing_more (array_bytes file a));
   sizes = more.size_added;
   routines = ap (λ (rs : Vec CheckedRoutine). map routine_of rs.items) same
       ∙ nothing_more (map routine_of old.routines.items);
@@ -148,14 +115,34 @@ added_array whole d a old new is more kept same = rw is (record {
       ∙ nothing_more (map title_of old.routines.items);
 })
 
+-- the bytes of one directive alone
+
+pub bytes_array : (file : File) (d : DirectiveTree) (a : ArrayTree) (old new : Arrays) → d ≡ array a
+    → IsArrayAdded (array_bytes file a) old new
+    → new.bytes.items ≡ old.bytes.items ++ concat (arrays_of file (d ∷ []))
+bytes_array file d a old new is more = rw is
+    (more.bytes_added ∙ ap (λ (x : List ℕ). old.bytes.items ++ x) (nothing_more (array_bytes file a)))
+
+pub bytes_global : (file : File) (d : DirectiveTree) (n : NameTree) (v : Option LiteralTree) (bytes : List ℕ)
+    → d ≡ global n v → bytes ≡ bytes ++ concat (arrays_of file (d ∷ []))
+bytes_global file d n v bytes is = rw is (nothing_more bytes)
+
+pub bytes_constant : (file : File) (d : DirectiveTree) (n : NameTree) (v : LiteralTree) (bytes : List ℕ)
+    → d ≡ constant n v → bytes ≡ bytes ++ concat (arrays_of file (d ∷ []))
+bytes_constant file d n v bytes is = rw is (nothing_more bytes)
+
+pub bytes_routine : (file : File) (d : DirectiveTree) (r : RoutineTree) (bytes : List ℕ)
+    → d ≡ routine r → bytes ≡ bytes ++ concat (arrays_of file (d ∷ []))
+bytes_routine file d r bytes is = rw is (nothing_more bytes)
+
 abbrev pub IsSame : RoutineOf × (NameTree × ℕ) → RoutineOf × (NameTree × ℕ) → Type 0
 IsSame p q = p ≡ q
 
-pub added_routine : (whole : Table) (d : DirectiveTree) (r : RoutineTree) (old new : Found) (c : CheckedRoutine)
+pub added_routine : (file : File) (d : DirectiveTree) (r : RoutineTree) (old new : Found) (c : CheckedRoutine)
     → d ≡ routine r → new.routines.items ≡ old.routines.items ++ c ∷ []
-    → IsSame (routine_of c, title_of c) (resolve_routine whole r, title r) → new.globals ≡ old.globals
-    → new.arrays ≡ old.arrays → IsAdded whole (d ∷ []) old new
-added_routine whole d r old new c is more value same kept = rw is (record {
+    → IsSame (routine_of c, title_of c) (resolve_routine file r, title r) → new.globals ≡ old.globals
+    → new.arrays ≡ old.arrays → IsAdded file (d ∷ []) old new
+added_routine file d r old new c is more value same kept = rw is (record {
   globals = ap (λ (gs : Vec ℕ). gs.items) same ∙ nothing_more old.globals.items;
   bytes = same_bytes old.arrays new.arrays kept;
   sizes = same_sizes old.arrays new.arrays kept;
@@ -169,7 +156,7 @@ added_routine whole d r old new c is more value same kept = rw is (record {
 
 -- one more directive
 
-list_step : {A : Type 0} (f : List DirectiveTree → List A)
+pub list_step : {A : Type 0} (f : List DirectiveTree → List A)
     → ((d : DirectiveTree) (ds : List DirectiveTree) → f (d ∷ ds) ≡ f (d ∷ []) ++ f ds)
     → (old new : List A) (ds : List Directive) (i : ℕ) (x : Directive) → i < length ds → x ≡ slice_index_or ds i x
     → new ≡ old ++ f (directive_tree x ∷ [])
@@ -180,31 +167,31 @@ list_step {A = A} f more old new ds i x lt is h =
     ∙ ap (λ (q : List A). old ++ q) (sym (more (directive_tree x) (map directive_tree (drop (i + 1) ds))))
     ∙ ap (λ (q : List Directive). old ++ f (map directive_tree q)) (sym (drop_here ds i x lt is))
 
-pub adding_more : (whole : Table) (ds : List Directive) (i : ℕ) (x : Directive) (first old new : Found)
+pub adding_more : (file : File) (ds : List Directive) (i : ℕ) (x : Directive) (first old new : Found)
     → i < length ds → x ≡ slice_index_or ds i x
-    → IsAdded whole (directive_tree x ∷ []) old new
-    → IsAdding whole (map directive_tree (drop i ds)) (map directive_tree ds) first old
-    → IsAdding whole (map directive_tree (drop (i + 1) ds)) (map directive_tree ds) first new
-adding_more whole ds i x first old new lt is a h = record {
-  globals = list_step (λ (q : List DirectiveTree). globals_of whole q) (globals_more whole) old.globals.items
+    → IsAdded file (directive_tree x ∷ []) old new
+    → IsAdding file (map directive_tree (drop i ds)) (map directive_tree ds) first old
+    → IsAdding file (map directive_tree (drop (i + 1) ds)) (map directive_tree ds) first new
+adding_more file ds i x first old new lt is a h = record {
+  globals = list_step (λ (q : List DirectiveTree). globals_of file q) (globals_more file) old.globals.items
       new.globals.items ds i x lt is a.globals ∙ h.globals;
-  bytes = list_step (λ (q : List DirectiveTree). concat (arrays_of whole q)) (bytes_more whole)
+  bytes = list_step (λ (q : List DirectiveTree). concat (arrays_of file q)) (bytes_more file)
       old.arrays.bytes.items new.arrays.bytes.items ds i x lt is a.bytes ∙ h.bytes;
-  sizes = list_step (λ (q : List DirectiveTree). map length (arrays_of whole q)) (sizes_more whole)
+  sizes = list_step (λ (q : List DirectiveTree). map length (arrays_of file q)) (sizes_more file)
       old.arrays.sizes.items new.arrays.sizes.items ds i x lt is a.sizes ∙ h.sizes;
-  routines = list_step (λ (q : List DirectiveTree). routines_of whole q) (routines_more whole)
+  routines = list_step (λ (q : List DirectiveTree). routines_of file q) (routines_more file)
       (map routine_of old.routines.items) (map routine_of new.routines.items) ds i x lt is a.routines ∙ h.routines;
   titles = list_step (λ (q : List DirectiveTree). map title (routine_trees q)) titles_more
       (map title_of old.routines.items) (map title_of new.routines.items) ds i x lt is a.titles ∙ h.titles;
 }
 
-pub adding_end : (whole : Table) (ds : List Directive) (i : ℕ) (first found : Found) → length ds ≤ i
-    → IsAdding whole (map directive_tree (drop i ds)) (map directive_tree ds) first found
-    → IsAdded whole (map directive_tree ds) first found
-adding_end whole ds i first found end h =
+pub adding_end : (file : File) (ds : List Directive) (i : ℕ) (first found : Found) → length ds ≤ i
+    → IsAdding file (map directive_tree (drop i ds)) (map directive_tree ds) first found
+    → IsAdded file (map directive_tree ds) first found
+adding_end file ds i first found end h =
     let e : drop i ds ≡ [] = drop_end ds i end in
-    let k : IsAdding whole [] (map directive_tree ds) first found = subst
-    (λ (q : List Directive). IsAdding whole (map directive_tree q) (map directive_tree ds) first found) e h in
+    let k : IsAdding file [] (map directive_tree ds) first found = subst
+    (λ (q : List Directive). IsAdding file (map directive_tree q) (map directive_tree ds) first found) e h in
     record {
       globals = nothing_more found.globals.items ∙ k.globals;
       bytes = nothing_more found.arrays.bytes.items ∙ k.bytes;

@@ -11,22 +11,25 @@ use Rattle.expressions.specs.Tree.{NameTree, name_tree}
 use Rattle.statements.specs.declared.tree.Statement.{Statement}
 use Rattle.syntax.specs.declared.tree.Routine.{Routine}
 use Rattle.syntax.specs.Tree.{routine_tree}
-use Rattle.checker.specs.declared.binding.Binding.{Binding}
-use Rattle.checker.specs.declared.binding.Binding.TheVariants as bindings
-use Rattle.checker.specs.declared.breach.Breach.{Breach}
-use Rattle.checker.specs.declared.table.Scope.{Scope}
-use Rattle.checker.specs.declared.checked.CheckedRoutine.{CheckedRoutine}
-use Rattle.checker.specs.Breaches.{at}
-use Rattle.checker.specs.Names.{Table, key_of, same_key, in_table, with_name, local_from, local_first, look_up}
-use Rattle.checker.specs.Noted.{noted}
-use Rattle.checker.specs.Scope.{either, look_in, local_binding}
-use Rattle.checker.specs.Resolved.{Action, Actions, RoutineOf, actions_of, routine_of, title_of}
-use Rattle.checker.specs.Statements.{outside, statements_breaches}
-use Rattle.checker.specs.Walk.{IsWalked, AreActions, IsRoutineIn, IsRoutineOf}
+use Rattle.names.specs.declared.binding.Binding.{Binding}
+use Rattle.names.specs.declared.binding.Binding.TheVariants as bindings
+use Rattle.names.specs.declared.breach.Breach.{Breach}
+use Rattle.names.specs.declared.table.Scope.{Scope}
+use Rattle.meaning.specs.declared.checked.CheckedRoutine.{CheckedRoutine}
+use Rattle.names.specs.Breaches.{at}
+use Rattle.names.specs.Names.{Table, key_of, same_key, in_table, with_name, local_from, local_first, look_up}
+use Rattle.names.specs.Names.{File, Seen, seen_from}
+use Rattle.names.specs.Noted.{noted}
+use Rattle.names.specs.Scope.{either, number_at, file_in, look_in, local_binding, seen_in}
+use Rattle.meaning.specs.Resolved.{Action, Actions, RoutineOf, actions_of, routine_of, title_of}
+use Rattle.rules.specs.Statements.{statements_breaches}
+use Rattle.meaning.specs.Around.{outside}
+use Rattle.rules.specs.Walk.{IsWalked, AreActions}
+use Rattle.checker.specs.Found.{IsRoutineIn, IsRoutineOf}
 use Rattle.checker.specs.Programs.{has_local, locals_breaches, twice, title, resolve_body, resolve_routine}
-use Rattle.checker.proofs.Noted.{noted_none, noted_two}
-use Rattle.checker.proofs.Walks.{before}
-use Rattle.checker.proofs.Forms.{statements_walked}
+use Rattle.names.proofs.Noted.{noted_none, noted_two}
+use Rattle.rules.proofs.Walks.{before}
+use Rattle.rules.proofs.Forms.{statements_walked}
 
 -- The number of a local
 
@@ -182,19 +185,30 @@ sides : (o : Option ℕ) (b : Option Binding) → either (local_binding o) b ≡
 sides None b = refl
 sides (Some n) b = refl
 
-look_same : (scope : Scope) (table : Table) (ls : List NameTree) → scope.file.now.entries ≡ table
+abbrev sees : (List ℕ → Option Binding) → (ℕ → ℕ) → Seen
+sees look number = record { look = look; number = number }
+
+look_same : (scope : Scope) (table : Table) (ls : List NameTree) → scope.file.now.table.entries ≡ table
     → ((key : List ℕ) → in_table scope.locals.now.entries key ≡ local_binding (local_from 0 ls key))
     → (name : List ℕ) → look_in scope name ≡ look_up table ls name
 unfolding look_in look_up
 look_same scope table ls f h name =
-    ap (λ (o : Option Binding). either o (in_table scope.file.now.entries (key_of name))) (h (key_of name))
+    ap (λ (o : Option Binding). either o (in_table scope.file.now.table.entries (key_of name))) (h (key_of name))
     ∙ ap (λ (t : Table). either (local_binding (local_from 0 ls (key_of name))) (in_table t (key_of name))) f
     ∙ sides (local_from 0 ls (key_of name)) (in_table table (key_of name))
 
-scope_looks : (scope : Scope) (table : Table) (ls : List NameTree) → scope.file.now.entries ≡ table
+scope_looks : (scope : Scope) (table : Table) (ls : List NameTree) → scope.file.now.table.entries ≡ table
     → ((key : List ℕ) → in_table scope.locals.now.entries key ≡ local_binding (local_from 0 ls key))
     → look_in scope ≡ look_up table ls
 scope_looks scope table ls f h = fun_ext (look_same scope table ls f h)
+
+scope_sees : (scope : Scope) (file : File) (ls : List NameTree) → file_in scope.file.now ≡ file
+    → ((key : List ℕ) → in_table scope.locals.now.entries key ≡ local_binding (local_from 0 ls key))
+    → seen_in scope ≡ seen_from file ls
+scope_sees scope file ls f h =
+    ap (λ (look : List ℕ → Option Binding). sees look (number_at scope.file.now.numbers))
+    (scope_looks scope scope.file.now.table.entries ls refl h)
+    ∙ ap (λ (x : File). seen_from x ls) f
 
 names_length : (names : List Name) → length (map name_tree names) ≡ length names
 names_length [] = refl
@@ -204,15 +218,15 @@ abbrev made : ℕ → Actions → RoutineOf
 made n b = record { locals = n; body = b }
 
 -- a routine of a body that was walked
-pub routine_walked : (look : List ℕ → Option Binding) (r : Routine) (given : List Statement) (n : ℕ)
+pub routine_walked : (seen : Seen) (r : Routine) (given : List Statement) (n : ℕ)
     (found : List Action) (m o : Option Breach)
-    → given ≡ r.body.items → n ≡ length r.locals.items → AreActions look outside given m o found
-    → IsWalked {A = RoutineOf × (NameTree × ℕ)} (statements_breaches look outside (routine_tree r).body) m o
+    → given ≡ r.body.items → n ≡ length r.locals.items → AreActions seen outside given m o found
+    → IsWalked {A = RoutineOf × (NameTree × ℕ)} (statements_breaches seen.look outside (routine_tree r).body) m o
     (made n (actions_of found), (name_tree r.name, r.weight))
-    (resolve_body look (routine_tree r), title (routine_tree r))
-routine_walked look r given n found m o same count w =
-    let body = statements_walked look outside r.body.items found
-    (subst (λ (ss : List Statement). AreActions look outside ss m o found) same w) in
+    (resolve_body seen (routine_tree r), title (routine_tree r))
+routine_walked seen r given n found m o same count w =
+    let body = statements_walked seen outside r.body.items found
+    (subst (λ (ss : List Statement). AreActions seen outside ss m o found) same w) in
     record {
       value =
           ap (λ (k : ℕ). (made k (actions_of found), (name_tree r.name, r.weight)))
@@ -223,18 +237,18 @@ routine_walked look r given n found m o same count w =
     }
 
 -- a routine in the scope of its own locals
-pub routine_scoped : (found : Result CheckedRoutine AllocError) (scope : Scope) (table : Table) (r : Routine)
+pub routine_scoped : (found : Result CheckedRoutine AllocError) (scope : Scope) (file : File) (r : Routine)
     (m n o : Option Breach)
-    → scope.file.now.entries ≡ table
+    → file_in scope.file.now ≡ file
     → ((key : List ℕ) → in_table scope.locals.now.entries key
     ≡ local_binding (local_from 0 (map name_tree r.locals.items) key))
     → n ≡ noted m (locals_breaches [] (map name_tree r.locals.items))
-    → IfOk found (λ c. IsRoutineIn (look_in scope) (routine_tree r) n o c)
-    → IfOk found (λ c. IsRoutineOf table (routine_tree r) m o c)
-routine_scoped found scope table r m n o f h b w =
+    → IfOk found (λ c. IsRoutineIn (seen_in scope) (routine_tree r) n o c)
+    → IfOk found (λ c. IsRoutineOf file (routine_tree r) m o c)
+routine_scoped found scope file r m n o f h b w =
     before (λ (c : CheckedRoutine). (routine_of c, title_of c)) found
     (locals_breaches [] (map name_tree r.locals.items))
-    (statements_breaches (look_up table (map name_tree r.locals.items)) outside (routine_tree r).body) m n o
-    (resolve_routine table (routine_tree r), title (routine_tree r)) b
-    (subst (λ (look : List ℕ → Option Binding). IfOk found (λ c. IsRoutineIn look (routine_tree r) n o c))
-    (scope_looks scope table (map name_tree r.locals.items) f h) w)
+    (statements_breaches (look_up file.table (map name_tree r.locals.items)) outside (routine_tree r).body) m n o
+    (resolve_routine file (routine_tree r), title (routine_tree r)) b
+    (subst (λ (seen : Seen). IfOk found (λ c. IsRoutineIn seen (routine_tree r) n o c))
+    (scope_sees scope file (map name_tree r.locals.items) f h) w)

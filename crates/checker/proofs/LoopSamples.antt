@@ -1,73 +1,19 @@
--- Programs with loops and `switch` and what they mean, computed.
+-- Programs with loops and `switch`: what they resolve to, and the rules that they break, computed.
 use Rattle.std.proofs.Common.{◌≡◌, ℕ, List, [], ◌∷◌, ◌++◌, Some, None, refl}
 use Rattle.std.specs.Prelude.{codes}
-use Rattle.expressions.specs.Tree.{ExpressionTree, constant, named, step_after, compare, equal, assign, none, more}
+use Rattle.expressions.specs.Tree.{constant, named, step_after, compare, assign}
 use Rattle.expressions.specs.declared.tree.Comparison.TheVariants as comparison
-use Rattle.expressions.specs.declared.tree.Equality.TheVariants as equality
 use Rattle.expressions.specs.declared.tree.Step.TheVariants as steps
 use Rattle.statements.specs.Tree as s
-use Rattle.statements.specs.Tree.{StatementTree, RangeTree}
+use Rattle.statements.specs.Tree.{RangeTree}
 use Rattle.syntax.specs.Tree as d
 use Rattle.syntax.specs.Tree.{ProgramTree}
-use Rattle.zcore.specs.Arithmetic.{signed_text, decimal, quotient, remainder}
-use Rattle.checker.specs.Breaches.{at}
-use Rattle.checker.specs.Programs.{program_breaches, resolve_program}
-use Rattle.checker.specs.Names.{table_of, key_of, look_up}
-use Rattle.checker.specs.Meaning.{meaning}
-use Rattle.checker.proofs.Samples.{p, the, item, words, routine, program, says}
-
-abbrev i : ℕ → ExpressionTree
-i n = named (the n (codes "i"))
-
-abbrev step : ExpressionTree
-step = step_after (i 1) steps.Increment (p 2)
-
-abbrev is : ℕ → ExpressionTree
-is n = equal equality.Equal (i 3) (more (constant n) none)
-
-abbrev block : List StatementTree → StatementTree
-block xs = s.block (s.trees_of xs)
-
-abbrev print_i : StatementTree
-print_i = s.print (item (i 4) ∷ [])
-
--- Global i; [ Main; S ];
-abbrev with_i : List StatementTree → ProgramTree
-with_i xs = program (d.global (the 0 (codes "i")) None ∷ routine (codes "Main") [] xs ∷ [])
-
--- for (i = 0 : i < 5 : i++) { if (i == 1) continue; if (i == 4) break; print i; }
-abbrev counts : ProgramTree
-counts = with_i
-    (s.for_loop (p 9) (Some (assign (i 1) (p 2) (constant 0)))
-    (Some (compare comparison.Less (i 5) (constant 5))) (Some step)
-    (block
-    (s.if_then (p 6) (is 1) (s.continue_at (p 7)) ∷ s.if_then (p 6) (is 4) (s.break_at (p 8)) ∷ print_i ∷ [])) ∷ [])
-
-counts_fine : program_breaches counts ≡ []
-unfolding program_breaches table_of key_of look_up
-counts_fine = refl
-
--- four rounds go back, and Main's call costs the fifth unit
-counts_mean : meaning (resolve_program counts) 5 [] ≡ says (codes "023")
-unfolding meaning resolve_program table_of key_of look_up signed_text decimal quotient remainder
-counts_mean = refl
-
--- do { print i; i++; } until (i == 2);
-abbrev twice : ProgramTree
-twice = with_i (s.do_until (p 9) (block (print_i ∷ s.effect (p 5) step ∷ [])) (is 2) ∷ [])
-
-twice_means : meaning (resolve_program twice) 2 [] ≡ says (codes "01")
-unfolding meaning resolve_program table_of key_of look_up signed_text decimal quotient remainder
-twice_means = refl
-
--- in a `do` a `continue` leads to the test: do { i++; continue; } until (i == 2); print i;
-abbrev tests : ProgramTree
-tests = with_i
-    (s.do_until (p 9) (block (s.effect (p 5) step ∷ s.continue_at (p 6) ∷ [])) (is 2) ∷ print_i ∷ [])
-
-tests_mean : meaning (resolve_program tests) 2 [] ≡ says (codes "2")
-unfolding meaning resolve_program table_of key_of look_up signed_text decimal quotient remainder
-tests_mean = refl
+use Rattle.meaning.specs.declared.resolved.Variable.TheVariants as variables
+use Rattle.meaning.specs.Resolved as r
+use Rattle.names.specs.Breaches.{at}
+use Rattle.names.specs.Names.{table_of, key_of, look_up}
+use Rattle.checker.specs.Programs.{program_breaches, resolve_with, file_of, resolve_program}
+use Rattle.checker.proofs.Samples.{p, the, routine, program}
 
 abbrev one_value : ℕ → RangeTree
 one_value n = record { low = s.number_value n; high = None }
@@ -75,60 +21,49 @@ one_value n = record { low = s.number_value n; high = None }
 abbrev from_to : ℕ → ℕ → RangeTree
 from_to a b = record { low = s.number_value a; high = Some (s.number_value b) }
 
-abbrev says_one : List ℕ → s.StatementTrees
-says_one text = s.next (s.print (words text ∷ [])) s.stop
-
--- [ Main; switch (3) { 1 to 2: print "a"; 3, 5: print "b"; default: print "c"; } ];
-abbrev chooses : ProgramTree
-chooses = program
-    (routine (codes "Main") []
-    (s.switch_on (p 9) (constant 3)
-    (s.case (from_to 1 2 ∷ []) (says_one (codes "a"))
-    (s.case (one_value 3 ∷ one_value 5 ∷ []) (says_one (codes "b")) (s.default_case (says_one (codes "c"))))) ∷ [])
+-- Global g; Global i;
+-- [ Main; for (i = 0 : i < 5 : i++) continue; do break; until (i); switch (i) { 1, 2 to 4: break; default: new_line; } ];
+abbrev loops : ProgramTree
+loops = program
+    (d.global (the 0 (codes "g")) None ∷ d.global (the 1 (codes "i")) None
+    ∷ routine (codes "Main") []
+    (s.for_loop (p 2) (Some (assign (named (the 3 (codes "i"))) (p 4) (constant 0)))
+    (Some (compare comparison.Less (named (the 5 (codes "i"))) (constant 5)))
+    (Some (step_after (named (the 6 (codes "i"))) steps.Increment (p 7))) (s.continue_at (p 8))
+    ∷ s.do_until (p 9) (s.break_at (p 10)) (named (the 11 (codes "i")))
+    ∷ s.switch_on (p 12) (named (the 13 (codes "i")))
+    (s.case (one_value 1 ∷ from_to 2 4 ∷ []) (s.next (s.break_at (p 14)) s.stop)
+    (s.default_case (s.next s.new_line s.stop)))
+    ∷ [])
     ∷ [])
 
-chooses_fine : program_breaches chooses ≡ []
+loops_fine : program_breaches loops ≡ []
 unfolding program_breaches table_of key_of look_up
-chooses_fine = refl
+loops_fine = refl
 
-chooses_means : meaning (resolve_program chooses) 1 [] ≡ says (codes "b")
-unfolding meaning resolve_program table_of key_of look_up signed_text decimal quotient remainder
-chooses_means = refl
+abbrev the_i : r.Value
+the_i = r.read (variables.Global 1)
 
--- both ends of a range belong to it, and are read signed:
--- [ Main; switch (-1) { 1: print "a"; -2 to -1: print "b"; } switch (2) { -1 to 2: print "c"; default: print "d"; } ];
-abbrev signed : ProgramTree
-signed = program
-    (routine (codes "Main") []
-    (s.switch_on (p 9) (constant 65535)
-    (s.case (one_value 1 ∷ []) (says_one (codes "a"))
-    (s.case (from_to 65534 65535 ∷ []) (says_one (codes "b")) s.no_case))
-    ∷ s.switch_on (p 9) (constant 2)
-    (s.case (from_to 65535 2 ∷ []) (says_one (codes "c")) (s.default_case (says_one (codes "d"))))
-    ∷ [])
-    ∷ [])
-
-signed_means : meaning (resolve_program signed) 1 [] ≡ says (codes "bc")
-unfolding meaning resolve_program table_of key_of look_up signed_text decimal quotient remainder
-signed_means = refl
-
--- `break` in a case ends the `switch` and no more, `continue` in one is the loop's:
--- for (: i < 3 : i++) { switch (i) { 0: break; 1: continue; } print i; }
-abbrev nested : ProgramTree
-nested = with_i
-    (s.for_loop (p 9) None (Some (compare comparison.Less (i 5) (constant 3))) (Some step)
-    (block
-    (s.switch_on (p 6) (i 6)
-    (s.case (one_value 0 ∷ []) (s.next (s.break_at (p 7)) s.stop)
-    (s.case (one_value 1 ∷ []) (s.next (s.continue_at (p 8)) s.stop) s.no_case)) ∷ print_i ∷ [])) ∷ [])
-
-nested_fine : program_breaches nested ≡ []
-unfolding program_breaches table_of key_of look_up
-nested_fine = refl
-
-nested_means : meaning (resolve_program nested) 4 [] ≡ says (codes "02")
-unfolding meaning resolve_program table_of key_of look_up signed_text decimal quotient remainder
-nested_means = refl
+loops_resolve : resolve_program loops ≡ record {
+  globals = 0 ∷ 0 ∷ [];
+  arrays = [];
+  keys = [];
+  routines = record {
+    locals = 0;
+    body = r.actions_of
+        (r.for_loop (Some (r.assign (variables.Global 1) (r.number 0)))
+        (Some (r.compare comparison.Less the_i (r.number 5)))
+        (Some (r.step_after (variables.Global 1) steps.Increment)) r.continue_on
+        ∷ r.do_until r.break_out the_i
+        ∷ r.switch_on the_i
+        (r.case (r.one 1 ∷ r.between 2 4 ∷ []) (r.actions_of (r.break_out ∷ []))
+        (r.default_case (r.actions_of (r.new_line ∷ []))))
+        ∷ []);
+  } ∷ [];
+  main = 0;
+}
+unfolding resolve_program resolve_with file_of table_of key_of look_up
+loops_resolve = refl
 
 -- rules
 

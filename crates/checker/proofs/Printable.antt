@@ -1,40 +1,39 @@
 -- Texts stay as they are where names are resolved.
-use Rattle.std.proofs.Common.{ℕ, List, [], ◌∷◌, Option}
+use Rattle.std.proofs.Common.{List, [], ◌∷◌}
 use Rattle.std.specs.Prelude.{map}
 use Rattle.std.specs.List.{All}
 use Rattle.std.proofs.lemmas.List.Elements.{All-nil, All-cons, All-head, All-tail}
 use Rattle.statements.specs.Tree.{PrintItemTree, text_item, character_item, number_item, StatementTree}
 use Rattle.statements.specs.Tree.{StatementTrees, CaseTrees, empty, block, text_alone, print, print_return, new_line}
 use Rattle.statements.specs.Tree.{if_then, if_else, while_do, do_until, for_loop, switch_on, break_at, continue_at}
-use Rattle.statements.specs.Tree.{return_alone, return_value, return_true, return_false, quit, effect, stop, next}
-use Rattle.statements.specs.Tree.{no_case, default_case, case}
+use Rattle.statements.specs.Tree.{return_alone, return_value, return_true, return_false, quit, read_line, effect, stop}
+use Rattle.statements.specs.Tree.{next, no_case, default_case, case}
 use Rattle.syntax.specs.Tree.{DirectiveTree, global, constant, array, routine}
 use Rattle.syntax.specs.Printable as source
-use Rattle.checker.specs.declared.binding.Binding.{Binding}
-use Rattle.checker.specs.Names.{Table, table_of, look_up}
-use Rattle.checker.specs.Statements.{resolve_item, resolve_statement, resolve_statements, resolve_cases}
-use Rattle.checker.specs.Programs.{resolve_routine, routines_of, resolve_program}
-use Rattle.checker.specs.Printable.{IsPrintableItem, IsPrintableAction, ArePrintableActions, ArePrintableCases}
-use Rattle.checker.specs.Printable.{IsPrintableRoutine}
+use Rattle.names.specs.Names.{File, Seen, seen_from}
+use Rattle.rules.specs.Statements.{resolve_item, resolve_statement, resolve_statements, resolve_cases}
+use Rattle.checker.specs.Programs.{resolve_routine, routines_of, resolve_with, file_of, resolve_program}
+use Rattle.meaning.specs.Printable.{IsPrintableItem, IsPrintableAction, ArePrintableActions, ArePrintableCases}
+use Rattle.meaning.specs.Printable.{IsPrintableRoutine}
 use Rattle.checker.specs.Laws.{PrintablePrograms}
 
-module _ (look : List ℕ → Option Binding) where
-  item_prints : (i : PrintItemTree) → source.IsPrintableItem i → IsPrintableItem (resolve_item look i)
+module _ (seen : Seen) where
+  item_prints : (i : PrintItemTree) → source.IsPrintableItem i → IsPrintableItem (resolve_item seen i)
   item_prints (text_item bytes) h = h
   item_prints (character_item p e) h = tt
   item_prints (number_item p e) h = tt
 
   items_print : (is : List PrintItemTree) → All source.IsPrintableItem is
-      → All IsPrintableItem (map (resolve_item look) is)
+      → All IsPrintableItem (map (resolve_item seen) is)
   items_print [] h = All-nil IsPrintableItem
   items_print (i ∷ is) h =
-      All-cons IsPrintableItem (resolve_item look i) (map (resolve_item look) is)
+      All-cons IsPrintableItem (resolve_item seen i) (map (resolve_item seen) is)
       (item_prints i (All-head source.IsPrintableItem i is h))
       (items_print is (All-tail source.IsPrintableItem i is h))
 
   mutual
     statement_prints : (x : StatementTree) → source.IsPrintableStatement x
-        → IsPrintableAction (resolve_statement look x)
+        → IsPrintableAction (resolve_statement seen x)
     statement_prints empty h = tt
     statement_prints (block xs) h = statements_print xs h
     statement_prints (text_alone bytes) h = h
@@ -54,32 +53,33 @@ module _ (look : List ℕ → Option Binding) where
     statement_prints return_true h = tt
     statement_prints return_false h = tt
     statement_prints quit h = tt
+    statement_prints (read_line n m) h = tt
     statement_prints (effect p e) h = tt
 
     statements_print : (xs : StatementTrees) → source.ArePrintableStatements xs
-        → ArePrintableActions (resolve_statements look xs)
+        → ArePrintableActions (resolve_statements seen xs)
     statements_print stop h = tt
     statements_print (next x xs) h = (statement_prints x h.0, statements_print xs h.1)
 
-    cases_print : (cs : CaseTrees) → source.ArePrintableCases cs → ArePrintableCases (resolve_cases look cs)
+    cases_print : (cs : CaseTrees) → source.ArePrintableCases cs → ArePrintableCases (resolve_cases seen cs)
     cases_print no_case h = tt
     cases_print (default_case xs) h = statements_print xs h
     cases_print (case gs xs cs) h = (statements_print xs h.0, cases_print cs h.1)
 
-routines_print : (whole : Table) (ds : List DirectiveTree) → All source.IsPrintableDirective ds
-    → All IsPrintableRoutine (routines_of whole ds)
-routines_print whole [] h = All-nil IsPrintableRoutine
-routines_print whole (global n v ∷ ds) h = routines_print whole ds
+routines_print : (file : File) (ds : List DirectiveTree) → All source.IsPrintableDirective ds
+    → All IsPrintableRoutine (routines_of file ds)
+routines_print file [] h = All-nil IsPrintableRoutine
+routines_print file (global n v ∷ ds) h = routines_print file ds
     (All-tail source.IsPrintableDirective (global n v) ds h)
-routines_print whole (constant n v ∷ ds) h = routines_print whole ds
+routines_print file (constant n v ∷ ds) h = routines_print file ds
     (All-tail source.IsPrintableDirective (constant n v) ds h)
-routines_print whole (array a ∷ ds) h = routines_print whole ds
+routines_print file (array a ∷ ds) h = routines_print file ds
     (All-tail source.IsPrintableDirective (array a) ds h)
-routines_print whole (routine r ∷ ds) h =
-    All-cons IsPrintableRoutine (resolve_routine whole r) (routines_of whole ds)
-    (statements_print (look_up whole r.locals) r.body (All-head source.IsPrintableDirective (routine r) ds h))
-    (routines_print whole ds (All-tail source.IsPrintableDirective (routine r) ds h))
+routines_print file (routine r ∷ ds) h =
+    All-cons IsPrintableRoutine (resolve_routine file r) (routines_of file ds)
+    (statements_print (seen_from file r.locals) r.body (All-head source.IsPrintableDirective (routine r) ds h))
+    (routines_print file ds (All-tail source.IsPrintableDirective (routine r) ds h))
 
 pub printable_programs : PrintablePrograms
-unfolding resolve_program
-printable_programs p h = routines_print (table_of p.directives) p.directives h
+unfolding resolve_program resolve_with
+printable_programs p h = routines_print (file_of p) p.directives h

@@ -3,9 +3,8 @@ use Rattle.std.proofs.Common.{◌≡◌, ℕ, zero, suc, List, [], ◌∷◌, �
 use Rattle.std.specs.Prelude.{codes}
 use Rattle.lexer.specs.declared.token.Position.{Position}
 use Rattle.expressions.specs.Tree.{NameTree, ExpressionTree, ExpressionTrees, constant, named, call, parenthesised}
-use Rattle.expressions.specs.Tree.{prefixed, step_before, step_after, binary, compare, equal, assign, none, more}
+use Rattle.expressions.specs.Tree.{prefixed, step_before, step_after, binary, equal, assign, none, more}
 use Rattle.expressions.specs.declared.tree.Binary.TheVariants as op
-use Rattle.expressions.specs.declared.tree.Comparison.TheVariants as comparison
 use Rattle.expressions.specs.declared.tree.Equality.TheVariants as equality
 use Rattle.expressions.specs.declared.tree.Prefix.TheVariants as prefix
 use Rattle.expressions.specs.declared.tree.Step.TheVariants as steps
@@ -14,14 +13,13 @@ use Rattle.statements.specs.Tree.{StatementTree, StatementTrees}
 use Rattle.syntax.specs.Tree as d
 use Rattle.syntax.specs.Tree.{DirectiveTree, ProgramTree}
 use Rattle.zcore.specs.declared.place.Place.TheVariants as places
-use Rattle.zcore.specs.declared.place.Limit.TheVariants as limits
-use Rattle.checker.specs.Breaches.{at}
-use Rattle.checker.specs.Programs.{program_breaches, resolve_program}
-use Rattle.checker.specs.Names.{table_of, key_of, look_up}
+use Rattle.names.specs.Breaches.{at}
+use Rattle.checker.specs.Programs.{program_breaches, resolve_with, file_of, resolve_program}
+use Rattle.names.specs.Names.{table_of, key_of, look_up}
 use Rattle.zcore.specs.Arithmetic.{signed_text, decimal, quotient, remainder}
-use Rattle.checker.specs.Temporaries.{need}
-use Rattle.checker.specs.World.{Outcome}
-use Rattle.checker.specs.Meaning.{meaning}
+use Rattle.rules.specs.Temporaries.{need}
+use Rattle.meaning.specs.World.{Outcome}
+use Rattle.meaning.specs.Meaning.{meaning}
 
 -- the position of a token, by its number
 abbrev pub p : ℕ → Position
@@ -43,7 +41,7 @@ abbrev pub routine : List ℕ → List NameTree → List StatementTree → Direc
 routine name locals xs = d.routine (record { name = the 0 name; locals = locals; body = body xs; weight = 0 })
 
 abbrev pub program : List DirectiveTree → ProgramTree
-program ds = record { directives = ds; end = p 999; weight = 0 }
+program ds = record { directives = ds; end = p 999; weight = 0; words = [] }
 
 -- the transcript of one turn
 abbrev pub says : List ℕ → Outcome
@@ -63,7 +61,7 @@ unfolding program_breaches table_of key_of look_up
 sums_fine = refl
 
 sums_mean : meaning (resolve_program sums) 1000 [] ≡ says (codes "-32768 -3" ++ 10 ∷ [])
-unfolding meaning resolve_program table_of key_of look_up signed_text decimal quotient remainder
+unfolding meaning resolve_program resolve_with file_of table_of key_of look_up signed_text decimal quotient remainder
 sums_mean = refl
 
 -- [ F x; print 1 / x; ]; [ Main; print "a"; F(); ];
@@ -81,61 +79,8 @@ divides_fine = refl
 
 divides_mean : meaning (resolve_program divides) 1000 []
     ≡ says (codes "a" ++ 10 ∷ codes "[Fault: division by zero]" ++ 10 ∷ [])
-unfolding meaning resolve_program table_of key_of look_up signed_text decimal quotient remainder
+unfolding meaning resolve_program resolve_with file_of table_of key_of look_up signed_text decimal quotient remainder
 divides_mean = refl
-
--- [ Main; while (true) { } ]; with one unit
-abbrev endless : ProgramTree
-endless = program (routine (codes "Main") [] (s.while_do (p 0) (constant 1) (s.block s.stop) ∷ []) ∷ [])
-
-endless_means : meaning (resolve_program endless) 1 []
-    ≡ record { texts = (10 ∷ codes "[Limit: turn too long]" ++ 10 ∷ []) ∷ []; place = places.Limit limits.Fuel }
-unfolding meaning resolve_program table_of key_of look_up signed_text decimal quotient remainder
-endless_means = refl
-
--- [ F; F(); ]; [ Main; F(); ];
-abbrev deep : ProgramTree
-deep = program
-    (routine (codes "F") [] (s.effect (p 1) (call (the 1 (codes "F")) none) ∷ [])
-    ∷ routine (codes "Main") [] (s.effect (p 2) (call (the 2 (codes "F")) none) ∷ [])
-    ∷ [])
-
-deep_means : meaning (resolve_program deep) 1000000 []
-    ≡ record { texts = (10 ∷ codes "[Limit: calls too deep]" ++ 10 ∷ []) ∷ []; place = places.Limit limits.Calls }
-unfolding meaning resolve_program table_of key_of look_up signed_text decimal quotient remainder
-deep_means = refl
-
-deep_in_short : meaning (resolve_program deep) 10 []
-    ≡ record { texts = (10 ∷ codes "[Limit: turn too long]" ++ 10 ∷ []) ∷ []; place = places.Limit limits.Fuel }
-unfolding meaning resolve_program table_of key_of look_up signed_text decimal quotient remainder
-deep_in_short = refl
-
--- Global i; [ Main; while (i < 2) { print i; i++; } ]; going back is charged before the test
-abbrev counts : ProgramTree
-counts = program
-    (d.global (the 0 (codes "i")) None
-    ∷ routine (codes "Main") []
-    (s.while_do (p 1) (compare comparison.Less (named (the 1 (codes "i"))) (constant 2))
-    (s.block
-    (body (s.print (item (named (the 2 (codes "i"))) ∷ [])
-    ∷ s.effect (p 3) (step_after (named (the 3 (codes "I"))) steps.Increment (p 4)) ∷ []))) ∷ [])
-    ∷ [])
-
-counts_fine : program_breaches counts ≡ []
-unfolding program_breaches table_of key_of look_up
-counts_fine = refl
-
-counts_mean : meaning (resolve_program counts) 3 [] ≡ says (codes "01")
-unfolding meaning resolve_program table_of key_of look_up signed_text decimal quotient remainder
-counts_mean = refl
-
-counts_in_short : meaning (resolve_program counts) 2 []
-    ≡ record {
-      texts = (codes "01" ++ 10 ∷ codes "[Limit: turn too long]" ++ 10 ∷ []) ∷ [];
-      place = places.Limit limits.Fuel;
-    }
-unfolding meaning resolve_program table_of key_of look_up signed_text decimal quotient remainder
-counts_in_short = refl
 
 -- Constant c = 5; [ F a b; return a - b; ]; [ Main; print F(c, 2), " ", F(1), " ", ~~3, " ", ~0, "^"; ];
 abbrev missing : ProgramTree
@@ -160,26 +105,8 @@ unfolding program_breaches table_of key_of look_up
 missing_fine = refl
 
 missing_means : meaning (resolve_program missing) 1000 [] ≡ says (codes "3 1 0 -1" ++ 10 ∷ [])
-unfolding meaning resolve_program table_of key_of look_up signed_text decimal quotient remainder
+unfolding meaning resolve_program resolve_with file_of table_of key_of look_up signed_text decimal quotient remainder
 missing_means = refl
-
--- Global g; [ F; g = g + 1; return g; ]; [ Main; print F() - F() * 10, "^"; ];
-abbrev in_order : ProgramTree
-in_order = program
-    (d.global (the 0 (codes "g")) None
-    ∷ routine (codes "F") []
-    (s.effect (p 1)
-    (assign (named (the 1 (codes "g"))) (p 2) (binary op.Add (named (the 3 (codes "g"))) (constant 1)))
-    ∷ s.return_value (p 4) (named (the 4 (codes "g"))) ∷ [])
-    ∷ routine (codes "Main") []
-    (s.print
-    (item (binary op.Subtract (call (the 5 (codes "F")) none)
-    (binary op.Multiply (call (the 6 (codes "F")) none) (constant 10))) ∷ words (codes "^") ∷ []) ∷ [])
-    ∷ [])
-
-in_order_means : meaning (resolve_program in_order) 1000 [] ≡ says (codes "-19" ++ 10 ∷ [])
-unfolding meaning resolve_program table_of key_of look_up signed_text decimal quotient remainder
-in_order_means = refl
 
 -- rules
 

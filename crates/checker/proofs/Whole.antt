@@ -1,35 +1,51 @@
 -- A whole program.
-use Rattle.std.proofs.Common.{◌≡◌, ◌<◌, ℕ, zero, suc, List, [], ◌∷◌, ◌++◌, length, slice_index_or, Option, refl}
-use Rattle.std.proofs.Common.{subst, ap, ◌∙◌, arith}
+use Rattle.std.proofs.Common.{◌≡◌, ℕ, List, ◌++◌, Option, refl}
+use Rattle.std.proofs.Common.{subst, ap, ◌∙◌}
 use Rattle.std.specs.Prelude.{map}
 use Rattle.syntax.specs.declared.tree.Program.{Program}
 use Rattle.syntax.specs.declared.tree.Directive.{Directive}
-use Rattle.syntax.specs.Tree.{directive_tree, program_tree}
-use Rattle.checker.specs.declared.breach.Breach.{Breach}
-use Rattle.checker.specs.Names.{Table, in_table, first_table, no_counts, table_of}
-use Rattle.checker.specs.Noted.{noted}
-use Rattle.checker.specs.Resolved.{RoutineOf, ProgramOf, CheckedProgram, routine_of, cut}
-use Rattle.checker.specs.declared.checked.CheckedRoutine.{CheckedRoutine}
+use Rattle.syntax.specs.Tree.{directive_tree, ProgramTree, program_tree}
+use Rattle.names.specs.declared.breach.Breach.{Breach}
+use Rattle.names.specs.Keys.{keys_of}
+use Rattle.names.specs.Names.{Table, File, in_table, first_table, no_counts, table_of}
+use Rattle.names.specs.Noted.{noted}
+use Rattle.meaning.specs.Resolved.{RoutineOf, ProgramOf, CheckedProgram, routine_of, cut}
+use Rattle.meaning.specs.declared.checked.CheckedRoutine.{CheckedRoutine}
 use Rattle.checker.specs.declared.directive_rules.Found.{Found}
-use Rattle.checker.specs.Walk.{IsFound}
-use Rattle.checker.specs.Meaning.{routine_at}
+use Rattle.checker.specs.Found.{IsFound}
 use Rattle.checker.specs.Programs.{main_key, first_routine, main_breaches, directives_breaches, program_breaches}
-use Rattle.checker.specs.Programs.{globals_of, arrays_of, routines_of, routine_number, resolve_program, IsCheckedOf}
-use Rattle.checker.proofs.Noted.{noted_two}
-use Rattle.checker.proofs.Cutting.{cut_is}
+use Rattle.checker.specs.Programs.{globals_of, arrays_of, routines_of, routine_number, resolve_with, file_of}
+use Rattle.checker.specs.Programs.{resolve_program, IsCheckedOf}
+use Rattle.names.proofs.Noted.{noted_two}
+use Rattle.meaning.proofs.Cutting.{cut_is}
 
-abbrev pub made : List ℕ → List (List ℕ) → List RoutineOf → ℕ → ProgramOf
-made gs arrays rs n = record { globals = gs; arrays = arrays; routines = rs; main = n }
+abbrev pub made : List ℕ → List (List ℕ) → List ℕ → List RoutineOf → ℕ → ProgramOf
+made gs arrays keys rs n = record { globals = gs; arrays = arrays; keys = keys; routines = rs; main = n }
 
-pub program_value : (p : Program) (whole : Table) (gs : List ℕ) (arrays : List (List ℕ)) (rs : List RoutineOf) (n : ℕ)
-    → whole ≡ table_of (map directive_tree p.directives.items)
-    → gs ≡ globals_of whole (map directive_tree p.directives.items)
-    → arrays ≡ arrays_of whole (map directive_tree p.directives.items)
-    → rs ≡ routines_of whole (map directive_tree p.directives.items)
-    → n ≡ routine_number (in_table whole main_key)
-    → made gs arrays rs n ≡ resolve_program (program_tree p)
-unfolding resolve_program
-program_value p whole gs arrays rs n w g a r m = rw (g, a, r, m, w) refl
+pub program_value : (p : Program) (file : File) (gs : List ℕ) (arrays : List (List ℕ)) (keys : List ℕ)
+    (rs : List RoutineOf) (n : ℕ)
+    → file ≡ file_of (program_tree p)
+    → gs ≡ globals_of file (map directive_tree p.directives.items)
+    → arrays ≡ arrays_of file (map directive_tree p.directives.items)
+    → keys ≡ keys_of (program_tree p).words
+    → rs ≡ routines_of file (map directive_tree p.directives.items)
+    → n ≡ routine_number (in_table file.table main_key)
+    → made gs arrays keys rs n ≡ resolve_program (program_tree p)
+unfolding resolve_program resolve_with
+program_value p file gs arrays keys rs n w g a k r m =
+    let ds = map directive_tree p.directives.items in
+    let words = (program_tree p).words in
+    let here : made gs arrays keys rs n
+    ≡ made (globals_of file ds) (arrays_of file ds) (keys_of words) (routines_of file ds)
+    (routine_number (in_table file.table main_key)) = rw (g, a, k, r, m) refl in
+    here
+    ∙ ap (λ (f : File). made (globals_of f ds) (arrays_of f ds) (keys_of words) (routines_of f ds)
+    (routine_number (in_table f.table main_key))) w
+
+-- the names of a program's file are those of its table
+pub file_table : (p : ProgramTree) → (file_of p).table ≡ table_of p.directives
+unfolding file_of
+file_table p = refl
 
 pub program_break : (m o q : Option Breach) (p : Program) (whole : Table)
     → whole ≡ table_of (map directive_tree p.directives.items)
@@ -48,39 +64,34 @@ program_break m o q p whole w a b =
     ++ main_breaches p.end (first_routine (map directive_tree p.directives.items) main_key)
     (in_table t main_key))) w
 
-abbrev pub checked : List ℕ → List (List ℕ) → List CheckedRoutine → ℕ → ℕ → ℕ → CheckedProgram
-checked globals arrays routines main weight end = record {
+abbrev pub checked : List ℕ → List (List ℕ) → List ℕ → List CheckedRoutine → ℕ → ℕ → ℕ → CheckedProgram
+checked globals arrays keys routines main weight end = record {
   globals = globals;
   arrays = arrays;
+  keys = keys;
   routines = routines;
   main = main;
   weight = weight;
   end_line = end;
 }
 
-pub program_checked : (p : Program) (whole : Table) (given : List Directive) (found : Found) (n : ℕ)
-    (c : CheckedProgram) → whole ≡ table_of (map directive_tree p.directives.items)
-    → given ≡ p.directives.items → IsFound whole (map directive_tree given) found
-    → n ≡ routine_number (in_table whole main_key)
-    → c ≡ checked found.globals.items (cut found.arrays.sizes.items found.arrays.bytes.items) found.routines.items n
+pub program_checked : (p : Program) (file : File) (keys : List ℕ) (given : List Directive) (found : Found) (n : ℕ)
+    (c : CheckedProgram) → file ≡ file_of (program_tree p)
+    → keys ≡ keys_of (program_tree p).words
+    → given ≡ p.directives.items → IsFound file (map directive_tree given) found
+    → n ≡ routine_number (in_table file.table main_key)
+    → c ≡ checked found.globals.items (cut found.arrays.sizes.items found.arrays.bytes.items) keys found.routines.items n
     p.weight p.end.line
     → IsCheckedOf (program_tree p) c
-program_checked p whole given found n c w same f m is =
-    let g : IsFound whole (map directive_tree p.directives.items) found = subst
-    (λ (ds : List Directive). IsFound whole (map directive_tree ds) found) same f in
+program_checked p file keys given found n c w k same f m is =
+    let g : IsFound file (map directive_tree p.directives.items) found = subst
+    (λ (ds : List Directive). IsFound file (map directive_tree ds) found) same f in
     rw is (record {
-      program = program_value p whole found.globals.items (cut found.arrays.sizes.items found.arrays.bytes.items)
+      program = program_value p file found.globals.items (cut found.arrays.sizes.items found.arrays.bytes.items) keys
           (map routine_of found.routines.items) n w g.globals
           (cut_is found.arrays.sizes.items found.arrays.bytes.items
-          (arrays_of whole (map directive_tree p.directives.items)) g.sizes g.bytes) g.routines m;
+          (arrays_of file (map directive_tree p.directives.items)) g.sizes g.bytes) k g.routines m;
       titles = g.titles;
       weight = refl;
       end_line = refl;
     })
-
--- the routine of a number
-pub routine_found : (rs : List CheckedRoutine) (r : ℕ) (x : CheckedRoutine) → r < length rs
-    → x ≡ slice_index_or rs r x → routine_of x ≡ routine_at (map routine_of rs) r
-routine_found [] r x h e = absurd (omega arith)
-routine_found (y ∷ rs) zero x h e = ap routine_of e
-routine_found (y ∷ rs) (suc r) x h e = routine_found rs r x (omega arith) e

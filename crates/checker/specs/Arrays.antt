@@ -10,10 +10,13 @@ use Rattle.expressions.specs.declared.tree.Width.TheVariants as widths
 use Rattle.syntax.specs.declared.tree.ArrayKind.{ArrayKind}
 use Rattle.syntax.specs.declared.tree.ArrayKind.TheVariants as kinds
 use Rattle.syntax.specs.Tree.{ValueTree, ArrayTree}
-use Rattle.checker.specs.declared.breach.Breach.{Breach}
-use Rattle.checker.specs.Breaches.{at}
-use Rattle.checker.specs.Names.{Table, literal_number, literal_value}
-use Rattle.checker.specs.Literals.{literal_breaches}
+use Rattle.names.specs.declared.breach.Breach.{Breach}
+use Rattle.names.specs.Breaches.{at}
+use Rattle.names.specs.declared.known.Known.{Known}
+use Rattle.names.specs.declared.known.Known.TheVariants as knowns
+use Rattle.names.specs.Keys.{or_zero}
+use Rattle.names.specs.Names.{Table, File, literal_known, literal_value}
+use Rattle.rules.specs.Literals.{literal_breaches}
 
 abbrev pub width_of : ArrayKind → Width
 width_of kinds.Bytes = widths.Byte
@@ -44,27 +47,34 @@ is_size kind n = nat_le 1 n && nat_le (array_size kind n) 32000 && is_told kind 
 
 -- Rules
 
--- E28 at the array's name, where it may not have so many entries; a size that breaks a rule itself is not tested
-abbrev pub size_breaches : Position → ArrayKind → Option ℕ → List Breach
-size_breaches p kind None = []
-size_breaches p kind (Some n) = if is_size kind n then [] else at p 28
+-- E28 at the array's name, where it may not have so many entries
+abbrev pub count_breaches : Position → ArrayKind → ℕ → List Breach
+count_breaches p kind n = if is_size kind n then [] else at p 28
 
--- E28 at an entry of a byte that is above 255
-abbrev pub wide_breaches : Position → Width → ℕ → List Breach
-wide_breaches p widths.Byte n = if nat_lt 255 n then at p 28 else []
-wide_breaches p widths.Word n = []
+-- The same of a size. No word is one, since the numbers of words rest on the sizes of arrays. A size that breaks a rule
+-- itself is not tested.
+abbrev pub size_breaches : Position → ArrayKind → Option Known → List Breach
+size_breaches p kind None = []
+size_breaches p kind (Some (knowns.Number n)) = count_breaches p kind n
+size_breaches p kind (Some (knowns.Key key)) = at p 28
+
+-- E28 at an entry of a byte that is above 255, as every word is
+abbrev pub wide_breaches : Position → Width → Known → List Breach
+wide_breaches p widths.Byte (knowns.Number n) = if nat_lt 255 n then at p 28 else []
+wide_breaches p widths.Byte (knowns.Key key) = at p 28
+wide_breaches p widths.Word known = []
 
 abbrev pub entry_breaches : Table → Width → ValueTree → List Breach
 entry_breaches whole width v =
-    literal_breaches whole v.value ++ wide_breaches v.position width (literal_value whole v.value)
+    literal_breaches whole v.value ++ wide_breaches v.position width (or_zero (literal_known whole v.value))
 
 -- one value alone is the number of entries; several are the entries
 abbrev pub values_breaches : Table → Position → ArrayKind → List ValueTree → List Breach
-values_breaches whole p kind [] = size_breaches p kind (Some 0)
+values_breaches whole p kind [] = count_breaches p kind 0
 values_breaches whole p kind (v ∷ []) =
-    literal_breaches whole v.value ++ size_breaches p kind (literal_number whole v.value)
+    literal_breaches whole v.value ++ size_breaches p kind (literal_known whole v.value)
 values_breaches whole p kind (v ∷ w ∷ vs) =
-    size_breaches p kind (Some (length (v ∷ w ∷ vs)))
+    count_breaches p kind (length (v ∷ w ∷ vs))
     ++ flat_map (entry_breaches whole (width_of kind)) (v ∷ w ∷ vs)
 
 abbrev pub array_breaches : Table → ArrayTree → List Breach
@@ -72,17 +82,19 @@ array_breaches whole a = values_breaches whole a.name.position a.kind a.values
 
 -- What an array begins with
 
-abbrev pub entry_value : Table → ValueTree → ℕ
-entry_value whole v = literal_value whole v.value
+abbrev pub entry_value : File → ValueTree → ℕ
+entry_value file v = literal_value file v.value
 
 -- how many zeros a size makes; where a rule is broken, none
-abbrev pub zeros : ArrayKind → ℕ → ℕ
-zeros kind n = if is_size kind n then n else 0
+abbrev pub zeros : ArrayKind → Option Known → ℕ
+zeros kind None = 0
+zeros kind (Some (knowns.Number n)) = if is_size kind n then n else 0
+zeros kind (Some (knowns.Key key)) = 0
 
-abbrev pub entries_of : Table → ArrayKind → List ValueTree → List ℕ
-entries_of whole kind [] = []
-entries_of whole kind (v ∷ []) = replicate (zeros kind (entry_value whole v)) 0
-entries_of whole kind (v ∷ w ∷ vs) = map (entry_value whole) (v ∷ w ∷ vs)
+abbrev pub entries_of : File → ArrayKind → List ValueTree → List ℕ
+entries_of file kind [] = []
+entries_of file kind (v ∷ []) = replicate (zeros kind (literal_known file.table v.value)) 0
+entries_of file kind (v ∷ w ∷ vs) = map (entry_value file) (v ∷ w ∷ vs)
 
 -- the entries, and their number in front where the kind has it
 abbrev pub with_number : ArrayKind → List ℕ → List ℕ
@@ -98,5 +110,5 @@ entry_bytes widths.Word n = (n / 256 % 256) ∷ (n % 256) ∷ []
 abbrev pub bytes_of : ArrayKind → List ℕ → List ℕ
 bytes_of kind entries = flat_map (entry_bytes (width_of kind)) (with_number kind entries)
 
-abbrev pub array_bytes : Table → ArrayTree → List ℕ
-array_bytes whole a = bytes_of a.kind (entries_of whole a.kind a.values)
+abbrev pub array_bytes : File → ArrayTree → List ℕ
+array_bytes file a = bytes_of a.kind (entries_of file a.kind a.values)

@@ -5,17 +5,20 @@ use Rattle.lexer.specs.declared.token.Position.{Position}
 use Rattle.expressions.specs.Tree.{NameTree}
 use Rattle.statements.specs.Tree.{LiteralTree}
 use Rattle.syntax.specs.Tree.{RoutineTree, DirectiveTree, global, constant, array, routine, ProgramTree}
-use Rattle.checker.specs.declared.binding.Binding.{Binding}
-use Rattle.checker.specs.declared.binding.Binding.TheVariants as bindings
-use Rattle.checker.specs.declared.breach.Breach.{Breach}
-use Rattle.checker.specs.Breaches.{at}
-use Rattle.checker.specs.declared.counts.Counts.{Counts}
-use Rattle.checker.specs.Names.{Table, key_of, same_key, in_table, first_table, no_counts, with_directive}
-use Rattle.checker.specs.Names.{counts_after, table_of, look_up}
-use Rattle.checker.specs.Literals.{initial_breaches, named_breaches, initial_value}
+use Rattle.names.specs.declared.binding.Binding.{Binding}
+use Rattle.names.specs.declared.binding.Binding.TheVariants as bindings
+use Rattle.names.specs.declared.breach.Breach.{Breach}
+use Rattle.names.specs.Breaches.{at}
+use Rattle.names.specs.declared.counts.Counts.{Counts}
+use Rattle.names.specs.Keys.{keys_of}
+use Rattle.names.specs.Names.{Table, File, key_of, same_key, in_table, first_table, no_counts, with_directive}
+use Rattle.names.specs.Names.{counts_after, table_of, look_up, Seen, seen_from}
+use Rattle.meaning.specs.Places.{number_in}
+use Rattle.rules.specs.Literals.{initial_breaches, named_breaches, initial_value}
 use Rattle.checker.specs.Arrays.{array_breaches, array_bytes}
-use Rattle.checker.specs.Statements.{outside, statements_breaches, resolve_statements}
-use Rattle.checker.specs.Resolved.{RoutineOf, ProgramOf, CheckedProgram, program_of, title_of}
+use Rattle.rules.specs.Statements.{statements_breaches, resolve_statements}
+use Rattle.meaning.specs.Around.{outside}
+use Rattle.meaning.specs.Resolved.{RoutineOf, ProgramOf, CheckedProgram, program_of, title_of}
 
 -- Definitions: E22 at a name that is defined already, E24 at the 233rd global
 
@@ -91,33 +94,33 @@ program_breaches p =
 
 -- Resolving
 
-abbrev pub globals_of : Table → List DirectiveTree → List ℕ
-globals_of whole [] = []
-globals_of whole (global n v ∷ ds) = initial_value whole v ∷ globals_of whole ds
-globals_of whole (constant n v ∷ ds) = globals_of whole ds
-globals_of whole (array a ∷ ds) = globals_of whole ds
-globals_of whole (routine r ∷ ds) = globals_of whole ds
+abbrev pub globals_of : File → List DirectiveTree → List ℕ
+globals_of file [] = []
+globals_of file (global n v ∷ ds) = initial_value file v ∷ globals_of file ds
+globals_of file (constant n v ∷ ds) = globals_of file ds
+globals_of file (array a ∷ ds) = globals_of file ds
+globals_of file (routine r ∷ ds) = globals_of file ds
 
-abbrev pub arrays_of : Table → List DirectiveTree → List (List ℕ)
-arrays_of whole [] = []
-arrays_of whole (global n v ∷ ds) = arrays_of whole ds
-arrays_of whole (constant n v ∷ ds) = arrays_of whole ds
-arrays_of whole (array a ∷ ds) = array_bytes whole a ∷ arrays_of whole ds
-arrays_of whole (routine r ∷ ds) = arrays_of whole ds
+abbrev pub arrays_of : File → List DirectiveTree → List (List ℕ)
+arrays_of file [] = []
+arrays_of file (global n v ∷ ds) = arrays_of file ds
+arrays_of file (constant n v ∷ ds) = arrays_of file ds
+arrays_of file (array a ∷ ds) = array_bytes file a ∷ arrays_of file ds
+arrays_of file (routine r ∷ ds) = arrays_of file ds
 
--- where `look` tells what a name stands for
-abbrev pub resolve_body : (List ℕ → Option Binding) → RoutineTree → RoutineOf
-resolve_body look r = record { locals = length r.locals; body = resolve_statements look r.body }
+-- where a routine sees so much of the file
+abbrev pub resolve_body : Seen → RoutineTree → RoutineOf
+resolve_body seen r = record { locals = length r.locals; body = resolve_statements seen r.body }
 
-abbrev pub resolve_routine : Table → RoutineTree → RoutineOf
-resolve_routine whole r = resolve_body (look_up whole r.locals) r
+abbrev pub resolve_routine : File → RoutineTree → RoutineOf
+resolve_routine file r = resolve_body (seen_from file r.locals) r
 
-abbrev pub routines_of : Table → List DirectiveTree → List RoutineOf
-routines_of whole [] = []
-routines_of whole (global n v ∷ ds) = routines_of whole ds
-routines_of whole (constant n v ∷ ds) = routines_of whole ds
-routines_of whole (array a ∷ ds) = routines_of whole ds
-routines_of whole (routine r ∷ ds) = resolve_routine whole r ∷ routines_of whole ds
+abbrev pub routines_of : File → List DirectiveTree → List RoutineOf
+routines_of file [] = []
+routines_of file (global n v ∷ ds) = routines_of file ds
+routines_of file (constant n v ∷ ds) = routines_of file ds
+routines_of file (array a ∷ ds) = routines_of file ds
+routines_of file (routine r ∷ ds) = resolve_routine file r ∷ routines_of file ds
 
 abbrev pub routine_number : Option Binding → ℕ
 routine_number None = 0
@@ -128,13 +131,26 @@ routine_number (Some (bindings.Routine r locals)) = r
 routine_number (Some bindings.Property) = 0
 routine_number (Some (bindings.Local l)) = 0
 
-unfoldable pub resolve_program : ProgramTree → ProgramOf
-resolve_program p = record {
-  globals = globals_of (table_of p.directives) p.directives;
-  arrays = arrays_of (table_of p.directives) p.directives;
-  routines = routines_of (table_of p.directives) p.directives;
-  main = routine_number (in_table (table_of p.directives) main_key);
+-- with the names of a file and these numbers of keys
+unfoldable pub resolve_with : File → ProgramTree → ProgramOf
+resolve_with file p = record {
+  globals = globals_of file p.directives;
+  arrays = arrays_of file p.directives;
+  keys = keys_of p.words;
+  routines = routines_of file p.directives;
+  main = routine_number (in_table file.table main_key);
 }
+
+abbrev pub no_numbers : ProgramTree → File
+no_numbers p = record { table = table_of p.directives; number = λ key. 0 }
+
+-- The numbers of keys rest on the sizes of arrays and on how many keys there are, and these do not rest on the numbers
+-- of keys: they are the same where every key has the number 0.
+unfoldable pub file_of : ProgramTree → File
+file_of p = record { table = table_of p.directives; number = number_in (resolve_with (no_numbers p) p) }
+
+unfoldable pub resolve_program : ProgramTree → ProgramOf
+resolve_program p = resolve_with (file_of p) p
 
 -- What a checked program is of its source
 

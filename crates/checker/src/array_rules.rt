@@ -2,20 +2,18 @@
 
 ghost use Rattle.std.specs.Prelude.{◌≡◌, ◌≢◌, ◌++◌, OnOk, map, replicate, length, Some};
 ghost use Rattle.std.specs.List.{flat_map};
+ghost use Rattle.expressions.specs.declared.tree.Width.TheVariants as widths;
 ghost use Rattle.syntax.specs.Tree.{value_tree, array_tree};
 ghost use Rattle.checker.specs.Arrays as spec;
-ghost use Rattle.checker.specs.Names as names;
-ghost use Rattle.checker.specs.Noted.{noted};
-ghost use Rattle.checker.specs.Walk.{most, number_bytes, own_entry_bytes, own_entry_breaches, IsArrayAdded};
+ghost use Rattle.names.specs.Noted.{noted};
+ghost use Rattle.names.specs.Scope.{file_in};
+ghost use Rattle.checker.specs.Found.{most, number_bytes, own_entry_bytes, own_entry_breaches, IsArrayAdded};
 
-use crate::arrays::Arrays;
-use crate::breach::Breach;
-use crate::literal_rules::literal;
-use crate::names::or_zero;
-use crate::note::note;
-use crate::table::Table;
 use expressions::Width;
 use lexer::{BAD_ARRAY, Position};
+use meaning::Arrays;
+use names::{Breach, File, Known, note, or_zero};
+use rules::literal;
 use std::alloc::AllocError;
 use syntax::{Array, ArrayKind, ArrayValue};
 
@@ -50,9 +48,9 @@ fn is_size(kind: ArrayKind, count: usize) -> bool
 }
 
 // A number of entries, of the array whose name stands there.
-#[tactic(auto, using(crate::proofs::Noted::noted_none))]
+#[tactic(auto, using(names::proofs::Noted::noted_none))]
 fn count_rule(position: Position, kind: ArrayKind, count: usize, least: &mut Option<Breach>)
-    ensures { least.new ≡ noted least.old (spec.size_breaches position kind (Some count)) }
+    ensures { least.new ≡ noted least.old (spec.count_breaches position kind count) }
 {
     if !is_size(kind, count) {
         note(least, BAD_ARRAY, position);
@@ -60,19 +58,23 @@ fn count_rule(position: Position, kind: ArrayKind, count: usize, least: &mut Opt
 }
 
 // A size, and how many zeros it makes.
-#[tactic(auto, using(crate::proofs::Noted::noted_none))]
+#[tactic(auto, using(names::proofs::Noted::noted_none))]
 fn zeros_of(
     position: Position,
     kind: ArrayKind,
-    size: Option<u16>,
+    size: Option<Known>,
     least: &mut Option<Breach>,
 ) -> usize
-    ensures value { result ≡ spec.zeros kind (names.or_zero size) }
+    ensures value { result ≡ spec.zeros kind size }
     ensures breaches { least.new ≡ noted least.old (spec.size_breaches position kind size) }
 {
     match size {
         None => 0,
-        Some(count) => {
+        Some(Known::Key(_)) => {
+            note(least, BAD_ARRAY, position);
+            0
+        }
+        Some(Known::Number(count)) => {
             let count = count as usize;
             count_rule(position, kind, count, least);
             if is_size(kind, count) { count } else { 0 }
@@ -111,39 +113,51 @@ fn add_zeros(bytes: &mut Vec<u8>, width: Width, count: usize) -> Result<(), Allo
     Ok(())
 }
 
-#[tactic(auto, using(crate::proofs::Noted::noted_none))]
-fn wide_rule(position: Position, width: Width, value: u16, least: &mut Option<Breach>)
+#[tactic(auto, using(names::proofs::Noted::noted_none))]
+fn byte_rule(position: Position, value: Known, least: &mut Option<Breach>)
+    ensures { least.new ≡ noted least.old (spec.wide_breaches position widths.Byte value) }
+{
+    match value {
+        Known::Number(number) => {
+            if number > 255 {
+                note(least, BAD_ARRAY, position);
+            }
+        }
+        Known::Key(_) => note(least, BAD_ARRAY, position),
+    }
+}
+
+#[tactic(auto, using(names::proofs::Noted::noted_none))]
+fn wide_rule(position: Position, width: Width, value: Known, least: &mut Option<Breach>)
     ensures { least.new ≡ noted least.old (spec.wide_breaches position width value) }
 {
     if let Width::Byte = width {
-        if value > 255 {
-            note(least, BAD_ARRAY, position);
-        }
+        byte_rule(position, value, least);
     }
 }
 
 // An entry of an array.
-fn entry(value: &ArrayValue<'_>, width: Width, whole: &Table, least: &mut Option<Breach>) -> usize
-    ensures value { result ≡ spec.entry_value whole.now.entries (value_tree value.now) }
-    ensures breaches { least.new ≡ noted least.old (spec.entry_breaches whole.now.entries width (value_tree value.now)) }
+fn entry(value: &ArrayValue<'_>, width: Width, file: &File, least: &mut Option<Breach>) -> usize
+    ensures value { result ≡ spec.entry_value (file_in file.now) (value_tree value.now) }
+    ensures breaches { least.new ≡ noted least.old (spec.entry_breaches file.now.table.entries width (value_tree value.now)) }
 {
-    let number = or_zero(literal(&value.value, whole, least));
-    wide_rule(value.position, width, number, least);
-    number as usize
+    let known = or_zero(literal(&value.value, &file.table, least));
+    wide_rule(value.position, width, known, least);
+    file.numbers.value(known) as usize
 }
 
 fn add_entries(
     values: &[ArrayValue<'_>],
     width: Width,
-    whole: &Table,
+    file: &File,
     bytes: &mut Vec<u8>,
     least: &mut Option<Breach>,
 ) -> Result<(), AllocError>
-    ensures bytes { OnOk result (bytes.new.items ≡ bytes.old.items ++ flat_map (own_entry_bytes whole.now.entries width) values.now) }
-    ensures breaches { OnOk result (least.new ≡ noted least.old (flat_map (own_entry_breaches whole.now.entries width) values.now)) }
+    ensures bytes { OnOk result (bytes.new.items ≡ bytes.old.items ++ flat_map (own_entry_bytes (file_in file.now) width) values.now) }
+    ensures breaches { OnOk result (least.new ≡ noted least.old (flat_map (own_entry_breaches file.now.table.entries width) values.now)) }
 {
     for value in values {
-        let number = entry(value, width, whole, least);
+        let number = entry(value, width, file, least);
         add_entry(bytes, width, number)?;
     }
     Ok(())
@@ -154,15 +168,15 @@ fn add_sized(
     values: &[ArrayValue<'_>],
     position: Position,
     kind: ArrayKind,
-    whole: &Table,
+    file: &File,
     bytes: &mut Vec<u8>,
     least: &mut Option<Breach>,
 ) -> Result<(), AllocError>
     requires one { length values.now ≡ 1 }
-    ensures bytes { OnOk result (bytes.new.items ≡ bytes.old.items ++ spec.bytes_of kind (spec.entries_of whole.now.entries kind (map value_tree values.now))) }
-    ensures breaches { OnOk result (least.new ≡ noted least.old (spec.values_breaches whole.now.entries position kind (map value_tree values.now))) }
+    ensures bytes { OnOk result (bytes.new.items ≡ bytes.old.items ++ spec.bytes_of kind (spec.entries_of (file_in file.now) kind (map value_tree values.now))) }
+    ensures breaches { OnOk result (least.new ≡ noted least.old (spec.values_breaches file.now.table.entries position kind (map value_tree values.now))) }
 {
-    let size = literal(&values[0].value, whole, least);
+    let size = literal(&values[0].value, &file.table, least);
     let count = zeros_of(position, kind, size, least);
     add_number(bytes, kind, count)?;
     add_zeros(bytes, width_of(kind), count)?;
@@ -174,17 +188,17 @@ fn add_listed(
     values: &[ArrayValue<'_>],
     position: Position,
     kind: ArrayKind,
-    whole: &Table,
+    file: &File,
     bytes: &mut Vec<u8>,
     least: &mut Option<Breach>,
 ) -> Result<(), AllocError>
     requires several { length values.now ≢ 1 }
-    ensures bytes { OnOk result (bytes.new.items ≡ bytes.old.items ++ spec.bytes_of kind (spec.entries_of whole.now.entries kind (map value_tree values.now))) }
-    ensures breaches { OnOk result (least.new ≡ noted least.old (spec.values_breaches whole.now.entries position kind (map value_tree values.now))) }
+    ensures bytes { OnOk result (bytes.new.items ≡ bytes.old.items ++ spec.bytes_of kind (spec.entries_of (file_in file.now) kind (map value_tree values.now))) }
+    ensures breaches { OnOk result (least.new ≡ noted least.old (spec.values_breaches file.now.table.entries position kind (map value_tree values.now))) }
 {
     count_rule(position, kind, values.len(), least);
     add_number(bytes, kind, values.len())?;
-    add_entries(values, width_of(kind), whole, bytes, least)?;
+    add_entries(values, width_of(kind), file, bytes, least)?;
     Ok(())
 }
 
@@ -192,17 +206,17 @@ fn add_values(
     values: &[ArrayValue<'_>],
     position: Position,
     kind: ArrayKind,
-    whole: &Table,
+    file: &File,
     bytes: &mut Vec<u8>,
     least: &mut Option<Breach>,
 ) -> Result<(), AllocError>
-    ensures bytes { OnOk result (bytes.new.items ≡ bytes.old.items ++ spec.bytes_of kind (spec.entries_of whole.now.entries kind (map value_tree values.now))) }
-    ensures breaches { OnOk result (least.new ≡ noted least.old (spec.values_breaches whole.now.entries position kind (map value_tree values.now))) }
+    ensures bytes { OnOk result (bytes.new.items ≡ bytes.old.items ++ spec.bytes_of kind (spec.entries_of (file_in file.now) kind (map value_tree values.now))) }
+    ensures breaches { OnOk result (least.new ≡ noted least.old (spec.values_breaches file.now.table.entries position kind (map value_tree values.now))) }
 {
     if values.len() == 1 {
-        add_sized(values, position, kind, whole, bytes, least)
+        add_sized(values, position, kind, file, bytes, least)
     } else {
-        add_listed(values, position, kind, whole, bytes, least)
+        add_listed(values, position, kind, file, bytes, least)
     }
 }
 
@@ -213,17 +227,17 @@ fn add_values(
 /// `AllocError` where memory is refused.
 pub fn array(
     written: &Array<'_>,
-    whole: &Table,
+    file: &File,
     found: &mut Arrays,
     least: &mut Option<Breach>,
 ) -> Result<(), AllocError>
-    ensures added { OnOk result (IsArrayAdded (spec.array_bytes whole.now.entries (array_tree written.now)) found.old found.new) }
-    ensures breaches { OnOk result (least.new ≡ noted least.old (spec.array_breaches whole.now.entries (array_tree written.now))) }
+    ensures added { OnOk result (IsArrayAdded (spec.array_bytes (file_in file.now) (array_tree written.now)) found.old found.new) }
+    ensures breaches { OnOk result (least.new ≡ noted least.old (spec.array_breaches file.now.table.entries (array_tree written.now))) }
 {
     let before = found.bytes.len();
     let position = written.name.position;
     let bytes = &mut found.bytes;
-    add_values(&written.values, position, written.kind, whole, bytes, least)?;
+    add_values(&written.values, position, written.kind, file, bytes, least)?;
     found.sizes.push(found.bytes.len() - before)?;
     Ok(())
 }

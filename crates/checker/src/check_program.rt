@@ -1,43 +1,74 @@
 //! The check of a program.
 
-ghost use Rattle.std.specs.Prelude.{◌≡◌, IfOk, OnOk, map};
-ghost use Rattle.syntax.specs.Tree.{directive_tree, program_tree};
-ghost use Rattle.checker.specs.Breaches.{Answers};
-ghost use Rattle.checker.specs.Names.{table_of};
-ghost use Rattle.checker.specs.Noted.{noted};
-ghost use Rattle.checker.specs.Programs.{program_breaches, IsCheckedOf};
+ghost use Rattle.std.specs.Prelude.{◌≡◌, ◌≤◌, ◌^◌, IfOk, OnOk, length};
+ghost use Rattle.syntax.specs.Tree.{program_tree};
+ghost use Rattle.names.specs.Breaches.{Answers};
+ghost use Rattle.names.specs.Noted.{noted};
+ghost use Rattle.checker.specs.Programs.{program_breaches, no_numbers, file_of, IsCheckedOf};
+ghost use Rattle.names.specs.Scope.{file_in};
+ghost use Rattle.names.specs.Keys.{keys_of};
 
-use crate::breach::Breach;
-use crate::checked::Checked;
-use crate::directive_rules::all_directives;
+use crate::directive_rules::{all_directives, bytes_of_arrays};
 use crate::main_rules::main_number;
-use crate::names::tabulate;
-use crate::table::Table;
 use lexer::{NO_MEMORY, SourceFault};
+use meaning::{Checked, dictionary_behind};
+use names::{Breach, File, Numbers, gather, tabulate};
 use std::alloc::{AllocError, Global};
 use syntax::Program;
 
-// Resolves the names of a program, where these are the names of its file, and notes the rules that it breaks.
+// Resolves the names and words of a program, where these are those of its file, and notes the rules that it breaks.
 fn resolve_with<'a>(
     alloc: Global,
     program: &Program<'a>,
-    whole: &Table,
+    file: File,
     least: &mut Option<Breach>,
 ) -> Result<Checked<'a>, AllocError>
-    requires { whole.now.entries ≡ table_of (map directive_tree program.now.directives.items) }
+    requires file { file_in file ≡ file_of (program_tree program.now) }
+    requires keys { file.numbers.keys.items ≡ keys_of (program_tree program.now).words }
+    requires few { length file.numbers.keys.items ≤ 2 ^ 59 }
     ensures value { IfOk result (λ c. IsCheckedOf (program_tree program.now) c) }
     ensures breaches { OnOk result (least.new ≡ noted least.old (program_breaches (program_tree program.now))) }
 {
-    let found = all_directives(alloc, whole, &program.directives, least)?;
-    let main = main_number(&program.directives, program.end, whole, least);
+    let found = all_directives(alloc, &file, &program.directives, least)?;
+    let main = main_number(&program.directives, program.end, &file.table, least);
     Ok(Checked::new(
         found.globals,
         found.arrays,
+        file.numbers.keys,
         found.routines,
         main,
         program.weight,
         program.end.line,
     ))
+}
+
+// The numbers of no words.
+fn unnumbered(alloc: Global, program: &Program<'_>) -> Result<File, AllocError>
+    ensures { IfOk result (λ f. file_in f ≡ no_numbers (program_tree program.now)) }
+{
+    let table = tabulate(alloc, &program.directives)?;
+    let numbers = Numbers::none(alloc);
+    Ok(File { table, numbers })
+}
+
+// The names of a program and the numbers of its words, which rest on how many bytes its arrays have.
+fn numbered(alloc: Global, program: &Program<'_>) -> Result<File, AllocError>
+    ensures file { IfOk result (λ f. file_in f ≡ file_of (program_tree program.now)) }
+    ensures keys { IfOk result (λ f. f.numbers.keys.items ≡ keys_of (program_tree program.now).words) }
+    ensures few { IfOk result (λ f. length f.numbers.keys.items ≤ 2 ^ 59) }
+{
+    let first = unnumbered(alloc, program)?;
+    let bytes = bytes_of_arrays(alloc, &first, &program.directives)?;
+    let keys = gather(alloc, &program.words)?;
+    let File { table, numbers } = first;
+    drop(numbers);
+    Ok(File {
+        table,
+        numbers: Numbers {
+            keys,
+            dictionary: dictionary_behind(bytes),
+        },
+    })
 }
 
 fn resolve<'a>(
@@ -48,8 +79,8 @@ fn resolve<'a>(
     ensures value { IfOk result (λ c. IsCheckedOf (program_tree program.now) c) }
     ensures breaches { OnOk result (least.new ≡ noted least.old (program_breaches (program_tree program.now))) }
 {
-    let whole = tabulate(alloc, &program.directives)?;
-    resolve_with(alloc, program, &whole, least)
+    let file = numbered(alloc, program)?;
+    resolve_with(alloc, program, file, least)
 }
 
 /// Checks the names, kinds and limits of a program, and resolves its names.

@@ -1,35 +1,29 @@
 //! Directives: the rules that they can break, and what they resolve to.
 
-ghost use Rattle.std.specs.Prelude.{◌≡◌, ◌∷◌, [], ℕ, List, IfOk, OnOk, map, nat_le, if◌then◌else◌};
+ghost use Rattle.std.specs.Prelude.{◌≡◌, ◌<◌, ◌^◌, ◌∷◌, ◌++◌, [], ℕ, List, IfOk, OnOk, length, map, nat_le, if◌then◌else◌};
+ghost use Rattle.std.specs.List.{concat};
 ghost use Rattle.expressions.specs.Tree.{name_tree};
 ghost use Rattle.syntax.specs.Tree.{optional_tree, routine_tree, directive_tree};
-ghost use Rattle.checker.specs.Names.{in_table, local_from, first_table, no_counts};
-ghost use Rattle.checker.specs.Breaches.{at};
-ghost use Rattle.checker.specs.Literals.{initial_value};
-ghost use Rattle.checker.specs.Noted.{noted};
-ghost use Rattle.checker.specs.Scope.{look_in, local_binding};
-ghost use Rattle.checker.specs.Walk.{IsRoutineIn, IsRoutineOf, IsAdded, IsFound};
+ghost use Rattle.names.specs.Names.{in_table, local_from, first_table, no_counts};
+ghost use Rattle.names.specs.Breaches.{at};
+ghost use Rattle.rules.specs.Literals.{initial_value};
+ghost use Rattle.names.specs.Noted.{noted};
+ghost use Rattle.names.specs.Scope.{file_in, seen_in, local_binding};
+ghost use Rattle.checker.specs.Found.{IsRoutineIn, IsRoutineOf, IsAdded, IsFound};
 ghost use Rattle.checker.specs.Programs as spec;
 
-use crate::around::OUTSIDE;
 use crate::array_rules::array;
-use crate::arrays::Arrays;
-use crate::binding::Binding;
-use crate::breach::Breach;
-use crate::checked::CheckedRoutine;
-use crate::literal_rules::{constant_value, initial};
-use crate::names::Names;
-use crate::note::note;
-use crate::statement_rules::all_statements;
-use crate::table::{Scope, Table, define, find};
 use expressions::Name;
 use indexmap::IndexMap;
 use lexer::{DEFINED_TWICE, Position, TOO_MANY};
+use meaning::{Arrays, CheckedRoutine, OUTSIDE};
+use names::{Binding, Breach, File, Names, Scope, Table, define, find, note};
+use rules::{all_statements, constant_value, initial};
 use std::alloc::{AllocError, Global};
 use syntax::{Directive, Literal, Routine};
 
 // A name that is defined where these names are defined.
-#[tactic(auto, using(crate::proofs::Noted::noted_none))]
+#[tactic(auto, using(names::proofs::Noted::noted_none))]
 fn twice(table: &Table, name: Name<'_>, least: &mut Option<Breach>)
     ensures { least.new ≡ noted least.old (spec.twice table.now.entries (name_tree name.entry)) }
 {
@@ -38,7 +32,7 @@ fn twice(table: &Table, name: Name<'_>, least: &mut Option<Breach>)
     }
 }
 
-#[tactic(auto, using(crate::proofs::Noted::noted_none))]
+#[tactic(auto, using(names::proofs::Noted::noted_none))]
 fn count_locals(number: usize, position: Position, least: &mut Option<Breach>)
     ensures { least.new ≡ noted least.old (if nat_le 15 number then at position 24 else []) }
 {
@@ -73,7 +67,7 @@ fn routine_in<'a>(
     routine: &Routine<'a>,
     least: &mut Option<Breach>,
 ) -> Result<CheckedRoutine<'a>, AllocError>
-    ensures { IfOk result (λ r. IsRoutineIn (look_in scope.now) (routine_tree routine.now) least.old least.new r) }
+    ensures { IfOk result (λ r. IsRoutineIn (seen_in scope.now) (routine_tree routine.now) least.old least.new r) }
 {
     let body = all_statements(alloc, scope, OUTSIDE, &routine.body, least)?;
     Ok(CheckedRoutine {
@@ -86,15 +80,15 @@ fn routine_in<'a>(
 
 fn routine<'a>(
     alloc: Global,
-    whole: &Table,
+    file: &File,
     routine: &Routine<'a>,
     least: &mut Option<Breach>,
 ) -> Result<CheckedRoutine<'a>, AllocError>
-    ensures { IfOk result (λ r. IsRoutineOf whole.now.entries (routine_tree routine.now) least.old least.new r) }
+    ensures { IfOk result (λ r. IsRoutineOf (file_in file.now) (routine_tree routine.now) least.old least.new r) }
 {
     let locals = locals(alloc, &routine.locals, least)?;
     let scope = Scope {
-        file: whole,
+        file,
         locals: &locals,
     };
     routine_in(alloc, &scope, routine, least)
@@ -113,7 +107,7 @@ pub struct Found<'a> {
     pub routines: Vec<CheckedRoutine<'a>>,
 }
 
-#[tactic(auto, using(crate::proofs::Noted::noted_none))]
+#[tactic(auto, using(names::proofs::Noted::noted_none))]
 fn count_globals(globals: usize, position: Position, least: &mut Option<Breach>)
     ensures { least.new ≡ noted least.old (if nat_le 232 globals then at position 24 else []) }
 {
@@ -123,52 +117,52 @@ fn count_globals(globals: usize, position: Position, least: &mut Option<Breach>)
 }
 
 fn global(
-    whole: &Table,
+    file: &File,
     names: &Names,
     name: Name<'_>,
     value: &Option<Literal<'_>>,
     least: &mut Option<Breach>,
 ) -> u16
-    ensures value { result ≡ initial_value whole.now.entries (optional_tree value.now) }
-    ensures breaches { least.new ≡ noted least.old (spec.global_directive_breaches whole.now.entries names.now.table.entries names.now.counts (name_tree name.entry) (optional_tree value.now)) }
+    ensures value { result ≡ initial_value (file_in file.now) (optional_tree value.now) }
+    ensures breaches { least.new ≡ noted least.old (spec.global_directive_breaches file.now.table.entries names.now.table.entries names.now.counts (name_tree name.entry) (optional_tree value.now)) }
 {
     twice(&names.table, name, least);
     count_globals(names.counts.globals, name.position, least);
-    initial(value, whole, least)
+    initial(value, file, least)
 }
 
 // A directive that follows those of these names.
 fn directive<'a>(
     alloc: Global,
-    whole: &Table,
+    file: &File,
     names: &Names,
     directive: &Directive<'a>,
     found: &mut Found<'a>,
     least: &mut Option<Breach>,
 ) -> Result<(), AllocError>
-    ensures added { OnOk result (IsAdded whole.now.entries (directive_tree directive.now ∷ []) found.old found.new) }
-    ensures breaches { OnOk result (least.new ≡ noted least.old (spec.directive_breaches whole.now.entries names.now.table.entries names.now.counts (directive_tree directive.now))) }
+    ensures added { OnOk result (IsAdded (file_in file.now) (directive_tree directive.now ∷ []) found.old found.new) }
+    ensures breaches { OnOk result (least.new ≡ noted least.old (spec.directive_breaches file.now.table.entries names.now.table.entries names.now.counts (directive_tree directive.now))) }
 {
     match directive {
         Directive::Global(name, value) => {
             found
                 .globals
-                .push(global(whole, names, *name, value, least))?;
+                .push(global(file, names, *name, value, least))?;
             Ok(())
         }
         Directive::Constant(name, value) => {
             twice(&names.table, *name, least);
-            constant_value(value, whole, &names.table, least);
+            constant_value(value, &file.table, &names.table, least);
             Ok(())
         }
         Directive::Array(written) => {
             twice(&names.table, written.name, least);
-            array(written, whole, &mut found.arrays, least)?;
+            array(written, file, &mut found.arrays, least)?;
             Ok(())
         }
         Directive::Routine(written) => {
             twice(&names.table, written.name, least);
-            found.routines.push(routine(alloc, whole, written, least)?)?;
+            found.routines.push(routine(alloc, file, written, least)?)?;
             Ok(())
         }
     }
@@ -177,37 +171,37 @@ fn directive<'a>(
 // The directives of a file from its first, with the names that are there before it.
 fn add_all<'a>(
     alloc: Global,
-    whole: &Table,
+    file: &File,
     directives: &[Directive<'a>],
     names: &mut Names,
     found: &mut Found<'a>,
     least: &mut Option<Breach>,
 ) -> Result<(), AllocError>
     requires first { names.old.counts ≡ no_counts }
-    ensures added { OnOk result (IsAdded whole.now.entries (map directive_tree directives.now) found.old found.new) }
-    ensures breaches { OnOk result (least.new ≡ noted least.old (spec.directives_breaches whole.now.entries names.old.table.entries no_counts (map directive_tree directives.now))) }
+    ensures added { OnOk result (IsAdded (file_in file.now) (map directive_tree directives.now) found.old found.new) }
+    ensures breaches { OnOk result (least.new ≡ noted least.old (spec.directives_breaches file.now.table.entries names.old.table.entries no_counts (map directive_tree directives.now))) }
 {
     for one in directives {
-        directive(alloc, whole, names, one, found, least)?;
+        directive(alloc, file, names, one, found, least)?;
         names.add(one)?;
     }
     Ok(())
 }
 
-/// Resolves the names of a file's directives, where these are the names of the whole file, and notes the rules that
-/// they break.
+/// Resolves the names and the words of a file's directives, where these are those of the whole file, and notes the rules
+/// that they break.
 ///
 /// # Errors
 ///
 /// `AllocError` where memory is refused.
 pub fn all_directives<'a>(
     alloc: Global,
-    whole: &Table,
+    file: &File,
     directives: &[Directive<'a>],
     least: &mut Option<Breach>,
 ) -> Result<Found<'a>, AllocError>
-    ensures found { IfOk result (λ f. IsFound whole.now.entries (map directive_tree directives.now) f) }
-    ensures breaches { OnOk result (least.new ≡ noted least.old (spec.directives_breaches whole.now.entries first_table no_counts (map directive_tree directives.now))) }
+    ensures found { IfOk result (λ f. IsFound (file_in file.now) (map directive_tree directives.now) f) }
+    ensures breaches { OnOk result (least.new ≡ noted least.old (spec.directives_breaches file.now.table.entries first_table no_counts (map directive_tree directives.now))) }
 {
     let mut names = Names::new(alloc)?;
     let mut found = Found {
@@ -215,6 +209,53 @@ pub fn all_directives<'a>(
         arrays: Arrays::none(alloc),
         routines: Vec::new(alloc),
     };
-    add_all(alloc, whole, directives, &mut names, &mut found, least)?;
+    add_all(alloc, file, directives, &mut names, &mut found, least)?;
     Ok(found)
+}
+
+// The bytes of the array that a directive defines, if it does.
+fn add_array(file: &File, directive: &Directive<'_>, arrays: &mut Arrays) -> Result<(), AllocError>
+    ensures { OnOk result (arrays.new.bytes.items ≡ arrays.old.bytes.items ++ concat (spec.arrays_of (file_in file.now) (directive_tree directive.now ∷ []))) }
+{
+    match directive {
+        Directive::Array(written) => {
+            let mut least = None;
+            array(written, file, arrays, &mut least)
+        }
+        Directive::Global(_, _) => Ok(()),
+        Directive::Constant(_, _) => Ok(()),
+        Directive::Routine(_) => Ok(()),
+    }
+}
+
+// The bytes of the arrays that directives define.
+fn add_arrays(
+    file: &File,
+    directives: &[Directive<'_>],
+    arrays: &mut Arrays,
+) -> Result<(), AllocError>
+    ensures { OnOk result (arrays.new.bytes.items ≡ arrays.old.bytes.items ++ concat (spec.arrays_of (file_in file.now) (map directive_tree directives.now))) }
+{
+    for one in directives {
+        add_array(file, one, arrays)?;
+    }
+    Ok(())
+}
+
+/// How many bytes the arrays have that directives define, in a file of these names and numbers.
+///
+/// # Errors
+///
+/// `AllocError` where memory is refused.
+pub fn bytes_of_arrays(
+    alloc: Global,
+    file: &File,
+    directives: &[Directive<'_>],
+) -> Result<usize, AllocError>
+    ensures bytes { IfOk result (λ n. n ≡ length (concat (spec.arrays_of (file_in file.now) (map directive_tree directives.now)))) }
+    ensures few { IfOk result (λ n. n < 2 ^ 63) }
+{
+    let mut arrays = Arrays::none(alloc);
+    add_arrays(file, directives, &mut arrays)?;
+    Ok(arrays.bytes.len())
 }

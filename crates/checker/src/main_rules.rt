@@ -4,18 +4,14 @@ ghost use Rattle.std.specs.Prelude.{◌≡◌, map};
 ghost use Rattle.std.specs.Option.{option_map};
 ghost use Rattle.expressions.specs.Tree.{name_tree};
 ghost use Rattle.syntax.specs.Tree.{directive_tree};
-ghost use Rattle.checker.specs.Names.{in_table};
-ghost use Rattle.checker.specs.Noted.{noted};
+ghost use Rattle.names.specs.Names.{in_table};
+ghost use Rattle.names.specs.Noted.{noted};
 ghost use Rattle.checker.specs.Programs.{main_key, position_or, main_breaches, routine_number};
 ghost use Rattle.checker.specs.Programs as spec;
 
-use crate::binding::Binding;
-use crate::breach::Breach;
-use crate::key::{Key, key_of};
-use crate::note::note;
-use crate::table::{Table, find};
 use expressions::Name;
 use lexer::{NO_PROPER_MAIN, Position};
+use names::{Binding, Breach, Key, Table, find, key_of, note};
 use syntax::Directive;
 
 // The name of the first routine with a key.
@@ -42,7 +38,7 @@ fn main_position(directives: &[Directive<'_>], end: Position) -> Position
 }
 
 /// The number of the routine `Main`, in a file that ends there.
-#[tactic(auto, using(crate::proofs::Noted::noted_none))]
+#[tactic(auto, using(names::proofs::Noted::noted_none))]
 pub fn main_number(
     directives: &[Directive<'_>],
     end: Position,

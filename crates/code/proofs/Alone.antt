@@ -9,8 +9,8 @@ use Rattle.zcore.specs.Instruction.{Instruction, bytes_of}
 use Rattle.zcore.specs.State.{State, done}
 use Rattle.zcore.specs.Parts.{operand_value, operand_values}
 use Rattle.zcore.specs.Execution.{give_result, perform}
-use Rattle.checker.specs.World.{Situation, value_in}
-use Rattle.checker.specs.Meaning.{routine_at}
+use Rattle.meaning.specs.World.{Situation, value_in}
+use Rattle.meaning.specs.Meaning.{routine_at}
 use Rattle.items.specs.Items.{Item, Destination}
 use Rattle.items.specs.Items as items
 use Rattle.items.specs.Laws.{IsOperand, IsDestination}

@@ -14,7 +14,7 @@ use Rattle.zcore.specs.State.{State}
 use Rattle.zcore.specs.Execution.{give_result, perform}
 use Rattle.expressions.specs.declared.tree.Prefix.{Prefix}
 use Rattle.expressions.specs.declared.tree.Prefix.TheVariants as prefixes
-use Rattle.checker.specs.Meaning.{with_prefix}
+use Rattle.meaning.specs.Meaning.{with_prefix}
 use Rattle.items.specs.Items.{Item, Destination}
 use Rattle.items.specs.Items as items
 use Rattle.items.specs.Stack as stack

@@ -10,10 +10,10 @@ use Rattle.zcore.specs.Instruction.{Instruction, bytes_of}
 use Rattle.zcore.specs.State.{words}
 use Rattle.zcore.specs.Text as text
 use Rattle.zcore.proofs.Holding.{holds_append}
-use Rattle.checker.specs.Resolved.{RoutineOf, ProgramOf}
-use Rattle.checker.specs.World.{World, Situation}
-use Rattle.checker.specs.Meaning.{no_routine, routine_at}
-use Rattle.checker.specs.Accepted.{IsAccepted}
+use Rattle.meaning.specs.Resolved.{RoutineOf, ProgramOf}
+use Rattle.meaning.specs.World.{World, Situation}
+use Rattle.meaning.specs.Meaning.{no_routine, routine_at}
+use Rattle.meaning.specs.Accepted.{IsAccepted}
 use Rattle.items.specs.Items.{Item}
 use Rattle.items.specs.Stack.{Caller}
 use Rattle.items.specs.Stack as stack

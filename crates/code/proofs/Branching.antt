@@ -7,7 +7,7 @@ use Rattle.std.proofs.lemmas.Bool.{ltb-true}
 use Rattle.std.proofs.lemmas.List.{take_all}
 use Rattle.zcore.specs.declared.instruction.Operation.{Operation}
 use Rattle.zcore.specs.Instruction.{bytes_of, FitsOperand}
-use Rattle.checker.specs.Meaning.{routine_at}
+use Rattle.meaning.specs.Meaning.{routine_at}
 use Rattle.items.specs.Items.{Item, Test, agrees}
 use Rattle.items.specs.Items as items
 use Rattle.items.specs.Laws.{IsTested}

@@ -13,8 +13,8 @@ use Rattle.zcore.specs.declared.next.Next.{Next}
 use Rattle.zcore.specs.Instruction.{Instruction, bytes_of}
 use Rattle.zcore.specs.State.{State}
 use Rattle.zcore.specs.Execution.{step, perform, call_packed}
-use Rattle.checker.specs.Resolved.{ProgramOf}
-use Rattle.checker.specs.World.{World}
+use Rattle.meaning.specs.Resolved.{ProgramOf}
+use Rattle.meaning.specs.World.{World}
 use Rattle.items.specs.Items.{Item, Destination}
 use Rattle.items.specs.Items as items
 use Rattle.items.specs.Stack.{Caller}

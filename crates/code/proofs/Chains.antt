@@ -1,6 +1,8 @@
 -- Bytes that follow one another make up the bytes of a whole.
 use Rattle.std.proofs.Common.{◌≡◌, ℕ, List, [], ◌∷◌, ◌++◌, refl, sym, ap, ◌∙◌, append_assoc, append-nil}
 use Rattle.std.specs.List.{flat_map}
+use Rattle.code.specs.Addresses.{Addresses}
+use Rattle.code.specs.Instructions.{read_code}
 use Rattle.code.specs.Bytes.{bytes_of_all}
 use Rattle.zcore.specs.Operations.{count_of, number_of, has_more_types}
 use Rattle.zcore.specs.Instruction.{Instruction, opcode_bytes, operand_bytes, result_bytes, branch_bytes, bytes_of}
@@ -28,6 +30,12 @@ pub all_joined : (xs ys : List Instruction) (b b1 b2 : List ℕ) → b1 ≡ b ++
 all_joined xs ys b b1 b2 e1 e2 = e2 ∙ ap (λ z. z ++ bytes_of_all ys) e1
     ∙ append_assoc b (bytes_of_all xs) (bytes_of_all ys) ∙ ap (λ z. b ++ z) (sym (all_append xs ys))
 
+-- three lists of instructions
+pub three_joined : (xs ys zs : List Instruction) (b b1 b2 b3 : List ℕ) → b1 ≡ b ++ bytes_of_all xs
+    → b2 ≡ b1 ++ bytes_of_all ys → b3 ≡ b2 ++ bytes_of_all zs → b3 ≡ b ++ bytes_of_all (xs ++ (ys ++ zs))
+three_joined xs ys zs b b1 b2 b3 e1 e2 e3 =
+    all_joined xs (ys ++ zs) b b1 b3 e1 (all_joined ys zs b1 b2 b3 e2 e3)
+
 -- an item that is no text
 pub no_text : (b b1 xs : List ℕ) → b1 ≡ b ++ xs → b1 ≡ b ++ (xs ++ [])
 no_text b b1 xs e = e ∙ ap (λ z. b ++ z) (sym (append-nil xs))
@@ -47,3 +55,14 @@ pub two_there : (i j : Instruction) (b b1 b2 : List ℕ) → b1 ≡ b ++ bytes_o
     → b2 ≡ b ++ bytes_of_all (i ∷ j ∷ [])
 two_there i j b b1 b2 e f =
     f ∙ ap (λ z. z ++ bytes_of_all (j ∷ [])) e ∙ append_assoc b (bytes_of i) (bytes_of_all (j ∷ []))
+
+-- the code of `read` by what its numbers are
+pub read_same : (a : Addresses) {size place size1 place1 words entries words1 entries1 : ℕ} → size ≡ size1
+    → place ≡ place1 → words ≡ words1 → entries ≡ entries1
+    → bytes_of_all (read_code a size place words entries) ≡ bytes_of_all (read_code a size1 place1 words1 entries1)
+read_same a {place = place} {size1 = size1} {place1 = place1} {words = words} {entries = entries} {words1 = words1} e f
+    g h =
+    ap (λ (n : ℕ). bytes_of_all (read_code a n place words entries)) e
+    ∙ ap (λ (n : ℕ). bytes_of_all (read_code a size1 n words entries)) f
+    ∙ ap (λ (n : ℕ). bytes_of_all (read_code a size1 place1 n entries)) g
+    ∙ ap (λ (n : ℕ). bytes_of_all (read_code a size1 place1 words1 n)) h

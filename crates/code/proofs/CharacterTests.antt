@@ -4,7 +4,7 @@ use Rattle.std.specs.Prelude.{nat_lt, nat_le, nat_eq, not, ◌||◌, ◌&&◌}
 use Rattle.std.proofs.lemmas.Bool.{cases_lt, lt-ltb, le-ltb, le-leb, lt-leb}
 use Rattle.zcore.specs.Arithmetic.{signed_less}
 use Rattle.zcore.specs.Execution.{equals_any}
-use Rattle.checker.specs.Meaning.{is_character}
+use Rattle.meaning.specs.Meaning.{is_character}
 
 either_same : (x y z w : Bool) → z ≡ w → (x || y || z) ≡ ((x || (y || false)) || w)
 either_same true y z w e = refl

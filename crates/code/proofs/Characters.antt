@@ -14,11 +14,11 @@ use Rattle.zcore.specs.Instruction.{Instruction, bytes_of}
 use Rattle.zcore.specs.State.{State, done}
 use Rattle.zcore.specs.Parts.{operand_value, operand_values, branch_on, transcribed}
 use Rattle.zcore.specs.Execution.{perform, step, equals_any, print_character}
-use Rattle.checker.specs.declared.cause.Cause.TheVariants as causes
+use Rattle.meaning.specs.declared.cause.Cause.TheVariants as causes
 use Rattle.code.specs.Addresses.{fault_address}
-use Rattle.checker.specs.World.{put, value_in}
-use Rattle.checker.specs.World as source
-use Rattle.checker.specs.Meaning.{is_character, put_character}
+use Rattle.meaning.specs.World.{put, value_in}
+use Rattle.meaning.specs.World as source
+use Rattle.meaning.specs.Meaning.{is_character, put_character}
 use Rattle.items.specs.Items as items
 use Rattle.items.specs.Stack as stack
 use Rattle.code.proofs.Behind.{Holds, holds_append}

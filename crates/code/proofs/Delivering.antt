@@ -3,10 +3,10 @@ use Rattle.std.proofs.Common.{◌≡◌, ℕ, ◌+◌, ◌<◌, ◌≤◌, List,
 use Rattle.zcore.specs.State.{done}
 use Rattle.zcore.specs.Execution.{give_result, step, perform}
 use Rattle.zcore.specs.Execution as machine
-use Rattle.checker.specs.declared.resolved.Variable.{Variable}
-use Rattle.checker.specs.declared.resolved.Variable.TheVariants as variables
-use Rattle.checker.specs.World.{with_value}
-use Rattle.checker.specs.Meaning.{routine_at}
+use Rattle.meaning.specs.declared.resolved.Variable.{Variable}
+use Rattle.meaning.specs.declared.resolved.Variable.TheVariants as variables
+use Rattle.meaning.specs.World.{with_value}
+use Rattle.meaning.specs.Meaning.{routine_at}
 use Rattle.items.specs.Items.{Item, Destination}
 use Rattle.items.specs.Items as items
 use Rattle.items.specs.Laws.{IsDestination}

@@ -15,10 +15,10 @@ use Rattle.zcore.specs.Parts.{unpacked, scale_in, call, test_routine, test_calls
 use Rattle.zcore.specs.Execution.{step, call_packed}
 use Rattle.zcore.specs.Text.{Holds}
 use Rattle.zcore.proofs.Holding.{holds_byte}
-use Rattle.checker.specs.Resolved.{ProgramOf}
-use Rattle.checker.specs.World.{Situation, ended, spend_from}
-use Rattle.checker.specs.Meaning.{locals_of, routine_at}
-use Rattle.checker.specs.Accepted.{IsAccepted}
+use Rattle.meaning.specs.Resolved.{ProgramOf}
+use Rattle.meaning.specs.World.{Situation, ended, spend_from}
+use Rattle.meaning.specs.Meaning.{locals_of, routine_at}
+use Rattle.meaning.specs.Accepted.{IsAccepted}
 use Rattle.items.specs.Items.{routine_items}
 use Rattle.items.specs.Stack.{Caller}
 use Rattle.items.specs.Stack as stack

@@ -9,7 +9,7 @@ use Rattle.zcore.specs.declared.instruction.Operand.TheVariants.{Variable}
 use Rattle.zcore.specs.declared.instruction.Operation.TheVariants as operations
 use Rattle.zcore.specs.Instruction.{bytes_of, IsEncodable, FitsOperand}
 use Rattle.zcore.specs.Execution.{perform}
-use Rattle.checker.specs.Meaning.{truth, is_true}
+use Rattle.meaning.specs.Meaning.{truth, is_true}
 use Rattle.items.specs.Items as items
 use Rattle.items.specs.Stack as stack
 use Rattle.code.proofs.Behind.{Holds}

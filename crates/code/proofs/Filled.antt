@@ -1,26 +1,28 @@
 -- A story that holds a program: the law of code speaks of some.
-use Rattle.std.proofs.Common.{◌≡◌, ℕ, zero, suc, ◌+◌, ◌*◌, ◌<◌, List, [], ◌∷◌, true, refl, arith, slice_index}
+use Rattle.std.proofs.Common.{◌≡◌, ℕ, zero, suc, ◌+◌, ◌*◌, ◌^◌, ◌<◌, List, [], ◌∷◌, true, refl, arith, slice_index}
 use Rattle.std.specs.Prelude.{nat_lt, codes}
 use Rattle.std.specs.List.{All, list_all}
 use Rattle.std.proofs.lemmas.Bool.{ltb-true, leb-true}
 use Rattle.std.proofs.lemmas.List.Elements.{All-nil, All-cons}
 use Rattle.std.proofs.lemmas.List.Sums.{AllPass-from_list_all}
 use Rattle.zcore.specs.Bytes.{word_at}
-use Rattle.zcore.specs.Header.{globals_of}
+use Rattle.zcore.specs.Dictionary.{entry_of}
+use Rattle.zcore.specs.Header.{globals_of, entry_count}
 use Rattle.zcore.specs.Alphabets.{spelling_of}
 use Rattle.zcore.specs.Instruction.{bytes_of}
 use Rattle.zcore.specs.Text.{encoded}
 use Rattle.zcore.specs.Words.{packed}
-use Rattle.checker.specs.declared.cause.Cause.{Cause}
-use Rattle.checker.specs.declared.cause.Cause.TheVariants as causes
-use Rattle.checker.specs.World.{words_of}
+use Rattle.tables.specs.Dictionary.{ReadsKeys}
+use Rattle.meaning.specs.declared.cause.Cause.{Cause}
+use Rattle.meaning.specs.declared.cause.Cause.TheVariants as causes
+use Rattle.meaning.specs.World.{words_of}
 use Rattle.code.specs.Addresses.{fault_address}
-use Rattle.checker.specs.Accepted.{IsArray, IsPrinted, IsRoutine, IsAccepted}
-use Rattle.checker.specs.Meaning.{routine_at}
+use Rattle.meaning.specs.Accepted.{IsArray, IsPrinted, IsRoutine, IsAccepted}
+use Rattle.meaning.specs.Meaning.{routine_at}
 use Rattle.items.specs.Laws.{ItemsFollow, ItemsAreWithin}
 use Rattle.code.specs.Laws.{Plays}
 use Rattle.lexer.specs.Printable.{IsPrintable}
-use Rattle.checker.specs.Printable.{IsPrintableItem, HasPrintableTexts}
+use Rattle.meaning.specs.Printable.{IsPrintableItem, HasPrintableTexts}
 use Rattle.code.specs.HeldProgram.{sizes_of, offset_in, HoldsRoutine, HoldsText, HoldsProgram, fault_line}
 use Rattle.code.proofs.Leading.{code_plays_by}
 use Rattle.code.proofs.Stories.{a, table, main, sum_of_two, program, story, greeting, count_down, quotient_of_seven}
@@ -77,6 +79,22 @@ only_array : (n : ℕ) → n < 1 → slice_index a.arrays n ≡ 544 + offset_in 
 only_array zero h = refl
 only_array (suc n) h = absurd (omega (arith, h))
 
+-- the dictionary has no entry
+dictionary_held : ReadsKeys story 868 []
+unfolding bytes_of encoded packed spelling_of entry_of
+dictionary_held =
+    let none : entry_count story 868 ≡ 0 = refl in
+    record {
+      dictionary = record {
+        whole = leb-true _ _ refl;
+        entry_length = leb-true _ _ refl;
+        count = leb-true _ _ refl;
+        ascending = λ k h. absurd (omega (arith, h, none));
+      };
+      separators = refl;
+      numbers = λ key. refl;
+    }
+
 pub held : HoldsProgram story a program
 unfolding bytes_of encoded packed spelling_of
 held = record {
@@ -94,6 +112,9 @@ held = record {
   arrays_each = only_array;
   arrays_above = leb-true _ _ refl;
   arrays_below = leb-true _ _ refl;
+  dictionary_above = leb-true _ _ refl;
+  dictionary_there = refl;
+  keys = dictionary_held;
 }
 
 greeting_accepted : All (IsPrinted program 0) greeting
@@ -167,6 +188,8 @@ accepted = record {
       (All-cons (IsRoutine program) sum_of_two [] sum_accepted (All-nil (IsRoutine program)));
   main = ltb-true _ _ refl;
   alone = refl;
+  keys = All-nil (λ (k : ℕ). k < 2 ^ 48);
+  ascending = λ k h. absurd (omega (arith, h));
 }
 
 pub filled_plays : ItemsFollow → ItemsAreWithin → (full : ℕ) (lines : List (List ℕ)) → Plays story program full lines

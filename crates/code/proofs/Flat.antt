@@ -4,9 +4,10 @@ use Rattle.std.proofs.Common.{set, slice_index, refl, ap, sym, ◌∙◌, arith}
 use Rattle.std.specs.Prelude.{map}
 use Rattle.std.specs.List.{concat}
 use Rattle.std.proofs.lemmas.List.{get_or_append_left, get_or-append-add, set-append_left, set-append_right}
-use Rattle.std.proofs.lemmas.List.{length-append, length-set, get_or-set_same, set-set}
+use Rattle.std.proofs.lemmas.List.{length-append, length-set, get_or-set_same, set-set, set-get_or}
 use Rattle.zcore.specs.Parts.{with_word}
-use Rattle.checker.specs.World.{array_at}
+use Rattle.zcore.specs.Turn.{with_bytes}
+use Rattle.meaning.specs.World.{array_at}
 use Rattle.code.specs.HeldProgram.{offset_in}
 
 -- an array lies within the list
@@ -89,3 +90,62 @@ word_set arrays k i v lt here =
     (omega (arith, here, size, ap length is))
     ∙ ap (λ x. concat (set next k (set x (i + 1) (v % 256)))) is
     ∙ ap concat (set-set arrays k high (set high (i + 1) (v % 256)))
+
+-- bytes that are written one behind another
+pub length_bytes : (m : List ℕ) (at : ℕ) (bytes : List ℕ) → length (with_bytes m at bytes) ≡ length m
+length_bytes m at [] = refl
+length_bytes m at (b ∷ bs) = length_bytes (set m at b) (at + 1) bs ∙ length-set m at b
+
+pub bytes_set : (arrays : List (List ℕ)) (k i : ℕ) (bytes : List ℕ) → k < length arrays
+    → i + length bytes ≤ length (array_at arrays k)
+    → with_bytes (concat arrays) (offset_in arrays k + i) bytes
+    ≡ concat (set arrays k (with_bytes (array_at arrays k) i bytes))
+bytes_set arrays k i [] lt room = ap concat (sym (set-get_or arrays k []))
+bytes_set arrays k i (b ∷ bs) lt room =
+    let a = set (array_at arrays k) i b in
+    let next = set arrays k a in
+    let here : array_at next k ≡ a = get_or-set_same arrays k a [] lt in
+    let size : length a ≡ length (array_at arrays k) = length-set (array_at arrays k) i b in
+    let place : offset_in arrays k + i + 1 ≡ offset_in next k + (i + 1) =
+    omega (arith, offset_same arrays k k a size) in
+    ap (λ l. with_bytes l (offset_in arrays k + i + 1) bs) (byte_set arrays k i b lt (omega (arith, room)))
+    ∙ ap (λ n. with_bytes (concat next) n bs) place
+    ∙ bytes_set next k (i + 1) bs (omega (arith, lt, length-set arrays k a))
+    (omega (arith, room, size, ap length here))
+    ∙ ap (λ x. concat (set next k (with_bytes x (i + 1) bs))) here
+    ∙ ap concat (set-set arrays k a (with_bytes a (i + 1) bs))
+
+-- arrays of the same lengths stand in the same places
+
+pub concat_same : (xs ys : List (List ℕ)) → map length xs ≡ map length ys → length (concat xs) ≡ length (concat ys)
+concat_same [] [] e = refl
+concat_same [] (y ∷ ys) e = absurd (cc)
+concat_same (x ∷ xs) [] e = absurd (cc)
+concat_same (x ∷ xs) (y ∷ ys) e =
+    let one : length x ≡ length y = cc in
+    let more : map length xs ≡ map length ys = cc in
+    omega (arith, one, concat_same xs ys more, length-append x (concat xs), length-append y (concat ys))
+
+pub place_same : (xs ys : List (List ℕ)) (n : ℕ) → map length xs ≡ map length ys → offset_in xs n ≡ offset_in ys n
+place_same xs ys zero e = refl
+place_same [] [] (suc n) e = refl
+place_same [] (y ∷ ys) (suc n) e = absurd (cc)
+place_same (x ∷ xs) [] (suc n) e = absurd (cc)
+place_same (x ∷ xs) (y ∷ ys) (suc n) e =
+    let one : length x ≡ length y = cc in
+    let more : map length xs ≡ map length ys = cc in
+    omega (
+      arith,
+      one,
+      place_same xs ys n more,
+      length-append x (concat (take n xs)),
+      length-append y (concat (take n ys)),
+    )
+
+pub count_same : (xs ys : List (List ℕ)) → map length xs ≡ map length ys → length xs ≡ length ys
+count_same [] [] e = refl
+count_same [] (y ∷ ys) e = absurd (cc)
+count_same (x ∷ xs) [] e = absurd (cc)
+count_same (x ∷ xs) (y ∷ ys) e =
+    let more : map length xs ≡ map length ys = cc in
+    omega (arith, count_same xs ys more)

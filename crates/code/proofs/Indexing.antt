@@ -1,4 +1,4 @@
--- The tests of an index lead to what is done at it, or to the fault.
+-- The tests of a word that must lie between two numbers, as an index must, lead to what is done with it, or to a fault.
 use Rattle.std.proofs.Common.{◌≡◌, ℕ, ◌+◌, ◌<◌, ◌≤◌, ◌⊎◌, inl, inr, List, [], ◌∷◌, ◌++◌, length, Bool}
 use Rattle.std.proofs.Common.{true}
 use Rattle.std.proofs.Common.{false, refl, sym, ◌∙◌, subst, arith}
@@ -13,11 +13,13 @@ use Rattle.zcore.specs.Instruction.{Instruction, bytes_of}
 use Rattle.zcore.specs.State.{State, done}
 use Rattle.zcore.specs.Parts.{operand_value}
 use Rattle.zcore.specs.Execution.{perform}
-use Rattle.checker.specs.declared.cause.Cause.TheVariants as causes
-use Rattle.checker.specs.World.{value_in}
+use Rattle.meaning.specs.declared.cause.Cause.{Cause}
+use Rattle.meaning.specs.declared.cause.Cause.TheVariants as causes
+use Rattle.meaning.specs.World.{value_in}
 use Rattle.items.specs.Items as items
 use Rattle.code.specs.Addresses.{fault_address}
 use Rattle.code.specs.Instructions.{branching, constant, pull, fail, number_of, is_entry, tested_index, at_index}
+use Rattle.code.specs.Instructions.{tested_between}
 use Rattle.code.proofs.Behind.{Holds, holds_append}
 use Rattle.code.proofs.Play.{Leads}
 use Rattle.code.proofs.Memory.{word_of, with_variable}
@@ -85,21 +87,28 @@ module _ (c : Running) where
   tests_lead false false st q away e f =
       leads_then (point q world.fuel) (point (q + 4) world.fuel) (point (q + 4 + away) world.fuel) st st st e f
 
-  abbrev fault_code : List Instruction
-  fault_code = fail (fault_address a causes.IndexOutOfRange)
+  -- what is done with a word that is between two numbers, and else a fault
+  abbrev pub Tested : Cause → Bool → ℕ → List ℕ → List ℕ → List ℕ → (Operand → List Instruction) → Type 0
+  Tested cause true i before rest other act = AtIndex i before rest other act
+  Tested cause false i before rest other act = Reached before rest other (fail (fault_address a cause))
 
   -- what is done at an index that is one, and else the fault
   abbrev pub Indexed : Bool → ℕ → List ℕ → List ℕ → List ℕ → (Operand → List Instruction) → Type 0
-  Indexed true i before rest other act = AtIndex i before rest other act
-  Indexed false i before rest other act = Reached before rest other fault_code
+  Indexed b i before rest other act = Tested causes.IndexOutOfRange b i before rest other act
 
-  -- an index in a variable
-  module _ (variable i number : ℕ) (few : number < 32768) (act : Operand → List Instruction)
+  -- a word in a variable
+  module _ (cause : Cause) (low variable i number : ℕ) (act : Operand → List Instruction)
       (before rest other : List ℕ)
-      (r : Reached before rest other (tested_index a number variable ++ act (Variable variable)))
+      (r : Reached before rest other (tested_between a cause low number variable ++ act (Variable variable)))
       (reads : Reads (around c) r.memory locals variable i)
-      (end : r.q + length (flat_map bytes_of (tested_index a number variable ++ act (Variable variable)))
+      (end : r.q + length (flat_map bytes_of (tested_between a cause low number variable ++ act (Variable variable)))
       ≡ next_place c) (followed : next_place c < length m) where
+    abbrev fault_code : List Instruction
+    fault_code = fail (fault_address a cause)
+
+    abbrev is_in : Bool
+    is_in = not (signed_less i low) && signed_less i number
+
     abbrev st : State
     st = at_words (around c) r.memory locals rest world.text
 
@@ -109,7 +118,7 @@ module _ (c : Running) where
     -- the tests and the fault, by whether the number of entries is a small constant
     abbrev form : Bool → List Instruction
     form small =
-        branching operations.JumpIfLess (Variable variable ∷ Small 0 ∷ []) true (if small then 6 else 8)
+        branching operations.JumpIfLess (Variable variable ∷ Small low ∷ []) true (if small then 6 else 8)
         ∷ branching operations.JumpIfLess (Variable variable ∷ (if small then Small number else Large number) ∷ [])
         true 6
         ∷ fault_code
@@ -137,9 +146,9 @@ module _ (c : Running) where
         (held_in c r.memory (bytes_of k) there r.scratch (omega (arith, r.from, behind)) held))
 
     -- the bytes of the tests, one after another
-    record Tested (small : Bool) (away : ℕ) : Type 0 where
+    record Parts (small : Bool) (away : ℕ) : Type 0 where
       tests : Leads (point r.q world.fuel) st
-          (point (if not (signed_less i 0) && signed_less i number then r.q + 4 + away + 4 else r.q + 4 + away)
+          (point (if is_in then r.q + 4 + away + 4 else r.q + 4 + away)
           world.fuel) st
       fault : Holds m (r.q + 4 + away) (flat_map bytes_of fault_code)
       behind : Holds m (r.q + 4 + away + 4) (flat_map bytes_of (act (Variable variable)))
@@ -147,19 +156,19 @@ module _ (c : Running) where
           ≡ 4 + away + 4 + length (flat_map bytes_of (act (Variable variable)))
 
     small_tested : Holds m r.q (flat_map bytes_of (form true ++ act (Variable variable)))
-        → r.q + length (flat_map bytes_of (form true ++ act (Variable variable))) ≡ next_place c → Tested true 4
+        → r.q + length (flat_map bytes_of (form true ++ act (Variable variable))) ≡ next_place c → Parts true 4
     unfolding bytes_of
     small_tested h size =
-        let low = test (Small 0) 4 in
+        let lower = test (Small low) 4 in
         let upper = test (Small number) 4 in
         let rest_code = act (Variable variable) in
-        let h1 = others_held m r.q low (upper ∷ (fault_code ++ rest_code)) h in
+        let h1 = others_held m r.q lower (upper ∷ (fault_code ++ rest_code)) h in
         let h2 = others_held m (r.q + 4) upper (fault_code ++ rest_code) h1 in
         let both = holds_append m (r.q + 4 + 4) (flat_map bytes_of fault_code) (flat_map bytes_of rest_code) h2 in
         record {
-          tests = tests_lead (signed_less i 0) (signed_less i number) st r.q 4
-              (one_test (Small 0) 0 4 r.q (small_value st 0) (omega arith) (omega arith) (omega arith)
-              (omega (arith, size, followed)) (first_held m r.q low (upper ∷ (fault_code ++ rest_code)) h))
+          tests = tests_lead (signed_less i low) (signed_less i number) st r.q 4
+              (one_test (Small low) low 4 r.q (small_value st low) (omega arith) (omega arith) (omega arith)
+              (omega (arith, size, followed)) (first_held m r.q lower (upper ∷ (fault_code ++ rest_code)) h))
               (one_test (Small number) number 4 (r.q + 4) (small_value st number) (omega arith) (omega arith)
               (omega arith) (omega (arith, size, followed))
               (first_held m (r.q + 4) upper (fault_code ++ rest_code) h1));
@@ -169,19 +178,19 @@ module _ (c : Running) where
         }
 
     large_tested : Holds m r.q (flat_map bytes_of (form false ++ act (Variable variable)))
-        → r.q + length (flat_map bytes_of (form false ++ act (Variable variable))) ≡ next_place c → Tested false 6
+        → r.q + length (flat_map bytes_of (form false ++ act (Variable variable))) ≡ next_place c → Parts false 6
     unfolding bytes_of
     large_tested h size =
-        let low = test (Small 0) 6 in
+        let lower = test (Small low) 6 in
         let upper = test (Large number) 4 in
         let rest_code = act (Variable variable) in
-        let h1 = others_held m r.q low (upper ∷ (fault_code ++ rest_code)) h in
+        let h1 = others_held m r.q lower (upper ∷ (fault_code ++ rest_code)) h in
         let h2 = others_held m (r.q + 4) upper (fault_code ++ rest_code) h1 in
         let both = holds_append m (r.q + 4 + 6) (flat_map bytes_of fault_code) (flat_map bytes_of rest_code) h2 in
         record {
-          tests = tests_lead (signed_less i 0) (signed_less i number) st r.q 6
-              (one_test (Small 0) 0 6 r.q (small_value st 0) (omega arith) (omega arith) (omega arith)
-              (omega (arith, size, followed)) (first_held m r.q low (upper ∷ (fault_code ++ rest_code)) h))
+          tests = tests_lead (signed_less i low) (signed_less i number) st r.q 6
+              (one_test (Small low) low 6 r.q (small_value st low) (omega arith) (omega arith) (omega arith)
+              (omega (arith, size, followed)) (first_held m r.q lower (upper ∷ (fault_code ++ rest_code)) h))
               (one_test (Large number) number 4 (r.q + 4) (large_value st number) (omega arith) (omega arith)
               (omega arith) (omega (arith, size, followed))
               (first_held m (r.q + 4) upper (fault_code ++ rest_code) h1));
@@ -191,9 +200,9 @@ module _ (c : Running) where
         }
 
     -- where the tests lead to
-    tested_by : (small : Bool) (away : ℕ) → Tested small away
+    tested_by : (small : Bool) (away : ℕ) → Parts small away
         → r.q + length (flat_map bytes_of (form small ++ act (Variable variable))) ≡ next_place c
-        → (b : Bool) → (not (signed_less i 0) && signed_less i number) ≡ b → Indexed b i before rest other act
+        → (b : Bool) → is_in ≡ b → Tested cause b i before rest other act
     tested_by small away t size true e = record {
       operand = Variable variable;
       reached = record {
@@ -224,21 +233,32 @@ module _ (c : Running) where
       unwritten = r.unwritten;
     }
 
-    tested : Indexed (is_entry number i) i before rest other act
-    tested =
-        subst (λ b. Indexed b i before rest other act) (sym (entry_tests number i few))
-        (go (nat_lt number 256) r.held end (not (signed_less i 0) && signed_less i number) refl)
+    pub tested : Tested cause is_in i before rest other act
+    tested = go (nat_lt number 256) r.held end is_in refl
       where
         go : (small : Bool) → Holds m r.q (flat_map bytes_of (form small ++ act (Variable variable)))
             → r.q + length (flat_map bytes_of (form small ++ act (Variable variable))) ≡ next_place c
-            → (b : Bool) → (not (signed_less i 0) && signed_less i number) ≡ b → Indexed b i before rest other act
+            → (b : Bool) → is_in ≡ b → Tested cause b i before rest other act
         go true h size b e = tested_by true 4 (small_tested h size) size b e
         go false h size b e = tested_by false 6 (large_tested h size) size b e
 
+  -- an index in a variable
+  at_entry : (variable i number : ℕ) → number < 32768 → (act : Operand → List Instruction)
+      → (before rest other : List ℕ)
+      → (r : Reached before rest other (tested_index a number variable ++ act (Variable variable)))
+      → Reads (around c) r.memory locals variable i
+      → r.q + length (flat_map bytes_of (tested_index a number variable ++ act (Variable variable))) ≡ next_place c
+      → next_place c < length m → Indexed (is_entry number i) i before rest other act
+  at_entry variable i number few act before rest other r reads end followed =
+      subst (λ b. Indexed b i before rest other act) (sym (entry_tests number i few))
+      (tested causes.IndexOutOfRange 0 variable i number act before rest other r reads end followed)
+
   -- an index that stands in place of its tests
   number_tested : (number n : ℕ) (act : Operand → List Instruction) (before rest other : List ℕ) (b : Bool)
-      → (r : Reached before rest other (if b then act (constant n) else fault_code))
-      → r.q + length (flat_map bytes_of (if b then act (constant n) else fault_code)) ≡ next_place c
+      → (r : Reached before rest other
+      (if b then act (constant n) else fail (fault_address a causes.IndexOutOfRange)))
+      → r.q + length (flat_map bytes_of
+      (if b then act (constant n) else fail (fault_address a causes.IndexOutOfRange))) ≡ next_place c
       → Indexed b n before rest other act
   number_tested number n act before rest other true r end = record {
     operand = constant n;
@@ -286,7 +306,7 @@ module _ (c : Running) where
   indexed number items.pushed act before mid other v rest few is alone r end followed =
       let code = tested_index a number 248 ++ act (Variable 248) in
       let next = pulled code before mid other v rest alone r in
-      tested 248 v number few act before rest other next
+      at_entry 248 v number few act before rest other next
       (reads_written c r.memory 248 v r.scratch (omega arith) (omega arith)) (omega (arith, end)) followed
   indexed number (items.number n) act before mid other v rest few is alone r end followed =
       subst (λ (x : ℕ). Indexed (is_entry number x) x before rest other act) alone.0
@@ -297,5 +317,5 @@ module _ (c : Running) where
       (subst (λ ws. Indexed (is_entry number (value_in x (situation_here c))) (value_in x (situation_here c)) before
       ws other
       act) alone.1
-      (tested (number_of x) (value_in x (situation_here c)) number few act before mid other r
+      (at_entry (number_of x) (value_in x (situation_here c)) number few act before mid other r
       (variable_held c r.memory x r.scratch is).reads end followed))

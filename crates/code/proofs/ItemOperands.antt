@@ -6,7 +6,7 @@ use Rattle.zcore.specs.declared.instruction.Operand.{Operand}
 use Rattle.zcore.specs.declared.instruction.Operand.TheVariants as machine_operands
 use Rattle.zcore.specs.State.{State, done}
 use Rattle.zcore.specs.Parts.{operand_value, operand_values}
-use Rattle.checker.specs.World.{Situation, value_in}
+use Rattle.meaning.specs.World.{Situation, value_in}
 use Rattle.items.specs.Items.{pushed, number, variable}
 use Rattle.items.specs.Items as items
 use Rattle.items.specs.Stack.{Next, stuck, with_operand, with_operands}

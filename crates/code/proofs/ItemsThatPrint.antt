@@ -16,9 +16,9 @@ use Rattle.zcore.specs.Execution.{perform, step, text_at, print_inline, print_pa
 use Rattle.zcore.specs.Text.{encoded}
 use Rattle.zcore.specs.Text as machine_text
 use Rattle.zcore.proofs.Holding.{holds_append}
-use Rattle.checker.specs.declared.cause.Cause.{Cause}
-use Rattle.checker.specs.World.{World, Situation, Outcome, Comes, to, over, bound, put, shown, words_of}
-use Rattle.checker.specs.World as source
+use Rattle.meaning.specs.declared.cause.Cause.{Cause}
+use Rattle.meaning.specs.World.{World, Situation, Outcome, Comes, to, over, bound, put, shown, words_of}
+use Rattle.meaning.specs.World as source
 use Rattle.items.specs.Items.{Item}
 use Rattle.items.specs.Items as items
 use Rattle.items.specs.Stack as stack

@@ -1,8 +1,8 @@
--- Items leave the lines to come and the texts of turns before as they were, and no run of them ends in a machine
--- fault.
+-- Items that read no line leave the lines to come and the texts of turns before as they were, and no run of items ends
+-- in a machine fault.
 use Rattle.std.proofs.Common.{◌≡◌, ◌≢◌, ℕ, zero, suc, List, [], ◌∷◌, ◌++◌, length, Option, Some, None, Bool, true}
 use Rattle.std.proofs.Common.{false, refl, ◌∙◌, subst}
-use Rattle.std.specs.Prelude.{nat_lt, nat_le, if◌then◌else◌, slice_get, ◌==◌, ◌||◌, map}
+use Rattle.std.specs.Prelude.{nat_lt, nat_le, if◌then◌else◌, slice_get, ◌==◌, ◌||◌, ◌&&◌, map}
 use Rattle.zcore.specs.Arithmetic.{signed_text}
 use Rattle.zcore.specs.Parts.{transcribed}
 use Rattle.zcore.specs.declared.place.Fault.{Fault}
@@ -10,15 +10,17 @@ use Rattle.zcore.specs.declared.place.Place.TheVariants as places
 use Rattle.expressions.specs.declared.tree.Binary.{Binary}
 use Rattle.expressions.specs.declared.tree.Binary.TheVariants as binaries
 use Rattle.expressions.specs.declared.tree.Width.{Width}
-use Rattle.checker.specs.declared.resolved.Variable.{Variable}
-use Rattle.checker.specs.declared.resolved.Variable.TheVariants as variables
-use Rattle.checker.specs.Resolved.{ProgramOf}
-use Rattle.checker.specs.declared.cause.Cause.{Cause}
-use Rattle.checker.specs.declared.cause.Cause.TheVariants as causes
-use Rattle.checker.specs.World.{Outcome, World, Situation, Comes, to, over, Part, bound, put, shown, spend}
-use Rattle.checker.specs.World.{spend_from, fault, value_in, with_value, give, array_at, is_index, read_entry}
-use Rattle.checker.specs.World.{write_entry}
-use Rattle.checker.specs.Meaning.{operate, put_character, put_line, is_character, routine_at, truth, is_true}
+use Rattle.meaning.specs.declared.resolved.Variable.{Variable}
+use Rattle.meaning.specs.declared.resolved.Variable.TheVariants as variables
+use Rattle.meaning.specs.Resolved.{ProgramOf}
+use Rattle.meaning.specs.declared.cause.Cause.{Cause}
+use Rattle.meaning.specs.declared.cause.Cause.TheVariants as causes
+use Rattle.meaning.specs.World.{Outcome, World, Situation, Comes, to, over, Part, bound, put, shown, spend}
+use Rattle.meaning.specs.World.{spend_from, fault, value_in, with_value, give, array_at, is_index, read_entry}
+use Rattle.meaning.specs.World.{write_entry}
+use Rattle.meaning.specs.Meaning.{operate, put_character, put_line, is_character, routine_at, truth, is_true}
+use Rattle.meaning.specs.Places.{number_in}
+use Rattle.meaning.specs.Reading.{holds_letters, holds_words, next_line}
 use Rattle.items.specs.Items.{Item, Operand, Destination, Test, routine_items}
 use Rattle.items.specs.Items as items
 use Rattle.items.specs.Stack as stack
@@ -39,6 +41,29 @@ abbrev pub Keeps : World → stack.Next → Type 0
 Keeps w (stack.goes s) = Same w s.situation.world
 Keeps w (stack.ends o) = NoFault o
 Keeps w stack.stuck = Unit {0}
+
+-- whether an item reads a line
+abbrev pub is_read : Item → Bool
+is_read (items.read_line t q) = true
+is_read _ = false
+
+abbrev pub Faultless : stack.Next → Type 0
+Faultless (stack.goes s) = Unit {0}
+Faultless (stack.ends o) = NoFault o
+Faultless stack.stuck = Unit {0}
+
+abbrev pub KeepsBy : Bool → World → stack.Next → Type 0
+KeepsBy true w n = Faultless n
+KeepsBy false w n = Keeps w n
+
+keeps_faultless : (w : World) (n : stack.Next) → Keeps w n → Faultless n
+keeps_faultless w (stack.goes s) h = tt
+keeps_faultless w (stack.ends o) h = h
+keeps_faultless w stack.stuck h = tt
+
+faultless_by : (b : Bool) (w : World) (n : stack.Next) → KeepsBy b w n → Faultless n
+faultless_by true w n h = h
+faultless_by false w n h = keeps_faultless w n h
 
 same : (w : World) → Same w w
 same w = record { texts = refl; lines = refl }
@@ -225,71 +250,101 @@ enter_keeps p r arguments callers s =
     if_keeps s.world (nat_lt (length callers) 1000) _ _ (after_keeps s.world (spend s) _ (spend_keeps s.world.fuel s)
     (λ a t g. g)) (λ cause e. absurd (cc))
 
+-- a state that is entered, or a limit
+pub enter_faultless : (p : ProgramOf) (r : ℕ) (arguments : List ℕ) (callers : List stack.Caller) (s : Situation)
+    → Faultless (stack.enter p r arguments callers s)
+enter_faultless p r arguments callers s =
+    keeps_faultless s.world (stack.enter p r arguments callers s) (enter_keeps p r arguments callers s)
+
 return_keeps : (callers : List stack.Caller) (v : ℕ) (w : World) → Keeps w (stack.return_to callers v w)
 return_keeps [] v w = λ cause e. absurd (cc)
 return_keeps (c ∷ callers) v w = delivered_keeps w c.destination v _ (same w)
 
-pub act_keeps : (p : ProgramOf) (i : Item) (s : stack.State) → Keeps s.situation.world (stack.act p (Some i) s)
-act_keeps p (items.move o d) s = operand_keeps s.situation.world o s.situation s.stack _
+-- A line
+
+lines_faultless : (numbers : ℕ → ℕ) (full t q : ℕ) (lines : List (List ℕ)) (words : List ℕ) (s : stack.State)
+    → Faultless (stack.after_part (next_line numbers full t q s.situation lines)
+    (λ _ situation. stack.goes (stack.after s words situation)))
+lines_faultless numbers full t q [] words s = λ cause e. absurd (cc)
+lines_faultless numbers full t q (line ∷ lines) words s = tt
+
+read_faultless : (numbers : ℕ → ℕ) (full t q : ℕ) (words : List ℕ) (s : stack.State) (b : Bool)
+    → Faultless (stack.after_part (if b then next_line numbers full t q s.situation s.situation.world.lines
+    else fault causes.BufferTooSmall s.situation) (λ _ situation. stack.goes (stack.after s words situation)))
+read_faultless numbers full t q words s true =
+    lines_faultless numbers full t q s.situation.world.lines words s
+read_faultless numbers full t q words s false =
+    keeps_faultless s.situation.world (stack.prints (fault causes.BufferTooSmall) words s)
+    (prints_keeps (fault causes.BufferTooSmall) words s
+    (fault_keeps (Unit {0}) causes.BufferTooSmall s.situation))
+
+pub act_keeps : (p : ProgramOf) (full : ℕ) (i : Item) (s : stack.State)
+    → KeepsBy (is_read i) s.situation.world (stack.act p full (Some i) s)
+act_keeps p full (items.move o d) s = operand_keeps s.situation.world o s.situation s.stack _
     (λ v rest. delivered_keeps s.situation.world d v _ (same s.situation.world))
-act_keeps p (items.apply_prefix op o d) s =
+act_keeps p full (items.apply_prefix op o d) s =
     operand_keeps s.situation.world o s.situation s.stack _
     (λ v rest. delivered_keeps s.situation.world d _ _ (same s.situation.world))
-act_keeps p (items.operate op a b d) s =
+act_keeps p full (items.operate op a b d) s =
     operand_keeps s.situation.world b s.situation s.stack _
     (λ y left. operand_keeps s.situation.world a s.situation left _
     (λ x rest. gives_keeps (operate op x y) d rest s (operate_keeps op x y s.situation)))
-act_keeps p (items.step op x d) s = delivered_keeps s.situation.world d _ _ (value_keeps x _ s.situation)
-act_keeps p (items.entry width n o d) s =
+act_keeps p full (items.step op x d) s = delivered_keeps s.situation.world d _ _ (value_keeps x _ s.situation)
+act_keeps p full (items.entry width n o d) s =
     operand_keeps s.situation.world o s.situation s.stack _
     (λ i rest. gives_keeps (read_entry width n i) d rest s (read_entry_keeps width n i s.situation))
-act_keeps p (items.assign_entry width n o q d) s =
+act_keeps p full (items.assign_entry width n o q d) s =
     operand_keeps s.situation.world q s.situation s.stack _
     (λ v left. operand_keeps s.situation.world o s.situation left _
     (λ i rest. gives_keeps (stack.assigned_entry width n i v) d rest s
     (assigned_entry_keeps width n i v s.situation)))
-act_keeps p (items.keep x) s = keep_keeps x s.stack s
-act_keeps p items.first_equal s = first_keeps s.stack s
-act_keeps p items.also_equal s = also_keeps s.stack s
-act_keeps p items.drop_below s = below_keeps s.stack s
-act_keeps p (items.print_text bytes) s =
+act_keeps p full (items.keep x) s = keep_keeps x s.stack s
+act_keeps p full items.first_equal s = first_keeps s.stack s
+act_keeps p full items.also_equal s = also_keeps s.stack s
+act_keeps p full items.drop_below s = below_keeps s.stack s
+act_keeps p full (items.print_text bytes) s =
     prints_keeps (put (map shown bytes)) s.stack s (put_keeps (map shown bytes) s.situation)
-act_keeps p (items.print_character o) s =
+act_keeps p full (items.print_character o) s =
     operand_keeps s.situation.world o s.situation s.stack _
     (λ v rest. prints_keeps (put_character v) rest s (character_keeps v s.situation))
-act_keeps p (items.print_number o) s =
+act_keeps p full (items.print_number o) s =
     operand_keeps s.situation.world o s.situation s.stack _
     (λ v rest. prints_keeps (put (signed_text v)) rest s (put_keeps (signed_text v) s.situation))
-act_keeps p items.new_line s = prints_keeps put_line s.stack s (put_keeps (10 ∷ []) s.situation)
-act_keeps p items.quit s = λ cause e. absurd (cc)
-act_keeps p (items.branch test os when target) s =
+act_keeps p full items.new_line s = prints_keeps put_line s.stack s (put_keeps (10 ∷ []) s.situation)
+act_keeps p full (items.read_line t q) s =
+    read_faultless (number_in p) full t q s.stack s
+    (holds_letters (array_at s.situation.world.arrays t) && holds_words (array_at s.situation.world.arrays q))
+act_keeps p full items.quit s = λ cause e. absurd (cc)
+act_keeps p full (items.branch test os when target) s =
     operands_keep s.situation.world os s.situation s.stack _
     (λ vs rest. branch_keeps (items.agrees (stack.holds test vs) when) target rest s)
-act_keeps p (items.choose o) s =
+act_keeps p full (items.choose o) s =
     operand_keeps s.situation.world o s.situation s.stack _ (λ v rest. same s.situation.world)
-act_keeps p (items.case test ns when target) s = case_keeps s.chosen test ns when target s
-act_keeps p (items.jump target) s = forward_keeps target s
-act_keeps p (items.back target) s = back_keeps target s
-act_keeps p (items.call r os d) s = operands_keep s.situation.world os s.situation s.stack _
+act_keeps p full (items.case test ns when target) s = case_keeps s.chosen test ns when target s
+act_keeps p full (items.jump target) s = forward_keeps target s
+act_keeps p full (items.back target) s = back_keeps target s
+act_keeps p full (items.call r os d) s = operands_keep s.situation.world os s.situation s.stack _
     (λ vs rest. enter_keeps p r vs (stack.caller d rest s ∷ s.callers) s.situation)
-act_keeps p (items.return o) s =
+act_keeps p full (items.return o) s =
     operand_keeps s.situation.world o s.situation s.stack _ (λ v rest. return_keeps s.callers v s.situation.world)
 
 -- Runs
 
-pub from_no_fault : (w : World) (n : stack.Next) (k : stack.State → Option Outcome) (o : Outcome) → Keeps w n
+pub from_no_fault : (n : stack.Next) (k : stack.State → Option Outcome) (o : Outcome) → Faultless n
     → ((s : stack.State) → k s ≡ Some o → NoFault o) → stack.from n k ≡ Some o → NoFault o
-from_no_fault w (stack.goes s) k o h next e = next s e
-from_no_fault w (stack.ends x) k o h next e = let is : x ≡ o = cc in subst NoFault is h
-from_no_fault w stack.stuck k o h next e = absurd (cc)
+from_no_fault (stack.goes s) k o h next e = next s e
+from_no_fault (stack.ends x) k o h next e = let is : x ≡ o = cc in subst NoFault is h
+from_no_fault stack.stuck k o h next e = absurd (cc)
 
-pub exec_no_fault : (p : ProgramOf) (n : ℕ) (s : stack.State) (o : Outcome) → stack.exec p n s ≡ Some o → NoFault o
-exec_no_fault p zero s o e = absurd (cc)
-exec_no_fault p (suc n) s o e =
-    go (slice_get (routine_items (routine_at p.routines s.routine)) s.place) (λ t f. exec_no_fault p n t o f) e
+pub exec_no_fault : (p : ProgramOf) (full n : ℕ) (s : stack.State) (o : Outcome) → stack.exec p full n s ≡ Some o
+    → NoFault o
+exec_no_fault p full zero s o e = absurd (cc)
+exec_no_fault p full (suc n) s o e =
+    go (slice_get (routine_items (routine_at p.routines s.routine)) s.place) (λ t f. exec_no_fault p full n t o f) e
   where
-    go : (i : Option Item) → ((t : stack.State) → stack.exec p n t ≡ Some o → NoFault o)
-        → stack.from (stack.act p i s) (stack.exec p n) ≡ Some o → NoFault o
+    go : (i : Option Item) → ((t : stack.State) → stack.exec p full n t ≡ Some o → NoFault o)
+        → stack.from (stack.act p full i s) (stack.exec p full n) ≡ Some o → NoFault o
     go None next f = absurd (cc)
     go (Some i) next f =
-        from_no_fault s.situation.world (stack.act p (Some i) s) (stack.exec p n) o (act_keeps p i s) next f
+        from_no_fault (stack.act p full (Some i) s) (stack.exec p full n) o
+        (faultless_by (is_read i) s.situation.world (stack.act p full (Some i) s) (act_keeps p full i s)) next f

@@ -13,10 +13,10 @@ use Rattle.zcore.specs.Text.{Holds}
 use Rattle.zcore.proofs.Holding.{holds_byte}
 use Rattle.expressions.specs.declared.tree.Binary.TheVariants as binaries
 use Rattle.expressions.specs.declared.tree.Prefix.TheVariants as prefixes
-use Rattle.checker.specs.Resolved.{RoutineOf, ProgramOf}
-use Rattle.checker.specs.Meaning.{routine_at}
-use Rattle.checker.specs.Accepted.{IsRoutine, IsAccepted}
-use Rattle.checker.specs.Printable.{HasPrintableTexts, ArePrintableActions}
+use Rattle.meaning.specs.Resolved.{RoutineOf, ProgramOf}
+use Rattle.meaning.specs.Meaning.{routine_at}
+use Rattle.meaning.specs.Accepted.{IsRoutine, IsAccepted}
+use Rattle.meaning.specs.Printable.{HasPrintableTexts, ArePrintableActions}
 use Rattle.items.specs.Items.{Item, Operand, Destination}
 use Rattle.items.specs.Items as items
 use Rattle.items.specs.Laws.{IsItem, ItemsAreWithin, ItemsFollow}
@@ -26,11 +26,11 @@ use Rattle.code.specs.Instructions.{plain}
 use Rattle.code.specs.Bytes.{item_bytes, place_of, offset_of, code_bytes}
 use Rattle.code.specs.Laws.{CodePlays}
 use Rattle.code.specs.HeldProgram.{sizes_of, HoldsProgram}
-use Rattle.code.proofs.Play.{items_in, address, Good, none_chosen}
+use Rattle.code.proofs.Play.{items_in, address, next_of, state_of, Good, LedBy, none_chosen}
 use Rattle.code.proofs.Memory.{holds_on}
 use Rattle.code.proofs.Places.{next_place, ends_by, starts, follow, item_holds}
 use Rattle.code.proofs.Ends.{quits}
-use Rattle.code.proofs.Arriving.{Running, around, here, LedFrom, Stands}
+use Rattle.code.proofs.Arriving.{Running, around, here, Stands}
 use Rattle.code.proofs.Alone.{single}
 use Rattle.code.proofs.PrintedTexts.{HasPrintableText, texts_printable}
 use Rattle.code.proofs.Moving.{move_led, keep_led, drop_below_led}
@@ -47,6 +47,8 @@ use Rattle.code.proofs.Choosing.{choose_led, case_led}
 use Rattle.code.proofs.Jumping.{jump_led, back_led}
 use Rattle.code.proofs.Calling.{call_led}
 use Rattle.code.proofs.Returning.{return_led}
+use Rattle.code.proofs.Reading.{read_led}
+use Rattle.code.proofs.Keeps.{is_read}
 use Rattle.code.proofs.Sim.{ItemsLead}
 use Rattle.code.proofs.Opening.{plays_it}
 
@@ -141,7 +143,9 @@ module _ (story : List ℕ) (a : Addresses) (p : ProgramOf) (accepted : IsAccept
       words = s.stack
 
       Done : Item → Type 0
-      Done i = LedFrom c words (stack.act p (Some i) s)
+      Done i =
+          LedBy story a p (is_read i) full (next_of story a p s) (state_of story a p s m count counts) s.situation.world
+          (stack.act p full (Some i) s)
 
       go : (i : Item) → slice_get is s.place ≡ Some i → Stands c i → IsItem p routine.locals (length is) i
           → HasPrintableText i → Done i
@@ -167,6 +171,7 @@ module _ (story : List ℕ) (a : Addresses) (p : ProgramOf) (accepted : IsAccept
       go (items.print_character o) f st is text = print_character_led c o words is good.room st
       go (items.print_number o) f st is text = print_number_led c o words is good.room st
       go items.new_line f st is text = new_line_led c words good.room st
+      go (items.read_line t q) f st is text = read_led c t q words is.0 is.1 is.2 good.room st
       go items.quit f st is text = quits (around c) m s.situation.locals words s.situation.world.text full
           (here c) s.situation.world.fuel s.situation.world
           (single c items.quit (plain operations.Quit []) refl refl st).held

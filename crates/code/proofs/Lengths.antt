@@ -18,17 +18,19 @@ use Rattle.forms.specs.Layout.{form_for, size_with, part_size, offset_over}
 use Rattle.expressions.specs.declared.tree.Binary.{Binary}
 use Rattle.expressions.specs.declared.tree.Binary.TheVariants as binaries
 use Rattle.expressions.specs.declared.tree.Width.{Width}
-use Rattle.checker.specs.Meaning.{is_character}
+use Rattle.meaning.specs.Meaning.{is_character}
 use Rattle.items.specs.Items.{Item, Destination, Test}
 use Rattle.items.specs.Items as items
-use Rattle.checker.specs.declared.cause.Cause.TheVariants as causes
+use Rattle.meaning.specs.declared.cause.Cause.{Cause}
+use Rattle.meaning.specs.declared.cause.Cause.TheVariants as causes
 use Rattle.code.specs.Addresses.{Addresses, fault_address}
 use Rattle.code.specs.Instructions.{plain, branching, fail, labelled, takes, operands, test_operation, tested_code}
 use Rattle.code.specs.Instructions.{asks_none, least_word, branch_code, compared, case_code, calling, call_operation}
 use Rattle.code.specs.Instructions.{call_result}
 use Rattle.code.specs.Instructions.{call_code, divided, character_code, item_code, most_tested, most_arguments}
 use Rattle.code.specs.Instructions.{number_of, temporary, constant, pull, giving, result_in, entries_in, is_entry}
-use Rattle.code.specs.Instructions.{load_operation, store_operation, behind_comparison, tested_index, at_index}
+use Rattle.code.specs.Instructions.{load_operation, store_operation, behind_comparison, tested_between, tested_index}
+use Rattle.code.specs.Instructions.{at_index, first_byte, tested_first, letters_in, words_in, line_code, read_code}
 use Rattle.code.specs.Instructions.{entry_code, assigned_takes, assigned_word, passed_on, assign_entry_code}
 use Rattle.code.specs.Bytes.{bytes_of_all, item_bytes, no_addresses, least_size, target_of, part_of}
 
@@ -131,24 +133,29 @@ character_same a b (items.variable x) = refl
 
 -- Arrays
 
--- the tests of an index, without the fault
-abbrev index_tests : ℕ → ℕ → List Instruction
-index_tests count v =
-    branching operations.JumpIfLess (Variable v ∷ Small 0 ∷ []) true (behind_comparison count)
-    ∷ branching operations.JumpIfLess (Variable v ∷ constant count ∷ []) true 6
+-- the tests of a word, without the fault
+abbrev two_tests : ℕ → ℕ → ℕ → List Instruction
+two_tests low end v =
+    branching operations.JumpIfLess (Variable v ∷ Small low ∷ []) true (behind_comparison end)
+    ∷ branching operations.JumpIfLess (Variable v ∷ constant end ∷ []) true 6
     ∷ []
+
+between_same : (a b : Addresses) (cause : Cause) (low end v : ℕ)
+    → length (bytes_of_all (tested_between a cause low end v))
+    ≡ length (bytes_of_all (tested_between b cause low end v))
+between_same a b cause low end v =
+    let fa = fault_address a cause in
+    let fb = fault_address b cause in
+    omega (
+      arith,
+      all_length (two_tests low end v) (fail fa),
+      all_length (two_tests low end v) (fail fb),
+      fail_same fa fb,
+    )
 
 tested_same : (a b : Addresses) (count v : ℕ)
     → length (bytes_of_all (tested_index a count v)) ≡ length (bytes_of_all (tested_index b count v))
-tested_same a b count v =
-    let fa = fault_address a causes.IndexOutOfRange in
-    let fb = fault_address b causes.IndexOutOfRange in
-    omega (
-      arith,
-      all_length (index_tests count v) (fail fa),
-      all_length (index_tests count v) (fail fb),
-      fail_same fa fb,
-    )
+tested_same a b count v = between_same a b causes.IndexOutOfRange 0 count v
 
 -- what is done at an index is as long as something else that is done there
 abbrev AsLong : (Operand → List Instruction) → (Operand → List Instruction) → Type 0
@@ -222,6 +229,42 @@ assign_same a b width size x y o q d =
       one_length (plain (store_operation width) (Large x ∷ i ∷ word ∷ [])),
       one_length (plain (store_operation width) (Large y ∷ i ∷ word ∷ [])),
       same_call (store_operation width) (i ∷ word ∷ []) None x y,
+    )
+
+-- Lines
+
+first_same : (a b : Addresses) (most x y : ℕ)
+    → length (bytes_of_all (first_byte x ∷ tested_first a most))
+    ≡ length (bytes_of_all (first_byte y ∷ tested_first b most))
+first_same a b most x y = omega (
+  arith,
+  all_length (first_byte x ∷ []) (tested_first a most),
+  all_length (first_byte y ∷ []) (tested_first b most),
+  one_length (first_byte x),
+  one_length (first_byte y),
+  same_call operations.LoadByte (Small 0 ∷ []) (Some (temporary 0)) x y,
+  between_same a b causes.BufferTooSmall 1 (most + 1) (temporary 0),
+)
+
+line_same : (x y z w : ℕ) → length (bytes_of_all (line_code x y)) ≡ length (bytes_of_all (line_code z w))
+unfolding bytes_of
+line_same x y z w = refl
+
+read_same : (a b : Addresses) (text_size parse_size x y z w : ℕ)
+    → length (bytes_of_all (read_code a text_size x parse_size y))
+    ≡ length (bytes_of_all (read_code b text_size z parse_size w))
+read_same a b text_size parse_size x y z w =
+    let letters = letters_in text_size in
+    let words = words_in parse_size in
+    omega (
+      arith,
+      all_length (first_byte x ∷ tested_first a letters) (first_byte y ∷ (tested_first a words ++ line_code x y)),
+      all_length (first_byte z ∷ tested_first b letters) (first_byte w ∷ (tested_first b words ++ line_code z w)),
+      all_length (first_byte y ∷ tested_first a words) (line_code x y),
+      all_length (first_byte w ∷ tested_first b words) (line_code z w),
+      first_same a b letters x z,
+      first_same a b words y w,
+      line_same x y z w,
     )
 
 -- Labels
@@ -382,6 +425,17 @@ module _ (sizes : List ℕ) where
         same,
         length-append (bytes_of_all (character_code a o)) [],
         length-append (bytes_of_all (character_code no_addresses o)) [],
+      )
+  same_length a offset (items.read_line t q) e =
+      let text_size = slice_index sizes t % 65536 in
+      let parse_size = slice_index sizes q % 65536 in
+      let same = read_same a no_addresses text_size parse_size (slice_index a.arrays t) (slice_index a.arrays q)
+      (slice_index no_addresses.arrays t) (slice_index no_addresses.arrays q) in
+      omega (
+        arith,
+        same,
+        length-append (bytes_of_all (item_code sizes a offset (items.read_line t q))) [],
+        length-append (bytes_of_all (item_code sizes no_addresses 2 (items.read_line t q))) [],
       )
   same_length a offset (items.branch test os when target) e = absurd (cc)
   same_length a offset (items.case test ns when target) e = absurd (cc)

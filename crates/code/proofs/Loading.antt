@@ -14,9 +14,9 @@ use Rattle.zcore.specs.Parts.{read_byte, read_word}
 use Rattle.zcore.specs.Execution.{perform, give_result, load_word, load_byte}
 use Rattle.expressions.specs.declared.tree.Width.{Width}
 use Rattle.expressions.specs.declared.tree.Width.TheVariants as widths
-use Rattle.checker.specs.declared.cause.Cause.TheVariants as causes
-use Rattle.checker.specs.World.{Comes, to, array_at, entry_count, is_index, entry_at, read_entry}
-use Rattle.checker.specs.World as source
+use Rattle.meaning.specs.declared.cause.Cause.TheVariants as causes
+use Rattle.meaning.specs.World.{Comes, to, array_at, entry_count, is_index, entry_at, read_entry}
+use Rattle.meaning.specs.World as source
 use Rattle.items.specs.Items.{Destination}
 use Rattle.items.specs.Items as items
 use Rattle.items.specs.Stack as stack
@@ -40,7 +40,7 @@ use Rattle.code.proofs.ItemsThatPrint.{fails_led}
 use Rattle.code.proofs.Indexing.{Reached, AtIndex, Indexed, indexed}
 
 -- an entry is loaded
-loads : (width : Width) (here : Next) (after : ℕ) (result : Option ℕ) (place i : ℕ) (st : State)
+pub loads : (width : Width) (here : Next) (after : ℕ) (result : Option ℕ) (place i : ℕ) (st : State)
     → last_byte width (entry_address width place i) < length st.memory
     → last_byte width (entry_address width place i) < 65536
     → perform (load_operation width) here after result None (place ∷ i ∷ []) st
@@ -81,10 +81,10 @@ module _ (c : Running) where
   array_there n known =
       omega (arith, known, ap length good.sizes, length-map world.arrays length, length-map p.arrays length)
 
-  array_size : (n : ℕ) → slice_index (sizes_of p) n ≡ length (bytes_in n)
+  pub array_size : (n : ℕ) → slice_index (sizes_of p) n ≡ length (bytes_in n)
   array_size n = ap (λ ns. slice_index ns n) (sym good.sizes) ∙ size_at world.arrays n
 
-  array_short : (n : ℕ) → n < length p.arrays → slice_index (sizes_of p) n ≤ 32000
+  pub array_short : (n : ℕ) → n < length p.arrays → slice_index (sizes_of p) n ≤ 32000
   array_short n known = omega (arith, size_at p.arrays n, accepted.arrays n [] known)
 
   pub few_entries : (width : Width) (n : ℕ) → n < length p.arrays → entries_in width (size_in n) < 32768

@@ -6,11 +6,11 @@ use Rattle.std.proofs.lemmas.Bool.{leb-true}
 use Rattle.zcore.specs.declared.instruction.Operand.TheVariants.{Small}
 use Rattle.zcore.specs.Instruction.{bytes_of}
 use Rattle.zcore.specs.Execution.{perform, push_word}
-use Rattle.checker.specs.declared.resolved.Variable as source
-use Rattle.checker.specs.declared.resolved.Variable.TheVariants as variables
-use Rattle.checker.specs.World.{Situation, with_value}
-use Rattle.checker.specs.Meaning.{routine_at}
-use Rattle.checker.specs.Accepted.{IsVariable}
+use Rattle.meaning.specs.declared.resolved.Variable as source
+use Rattle.meaning.specs.declared.resolved.Variable.TheVariants as variables
+use Rattle.meaning.specs.World.{Situation, with_value}
+use Rattle.meaning.specs.Meaning.{routine_at}
+use Rattle.meaning.specs.Accepted.{IsVariable}
 use Rattle.items.specs.Items.{Item, Destination}
 use Rattle.items.specs.Items as items
 use Rattle.items.specs.Stack as stack

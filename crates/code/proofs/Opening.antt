@@ -9,10 +9,10 @@ use Rattle.zcore.specs.Instruction.{bytes_of}
 use Rattle.zcore.specs.Execution.{step, perform, call_packed}
 use Rattle.zcore.specs.Turn.{Whole, first_next, first_state, opening, entries, plays_from, last_place}
 use Rattle.zcore.proofs.Turning.{turn_ends_once}
-use Rattle.checker.specs.Resolved.{ProgramOf}
-use Rattle.checker.specs.World.{Situation}
-use Rattle.checker.specs.Meaning.{first_world, meaning}
-use Rattle.checker.specs.Accepted.{IsAccepted}
+use Rattle.meaning.specs.Resolved.{ProgramOf}
+use Rattle.meaning.specs.World.{Situation}
+use Rattle.meaning.specs.Meaning.{first_world, meaning}
+use Rattle.meaning.specs.Accepted.{IsAccepted}
 use Rattle.items.specs.Laws.{ItemsFollow}
 use Rattle.items.specs.Stack as stack
 use Rattle.code.specs.Addresses.{Addresses}
@@ -22,7 +22,7 @@ use Rattle.code.specs.HeldProgram.{HoldsProgram}
 use Rattle.code.proofs.Regions.{held_stands}
 use Rattle.code.proofs.Play.{Does, Stored}
 use Rattle.code.proofs.Steps.{step_is, first_held, fits_one, one_operand, large_value}
-use Rattle.code.proofs.Keeps.{enter_keeps, from_no_fault, exec_no_fault}
+use Rattle.code.proofs.Keeps.{enter_keeps, enter_faultless, from_no_fault, exec_no_fault}
 use Rattle.code.proofs.Sim.{ItemsLead, led_on, sim}
 use Rattle.code.proofs.Entering.{enter_led}
 
@@ -95,7 +95,7 @@ module _ (story : List ℕ) (a : Addresses) (p : ProgramOf) (accepted : IsAccept
           ∙ sym does.place;
       no_fault =
           let f = follows p accepted full lines in
-          from_no_fault (first_world p full lines) (stack.start p full lines) (stack.exec p f.count)
-          (meaning p full lines)
-          (enter_keeps p p.main [] [] begins) (λ s e. exec_no_fault p f.count s (meaning p full lines) e) f.comes;
+          from_no_fault (stack.start p full lines) (stack.exec p full f.count) (meaning p full lines)
+          (enter_faultless p p.main [] [] begins) (λ s e. exec_no_fault p full f.count s (meaning p full lines) e)
+          f.comes;
     }

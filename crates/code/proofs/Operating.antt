@@ -16,12 +16,12 @@ use Rattle.zcore.specs.Parts.{operand_value}
 use Rattle.zcore.specs.Execution.{give_result, divide, modulo, perform}
 use Rattle.expressions.specs.declared.tree.Binary.{Binary}
 use Rattle.expressions.specs.declared.tree.Binary.TheVariants as binaries
-use Rattle.checker.specs.declared.cause.Cause.TheVariants as causes
+use Rattle.meaning.specs.declared.cause.Cause.TheVariants as causes
 use Rattle.code.specs.Addresses.{fault_address}
-use Rattle.checker.specs.World.{Part, value_in}
-use Rattle.checker.specs.World as source
-use Rattle.checker.specs.Meaning.{with_prefix}
-use Rattle.checker.specs.Meaning as meaning
+use Rattle.meaning.specs.World.{Part, value_in}
+use Rattle.meaning.specs.World as source
+use Rattle.meaning.specs.Meaning.{with_prefix}
+use Rattle.meaning.specs.Meaning as meaning
 use Rattle.items.specs.Items.{Item, Destination}
 use Rattle.items.specs.Items as items
 use Rattle.items.specs.Stack as stack

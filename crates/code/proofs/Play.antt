@@ -1,6 +1,6 @@
 -- Which state of the machine stands for a state of the machine of items.
 use Rattle.std.proofs.Common.{◌≡◌, ℕ, ◌+◌, ◌*◌, ◌<◌, ◌≤◌, List, [], ◌∷◌, ◌++◌, length, reverse, drop, slice_index}
-use Rattle.std.proofs.Common.{Option, Some, None}
+use Rattle.std.proofs.Common.{Option, Some, None, Bool, true, false}
 use Rattle.std.specs.Prelude.{map}
 use Rattle.std.specs.List.{All, concat}
 use Rattle.zcore.specs.declared.next.Next.{Next}
@@ -9,10 +9,10 @@ use Rattle.zcore.specs.Header.{globals_of, static_base_of}
 use Rattle.zcore.specs.Parts.{unpacked}
 use Rattle.zcore.specs.State.{Frame, State, done}
 use Rattle.zcore.specs.Execution.{step}
-use Rattle.zcore.specs.Turn.{Whole, Turns, first_environment, plays_from, last_place}
-use Rattle.checker.specs.Resolved.{ProgramOf}
-use Rattle.checker.specs.World.{Outcome, World}
-use Rattle.checker.specs.Meaning.{routine_at}
+use Rattle.zcore.specs.Turn.{Whole, Turns, turn_from, turn_on, is_waiting, first_environment, plays_from, last_place}
+use Rattle.meaning.specs.Resolved.{ProgramOf}
+use Rattle.meaning.specs.World.{Outcome, World}
+use Rattle.meaning.specs.Meaning.{routine_at}
 use Rattle.items.specs.Items.{Item, routine_items}
 use Rattle.items.specs.Laws.{IsDestination}
 use Rattle.items.specs.Stack.{Caller}
@@ -149,8 +149,33 @@ module _ (story : List ℕ) (a : Addresses) (p : ProgramOf) where
     pub good : Good s memory
     pub leads : Leads here t (next_of s) (state_of s memory count counts)
 
+  -- the turn ends here, and waits for the next line; the turn of that line begins in a state that stands for this one
+  pub record Awaits (full : ℕ) (here : Next) (t : State) (w : World) (s : stack.State) : Type 0 where
+    pub line : List ℕ
+    pub lines : w.lines ≡ line ∷ s.situation.world.lines
+    pub whole : Whole
+    pub turns : Turns here t whole
+    pub waits : is_waiting whole.place ≡ true
+    pub texts : s.situation.world.texts ≡ w.texts ++ whole.text ∷ []
+    pub memory : List ℕ
+    pub count : ℕ
+    pub counts : List ℕ
+    pub good : Good s memory
+    pub given : turn_on line full whole.state ≡ turn_from (next_of s) (state_of s memory count counts)
+
   -- the machine does what an item leads to
   abbrev pub Led : ℕ → Next → State → World → stack.Next → Type 0
   Led full here t w (stack.goes s) = Arrives here t s
   Led full here t w (stack.ends outcome) = Does full here t w outcome
   Led full here t w stack.stuck = Unit {0}
+
+  -- and where the item reads a line
+  abbrev pub LedOn : ℕ → Next → State → World → stack.Next → Type 0
+  LedOn full here t w (stack.goes s) = Awaits full here t w s
+  LedOn full here t w (stack.ends outcome) = Does full here t w outcome
+  LedOn full here t w stack.stuck = Unit {0}
+
+  -- by whether it does
+  abbrev pub LedBy : Bool → ℕ → Next → State → World → stack.Next → Type 0
+  LedBy true full here t w next = LedOn full here t w next
+  LedBy false full here t w next = Led full here t w next

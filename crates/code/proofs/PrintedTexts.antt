@@ -10,11 +10,11 @@ use Rattle.expressions.specs.declared.tree.Prefix.{Prefix}
 use Rattle.expressions.specs.declared.tree.Prefix.TheVariants as prefixes
 use Rattle.expressions.specs.declared.tree.Step.{Step}
 use Rattle.expressions.specs.declared.tree.Width.{Width}
-use Rattle.checker.specs.declared.resolved.Variable.{Variable}
-use Rattle.checker.specs.Resolved.{Value, Values, none, more, Printed, Action, Actions, stop, next, CasesOf, RoutineOf}
-use Rattle.checker.specs.Resolved as source
-use Rattle.checker.specs.Meaning.{is_true}
-use Rattle.checker.specs.Printable.{IsPrintableItem, IsPrintableAction, ArePrintableActions, ArePrintableCases}
+use Rattle.meaning.specs.declared.resolved.Variable.{Variable}
+use Rattle.meaning.specs.Resolved.{Value, Values, none, more, Printed, Action, Actions, stop, next, CasesOf, RoutineOf}
+use Rattle.meaning.specs.Resolved as source
+use Rattle.meaning.specs.Meaning.{is_true}
+use Rattle.meaning.specs.Printable.{IsPrintableItem, IsPrintableAction, ArePrintableActions, ArePrintableCases}
 use Rattle.lexer.specs.Printable.{IsPrintable}
 use Rattle.items.specs.Items.{Item, Operand, pushed, number, variable, Destination, push, into, nowhere, operand_of}
 use Rattle.items.specs.Items.{alone, left_of, if_pushed, is_few, agrees, value_count, operand_count, operands_count}
@@ -326,6 +326,7 @@ mutual
       (first (items.choose (alone v)) _ tt (cases_fine (record x { breaks = end }) cs h tested end))
   action_fine x source.break_out h at = first _ _ tt nothing
   action_fine x source.continue_on h at = first _ _ tt nothing
+  action_fine x (source.read_line t p) h at = first _ _ tt nothing
   action_fine x (source.return_value v) h at = last (alone_items at v) _ (alone_fine v at) tt
   action_fine x source.quit h at = first _ _ tt nothing
   action_fine x (source.effect v) h at = (value_fine v).value at nowhere

@@ -1,10 +1,11 @@
 -- Bytes that stand in memory, and what writes leave of them.
-use Rattle.std.proofs.Common.{◌≡◌, ℕ, ◌+◌, ◌/◌, ◌%◌, ◌<◌, ◌≤◌, ◌⊎◌, inl, inr, List, length, set, drop}
-use Rattle.std.proofs.Common.{slice_index, ap, sym, ◌∙◌, subst, arith}
+use Rattle.std.proofs.Common.{◌≡◌, ℕ, ◌+◌, ◌/◌, ◌%◌, ◌<◌, ◌≤◌, ◌⊎◌, inl, inr, List, [], ◌∷◌, length, set}
+use Rattle.std.proofs.Common.{drop, slice_index, refl, ap, sym, ◌∙◌, subst, arith}
 use Rattle.std.proofs.lemmas.Bool.{cases_eq}
 use Rattle.std.proofs.lemmas.List.{get_or-set_same, get_or-set_other, length-set, drop-set-lt, get_or-drop}
 use Rattle.std.proofs.lemmas.List.{get_or-take}
 use Rattle.zcore.specs.Parts.{with_word}
+use Rattle.zcore.specs.Turn.{with_bytes}
 use Rattle.zcore.specs.Text.{Holds}
 
 -- these bytes stand in memory from an address on
@@ -41,6 +42,16 @@ stands_word memory base bytes j v s lt =
     (stands_set m1 base b1 (j + 1) (v % 256) (stands_set memory base bytes j (v / 256) s (omega (arith, lt)))
     (omega (arith, lt, length-set bytes j (v / 256))))
 
+-- bytes are written one behind another
+pub stands_bytes : (memory : List ℕ) (base : ℕ) (bytes : List ℕ) (j : ℕ) (vs : List ℕ) → Stands memory base bytes
+    → j + length vs ≤ length bytes → Stands (with_bytes memory (base + j) vs) base (with_bytes bytes j vs)
+stands_bytes memory base bytes j [] s room = s
+stands_bytes memory base bytes j (v ∷ vs) s room =
+    let z : base + (j + 1) ≡ base + j + 1 = omega arith in
+    subst (λ n. Stands (with_bytes (set memory (base + j) v) n vs) base (with_bytes (set bytes j v) (j + 1) vs)) z
+    (stands_bytes (set memory (base + j) v) base (set bytes j v) (j + 1) vs
+    (stands_set memory base bytes j v s (omega (arith, room))) (omega (arith, room, length-set bytes j v)))
+
 -- bytes before them are written
 pub stands_on : (memory other : List ℕ) (base : ℕ) (bytes : List ℕ) → Stands memory base bytes
     → length other ≡ length memory → ((q : ℕ) → base ≤ q → slice_index other q ≡ slice_index memory q)
@@ -56,7 +67,7 @@ pub record KeepsOutside (from to : ℕ) (old new : List ℕ) : Type 0 where
   pub before : (q : ℕ) → q < from → slice_index new q ≡ slice_index old q
   pub after : drop to new ≡ drop to old
 
-keeps_then : (from to : ℕ) (l m n : List ℕ) → KeepsOutside from to l m → KeepsOutside from to m n
+pub keeps_then : (from to : ℕ) (l m n : List ℕ) → KeepsOutside from to l m → KeepsOutside from to m n
     → KeepsOutside from to l n
 keeps_then from to l m n a b = record {
   size = b.size ∙ a.size;
@@ -76,6 +87,14 @@ keeps_word from to at v m low high =
     keeps_then from to m (set m at (v / 256)) (with_word m at v)
     (keeps_set from to at (v / 256) m low (omega (arith, high)))
     (keeps_set from to (at + 1) (v % 256) (set m at (v / 256)) (omega (arith, low)) high)
+
+pub keeps_bytes : (from to at : ℕ) (vs m : List ℕ) → from ≤ at → at + length vs ≤ to
+    → KeepsOutside from to m (with_bytes m at vs)
+keeps_bytes from to at [] m low high = record { size = refl; before = λ q h. refl; after = refl }
+keeps_bytes from to at (v ∷ vs) m low high =
+    keeps_then from to m (set m at v) (with_bytes (set m at v) (at + 1) vs)
+    (keeps_set from to at v m low (omega (arith, high)))
+    (keeps_bytes from to (at + 1) vs (set m at v) (omega (arith, low)) (omega (arith, high)))
 
 -- bytes that stand as a run
 pub held_stands : (memory : List ℕ) (base : ℕ) (bytes : List ℕ) → base + length bytes ≤ length memory

@@ -17,9 +17,9 @@ use Rattle.zcore.specs.Parts.{push, goes_on, test_return, leave, give_back, stor
 use Rattle.zcore.specs.Execution.{step}
 use Rattle.zcore.specs.Turn.{first_environment}
 use Rattle.zcore.proofs.Holding.{holds_byte}
-use Rattle.checker.specs.declared.resolved.Variable as source
-use Rattle.checker.specs.World.{Situation, with_value}
-use Rattle.checker.specs.Meaning.{routine_at}
+use Rattle.meaning.specs.declared.resolved.Variable as source
+use Rattle.meaning.specs.World.{Situation, with_value}
+use Rattle.meaning.specs.Meaning.{routine_at}
 use Rattle.items.specs.Items.{Destination}
 use Rattle.items.specs.Items as items
 use Rattle.items.specs.Laws.{IsDestination}

@@ -4,8 +4,8 @@ use Rattle.std.specs.Prelude.{codes, replicate}
 use Rattle.expressions.specs.declared.tree.Binary.TheVariants as binaries
 use Rattle.expressions.specs.declared.tree.Step.TheVariants as steps
 use Rattle.expressions.specs.declared.tree.Width.TheVariants as widths
-use Rattle.checker.specs.declared.resolved.Variable.{Variable}
-use Rattle.checker.specs.declared.resolved.Variable.TheVariants as variables
+use Rattle.meaning.specs.declared.resolved.Variable.{Variable}
+use Rattle.meaning.specs.declared.resolved.Variable.TheVariants as variables
 use Rattle.zcore.specs.Instruction.{bytes_of}
 use Rattle.zcore.specs.Alphabets.{spelling_of}
 use Rattle.zcore.specs.Words.{packed}
@@ -15,7 +15,8 @@ use Rattle.forms.specs.declared.layout.Part.{Part}
 use Rattle.forms.specs.declared.layout.BranchUse.{BranchUse}
 use Rattle.forms.specs.Layout.{uses}
 use Rattle.items.specs.Items.{Item, pushed, number, variable, push, into, nowhere, is_zero, less, greater, same, move}
-use Rattle.items.specs.Items.{operate, step, entry, assign_entry, print_text, branch, choose, case, jump, call, return}
+use Rattle.items.specs.Items.{operate, step, entry, assign_entry, print_text, read_line, branch, choose, case, jump}
+use Rattle.items.specs.Items.{call, return}
 use Rattle.code.specs.Addresses.{Addresses}
 use Rattle.code.specs.Bytes.{item_bytes, parts_of, code_bytes}
 use Rattle.code.specs.HeldProgram.{start_code}
@@ -24,7 +25,7 @@ abbrev a : Addresses
 a = record {
   routines = 300 ∷ 400 ∷ [];
   arrays = 560 ∷ 570 ∷ [];
-  faults = 515 ∷ 516 ∷ 517 ∷ 518 ∷ 519 ∷ 521 ∷ 520 ∷ [];
+  faults = 515 ∷ 516 ∷ 517 ∷ 518 ∷ 519 ∷ 521 ∷ 520 ∷ 522 ∷ [];
 }
 
 -- arrays of 10 bytes and of 600
@@ -99,6 +100,15 @@ writes_byte : written (assign_entry widths.Byte 0 pushed pushed push)
     ∷ 226 ∷ 43 ∷ 2 ∷ 48 ∷ 248 ∷ 249 ∷ 232 ∷ 191 ∷ 249 ∷ []
 unfolding bytes_of
 writes_byte = refl
+
+-- loadb a 0 -> T; jl T 1 ?fault; jl T 9 over the fault: print_paddr; quit; the same of b, with 150 for 9; storeb a 1 0;
+-- aread a b -> T
+reads_line : written (read_line 0 1)
+    ≡ 208 ∷ 31 ∷ 2 ∷ 48 ∷ 0 ∷ 248 ∷ 66 ∷ 248 ∷ 1 ∷ 198 ∷ 66 ∷ 248 ∷ 9 ∷ 198 ∷ 141 ∷ 2 ∷ 10 ∷ 186
+    ∷ 208 ∷ 31 ∷ 2 ∷ 58 ∷ 0 ∷ 248 ∷ 66 ∷ 248 ∷ 1 ∷ 198 ∷ 66 ∷ 248 ∷ 150 ∷ 198 ∷ 141 ∷ 2 ∷ 10 ∷ 186
+    ∷ 226 ∷ 23 ∷ 2 ∷ 48 ∷ 1 ∷ 0 ∷ 228 ∷ 15 ∷ 2 ∷ 48 ∷ 2 ∷ 58 ∷ 248 ∷ []
+unfolding bytes_of
+reads_line = refl
 
 -- inc x
 steps_up : written (step steps.Increment x nowhere) ≡ 149 ∷ 1 ∷ []

@@ -11,9 +11,9 @@ use Rattle.zcore.specs.Parts.{operand_values}
 use Rattle.zcore.specs.Execution.{step, perform, push_word}
 use Rattle.expressions.specs.declared.tree.Step.{Step}
 use Rattle.expressions.specs.declared.tree.Step.TheVariants as steps
-use Rattle.checker.specs.declared.resolved.Variable as source
-use Rattle.checker.specs.World.{Situation, value_in, with_value}
-use Rattle.checker.specs.Meaning.{stepped}
+use Rattle.meaning.specs.declared.resolved.Variable as source
+use Rattle.meaning.specs.World.{Situation, value_in, with_value}
+use Rattle.meaning.specs.Meaning.{stepped}
 use Rattle.items.specs.Items.{Item, Destination}
 use Rattle.items.specs.Items as items
 use Rattle.items.specs.Stack as stack

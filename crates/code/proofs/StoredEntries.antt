@@ -1,19 +1,20 @@
 -- Entries of arrays in the memory of a story that runs.
 use Rattle.std.proofs.Common.{◌≡◌, ℕ, ◌+◌, ◌-◌, ◌*◌, ◌%◌, ◌<◌, ◌≤◌, List, length, slice_index, slice_set}
-use Rattle.std.proofs.Common.{true, refl, sym, ap, ◌∙◌, subst, arith}
-use Rattle.std.specs.Prelude.{nat_lt, map, [], ◌∷◌}
+use Rattle.std.proofs.Common.{true, sym, ap, ◌∙◌, subst, arith}
+use Rattle.std.specs.Prelude.{nat_lt, map}
 use Rattle.std.specs.List.{concat}
 use Rattle.std.proofs.lemmas.Bool.{and_parts, ltb-true}
-use Rattle.std.proofs.lemmas.List.{length-append, length-set}
+use Rattle.std.proofs.lemmas.List.{length-set}
 use Rattle.zcore.specs.Bytes.{word_at}
 use Rattle.zcore.specs.Header.{globals_of, static_base_of}
 use Rattle.zcore.specs.Parts.{with_word}
 use Rattle.expressions.specs.declared.tree.Width.{Width}
 use Rattle.expressions.specs.declared.tree.Width.TheVariants as widths
-use Rattle.checker.specs.World.{array_at, entry_count, is_index, entry_at, with_entry}
+use Rattle.meaning.specs.World.{array_at, entry_count, is_index, entry_at, with_entry}
 use Rattle.code.specs.Addresses.{Addresses}
 use Rattle.code.specs.HeldProgram.{offset_in}
-use Rattle.code.proofs.Flat.{array_within, byte_at, byte_set, word_set, offset_same, sizes_same}
+use Rattle.code.proofs.Flat.{array_within, byte_at, byte_set, word_set, sizes_same, concat_same, place_same}
+use Rattle.code.proofs.Flat.{count_same}
 use Rattle.code.proofs.Regions.{Stands, stands_set, stands_word, KeepsOutside, keeps_set, keeps_word}
 use Rattle.code.proofs.Play.{Stored}
 use Rattle.code.proofs.Memory.{word_of, length_with}
@@ -52,6 +53,33 @@ entry_within widths.Word bytes i h = omega (arith, h)
 with_length : (width : Width) (bytes : List ℕ) (i v : ℕ) → length (with_entry width bytes i v) ≡ length bytes
 with_length widths.Byte bytes i v = length-set bytes i (v % 256)
 with_length widths.Word bytes i v = length_with bytes (2 * i) v
+
+-- other bytes stand in the region of arrays
+pub stored_other : (story : List ℕ) (a : Addresses) (globals : List ℕ) (arrays other_arrays : List (List ℕ))
+    (memory other : List ℕ) (stored : Stored story a globals arrays memory)
+    → KeepsOutside stored.regions.first (static_base_of story) memory other
+    → Stands other stored.regions.first (concat other_arrays) → map length other_arrays ≡ map length arrays
+    → 64 ≤ globals_of story → length globals ≤ 232 → Stored story a globals other_arrays other
+stored_other story a globals arrays other_arrays memory other stored keeps stands same low few =
+    let r = stored.regions in
+    record {
+      size = keeps.size ∙ stored.size;
+      header = λ q h. keeps.before q (omega (arith, h, low, r.above)) ∙ stored.header q h;
+      kept = keeps.after ∙ stored.kept;
+      values = λ g h.
+          let here = globals_of story + 2 * g in
+          ap (λ x. x * 256 + slice_index other (here + 1)) (keeps.before here (omega (arith, h, few, r.above)))
+          ∙ ap (λ x. slice_index memory here * 256 + x) (keeps.before (here + 1) (omega (arith, h, few, r.above)))
+          ∙ stored.values g h;
+      regions = record {
+        first = r.first;
+        above = r.above;
+        below = omega (arith, r.below, concat_same other_arrays arrays same);
+        places = λ n h. r.places n (omega (arith, h, count_same other_arrays arrays same))
+            ∙ ap (λ x. r.first + x) (sym (place_same other_arrays arrays n same));
+        stands = stands;
+      };
+    }
 
 module _ (story : List ℕ) (a : Addresses) (globals : List ℕ) (arrays : List (List ℕ)) (memory : List ℕ)
     (stored : Stored story a globals arrays memory) (k : ℕ) (known : k < length arrays) where
@@ -151,45 +179,12 @@ module _ (story : List ℕ) (a : Addresses) (globals : List ℕ) (arrays : List 
   pub sizes_kept : (width : Width) (i v : ℕ) → map length (next_arrays width i v) ≡ map length arrays
   sizes_kept width i v = sizes_same arrays k (with_entry width bytes i v) (with_length width bytes i v)
 
-  -- the length of all
-  concat_same : (xs ys : List (List ℕ)) → map length xs ≡ map length ys → length (concat xs) ≡ length (concat ys)
-  concat_same [] [] e = refl
-  concat_same [] (y ∷ ys) e = absurd (cc)
-  concat_same (x ∷ xs) [] e = absurd (cc)
-  concat_same (x ∷ xs) (y ∷ ys) e =
-      let one : length x ≡ length y = cc in
-      let more : map length xs ≡ map length ys = cc in
-      omega (arith, one, concat_same xs ys more, length-append x (concat xs), length-append y (concat ys))
-
   -- an entry is written
   pub stored_entry : (width : Width) (i v : ℕ) → is_index width bytes i ≡ true → 64 ≤ globals_of story
       → length globals ≤ 232 → Stored story a globals (next_arrays width i v) (next_memory width i v)
   stored_entry width i v index low few =
-      let r = stored.regions in
-      let keeps = entry_keeps width i v index in
-      let same = sizes_kept width i v in
-      let count : length (next_arrays width i v) ≡ length arrays =
-      length-set arrays k (with_entry width bytes i v) in
-      record {
-        size = keeps.size ∙ stored.size;
-        header = λ q h. keeps.before q (omega (arith, h, low, r.above)) ∙ stored.header q h;
-        kept = keeps.after ∙ stored.kept;
-        values = λ g h.
-            let here = globals_of story + 2 * g in
-            ap (λ x. x * 256 + slice_index (next_memory width i v) (here + 1))
-            (keeps.before here (omega (arith, h, few, r.above)))
-            ∙ ap (λ x. slice_index memory here * 256 + x) (keeps.before (here + 1) (omega (arith, h, few, r.above)))
-            ∙ stored.values g h;
-        regions = record {
-          first = r.first;
-          above = r.above;
-          below = omega (arith, r.below, concat_same (next_arrays width i v) arrays same);
-          places = λ n h. r.places n (omega (arith, h, count))
-              ∙ ap (λ x. r.first + x)
-              (sym (offset_same arrays k n (with_entry width bytes i v) (with_length width bytes i v)));
-          stands = entry_stands width i v index;
-        };
-      }
+      stored_other story a globals arrays (next_arrays width i v) memory (next_memory width i v) stored
+      (entry_keeps width i v index) (entry_stands width i v index) (sizes_kept width i v) low few
 
 -- a variable from 16 on is the same where an entry is written
 pub variable_kept : (story : List ℕ) (a : Addresses) (globals : List ℕ) (arrays other_arrays : List (List ℕ))

@@ -1,5 +1,5 @@
 -- Small stories that hold programs, run by the machine.
-use Rattle.std.proofs.Common.{◌≡◌, ℕ, List, [], ◌∷◌, ◌++◌, length, take, refl}
+use Rattle.std.proofs.Common.{◌≡◌, ℕ, List, [], ◌∷◌, ◌++◌, length, take, drop, refl}
 use Rattle.std.specs.Prelude.{codes, map, replicate}
 use Rattle.expressions.specs.declared.tree.Binary.TheVariants as binaries
 use Rattle.expressions.specs.declared.tree.Comparison.TheVariants as comparisons
@@ -26,12 +26,14 @@ use Rattle.zcore.specs.Words.{packed, unpacked_text}
 use Rattle.zcore.specs.Alphabets.{spelling_of}
 use Rattle.zcore.specs.Arithmetic.{quotient, decimal, signed_text}
 use Rattle.std.specs.List.{flat_map}
-use Rattle.checker.specs.declared.cause.Cause.{Cause}
-use Rattle.checker.specs.World.{words_of}
-use Rattle.checker.specs.declared.resolved.Variable.TheVariants as variables
-use Rattle.checker.specs.Resolved as source
-use Rattle.checker.specs.Resolved.{Action, Actions, RoutineOf, ProgramOf}
-use Rattle.checker.specs.Meaning.{routine_at, meaning}
+use Rattle.tables.specs.Dictionary.{dictionary_bytes}
+use Rattle.meaning.specs.declared.cause.Cause.{Cause}
+use Rattle.meaning.specs.declared.cause.Cause.TheVariants as causes
+use Rattle.meaning.specs.World.{words_of}
+use Rattle.meaning.specs.declared.resolved.Variable.TheVariants as variables
+use Rattle.meaning.specs.Resolved as source
+use Rattle.meaning.specs.Resolved.{Action, Actions, RoutineOf, ProgramOf}
+use Rattle.meaning.specs.Meaning.{routine_at, meaning}
 use Rattle.items.specs.Items.{routine_items}
 use Rattle.code.specs.Addresses.{Addresses, all_causes}
 use Rattle.code.specs.Bytes.{code_bytes}
@@ -44,8 +46,8 @@ slot size bytes = take size (bytes ++ replicate size 0)
 abbrev routine_bytes : List ℕ → Addresses → RoutineOf → List ℕ
 routine_bytes sizes a r = r.locals ∷ code_bytes sizes a (routine_items r)
 
--- Version 5; globals at 64, an array at 544, static memory and the texts of faults from 560 on, code from 1072 on, Main
--- at 1080, another routine at 1240.
+-- Version 5; globals at 64, an array at 544, static memory and the texts of faults from 560 on, among them at 868 the
+-- dictionary, code from 1072 on, Main at 1080, another routine at 1240.
 abbrev pub a : Addresses
 a = record {
   routines = 270 ∷ 310 ∷ [];
@@ -54,17 +56,25 @@ a = record {
 }
 
 abbrev head : List ℕ
-head = slot 64 (5 ∷ 0 ∷ 0 ∷ 1 ∷ 4 ∷ 0x30 ∷ 4 ∷ 0x30 ∷ 0 ∷ 0 ∷ 0 ∷ 0 ∷ 0 ∷ 0x40 ∷ 2 ∷ 0x30 ∷ [])
+head = slot 64 (5 ∷ 0 ∷ 0 ∷ 1 ∷ 4 ∷ 0x30 ∷ 4 ∷ 0x30 ∷ 3 ∷ 0x64 ∷ 0 ∷ 0 ∷ 0 ∷ 0x40 ∷ 2 ∷ 0x30 ∷ [])
 
 -- the text of a fault
 abbrev line_slot : Cause → List ℕ
 line_slot cause = slot 64 (encoded (fault_line (words_of cause)))
 
+-- those of all, and the dictionary of no words behind the fifth
+abbrev lines_and_dictionary : List ℕ
+lines_and_dictionary =
+    flat_map line_slot (take 4 all_causes)
+    ++ (slot 52 (encoded (fault_line (words_of causes.PropertyOfManyWords)))
+    ++ (slot 12 (dictionary_bytes [])
+    ++ flat_map line_slot (drop 5 all_causes)))
+
 abbrev story_of : List ℕ → List ℕ → RoutineOf → RoutineOf → List ℕ
 story_of globals array main other =
     head ++ (slot 480 globals
     ++ (slot 16 array
-    ++ (flat_map line_slot all_causes
+    ++ (lines_and_dictionary
     ++ (slot 8 (start_code 270)
     ++ (slot 160 (routine_bytes (length array ∷ []) a main)
     ++ (slot 160 (routine_bytes (length array ∷ []) a other) ++ 0 ∷ []))))))
@@ -118,7 +128,7 @@ sum_of_two = record {
 }
 
 abbrev pub program : ProgramOf
-program = record { globals = 9 ∷ []; arrays = table ∷ []; routines = main ∷ sum_of_two ∷ []; main = 0 }
+program = record { globals = 9 ∷ []; arrays = table ∷ []; keys = []; routines = main ∷ sum_of_two ∷ []; main = 0 }
 
 abbrev pub story : List ℕ
 story = story_of (0 ∷ 9 ∷ []) table main sum_of_two
@@ -176,6 +186,7 @@ abbrev calls_itself : ProgramOf
 calls_itself = record {
   globals = 0 ∷ [];
   arrays = [];
+  keys = [];
   routines = record {
     locals = 0;
     body = list (source.effect (source.call 1 (source.more (source.number 1) source.none)) ∷ []);
@@ -223,7 +234,7 @@ asks = record {
 }
 
 abbrev asking : ProgramOf
-asking = record { globals = 9 ∷ []; arrays = []; routines = asks ∷ sum_of_two ∷ []; main = 0 }
+asking = record { globals = 9 ∷ []; arrays = []; keys = []; routines = asks ∷ sum_of_two ∷ []; main = 0 }
 
 means_asked : (meaning asking 100 []).texts ≡ (codes "yes" ++ 34 ∷ codes "-5" ++ 10 ∷ codes "[Fault: not a character]"
     ++ 10 ∷ []) ∷ []
@@ -253,7 +264,7 @@ reaches = record {
 }
 
 abbrev reaching : ProgramOf
-reaching = record { globals = 9 ∷ []; arrays = table ∷ []; routines = reaches ∷ sum_of_two ∷ []; main = 0 }
+reaching = record { globals = 9 ∷ []; arrays = table ∷ []; keys = []; routines = reaches ∷ sum_of_two ∷ []; main = 0 }
 
 means_reached : (meaning reaching 100 []).texts ≡ (codes "-2" ++ 10 ∷ codes "[Fault: index out of range]" ++ 10 ∷ []) ∷ []
 unfolding meaning signed_text decimal

@@ -14,12 +14,12 @@ use Rattle.zcore.specs.Parts.{operand_value, write_byte, write_word}
 use Rattle.zcore.specs.Execution.{perform, store_word, store_byte, push_word}
 use Rattle.expressions.specs.declared.tree.Width.{Width}
 use Rattle.expressions.specs.declared.tree.Width.TheVariants as widths
-use Rattle.checker.specs.declared.resolved.Variable as resolved
-use Rattle.checker.specs.declared.resolved.Variable.TheVariants as variables
-use Rattle.checker.specs.declared.cause.Cause.TheVariants as causes
-use Rattle.checker.specs.World.{Situation, Comes, to, over, bound, Part, value_in, with_value, is_index, with_entry}
-use Rattle.checker.specs.World.{with_array}
-use Rattle.checker.specs.World as source
+use Rattle.meaning.specs.declared.resolved.Variable as resolved
+use Rattle.meaning.specs.declared.resolved.Variable.TheVariants as variables
+use Rattle.meaning.specs.declared.cause.Cause.TheVariants as causes
+use Rattle.meaning.specs.World.{Situation, Comes, to, over, bound, Part, value_in, with_value, is_index, with_entry}
+use Rattle.meaning.specs.World.{with_array}
+use Rattle.meaning.specs.World as source
 use Rattle.items.specs.Items.{Destination}
 use Rattle.items.specs.Items as items
 use Rattle.items.specs.Stack as stack
@@ -53,7 +53,7 @@ use Rattle.code.proofs.Indexing.{Reached, Indexed, indexed}
 use Rattle.code.proofs.Loading.{bytes_in, size_in, array_there, few_entries, index_same, static_small}
 
 -- an entry is stored
-stores : (width : Width) (here : Next) (after place i v : ℕ) (st : State)
+pub stores : (width : Width) (here : Next) (after place i v : ℕ) (st : State)
     → 64 ≤ entry_address width place i
     → last_byte width (entry_address width place i) < static_base_of st.memory
     → last_byte width (entry_address width place i) < 65536
@@ -81,7 +81,7 @@ after_bound (to x s) g k = refl
 after_bound (over o) g k = refl
 
 -- static memory begins in the same place
-static_same : (story memory : List ℕ) → ((q : ℕ) → q < 64 → slice_index memory q ≡ slice_index story q)
+pub static_same : (story memory : List ℕ) → ((q : ℕ) → q < 64 → slice_index memory q ≡ slice_index story q)
     → static_base_of memory ≡ static_base_of story
 static_same story memory header =
     ap (λ x. x * 256 + slice_index memory 15) (header 14 (omega arith))

@@ -7,7 +7,7 @@ use Rattle.std.proofs.lemmas.Grind.{flat_map-append}
 use Rattle.zcore.specs.Instruction.{Instruction, bytes_of}
 use Rattle.zcore.specs.State.{done}
 use Rattle.zcore.specs.Parts.{operand_values}
-use Rattle.checker.specs.Meaning.{routine_at}
+use Rattle.meaning.specs.Meaning.{routine_at}
 use Rattle.items.specs.Items.{pushed, number, variable}
 use Rattle.items.specs.Items as items
 use Rattle.items.specs.Laws.{IsOperand}

@@ -16,8 +16,8 @@ use Rattle.zcore.specs.State.{State}
 use Rattle.zcore.specs.Parts.{branch_on}
 use Rattle.zcore.specs.Execution.{perform}
 use Rattle.zcore.specs.Arithmetic.{signed_less}
-use Rattle.checker.specs.Resolved.{ProgramOf}
-use Rattle.checker.specs.World.{Situation}
+use Rattle.meaning.specs.Resolved.{ProgramOf}
+use Rattle.meaning.specs.World.{Situation}
 use Rattle.items.specs.Items.{Item, Test, agrees}
 use Rattle.items.specs.Items as items
 use Rattle.items.specs.Laws.{IsOperand, IsTested}

@@ -11,10 +11,10 @@ use Rattle.zcore.specs.Parts.{transcribed}
 use Rattle.zcore.specs.Text.{Holds, decoded, encoded}
 use Rattle.zcore.proofs.Spelling.{AreBytes}
 use Rattle.zcore.proofs.RoundTrip.{round_trip}
-use Rattle.checker.specs.World.{shown}
-use Rattle.checker.specs.declared.cause.Cause.{Cause}
-use Rattle.checker.specs.declared.cause.Cause.TheVariants as causes
-use Rattle.checker.specs.World.{words_of}
+use Rattle.meaning.specs.World.{shown}
+use Rattle.meaning.specs.declared.cause.Cause.{Cause}
+use Rattle.meaning.specs.declared.cause.Cause.TheVariants as causes
+use Rattle.meaning.specs.World.{words_of}
 use Rattle.code.specs.Bytes.{character_of}
 use Rattle.lexer.specs.Printable.{IsPrintable}
 use Rattle.code.specs.HeldProgram.{fault_line}

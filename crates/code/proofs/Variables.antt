@@ -3,11 +3,11 @@ use Rattle.std.proofs.Common.{◌≡◌, ℕ, ◌+◌, ◌%◌, ◌<◌, ◌≤�
 use Rattle.std.proofs.Common.{arith}
 use Rattle.std.proofs.lemmas.List.{length-set, get_or-set_same}
 use Rattle.zcore.specs.Header.{static_base_of}
-use Rattle.checker.specs.declared.resolved.Variable.{Variable}
-use Rattle.checker.specs.declared.resolved.Variable.TheVariants as variables
-use Rattle.checker.specs.World.{value_in, with_value}
-use Rattle.checker.specs.Meaning.{routine_at}
-use Rattle.checker.specs.Accepted.{IsVariable}
+use Rattle.meaning.specs.declared.resolved.Variable.{Variable}
+use Rattle.meaning.specs.declared.resolved.Variable.TheVariants as variables
+use Rattle.meaning.specs.World.{value_in, with_value}
+use Rattle.meaning.specs.Meaning.{routine_at}
+use Rattle.meaning.specs.Accepted.{IsVariable}
 use Rattle.code.specs.Instructions.{number_of}
 use Rattle.code.proofs.Play.{Stored}
 use Rattle.code.proofs.Memory.{with_variable, writes_ground, stored_global, global_is}

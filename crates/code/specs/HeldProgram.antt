@@ -4,13 +4,15 @@ use Rattle.std.specs.List.{All, concat}
 use Rattle.zcore.specs.declared.instruction.Operand.TheVariants.{Large}
 use Rattle.zcore.specs.declared.instruction.Operation.TheVariants.{Call1n, Quit}
 use Rattle.zcore.specs.Bytes.{word_at}
-use Rattle.zcore.specs.Header.{globals_of, static_base_of}
+use Rattle.zcore.specs.Header.{dictionary_of, globals_of, static_base_of}
 use Rattle.zcore.specs.Parts.{unpacked}
 use Rattle.zcore.specs.Text.{Holds, encoded}
-use Rattle.checker.specs.Resolved.{RoutineOf, ProgramOf}
-use Rattle.checker.specs.Meaning.{routine_at}
-use Rattle.checker.specs.World.{words_of}
-use Rattle.checker.specs.declared.cause.Cause.{Cause}
+use Rattle.tables.specs.Dictionary.{ReadsKeys}
+use Rattle.meaning.specs.Resolved.{RoutineOf, ProgramOf}
+use Rattle.meaning.specs.Meaning.{routine_at}
+use Rattle.meaning.specs.World.{words_of}
+use Rattle.meaning.specs.Places.{dictionary_place}
+use Rattle.meaning.specs.declared.cause.Cause.{Cause}
 use Rattle.items.specs.Items.{routine_items}
 use Rattle.code.specs.Addresses.{Addresses, fault_address}
 use Rattle.code.specs.Instructions.{plain}
@@ -68,3 +70,7 @@ pub record HoldsProgram (story : List ℕ) (a : Addresses) (p : ProgramOf) : Typ
   pub arrays_each : (n : ℕ) → n < length p.arrays → slice_index a.arrays n ≡ first_array + offset_in p.arrays n
   pub arrays_above : globals_of story + 480 ≤ first_array
   pub arrays_below : first_array + length (concat p.arrays) ≤ static_base_of story
+  -- the dictionary of its words, in static memory, which begins where their numbers say
+  pub dictionary_above : static_base_of story ≤ dictionary_of story
+  pub dictionary_there : dictionary_of story ≡ dictionary_place p
+  pub keys : ReadsKeys story (dictionary_of story) p.keys

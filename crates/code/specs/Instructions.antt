@@ -15,7 +15,7 @@ use Rattle.zcore.specs.declared.instruction.Operation.TheVariants.{PrintPacked, 
 use Rattle.zcore.specs.declared.instruction.Operation.TheVariants.{Print, ReturnPopped, Quit, NewLine, CallVs}
 use Rattle.zcore.specs.declared.instruction.Operation.TheVariants.{PrintCharacter, PrintNumber, Push, Pull, CallVs2}
 use Rattle.zcore.specs.declared.instruction.Operation.TheVariants.{Not, CallVn, CallVn2, LoadWord, LoadByte}
-use Rattle.zcore.specs.declared.instruction.Operation.TheVariants.{StoreWord, StoreByte}
+use Rattle.zcore.specs.declared.instruction.Operation.TheVariants.{StoreWord, StoreByte, Read}
 use Rattle.zcore.specs.Instruction.{Instruction}
 use Rattle.expressions.specs.declared.tree.Binary.{Binary}
 use Rattle.expressions.specs.declared.tree.Binary.TheVariants as binaries
@@ -25,10 +25,11 @@ use Rattle.expressions.specs.declared.tree.Step.{Step}
 use Rattle.expressions.specs.declared.tree.Step.TheVariants as steps
 use Rattle.expressions.specs.declared.tree.Width.{Width}
 use Rattle.expressions.specs.declared.tree.Width.TheVariants as widths
-use Rattle.checker.specs.declared.cause.Cause.TheVariants as causes
-use Rattle.checker.specs.declared.resolved.Variable as source
-use Rattle.checker.specs.declared.resolved.Variable.TheVariants as variables
-use Rattle.checker.specs.Meaning.{is_character}
+use Rattle.meaning.specs.declared.cause.Cause.{Cause}
+use Rattle.meaning.specs.declared.cause.Cause.TheVariants as causes
+use Rattle.meaning.specs.declared.resolved.Variable as source
+use Rattle.meaning.specs.declared.resolved.Variable.TheVariants as variables
+use Rattle.meaning.specs.Meaning.{is_character}
 use Rattle.items.specs.Items.{Item, Destination, Test}
 use Rattle.items.specs.Items as items
 use Rattle.code.specs.Addresses.{Addresses, fault_address}
@@ -244,12 +245,17 @@ store_operation widths.Word = StoreWord
 abbrev pub behind_comparison : ℕ → ℕ
 behind_comparison n = if nat_lt n 256 then 6 else 8
 
+-- a word in a variable is tested: where it is not, as a signed number, from one number on and below another, a fault's
+-- text is printed
+abbrev pub tested_between : Addresses → Cause → ℕ → ℕ → ℕ → List Instruction
+tested_between a cause low end variable =
+    branching JumpIfLess (Variable variable ∷ Small low ∷ []) true (behind_comparison end)
+    ∷ branching JumpIfLess (Variable variable ∷ constant end ∷ []) true 6
+    ∷ fail (fault_address a cause)
+
 -- an index in a variable, which is tested: where it is out of range, the fault's text is printed
 abbrev pub tested_index : Addresses → ℕ → ℕ → List Instruction
-tested_index a count variable =
-    branching JumpIfLess (Variable variable ∷ Small 0 ∷ []) true (behind_comparison count)
-    ∷ branching JumpIfLess (Variable variable ∷ constant count ∷ []) true 6
-    ∷ fail (fault_address a causes.IndexOutOfRange)
+tested_index a count variable = tested_between a causes.IndexOutOfRange 0 count variable
 
 -- what is done at an index of an array of so many entries; a number as index is not tested
 abbrev pub at_index : Addresses → ℕ → items.Operand → (Operand → List Instruction) → List Instruction
@@ -301,6 +307,39 @@ character_code a items.pushed = pull (temporary 0) ∷ tested_character a (tempo
 character_code a (items.number n) =
     if is_character n then plain PrintCharacter (constant n ∷ []) ∷ [] else fail (fault_address a causes.NotACharacter)
 character_code a (items.variable x) = tested_character a (number_of x)
+
+-- Lines
+
+-- byte 0 of the array at an address goes to a temporary
+abbrev pub first_byte : ℕ → Instruction
+first_byte place = giving LoadByte (Large place ∷ Small 0 ∷ []) (temporary 0)
+
+-- it is from 1 to the most, and else the fault's text is printed
+abbrev pub tested_first : Addresses → ℕ → List Instruction
+tested_first a most = tested_between a causes.BufferTooSmall 1 (most + 1) (temporary 0)
+
+-- how many letters, and how many words, an array of so many bytes has room for
+
+abbrev pub letters_in : ℕ → ℕ
+letters_in size = size - 2
+
+abbrev pub words_in : ℕ → ℕ
+words_in size = (size - 2) / 4
+
+-- an array for letters and an array for words: each by its size and its address. Byte 1 of the first is cleared, since
+-- `aread` would go on behind the letters that stand there (section 15); its result is 13, and goes to a temporary.
+abbrev pub line_code : ℕ → ℕ → List Instruction
+line_code text parse =
+    plain StoreByte (Large text ∷ Small 1 ∷ Small 0 ∷ [])
+    ∷ giving Read (Large text ∷ Large parse ∷ []) (temporary 0)
+    ∷ []
+
+abbrev pub read_code : Addresses → ℕ → ℕ → ℕ → ℕ → List Instruction
+read_code a text_size text parse_size parse =
+    first_byte text
+    ∷ (tested_first a (letters_in text_size)
+    ++ first_byte parse
+    ∷ (tested_first a (words_in parse_size) ++ line_code text parse))
 
 -- Branches to labels
 
@@ -403,6 +442,9 @@ item_code sizes a offset (items.print_text bytes) = plain Print [] ∷ []
 item_code sizes a offset (items.print_character o) = character_code a o
 item_code sizes a offset (items.print_number o) = plain PrintNumber (in_place o ∷ []) ∷ []
 item_code sizes a offset items.new_line = plain NewLine [] ∷ []
+item_code sizes a offset (items.read_line t q) =
+    read_code a (slice_index sizes t % 65536) (slice_index a.arrays t) (slice_index sizes q % 65536)
+    (slice_index a.arrays q)
 item_code sizes a offset items.quit = plain Quit [] ∷ []
 item_code sizes a offset (items.branch test os when target) = branch_code test (take most_tested os) when offset
 item_code sizes a offset (items.choose o) = choose_code o ∷ []

@@ -1,6 +1,6 @@
 -- How many bytes the routines of a program have in a story.
 use Rattle.std.specs.Prelude.{◌+◌, ℕ, List, [], ◌∷◌}
-use Rattle.checker.specs.Resolved.{RoutineOf}
+use Rattle.meaning.specs.Resolved.{RoutineOf}
 use Rattle.items.specs.Items.{routine_items}
 use Rattle.code.specs.Bytes.{code_size}
 

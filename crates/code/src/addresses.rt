@@ -3,7 +3,7 @@
 ghost use Rattle.std.specs.Prelude.{◌≡◌, slice_index};
 ghost use Rattle.code.specs.Addresses as spec;
 
-use checker::Cause;
+use meaning::Cause;
 
 /// The packed addresses of a story's routines and the addresses of its arrays, each in order of definition, and the
 /// packed addresses of the texts of its faults, in the order of `Cause`.

@@ -2,10 +2,11 @@
 
 ghost use Rattle.std.specs.Prelude.{◌≡◌, ◌++◌, ◌%◌, [], ◌∷◌, slice_index, OnOk};
 ghost use Rattle.zcore.specs.declared.instruction.Operand.TheVariants.{Large, Variable};
-ghost use Rattle.checker.specs.declared.cause.Cause.TheVariants.{IndexOutOfRange};
+ghost use Rattle.meaning.specs.declared.cause.Cause.TheVariants.{IndexOutOfRange};
 ghost use Rattle.items.specs.Items as source_items;
 ghost use Rattle.items.specs.Code.{as_operand, as_destination};
-ghost use Rattle.code.specs.Instructions.{tested_index, at_index, entry_code, passed_on, assign_entry_code};
+ghost use Rattle.code.specs.Instructions.{tested_between, tested_index, at_index, entry_code, passed_on};
+ghost use Rattle.code.specs.Instructions.{assign_entry_code};
 ghost use Rattle.code.specs.Instructions as spec;
 ghost use Rattle.code.specs.Addresses as places;
 ghost use Rattle.code.specs.Bytes.{bytes_of_all};
@@ -17,9 +18,9 @@ use crate::instruction::{
     put_all, quit, store,
 };
 use crate::operands::{constant, in_place, result_in, variable_number};
-use checker::Cause;
 use expressions::Width;
 use items::Destination;
+use meaning::Cause;
 use std::alloc::AllocError;
 use zcore::{Operand, Operation};
 
@@ -73,7 +74,7 @@ fn is_entry(count: u16, index: u16) -> bool
 }
 
 /// How far a branch leads to behind a comparison with a constant.
-fn behind_comparison(number: u16) -> u8
+pub fn behind_comparison(number: u16) -> u8
     ensures { result ≡ spec.behind_comparison number }
 {
     if number < 256 { 6 } else { 8 }
@@ -113,6 +114,33 @@ fn put_out_of_range(bytes: &mut Vec<u8>, addresses: &Addresses<'_>) -> Result<()
     )
 }
 
+/// A word in a variable is tested: where it is not, as a signed number, from one number on and below another, the text
+/// of a fault is printed, and the story ends.
+pub fn put_tested_between(
+    bytes: &mut Vec<u8>,
+    addresses: &Addresses<'_>,
+    cause: Cause,
+    low: u8,
+    end: u16,
+    variable: u8,
+) -> Result<(), AllocError>
+    ensures { OnOk result (bytes.new.items ≡ bytes.old.items
+        ++ bytes_of_all (tested_between (addresses_of addresses.now) cause low end variable)) }
+{
+    let word = Operand::Variable(variable);
+    let before = Operands::Two(word, Operand::Small(low));
+    let below = Operands::Two(word, constant(end));
+    put_all(
+        bytes,
+        &[
+            branching(Operation::JumpIfLess, before, true, behind_comparison(end)),
+            branching(Operation::JumpIfLess, below, true, 6),
+            print_fault(fault_address(addresses, cause)),
+            quit(),
+        ],
+    )
+}
+
 /// An index in a variable is tested: where it is none of so many entries, the text of the fault is printed, and the
 /// story ends.
 fn put_tested_index(
@@ -124,23 +152,7 @@ fn put_tested_index(
     ensures { OnOk result (bytes.new.items ≡ bytes.old.items
         ++ bytes_of_all (tested_index (addresses_of addresses.now) count variable)) }
 {
-    let index = Operand::Variable(variable);
-    let negative = Operands::Two(index, Operand::Small(0));
-    let below = Operands::Two(index, constant(count));
-    put_all(
-        bytes,
-        &[
-            branching(
-                Operation::JumpIfLess,
-                negative,
-                true,
-                behind_comparison(count),
-            ),
-            branching(Operation::JumpIfLess, below, true, 6),
-            print_fault(fault_address(addresses, Cause::IndexOutOfRange)),
-            quit(),
-        ],
-    )
+    put_tested_between(bytes, addresses, Cause::IndexOutOfRange, 0, count, variable)
 }
 
 /// An entry is read at an index that it has.

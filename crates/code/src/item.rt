@@ -1,6 +1,6 @@
 //! The instructions of an item.
 
-ghost use Rattle.std.specs.Prelude.{◌≡◌, ◌++◌, ◌%◌, [], ◌∷◌, OnOk};
+ghost use Rattle.std.specs.Prelude.{◌≡◌, ◌++◌, ◌%◌, [], ◌∷◌, slice_index, OnOk};
 ghost use Rattle.zcore.specs.declared.instruction.Operation.TheVariants.{PrintNumber};
 ghost use Rattle.items.specs.Code.{item_of, as_operand};
 ghost use Rattle.code.specs.Instructions as spec;
@@ -12,10 +12,12 @@ use crate::calls::{put_call, put_return};
 use crate::entries::{array_of, put_assign_entry, put_entry};
 use crate::instruction::{Operands, plain, pull, put_all};
 use crate::jumps::{put_branch, put_case, put_jump};
+use crate::lines::put_read;
 use crate::operands::in_place;
 use crate::operators::{put_also_equal, put_binary, put_first_equal, put_prefix};
 use crate::printing::{put_character, put_text};
 use crate::words::{put_choose, put_keep, put_move, put_step};
+use expressions::Width;
 use items::Item;
 use std::alloc::{AllocError, Global};
 use zcore::Operation;
@@ -41,6 +43,24 @@ fn put_print_number(bytes: &mut Vec<u8>, operand: items::Operand) -> Result<(), 
 {
     let operands = Operands::One(in_place(operand));
     put_all(bytes, &[plain(Operation::PrintNumber, operands)])
+}
+
+/// The next line goes to the arrays of two numbers: its letters to the first, its words to the second.
+fn put_read_line(
+    bytes: &mut Vec<u8>,
+    sizes: &[usize],
+    addresses: &Addresses<'_>,
+    text: usize,
+    parse: usize,
+) -> Result<(), AllocError>
+    ensures { OnOk result (bytes.new.items ≡ bytes.old.items
+        ++ bytes_of_all (spec.read_code (addresses_of addresses.now)
+        (slice_index sizes.now text % 65536) (slice_index addresses.now.arrays.now text)
+        (slice_index sizes.now parse % 65536) (slice_index addresses.now.arrays.now parse))) }
+{
+    let letters = array_of(sizes, addresses, Width::Byte, text);
+    let words = array_of(sizes, addresses, Width::Byte, parse);
+    put_read(bytes, addresses, letters, words)
 }
 
 /// The bytes of an item, where arrays have these sizes, and its branch or jump has this offset.
@@ -82,6 +102,7 @@ pub fn put_item(
         Item::PrintCharacter(operand) => put_character(bytes, addresses, *operand)?,
         Item::PrintNumber(operand) => put_print_number(bytes, *operand)?,
         Item::NewLine => put_bare(bytes, Operation::NewLine)?,
+        Item::Read(text, parse) => put_read_line(bytes, sizes, addresses, *text, *parse)?,
         Item::Quit => put_bare(bytes, Operation::Quit)?,
         Item::Branch(test, operands, when, _) => {
             put_branch(bytes, alloc, *test, operands, *when, offset)?

@@ -9,12 +9,12 @@ mod instruction;
 mod item;
 mod jumps;
 mod laws;
+mod lines;
 mod opcode;
 mod operands;
 mod operators;
 mod printing;
 mod routine;
-mod size_law;
 mod words;
 
 pub use addresses::Addresses;
@@ -22,4 +22,3 @@ pub use fault::CodeFault;
 pub use forms::{BranchUse, Form};
 pub use laws::code_plays;
 pub use routine::{Code, routine_code};
-pub use size_law::{code_is_short, small_sources_have_small_code};

@@ -8,8 +8,8 @@ ghost use Rattle.code.specs.Bytes.{bytes_of_all};
 ghost use Rattle.code.specs.Written.{named_when};
 
 use crate::instruction::{FIRST, TOP, pull, put_all};
-use checker::Variable;
 use items::Destination;
+use meaning::Variable;
 use std::alloc::AllocError;
 use zcore::Operand;
 

@@ -15,9 +15,9 @@ use crate::instruction::{
     push, put_all, put_instruction, quit,
 };
 use crate::operands::{constant, in_place, put_named, put_takes, result_in, variable_number};
-use checker::Cause;
 use expressions::{Binary, Prefix};
 use items::Destination;
+use meaning::Cause;
 use std::alloc::{AllocError, Global};
 use zcore::{Operand, Operation};
 

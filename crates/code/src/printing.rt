@@ -5,7 +5,7 @@ ghost use Rattle.std.specs.List.{filter, list_all};
 ghost use Rattle.zcore.specs.declared.instruction.Operation.TheVariants.{Print};
 ghost use Rattle.zcore.specs.Alphabets.{is_printable};
 ghost use Rattle.zcore.specs.Text.{encoded};
-ghost use Rattle.checker.specs.Meaning as meaning;
+ghost use Rattle.meaning.specs.Meaning as meaning;
 ghost use Rattle.items.specs.Items as source_items;
 ghost use Rattle.items.specs.Code.{as_operand};
 ghost use Rattle.code.specs.Instructions.{character_code, tested_character};
@@ -17,7 +17,7 @@ ghost use Rattle.code.specs.Written.{addresses_of};
 use crate::addresses::{Addresses, fault_address};
 use crate::instruction::{FIRST, Operands, branching, plain, print_fault, pull, put_all, quit};
 use crate::operands::{constant, variable_number};
-use checker::Cause;
+use meaning::Cause;
 use std::alloc::{AllocError, Global};
 use zcore::{Operand, Operation, TextFault, encode_text};
 

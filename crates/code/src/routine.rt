@@ -2,8 +2,8 @@
 
 ghost use Rattle.std.specs.Prelude.{◌≡◌, ◌<◌, ◌≤◌, ◌+◌, ◌++◌, map, reverse, length, slice_index, IfOk, OnOk};
 ghost use Rattle.forms.specs.Layout.{first, bytes_limit};
-ghost use Rattle.checker.specs.Meaning.{routine_at};
-ghost use Rattle.checker.specs.Resolved.{program_of};
+ghost use Rattle.meaning.specs.Meaning.{routine_at};
+ghost use Rattle.meaning.specs.Resolved.{program_of};
 ghost use Rattle.items.specs.Code.{item_of, items_of};
 ghost use Rattle.items.specs.Items as definitions;
 ghost use Rattle.code.specs.Bytes.{lefts_of, place_of, items_bytes};
@@ -15,9 +15,9 @@ use crate::addresses::Addresses;
 use crate::fault::CodeFault;
 use crate::item::put_item;
 use crate::jumps::jump_offset;
-use checker::Checked;
 use forms::{BranchUse, Part, branches, lay_out};
 use items::{Item, routine_items};
+use meaning::Checked;
 use std::alloc::{AllocError, Global};
 use std::marker::Model;
 

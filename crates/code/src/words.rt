@@ -12,9 +12,9 @@ use crate::instruction::{
     CHOSEN, FIRST, Instruction, Operands, copy, plain, pull, push, put_all, store,
 };
 use crate::operands::{in_place, variable_number};
-use checker::Variable;
 use expressions::Step;
 use items::Destination;
+use meaning::Variable;
 use std::alloc::AllocError;
 use zcore::{Operand, Operation};
 

@@ -8,8 +8,8 @@ use Rattle.expressions.specs.declared.tree.Width.{Width}
 use Rattle.expressions.specs.Tree.{ExpressionTree, name_tree}
 use Rattle.expressions.specs.Operators.{stepping, indexing}
 use Rattle.expressions.specs.Parse.{head, tail, is_name, array_of, array_at}
-use Rattle.expressions.specs.Grammar.{IsU, u_plain, u_minus, u_before, u_after, IsP, p_number, p_character, p_true}
-use Rattle.expressions.specs.Grammar.{p_false, p_nothing, p_name, p_call, p_call_with, p_parenthesised}
+use Rattle.expressions.specs.Grammar.{IsU, u_plain, u_minus, u_before, u_after, IsP, p_number, p_character, p_word}
+use Rattle.expressions.specs.Grammar.{p_true, p_false, p_nothing, p_name, p_call, p_call_with, p_parenthesised}
 use Rattle.expressions.proofs.Follow.{Stops, indexing_stops}
 
 -- ---- by what the code found
@@ -51,6 +51,7 @@ no_array_P : {ts r : List Lexeme} {e : ExpressionTree} → IsP ts e r → indexi
 unfolding array_at
 no_array_P p_number h = refl
 no_array_P p_character h = refl
+no_array_P p_word h = refl
 no_array_P p_true h = refl
 no_array_P p_false h = refl
 no_array_P p_nothing h = refl

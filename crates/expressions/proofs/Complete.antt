@@ -3,13 +3,13 @@ use Rattle.std.proofs.Common.{◌≡◌, ℕ, max, true, false, List, [], ◌∷
 use Rattle.lexer.specs.declared.token.Position.{Position}
 use Rattle.lexer.specs.declared.token.Sign.TheVariants as s
 use Rattle.lexer.specs.declared.token.Word.TheVariants as w
-use Rattle.lexer.specs.Token.{Lexeme, name, number, character, reserved, sign, position_of}
+use Rattle.lexer.specs.Token.{Lexeme, name, number, character, dictionary_word, reserved, sign, position_of}
 use Rattle.expressions.specs.declared.tree.Comparison.{Comparison}
 use Rattle.expressions.specs.declared.tree.Equality.{Equality}
 use Rattle.expressions.specs.declared.tree.Prefix.TheVariants as op
 use Rattle.expressions.specs.declared.tree.Step.{Step}
 use Rattle.expressions.specs.declared.tree.Width.{Width}
-use Rattle.expressions.specs.Tree.{NameTree, ExpressionTree, ExpressionTrees, constant, named, call, index}
+use Rattle.expressions.specs.Tree.{NameTree, ExpressionTree, ExpressionTrees, constant, word, named, call, index}
 use Rattle.expressions.specs.Tree.{parenthesised, prefixed, step_before, step_after, compare, equal, assign, none}
 use Rattle.expressions.specs.Tree.{more, trees_of}
 use Rattle.expressions.specs.Operators.{logical, comparing, equating, adding, scaling, stepping, indexing}
@@ -22,7 +22,7 @@ use Rattle.expressions.specs.Grammar.{IsE, e_plain, e_assign, IsE1, e1_plain, e1
 use Rattle.expressions.specs.Grammar.{IsE2, e2_plain, e2_compare, e2_equal, IsChoice, choice_last, choice_or, IsE3}
 use Rattle.expressions.specs.Grammar.{e3_plain, e3_add, IsE4, e4_plain, e4_scale, IsN4, n4_plain, n4_complement, IsE5}
 use Rattle.expressions.specs.Grammar.{e5_plain, e5_index, IsU, u_plain, u_minus, u_before, u_after, IsP, p_number}
-use Rattle.expressions.specs.Grammar.{p_character, p_true, p_false, p_nothing, p_name, p_call, p_call_with}
+use Rattle.expressions.specs.Grammar.{p_character, p_word, p_true, p_false, p_nothing, p_name, p_call, p_call_with}
 use Rattle.expressions.specs.Grammar.{p_parenthesised, IsArguments, arguments_last, arguments_comma, nesting}
 use Rattle.expressions.specs.Grammar.{nestings}
 use Rattle.expressions.proofs.Limited.{Limited, bound, then, at_once, same, in_whole, in_negation, in_complement}
@@ -168,6 +168,10 @@ module _ (d : ℕ) (m : List Lexeme) where
   unfolding primary
   step_p_character p n = at_once refl
 
+  step_p_word : (p : Position) (f : List ℕ) → Limited (primary (nested d) (dictionary_word f p ∷ m)) d 0 (word f) m
+  unfolding primary
+  step_p_word p f = at_once refl
+
   step_p_true : (p : Position) → Limited (primary (nested d) (reserved w.True p ∷ m)) d 0 (constant 1) m
   unfolding primary
   step_p_true p = at_once refl
@@ -305,6 +309,7 @@ mutual
       → Limited (primary (nested d) ts) d (nesting e) e r
   at_P (p_number {r = r} {p = p} {n = n}) d st = step_p_number d r p n
   at_P (p_character {r = r} {p = p} {c = n}) d st = step_p_character d r p n
+  at_P (p_word {r = r} {p = p} {s = f}) d st = step_p_word d r p f
   at_P (p_true {r = r} {p = p}) d st = step_p_true d r p
   at_P (p_false {r = r} {p = p}) d st = step_p_false d r p
   at_P (p_nothing {r = r} {p = p}) d st = step_p_nothing d r p

@@ -2,7 +2,7 @@
 use Rattle.std.proofs.Common.{◌≡◌, ℕ, ◌<◌, true, false, List, Some, None, refl, arith}
 use Rattle.lexer.specs.declared.token.Sign.TheVariants as s
 use Rattle.lexer.specs.declared.token.Word.TheVariants as w
-use Rattle.lexer.specs.Token.{Lexeme, name, number, character, reserved, sign}
+use Rattle.lexer.specs.Token.{Lexeme, name, number, character, dictionary_word, reserved, sign}
 use Rattle.expressions.specs.declared.tree.Binary.{Binary}
 use Rattle.expressions.specs.declared.tree.Comparison.{Comparison}
 use Rattle.expressions.specs.declared.tree.Equality.{Equality}
@@ -14,7 +14,7 @@ use Rattle.expressions.specs.Parse.{head, is_sign, is_word}
 use Rattle.expressions.specs.Grammar.{IsE, e_plain, e_assign, IsE1, e1_plain, e1_logical, IsN1, n1_plain, n1_not}
 use Rattle.expressions.specs.Grammar.{IsE2, e2_plain, e2_compare, e2_equal, IsE3, e3_plain, e3_add, IsE4, e4_plain}
 use Rattle.expressions.specs.Grammar.{e4_scale, IsN4, n4_plain, n4_complement, IsE5, e5_plain, e5_index, IsU, u_plain}
-use Rattle.expressions.specs.Grammar.{u_minus, u_before, u_after, IsP, p_number, p_character, p_true, p_false}
+use Rattle.expressions.specs.Grammar.{u_minus, u_before, u_after, IsP, p_number, p_character, p_word, p_true, p_false}
 use Rattle.expressions.specs.Grammar.{p_nothing, p_name, p_call, p_call_with, p_parenthesised, IsArguments}
 use Rattle.expressions.specs.Grammar.{arguments_last, arguments_comma}
 
@@ -159,6 +159,7 @@ begins (sign s.Decrement _) = 3
 begins (name _ _) = 4
 begins (number _ _) = 4
 begins (character _ _) = 4
+begins (dictionary_word _ _) = 4
 begins (reserved w.True _) = 4
 begins (reserved w.False _) = 4
 begins (reserved w.Nothing _) = 4
@@ -195,6 +196,7 @@ begins_any (sign s.Decrement p) lt = refl
 begins_any (name f p) lt = refl
 begins_any (number n p) lt = refl
 begins_any (character c p) lt = refl
+begins_any (dictionary_word f p) lt = refl
 begins_any (reserved w.True p) lt = refl
 begins_any (reserved w.False p) lt = refl
 begins_any (reserved w.Nothing p) lt = refl
@@ -209,6 +211,7 @@ step_begins _ op e = absurd cc
 pub begin_P : {ts r : List Lexeme} {e : ExpressionTree} → IsP ts e r → 3 < begins (head ts)
 begin_P p_number = omega arith
 begin_P p_character = omega arith
+begin_P p_word = omega arith
 begin_P p_true = omega arith
 begin_P p_false = omega arith
 begin_P p_nothing = omega arith

@@ -6,7 +6,7 @@ use Rattle.expressions.specs.Grammar.{IsE, e_plain, e_assign, IsE1, e1_plain, e1
 use Rattle.expressions.specs.Grammar.{IsE2, e2_plain, e2_compare, e2_equal, IsChoice, choice_last, choice_or, IsE3}
 use Rattle.expressions.specs.Grammar.{e3_plain, e3_add, IsE4, e4_plain, e4_scale, IsN4, n4_plain, n4_complement, IsE5}
 use Rattle.expressions.specs.Grammar.{e5_plain, e5_index, IsU, u_plain, u_minus, u_before, u_after, IsP, p_number}
-use Rattle.expressions.specs.Grammar.{p_character, p_true, p_false, p_nothing, p_name, p_call, p_call_with}
+use Rattle.expressions.specs.Grammar.{p_character, p_word, p_true, p_false, p_nothing, p_name, p_call, p_call_with}
 use Rattle.expressions.specs.Grammar.{p_parenthesised, IsArguments, arguments_last, arguments_comma}
 
 mutual
@@ -56,6 +56,7 @@ mutual
   pub short_P : {ts r : List Lexeme} {e : ExpressionTree} → IsP ts e r → length r < length ts
   short_P p_number = omega arith
   short_P p_character = omega arith
+  short_P p_word = omega arith
   short_P p_true = omega arith
   short_P p_false = omega arith
   short_P p_nothing = omega arith

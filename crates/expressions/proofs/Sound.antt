@@ -5,13 +5,13 @@ use Rattle.std.proofs.Common.{sym, subst, inl, inr, arith}
 use Rattle.lexer.specs.declared.token.Position.{Position}
 use Rattle.lexer.specs.declared.token.Sign.TheVariants as s
 use Rattle.lexer.specs.declared.token.Word.TheVariants as w
-use Rattle.lexer.specs.Token.{Lexeme, name, number, character, reserved, sign, position_of}
+use Rattle.lexer.specs.Token.{Lexeme, name, number, character, dictionary_word, reserved, sign, position_of}
 use Rattle.expressions.specs.declared.tree.Comparison.{Comparison}
 use Rattle.expressions.specs.declared.tree.Equality.{Equality}
 use Rattle.expressions.specs.declared.tree.Prefix.TheVariants as op
 use Rattle.expressions.specs.declared.tree.Step.{Step}
 use Rattle.expressions.specs.declared.tree.Width.{Width}
-use Rattle.expressions.specs.Tree.{ExpressionTree, constant, call, index, parenthesised, prefixed, step_before}
+use Rattle.expressions.specs.Tree.{ExpressionTree, constant, word, call, index, parenthesised, prefixed, step_before}
 use Rattle.expressions.specs.Tree.{step_after, compare, equal, assign, none, trees_of}
 use Rattle.expressions.specs.Operators.{logical, comparing, equating, adding, scaling, stepping, indexing}
 use Rattle.expressions.specs.Nesting.{begins_expression, DeepE, deep_e_left, deep_e_first, deep_e_right, DeepE1}
@@ -32,7 +32,7 @@ use Rattle.expressions.specs.Grammar.{IsE, e_plain, e_assign, IsE1, e1_plain, e1
 use Rattle.expressions.specs.Grammar.{IsE2, e2_plain, e2_compare, e2_equal, IsChoice, choice_last, choice_or, IsE3}
 use Rattle.expressions.specs.Grammar.{e3_plain, e3_add, IsE4, e4_plain, e4_scale, IsN4, n4_plain, n4_complement, IsE5}
 use Rattle.expressions.specs.Grammar.{e5_plain, e5_index, IsU, u_plain, u_minus, u_before, u_after, IsP, p_number}
-use Rattle.expressions.specs.Grammar.{p_character, p_true, p_false, p_nothing, p_name, p_call, p_call_with}
+use Rattle.expressions.specs.Grammar.{p_character, p_word, p_true, p_false, p_nothing, p_name, p_call, p_call_with}
 use Rattle.expressions.specs.Grammar.{p_parenthesised, IsArguments, arguments_last, arguments_comma, nesting}
 use Rattle.expressions.specs.Grammar.{nestings}
 use Rattle.expressions.proofs.Judged.{Judged, judged_read, judged_grammar, judged_deep, judged_then, judged_after}
@@ -98,6 +98,7 @@ module _ (d : ℕ) (inner : Inner d) where
   unfolding primary
   primary_judged (number n p ∷ ts) = judged_read (constant n) ts (p_number, omega arith)
   primary_judged (character c p ∷ ts) = judged_read (constant c) ts (p_character, omega arith)
+  primary_judged (dictionary_word f p ∷ ts) = judged_read (word f) ts (p_word, omega arith)
   primary_judged (reserved w.True p ∷ ts) = judged_read (constant 1) ts (p_true, omega arith)
   primary_judged (reserved w.False p ∷ ts) = judged_read (constant 0) ts (p_false, omega arith)
   primary_judged (reserved w.Nothing p ∷ ts) = judged_read (constant 0) ts (p_nothing, omega arith)

@@ -4,14 +4,14 @@ use Rattle.std.specs.Prelude.{◌≡◌, ℕ, suc, max, List, ◌∷◌, Some}
 use Rattle.lexer.specs.declared.token.Position.{Position}
 use Rattle.lexer.specs.declared.token.Sign.TheVariants as s
 use Rattle.lexer.specs.declared.token.Word.TheVariants as w
-use Rattle.lexer.specs.Token.{Lexeme, name, number, character, reserved, sign, position_of}
+use Rattle.lexer.specs.Token.{Lexeme, name, number, character, dictionary_word, reserved, sign, position_of}
 use Rattle.expressions.specs.declared.tree.Binary.{Binary}
 use Rattle.expressions.specs.declared.tree.Comparison.{Comparison}
 use Rattle.expressions.specs.declared.tree.Equality.{Equality}
 use Rattle.expressions.specs.declared.tree.Prefix.TheVariants as prefix
 use Rattle.expressions.specs.declared.tree.Step.{Step}
 use Rattle.expressions.specs.declared.tree.Width.{Width}
-use Rattle.expressions.specs.Tree.{ExpressionTree, ExpressionTrees, constant, named, call, index, parenthesised}
+use Rattle.expressions.specs.Tree.{ExpressionTree, ExpressionTrees, constant, word, named, call, index, parenthesised}
 use Rattle.expressions.specs.Tree.{prefixed, step_before, step_after, binary, compare, equal, assign, none, more}
 use Rattle.expressions.specs.Operators.{logical, comparing, equating, adding, scaling, stepping, indexing}
 
@@ -83,10 +83,11 @@ mutual
     u_after : {ts r : List Lexeme} {t : Lexeme} {op : Step} {e : ExpressionTree} → IsP ts e (t ∷ r)
         → stepping t ≡ Some op → IsU ts (step_after e op (position_of t)) r
 
-  -- P = number | char | name | "true" | "false" | "nothing" | name "(" [E {"," E}] ")" | "(" E ")"
+  -- P = number | char | word | name | "true" | "false" | "nothing" | name "(" [E {"," E}] ")" | "(" E ")"
   pub data IsP : List Lexeme → ExpressionTree → List Lexeme → Type 0 where
     p_number : {r : List Lexeme} {p : Position} {n : ℕ} → IsP (number n p ∷ r) (constant n) r
     p_character : {r : List Lexeme} {p : Position} {c : ℕ} → IsP (character c p ∷ r) (constant c) r
+    p_word : {r : List Lexeme} {p : Position} {s : List ℕ} → IsP (dictionary_word s p ∷ r) (word s) r
     p_true : {r : List Lexeme} {p : Position} → IsP (reserved w.True p ∷ r) (constant 1) r
     p_false : {r : List Lexeme} {p : Position} → IsP (reserved w.False p ∷ r) (constant 0) r
     p_nothing : {r : List Lexeme} {p : Position} → IsP (reserved w.Nothing p ∷ r) (constant 0) r
@@ -112,6 +113,7 @@ mutual
 abbrev mutual
   pub nesting : ExpressionTree → ℕ
   nesting (constant n) = 0
+  nesting (word s) = 0
   nesting (named n) = 0
   nesting (call n es) = suc (nestings es)
   nesting (index n width e) = nesting e

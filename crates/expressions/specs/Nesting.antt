@@ -8,7 +8,7 @@ use Rattle.std.specs.Prelude.{◌≡◌, Bool, true, false, ℕ, suc, List, ◌�
 use Rattle.lexer.specs.declared.token.Position.{Position}
 use Rattle.lexer.specs.declared.token.Sign.TheVariants as s
 use Rattle.lexer.specs.declared.token.Word.TheVariants as w
-use Rattle.lexer.specs.Token.{Lexeme, name, number, character, reserved, sign}
+use Rattle.lexer.specs.Token.{Lexeme, name, number, character, dictionary_word, reserved, sign}
 use Rattle.expressions.specs.declared.tree.Binary.{Binary}
 use Rattle.expressions.specs.declared.tree.Comparison.{Comparison}
 use Rattle.expressions.specs.declared.tree.Equality.{Equality}
@@ -23,6 +23,7 @@ abbrev pub begins_expression : Lexeme → Bool
 begins_expression (name _ _) = true
 begins_expression (number _ _) = true
 begins_expression (character _ _) = true
+begins_expression (dictionary_word _ _) = true
 begins_expression (reserved w.True _) = true
 begins_expression (reserved w.False _) = true
 begins_expression (reserved w.Nothing _) = true

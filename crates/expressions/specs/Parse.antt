@@ -6,7 +6,7 @@ use Rattle.lexer.specs.declared.token.Sign.{Sign}
 use Rattle.lexer.specs.declared.token.Sign.TheVariants as s
 use Rattle.lexer.specs.declared.token.Word.{Word}
 use Rattle.lexer.specs.declared.token.Word.TheVariants as w
-use Rattle.lexer.specs.Token.{Lexeme, name, number, character, reserved, sign, end, position_of}
+use Rattle.lexer.specs.Token.{Lexeme, name, number, character, dictionary_word, reserved, sign, end, position_of}
 use Rattle.expressions.specs.declared.tree.Binary.{Binary}
 use Rattle.expressions.specs.declared.tree.Comparison.{Comparison}
 use Rattle.expressions.specs.declared.tree.Equality.{Equality}
@@ -17,7 +17,7 @@ use Rattle.expressions.specs.declared.error.Fault.{Fault}
 use Rattle.expressions.specs.declared.error.Fault.TheVariants.{Grammar, Deep}
 use Rattle.expressions.specs.declared.error.ParseError.{ParseError}
 use Rattle.expressions.specs.declared.error.ParseError.TheVariants as errors
-use Rattle.expressions.specs.Tree.{NameTree, ExpressionTree, constant, named, call, index, parenthesised, prefixed}
+use Rattle.expressions.specs.Tree.{NameTree, ExpressionTree, constant, word, named, call, index, parenthesised, prefixed}
 use Rattle.expressions.specs.Tree.{step_before, step_after, binary, compare, equal, assign, none, trees_of}
 use Rattle.expressions.specs.Operators.{logical, comparing, equating, adding, scaling, stepping, indexing}
 use Rattle.expressions.specs.Nesting.{begins_expression}
@@ -235,6 +235,7 @@ module _ (below : Level → Parse ExpressionTree) where
   abbrev pub primary_on : Lexeme → Parse ExpressionTree
   primary_on (number n p) ts = Ok (constant n, ts)
   primary_on (character c p) ts = Ok (constant c, ts)
+  primary_on (dictionary_word f p) ts = Ok (word f, ts)
   primary_on (reserved w.True p) ts = Ok (constant 1, ts)
   primary_on (reserved w.False p) ts = Ok (constant 0, ts)
   primary_on (reserved w.Nothing p) ts = Ok (constant 0, ts)

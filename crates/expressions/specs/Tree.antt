@@ -19,6 +19,7 @@ pub record NameTree : Type 0 where
 mutual
   pub data ExpressionTree : Type 0 where
     constant : ℕ → ExpressionTree
+    word : List ℕ → ExpressionTree
     named : NameTree → ExpressionTree
     call : NameTree → ExpressionTrees → ExpressionTree
     index : NameTree → Width → ExpressionTree → ExpressionTree
@@ -51,6 +52,7 @@ chained e (l ∷ ls) = chained (binary l.0 e l.1) ls
 
 abbrev pub layer : Expression-F ExpressionTree → ExpressionTree
 layer (Expression-F.Constant n) = constant n
+layer (Expression-F.Word s) = word s.now
 layer (Expression-F.Named n) = named (name_tree n)
 layer (Expression-F.Call n es) = call (name_tree n) (trees_of es.items)
 layer (Expression-F.Index n width e) = index (name_tree n) width e.value

@@ -115,7 +115,7 @@ pub fn begins_expression(token: Token<'_>) -> bool
     ensures { result ≡ nesting.begins_expression (lexeme token.entry) }
 {
     match token.kind {
-        Kind::Name(_) | Kind::Number(_) | Kind::Character(_) => true,
+        Kind::Name(_) | Kind::Number(_) | Kind::Character(_) | Kind::DictionaryWord(_) => true,
         Kind::Reserved(word) => matches!(word, Word::True | Word::False | Word::Nothing),
         Kind::Sign(sign) => matches!(
             sign,

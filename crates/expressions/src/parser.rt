@@ -238,7 +238,7 @@ fn unary<'t, 'a>(
     parts::stepped(alloc, primary(alloc, depth, tokens))
 }
 
-/// A constant, a name, a call, or an expression in parentheses.
+/// A constant, a dictionary word, a name, a call, or an expression in parentheses.
 #[cycle(expression)]
 #[tactic(auto, unfolding(crate::specs::Parse::primary))]
 fn primary<'t, 'a>(
@@ -254,6 +254,7 @@ fn primary<'t, 'a>(
     match token.kind {
         Kind::Number(number) => parts::constant(alloc, number, rest),
         Kind::Character(code) => parts::constant(alloc, code as u16, rest),
+        Kind::DictionaryWord(word) => parts::word(alloc, word, rest),
         Kind::Reserved(Word::True) => parts::constant(alloc, 1, rest),
         Kind::Reserved(Word::False) => parts::constant(alloc, 0, rest),
         Kind::Reserved(Word::Nothing) => parts::constant(alloc, 0, rest),

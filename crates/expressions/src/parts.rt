@@ -48,6 +48,17 @@ pub fn constant<'t, 'a>(
     in_box(alloc, Expression::Constant(value), rest)
 }
 
+/// A dictionary word.
+pub fn word<'t, 'a>(
+    alloc: Global,
+    word: &'a [u8],
+    rest: &'t [Token<'a>],
+) -> Result<(Box<Expression<'a>>, &'t [Token<'a>]), ParseError>
+    ensures { Gives {Y = ReadOne} (λ x. (expression_tree x.0.value, lexemes x.1.now)) result (Ok (tree.word word.entry.now, lexemes rest.now)) }
+{
+    in_box(alloc, Expression::Word(word), rest)
+}
+
 /// The value of a name.
 pub fn named<'t, 'a>(
     alloc: Global,

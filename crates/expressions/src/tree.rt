@@ -90,6 +90,9 @@ pub enum Expression<'a> {
     /// A number or a character; `true` is 1, `false` and `nothing` are 0.
     Constant(u16),
 
+    /// A dictionary word: the bytes of its token, capitals as they stand.
+    Word(&'a [u8]),
+
     /// The value of a name.
     Named(Name<'a>),
 

@@ -2,10 +2,10 @@
 use Rattle.std.proofs.Common.{◌≡◌, ℕ, zero, suc, ◌+◌, ◌-◌, ◌<◌, List, [], ◌∷◌, ◌++◌, length, map, drop, slice_set}
 use Rattle.std.proofs.Common.{slice_index_or, false, refl, sym, ap, ◌∙◌, arith, append_assoc, length-append}
 use Rattle.std.proofs.Math.Seq.{set-append_seam}
-use Rattle.checker.specs.declared.resolved.Printed as code_printed
-use Rattle.checker.specs.declared.resolved.Action as code_action
-use Rattle.checker.specs.Resolved.{Value, Printed, Action, Actions, actions_of, action_of, printed_of}
-use Rattle.checker.specs.Resolved as source
+use Rattle.meaning.specs.declared.resolved.Printed as code_printed
+use Rattle.meaning.specs.declared.resolved.Action as code_action
+use Rattle.meaning.specs.Resolved.{Value, Printed, Action, Actions, actions_of, action_of, printed_of}
+use Rattle.meaning.specs.Resolved as source
 use Rattle.items.specs.Items.{Item, Operand, alone, if_pushed, push, branch_count, value_count, value_items}
 use Rattle.items.specs.Items.{branch_items, printed_count, prints_count, action_count, printed_items, prints_items}
 use Rattle.items.specs.Items.{actions_count, alone_items, action_items, actions_items, return_true}

@@ -5,10 +5,10 @@ use Rattle.std.proofs.Common.{Bool, true, false, refl, sym, ap, subst, ◌∙◌
 use Rattle.std.specs.Prelude.{nat_le, nat_lt, if◌then◌else◌}
 use Rattle.expressions.specs.declared.tree.Binary.{Binary}
 use Rattle.expressions.specs.declared.tree.Equality.{Equality}
-use Rattle.checker.specs.declared.resolved.Value as code_value
-use Rattle.checker.specs.Resolved.{Value, Values, none, more, value_of, values_of}
-use Rattle.checker.specs.Resolved as source
-use Rattle.checker.specs.Accepted.{count_of}
+use Rattle.meaning.specs.declared.resolved.Value as code_value
+use Rattle.meaning.specs.Resolved.{Value, Values, none, more, value_of, values_of}
+use Rattle.meaning.specs.Resolved as source
+use Rattle.meaning.specs.Accepted.{count_of}
 use Rattle.items.specs.Items.{Item, Operand, pushed, Destination, push, Test, same, operand_of, operands_of}
 use Rattle.items.specs.Items.{if_pushed}
 use Rattle.items.specs.Items.{is_few, branch_true, equality_when, value_count, operands_count, branch_count}

@@ -1,8 +1,8 @@
 -- What is written for assignments.
 use Rattle.std.proofs.Common.{◌≡◌, ℕ, List, [], ◌∷◌, ◌++◌, Bool, sym, append_assoc}
-use Rattle.checker.specs.declared.resolved.Variable.{Variable}
-use Rattle.checker.specs.Resolved.{Value}
-use Rattle.checker.specs.Resolved as source
+use Rattle.meaning.specs.declared.resolved.Variable.{Variable}
+use Rattle.meaning.specs.Resolved.{Value}
+use Rattle.meaning.specs.Resolved as source
 use Rattle.items.specs.Items.{Item, pushed, push, into, nowhere, branch_true, value_count, value_items, branch_items}
 use Rattle.items.specs.Items as items
 use Rattle.items.specs.declared.item.Destination.TheVariants as destinations

@@ -3,12 +3,12 @@ use Rattle.std.proofs.Common.{◌≡◌, ℕ, ◌+◌, ◌≤◌, List, ◌∷�
 use Rattle.std.specs.Prelude.{if◌then◌else◌, slice_get}
 use Rattle.std.proofs.lemmas.Bool.{le-leb}
 use Rattle.expressions.specs.declared.tree.Step.{Step}
-use Rattle.checker.specs.declared.resolved.Variable.{Variable}
-use Rattle.checker.specs.Resolved.{Value}
-use Rattle.checker.specs.Resolved as source
-use Rattle.checker.specs.Accepted.{need_of}
-use Rattle.checker.specs.World.{Situation, to, Part, ◌>>=◌, give, write_variable, value_in, with_value}
-use Rattle.checker.specs.Meaning.{stepped, evaluate}
+use Rattle.meaning.specs.declared.resolved.Variable.{Variable}
+use Rattle.meaning.specs.Resolved.{Value}
+use Rattle.meaning.specs.Resolved as source
+use Rattle.meaning.specs.Accepted.{need_of}
+use Rattle.meaning.specs.World.{Situation, to, Part, ◌>>=◌, give, write_variable, value_in, with_value}
+use Rattle.meaning.specs.Meaning.{stepped, evaluate}
 use Rattle.items.specs.Items.{pushed, variable, Destination, push, into, nowhere, value_count, after_items}
 use Rattle.items.specs.Items.{kept_items, value_items}
 use Rattle.items.specs.Items as items
@@ -63,8 +63,8 @@ module _ (now : Running) where
           (ap (λ c. if c then stands now (pc + 1) (value_in x s ∷ words) s else stuck)
           (le-leb _ _ (omega (arith, le))))
           (record {
-            does = λ k le d. steps_on p (here now (pc + 1) (value_in x s ∷ words) s) _ _
-                (ap (λ i. act p i (here now (pc + 1) (value_in x s ∷ words) s)) h1)
+            does = λ k le d. steps_on p full (here now (pc + 1) (value_in x s ∷ words) s) _ _
+                (ap (λ i. act p full i (here now (pc + 1) (value_in x s ∷ words) s)) h1)
                 (d (value_in x s) (word (value_in x s) s) refl (keeps_write full x _ s));
           })
 
@@ -77,7 +77,8 @@ module _ (now : Running) where
       after_does s n pc q words nowhere has le =
           at_place now (λ y. lands now nowhere y words) (pc + 1) q has.1
           (record {
-            does = λ k le d. steps_on p (here now pc words s) _ _ (ap (λ i. act p i (here now pc words s)) has.0)
+            does = λ k le d. steps_on p full (here now pc words s) _ _
+                (ap (λ i. act p full i (here now pc words s)) has.0)
                 (d (value_in x s) (word (value_in x s) s) refl (keeps_write full x _ s));
           })
       after_does s n pc q words (into y) has le =

@@ -3,9 +3,9 @@ use Rattle.std.proofs.Common.{◌≡◌, ℕ, zero, suc, ◌+◌, ◌<◌, List,
 use Rattle.std.proofs.Common.{ap, ◌∙◌, subst}
 use Rattle.std.specs.Prelude.{if◌then◌else◌, nat_lt, slice_get}
 use Rattle.std.proofs.lemmas.Bool.{lt-ltb}
-use Rattle.checker.specs.Resolved.{ProgramOf}
-use Rattle.checker.specs.World.{Outcome, Situation, Comes}
-use Rattle.checker.specs.Meaning.{routine_at}
+use Rattle.meaning.specs.Resolved.{ProgramOf}
+use Rattle.meaning.specs.World.{Outcome, Situation, Comes}
+use Rattle.meaning.specs.Meaning.{routine_at}
 use Rattle.items.specs.Items.{Item, Operand, pushed, number, variable, Test, agrees, routine_items}
 use Rattle.items.specs.Items as items
 use Rattle.items.specs.Stack.{Caller, State, Next, goes, stuck, with_operand, with_operands, branch, holds, act, from}
@@ -28,7 +28,7 @@ with_operands_alike [] s words f g e = e [] words
 with_operands_alike (o ∷ os) s words f g e = with_operands_alike os s words _ _
     (λ vs rest. with_operand_alike o s rest _ _ (λ v left. e (v ∷ vs) left))
 
-module _ (p : ProgramOf) (r : ℕ) (callers : List Caller) where
+module _ (p : ProgramOf) (full r : ℕ) (callers : List Caller) where
   -- a state that has a word of a `switch`, or none
   abbrev at_word : Option ℕ → ℕ → List ℕ → Situation → State
   at_word w pc words s =
@@ -41,49 +41,54 @@ module _ (p : ProgramOf) (r : ℕ) (callers : List Caller) where
 
   -- a jump, if what it leads to comes to the same
   jumps_alike : (b : Bool) (n t v : ℕ) (words : List ℕ) (s : Situation) (o : Outcome)
-      → (exec p n (at_word None t words s) ≡ Some o → exec p n (at_word (Some v) t words s) ≡ Some o)
-      → from (if b then goes (at_word None t words s) else stuck) (exec p n) ≡ Some o
-      → from (if b then goes (at_word (Some v) t words s) else stuck) (exec p n) ≡ Some o
+      → (exec p full n (at_word None t words s) ≡ Some o → exec p full n (at_word (Some v) t words s) ≡ Some o)
+      → from (if b then goes (at_word None t words s) else stuck) (exec p full n) ≡ Some o
+      → from (if b then goes (at_word (Some v) t words s) else stuck) (exec p full n) ≡ Some o
   jumps_alike true n t v words s o h e = h e
   jumps_alike false n t v words s o h e = e
 
-  -- what a run comes to with no word of a `switch`, it comes to with one: from an item on, if from other places with one
-  -- item less
+  -- what a run comes to with no word of a `switch`, it comes to with one: from an item on, if from other places with
+  -- one item less
   item_with_word : (v n pc : ℕ) (words : List ℕ) (s : Situation) (o : Outcome)
-      → ((t : ℕ) → exec p n (at_word None t words s) ≡ Some o → exec p n (at_word (Some v) t words s) ≡ Some o)
-      → (i : Option Item) → from (act p i (at_word None pc words s)) (exec p n) ≡ Some o
-      → from (act p i (at_word (Some v) pc words s)) (exec p n) ≡ Some o
+      → ((t : ℕ) → exec p full n (at_word None t words s) ≡ Some o
+      → exec p full n (at_word (Some v) t words s) ≡ Some o)
+      → (i : Option Item) → from (act p full i (at_word None pc words s)) (exec p full n) ≡ Some o
+      → from (act p full i (at_word (Some v) pc words s)) (exec p full n) ≡ Some o
   item_with_word v n pc words s o on None e = e
   item_with_word v n pc words s o on (Some (items.keep x)) e = kept words e
     where
-      kept : (words : List ℕ) → from (act p (Some (items.keep x)) (at_word None pc words s)) (exec p n) ≡ Some o
-          → from (act p (Some (items.keep x)) (at_word (Some v) pc words s)) (exec p n) ≡ Some o
+      kept : (words : List ℕ)
+          → from (act p full (Some (items.keep x)) (at_word None pc words s)) (exec p full n) ≡ Some o
+          → from (act p full (Some (items.keep x)) (at_word (Some v) pc words s)) (exec p full n) ≡ Some o
       kept [] e = e
       kept (w ∷ ws) e = e
   item_with_word v n pc words s o on (Some items.first_equal) e = go words e
     where
-      go : (words : List ℕ) → from (act p (Some items.first_equal) (at_word None pc words s)) (exec p n) ≡ Some o
-          → from (act p (Some items.first_equal) (at_word (Some v) pc words s)) (exec p n) ≡ Some o
+      go : (words : List ℕ)
+          → from (act p full (Some items.first_equal) (at_word None pc words s)) (exec p full n) ≡ Some o
+          → from (act p full (Some items.first_equal) (at_word (Some v) pc words s)) (exec p full n) ≡ Some o
       go [] e = e
       go (y ∷ []) e = e
       go (y ∷ x ∷ ws) e = e
   item_with_word v n pc words s o on (Some items.also_equal) e = go words e
     where
-      go : (words : List ℕ) → from (act p (Some items.also_equal) (at_word None pc words s)) (exec p n) ≡ Some o
-          → from (act p (Some items.also_equal) (at_word (Some v) pc words s)) (exec p n) ≡ Some o
+      go : (words : List ℕ)
+          → from (act p full (Some items.also_equal) (at_word None pc words s)) (exec p full n) ≡ Some o
+          → from (act p full (Some items.also_equal) (at_word (Some v) pc words s)) (exec p full n) ≡ Some o
       go [] e = e
       go (y ∷ []) e = e
       go (y ∷ f ∷ []) e = e
       go (y ∷ f ∷ x ∷ ws) e = e
   item_with_word v n pc words s o on (Some items.drop_below) e = go words e
     where
-      go : (words : List ℕ) → from (act p (Some items.drop_below) (at_word None pc words s)) (exec p n) ≡ Some o
-          → from (act p (Some items.drop_below) (at_word (Some v) pc words s)) (exec p n) ≡ Some o
+      go : (words : List ℕ)
+          → from (act p full (Some items.drop_below) (at_word None pc words s)) (exec p full n) ≡ Some o
+          → from (act p full (Some items.drop_below) (at_word (Some v) pc words s)) (exec p full n) ≡ Some o
       go [] e = e
       go (f ∷ []) e = e
       go (f ∷ x ∷ ws) e = e
   item_with_word v n pc words s o on (Some (items.branch test os when t)) e =
-      subst (λ x. from x (exec p n) ≡ Some o)
+      subst (λ x. from x (exec p full n) ≡ Some o)
       (with_operands_alike os s words _ _
       (λ vs rest. branch_alike (agrees (holds test vs) when) t v pc words s rest)) e
   item_with_word v n pc words s o on (Some (items.case test ns when t)) e = absurd (cc)
@@ -92,7 +97,7 @@ module _ (p : ProgramOf) (r : ℕ) (callers : List Caller) where
   item_with_word v n pc words s o on (Some i) e = e
 
   with_word : (v n pc : ℕ) (words : List ℕ) (s : Situation) (o : Outcome)
-      → exec p n (at_word None pc words s) ≡ Some o → exec p n (at_word (Some v) pc words s) ≡ Some o
+      → exec p full n (at_word None pc words s) ≡ Some o → exec p full n (at_word (Some v) pc words s) ≡ Some o
   with_word v zero pc words s o e = e
   with_word v (suc n) pc words s o e =
       item_with_word v n pc words s o (λ t h. with_word v n t words s o h)
@@ -106,10 +111,10 @@ module _ (now : Running) where
   has_word v pc s =
       record { routine = routine; place = pc; stack = []; chosen = Some v; callers = callers; situation = s }
 
-  does_with_word : (v pc : ℕ) (s : Situation) (o : Outcome) → Does p (stands now pc [] s) o
-      → Does p (goes (has_word v pc s)) o
+  does_with_word : (v pc : ℕ) (s : Situation) (o : Outcome) → Does p full (stands now pc [] s) o
+      → Does p full (goes (has_word v pc s)) o
   does_with_word v pc s o d =
-      record { count = d.count; comes = with_word p routine callers v d.count pc [] s o d.comes }
+      record { count = d.count; comes = with_word p full routine callers v d.count pc [] s o d.comes }
 
   -- what a run does with no such word, it does with one
   pub with_it : {A : Type 0} {s : Situation} {n : ℕ} {c : Comes A} {behind : A → Situation → Next} (v pc : ℕ)
@@ -124,7 +129,7 @@ module _ (now : Running) where
       → Leads now s n (goes (has_word v pc s)) c behind
   tests_word {s = s} v pc q t test ns when h lt is l =
       record {
-        does = λ k le d. steps_on p (has_word v pc s) _ _ (ap (λ i. act p i (has_word v pc s)) h ∙ goes_there)
+        does = λ k le d. steps_on p full (has_word v pc s) _ _ (ap (λ i. act p full i (has_word v pc s)) h ∙ goes_there)
             (l.does k le d);
       }
     where
@@ -132,7 +137,7 @@ module _ (now : Running) where
       by true = ap (λ c. if c then goes (has_word v t s) else stuck) (lt-ltb pc t lt)
       by false = ap (λ m. goes (has_word v m s)) is
 
-      goes_there : act p (Some (items.case test ns when t)) (has_word v pc s)
+      goes_there : act p full (Some (items.case test ns when t)) (has_word v pc s)
           ≡ goes (has_word v (if agrees (holds test (v ∷ ns)) when then t else q) s)
       goes_there = by (agrees (holds test (v ∷ ns)) when)
 
@@ -142,7 +147,7 @@ module _ (now : Running) where
       → Leads now s n (goes (has_word v pc s)) c behind
   jumps_word {s = s} v pc t h lt l =
       record {
-        does = λ k le d. steps_on p (has_word v pc s) _ _ (ap (λ i. act p i (has_word v pc s)) h
+        does = λ k le d. steps_on p full (has_word v pc s) _ _ (ap (λ i. act p full i (has_word v pc s)) h
             ∙ ap (λ b. if b then goes (has_word v t s) else stuck) (lt-ltb pc t lt))
             (l.does k le d);
       }
@@ -150,10 +155,10 @@ module _ (now : Running) where
   -- one item after which it is there
   pub chooses_word : {A : Type 0} {s : Situation} {n : ℕ} {c : Comes A} {behind : A → Situation → Next} (v pc : ℕ)
       (words : List ℕ) (i : Item) → slice_get (code now) pc ≡ Some i
-      → act p (Some i) (here now pc words s) ≡ goes (has_word v (pc + 1) s)
+      → act p full (Some i) (here now pc words s) ≡ goes (has_word v (pc + 1) s)
       → Leads now s n (goes (has_word v (pc + 1) s)) c behind → Leads now s n (stands now pc words s) c behind
   chooses_word {s = s} v pc words i h e l =
       record {
-        does = λ k le d. steps_on p (here now pc words s) _ _ (ap (λ x. act p x (here now pc words s)) h ∙ e)
+        does = λ k le d. steps_on p full (here now pc words s) _ _ (ap (λ x. act p full x (here now pc words s)) h ∙ e)
             (l.does k le d);
       }

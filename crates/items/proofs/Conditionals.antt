@@ -1,11 +1,12 @@
 -- `if`.
 use Rattle.std.proofs.Common.{◌≡◌, ℕ, ◌+◌, ◌<◌, ◌≤◌, [], Some, Bool, true, false, arith}
 use Rattle.std.specs.Prelude.{if◌then◌else◌, slice_get}
-use Rattle.checker.specs.Resolved.{Value, Action}
-use Rattle.checker.specs.Resolved as source
-use Rattle.checker.specs.Accepted.{IsWhole}
-use Rattle.checker.specs.World.{Situation, to, Part, ◌>>=◌, give}
-use Rattle.checker.specs.Meaning.{is_true, evaluate, Ending, goes_on, breaks, continues, returns, run}
+use Rattle.meaning.specs.Resolved.{Value, Action}
+use Rattle.meaning.specs.Resolved as source
+use Rattle.meaning.specs.Accepted.{IsWhole}
+use Rattle.meaning.specs.World.{Situation, to, Part, ◌>>=◌, give}
+use Rattle.meaning.specs.Meaning.{is_true, evaluate, Ending, goes_on, breaks, continues, returns, run}
+use Rattle.meaning.specs.Places.{number_in}
 use Rattle.items.specs.Items.{agrees, branch_count, branch_items, action_count, Exits, action_items}
 use Rattle.items.specs.Items as items
 use Rattle.items.proofs.Counts.{branch_length}
@@ -26,7 +27,7 @@ module _ (now : Running) where
 
   abbrev pub ActionOk : Action → Type 0
   ActionOk a = (x : Exits) (s : Situation) (n pc q : ℕ) → IsAhead q x → HasAt (code now) pc (action_items x pc a) q
-      → Leads now s n (stands now pc [] s) (run (calls now) full a s) (ended_at now x q)
+      → Leads now s n (stands now pc [] s) (run (calls now) (number_in p) full a s) (ended_at now x q)
 
   -- a test, and what follows where it is true, and where it is not
   tested : {s : Situation} {n : ℕ} (x : Exits) (v : Value) (pc t m q : ℕ) (f g : Part Ending)
@@ -53,7 +54,7 @@ module _ (now : Running) where
       let h = split (code now) pc (branch_items pc v false e) (action_items x m a) q (branch_count v false)
       (branch_length v false pc e) has in
       let behind = long (code now) m (action_items x m a) q (action_count a) (action_length x a m) h.1 in
-      tested x v pc e m q (run (calls now) full a) (give goes_on) fine h.0 (omega arith)
+      tested x v pc e m q (run (calls now) (number_in p) full a) (give goes_on) fine h.0 (omega arith)
       (λ last. oka x last n m q ahead h.1)
       (λ last. goes_at now x e q behind)
 
@@ -70,8 +71,9 @@ module _ (now : Running) where
       let first = ahead.0 in
       let second = ahead.1 in
       let inner : IsAhead e x = (omega (arith, first, behind), omega (arith, second, behind)) in
-      tested x v pc (e + 1) m q (run (calls now) full a) (run (calls now) full b) fine h.0 (omega arith)
-      (λ last. then_to now (run (calls now) full a last) (oka x last n m e inner ha.0)
+      tested x v pc (e + 1) m q (run (calls now) (number_in p) full a) (run (calls now) (number_in p) full b) fine h.0
+      (omega arith)
+      (λ last. then_to now (run (calls now) (number_in p) full a last) (oka x last n m e inner ha.0)
       (λ ending later _. passes ending later e (e + 1 + action_count b) ha.1.0 (omega arith) behind))
       (λ last. okb x last n (e + 1) q ahead ha.1.1)
     where

@@ -8,7 +8,7 @@ use Rattle.expressions.specs.declared.tree.Comparison.{Comparison}
 use Rattle.expressions.specs.declared.tree.Comparison.TheVariants as comparisons
 use Rattle.expressions.specs.declared.tree.Equality.{Equality}
 use Rattle.expressions.specs.declared.tree.Equality.TheVariants as equalities
-use Rattle.checker.specs.Meaning.{truth, is_true, equated, compared}
+use Rattle.meaning.specs.Meaning.{truth, is_true, equated, compared}
 use Rattle.items.specs.Items.{agrees, comparison_test, comparison_when, equality_when}
 use Rattle.items.specs.Stack.{holds}
 

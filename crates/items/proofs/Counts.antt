@@ -8,10 +8,10 @@ use Rattle.expressions.specs.declared.tree.Prefix.TheVariants as prefixes
 use Rattle.expressions.specs.declared.tree.Step.{Step}
 use Rattle.expressions.specs.declared.tree.Equality.{Equality}
 use Rattle.expressions.specs.declared.tree.Width.{Width}
-use Rattle.checker.specs.declared.resolved.Variable.{Variable}
-use Rattle.checker.specs.Resolved.{Value, Values, none, more, Printed, Action, Actions, stop, next}
-use Rattle.checker.specs.Resolved as source
-use Rattle.checker.specs.Meaning.{is_true}
+use Rattle.meaning.specs.declared.resolved.Variable.{Variable}
+use Rattle.meaning.specs.Resolved.{Value, Values, none, more, Printed, Action, Actions, stop, next}
+use Rattle.meaning.specs.Resolved as source
+use Rattle.meaning.specs.Meaning.{is_true}
 use Rattle.items.specs.Items.{Item, Operand, pushed, number, variable, Destination, push, into, nowhere, operand_of}
 use Rattle.items.specs.Items.{operands_of, alone, left_of, if_pushed, branch_true, agrees, is_few, comparison_test}
 use Rattle.items.specs.Items.{comparison_when, equality_when, moved_count, truth_count, after_count, kept_count}

@@ -1,6 +1,6 @@
 -- Every expression does what it means.
-use Rattle.checker.specs.Resolved.{Value, Values, none, more}
-use Rattle.checker.specs.Resolved as source
+use Rattle.meaning.specs.Resolved.{Value, Values, none, more}
+use Rattle.meaning.specs.Resolved as source
 use Rattle.items.proofs.Running.{Running}
 use Rattle.items.proofs.Evaluated.{ValueOk, ListOk, list_none, list_more}
 use Rattle.items.proofs.Operations.{number_ok, read_ok, call_ok, prefixed_ok}

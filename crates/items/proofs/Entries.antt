@@ -2,12 +2,12 @@
 use Rattle.std.proofs.Common.{◌≡◌, ℕ, ◌+◌, ◌≤◌, List, [], ◌∷◌, length, Some, ◌∙◌, arith}
 use Rattle.std.specs.Prelude.{slice_get}
 use Rattle.expressions.specs.declared.tree.Width.{Width}
-use Rattle.checker.specs.Temporaries.{operands}
-use Rattle.checker.specs.Resolved.{Value, none}
-use Rattle.checker.specs.Resolved as source
-use Rattle.checker.specs.Accepted.{need_of}
-use Rattle.checker.specs.World.{Situation, read_entry}
-use Rattle.checker.specs.Meaning.{evaluate}
+use Rattle.meaning.specs.Operands.{operands}
+use Rattle.meaning.specs.Resolved.{Value, none}
+use Rattle.meaning.specs.Resolved as source
+use Rattle.meaning.specs.Accepted.{need_of}
+use Rattle.meaning.specs.World.{Situation, read_entry}
+use Rattle.meaning.specs.Meaning.{evaluate}
 use Rattle.items.specs.Items.{Operand, Destination, push, alone, left_of, if_pushed, branch_true, pushed}
 use Rattle.items.specs.Items.{operand_count, value_items, alone_items}
 use Rattle.items.specs.Items as items

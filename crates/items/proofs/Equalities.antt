@@ -6,12 +6,12 @@ use Rattle.std.specs.List.{list_any}
 use Rattle.std.proofs.lemmas.Bool.{le-leb}
 use Rattle.expressions.specs.declared.tree.Comparison.{Comparison}
 use Rattle.expressions.specs.declared.tree.Equality.{Equality}
-use Rattle.checker.specs.Temporaries.{operands}
-use Rattle.checker.specs.Resolved.{Value, Values, none, more}
-use Rattle.checker.specs.Resolved as source
-use Rattle.checker.specs.Accepted.{need_of, needs_of}
-use Rattle.checker.specs.World.{Situation, ◌>>=◌, give}
-use Rattle.checker.specs.Meaning.{truth, is_true, equated, compared, evaluate, evaluate_all}
+use Rattle.meaning.specs.Operands.{operands}
+use Rattle.meaning.specs.Resolved.{Value, Values, none, more}
+use Rattle.meaning.specs.Resolved as source
+use Rattle.meaning.specs.Accepted.{need_of, needs_of}
+use Rattle.meaning.specs.World.{Situation, ◌>>=◌, give}
+use Rattle.meaning.specs.Meaning.{truth, is_true, equated, compared, evaluate, evaluate_all}
 use Rattle.items.specs.Items.{Item, pushed, push, is_zero, same, operand_of, operands_of, alone, left_of, if_pushed}
 use Rattle.items.specs.Items.{agrees, is_few, comparison_test, comparison_when, equality_when, value_count}
 use Rattle.items.specs.Items.{operand_count, operands_count, many_count, truth_items, value_items, operands_items}

@@ -1,13 +1,13 @@
 -- Operands are evaluated one after another, and stay what they were.
 use Rattle.std.proofs.Common.{◌≡◌, ℕ, ◌+◌, ◌≤◌, List, [], ◌∷◌, ◌++◌, length, Bool, true, false, sym, subst, arith}
 use Rattle.std.specs.Prelude.{if◌then◌else◌}
-use Rattle.checker.specs.declared.resolved.Variable.{Variable}
-use Rattle.checker.specs.Temporaries.{operands}
-use Rattle.checker.specs.Resolved.{Value, Values, none, more}
-use Rattle.checker.specs.Resolved as source
-use Rattle.checker.specs.Accepted.{need_of, needs_of}
-use Rattle.checker.specs.World.{Situation, to, Part, ◌>>=◌, give, value_in}
-use Rattle.checker.specs.Meaning.{evaluate, evaluate_all}
+use Rattle.meaning.specs.declared.resolved.Variable.{Variable}
+use Rattle.meaning.specs.Operands.{operands}
+use Rattle.meaning.specs.Resolved.{Value, Values, none, more}
+use Rattle.meaning.specs.Resolved as source
+use Rattle.meaning.specs.Accepted.{need_of, needs_of}
+use Rattle.meaning.specs.World.{Situation, to, Part, ◌>>=◌, give, value_in}
+use Rattle.meaning.specs.Meaning.{evaluate, evaluate_all}
 use Rattle.items.specs.Items.{Item, pushed, variable, Destination, push, operand_of, operands_of, alone}
 use Rattle.items.specs.Items.{left_of, if_pushed, changes, change, operand_count, value_items, operands_items}
 use Rattle.items.specs.Items.{branch_items}

@@ -7,10 +7,10 @@ use Rattle.std.proofs.lemmas.List.Elements.{All-nil, All-cons, All-head, All-tai
 use Rattle.std.proofs.lemmas.Bool.{leb-true}
 use Rattle.expressions.specs.declared.tree.Comparison.{Comparison}
 use Rattle.expressions.specs.declared.tree.Comparison.TheVariants as comparisons
-use Rattle.checker.specs.declared.resolved.Variable.{Variable}
-use Rattle.checker.specs.Resolved.{Value, Values, none, more, ProgramOf}
-use Rattle.checker.specs.Resolved as source
-use Rattle.checker.specs.Accepted.{count_of, IsVariable, IsValue, AreValues}
+use Rattle.meaning.specs.declared.resolved.Variable.{Variable}
+use Rattle.meaning.specs.Resolved.{Value, Values, none, more, ProgramOf}
+use Rattle.meaning.specs.Resolved as source
+use Rattle.meaning.specs.Accepted.{count_of, IsVariable, IsValue, AreValues}
 use Rattle.items.specs.Items.{Item, Operand, pushed, number, variable, Destination, push, into, nowhere, operand_of}
 use Rattle.items.specs.Items.{operands_of, if_pushed, change, branch_true, is_few, comparison_test, truth_count}
 use Rattle.items.specs.Items.{kept_count, moved, truth_items, after_items, kept_items}

@@ -8,11 +8,11 @@ use Rattle.expressions.specs.declared.tree.Equality.{Equality}
 use Rattle.expressions.specs.declared.tree.Prefix.{Prefix}
 use Rattle.expressions.specs.declared.tree.Prefix.TheVariants as prefixes
 use Rattle.expressions.specs.declared.tree.Width.{Width}
-use Rattle.checker.specs.declared.resolved.Variable.{Variable}
-use Rattle.checker.specs.Resolved.{Value, Values, none, more}
-use Rattle.checker.specs.Resolved as source
-use Rattle.checker.specs.Accepted.{IsVariable, IsValue, AreValues}
-use Rattle.checker.specs.Meaning.{is_true}
+use Rattle.meaning.specs.declared.resolved.Variable.{Variable}
+use Rattle.meaning.specs.Resolved.{Value, Values, none, more}
+use Rattle.meaning.specs.Resolved as source
+use Rattle.meaning.specs.Accepted.{IsVariable, IsValue, AreValues}
+use Rattle.meaning.specs.Meaning.{is_true}
 use Rattle.items.specs.Items.{Item, Operand, pushed, number, variable, Destination, push, into, operand_of}
 use Rattle.items.specs.Items.{operands_of, alone, left_of, if_pushed, agrees, is_few, comparison_when, equality_when}
 use Rattle.items.specs.Items.{truth_count, value_count, operand_count, operands_count, branch_count, many_count}

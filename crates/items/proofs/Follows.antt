@@ -6,13 +6,14 @@ use Rattle.std.proofs.lemmas.List.Elements.{All-head, All-tail}
 use Rattle.std.proofs.lemmas.Bool.{lt-ltb, le-ltb}
 use Rattle.zcore.specs.declared.place.Place.TheVariants as places
 use Rattle.zcore.specs.declared.place.Limit.TheVariants as limits
-use Rattle.checker.specs.declared.resolved.Variable.TheVariants as variables
-use Rattle.checker.specs.Resolved.{RoutineOf, ProgramOf}
-use Rattle.checker.specs.Accepted.{IsRoutine}
-use Rattle.checker.specs.World.{Outcome, Situation, Comes, to, over, bound, give, ended, spend, units, value_in}
-use Rattle.checker.specs.World as world
-use Rattle.checker.specs.Meaning.{Ending, run_all, locals_of, routine_at, word_of, to_caller, call_in}
-use Rattle.checker.specs.Meaning.{first_world, quits, meaning}
+use Rattle.meaning.specs.declared.resolved.Variable.TheVariants as variables
+use Rattle.meaning.specs.Resolved.{RoutineOf, ProgramOf}
+use Rattle.meaning.specs.Accepted.{IsRoutine}
+use Rattle.meaning.specs.World.{Outcome, Situation, Comes, to, over, bound, give, ended, spend, units, value_in}
+use Rattle.meaning.specs.World as world
+use Rattle.meaning.specs.Meaning.{Ending, run_all, locals_of, routine_at, word_of, to_caller, call_in}
+use Rattle.meaning.specs.Meaning.{first_world, quits, meaning}
+use Rattle.meaning.specs.Places.{number_in}
 use Rattle.items.specs.Stack.{goes, ends, after_part}
 use Rattle.items.specs.Laws.{ItemsFollow}
 use Rattle.items.proofs.Acts.{hand, spends}
@@ -45,7 +46,7 @@ leaves_calls p full zero i r arguments = λ s. tt
 leaves_calls p full (suc d) i r arguments =
     leaves_bound (variables.Local i) spend _ (λ s. spent s.world.fuel s refl)
     (λ _ s. back s.locals
-    (run_all (call_in p full d) full (routine_at p.routines r).body
+    (run_all (call_in p full d) (number_in p) full (routine_at p.routines r).body
     (record { locals = locals_of (routine_at p.routines r).locals arguments; world = s.world })) s refl)
   where
     spent : (fuel : ℕ) (s : Situation) → s.world.fuel
@@ -81,26 +82,26 @@ module _ (p : ProgramOf) (full : ℕ) (fine : (r : ℕ) → IsRoutine p (routine
       let inner : Situation → Situation =
       λ last. record { locals = locals_of R.locals arguments; world = last.world } in
       let body : Situation → Comes ℕ =
-      λ last. to_caller last.locals (run_all (call_in p full d) full R.body (inner last)) in
+      λ last. to_caller last.locals (run_all (call_in p full d) (number_in p) full R.body (inner last)) in
       let P : Comes (Unit {0}) → Type 0 = λ c. spend s
-      ≡ c → Does p (after_part c (λ _ last. stands now 0 [] (inner last))) (hand (bound c (λ _. body)) k) in
-      let there : P (spend s) = spends full s P (λ e _. ends_there p _) (λ last low locals_are e.
-      subst (Does p (stands now 0 [] (inner last)))
-      (hand_caller last.locals (run_all (call_in p full d) full R.body (inner last)) k)
+      ≡ c → Does p full (after_part c (λ _ last. stands now 0 [] (inner last))) (hand (bound c (λ _. body)) k) in
+      let there : P (spend s) = spends full s P (λ e _. ends_there p full _) (λ last low locals_are e.
+      subst (Does p full (stands now 0 [] (inner last)))
+      (hand_caller last.locals (run_all (call_in p full d) (number_in p) full R.body (inner last)) k)
       ((routine_does now (fine r).1 (inner last) (units full last.world)).does
       (λ v later. k v (record { locals = last.locals; world = later.world })) (omega arith)
       (λ v later e2 low2. ret v (record { locals = last.locals; world = later.world })
       (ap (λ c. bound c (λ _. body)) e
-      ∙ to_caller_is last.locals (run_all (call_in p full d) full R.body (inner last)) v later e2) locals_are
-      (omega (arith, low, low2))))) in
-      subst (λ c. Does p (if c then after_part (spend s) (λ _ last. stands now 0 [] (inner last)) else ends
+      ∙ to_caller_is last.locals (run_all (call_in p full d) (number_in p) full R.body (inner last)) v later e2)
+      locals_are (omega (arith, low, low2))))) in
+      subst (λ c. Does p full (if c then after_part (spend s) (λ _ last. stands now 0 [] (inner last)) else ends
       (ended (places.Limit limits.Calls) s.world)) (hand (call_in p full (suc d) r arguments s) k))
       (sym (lt-ltb (length callers) 1000 (omega (arith, room)))) (there refl)
 
   calls_do : (d : ℕ) → CallsOk p full d
   calls_do zero r arguments callers s k room ret =
       let R = routine_at p.routines r in
-      subst (λ c. Does p (if c then after_part (spend s)
+      subst (λ c. Does p full (if c then after_part (spend s)
       (λ _ last. goes (record {
         routine = r;
         place = 0;
@@ -110,7 +111,7 @@ module _ (p : ProgramOf) (full : ℕ) (fine : (r : ℕ) → IsRoutine p (routine
         situation = record { locals = locals_of R.locals arguments; world = last.world };
       }))
       else ends (ended (places.Limit limits.Calls) s.world)) (ended (places.Limit limits.Calls) s.world))
-      (sym (le-ltb (length callers) 1000 (omega (arith, room)))) (ends_there p _)
+      (sym (le-ltb (length callers) 1000 (omega (arith, room)))) (ends_there p full _)
   calls_do (suc d) r arguments callers s k room ret = call_more d (calls_do d) r arguments callers s k room ret
 
 -- the items of an accepted program do what the program means
@@ -120,5 +121,5 @@ items_follow p accepted full lines =
     let s : Situation = record { locals = []; world = first_world p full lines } in
     let run = calls_do p full (routine_fine p p.routines accepted.routines) 1000 p.main [] [] s
     (λ v last. ended places.Quit last.world) refl
-    (λ v last e is low. ends_there p (ended places.Quit last.world)) in
+    (λ v last e is low. ends_there p full (ended places.Quit last.world)) in
     record { count = run.count; comes = run.comes ∙ ap Some (hand_quits (call_in p full 1000 p.main [] s)) }

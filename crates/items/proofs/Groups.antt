@@ -1,5 +1,5 @@
 -- The groups of numbers and ranges that the tests of a case ask for.
-use Rattle.std.proofs.Common.{◌≡◌, ℕ, ◌+◌, ◌≤◌, List, [], ◌∷◌, ◌++◌, length, Bool, true, false, refl, ap, ◌∙◌}
+use Rattle.std.proofs.Common.{◌≡◌, ℕ, ◌≤◌, List, [], ◌∷◌, ◌++◌, length, Bool, true, false, refl, ap, ◌∙◌}
 use Rattle.std.proofs.Common.{arith, length-append}
 use Rattle.std.specs.Prelude.{◌||◌, ◌&&◌, ◌==◌, not, nat_lt, if◌then◌else◌}
 use Rattle.std.specs.List.{All, list_any}
@@ -7,9 +7,9 @@ use Rattle.std.proofs.lemmas.List.Elements.{All-nil, All-cons, All-tail}
 use Rattle.std.proofs.lemmas.List.Folds.{list_any-append}
 use Rattle.std.proofs.lemmas.Bool.{ltb-true}
 use Rattle.zcore.specs.Arithmetic.{signed_less}
-use Rattle.checker.specs.Resolved.{RangeOf}
-use Rattle.checker.specs.Resolved as source
-use Rattle.checker.specs.Meaning.{holds_for}
+use Rattle.meaning.specs.Resolved.{RangeOf}
+use Rattle.meaning.specs.Resolved as source
+use Rattle.meaning.specs.Meaning.{holds_for}
 use Rattle.items.specs.Items.{Group, numbers, range, with_number, groups_of}
 
 -- whether a group holds for a word

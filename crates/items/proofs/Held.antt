@@ -1,10 +1,10 @@
 -- Operands that are still what was evaluated.
 use Rattle.std.proofs.Common.{◌≡◌, ℕ, ◌+◌, ◌≤◌, List, [], ◌∷◌, length, Bool, true, false, refl, ap, ◌∙◌, subst, arith}
 use Rattle.std.specs.Prelude.{if◌then◌else◌}
-use Rattle.checker.specs.declared.resolved.Variable.{Variable}
-use Rattle.checker.specs.Resolved.{Value, Values}
-use Rattle.checker.specs.Resolved as source
-use Rattle.checker.specs.World.{Situation, value_in}
+use Rattle.meaning.specs.declared.resolved.Variable.{Variable}
+use Rattle.meaning.specs.Resolved.{Value, Values}
+use Rattle.meaning.specs.Resolved as source
+use Rattle.meaning.specs.World.{Situation, value_in}
 use Rattle.items.specs.Items.{Operand, pushed, number, variable, operand_of, change}
 use Rattle.items.specs.Stack.{Next, with_operand, with_operands}
 

@@ -1,8 +1,8 @@
 -- A run leads from one place of a routine to another.
 use Rattle.std.proofs.Common.{◌≡◌, ℕ, ◌+◌, ◌≤◌, List, ◌∷◌, length, None, Bool, refl, ap, ◌∙◌, subst, arith}
 use Rattle.std.specs.Prelude.{if◌then◌else◌}
-use Rattle.checker.specs.World.{Outcome, Situation, Comes, to, Part, bound, ◌>>=◌, units, with_value}
-use Rattle.checker.specs.Meaning.{is_true}
+use Rattle.meaning.specs.World.{Outcome, Situation, Comes, to, Part, bound, ◌>>=◌, units, with_value}
+use Rattle.meaning.specs.Meaning.{is_true}
 use Rattle.items.specs.Items.{Destination, push, into, nowhere, agrees}
 use Rattle.items.specs.Stack.{State, Next, goes, delivered}
 use Rattle.items.proofs.Acts.{hand, hand_bound, Lower, bound_bound}
@@ -16,8 +16,8 @@ module _ (now : Running) where
   pub record Leads {A : Type 0} (s : Situation) (n : ℕ) (before : Next) (c : Comes A)
       (behind : A → Situation → Next) : Type 0 where
     pub does : (k : A → Situation → Outcome) → units full s.world ≤ n
-        → ((a : A) (last : Situation) → c ≡ to a last → Lower full s last → Does p (behind a last) (k a last))
-        → Does p before (hand c k)
+        → ((a : A) (last : Situation) → c ≡ to a last → Lower full s last → Does p full (behind a last) (k a last))
+        → Does p full before (hand c k)
 
   -- what follows may know what the first part came to
   pub on : {A B : Type 0} {s : Situation} {n : ℕ} {before : Next} {middle : A → Situation → Next}
@@ -25,7 +25,7 @@ module _ (now : Running) where
       → ((a : A) (last : Situation) → f s ≡ to a last → Leads last n (middle a last) (g a last) behind)
       → Leads s n before ((f >>= g) s) behind
   on {s = s} {before = before} f g hf hg = record {
-    does = λ k le d. subst (Does p before) (hand_bound (f s) g k) (hf.does (λ a last. hand (g a last) k) le
+    does = λ k le d. subst (Does p full before) (hand_bound (f s) g k) (hf.does (λ a last. hand (g a last) k) le
         (λ a last e low. (hg a last e).does k (omega (arith, le, low))
         (λ b end e2 low2. d b end (ap (λ c. bound c g) e ∙ e2) (omega (arith, low, low2)))));
   }
@@ -36,10 +36,11 @@ module _ (now : Running) where
 
   came_on : {A : Type 0} (s : Situation) (c : Comes A) (behind : A → Situation → Next) (k : A → Situation → Outcome)
       (a : A) (last : Situation) → c ≡ to a last → Lower full s last
-      → ((a : A) (last : Situation) → c ≡ to a last → Lower full s last → Does p (behind a last) (k a last))
-      → (b : A) (end : Situation) → to a last ≡ to b end → Does p (behind b end) (k b end)
+      → ((a : A) (last : Situation) → c ≡ to a last → Lower full s last → Does p full (behind a last) (k a last))
+      → (b : A) (end : Situation) → to a last ≡ to b end → Does p full (behind b end) (k b end)
   came_on s c behind k a last e low d b end e2 = let x : a ≡ b = cc in let y : last ≡ end = cc in
-      subst (λ z. Does p (behind z end) (k z end)) x (subst (λ z. Does p (behind a z) (k a z)) y (d a last e low))
+      subst (λ z. Does p full (behind z end) (k z end)) x
+      (subst (λ z. Does p full (behind a z) (k a z)) y (d a last e low))
 
   -- and then to another place
   pub then_to : {A : Type 0} {s : Situation} {n : ℕ} {before : Next} {middle behind : A → Situation → Next}
@@ -82,8 +83,8 @@ module _ (now : Running) where
   goes_by when t q words v s = stands (if agrees (is_true v) when then t else q) words s
 
   pub delivers : (d : Destination) (q : ℕ) (words : List ℕ) (v : ℕ) (s : Situation) (o : Outcome)
-      → length words + 1 ≤ 48 → Does p (lands d q words v s) o → Does p (delivered d v (here q words s)) o
-  delivers push q words v s o le h = fits p (here q (v ∷ words) s) o (omega (arith, le)) h
+      → length words + 1 ≤ 48 → Does p full (lands d q words v s) o → Does p full (delivered d v (here q words s)) o
+  delivers push q words v s o le h = fits p full (here q (v ∷ words) s) o (omega (arith, le)) h
   delivers (into x) q words v s o le h = h
   delivers nowhere q words v s o le h = h
 

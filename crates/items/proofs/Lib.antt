@@ -29,7 +29,6 @@ mod Fine
 mod FineValues
 mod Within
 mod Samples
-mod Runs
 pub mod Trees
 pub mod Drafts
 pub mod Operands

@@ -3,11 +3,11 @@ use Rattle.std.proofs.Common.{◌≡◌, ℕ, ◌+◌, ◌≤◌, List, [], ◌�
 use Rattle.std.specs.Prelude.{if◌then◌else◌}
 use Rattle.expressions.specs.declared.tree.Binary.{Binary}
 use Rattle.expressions.specs.declared.tree.Binary.TheVariants as binaries
-use Rattle.checker.specs.Resolved.{Value}
-use Rattle.checker.specs.Resolved as source
-use Rattle.checker.specs.Accepted.{need_of}
-use Rattle.checker.specs.World.{Situation, to, ◌>>=◌, give}
-use Rattle.checker.specs.Meaning.{truth, is_true, evaluate}
+use Rattle.meaning.specs.Resolved.{Value}
+use Rattle.meaning.specs.Resolved as source
+use Rattle.meaning.specs.Accepted.{need_of}
+use Rattle.meaning.specs.World.{Situation, to, ◌>>=◌, give}
+use Rattle.meaning.specs.Meaning.{truth, is_true, evaluate}
 use Rattle.items.specs.Items.{agrees, branch_count, branch_items}
 use Rattle.items.proofs.Counts.{branch_length}
 use Rattle.items.proofs.Running.{Running, code, calls}

@@ -5,13 +5,14 @@ use Rattle.std.specs.Prelude.{not, if◌then◌else◌, slice_get}
 use Rattle.std.proofs.lemmas.Bool.{le-leb}
 use Rattle.zcore.specs.declared.place.Place.TheVariants as places
 use Rattle.zcore.specs.declared.place.Limit.TheVariants as limits
-use Rattle.checker.specs.Resolved.{Value, Action}
-use Rattle.checker.specs.Resolved as source
-use Rattle.checker.specs.Accepted.{IsWhole, IsPart}
-use Rattle.checker.specs.World.{Situation, Comes, to, Part, bound, ◌>>=◌, give, ended, spend, units}
-use Rattle.checker.specs.World as world
-use Rattle.checker.specs.Meaning.{is_true, evaluate, Ending, goes_on, breaks, continues, returns, behind_body, round}
-use Rattle.checker.specs.Meaning.{rounds, once, tested, behind_round, until, run}
+use Rattle.meaning.specs.Resolved.{Value, Action}
+use Rattle.meaning.specs.Resolved as source
+use Rattle.meaning.specs.Accepted.{IsWhole, IsPart}
+use Rattle.meaning.specs.World.{Situation, Comes, to, Part, bound, ◌>>=◌, give, ended, spend, units}
+use Rattle.meaning.specs.World as world
+use Rattle.meaning.specs.Meaning.{is_true, evaluate, Ending, goes_on, breaks, continues, returns, behind_body, round}
+use Rattle.meaning.specs.Meaning.{rounds, once, tested, behind_round, until, run}
+use Rattle.meaning.specs.Places.{number_in}
 use Rattle.items.specs.Items.{nowhere, agrees, branch_count, branch_items, once_count, once_items, test_count}
 use Rattle.items.specs.Items.{test_items, action_count, Exits, exits_to, action_items}
 use Rattle.items.specs.Items as items
@@ -34,11 +35,11 @@ module _ (now : Running) where
       → Leads now s 0 (stands now b [] s) (world.ends (places.Limit limits.Fuel) s) (ended_at now x q)
   no_more {s = s} x b t q h le = record {
     does = λ k none d.
-        let P : Comes (Unit {0}) → Type 0 = λ c. Does p (after_part c (λ _ last. stands now t [] last))
+        let P : Comes (Unit {0}) → Type 0 = λ c. Does p full (after_part c (λ _ last. stands now t [] last))
         (ended (places.Limit limits.Fuel) s.world) in
-        let there = spends full s P (λ e. ends_there p _) (λ last low is. absurd (omega (arith, none, low))) in
-        steps_on p (here now b [] s) _ _
-        (ap (λ x. act p x (here now b [] s)) h
+        let there = spends full s P (λ e. ends_there p full _) (λ last low is. absurd (omega (arith, none, low))) in
+        steps_on p full (here now b [] s) _ _
+        (ap (λ x. act p full x (here now b [] s)) h
         ∙ ap (λ c. if c then after_part (spend s) (λ _ last. stands now t [] last) else stuck) (le-leb t b le))
         there;
   }
@@ -50,14 +51,15 @@ module _ (now : Running) where
       → Leads now s (suc n) (stands now b [] s) ((spend >>= λ _. again) s) (ended_at now x q)
   goes_back {s = s} x n b t q again h le ha = record {
     does = λ k most d.
-        let P : Comes (Unit {0}) → Type 0 = λ c. spend s ≡ c → Does p (after_part c (λ _ last. stands now t [] last))
+        let P : Comes (Unit {0}) → Type 0 =
+        λ c. spend s ≡ c → Does p full (after_part c (λ _ last. stands now t [] last))
         (hand (bound c (λ _. again)) k) in
         let there : P (spend s) =
-        spends full s P (λ e _. ends_there p _)
+        spends full s P (λ e _. ends_there p full _)
         (λ last low is e. (ha last).does k (omega (arith, most, low))
         (λ a later e2 low2. d a later (ap (λ c. bound c (λ _. again)) e ∙ e2) (omega (arith, low, low2)))) in
-        steps_on p (here now b [] s) _ _
-        (ap (λ x. act p x (here now b [] s)) h
+        steps_on p full (here now b [] s) _ _
+        (ap (λ x. act p full x (here now b [] s)) h
         ∙ ap (λ c. if c then after_part (spend s) (λ _ last. stands now t [] last) else stuck) (le-leb t b le))
         (there refl);
   }
@@ -128,8 +130,8 @@ module _ (now : Running) where
       (branch_length v false pc (e + 1)) has in
       let ha = split (code now) m (action_items inside m a) _ q (action_count a) (action_length inside a m) h.1 in
       at_place now (ended_at now x) (e + 1) q ha.1.1
-      (loop_does x (evaluate (calls now) v) (run (calls now) full a) (give true) pc (e + 1)
-      (rounds_do (evaluate (calls now) v) (run (calls now) full a) (give true) pc m e e (e + 1)
+      (loop_does x (evaluate (calls now) v) (run (calls now) (number_in p) full a) (give true) pc (e + 1)
+      (rounds_do (evaluate (calls now) v) (run (calls now) (number_in p) full a) (give true) pc m e e (e + 1)
       (λ s1 n1. (value_ok now v).branch s1 n1 pc (e + 1) m [] false h.0 (omega arith) (omega (arith, fine.1)))
       (λ s1 n1. oka inside s1 n1 m e (omega arith, omega arith) ha.0)
       (λ s1 n1. given now {behind = λ wanted last. stands now (if wanted then e else e + 1) [] last} true)
@@ -158,8 +160,8 @@ module _ (now : Running) where
       let hv = split (code now) m (branch_items m v true (e + 1)) _ q (branch_count v true)
       (branch_length v true m (e + 1)) h.1 in
       at_place now (ended_at now x) (e + 1) q hv.1.1
-      (loop_does x (give 1) (run (calls now) full a) (until (calls now) v) pc (e + 1)
-      (rounds_do (give 1) (run (calls now) full a) (until (calls now) v) pc pc m e (e + 1)
+      (loop_does x (give 1) (run (calls now) (number_in p) full a) (until (calls now) v) pc (e + 1)
+      (rounds_do (give 1) (run (calls now) (number_in p) full a) (until (calls now) v) pc pc m e (e + 1)
       (λ s1 n1. given now {behind = goes_by now false (e + 1) pc []} 1)
       (λ s1 n1. oka inside s1 n1 pc m (omega arith, omega arith) h.0)
       (λ s1 n1. until_does v fine s1 n1 m (e + 1) e hv.0 (omega arith))
@@ -204,7 +206,7 @@ module _ (now : Running) where
       (test_length test top (e + 1)) h.1 in
       let ha = split (code now) m (action_items inside m a) _ q (action_count a) (action_length inside a m) ht.1 in
       let hb = split (code now) c (once_items c behind) _ q (once_count behind) (once_length behind c) ha.1 in
-      let each = run (calls now) full a in
+      let each = run (calls now) (number_in p) full a in
       let first = tested (calls now) test in
       let last = behind_round (calls now) behind in
       at_place now (ended_at now x) (e + 1) q hb.1.1

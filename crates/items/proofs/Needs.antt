@@ -1,9 +1,9 @@
 -- Each value needs a word of the stack at least.
 use Rattle.std.proofs.Common.{ℕ, ◌+◌, ◌≤◌, List, [], ◌∷◌, arith}
-use Rattle.checker.specs.Temporaries.{operands}
-use Rattle.checker.specs.Resolved.{Value}
-use Rattle.checker.specs.Resolved as source
-use Rattle.checker.specs.Accepted.{need_of, needs_of}
+use Rattle.meaning.specs.Operands.{operands}
+use Rattle.meaning.specs.Resolved.{Value}
+use Rattle.meaning.specs.Resolved as source
+use Rattle.meaning.specs.Accepted.{need_of, needs_of}
 
 -- each needs one word at least
 pub some_needed : (before : ℕ) (ns : List ℕ) → 1 ≤ operands before ns

@@ -4,10 +4,10 @@ use Rattle.std.proofs.Common.{slice_index_or}
 use Rattle.std.proofs.Common.{true, false, refl, sym, ap, ◌∙◌, arith, append_assoc, append-nil}
 use Rattle.std.proofs.lemmas.List.{map-append}
 use Rattle.std.specs.Prelude.{if◌then◌else◌}
-use Rattle.checker.specs.declared.resolved.Variable.{Variable}
-use Rattle.checker.specs.declared.resolved.Value as code_value
-use Rattle.checker.specs.Resolved.{Value, Values, none, more, value_of, values_of}
-use Rattle.checker.specs.Resolved as source
+use Rattle.meaning.specs.declared.resolved.Variable.{Variable}
+use Rattle.meaning.specs.declared.resolved.Value as code_value
+use Rattle.meaning.specs.Resolved.{Value, Values, none, more, value_of, values_of}
+use Rattle.meaning.specs.Resolved as source
 use Rattle.items.specs.Items.{Operand, pushed, number, variable, operand_of, operands_of, alone, change}
 use Rattle.items.specs.declared.item.Operand as code
 use Rattle.items.specs.Code.{as_operand, as_operands}

@@ -5,13 +5,13 @@ use Rattle.std.specs.Prelude.{◌==◌, not, if◌then◌else◌, slice_get}
 use Rattle.expressions.specs.declared.tree.Binary.{Binary}
 use Rattle.expressions.specs.declared.tree.Prefix.{Prefix}
 use Rattle.expressions.specs.declared.tree.Prefix.TheVariants as prefixes
-use Rattle.checker.specs.declared.resolved.Variable.{Variable}
-use Rattle.checker.specs.Temporaries.{operands}
-use Rattle.checker.specs.Resolved.{Value, Values, none}
-use Rattle.checker.specs.Resolved as source
-use Rattle.checker.specs.Accepted.{need_of, needs_of}
-use Rattle.checker.specs.World.{Situation, to, ◌>>=◌, give, value_in}
-use Rattle.checker.specs.Meaning.{truth, is_true, operate, with_prefix, evaluate, evaluate_all}
+use Rattle.meaning.specs.declared.resolved.Variable.{Variable}
+use Rattle.meaning.specs.Operands.{operands}
+use Rattle.meaning.specs.Resolved.{Value, Values, none}
+use Rattle.meaning.specs.Resolved as source
+use Rattle.meaning.specs.Accepted.{need_of, needs_of}
+use Rattle.meaning.specs.World.{Situation, to, ◌>>=◌, give, value_in}
+use Rattle.meaning.specs.Meaning.{truth, is_true, operate, with_prefix, evaluate, evaluate_all}
 use Rattle.items.specs.Items.{Operand, pushed, number, variable, Destination, push, is_zero, same, operands_of, alone}
 use Rattle.items.specs.Items.{left_of, if_pushed, branch_true, agrees, operand_count, operands_count, branch_count}
 use Rattle.items.specs.Items.{value_items, operands_items, branch_items, alone_items}
@@ -72,15 +72,15 @@ module _ (now : Running) where
       let before = onto_all (operands_of vs) xs words in
       record {
         does = λ k _ hd.
-            steps_on p (here now m before s1) _ _
-            (ap (λ i. act p i (here now m before s1)) h
+            steps_on p full (here now m before s1) _ _
+            (ap (λ i. act p full i (here now m before s1)) h
             ∙ with_all_held (operands_of vs) xs s1 words
             (λ taken rest. enter p rr taken (stack.caller dest rest (here now m before s1) ∷ callers) s1)
             (all_held now vs s s1 xs e1))
             (lower_calls rr xs (stack.caller dest words (here now m before s1) ∷ callers) s1 k (omega (arith, room))
             (λ v last e2 same low.
-            subst (λ l. Does p (delivered dest v (here now (m + 1) words (record { locals = l; world = last.world })))
-            (k v last)) same
+            subst (λ l. Does p full
+            (delivered dest v (here now (m + 1) words (record { locals = l; world = last.world }))) (k v last)) same
             (delivers now dest (m + 1) words v last (k v last) (omega (arith, le, some)) (hd v last e2 low))));
       })
 

@@ -1,9 +1,9 @@
 -- What is written for a word, and for a condition.
 use Rattle.std.proofs.Common.{◌≡◌, ℕ, ◌+◌, ◌-◌, List, [], ◌∷◌, ◌++◌, length, Bool, true, refl, sym, ap, ◌∙◌, arith}
-use Rattle.checker.specs.declared.resolved.Variable.{Variable}
+use Rattle.meaning.specs.declared.resolved.Variable.{Variable}
 use Rattle.expressions.specs.declared.tree.Step.{Step}
-use Rattle.checker.specs.Resolved.{Value}
-use Rattle.checker.specs.Resolved as source
+use Rattle.meaning.specs.Resolved.{Value}
+use Rattle.meaning.specs.Resolved as source
 use Rattle.items.specs.Items.{Item, Operand, pushed, number, variable, Destination, push, into, nowhere, branch_true}
 use Rattle.items.specs.Items.{agrees, value_count, branch_count, value_items, branch_items, moved, after_items}
 use Rattle.items.specs.Items as items

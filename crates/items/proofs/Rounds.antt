@@ -2,8 +2,8 @@
 use Rattle.std.proofs.Common.{◌≡◌, ℕ, ◌+◌, ◌-◌, List, [], ◌∷◌, ◌++◌, length, slice_set, true, Option, refl, sym, ap}
 use Rattle.std.proofs.Common.{◌∙◌, arith, append_assoc, length-append}
 use Rattle.std.proofs.Math.Seq.{set-append_seam}
-use Rattle.checker.specs.Resolved.{Value, Action}
-use Rattle.checker.specs.Resolved as source
+use Rattle.meaning.specs.Resolved.{Value, Action}
+use Rattle.meaning.specs.Resolved as source
 use Rattle.items.specs.Items.{Item, branch_count, branch_items, action_count, action_items, once_count, once_items}
 use Rattle.items.specs.Items.{test_count, test_items, for_items, exits_to}
 use Rattle.items.specs.Items as items

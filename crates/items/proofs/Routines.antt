@@ -1,14 +1,17 @@
 -- A routine does what its body means.
 use Rattle.std.proofs.Common.{◌≡◌, ℕ, ◌+◌, [], ◌∷◌, length, Some, refl, ap, arith}
 use Rattle.std.specs.Prelude.{slice_get, map}
-use Rattle.checker.specs.Resolved.{none, Action, Actions, stop, next, CasesOf}
-use Rattle.checker.specs.Resolved as source
-use Rattle.checker.specs.Accepted.{IsAction, AreActions, AreCases}
-use Rattle.checker.specs.World.{Situation, to, ◌>>=◌, give, put, shown}
-use Rattle.checker.specs.Meaning.{put_line, evaluate, Ending, goes_on, breaks, continues, returns, print_all, run}
-use Rattle.checker.specs.Meaning.{run_all, run_cases, routine_at, word_of}
+use Rattle.meaning.specs.Resolved.{none, Action, Actions, stop, next, CasesOf}
+use Rattle.meaning.specs.Resolved as source
+use Rattle.meaning.specs.Accepted.{IsAction, AreActions, AreCases}
+use Rattle.meaning.specs.World.{Situation, to, ◌>>=◌, give, put, shown}
+use Rattle.meaning.specs.Meaning.{put_line, evaluate, Ending, goes_on, breaks, continues, returns, print_all, run}
+use Rattle.meaning.specs.Meaning.{run_all, run_cases, routine_at, word_of}
+use Rattle.meaning.specs.Reading.{read_next}
+use Rattle.meaning.specs.Places.{number_in}
 use Rattle.items.specs.Items.{nowhere, alone, operand_count, prints_count, action_count, actions_count, alone_items}
-use Rattle.items.specs.Items.{prints_items, return_true, Exits, exits_to, action_items, actions_items, cases_count, cases_items}
+use Rattle.items.specs.Items.{prints_items, return_true, Exits, exits_to, action_items, actions_items, cases_count}
+use Rattle.items.specs.Items.{cases_items}
 use Rattle.items.specs.Items as items
 use Rattle.items.specs.Stack.{Next, return_to, act}
 use Rattle.items.proofs.Counts.{alone_length}
@@ -21,7 +24,7 @@ use Rattle.items.proofs.Steps.{puts, jumps}
 use Rattle.items.proofs.Evaluated.{operand_held}
 use Rattle.items.proofs.EachValue.{value_ok}
 use Rattle.items.proofs.Statements.{ended_at, goes_at, follows_on, returns_by, alone_does, prints_do, line_does}
-use Rattle.items.proofs.Statements.{end_of_line}
+use Rattle.items.proofs.Statements.{read_does, end_of_line}
 use Rattle.items.proofs.Conditionals.{IsAhead, ActionOk, if_does, else_does}
 use Rattle.items.proofs.Loops.{while_does, do_does, for_does}
 use Rattle.items.proofs.Chosen.{with_it}
@@ -70,6 +73,9 @@ module _ (now : Running) where
         let second = ahead.1 in
         jumps now pc x.continues [] has.0 (omega (arith, behind, second))
         (given now {behind = ended_at now x q} continues)
+    action_does (source.read_line t w) fine x s n pc q ahead has =
+        on now (read_next (number_in p) full t w) _ (read_does now x t w pc has.0)
+        (λ _ s1 _. goes_at now x (pc + 1) q has.1)
     action_does (source.return_value v) fine x s n pc q ahead has =
         let m = pc + operand_count v (alone v) in
         let h = split (code now) pc (alone_items pc v) _ q (operand_count v (alone v)) (alone_length v pc) has in
@@ -77,8 +83,8 @@ module _ (now : Running) where
         (λ w s1 e1. returns_by now x m q (alone v) w h.1.0 (operand_held now v none s s1 w e1))
     action_does source.quit fine x s n pc q ahead has =
         record {
-          does = λ k le d. steps_on p (here now pc [] s) _ _ (ap (λ x. act p x (here now pc [] s)) has.0)
-              (ends_there p _);
+          does = λ k le d. steps_on p full (here now pc [] s) _ _ (ap (λ x. act p full x (here now pc [] s)) has.0)
+              (ends_there p full _);
         }
     action_does (source.effect v) fine x s n pc q ahead has =
         on now (evaluate (calls now) v) _ ((value_ok now v).value s n pc q [] nowhere has (omega (arith, fine.1)))
@@ -86,7 +92,7 @@ module _ (now : Running) where
 
     pub actions_do : (xs : Actions) → AreActions p (locals now) xs → (x : Exits) (s : Situation) (n pc q : ℕ)
         → IsAhead now q x → HasAt (code now) pc (actions_items x pc xs) q
-        → Leads now s n (stands now pc [] s) (run_all (calls now) full xs s)
+        → Leads now s n (stands now pc [] s) (run_all (calls now) (number_in p) full xs s)
         (ended_at now x q)
     actions_do stop fine x s n pc q ahead has = goes_at now x pc q has
     actions_do (next a rest) fine x s n pc q ahead has =
@@ -98,7 +104,7 @@ module _ (now : Running) where
         let first = ahead.0 in
         let second = ahead.1 in
         let inner : IsAhead now m x = (omega (arith, first, behind), omega (arith, second, behind)) in
-        follows_on now x m q (run (calls now) full a) (run_all (calls now) full rest)
+        follows_on now x m q (run (calls now) (number_in p) full a) (run_all (calls now) (number_in p) full rest)
         (action_does a fine.0 x s n pc m inner h.0)
         (λ last. actions_do rest fine.1 x last n m q ahead h.1)
 
@@ -107,8 +113,8 @@ module _ (now : Running) where
     cases_do (source.default_case xs) fine x v s n pc end q is ahead has =
         with_it now v pc (actions_do xs fine x s n pc q ahead has)
     cases_do (source.case gs xs rest) fine x v s n pc end q is ahead has =
-        case_does now x v gs (actions_count xs) (cases_count rest) (run_all (calls now) full xs)
-        (run_cases (calls now) full v rest) (λ place. actions_items x place xs)
+        case_does now x v gs (actions_count xs) (cases_count rest) (run_all (calls now) (number_in p) full xs)
+        (run_cases (calls now) (number_in p) full v rest) (λ place. actions_items x place xs)
         (λ place. cases_items x place rest end) s n pc end q (λ at. actions_length x xs at)
         (λ at. cases_length x rest at end) is ahead has
         (λ at after inner h. actions_do xs fine.0 x s n at after inner h)
@@ -126,8 +132,8 @@ module _ (now : Running) where
     where
       true_there : Leads now s n (stands now pc [] s) (to 1 s) hands
       true_there = record {
-        does = λ k le d. steps_on p (here now pc [] s) (return_to callers 1 s.world) _
-            (ap (λ x. act p x (here now pc [] s)) h) (d 1 s refl (omega arith));
+        does = λ k le d. steps_on p full (here now pc [] s) (return_to callers 1 s.world) _
+            (ap (λ x. act p full x (here now pc [] s)) h) (d 1 s refl (omega arith));
       }
 
       at_end : Leads now s n (stands now end [] s) (to 1 s) hands
@@ -141,13 +147,13 @@ module _ (now : Running) where
 
   pub routine_does : AreActions p (locals now) (routine_at p.routines routine).body → (s : Situation) (n : ℕ)
       → Leads now s n (stands now 0 [] s)
-      ((run_all (calls now) full (routine_at p.routines routine).body >>= λ e. give (word_of e)) s) hands
+      ((run_all (calls now) (number_in p) full (routine_at p.routines routine).body >>= λ e. give (word_of e)) s) hands
   routine_does fine s n =
       let body = (routine_at p.routines routine).body in
       let count = actions_count body in
       let x = exits_to count count in
       let h = split (code now) 0 (actions_items x 0 body) (return_true ∷ []) (length (code now)) count
       (actions_length x body 0) (all_at (code now) []) in
-      on now (run_all (calls now) full body) (λ e. give (word_of e))
+      on now (run_all (calls now) (number_in p) full body) (λ e. give (word_of e))
       (actions_do body fine x s n 0 (0 + count) (omega arith, omega arith) h.0)
       (λ e s1 _. finishes (0 + count) count (omega arith) h.1.0 e)

@@ -2,25 +2,25 @@
 use Rattle.std.proofs.Common.{◌≡◌, ℕ, suc, ◌+◌, ◌≤◌, List, length, Some, refl, sym, ap, ◌∙◌, subst}
 use Rattle.std.specs.Prelude.{if◌then◌else◌}
 use Rattle.std.proofs.lemmas.Bool.{le-leb}
-use Rattle.checker.specs.Resolved.{ProgramOf}
-use Rattle.checker.specs.World.{Outcome, Situation, to}
-use Rattle.checker.specs.Meaning.{Calls, routine_at, call_in}
+use Rattle.meaning.specs.Resolved.{ProgramOf}
+use Rattle.meaning.specs.World.{Outcome, Situation, to}
+use Rattle.meaning.specs.Meaning.{Calls, routine_at, call_in}
 use Rattle.items.specs.Items.{Item, routine_items}
 use Rattle.items.specs.Stack.{Caller, State, Next, goes, ends, stuck, within, enter, return_to, step, from, exec}
 use Rattle.items.proofs.Acts.{hand, Lower}
 use Rattle.items.proofs.Unchanged.{LeaveLocals}
 
-module _ (p : ProgramOf) where
+module _ (p : ProgramOf) (full : ℕ) where
   -- from here the run comes to this outcome
   pub record Does (n : Next) (outcome : Outcome) : Type 0 where
     pub count : ℕ
-    pub comes : from n (exec p count) ≡ Some outcome
+    pub comes : from n (exec p full count) ≡ Some outcome
 
   pub ends_there : (outcome : Outcome) → Does (ends outcome) outcome
   ends_there outcome = record { count = 0; comes = refl }
 
-  pub steps_on : (s : State) (n : Next) (outcome : Outcome) → step p s ≡ n → Does n outcome → Does (goes s) outcome
-  steps_on s n outcome e d = record { count = suc d.count; comes = ap (λ x. from x (exec p d.count)) e ∙ d.comes }
+  pub steps_on : (s : State) (n : Next) (outcome : Outcome) → step p full s ≡ n → Does n outcome → Does (goes s) outcome
+  steps_on s n outcome e d = record { count = suc d.count; comes = ap (λ x. from x (exec p full d.count)) e ∙ d.comes }
 
   pub fits : (s : State) (outcome : Outcome) → length s.stack ≤ 48 → Does (goes s) outcome → Does (within s) outcome
   fits s outcome le d = subst (λ b. Does (if b then goes s else stuck) outcome) (sym (le-leb (length s.stack) 48 le))
@@ -32,8 +32,8 @@ CallsOk p full depth =
     (r : ℕ) (arguments : List ℕ) (callers : List Caller) (s : Situation) (k : ℕ → Situation → Outcome) →
     length callers + depth ≡ 1000 →
     ((v : ℕ) (last : Situation) → call_in p full depth r arguments s ≡ to v last → last.locals
-    ≡ s.locals → Lower full s last → Does p (return_to callers v last.world) (k v last)) →
-    Does p (enter p r arguments callers s) (hand (call_in p full depth r arguments s) k)
+    ≡ s.locals → Lower full s last → Does p full (return_to callers v last.world) (k v last)) →
+    Does p full (enter p r arguments callers s) (hand (call_in p full depth r arguments s) k)
 
 -- a routine of a program whose turns get so many units, the calls that wait for it, and how many more may be open
 pub record Running : Type 0 where

@@ -7,14 +7,14 @@ use Rattle.expressions.specs.declared.tree.Equality.TheVariants as equalities
 use Rattle.expressions.specs.declared.tree.Prefix.TheVariants as prefixes
 use Rattle.expressions.specs.declared.tree.Step.TheVariants as steps
 use Rattle.expressions.specs.declared.tree.Width.TheVariants as widths
-use Rattle.checker.specs.declared.resolved.Variable.{Variable}
-use Rattle.checker.specs.declared.resolved.Variable.TheVariants.{Local, Global}
-use Rattle.checker.specs.Resolved.{Value, none, more, read, number, call, compare, equal, binary, prefixed, assign}
-use Rattle.checker.specs.Resolved.{step_before, step_after, effect, if_then, if_else, while_do, do_until, for_loop}
-use Rattle.checker.specs.Resolved.{switch_on, one, between, return_value, next, stop}
-use Rattle.checker.specs.Resolved.{text_alone}
-use Rattle.checker.specs.Resolved.{print, print_return, text, character_of, number_of}
-use Rattle.checker.specs.Resolved as source
+use Rattle.meaning.specs.declared.resolved.Variable.{Variable}
+use Rattle.meaning.specs.declared.resolved.Variable.TheVariants.{Local, Global}
+use Rattle.meaning.specs.Resolved.{Value, none, more, read, number, call, compare, equal, binary, prefixed, assign}
+use Rattle.meaning.specs.Resolved.{step_before, step_after, effect, if_then, if_else, while_do, do_until, for_loop}
+use Rattle.meaning.specs.Resolved.{switch_on, one, between, return_value, next, stop}
+use Rattle.meaning.specs.Resolved.{text_alone}
+use Rattle.meaning.specs.Resolved.{print, print_return, text, character_of, number_of}
+use Rattle.meaning.specs.Resolved as source
 use Rattle.items.specs.Items.{pushed, push, into, nowhere, less, greater, same, is_zero, move, operate, step, branch}
 use Rattle.items.specs.Items.{choose, jump, Exits, exits_to}
 use Rattle.items.specs.Items.{back, print_text, print_character, print_number, new_line, quit, action_items}
@@ -278,6 +278,10 @@ printed_alone = refl
 printed_last : action_items outside 0 (print_return (number_of (read x) ∷ []))
     ≡ print_number (items.variable x) ∷ new_line ∷ return_true ∷ []
 printed_last = refl
+
+-- read t p; where t is array 2 and p array 5
+line_read : action_items outside 0 (source.read_line 2 5) ≡ items.read_line 2 5 ∷ []
+line_read = refl
 
 -- return x;
 returned : action_items outside 0 (return_value (read x)) ≡ items.return (items.variable x) ∷ []

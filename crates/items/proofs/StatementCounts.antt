@@ -2,8 +2,8 @@
 use Rattle.std.proofs.Common.{◌≡◌, ℕ, ◌+◌, List, [], ◌∷◌, ◌++◌, length, Bool, true, false, Option, Some, None}
 use Rattle.std.proofs.Common.{refl, arith, length-append}
 use Rattle.std.specs.Prelude.{◌==◌, if◌then◌else◌}
-use Rattle.checker.specs.Resolved.{Value, Printed, Action, Actions, CasesOf, stop, next}
-use Rattle.checker.specs.Resolved as source
+use Rattle.meaning.specs.Resolved.{Value, Printed, Action, Actions, CasesOf, stop, next}
+use Rattle.meaning.specs.Resolved as source
 use Rattle.items.specs.Items.{nowhere, alone, branch_count, branch_items, printed_count, prints_count, action_count}
 use Rattle.items.specs.Items.{actions_count, cases_count, once_count, test_count, tests_count, group_count, groups_of}
 use Rattle.items.specs.Items.{operand_count, over_count, alone_items, printed_items, prints_items, once_items}
@@ -161,6 +161,7 @@ mutual
       )
   action_length x source.break_out at = refl
   action_length x source.continue_on at = refl
+  action_length x (source.read_line t p) at = refl
   action_length x (source.return_value v) at = joined (alone_items at v) _ _ 1 (alone_length v at) refl
   action_length x source.quit at = refl
   action_length x (source.effect v) at = value_length v nowhere at

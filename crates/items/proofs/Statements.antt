@@ -4,19 +4,21 @@ use Rattle.std.specs.Prelude.{slice_get, map}
 use Rattle.std.specs.List.{All}
 use Rattle.std.proofs.lemmas.List.Elements.{All-head, All-tail}
 use Rattle.zcore.specs.Arithmetic.{signed_text}
-use Rattle.checker.specs.Resolved.{Value, none, Printed}
-use Rattle.checker.specs.Resolved as source
-use Rattle.checker.specs.Accepted.{IsWhole, IsPrinted}
-use Rattle.checker.specs.World.{Situation, to, Part, ◌>>=◌, give, put, shown}
-use Rattle.checker.specs.Meaning.{put_character, put_line, evaluate, Ending, goes_on, breaks, continues, returns}
-use Rattle.checker.specs.Meaning.{print_one, print_all, follow}
+use Rattle.meaning.specs.Resolved.{Value, none, Printed}
+use Rattle.meaning.specs.Resolved as source
+use Rattle.meaning.specs.Accepted.{IsWhole, IsPrinted}
+use Rattle.meaning.specs.World.{Situation, to, Part, ◌>>=◌, give, put, shown}
+use Rattle.meaning.specs.Meaning.{put_character, put_line, evaluate, Ending, goes_on, breaks, continues, returns}
+use Rattle.meaning.specs.Meaning.{print_one, print_all, follow}
+use Rattle.meaning.specs.Reading.{read_next}
+use Rattle.meaning.specs.Places.{number_in}
 use Rattle.items.specs.Items.{Operand, number, alone, operand_count, printed_count, alone_items, printed_items}
 use Rattle.items.specs.Items.{prints_items, return_true, Exits}
 use Rattle.items.specs.Items as items
 use Rattle.items.specs.Stack.{Next, prints, return_to, act}
 use Rattle.items.proofs.Counts.{alone_length}
 use Rattle.items.proofs.StatementCounts.{printed_length}
-use Rattle.items.proofs.Acts.{keeps_put, keeps_put_character}
+use Rattle.items.proofs.Acts.{keeps_put, keeps_put_character, keeps_read_next}
 use Rattle.items.proofs.Running.{steps_on, Running, code, locals, calls}
 use Rattle.items.proofs.Standing.{HasAt, split}
 use Rattle.items.proofs.Held.{Held, onto, with_held}
@@ -61,8 +63,8 @@ module _ (now : Running) (x : Exits) where
       → Leads now s n (stands now m (onto o v []) s) (to (returns v) s) (ended_at q)
   returns_by {s = s} m q o v h held =
       record {
-        does = λ k le d. steps_on p (here now m (onto o v []) s) _ _
-            (ap (λ x. act p x (here now m (onto o v []) s)) h
+        does = λ k le d. steps_on p full (here now m (onto o v []) s) _ _
+            (ap (λ x. act p full x (here now m (onto o v []) s)) h
             ∙ with_held o v s [] (λ w rest. return_to callers w s.world) held) (d (returns v) s refl (omega arith));
       }
 
@@ -113,6 +115,13 @@ module _ (now : Running) (x : Exits) where
   pub line_does : {s : Situation} {n : ℕ} (pc : ℕ) → slice_get (code now) pc ≡ Some items.new_line
       → Leads now s n (stands now pc [] s) (put_line s) (printed_at (pc + 1))
   line_does pc h = puts now pc [] items.new_line put_line [] h refl (keeps_put full (10 ∷ []))
+
+  -- the next line goes to two arrays
+  pub read_does : {s : Situation} {n : ℕ} (t w pc : ℕ) → slice_get (code now) pc ≡ Some (items.read_line t w)
+      → Leads now s n (stands now pc [] s) (read_next (number_in p) full t w s) (printed_at (pc + 1))
+  read_does t w pc h =
+      puts now pc [] (items.read_line t w) (read_next (number_in p) full t w) [] h refl
+      (keeps_read_next full (number_in p) t w)
 
   -- a new line, and the routine returns true
   pub end_of_line : {s : Situation} {n : ℕ} (pc q : ℕ) → HasAt (code now) pc (items.new_line ∷ return_true ∷ []) q

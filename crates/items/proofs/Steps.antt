@@ -3,8 +3,8 @@ use Rattle.std.proofs.Common.{◌≡◌, ℕ, ◌+◌, ◌<◌, ◌≤◌, List,
 use Rattle.std.proofs.Common.{◌∙◌, subst}
 use Rattle.std.specs.Prelude.{not, if◌then◌else◌, slice_get}
 use Rattle.std.proofs.lemmas.Bool.{lt-ltb}
-use Rattle.checker.specs.World.{Outcome, Situation, Comes, to, over, Part, give, with_value}
-use Rattle.checker.specs.Meaning.{is_true}
+use Rattle.meaning.specs.World.{Outcome, Situation, Comes, to, over, Part, give, with_value}
+use Rattle.meaning.specs.Meaning.{is_true}
 use Rattle.items.specs.Items.{Item, Operand, pushed, number, Destination, push, into, nowhere, Test, is_zero}
 use Rattle.items.specs.Items.{branch_true, agrees, moved}
 use Rattle.items.specs.Items as items
@@ -24,48 +24,48 @@ module _ (now : Running) where
   pub one : {s : Situation} {n : ℕ} (m : ℕ) (words : List ℕ) (d : Destination) (i : Item) (f : Part ℕ)
       (before : List ℕ)
       → slice_get (code now) m ≡ Some i
-      → act p (Some i) (here now m before s) ≡ after_part (f s)
+      → act p full (Some i) (here now m before s) ≡ after_part (f s)
       (λ v last. delivered d v (here now (m + 1) words last))
       → Keeps full f → length words + 1 ≤ 48 → Leads now s n (stands now m before s) (f s) (lands now d (m + 1) words)
   one {s = s} m words d i f before h e keeps le =
       record {
-        does = λ k _ hd. steps_on p (here now m before s) _ _ (ap (λ x. act p x (here now m before s)) h ∙ e)
+        does = λ k _ hd. steps_on p full (here now m before s) _ _ (ap (λ x. act p full x (here now m before s)) h ∙ e)
             (reach k (f s) hd (keeps s));
       }
     where
       reach : (k : ℕ → Situation → Outcome) (c : Comes ℕ)
           → ((v : ℕ) (last : Situation) → c ≡ to v last → Lower full s last
-          → Does p (lands now d (m + 1) words v last) (k v last)) → Kept full s c
-          → Does p (after_part c (λ v last. delivered d v (here now (m + 1) words last))) (hand c k)
+          → Does p full (lands now d (m + 1) words v last) (k v last)) → Kept full s c
+          → Does p full (after_part c (λ v last. delivered d v (here now (m + 1) words last))) (hand c k)
       reach k (to v last) hd low = delivers now d (m + 1) words v last (k v last) le (hd v last refl low)
-      reach k (over outcome) hd low = ends_there p outcome
+      reach k (over outcome) hd low = ends_there p full outcome
 
   -- one item that prints
   pub puts : {s : Situation} {n : ℕ} (m : ℕ) (words : List ℕ) (i : Item) (f : Part (Unit {0})) (before : List ℕ)
       → slice_get (code now) m ≡ Some i
-      → act p (Some i) (here now m before s) ≡ after_part (f s) (λ _ last. goes (here now (m + 1) words last))
+      → act p full (Some i) (here now m before s) ≡ after_part (f s) (λ _ last. goes (here now (m + 1) words last))
       → Keeps full f → Leads now s n (stands now m before s) (f s) (λ _ last. stands now (m + 1) words last)
   puts {s = s} m words i f before h e keeps =
       record {
-        does = λ k _ hd. steps_on p (here now m before s) _ _ (ap (λ x. act p x (here now m before s)) h ∙ e)
+        does = λ k _ hd. steps_on p full (here now m before s) _ _ (ap (λ x. act p full x (here now m before s)) h ∙ e)
             (reach k (f s) hd (keeps s));
       }
     where
       reach : (k : Unit {0} → Situation → Outcome) (c : Comes (Unit {0}))
           → ((v : Unit {0}) (last : Situation) → c ≡ to v last → Lower full s last
-          → Does p (stands now (m + 1) words last) (k v last)) → Kept full s c
-          → Does p (after_part c (λ _ last. goes (here now (m + 1) words last))) (hand c k)
+          → Does p full (stands now (m + 1) words last) (k v last)) → Kept full s c
+          → Does p full (after_part c (λ _ last. goes (here now (m + 1) words last))) (hand c k)
       reach k (to v last) hd low = hd v last refl low
-      reach k (over outcome) hd low = ends_there p outcome
+      reach k (over outcome) hd low = ends_there p full outcome
 
   -- one item that changes no more than the stack
   pub steps : {A : Type 0} {s : Situation} {n : ℕ} {c : Comes A} {behind : A → Situation → Next} (m q : ℕ)
       (before words : List ℕ) (i : Item) → slice_get (code now) m ≡ Some i
-      → act p (Some i) (here now m before s) ≡ stands now q words s → Leads now s n (stands now q words s) c behind
+      → act p full (Some i) (here now m before s) ≡ stands now q words s → Leads now s n (stands now q words s) c behind
       → Leads now s n (stands now m before s) c behind
   steps {s = s} m q before words i h e l =
       record {
-        does = λ k le d. steps_on p (here now m before s) _ _ (ap (λ x. act p x (here now m before s)) h ∙ e)
+        does = λ k le d. steps_on p full (here now m before s) _ _ (ap (λ x. act p full x (here now m before s)) h ∙ e)
             (l.does k le d);
       }
 
@@ -83,7 +83,7 @@ module _ (now : Running) where
   pub branches : {A : Type 0} {s : Situation} {n : ℕ} {c : Comes A} {behind : A → Situation → Next} (m t : ℕ)
       (b : Bool)
       (before words : List ℕ) (i : Item) → slice_get (code now) m ≡ Some i → m < t
-      → act p (Some i) (here now m before s) ≡ stack.branch b t words (here now m before s)
+      → act p full (Some i) (here now m before s) ≡ stack.branch b t words (here now m before s)
       → Leads now s n (stands now (if b then t else m + 1) words s) c behind
       → Leads now s n (stands now m before s) c behind
   branches {s = s} m t true before words i h lt e l = steps m t before words i h (e ∙ leads_on m t words s lt) l
@@ -147,8 +147,8 @@ module _ (now : Running) where
   jumps_after {c = c} (into x) m t words h lt l =
       record {
         does = λ k le d. l.does k le
-            (λ v last e low. steps_on p (here now m words (with_value x v last)) _ _
-            (ap (λ i. act p i (here now m words (with_value x v last))) h
+            (λ v last e low. steps_on p full (here now m words (with_value x v last)) _ _
+            (ap (λ i. act p full i (here now m words (with_value x v last))) h
             ∙ leads_on m t words (with_value x v last) lt)
             (d v last e low));
       }

@@ -2,10 +2,10 @@
 use Rattle.std.proofs.Common.{◌≡◌, ℕ, zero, suc, ◌+◌, ◌-◌, ◌<◌, List, [], ◌∷◌, ◌++◌, length, map, drop, slice_index_or}
 use Rattle.std.proofs.Common.{Option, refl, sym, ap, subst, ◌∙◌, arith, append_assoc}
 use Rattle.std.specs.Global.{Vec}
-use Rattle.checker.specs.declared.resolved.Span.{Span}
-use Rattle.checker.specs.declared.resolved.Action as code_action
-use Rattle.checker.specs.Resolved.{Value, RangeOf, Action, Actions, CasesOf, case_of}
-use Rattle.checker.specs.Resolved as source
+use Rattle.meaning.specs.declared.resolved.Span.{Span}
+use Rattle.meaning.specs.declared.resolved.Action as code_action
+use Rattle.meaning.specs.Resolved.{Value, RangeOf, Action, Actions, CasesOf, case_of}
+use Rattle.meaning.specs.Resolved as source
 use Rattle.items.specs.Items.{Item, Operand, alone, if_pushed, push, value_count, value_items, operand_count}
 use Rattle.items.specs.Items.{actions_count, cases_count, tests_count, over_count, groups_of, tests_items, over_items}
 use Rattle.items.specs.Items.{alone_items, action_items, actions_items, cases_items}

@@ -5,12 +5,13 @@ use Rattle.std.specs.Prelude.{◌||◌, ◌&&◌, ◌==◌, not, if◌then◌els
 use Rattle.std.specs.List.{list_any}
 use Rattle.std.proofs.lemmas.Bool.{eqb-true}
 use Rattle.zcore.specs.Arithmetic.{signed_less}
-use Rattle.checker.specs.Resolved.{Value, none, RangeOf, CasesOf}
-use Rattle.checker.specs.Resolved as source
-use Rattle.checker.specs.Accepted.{IsWhole}
-use Rattle.checker.specs.World.{Situation, Comes, to, Part}
-use Rattle.checker.specs.Meaning.{evaluate, Ending, goes_on, breaks, continues, returns, holds_for, behind_case}
-use Rattle.checker.specs.Meaning.{run_cases}
+use Rattle.meaning.specs.Resolved.{Value, none, RangeOf, CasesOf}
+use Rattle.meaning.specs.Resolved as source
+use Rattle.meaning.specs.Accepted.{IsWhole}
+use Rattle.meaning.specs.World.{Situation, Comes, to, Part}
+use Rattle.meaning.specs.Meaning.{evaluate, Ending, goes_on, breaks, continues, returns, holds_for, behind_case}
+use Rattle.meaning.specs.Meaning.{run_cases}
+use Rattle.meaning.specs.Places.{number_in}
 use Rattle.items.specs.Items.{Item, Group, numbers, range, groups_of, group_count, group_items, last_items, tests_count}
 use Rattle.items.specs.Items.{tests_items, over_count, over_items}
 use Rattle.items.specs.Items.{case_items, cases_count, cases_items, agrees, alone, alone_items, operand_count, same}
@@ -187,7 +188,7 @@ module _ (now : Running) where
   abbrev pub CasesOk : CasesOf → Type 0
   CasesOk cs = (x : Exits) (v : ℕ) (s : Situation) (n pc end q : ℕ) → q ≡ end → IsAhead now q x
       → HasAt (code now) pc (cases_items x pc cs end) q
-      → Leads now s n (goes (has_word now v pc s)) (run_cases (calls now) full v cs s) (ended_at now x q)
+      → Leads now s n (goes (has_word now v pc s)) (run_cases (calls now) (number_in p) full v cs s) (ended_at now x q)
 
   pub switch_does : (v : Value) (cs : CasesOf) → IsWhole p (locals now) v → CasesOk cs
       → ActionOk now (source.switch_on v cs)
@@ -202,7 +203,7 @@ module _ (now : Running) where
       chooses_word now w m (onto (alone v) w []) (items.choose (alone v)) h.1.0
       (with_held (alone v) w s1 [] (λ a rest. chooses a rest (here now m (onto (alone v) w []) s1))
       (operand_held now v none s s1 w e1))
-      (on now (run_cases (calls now) full w cs) _
+      (on now (run_cases (calls now) (number_in p) full w cs) _
       (ok inner w s1 n (m + 1) e q (sym all) (omega (arith, all), ahead.1) h.1.1)
       (λ ending s2 _. leaves e all ending s2)))
     where

@@ -10,23 +10,23 @@ use Rattle.expressions.specs.declared.tree.Equality.{Equality}
 use Rattle.expressions.specs.declared.tree.Prefix.{Prefix}
 use Rattle.expressions.specs.declared.tree.Step.{Step}
 use Rattle.expressions.specs.declared.tree.Width.{Width}
-use Rattle.checker.specs.declared.resolved.Span.{Span}
-use Rattle.checker.specs.declared.resolved.Variable.{Variable}
-use Rattle.checker.specs.declared.resolved.Value as code_value
-use Rattle.checker.specs.declared.resolved.Value.TheVariants as v
-use Rattle.checker.specs.declared.resolved.Value.TheFolds.{fold-roll-Value}
-use Rattle.checker.specs.declared.resolved.Printed as code_printed
-use Rattle.checker.specs.declared.resolved.Action as code_action
-use Rattle.checker.specs.declared.resolved.Action.TheVariants as s
-use Rattle.checker.specs.declared.resolved.Action.TheFolds.{fold-roll-Action}
-use Rattle.checker.specs.Resolved.{Value, number, read, call, prefixed, step_before, step_after, binary, compare}
-use Rattle.checker.specs.Resolved.{equal, entry, assign_entry}
-use Rattle.checker.specs.Resolved.{assign, more, Action, block, text_alone, print, print_return, if_then, if_else}
-use Rattle.checker.specs.Resolved.{while_do, do_until, for_loop, switch_on, return_value, effect, values_of}
-use Rattle.checker.specs.Resolved.{actions_of, cases_of, chained, value_of, value_layer, printed_of, case_of, other_of}
-use Rattle.checker.specs.Resolved.{action_of, action_layer}
-use Rattle.checker.specs.Accepted.{count_of}
-use Rattle.statements.proofs.Shapes.{mapped_twice}
+use Rattle.meaning.specs.declared.resolved.Span.{Span}
+use Rattle.meaning.specs.declared.resolved.Variable.{Variable}
+use Rattle.meaning.specs.declared.resolved.Value as code_value
+use Rattle.meaning.specs.declared.resolved.Value.TheVariants as v
+use Rattle.meaning.specs.declared.resolved.Value.TheFolds.{fold-roll-Value}
+use Rattle.meaning.specs.declared.resolved.Printed as code_printed
+use Rattle.meaning.specs.declared.resolved.Action as code_action
+use Rattle.meaning.specs.declared.resolved.Action.TheVariants as s
+use Rattle.meaning.specs.declared.resolved.Action.TheFolds.{fold-roll-Action}
+use Rattle.meaning.specs.Resolved.{Value, number, read, call, prefixed, step_before, step_after, binary, compare}
+use Rattle.meaning.specs.Resolved.{equal, entry, assign_entry}
+use Rattle.meaning.specs.Resolved.{assign, more, Action, block, text_alone, print, print_return, if_then, if_else}
+use Rattle.meaning.specs.Resolved.{while_do, do_until, for_loop, switch_on, return_value, effect, values_of}
+use Rattle.meaning.specs.Resolved.{actions_of, cases_of, chained, value_of, value_layer, printed_of, case_of, other_of}
+use Rattle.meaning.specs.Resolved.{action_of, action_layer}
+use Rattle.meaning.specs.Accepted.{count_of}
+use Rattle.meaning.proofs.Mapped.{mapped_twice}
 use Rattle.items.specs.Items as items
 use Rattle.items.specs.Writing.{link_of, change_links}
 

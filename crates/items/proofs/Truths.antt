@@ -6,11 +6,11 @@ use Rattle.expressions.specs.declared.tree.Binary.TheVariants as binaries
 use Rattle.expressions.specs.declared.tree.Comparison.{Comparison}
 use Rattle.expressions.specs.declared.tree.Equality.{Equality}
 use Rattle.expressions.specs.declared.tree.Prefix.TheVariants as prefixes
-use Rattle.checker.specs.Resolved.{Value, Values}
-use Rattle.checker.specs.Resolved as source
-use Rattle.checker.specs.Accepted.{need_of}
-use Rattle.checker.specs.World.{Situation, Comes, to, ◌>>=◌, give}
-use Rattle.checker.specs.Meaning.{truth, is_true, equated, compared, evaluate, evaluate_all}
+use Rattle.meaning.specs.Resolved.{Value, Values}
+use Rattle.meaning.specs.Resolved as source
+use Rattle.meaning.specs.Accepted.{need_of}
+use Rattle.meaning.specs.World.{Situation, Comes, to, ◌>>=◌, give}
+use Rattle.meaning.specs.Meaning.{truth, is_true, equated, compared, evaluate, evaluate_all}
 use Rattle.items.specs.Items.{Item, number, Destination, push, into, nowhere, agrees, truth_items}
 use Rattle.items.specs.Items as items
 use Rattle.items.proofs.Acts.{came}

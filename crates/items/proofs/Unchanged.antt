@@ -8,17 +8,17 @@ use Rattle.zcore.specs.declared.place.Place.TheVariants as places
 use Rattle.expressions.specs.declared.tree.Binary.{Binary}
 use Rattle.expressions.specs.declared.tree.Binary.TheVariants as binaries
 use Rattle.expressions.specs.declared.tree.Width.{Width}
-use Rattle.checker.specs.declared.cause.Cause.{Cause}
-use Rattle.checker.specs.declared.cause.Cause.TheVariants as causes
-use Rattle.checker.specs.World.{words_of}
-use Rattle.checker.specs.declared.resolved.Variable.{Variable}
-use Rattle.checker.specs.declared.resolved.Variable.TheVariants as variables
-use Rattle.checker.specs.Resolved.{Value, Values, none, more}
-use Rattle.checker.specs.Resolved as source
-use Rattle.checker.specs.World.{Situation, Comes, to, over, Part, bound, ◌>>=◌, give, put, fault, ends, value_in}
-use Rattle.checker.specs.World.{with_value, write_variable, array_at, is_index, read_entry, write_entry}
-use Rattle.checker.specs.Meaning.{truth, is_true, operate, equated, compared, with_prefix, stepped, early, Calls}
-use Rattle.checker.specs.Meaning.{evaluate, evaluate_all}
+use Rattle.meaning.specs.declared.cause.Cause.{Cause}
+use Rattle.meaning.specs.declared.cause.Cause.TheVariants as causes
+use Rattle.meaning.specs.World.{words_of}
+use Rattle.meaning.specs.declared.resolved.Variable.{Variable}
+use Rattle.meaning.specs.declared.resolved.Variable.TheVariants as variables
+use Rattle.meaning.specs.Resolved.{Value, Values, none, more}
+use Rattle.meaning.specs.Resolved as source
+use Rattle.meaning.specs.World.{Situation, Comes, to, over, Part, bound, ◌>>=◌, give, put, fault, ends, value_in}
+use Rattle.meaning.specs.World.{with_value, write_variable, array_at, is_index, read_entry, write_entry}
+use Rattle.meaning.specs.Meaning.{truth, is_true, operate, equated, compared, with_prefix, stepped, early, Calls}
+use Rattle.meaning.specs.Meaning.{evaluate, evaluate_all}
 use Rattle.items.specs.Items.{is_same, is_global, changes, change}
 use Rattle.items.specs.Stack.{assigned_entry}
 

@@ -8,9 +8,9 @@ use Rattle.expressions.specs.declared.tree.Comparison.{Comparison}
 use Rattle.expressions.specs.declared.tree.Prefix.{Prefix}
 use Rattle.expressions.specs.declared.tree.Prefix.TheVariants as prefixes
 use Rattle.expressions.specs.declared.tree.Width.{Width}
-use Rattle.checker.specs.declared.resolved.Variable.{Variable}
-use Rattle.checker.specs.Resolved.{Value, Values, chained}
-use Rattle.checker.specs.Resolved as source
+use Rattle.meaning.specs.declared.resolved.Variable.{Variable}
+use Rattle.meaning.specs.Resolved.{Value, Values, chained}
+use Rattle.meaning.specs.Resolved as source
 use Rattle.items.specs.Items.{Item, Operand, pushed, number, variable, Destination, push, into, nowhere, Test}
 use Rattle.items.specs.Items.{operands_of, alone, left_of, if_pushed, branch_true, comparison_test, comparison_when}
 use Rattle.items.specs.Items.{value_count, operands_count, branch_count, operand_count, value_items, operands_items}

@@ -4,9 +4,9 @@ use Rattle.std.proofs.Common.{false, refl, arith, length-append}
 use Rattle.std.specs.Prelude.{◌==◌}
 use Rattle.std.specs.List.{All}
 use Rattle.std.proofs.lemmas.List.Elements.{All-head, All-tail}
-use Rattle.checker.specs.Resolved.{Value, none, Printed, Action, Actions, stop, next, CasesOf}
-use Rattle.checker.specs.Resolved as source
-use Rattle.checker.specs.Accepted.{IsValue, IsPart, IsPrinted, IsAction, AreActions, AreCases}
+use Rattle.meaning.specs.Resolved.{Value, none, Printed, Action, Actions, stop, next, CasesOf}
+use Rattle.meaning.specs.Resolved as source
+use Rattle.meaning.specs.Accepted.{IsValue, IsPart, IsPrinted, IsAction, AreActions, AreCases}
 use Rattle.items.specs.Items.{nowhere, alone, operand_count, branch_count, branch_items, printed_count, prints_count}
 use Rattle.items.specs.Items.{action_count, actions_count, alone_items, printed_items, prints_items, return_true}
 use Rattle.items.specs.Items.{Exits, exits_to, action_items, actions_items, routine_items}
@@ -125,7 +125,8 @@ module _ (here : Bounds) where
         joined here (branch_items at v false (at + branch_count v false + action_count a + 1)) _
         ((value_fine here v h.0.0).branch at false _ (omega (arith, lt)) (omega (arith, lt)))
         (last here (action_items inside (at + branch_count v false) a) _
-        (action_fine inside a (omega (arith, lt), omega (arith, lt)) h.1 (at + branch_count v false) (omega (arith, lt))) (omega (arith, lt)))
+        (action_fine inside a (omega (arith, lt), omega (arith, lt)) h.1 (at + branch_count v false)
+        (omega (arith, lt))) (omega (arith, lt)))
     action_fine x (source.do_until a v) there h at lt =
         let n = at + action_count a in
         let e = n + branch_count v true + 1 in
@@ -154,14 +155,15 @@ module _ (here : Bounds) where
         (cases_fine inside cs (omega (arith, lt), there.1) h.1 n e (omega (arith, lt)) (omega (arith, lt))))
     action_fine x source.break_out there h at lt = first here _ _ there.0 (nothing here)
     action_fine x source.continue_on there h at lt = first here _ _ there.1 (nothing here)
+    action_fine x (source.read_line t q) there h at lt = first here _ _ h (nothing here)
     action_fine x (source.return_value v) there h at lt =
         last here (alone_items at v) _ (alone_fine v h.0 at (omega (arith, lt)))
         (operand_fine here v none h.0)
     action_fine x source.quit there h at lt = first here _ _ tt (nothing here)
     action_fine x (source.effect v) there h at lt = (value_fine here v h.0).value at nowhere tt lt
 
-    actions_fine : (x : Exits) (xs : Actions) → AreThere x → AreActions p locals xs → (at : ℕ) → at + actions_count xs < count
-        → Fine here (actions_items x at xs)
+    actions_fine : (x : Exits) (xs : Actions) → AreThere x → AreActions p locals xs → (at : ℕ)
+        → at + actions_count xs < count → Fine here (actions_items x at xs)
     actions_fine x stop there h at lt = nothing here
     actions_fine x (next a rest) there h at lt =
         joined here (action_items x at a) _ (action_fine x a there h.0 at (omega (arith, lt)))

@@ -59,6 +59,7 @@ item_of (variants.PrintText bytes) = items.print_text bytes.now
 item_of (variants.PrintCharacter o) = items.print_character (as_operand o)
 item_of (variants.PrintNumber o) = items.print_number (as_operand o)
 item_of variants.NewLine = items.new_line
+item_of (variants.Read t p) = items.read_line t p
 item_of variants.Quit = items.quit
 item_of (variants.Branch test os when target) =
     items.branch (as_test test) (as_operands os.items) when target

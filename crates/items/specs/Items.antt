@@ -12,13 +12,13 @@ use Rattle.expressions.specs.declared.tree.Prefix.{Prefix}
 use Rattle.expressions.specs.declared.tree.Prefix.TheVariants as prefixes
 use Rattle.expressions.specs.declared.tree.Step.{Step}
 use Rattle.expressions.specs.declared.tree.Width.{Width}
-use Rattle.checker.specs.declared.resolved.Variable.{Variable}
-use Rattle.checker.specs.declared.resolved.Variable.TheVariants as variables
-use Rattle.checker.specs.Resolved.{Value, Values, none, more, Printed, RangeOf, Action, Actions, stop, next}
-use Rattle.checker.specs.Resolved.{CasesOf, RoutineOf}
-use Rattle.checker.specs.Resolved as source
-use Rattle.checker.specs.Meaning.{is_true}
-use Rattle.checker.specs.Accepted.{count_of}
+use Rattle.meaning.specs.declared.resolved.Variable.{Variable}
+use Rattle.meaning.specs.declared.resolved.Variable.TheVariants as variables
+use Rattle.meaning.specs.Resolved.{Value, Values, none, more, Printed, RangeOf, Action, Actions, stop, next}
+use Rattle.meaning.specs.Resolved.{CasesOf, RoutineOf}
+use Rattle.meaning.specs.Resolved as source
+use Rattle.meaning.specs.Meaning.{is_true}
+use Rattle.meaning.specs.Accepted.{count_of}
 
 -- a word that an item takes: from the top of the stack, or one that stands in the instruction. A variable is read
 -- when the item is done.
@@ -67,6 +67,8 @@ pub data Item : Type 0 where
   print_character : Operand → Item
   print_number : Operand → Item
   new_line : Item
+  -- the next line goes to the arrays of these numbers
+  read_line : ℕ → ℕ → Item
   quit : Item
   -- forward, where the test holds, or where it does not
   branch : Test → List Operand → Bool → ℕ → Item
@@ -528,6 +530,7 @@ abbrev mutual
   action_count (source.for_loop x y z a) = once_count x + test_count y + action_count a + once_count z + 1
   action_count (source.switch_on v cs) = operand_count v (alone v) + 1 + cases_count cs
   action_count source.break_out = 1
+  action_count (source.read_line t p) = 1
   action_count source.continue_on = 1
   action_count (source.return_value v) = operand_count v (alone v) + 1
   action_count source.quit = 1
@@ -625,6 +628,7 @@ abbrev mutual
       ∷ cases_items (record x { breaks = at + operand_count v (alone v) + 1 + cases_count cs })
       (at + operand_count v (alone v) + 1) cs (at + operand_count v (alone v) + 1 + cases_count cs)
   action_items x at source.break_out = jump x.breaks ∷ []
+  action_items x at (source.read_line t p) = read_line t p ∷ []
   action_items x at source.continue_on = jump x.continues ∷ []
   action_items x at (source.return_value v) = alone_items at v ++ return (alone v) ∷ []
   action_items x at source.quit = quit ∷ []

@@ -1,20 +1,20 @@
 -- The laws of items that functions of `laws` carry as their contracts.
-use Rattle.std.specs.Prelude.{◌≡◌, ◌+◌, ◌<◌, ◌≤◌, ℕ, List, length, Some}
+use Rattle.std.specs.Prelude.{◌≡◌, ◌≢◌, ◌+◌, ◌<◌, ◌≤◌, ℕ, List, length, Some}
 use Rattle.std.specs.List.{All}
 use Rattle.expressions.specs.declared.tree.Binary.TheVariants as binaries
 use Rattle.expressions.specs.declared.tree.Prefix.TheVariants as prefixes
-use Rattle.checker.specs.Resolved.{RoutineOf, ProgramOf}
-use Rattle.checker.specs.Accepted.{IsVariable, IsRoutine, IsAccepted}
-use Rattle.checker.specs.Meaning.{routine_at, meaning}
+use Rattle.meaning.specs.Resolved.{RoutineOf, ProgramOf}
+use Rattle.meaning.specs.Accepted.{IsVariable, IsRoutine, IsAccepted}
+use Rattle.meaning.specs.Meaning.{routine_at, meaning}
 use Rattle.items.specs.Items.{Operand, variable, Destination, into, Test, is_zero, less, greater, same, Item, move}
 use Rattle.items.specs.Items.{apply_prefix, operate, step, entry, assign_entry, keep, print_character, print_number}
-use Rattle.items.specs.Items.{branch, choose, case, jump, back, call, return, routine_items}
+use Rattle.items.specs.Items.{branch, read_line, choose, case, jump, back, call, return, routine_items}
 use Rattle.items.specs.Stack.{from, exec, start}
 
 -- in so many items the run comes to what the program means
 pub record Follows (p : ProgramOf) (full : ℕ) (lines : List (List ℕ)) : Type 0 where
   pub count : ℕ
-  pub comes : from (start p full lines) (exec p count) ≡ Some (meaning p full lines)
+  pub comes : from (start p full lines) (exec p full count) ≡ Some (meaning p full lines)
 
 -- the items of an accepted program do what the program means, with any fuel and on any lines
 abbrev pub ItemsFollow : Type 0
@@ -54,6 +54,7 @@ module _ (p : ProgramOf) (locals : ℕ) where
   IsItem count (print_character o) = IsOperand o
   IsItem count (print_number o) = IsOperand o
   IsItem count (branch test os when target) = All IsOperand os × IsTested test (length os) × (target < count)
+  IsItem count (read_line a b) = (a < length p.arrays) × (b < length p.arrays) × (a ≢ b)
   IsItem count (choose o) = IsOperand o
   IsItem count (case test ns when target) = IsTested test (1 + length ns) × (1 ≤ length ns) × (target < count)
   IsItem count (jump target) = target < count

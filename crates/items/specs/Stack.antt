@@ -7,14 +7,16 @@ use Rattle.zcore.specs.Arithmetic.{signed_less, signed_text}
 use Rattle.zcore.specs.declared.place.Place.TheVariants as places
 use Rattle.zcore.specs.declared.place.Limit.TheVariants as limits
 use Rattle.expressions.specs.declared.tree.Width.{Width}
-use Rattle.checker.specs.declared.resolved.Variable.{Variable}
-use Rattle.checker.specs.Resolved.{ProgramOf}
-use Rattle.checker.specs.World.{Outcome, World, Situation, Comes, to, over, Part, ended, put, shown, spend, value_in}
-use Rattle.checker.specs.World.{with_value, give, ◌>>=◌, read_entry, write_entry}
-use Rattle.checker.specs.Meaning.{truth, is_true, with_prefix, stepped, put_character, put_line, locals_of}
-use Rattle.checker.specs.Meaning.{routine_at}
-use Rattle.checker.specs.Meaning.{first_world}
-use Rattle.checker.specs.Meaning as meaning
+use Rattle.meaning.specs.declared.resolved.Variable.{Variable}
+use Rattle.meaning.specs.Resolved.{ProgramOf}
+use Rattle.meaning.specs.World.{Outcome, World, Situation, Comes, to, over, Part, ended, put, shown, spend, value_in}
+use Rattle.meaning.specs.World.{with_value, give, ◌>>=◌, read_entry, write_entry}
+use Rattle.meaning.specs.Meaning.{truth, is_true, with_prefix, stepped, put_character, put_line, locals_of}
+use Rattle.meaning.specs.Meaning.{routine_at}
+use Rattle.meaning.specs.Meaning.{first_world}
+use Rattle.meaning.specs.Reading.{read_next}
+use Rattle.meaning.specs.Places.{number_in}
+use Rattle.meaning.specs.Meaning as meaning
 use Rattle.items.specs.Items.{Item, Operand, pushed, number, variable, Destination, push, into, nowhere, Test}
 use Rattle.items.specs.Items.{is_zero}
 use Rattle.items.specs.Items.{less, greater, same, agrees, routine_items}
@@ -86,7 +88,7 @@ after s stack situation =
 abbrev pub gives : Part ℕ → Destination → List ℕ → State → Next
 gives f d stack s = after_part (f s.situation) (λ v situation. delivered d v (after s stack situation))
 
--- a part prints
+-- a part prints, or reads a line
 abbrev pub prints : Part (Unit {0}) → List ℕ → State → Next
 prints f stack s = after_part (f s.situation) (λ _ situation. goes (after s stack situation))
 
@@ -191,49 +193,50 @@ caller d stack s =
 
 -- Runs
 
--- one item, where there is one
-abbrev pub act : ProgramOf → Option Item → State → Next
-act p None s = stuck
-act p (Some (items.move o d)) s =
+-- one item, where there is one; a line brings so much fuel
+abbrev pub act : ProgramOf → ℕ → Option Item → State → Next
+act p full None s = stuck
+act p full (Some (items.move o d)) s =
     with_operand o s.situation s.stack (λ v stack. delivered d v (after s stack s.situation))
-act p (Some (items.apply_prefix op o d)) s =
+act p full (Some (items.apply_prefix op o d)) s =
     with_operand o s.situation s.stack (λ v stack. delivered d (with_prefix op v) (after s stack s.situation))
-act p (Some (items.operate op a b d)) s =
+act p full (Some (items.operate op a b d)) s =
     with_operand b s.situation s.stack
     (λ y rest. with_operand a s.situation rest (λ x stack. gives (meaning.operate op x y) d stack s))
-act p (Some (items.step op x d)) s =
+act p full (Some (items.step op x d)) s =
     delivered d (stepped op (value_in x s.situation))
     (after s s.stack (with_value x (stepped op (value_in x s.situation)) s.situation))
-act p (Some (items.entry width a o d)) s =
+act p full (Some (items.entry width a o d)) s =
     with_operand o s.situation s.stack (λ i stack. gives (read_entry width a i) d stack s)
-act p (Some (items.assign_entry width a o q d)) s =
+act p full (Some (items.assign_entry width a o q d)) s =
     with_operand q s.situation s.stack
     (λ v rest. with_operand o s.situation rest (λ i stack. gives (assigned_entry width a i v) d stack s))
-act p (Some (items.keep x)) s = keep x s.stack s
-act p (Some items.first_equal) s = first_equal s.stack s
-act p (Some items.also_equal) s = also_equal s.stack s
-act p (Some items.drop_below) s = drop_below s.stack s
-act p (Some (items.print_text bytes)) s = prints (put (map shown bytes)) s.stack s
-act p (Some (items.print_character o)) s =
+act p full (Some (items.keep x)) s = keep x s.stack s
+act p full (Some items.first_equal) s = first_equal s.stack s
+act p full (Some items.also_equal) s = also_equal s.stack s
+act p full (Some items.drop_below) s = drop_below s.stack s
+act p full (Some (items.print_text bytes)) s = prints (put (map shown bytes)) s.stack s
+act p full (Some (items.print_character o)) s =
     with_operand o s.situation s.stack (λ v stack. prints (put_character v) stack s)
-act p (Some (items.print_number o)) s =
+act p full (Some (items.print_number o)) s =
     with_operand o s.situation s.stack (λ v stack. prints (put (signed_text v)) stack s)
-act p (Some items.new_line) s = prints put_line s.stack s
-act p (Some items.quit) s = ends (ended places.Quit s.situation.world)
-act p (Some (items.branch test os when target)) s =
+act p full (Some items.new_line) s = prints put_line s.stack s
+act p full (Some (items.read_line t q)) s = prints (read_next (number_in p) full t q) s.stack s
+act p full (Some items.quit) s = ends (ended places.Quit s.situation.world)
+act p full (Some (items.branch test os when target)) s =
     with_operands os s.situation s.stack (λ vs stack. branch (agrees (holds test vs) when) target stack s)
-act p (Some (items.choose o)) s = with_operand o s.situation s.stack (λ v stack. chooses v stack s)
-act p (Some (items.case test ns when target)) s = test_case s.chosen test ns when target s
-act p (Some (items.jump target)) s = jump_forward target s
-act p (Some (items.back target)) s = go_back target s
-act p (Some (items.call r os d)) s =
+act p full (Some (items.choose o)) s = with_operand o s.situation s.stack (λ v stack. chooses v stack s)
+act p full (Some (items.case test ns when target)) s = test_case s.chosen test ns when target s
+act p full (Some (items.jump target)) s = jump_forward target s
+act p full (Some (items.back target)) s = go_back target s
+act p full (Some (items.call r os d)) s =
     with_operands os s.situation s.stack (λ vs stack. enter p r vs (caller d stack s ∷ s.callers) s.situation)
-act p (Some (items.return o)) s =
+act p full (Some (items.return o)) s =
     with_operand o s.situation s.stack (λ v stack. return_to s.callers v s.situation.world)
 
 -- the item at the place
-abbrev pub step : ProgramOf → State → Next
-step p s = act p (slice_get (routine_items (routine_at p.routines s.routine)) s.place) s
+abbrev pub step : ProgramOf → ℕ → State → Next
+step p full s = act p full (slice_get (routine_items (routine_at p.routines s.routine)) s.place) s
 
 -- what follows a state that goes on
 abbrev pub from : Next → (State → Option Outcome) → Option Outcome
@@ -242,9 +245,9 @@ from (ends outcome) k = Some outcome
 from stuck k = None
 
 -- at most so many items
-abbrev pub exec : ProgramOf → ℕ → State → Option Outcome
-exec p zero s = None
-exec p (suc n) s = from (step p s) (exec p n)
+abbrev pub exec : ProgramOf → ℕ → ℕ → State → Option Outcome
+exec p full zero s = None
+exec p full (suc n) s = from (step p full s) (exec p full n)
 
 -- the call of Main
 abbrev pub start : ProgramOf → ℕ → List (List ℕ) → Next

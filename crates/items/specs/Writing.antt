@@ -3,18 +3,18 @@ use Rattle.std.specs.Prelude.{◌≡◌, ◌||◌, ◌+◌, ◌-◌, ◌≤◌, 
 use Rattle.std.specs.Prelude.{length, map, reverse, slice_set}
 use Rattle.expressions.specs.declared.tree.Binary.{Binary}
 use Rattle.expressions.specs.declared.tree.Binary.TheVariants as binaries
-use Rattle.checker.specs.declared.resolved.Variable.{Variable}
-use Rattle.checker.specs.declared.resolved.Value as code_value
+use Rattle.meaning.specs.declared.resolved.Variable.{Variable}
+use Rattle.meaning.specs.declared.resolved.Value as code_value
 use Rattle.expressions.specs.declared.tree.Comparison.{Comparison}
 use Rattle.expressions.specs.declared.tree.Equality.{Equality}
 use Rattle.expressions.specs.declared.tree.Width.{Width}
-use Rattle.checker.specs.declared.resolved.Printed as code_printed
+use Rattle.meaning.specs.declared.resolved.Printed as code_printed
 use Rattle.std.specs.Global.{Vec}
-use Rattle.checker.specs.declared.resolved.Span.{Span}
-use Rattle.checker.specs.declared.resolved.Action as code_action
-use Rattle.checker.specs.Resolved.{Value, Values, none, more, RangeOf, Action, Actions, CasesOf, value_of, values_of}
-use Rattle.checker.specs.Resolved.{chained, printed_of, case_of}
-use Rattle.checker.specs.Resolved as source
+use Rattle.meaning.specs.declared.resolved.Span.{Span}
+use Rattle.meaning.specs.declared.resolved.Action as code_action
+use Rattle.meaning.specs.Resolved.{Value, Values, none, more, RangeOf, Action, Actions, CasesOf, value_of, values_of}
+use Rattle.meaning.specs.Resolved.{chained, printed_of, case_of}
+use Rattle.meaning.specs.Resolved as source
 use Rattle.items.specs.Items.{Item, Operand, pushed, changes, Destination, push, operand_of, operands_of, left_of}
 use Rattle.items.specs.Items.{if_pushed, is_few, branch_true, value_count, branch_count, truth_items, value_items}
 use Rattle.items.specs.Items.{operands_items, branch_items, moved, prints_items, Exits, action_items, cases_items}

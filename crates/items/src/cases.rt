@@ -1,7 +1,7 @@
 //! The tests of the cases of a `switch`.
 
 ghost use Rattle.std.specs.Prelude.{◌-◌, ◌∷◌, [], true, length, map, OnOk};
-ghost use Rattle.checker.specs.Resolved.{range_of};
+ghost use Rattle.meaning.specs.Resolved.{range_of};
 ghost use Rattle.items.specs.Items.{case, same, less, greater, groups_of, group_items, last_items, tests_items, over_items};
 ghost use Rattle.items.specs.Code.{group_of};
 ghost use Rattle.items.specs.Writing.{Writes, Puts, written_in};
@@ -9,7 +9,7 @@ ghost use Rattle.items.specs.Writing.{Writes, Puts, written_in};
 use crate::draft::{Draft, put, written};
 use crate::group::{Group, groups};
 use crate::item::{Item, Test};
-use checker::Span;
+use meaning::Span;
 use std::alloc::AllocError;
 
 /// The test of a range, whose upper end is tested last.

@@ -1,11 +1,11 @@
 //! The tests of a case, in groups that need few branches.
 
 ghost use Rattle.std.specs.Prelude.{◌≡◌, map, reverse, IfOk, OnOk};
-ghost use Rattle.checker.specs.Resolved.{range_of};
+ghost use Rattle.meaning.specs.Resolved.{range_of};
 ghost use Rattle.items.specs.Items as items;
 ghost use Rattle.items.specs.Code.{group_of};
 
-use checker::Span;
+use meaning::Span;
 use std::alloc::{AllocError, Global};
 
 /// The most numbers that one test compares a word with.

@@ -2,7 +2,7 @@
 
 ghost use Rattle.std.specs.Prelude.{◌-◌, OnOk};
 ghost use Rattle.std.specs.Option.{option_map};
-ghost use Rattle.checker.specs.Resolved.{value_of};
+ghost use Rattle.meaning.specs.Resolved.{value_of};
 ghost use Rattle.items.specs.Items.{once_items, test_items};
 ghost use Rattle.items.specs.Writing.{Writes};
 
@@ -10,7 +10,7 @@ use crate::draft::Draft;
 use crate::item::Destination;
 use crate::value::put_value;
 use crate::wanted::Wanted;
-use checker::Value;
+use meaning::Value;
 use std::alloc::AllocError;
 
 /// A part whose word goes nowhere, if it is there.

@@ -1,7 +1,7 @@
 //! The items of a routine.
 
-use checker::Variable;
 use expressions::{Binary, Prefix, Step, Width};
+use meaning::Variable;
 
 /// A word that an item takes. Of the operands of an item that are pushed the last is on top.
 #[derive(Clone, Copy, Debug, PartialEq, Eq)]
@@ -84,6 +84,10 @@ pub enum Item<'a> {
     PrintNumber(Operand),
 
     NewLine,
+
+    /// The next line goes to two arrays of bytes: its letters to the one of the first number, its words to the other. Or
+    /// the fault that one of them is too small.
+    Read(usize, usize),
 
     /// The story ends.
     Quit,

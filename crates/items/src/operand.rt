@@ -1,16 +1,16 @@
 //! Which operands stand in place.
 
 ghost use Rattle.std.specs.Prelude.{◌≡◌, ◌||◌, map, nat_lt, OnOk};
-ghost use Rattle.checker.specs.Resolved.{value_of};
-ghost use Rattle.checker.specs.Accepted.{count_of};
+ghost use Rattle.meaning.specs.Resolved.{value_of};
+ghost use Rattle.meaning.specs.Accepted.{count_of};
 ghost use Rattle.items.specs.Items as items;
 ghost use Rattle.items.specs.Code.{as_operand};
 ghost use Rattle.items.specs.Writing.{change_links, link_of, values_in, more_in};
 ghost use Rattle.items.specs.Writing.{left_side, right_side, AddsOperands};
 
 use crate::item::Operand;
-use checker::{Value, Variable};
 use expressions::Binary;
+use meaning::{Value, Variable};
 use std::alloc::AllocError;
 
 fn is_same(left: Variable, right: Variable) -> bool

@@ -1,8 +1,8 @@
 //! Parts of expressions that hold no expression.
 
 ghost use Rattle.std.specs.Prelude.{◌≡◌, true, false, if◌then◌else◌, IfOk, OnOk};
-ghost use Rattle.checker.specs.Resolved as source;
-ghost use Rattle.checker.specs.Meaning.{is_true};
+ghost use Rattle.meaning.specs.Resolved as source;
+ghost use Rattle.meaning.specs.Meaning.{is_true};
 ghost use Rattle.items.specs.Items as items;
 ghost use Rattle.items.specs.Code.{as_test};
 ghost use Rattle.items.specs.declared.wanted.Wanted.TheVariants.{Branch};
@@ -12,8 +12,8 @@ ghost use Rattle.items.specs.Writing.{WritesMoved};
 use crate::draft::{Draft, put, put_branch, written};
 use crate::item::{Destination, Item, Operand, Test};
 use crate::wanted::Wanted;
-use checker::Variable;
 use expressions::{Binary, Comparison, Equality, Step};
+use meaning::Variable;
 use std::alloc::AllocError;
 
 /// What follows an expression that has a word: a branch by it, if that is wanted. Where the word is to go.

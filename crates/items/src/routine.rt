@@ -1,7 +1,7 @@
 //! Routines as items.
 
 ghost use Rattle.std.specs.Prelude.{◌≡◌, IfOk};
-ghost use Rattle.checker.specs.Resolved.{routine_of};
+ghost use Rattle.meaning.specs.Resolved.{routine_of};
 ghost use Rattle.items.specs.Items as items;
 ghost use Rattle.items.specs.Code.{items_of};
 
@@ -9,7 +9,7 @@ use crate::draft::{Draft, in_order, put, written};
 use crate::exits::Exits;
 use crate::item::{Item, Operand};
 use crate::statement::put_statements;
-use checker::CheckedRoutine;
+use meaning::CheckedRoutine;
 use std::alloc::{AllocError, Global};
 
 /// The items of a routine: those of its statements, and then it returns true.

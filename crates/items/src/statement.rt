@@ -2,8 +2,8 @@
 
 ghost use Rattle.std.specs.Prelude.{[], ◌∷◌, map, OnOk};
 ghost use Rattle.std.specs.Option.{option_map};
-ghost use Rattle.checker.specs.Resolved.{block, if_then, while_do, do_until, for_loop, switch_on, return_value, value_of};
-ghost use Rattle.checker.specs.Resolved.{printed_of, action_of, actions_of, case_of, cases_of, other_of};
+ghost use Rattle.meaning.specs.Resolved.{block, if_then, while_do, do_until, for_loop, switch_on, return_value, value_of};
+ghost use Rattle.meaning.specs.Resolved.{printed_of, action_of, actions_of, case_of, cases_of, other_of};
 ghost use Rattle.items.specs.Items.{new_line, return_true, printed_items};
 ghost use Rattle.items.specs.Writing.{Writes, WritesAction, WritesPrinted, WritesTaken, WritesCases, LeavesCases};
 
@@ -15,7 +15,7 @@ use crate::item::{Destination, Item, Operand};
 use crate::operand::alone;
 use crate::value::{put_operand, put_value};
 use crate::wanted::Wanted;
-use checker::{Action, Printed, Span, Value};
+use meaning::{Action, Printed, Span, Value};
 use std::alloc::AllocError;
 
 /// The items of statements, one after another.
@@ -72,6 +72,7 @@ fn put_statement<'a>(
         Action::Break => put(draft, Item::Jump(exits.breaks))?,
         Action::Continue => put(draft, Item::Jump(exits.continues))?,
         Action::ReturnValue(value) => put_return(draft, value)?,
+        Action::Read(text, parse) => put(draft, Item::Read(*text, *parse))?,
         Action::Quit => put(draft, Item::Quit)?,
         Action::Effect(value) => {
             put_value(draft, value, Wanted::Word(Destination::Nowhere))?;

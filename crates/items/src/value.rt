@@ -1,7 +1,7 @@
 //! Expressions as items.
 
 ghost use Rattle.std.specs.Prelude.{IfOk, OnOk};
-ghost use Rattle.checker.specs.Resolved.{call, prefixed, assign, entry, value_of};
+ghost use Rattle.meaning.specs.Resolved.{call, prefixed, assign, entry, value_of};
 ghost use Rattle.items.specs.Writing.{values_in, WritesValue, WritesOperand, WritesOperands, WritesFolded};
 ghost use Rattle.items.specs.Writing.{WritesLink, WritesLinks, WritesComparison, WritesEquality, WritesFirst};
 ghost use Rattle.items.specs.Writing.{WritesAssignedEntry};
@@ -14,8 +14,8 @@ use crate::parts::{
     put_number, put_read, put_step_after, put_step_before, put_truth, put_word,
 };
 use crate::wanted::Wanted;
-use checker::{Value, Variable};
 use expressions::{Binary, Comparison, Equality, Prefix, Width};
+use meaning::{Value, Variable};
 use std::alloc::AllocError;
 
 /// The items of an expression, which do what is wanted of it.

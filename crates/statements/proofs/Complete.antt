@@ -5,7 +5,7 @@ use Rattle.lexer.specs.declared.token.Position.{Position}
 use Rattle.lexer.specs.declared.token.Sign.{Sign}
 use Rattle.lexer.specs.declared.token.Sign.TheVariants as s
 use Rattle.lexer.specs.declared.token.Word.TheVariants as w
-use Rattle.lexer.specs.Token.{Lexeme, name, number, text, character, reserved, sign, position_of}
+use Rattle.lexer.specs.Token.{Lexeme, name, number, text, character, dictionary_word, reserved, sign, position_of}
 use Rattle.expressions.specs.declared.error.Fault.{Fault}
 use Rattle.expressions.specs.Tree.{ExpressionTree}
 use Rattle.expressions.specs.Grammar.{nesting}
@@ -20,18 +20,18 @@ use Rattle.statements.specs.Tree.{RangeTree, HeadingTree, PrintItemTree, text_it
 use Rattle.statements.specs.Tree.{StatementTree, StatementTrees, CaseTree, CaseTrees, trees_of, cases_of, empty, block}
 use Rattle.statements.specs.Tree.{text_alone, print, print_return, new_line, if_then, if_else, while_do, do_until}
 use Rattle.statements.specs.Tree.{for_loop, switch_on, break_at, continue_at, return_alone, return_value, return_true}
-use Rattle.statements.specs.Tree.{return_false, quit, effect, stop, next, no_case, default_case, case}
+use Rattle.statements.specs.Tree.{return_false, quit, read_line, effect, stop, next, no_case, default_case, case}
 use Rattle.statements.specs.Grammar.{has_effect, else_follows, effect_or_none, IsOptional, optional_none}
 use Rattle.statements.specs.Grammar.{optional_some, IsItem, item_text, item_character, item_number, IsItems}
 use Rattle.statements.specs.Grammar.{items_last, items_comma, IsS, s_empty, s_block, s_text, s_print, s_print_ret}
 use Rattle.statements.specs.Grammar.{s_new_line, s_if, s_if_else, s_while, s_do, s_for, s_switch, s_break, s_continue}
-use Rattle.statements.specs.Grammar.{s_return, s_return_value, s_rtrue, s_rfalse, s_quit, s_effect, IsSs, ss_stop}
-use Rattle.statements.specs.Grammar.{ss_next, IsCases, cases_none, cases_default, cases_next, item_nesting}
+use Rattle.statements.specs.Grammar.{s_return, s_return_value, s_rtrue, s_rfalse, s_quit, s_read, s_effect, IsSs}
+use Rattle.statements.specs.Grammar.{ss_stop, ss_next, IsCases, cases_none, cases_default, cases_next, item_nesting}
 use Rattle.statements.specs.Grammar.{items_nesting, optional_nesting, statement_nesting, inside_nesting}
 use Rattle.statements.specs.Grammar.{cases_nesting, body_nesting}
 use Rattle.statements.specs.Nesting.{begins_statement, begins_in_case}
-use Rattle.statements.specs.Parse.{as_long, repeated, begins_value, ranges, ended, cast, value, item, items, printed}
-use Rattle.statements.specs.Parse.{enclosed_condition, optional, optional_effect, heading, heading_in}
+use Rattle.statements.specs.Parse.{as_long, repeated, begins_value, ranges, named, ended, line_read, cast, value, item, items}
+use Rattle.statements.specs.Parse.{printed, enclosed_condition, optional, optional_effect, heading, heading_in}
 use Rattle.statements.specs.Parse.{enclosed_heading, returned, alone, choice, repetition, entered, until, iteration}
 use Rattle.statements.specs.Parse.{one_case, cases, otherwise, selection, braced, statement_over, inside, braces}
 use Rattle.statements.specs.Parse.{bodies, statement, statements}
@@ -221,6 +221,13 @@ module _ (d : ℕ) where
   unfolding statement statement_over
   step_quit p q r = at_once (step_ended quit q r)
 
+  step_read : (p q o j : Position) (a b : List ℕ) (r : List Lexeme)
+      → Limited (statement d (reserved w.Read p ∷ name a q ∷ name b o ∷ sign s.Semicolon j ∷ r)) d 0
+      (read_line (record { text = a; position = q }) (record { text = b; position = o })) r
+  unfolding statement statement_over line_read named
+  step_read p q o j a b r = at_once
+      (step_ended (read_line (record { text = a; position = q }) (record { text = b; position = o })) j r)
+
   step_return : (p q : Position) (r : List Lexeme)
       → Limited (statement d (reserved w.Return p ∷ sign s.Semicolon q ∷ r)) d 0 return_alone r
   unfolding statement statement_over returned
@@ -348,6 +355,7 @@ module _ (d : ℕ) where
   statement_of (name f p ∷ ts) e = refl
   statement_of (number n p ∷ ts) e = refl
   statement_of (character c p ∷ ts) e = refl
+  statement_of (dictionary_word f p ∷ ts) e = refl
   statement_of (reserved w.True p ∷ ts) e = refl
   statement_of (reserved w.False p ∷ ts) e = refl
   statement_of (reserved w.Nothing p ∷ ts) e = refl
@@ -374,6 +382,7 @@ unfolding begins_statement
 expression_statement (name f p) e = refl
 expression_statement (number n p) e = refl
 expression_statement (character c p) e = refl
+expression_statement (dictionary_word f p) e = refl
 expression_statement (reserved w.True p) e = refl
 expression_statement (reserved w.False p) e = refl
 expression_statement (reserved w.Nothing p) e = refl
@@ -406,6 +415,7 @@ first_S (s_return_value c) = refl
 first_S s_rtrue = refl
 first_S s_rfalse = refl
 first_S s_quit = refl
+first_S s_read = refl
 first_S {ts} (s_effect c f) = expression_statement (head ts) (first_E c)
 
 -- ---- items, as long as one begins
@@ -539,6 +549,7 @@ mutual
   at_S (s_rtrue {r = r} {p = p} {q = q}) d = step_rtrue d p q r
   at_S (s_rfalse {r = r} {p = p} {q = q}) d = step_rfalse d p q r
   at_S (s_quit {r = r} {p = p} {q = q}) d = step_quit d p q r
+  at_S (s_read {r = r} {p = p} {q = q} {o = o} {j = j} {a = a} {b = b}) d = step_read d p q o j a b r
   at_S {ts} (s_effect {r = r} {q = q} c f) d = same (statement_of d ts (first_E c))
       (step_alone d q ts r f (at_E c d (omega arith)))
 

@@ -9,7 +9,7 @@ use Rattle.expressions.specs.Tree.{ExpressionTree}
 use Rattle.expressions.specs.Grammar.{IsE, e_plain, e_assign, IsE1, e1_plain, e1_logical, IsN1, n1_plain, n1_not}
 use Rattle.expressions.specs.Grammar.{IsE2, e2_plain, e2_compare, e2_equal, IsE3, e3_plain, e3_add, IsE4, e4_plain}
 use Rattle.expressions.specs.Grammar.{e4_scale, IsN4, n4_plain, n4_complement, IsE5, e5_plain, e5_index, IsU, u_plain}
-use Rattle.expressions.specs.Grammar.{u_minus, u_before, u_after, IsP, p_number, p_character, p_true, p_false}
+use Rattle.expressions.specs.Grammar.{u_minus, u_before, u_after, IsP, p_number, p_character, p_word, p_true, p_false}
 use Rattle.expressions.specs.Grammar.{p_nothing, p_name, p_call, p_call_with, p_parenthesised}
 use Rattle.expressions.specs.Nesting.{begins_expression}
 use Rattle.expressions.specs.Parse.{head, tail, is_sign, is_word}
@@ -19,8 +19,8 @@ use Rattle.statements.specs.Tree.{PrintItemTree, StatementTree, StatementTrees, 
 use Rattle.statements.specs.Grammar.{IsOptional, optional_none, optional_some, IsItem, item_text, item_character}
 use Rattle.statements.specs.Grammar.{item_number, IsItems, items_last, items_comma, IsS, s_empty, s_block, s_text}
 use Rattle.statements.specs.Grammar.{s_print, s_print_ret, s_new_line, s_if, s_if_else, s_while, s_do, s_for, s_switch}
-use Rattle.statements.specs.Grammar.{s_break, s_continue, s_return, s_return_value, s_rtrue, s_rfalse, s_quit, s_effect}
-use Rattle.statements.specs.Grammar.{IsSs, ss_stop, ss_next, IsCases, cases_none, cases_default, cases_next}
+use Rattle.statements.specs.Grammar.{s_break, s_continue, s_return, s_return_value, s_rtrue, s_rfalse, s_quit, s_read}
+use Rattle.statements.specs.Grammar.{s_effect, IsSs, ss_stop, ss_next, IsCases, cases_none, cases_default, cases_next}
 use Rattle.statements.proofs.KnownValues.{short_Ranges}
 
 -- ---- each derivation takes a token
@@ -59,6 +59,7 @@ mutual
   short_S s_rtrue = omega arith
   short_S s_rfalse = omega arith
   short_S s_quit = omega arith
+  short_S s_read = omega arith
   short_S (s_effect c f) = omega (arith, short_E c)
 
   pub short_Ss : {ts r : List Lexeme} {xs : StatementTrees} → IsSs ts xs r → length r ≤ length ts
@@ -81,6 +82,7 @@ second_P : {ts r : List Lexeme} {e : ExpressionTree} → IsP ts e r → is_sign 
     → begins_expression (head (tail ts)) ≡ true
 second_P p_number h = absurd cc
 second_P p_character h = absurd cc
+second_P p_word h = absurd cc
 second_P p_true h = absurd cc
 second_P p_false h = absurd cc
 second_P p_nothing h = absurd cc

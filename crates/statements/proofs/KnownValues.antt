@@ -5,14 +5,14 @@ use Rattle.std.proofs.Common.{None, Result, Ok, refl, subst, arith}
 use Rattle.lexer.specs.declared.token.Position.{Position}
 use Rattle.lexer.specs.declared.token.Sign.TheVariants as s
 use Rattle.lexer.specs.declared.token.Word.TheVariants as w
-use Rattle.lexer.specs.Token.{Lexeme, name, number, character, reserved, sign}
+use Rattle.lexer.specs.Token.{Lexeme, name, number, character, dictionary_word, reserved, sign}
 use Rattle.expressions.specs.declared.error.Fault.{Fault}
 use Rattle.expressions.specs.Parse.{◌>>=◌, head, tail, is_sign, is_word, further, list}
 use Rattle.expressions.proofs.Judged.{Judged, judged_read, judged_grammar, judged_then, judged_by}
 use Rattle.expressions.proofs.Repeated.{list_judged}
 use Rattle.expressions.proofs.Tokens.{at_word, is_that_sign}
-use Rattle.statements.specs.Tree.{LiteralTree, number_value, named_value, RangeTree}
-use Rattle.statements.specs.Grammar.{IsK, k_number, k_negative, k_character, k_true, k_false, k_nothing, k_name}
+use Rattle.statements.specs.Tree.{LiteralTree, number_value, word_value, named_value, RangeTree}
+use Rattle.statements.specs.Grammar.{IsK, k_number, k_negative, k_character, k_word, k_true, k_false, k_nothing, k_name}
 use Rattle.statements.specs.Grammar.{IsRange, range_alone, range_to, IsRanges, ranges_last, ranges_comma}
 use Rattle.statements.specs.Nesting.{goes_on_in_case, begins_case}
 use Rattle.statements.specs.Parse.{known_value, begins_value, range, ranges}
@@ -23,6 +23,7 @@ pub known_judged : (ts : List Lexeme) → Judged (λ k r. IsK ts k r) ⊥ (known
 unfolding known_value
 known_judged (number n p ∷ ts) = judged_read (number_value n) ts k_number
 known_judged (character c p ∷ ts) = judged_read (number_value c) ts k_character
+known_judged (dictionary_word f p ∷ ts) = judged_read (word_value f) ts k_word
 known_judged (reserved w.True p ∷ ts) = judged_read (number_value 1) ts k_true
 known_judged (reserved w.False p ∷ ts) = judged_read (number_value 0) ts k_false
 known_judged (reserved w.Nothing p ∷ ts) = judged_read (number_value 0) ts k_nothing
@@ -58,6 +59,7 @@ pub short_K : {ts r : List Lexeme} {k : LiteralTree} → IsK ts k r → length r
 short_K k_number = omega arith
 short_K k_negative = omega arith
 short_K k_character = omega arith
+short_K k_word = omega arith
 short_K k_true = omega arith
 short_K k_false = omega arith
 short_K k_nothing = omega arith
@@ -78,6 +80,7 @@ unfolding known_value
 known_read k_number = refl
 known_read k_negative = refl
 known_read k_character = refl
+known_read k_word = refl
 known_read k_true = refl
 known_read k_false = refl
 known_read k_nothing = refl
@@ -117,6 +120,7 @@ pub begins_K : {ts r : List Lexeme} {k : LiteralTree} → IsK ts k r → begins_
 begins_K k_number = refl
 begins_K k_negative = refl
 begins_K k_character = refl
+begins_K k_word = refl
 begins_K k_true = refl
 begins_K k_false = refl
 begins_K k_nothing = refl
@@ -136,6 +140,7 @@ unfolding begins_case
 case_K k_number e = e
 case_K k_negative e = e
 case_K k_character e = e
+case_K k_word e = e
 case_K k_true e = e
 case_K k_false e = e
 case_K k_nothing e = e

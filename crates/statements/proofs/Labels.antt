@@ -14,13 +14,13 @@ use Rattle.expressions.specs.Tree.{ExpressionTree}
 use Rattle.expressions.specs.Grammar.{IsE, e_plain, e_assign, IsE1, e1_plain, e1_logical, IsN1, n1_plain, n1_not}
 use Rattle.expressions.specs.Grammar.{IsE2, e2_plain, e2_compare, e2_equal, IsE3, e3_plain, e3_add, IsE4, e4_plain}
 use Rattle.expressions.specs.Grammar.{e4_scale, IsN4, n4_plain, n4_complement, IsE5, e5_plain, e5_index, IsU, u_plain}
-use Rattle.expressions.specs.Grammar.{u_minus, u_before, u_after, IsP, p_number, p_character, p_true, p_false}
+use Rattle.expressions.specs.Grammar.{u_minus, u_before, u_after, IsP, p_number, p_character, p_word, p_true, p_false}
 use Rattle.expressions.specs.Grammar.{p_nothing, p_name, p_call, p_call_with, p_parenthesised}
 use Rattle.expressions.specs.Parse.{head}
 use Rattle.statements.specs.Tree.{StatementTree}
 use Rattle.statements.specs.Grammar.{IsS, s_empty, s_block, s_text, s_print, s_print_ret, s_new_line, s_if, s_if_else}
 use Rattle.statements.specs.Grammar.{s_while, s_do, s_for, s_switch, s_break, s_continue, s_return, s_return_value}
-use Rattle.statements.specs.Grammar.{s_rtrue, s_rfalse, s_quit, s_effect}
+use Rattle.statements.specs.Grammar.{s_rtrue, s_rfalse, s_quit, s_read, s_effect}
 use Rattle.statements.specs.Nesting.{goes_on_in_case, begins_case}
 
 -- ---- operators
@@ -86,6 +86,7 @@ case_P : {ts r : List Lexeme} {e : ExpressionTree} → IsP ts e r → goes_on_in
 unfolding begins_case
 case_P p_number h = h
 case_P p_character h = h
+case_P p_word h = h
 case_P p_true h = h
 case_P p_false h = h
 case_P p_nothing h = h
@@ -168,4 +169,5 @@ case_S (s_return_value c) = refl
 case_S s_rtrue = refl
 case_S s_rfalse = refl
 case_S s_quit = refl
+case_S s_read = refl
 case_S (s_effect c f) = case_E c refl

@@ -1,4 +1,5 @@
 pub mod Shapes
+pub mod NamesRead
 pub mod Inside
 pub mod Cases
 pub mod Loops

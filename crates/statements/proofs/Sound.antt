@@ -6,7 +6,7 @@ use Rattle.lexer.specs.declared.token.Position.{Position}
 use Rattle.lexer.specs.declared.token.Sign.{Sign}
 use Rattle.lexer.specs.declared.token.Sign.TheVariants as s
 use Rattle.lexer.specs.declared.token.Word.TheVariants as w
-use Rattle.lexer.specs.Token.{Lexeme, text, reserved, sign, position_of}
+use Rattle.lexer.specs.Token.{Lexeme, name, text, reserved, sign, position_of}
 use Rattle.expressions.specs.Tree.{ExpressionTree}
 use Rattle.expressions.specs.Grammar.{IsE, nesting}
 use Rattle.expressions.specs.Nesting.{DeepE}
@@ -21,13 +21,14 @@ use Rattle.expressions.proofs.Sound.{judged_E, judged_whole}
 use Rattle.statements.specs.Tree.{HeadingTree, PrintItemTree, text_item, character_item, number_item, StatementTree}
 use Rattle.statements.specs.Tree.{CaseTree, trees_of, cases_of, empty, block, text_alone, print, print_return, new_line}
 use Rattle.statements.specs.Tree.{if_then, if_else, while_do, do_until, for_loop, switch_on, break_at, continue_at}
-use Rattle.statements.specs.Tree.{return_alone, return_value, return_true, return_false, quit, effect, default_case}
+use Rattle.statements.specs.Tree.{return_alone, return_value, return_true, return_false, quit, read_line, effect}
+use Rattle.statements.specs.Tree.{default_case}
 use Rattle.statements.specs.Grammar.{has_effect, else_follows, effect_or_none, IsRanges, IsOptional, optional_none}
 use Rattle.statements.specs.Grammar.{optional_some, IsItem, item_text, item_character, item_number, IsItems}
 use Rattle.statements.specs.Grammar.{items_last, items_comma, IsS, s_empty, s_block, s_text, s_print, s_print_ret}
 use Rattle.statements.specs.Grammar.{s_new_line, s_if, s_if_else, s_while, s_do, s_for, s_switch, s_break, s_continue}
-use Rattle.statements.specs.Grammar.{s_return, s_return_value, s_rtrue, s_rfalse, s_quit, s_effect, IsSs, ss_stop}
-use Rattle.statements.specs.Grammar.{ss_next, IsCases, cases_none, cases_default, cases_next, item_nesting}
+use Rattle.statements.specs.Grammar.{s_return, s_return_value, s_rtrue, s_rfalse, s_quit, s_read, s_effect, IsSs}
+use Rattle.statements.specs.Grammar.{ss_stop, ss_next, IsCases, cases_none, cases_default, cases_next, item_nesting}
 use Rattle.statements.specs.Grammar.{items_nesting, optional_nesting, statement_nesting, inside_nesting}
 use Rattle.statements.specs.Grammar.{cases_nesting, body_nesting}
 use Rattle.statements.specs.Nesting.{begins_statement, begins_in_case, DeepItem, deep_item_parenthesis}
@@ -43,12 +44,13 @@ use Rattle.statements.specs.Nesting.{deep_inside_begins, deep_inside_first, deep
 use Rattle.statements.specs.Nesting.{deep_cases_first, deep_cases_next, deep_cases_default, DeepInCase}
 use Rattle.statements.specs.Nesting.{deep_in_case_begins, deep_in_case_first, deep_in_case_next, DeepSs}
 use Rattle.statements.specs.Nesting.{deep_ss_first, deep_ss_next}
-use Rattle.statements.specs.Parse.{as_long, repeated, begins_value, ended, cast, value, item, items, printed}
-use Rattle.statements.specs.Parse.{enclosed_condition, optional, optional_effect, heading, heading_in}
+use Rattle.statements.specs.Parse.{as_long, repeated, begins_value, ended, line_read, cast, value, item, items}
+use Rattle.statements.specs.Parse.{printed, enclosed_condition, optional, optional_effect, heading, heading_in}
 use Rattle.statements.specs.Parse.{enclosed_heading, returned, alone, choice, repetition, entered, until, iteration}
 use Rattle.statements.specs.Parse.{one_case, cases, otherwise, selection, braced, statement_over, inside}
 use Rattle.statements.specs.Parse.{braces, bodies, statement, statements}
 use Rattle.statements.proofs.KnownValues.{ranges_judged}
+use Rattle.statements.proofs.NamesRead.{named_judged}
 
 -- one nesting further in: at its first token, or behind that
 deeper : (D E : ℕ → Type 0) (d : ℕ) → E 1 → ((n : ℕ) → D n → E (suc n)) → (d ≡ 0) ⊎ D d → E (suc d)
@@ -198,6 +200,20 @@ returned_judged d p ts =
     (λ e. judged_then _ (judged_E d ts)
     (λ a r h. ended_judged (return_value p a) r (λ q u x. (s_return_value (subst (λ v. IsE ts a v) x h.0), h.1)))
     (λ x. deep_s_return x))
+
+read_judged : (d : ℕ) (p : Position) (ts : List Lexeme)
+    → Judged (λ x r. IsS (reserved w.Read p ∷ ts) x r × (statement_nesting x ≤ d))
+    (DeepS (suc d) (reserved w.Read p ∷ ts)) (line_read ts)
+unfolding line_read
+read_judged d p ts =
+    judged_then _ (named_judged ts)
+    (λ a m h. judged_then _ (named_judged m)
+    (λ b u g. ended_judged (read_line a b) u
+    (λ j r e.
+    let at = h ∙ ap (λ us. name a.text a.position ∷ us) (g ∙ ap (λ us. name b.text b.position ∷ us) e) in
+    (subst (λ us. IsS (reserved w.Read p ∷ us) (read_line a b) r) (sym at) s_read, omega arith)))
+    (λ x. absurd x))
+    (λ x. absurd x)
 
 alone_judged : (d : ℕ) (ts : List Lexeme) → Judged (λ x r. IsS ts x r × (statement_nesting x ≤ d)) (DeepS (suc d) ts)
     (alone d ts)
@@ -613,6 +629,7 @@ module _ (d : ℕ) (inner : Inner d) where
       (λ q r e. (subst (λ u. IsS (reserved w.Rfalse p ∷ u) return_false r) (sym e) s_rfalse, omega arith))
   over_judged (reserved w.Quit p ∷ ts) = ended_judged quit ts
       (λ q r e. (subst (λ u. IsS (reserved w.Quit p ∷ u) quit r) (sym e) s_quit, omega arith))
+  over_judged (reserved w.Read p ∷ ts) = read_judged d p ts
   over_judged ts = alone_judged d ts
 
   -- the statement that begins is too deep, or something in it is

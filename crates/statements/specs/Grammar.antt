@@ -5,14 +5,15 @@ use Rattle.std.specs.Prelude.{◌≡◌, ◌-◌, ◌%◌, ℕ, suc, max, Bool, 
 use Rattle.lexer.specs.declared.token.Position.{Position}
 use Rattle.lexer.specs.declared.token.Sign.TheVariants as s
 use Rattle.lexer.specs.declared.token.Word.TheVariants as w
-use Rattle.lexer.specs.Token.{Lexeme, name, number, text, character, reserved, sign, position_of}
+use Rattle.lexer.specs.Token.{Lexeme, name, number, text, character, dictionary_word, reserved, sign, position_of}
 use Rattle.expressions.specs.Tree.{ExpressionTree, call, parenthesised, step_before, step_after, assign}
 use Rattle.expressions.specs.Grammar.{IsE, nesting}
-use Rattle.statements.specs.Tree.{LiteralTree, number_value, named_value, RangeTree, PrintItemTree, text_item}
-use Rattle.statements.specs.Tree.{character_item, number_item, StatementTree, StatementTrees, CaseTrees, empty, block}
-use Rattle.statements.specs.Tree.{text_alone, print, print_return, new_line, if_then, if_else, while_do, do_until}
-use Rattle.statements.specs.Tree.{for_loop, switch_on, break_at, continue_at, return_alone, return_value, return_true}
-use Rattle.statements.specs.Tree.{return_false, quit, effect, stop, next, no_case, default_case, case}
+use Rattle.statements.specs.Tree.{LiteralTree, number_value, word_value, named_value, RangeTree, PrintItemTree}
+use Rattle.statements.specs.Tree.{text_item, character_item, number_item, StatementTree, StatementTrees, CaseTrees}
+use Rattle.statements.specs.Tree.{empty, block, text_alone, print, print_return, new_line, if_then, if_else, while_do}
+use Rattle.statements.specs.Tree.{do_until, for_loop, switch_on, break_at, continue_at, return_alone, return_value}
+use Rattle.statements.specs.Tree.{return_true, return_false, quit, read_line, effect, stop, next, no_case, default_case}
+use Rattle.statements.specs.Tree.{case}
 
 -- an expression that can stand alone: parentheses apart, its root is an assignment, a step or a call
 abbrev pub has_effect : ExpressionTree → Bool
@@ -28,12 +29,13 @@ abbrev pub else_follows : List Lexeme → Bool
 else_follows (reserved w.Else p ∷ ts) = true
 else_follows _ = false
 
--- K = ["-"] number | char | name | "true" | "false" | "nothing"
+-- K = ["-"] number | char | word | name | "true" | "false" | "nothing"
 pub data IsK : List Lexeme → LiteralTree → List Lexeme → Type 0 where
   k_number : {r : List Lexeme} {p : Position} {n : ℕ} → IsK (number n p ∷ r) (number_value n) r
   k_negative : {r : List Lexeme} {p q : Position} {n : ℕ}
       → IsK (sign s.Minus p ∷ number n q ∷ r) (number_value ((65536 - n) % 65536)) r
   k_character : {r : List Lexeme} {p : Position} {c : ℕ} → IsK (character c p ∷ r) (number_value c) r
+  k_word : {r : List Lexeme} {p : Position} {s : List ℕ} → IsK (dictionary_word s p ∷ r) (word_value s) r
   k_true : {r : List Lexeme} {p : Position} → IsK (reserved w.True p ∷ r) (number_value 1) r
   k_false : {r : List Lexeme} {p : Position} → IsK (reserved w.False p ∷ r) (number_value 0) r
   k_nothing : {r : List Lexeme} {p : Position} → IsK (reserved w.Nothing p ∷ r) (number_value 0) r
@@ -81,7 +83,8 @@ mutual
   -- S = ";" | "{" {S} "}" | text ";" | ("print" | "print_ret") Item {"," Item} ";" | "new_line" ";"
   -- | "if" "(" E ")" S ["else" S] | "while" "(" E ")" S | "do" S "until" "(" E ")" ";"
   -- | "for" "(" [X] ":" [E] ":" [X] ")" S | "switch" "(" E ")" "{" {Case} ["default" ":" {S}] "}"
-  -- | "break" ";" | "continue" ";" | "return" [E] ";" | "rtrue" ";" | "rfalse" ";" | "quit" ";" | X ";"
+  -- | "break" ";" | "continue" ";" | "return" [E] ";" | "rtrue" ";" | "rfalse" ";" | "quit" ";"
+  -- | "read" name name ";" | X ";"
   pub data IsS : List Lexeme → StatementTree → List Lexeme → Type 0 where
     s_empty : {r : List Lexeme} {p : Position} → IsS (sign s.Semicolon p ∷ r) empty r
     s_block : {m r : List Lexeme} {p q : Position} {xs : StatementTrees} → IsSs m xs (sign s.CloseBrace q ∷ r)
@@ -121,6 +124,9 @@ mutual
     s_rtrue : {r : List Lexeme} {p q : Position} → IsS (reserved w.Rtrue p ∷ sign s.Semicolon q ∷ r) return_true r
     s_rfalse : {r : List Lexeme} {p q : Position} → IsS (reserved w.Rfalse p ∷ sign s.Semicolon q ∷ r) return_false r
     s_quit : {r : List Lexeme} {p q : Position} → IsS (reserved w.Quit p ∷ sign s.Semicolon q ∷ r) quit r
+    s_read : {r : List Lexeme} {p q o j : Position} {a b : List ℕ}
+        → IsS (reserved w.Read p ∷ name a q ∷ name b o ∷ sign s.Semicolon j ∷ r)
+        (read_line (record { text = a; position = q }) (record { text = b; position = o })) r
     s_effect : {m r : List Lexeme} {t : Lexeme} {q : Position} {e : ExpressionTree}
         → IsE (t ∷ m) e (sign s.Semicolon q ∷ r) → has_effect e ≡ true → IsS (t ∷ m) (effect (position_of t) e) r
 
@@ -177,6 +183,7 @@ abbrev mutual
   statement_nesting return_true = 0
   statement_nesting return_false = 0
   statement_nesting quit = 0
+  statement_nesting (read_line a b) = 0
   statement_nesting (effect p e) = nesting e
 
   -- of statements inside a statement

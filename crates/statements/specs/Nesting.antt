@@ -5,11 +5,12 @@
 -- lies before that token in its parts is complete. A brace and the parenthesis of a condition, of the parts of a `for`
 -- or of `(char)` stand one deeper than what holds them, and so does the first token of a statement inside a statement.
 -- What begins a case is no statement, and stands no deeper than its brace.
-use Rattle.std.specs.Prelude.{◌≡◌, ◌&&◌, not, Bool, true, false, ℕ, suc, List, ◌∷◌, Option}
+use Rattle.std.specs.Prelude.{◌≡◌, ◌&&◌, ◌||◌, not, Bool, true, false, ℕ, suc, List, ◌∷◌, Option}
 use Rattle.lexer.specs.declared.token.Position.{Position}
 use Rattle.lexer.specs.declared.token.Sign.TheVariants as s
+use Rattle.lexer.specs.declared.token.Word.{Word}
 use Rattle.lexer.specs.declared.token.Word.TheVariants as w
-use Rattle.lexer.specs.Token.{Lexeme, name, number, text, character, reserved, sign}
+use Rattle.lexer.specs.Token.{Lexeme, name, number, text, character, dictionary_word, reserved, sign}
 use Rattle.expressions.specs.Tree.{ExpressionTree}
 use Rattle.expressions.specs.Grammar.{IsE}
 use Rattle.expressions.specs.Nesting.{begins_expression, DeepE}
@@ -17,26 +18,36 @@ use Rattle.expressions.specs.Parse.{head, tail}
 use Rattle.statements.specs.Tree.{RangeTree, PrintItemTree, StatementTree, StatementTrees}
 use Rattle.statements.specs.Grammar.{IsRanges, IsOptional, effect_or_none, IsItem, IsS, IsSs}
 
+-- the words with which a statement can begin
+abbrev pub word_opens : Word → Bool
+word_opens w.Print = true
+word_opens w.PrintRet = true
+word_opens w.NewLine = true
+word_opens w.If = true
+word_opens w.While = true
+word_opens w.Do = true
+word_opens w.For = true
+word_opens w.Switch = true
+word_opens w.Break = true
+word_opens w.Continue = true
+word_opens w.Return = true
+word_opens w.Rtrue = true
+word_opens w.Rfalse = true
+word_opens w.Quit = true
+word_opens w.Read = true
+word_opens _ = false
+
+-- the tokens with which a statement can begin that is no expression alone
+abbrev pub opens_statement : Lexeme → Bool
+opens_statement (text _ _) = true
+opens_statement (sign s.Semicolon _) = true
+opens_statement (sign s.OpenBrace _) = true
+opens_statement (reserved word _) = word_opens word
+opens_statement _ = false
+
 -- the tokens with which a statement can begin
 unfoldable pub begins_statement : Lexeme → Bool
-begins_statement (text _ _) = true
-begins_statement (sign s.Semicolon _) = true
-begins_statement (sign s.OpenBrace _) = true
-begins_statement (reserved w.Print _) = true
-begins_statement (reserved w.PrintRet _) = true
-begins_statement (reserved w.NewLine _) = true
-begins_statement (reserved w.If _) = true
-begins_statement (reserved w.While _) = true
-begins_statement (reserved w.Do _) = true
-begins_statement (reserved w.For _) = true
-begins_statement (reserved w.Switch _) = true
-begins_statement (reserved w.Break _) = true
-begins_statement (reserved w.Continue _) = true
-begins_statement (reserved w.Return _) = true
-begins_statement (reserved w.Rtrue _) = true
-begins_statement (reserved w.Rfalse _) = true
-begins_statement (reserved w.Quit _) = true
-begins_statement t = begins_expression t
+begins_statement t = opens_statement t || begins_expression t
 
 -- the tokens that can stand behind a value at the beginning of a case
 abbrev pub goes_on_in_case : Lexeme → Bool
@@ -49,6 +60,7 @@ goes_on_in_case _ = false
 abbrev pub case_begins : Lexeme → Lexeme → Lexeme → Bool
 case_begins (number _ _) t u = goes_on_in_case t
 case_begins (character _ _) t u = goes_on_in_case t
+case_begins (dictionary_word _ _) t u = goes_on_in_case t
 case_begins (reserved w.True _) t u = goes_on_in_case t
 case_begins (reserved w.False _) t u = goes_on_in_case t
 case_begins (reserved w.Nothing _) t u = goes_on_in_case t

@@ -6,17 +6,17 @@ use Rattle.lexer.specs.declared.token.Position.{Position}
 use Rattle.lexer.specs.declared.token.Sign.{Sign}
 use Rattle.lexer.specs.declared.token.Sign.TheVariants as s
 use Rattle.lexer.specs.declared.token.Word.TheVariants as w
-use Rattle.lexer.specs.Token.{Lexeme, name, number, text, character, reserved, sign, position_of}
+use Rattle.lexer.specs.Token.{Lexeme, name, number, text, character, dictionary_word, reserved, sign, position_of}
 use Rattle.expressions.specs.declared.error.Fault.{Fault}
 use Rattle.expressions.specs.declared.error.Fault.TheVariants.{Grammar, Deep}
-use Rattle.expressions.specs.Tree.{ExpressionTree}
+use Rattle.expressions.specs.Tree.{NameTree, ExpressionTree}
 use Rattle.expressions.specs.Parse.{Parse, ◌>>=◌, head, tail, is_sign, is_word, expect, expect_word, list, whole}
 use Rattle.expressions.specs.Parse.{nested, expression}
-use Rattle.statements.specs.Tree.{LiteralTree, number_value, named_value, RangeTree, HeadingTree, PrintItemTree}
-use Rattle.statements.specs.Tree.{text_item, character_item, number_item, StatementTree, CaseTree, trees_of, cases_of}
-use Rattle.statements.specs.Tree.{empty, block, text_alone, print, print_return, new_line, if_then, if_else, while_do}
-use Rattle.statements.specs.Tree.{do_until, for_loop, switch_on, break_at, continue_at, return_alone, return_value}
-use Rattle.statements.specs.Tree.{return_true, return_false, quit, effect}
+use Rattle.statements.specs.Tree.{LiteralTree, number_value, word_value, named_value, RangeTree, HeadingTree}
+use Rattle.statements.specs.Tree.{PrintItemTree, text_item, character_item, number_item, StatementTree, CaseTree}
+use Rattle.statements.specs.Tree.{trees_of, cases_of, empty, block, text_alone, print, print_return, new_line, if_then}
+use Rattle.statements.specs.Tree.{if_else, while_do, do_until, for_loop, switch_on, break_at, continue_at}
+use Rattle.statements.specs.Tree.{return_alone, return_value, return_true, return_false, quit, read_line, effect}
 use Rattle.statements.specs.Grammar.{has_effect, effect_or_none, else_follows}
 use Rattle.statements.specs.Nesting.{begins_statement, begins_in_case}
 
@@ -31,6 +31,16 @@ as_long begins item (suc n) ts =
 unfoldable pub repeated : {A : Type 0} → (Lexeme → Bool) → Parse A → ℕ → Parse (List A)
 repeated begins item n ts = as_long (λ us. begins (head us)) item n ts
 
+-- ---- names
+
+abbrev pub named_on : Lexeme → Parse NameTree
+named_on (name n p) ts = Ok (record { text = n; position = p }, ts)
+named_on _ ts = Err Grammar
+
+-- the name that comes next
+unfoldable pub named : Parse NameTree
+named ts = named_on (head ts) (tail ts)
+
 -- ---- values that are known before a story runs
 
 abbrev pub negative_on : Lexeme → Parse LiteralTree
@@ -40,6 +50,7 @@ negative_on _ ts = Err Grammar
 abbrev pub value_on : Lexeme → Parse LiteralTree
 value_on (number n p) ts = Ok (number_value n, ts)
 value_on (character c p) ts = Ok (number_value c, ts)
+value_on (dictionary_word f p) ts = Ok (word_value f, ts)
 value_on (reserved w.True p) ts = Ok (number_value 1, ts)
 value_on (reserved w.False p) ts = Ok (number_value 0, ts)
 value_on (reserved w.Nothing p) ts = Ok (number_value 0, ts)
@@ -53,6 +64,7 @@ known_value ts = value_on (head ts) (tail ts)
 abbrev pub begins_value : Lexeme → Bool
 begins_value (number _ _) = true
 begins_value (character _ _) = true
+begins_value (dictionary_word _ _) = true
 begins_value (reserved w.True _) = true
 begins_value (reserved w.False _) = true
 begins_value (reserved w.Nothing _) = true
@@ -80,6 +92,13 @@ opened (suc d) R = R
 -- a statement that is complete but for its `;`
 unfoldable pub ended : StatementTree → Parse StatementTree
 ended x ts = expect s.Semicolon ts >>= λ r. Ok (x, r)
+
+-- the two names behind `read`
+unfoldable pub line_read : Parse StatementTree
+line_read ts = do
+  a ← named ts
+  b ← named a.1
+  ended (read_line a.0 b.0) b.1
 
 -- the statements of a block, with its second brace
 abbrev pub block_of : List StatementTree → Parse StatementTree
@@ -169,6 +188,7 @@ module _ (d : ℕ) where
   plain_on (reserved w.Rtrue p) ts = ended return_true (tail ts)
   plain_on (reserved w.Rfalse p) ts = ended return_false (tail ts)
   plain_on (reserved w.Quit p) ts = ended quit (tail ts)
+  plain_on (reserved w.Read p) ts = line_read (tail ts)
   plain_on _ ts = alone ts
 
 -- those parts in parentheses, where d nestings more may be opened

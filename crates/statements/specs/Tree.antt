@@ -16,6 +16,7 @@ use Rattle.statements.specs.declared.tree.Statement.TheOpen.{Statement-F}
 
 pub data LiteralTree : Type 0 where
   number_value : ℕ → LiteralTree
+  word_value : List ℕ → LiteralTree
   named_value : NameTree → LiteralTree
 
 pub record RangeTree : Type 0 where
@@ -56,6 +57,8 @@ mutual
     return_true : StatementTree
     return_false : StatementTree
     quit : StatementTree
+    -- a line is read: the array of its text, and that of its words
+    read_line : NameTree → NameTree → StatementTree
     effect : Position → ExpressionTree → StatementTree
 
   pub data StatementTrees : Type 0 where
@@ -72,6 +75,7 @@ mutual
 
 abbrev pub literal_tree : Literal → LiteralTree
 literal_tree (values.Number n) = number_value n
+literal_tree (values.Word s) = word_value s.now
 literal_tree (values.Named n) = named_value (name_tree n)
 
 abbrev pub range_tree : Range → RangeTree
@@ -124,6 +128,7 @@ layer (Statement-F.ReturnValue p e) = return_value p (expression_tree e.value)
 layer Statement-F.ReturnTrue = return_true
 layer Statement-F.ReturnFalse = return_false
 layer Statement-F.Quit = quit
+layer (Statement-F.Read a b) = read_line (name_tree a) (name_tree b)
 layer (Statement-F.Effect p e) = effect p (expression_tree e.value)
 
 abbrev pub statement_tree : Statement → StatementTree

@@ -3,12 +3,14 @@
 
 mod headings;
 mod items;
+mod names;
 mod nested;
 mod parts;
 mod simple;
 mod tree;
 mod values;
 
+pub use names::named;
 pub use nested::statements;
 pub use tree::{Heading, Literal, PrintItem, Range, Statement};
 pub use values::{begins_value, known_value};

@@ -19,20 +19,48 @@ use expressions::{
 use lexer::{Kind, Position, Sign, Token, Word};
 use std::alloc::Global;
 
+// Whether the word begins a statement.
+fn word_opens(word: Word) -> bool
+    ensures { result ≡ nesting.word_opens word }
+{
+    matches!(
+        word,
+        Word::Print
+            | Word::PrintRet
+            | Word::NewLine
+            | Word::If
+            | Word::While
+            | Word::Do
+            | Word::For
+            | Word::Switch
+            | Word::Break
+            | Word::Continue
+            | Word::Return
+            | Word::Rtrue
+            | Word::Rfalse
+            | Word::Quit
+            | Word::Read
+    )
+}
+
+// Whether the token begins a statement that is no expression alone.
+fn opens_statement(token: Token<'_>) -> bool
+    ensures { result ≡ nesting.opens_statement (lexeme token.entry) }
+{
+    match token.kind {
+        Kind::Text(_) => true,
+        Kind::Sign(sign) => matches!(sign, Sign::Semicolon | Sign::OpenBrace),
+        Kind::Reserved(word) => word_opens(word),
+        _ => false,
+    }
+}
+
 // Whether a statement can begin with the token.
 #[tactic(auto, unfolding(crate::specs::Nesting::begins_statement))]
 fn begins_statement(token: Token<'_>) -> bool
     ensures { result ≡ nesting.begins_statement (lexeme token.entry) }
 {
-    match token.kind {
-        Kind::Text(_) => true,
-        Kind::Sign(Sign::Semicolon | Sign::OpenBrace) => true,
-        Kind::Reserved(Word::Print | Word::PrintRet | Word::NewLine) => true,
-        Kind::Reserved(Word::If | Word::While | Word::Do | Word::For | Word::Switch) => true,
-        Kind::Reserved(Word::Break | Word::Continue) => true,
-        Kind::Reserved(Word::Return | Word::Rtrue | Word::Rfalse | Word::Quit) => true,
-        _ => begins_expression(token),
-    }
+    opens_statement(token) || begins_expression(token)
 }
 
 // Whether a statement of a case can begin with these tokens: what begins the next case is none.
@@ -64,11 +92,12 @@ fn same<'t, 'a>(tokens: &'t [Token<'a>]) -> &'t [Token<'a>]
 /// S = ";" | "{" {S} "}" | text ";" | ("print" | "print_ret") Item {"," Item} ";" | "new_line" ";"
 ///   | "if" "(" E ")" S ["else" S] | "while" "(" E ")" S | "do" S "until" "(" E ")" ";"
 ///   | "for" "(" [X] ":" [E] ":" [X] ")" S | "switch" "(" E ")" "{" {Case} ["default" ":" {S}] "}"
-///   | "break" ";" | "continue" ";" | "return" [E] ";" | "rtrue" ";" | "rfalse" ";" | "quit" ";" | X ";"
+///   | "break" ";" | "continue" ";" | "return" [E] ";" | "rtrue" ";" | "rfalse" ";" | "quit" ";"
+///   | "read" name name ";" | X ";"
 /// Item = text | "(" "char" ")" E | E
 /// Case = Range {"," Range} ":" {S}
 /// Range = K ["to" K]
-/// K = ["-"] number | char | name | "true" | "false" | "nothing"
+/// K = ["-"] number | char | word | name | "true" | "false" | "nothing"
 /// ```
 ///
 /// where E is an expression and X one with an effect: an assignment, a step or a call, in parentheses or not. An `else`

@@ -12,6 +12,7 @@ ghost use Rattle.statements.specs.Tree.{statement_tree};
 ghost use Rattle.statements.specs.Parse as spec;
 
 use crate::items::items;
+use crate::names::named;
 use crate::parts::in_box;
 use crate::tree::Statement;
 use expressions::{
@@ -140,7 +141,24 @@ fn returned<'t, 'a>(
     }
 }
 
-//// Whether the expression can stand alone: parentheses apart, it is an assignment, a step or a call.
+/// What follows `read`.
+///
+/// # Errors
+///
+/// `Fault::Grammar` at the first token that is not what is wanted: a name, another, and `;`.
+#[tactic(auto, unfolding(crate::specs::Parse::line_read))]
+fn read<'t, 'a>(
+    alloc: Global,
+    tokens: &'t [Token<'a>],
+) -> Result<(Box<Statement<'a>>, &'t [Token<'a>]), ParseError>
+    ensures { Gives (λ x. (statement_tree x.0.value, lexemes x.1.now)) result (spec.line_read (lexemes tokens.now)) }
+{
+    let (text, rest) = named(tokens)?;
+    let (words, rest) = named(rest)?;
+    ended(alloc, Statement::Read(text, words), rest)
+}
+
+/// Whether the expression can stand alone: parentheses apart, it is an assignment, a step or a call.
 pub fn has_effect(e: &Expression<'_>) -> bool
     ensures { result ≡ grammar.has_effect (expression_tree e.now) }
 {
@@ -151,6 +169,7 @@ pub fn has_effect(e: &Expression<'_>) -> bool
         Expression::Assign(_, _, _) => true,
         Expression::Parenthesised(inner) => has_effect(inner),
         Expression::Constant(_) => false,
+        Expression::Word(_) => false,
         Expression::Named(_) => false,
         Expression::Index(_, _, _) => false,
         Expression::Prefixed(_, _) => false,
@@ -211,6 +230,7 @@ pub fn plain<'t, 'a>(
         Kind::Reserved(Word::Rtrue) => ended(alloc, Statement::ReturnTrue, rest),
         Kind::Reserved(Word::Rfalse) => ended(alloc, Statement::ReturnFalse, rest),
         Kind::Reserved(Word::Quit) => ended(alloc, Statement::Quit, rest),
+        Kind::Reserved(Word::Read) => read(alloc, rest),
         _ => alone(alloc, depth, tokens),
     }
 }

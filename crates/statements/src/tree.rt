@@ -9,6 +9,9 @@ pub enum Literal<'a> {
     /// A number, with its sign as a word; a character; `true` is 1, `false` and `nothing` are 0.
     Number(u16),
 
+    /// A dictionary word: the bytes of its token, capitals as they stand.
+    Word(&'a [u8]),
+
     /// The value of a name.
     Named(Name<'a>),
 }
@@ -79,6 +82,9 @@ pub enum Statement<'a> {
     ReturnTrue,
     ReturnFalse,
     Quit,
+
+    /// `read`: a line is read into the array of its text and the array of its words.
+    Read(Name<'a>, Name<'a>),
 
     /// An assignment, a step or a call.
     Effect(Position, Box<Expression<'a>>),

@@ -39,6 +39,7 @@ pub fn known_value<'t, 'a>(
     match first.kind {
         Kind::Number(number) => Ok((Literal::Number(number), rest)),
         Kind::Character(character) => Ok((Literal::Number(character as u16), rest)),
+        Kind::DictionaryWord(word) => Ok((Literal::Word(word), rest)),
         Kind::Reserved(Word::True) => Ok((Literal::Number(1), rest)),
         Kind::Reserved(Word::False) => Ok((Literal::Number(0), rest)),
         Kind::Reserved(Word::Nothing) => Ok((Literal::Number(0), rest)),
@@ -59,7 +60,7 @@ pub fn begins_value(token: Token<'_>) -> bool
     ensures { result ≡ spec.begins_value (lexeme token.entry) }
 {
     match token.kind {
-        Kind::Number(_) | Kind::Character(_) | Kind::Name(_) => true,
+        Kind::Number(_) | Kind::Character(_) | Kind::DictionaryWord(_) | Kind::Name(_) => true,
         Kind::Reserved(word) => matches!(word, Word::True | Word::False | Word::Nothing),
         Kind::Sign(sign) => matches!(sign, Sign::Minus),
         _ => false,
@@ -83,6 +84,7 @@ fn case_begins(first: Token<'_>, second: Token<'_>, third: Token<'_>) -> bool
 {
     match first.kind {
         Kind::Number(_) | Kind::Character(_) | Kind::Name(_) => goes_on_in_case(second),
+        Kind::DictionaryWord(_) => goes_on_in_case(second),
         Kind::Reserved(Word::True | Word::False | Word::Nothing) => goes_on_in_case(second),
         Kind::Sign(Sign::Minus) => match second.kind {
             Kind::Number(_) => goes_on_in_case(third),

@@ -17,24 +17,26 @@ use Rattle.syntax.specs.Laws.{PrintableTrees}
 use Rattle.zcore.specs.declared.header.Version.{Version}
 use Rattle.zcore.specs.Header.{scale_of, Reads}
 use Rattle.zcore.specs.declared.header.Header.{Header}
-use Rattle.checker.specs.declared.breach.Breach.{Breach}
-use Rattle.checker.specs.Accepted.{IsAccepted}
-use Rattle.checker.specs.Breaches.{IsAmong, IsFirst}
+use Rattle.names.specs.declared.breach.Breach.{Breach}
+use Rattle.meaning.specs.Accepted.{IsAccepted}
+use Rattle.names.specs.Breaches.{IsAmong, IsFirst}
 use Rattle.checker.specs.Laws.{AcceptedPrograms, PrintablePrograms}
-use Rattle.checker.specs.Printable.{HasPrintableTexts}
+use Rattle.meaning.specs.Printable.{HasPrintableTexts}
 use Rattle.checker.specs.Programs.{program_breaches, IsCheckedOf}
-use Rattle.checker.specs.Places.{routines_place}
-use Rattle.checker.specs.Resolved.{CheckedProgram, program_of}
-use Rattle.checker.specs.Sizes as checked
-use Rattle.code.specs.Laws.{CodePlays, Plays, IsSmall, SmallSourcesHaveSmallCode}
+use Rattle.meaning.specs.Places.{routines_place}
+use Rattle.meaning.specs.Resolved.{CheckedProgram, program_of}
+use Rattle.meaning.specs.Sizes as checked
+use Rattle.code.specs.Laws.{CodePlays, Plays}
+use Rattle.sizes.specs.Laws.{IsSmall, SmallSourcesHaveSmallCode}
 use Rattle.story.specs.Compiled.{IsTreeOf, IsStoryOf, Refuses, Compiles, lexemes_of, first_heavy, heavy_fault}
-use Rattle.story.specs.Compiled.{size_fault, fault}
+use Rattle.story.specs.Compiled.{NumbersKeys, size_fault, fault}
 use Rattle.story.specs.Compiled as spec
 use Rattle.story.specs.Layout.{addresses_in, greatest_word, story_of}
 use Rattle.story.specs.Laws.{StoriesHold}
 use Rattle.story.specs.Written.{Fits}
 use Rattle.story.proofs.Faults.{by_weight, size_faults, placed_of}
 use Rattle.story.proofs.Sizes.{stories_are_short, is_story}
+use Rattle.story.proofs.Numbered.{keys_numbered}
 
 -- Faults
 
@@ -143,6 +145,9 @@ module _ (accepted_programs : AcceptedPrograms) (printable_tokens : PrintableTok
         fits = sym (size_faults version p c is) ∙ sized;
         laid_out = laid ∙ ap (story_of version) is.program;
         reads = subst (λ b. (header : Header) × Reads b (Ok header)) (sym laid) held.0;
+        dictionary = subst (λ r. NumbersKeys bytes r) is.program
+            (subst (λ b. NumbersKeys b q) (sym laid)
+            (keys_numbered (story_of version q) q (addresses_in (scale_of version) q) placed held.1));
         plays = λ full lines. subst (λ r. Plays bytes r full lines) is.program
             (subst (λ b. Plays b q full lines) (sym laid) (plays full lines));
       }

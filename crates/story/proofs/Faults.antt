@@ -7,12 +7,12 @@ use Rattle.lexer.specs.declared.fault.SourceFault.{SourceFault}
 use Rattle.lexer.specs.declared.token.Position.{Position}
 use Rattle.zcore.specs.declared.header.Version.{Version}
 use Rattle.syntax.specs.Tree.{RoutineTree, ProgramTree}
-use Rattle.checker.specs.declared.checked.CheckedRoutine.{CheckedRoutine}
-use Rattle.checker.specs.Places.{routines_place}
-use Rattle.checker.specs.Resolved.{ProgramOf, CheckedProgram, title_of}
+use Rattle.meaning.specs.declared.checked.CheckedRoutine.{CheckedRoutine}
+use Rattle.meaning.specs.Places.{routines_place}
+use Rattle.meaning.specs.Resolved.{ProgramOf, CheckedProgram, title_of}
 use Rattle.checker.specs.Programs.{IsCheckedOf, resolve_program, routine_trees, title}
-use Rattle.checker.specs.Sizes.{greatest_weight}
-use Rattle.checker.specs.Sizes as checked
+use Rattle.meaning.specs.Sizes.{greatest_weight}
+use Rattle.meaning.specs.Sizes as checked
 use Rattle.story.specs.Compiled.{first_heavy, heavy_fault, size_fault}
 
 heavy_same : (rs : List RoutineTree) (cs : List CheckedRoutine) → map title_of cs ≡ map title rs

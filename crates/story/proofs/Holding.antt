@@ -12,26 +12,27 @@ use Rattle.zcore.specs.Header.{scale_of, version_number}
 use Rattle.zcore.specs.Parts.{scale_in, unpacked}
 use Rattle.zcore.specs.Text.{Holds, encoded}
 use Rattle.zcore.specs.Words.{packed}
-use Rattle.checker.specs.Resolved.{RoutineOf, ProgramOf}
-use Rattle.checker.specs.Accepted.{IsAccepted}
-use Rattle.checker.specs.Places.{arrays_place, start_place, routines_place}
-use Rattle.checker.specs.Meaning.{routine_at}
+use Rattle.tables.specs.Dictionary.{ReadsKeys}
+use Rattle.meaning.specs.Resolved.{RoutineOf, ProgramOf}
+use Rattle.meaning.specs.Accepted.{IsAccepted}
+use Rattle.meaning.specs.Places.{arrays_place, start_place, routines_place}
+use Rattle.meaning.specs.Meaning.{routine_at}
 use Rattle.items.specs.Items.{routine_items}
-use Rattle.checker.specs.World.{words_of}
-use Rattle.checker.specs.declared.cause.Cause.{Cause}
-use Rattle.checker.specs.declared.cause.Cause.TheVariants as causes
+use Rattle.meaning.specs.World.{words_of}
+use Rattle.meaning.specs.declared.cause.Cause.{Cause}
+use Rattle.meaning.specs.declared.cause.Cause.TheVariants as causes
 use Rattle.code.specs.Addresses.{Addresses, number_of}
 use Rattle.code.specs.Bytes.{code_size}
 use Rattle.code.specs.HeldProgram.{HoldsProgram, HoldsRoutine, HoldsText, fault_line, start_code, sizes_of}
 use Rattle.code.specs.HeldProgram.{offset_in}
 use Rattle.code.specs.Sizes.{routine_size}
 use Rattle.story.specs.Layout.{addresses_in, fault_texts, packed_addresses, parts_from, addresses_from, aligned}
-use Rattle.story.specs.Layout.{low_bytes, routine_bytes, story_of}
+use Rattle.story.specs.Layout.{greatest_word, low_bytes, routine_bytes, story_of}
 use Rattle.story.specs.Laws.{IsShort, StoriesHold}
 use Rattle.story.proofs.Parts.{whole, HasPartAt, holds_first, parts_rise, parts_stand, addresses_count}
 use Rattle.story.proofs.Lengths.{routine_length, sizes_are}
 use Rattle.story.proofs.Low.{global_stands, arrays_hold, high_stands, start_stands}
-use Rattle.story.proofs.Reading.{Says, behind_header, says, header_read, laid_length, laid_out, laid_read}
+use Rattle.story.proofs.Reading.{Says, behind_header, says, header_read, laid_length, laid_out, laid_read, laid_keys}
 
 -- Packed addresses
 
@@ -306,9 +307,9 @@ module _ (version : Version) (p : ProgramOf) where
   long : routines_place p ≤ length story
   long = omega (arith, laid_length version p main (parts_in version p))
 
-  holds : IsAccepted p → All (IsShort (sizes_of p)) p.routines → length story ≤ 65535 * scale_of version
-      → All (λ b. b < 256) story → HoldsProgram story a p
-  holds accepted small short bytes =
+  holds : IsAccepted p → routines_place p ≤ greatest_word → All (IsShort (sizes_of p)) p.routines
+      → length story ≤ 65535 * scale_of version → All (λ b. b < 256) story → HoldsProgram story a p
+  holds accepted placed small short bytes =
       let high_is : drop (routines_place p) story ≡ high = high_stands story p high main body_stands in
       record {
         byte_each = bytes;
@@ -332,6 +333,10 @@ module _ (version : Version) (p : ProgramOf) where
         arrays_each = array_found arrays_place p.arrays;
         arrays_above = omega (arith, said.globals);
         arrays_below = omega (arith, said.static_base);
+        dictionary_above = omega (arith, said.dictionary, said.static_base);
+        dictionary_there = said.dictionary;
+        keys = subst (λ at. ReadsKeys story at p.keys) (sym said.dictionary)
+            (laid_keys version p main (parts_in version p) placed accepted);
       }
 
 pub stories_hold : StoriesHold
@@ -339,7 +344,8 @@ unfolding story_of
 stories_hold version p is = (
   (
     header_read version p,
-    laid_read version p (slice_index (packed_addresses (scale_of version) p) p.main) (parts_in version p) is.placed,
+    laid_read version p (slice_index (packed_addresses (scale_of version) p) p.main) (parts_in version p) is.placed
+        is.accepted,
   ),
-  holds version p is.accepted is.short is.within is.bytes,
+  holds version p is.accepted is.placed is.short is.within is.bytes,
 )

@@ -10,9 +10,9 @@ use Rattle.zcore.specs.Text.{encoded}
 use Rattle.zcore.specs.Words.{packed}
 use Rattle.zcore.specs.declared.header.Version.{Version}
 use Rattle.zcore.specs.Header.{scale_of, version_number}
-use Rattle.checker.specs.declared.places.Places.{Places}
-use Rattle.checker.specs.Places.{header_size}
-use Rattle.checker.specs.Resolved.{ProgramOf}
+use Rattle.meaning.specs.declared.places.Places.{Places}
+use Rattle.meaning.specs.Places.{header_size}
+use Rattle.meaning.specs.Resolved.{ProgramOf}
 use Rattle.code.specs.Addresses.{Addresses}
 use Rattle.code.specs.HeldProgram.{start_code}
 use Rattle.code.specs.Written.{CodeOf}
@@ -99,11 +99,11 @@ all_joined a x c d e f g b b1 b2 b3 b4 b5 b6 b7 e1 e2 e3 e4 e5 e6 e7 =
 
 pub low_joined : (p : ProgramOf) (main : ℕ) (b b1 b2 b3 b4 b5 b6 b7 : List ℕ) → b1 ≡ b ++ abbreviation_bytes
     → b2 ≡ b1 ++ word 38053 → b3 ≡ b2 ++ global_bytes p.globals → b4 ≡ b3 ++ concat p.arrays
-    → b5 ≡ b4 ++ replicate 126 0 → b6 ≡ b5 ++ dictionary_bytes → b7 ≡ b6 ++ start_code main
+    → b5 ≡ b4 ++ replicate 126 0 → b6 ≡ b5 ++ dictionary_bytes p.keys → b7 ≡ b6 ++ start_code main
     → b7 ≡ b ++ low_bytes p main
 low_joined p main b b1 b2 b3 b4 b5 b6 b7 e1 e2 e3 e4 e5 e6 e7 =
     all_joined abbreviation_bytes (encoded []) (global_bytes p.globals) (concat p.arrays) (replicate 126 0)
-    dictionary_bytes (start_code main) b b1 b2 b3 b4 b5 b6 b7
+    (dictionary_bytes p.keys) (start_code main) b b1 b2 b3 b4 b5 b6 b7
     e1 (e2 ∙ ap (λ z. b1 ++ z) empty_text) e3 e4 e5 e6 e7
 
 -- Routines

@@ -10,10 +10,10 @@ use Rattle.std.proofs.lemmas.List.Elements.{All-head, All-tail}
 use Rattle.std.proofs.lemmas.List.Sums.{sum-map}
 use Rattle.zcore.specs.declared.header.Version.{Version}
 use Rattle.zcore.specs.Header.{scale_of}
-use Rattle.checker.specs.Resolved.{RoutineOf, ProgramOf}
-use Rattle.checker.specs.Meaning.{routine_at}
-use Rattle.checker.specs.Accepted.{IsRoutine}
-use Rattle.checker.specs.Places.{arrays_place, routines_place, places_of}
+use Rattle.meaning.specs.Resolved.{RoutineOf, ProgramOf}
+use Rattle.meaning.specs.Meaning.{routine_at}
+use Rattle.meaning.specs.Accepted.{IsRoutine}
+use Rattle.meaning.specs.Places.{arrays_place, routines_place, places_of}
 use Rattle.code.specs.Addresses.{Addresses}
 use Rattle.code.specs.HeldProgram.{sizes_of}
 use Rattle.code.specs.Sizes.{routine_size}

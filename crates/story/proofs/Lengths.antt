@@ -1,7 +1,7 @@
 -- How long code is, wherever it stands.
 use Rattle.std.proofs.Common.{◌≡◌, ℕ, List, [], ◌∷◌, ◌++◌, length, refl, ap, ◌∙◌, arith}
 use Rattle.std.specs.Prelude.{map}
-use Rattle.checker.specs.Resolved.{RoutineOf}
+use Rattle.meaning.specs.Resolved.{RoutineOf}
 use Rattle.items.specs.Items.{routine_items}
 use Rattle.code.specs.Addresses.{Addresses}
 use Rattle.code.specs.Bytes.{code_size, code_bytes}

@@ -1,4 +1,5 @@
 mod Parts
+mod Entries
 mod Low
 mod Lengths
 mod Samples
@@ -8,4 +9,5 @@ pub mod Sizes
 pub mod Faults
 mod Joined
 mod Laid
+mod Numbered
 mod Compiling

@@ -10,12 +10,13 @@ use Rattle.zcore.specs.Bytes.{word_at}
 use Rattle.zcore.specs.Instruction.{bytes_of}
 use Rattle.zcore.specs.Text.{Holds, encoded}
 use Rattle.zcore.specs.Words.{packed}
-use Rattle.checker.specs.declared.places.Places.{Places}
-use Rattle.checker.specs.Places.{arrays_place, defaults_place, dictionary_place, start_place, routines_place}
-use Rattle.checker.specs.Resolved.{ProgramOf}
+use Rattle.meaning.specs.declared.places.Places.{Places}
+use Rattle.meaning.specs.Places.{arrays_place, defaults_place, dictionary_place, start_place, routines_place}
+use Rattle.meaning.specs.Resolved.{ProgramOf}
 use Rattle.code.specs.HeldProgram.{start_code}
 use Rattle.story.specs.Layout.{word, abbreviation_bytes, global_bytes, dictionary_bytes, low_bytes, header_of}
 use Rattle.story.proofs.Parts.{behind_at, holds_first}
+use Rattle.story.proofs.Entries.{dictionary_length}
 
 -- Words
 
@@ -75,7 +76,8 @@ start_length : (main : ℕ) → length (start_code main) ≡ 4
 unfolding bytes_of
 start_length main = refl
 
-pub low_length : (p : ProgramOf) (main : ℕ) → length (low_bytes p main) ≡ 811 + length (concat p.arrays)
+pub low_length : (p : ProgramOf) (main : ℕ)
+    → length (low_bytes p main) ≡ 811 + length (concat p.arrays) + 9 * length p.keys
 low_length p main =
     let globals : List ℕ = global_bytes p.globals in
     let arrays : List ℕ = concat p.arrays in
@@ -83,8 +85,9 @@ low_length p main =
     let a = length-append first_bytes globals in
     let b = length-append (first_bytes ++ globals) arrays in
     let c = length-append (first_bytes ++ globals ++ arrays) filling in
-    let d = length-append (first_bytes ++ globals ++ arrays ++ filling) dictionary_bytes in
-    let e = length-append (first_bytes ++ globals ++ arrays ++ filling ++ dictionary_bytes) (start_code main) in
+    let dictionary : List ℕ = dictionary_bytes p.keys in
+    let d = length-append (first_bytes ++ globals ++ arrays ++ filling) dictionary in
+    let e = length-append (first_bytes ++ globals ++ arrays ++ filling ++ dictionary) (start_code main) in
     omega (
       arith,
       a,
@@ -95,6 +98,7 @@ low_length p main =
       first_length,
       globals_length p.globals,
       length-replicate {A = ℕ} 126 0,
+      dictionary_length p.keys,
       start_length main,
     )
 
@@ -112,7 +116,7 @@ module _ (story : List ℕ) (p : ProgramOf) (high : List ℕ) (main : ℕ)
   behind_dictionary = start_code main ++ high
 
   abbrev behind_defaults : List ℕ
-  behind_defaults = dictionary_bytes ++ behind_dictionary
+  behind_defaults = dictionary_bytes p.keys ++ behind_dictionary
 
   abbrev behind_arrays : List ℕ
   behind_arrays = replicate 126 0 ++ behind_defaults
@@ -123,8 +127,8 @@ module _ (story : List ℕ) (p : ProgramOf) (high : List ℕ) (main : ℕ)
   globals_stand : drop 258 story ≡ global_bytes p.globals ++ behind_globals
   globals_stand =
       behind_at 64 194 story first_bytes (global_bytes p.globals ++ behind_globals)
-      (stands ∙ regrouped first_bytes (global_bytes p.globals) (concat p.arrays) (replicate 126 0) dictionary_bytes
-      (start_code main) high)
+      (stands ∙ regrouped first_bytes (global_bytes p.globals) (concat p.arrays) (replicate 126 0)
+      (dictionary_bytes p.keys) (start_code main) high)
       first_length
 
   pub arrays_stand : drop arrays_place story ≡ concat p.arrays ++ behind_arrays
@@ -146,7 +150,9 @@ module _ (story : List ℕ) (p : ProgramOf) (high : List ℕ) (main : ℕ)
       behind_defaults defaults_stand (length-replicate {A = ℕ} 126 0))
 
   pub start_stands : drop (start_place p) story ≡ behind_dictionary
-  start_stands = behind_at (dictionary_place p) 7 story dictionary_bytes behind_dictionary dictionary_stands refl
+  start_stands =
+      behind_at (dictionary_place p) (7 + 9 * length p.keys) story (dictionary_bytes p.keys) behind_dictionary
+      dictionary_stands (dictionary_length p.keys)
 
   pub high_stands : drop (routines_place p) story ≡ high
   high_stands = behind_at (start_place p) 4 story (start_code main) high start_stands (start_length main)

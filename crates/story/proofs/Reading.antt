@@ -1,19 +1,24 @@
 -- Stories are read.
-use Rattle.std.proofs.Common.{◌≡◌, inr, ℕ, ◌+◌, ◌*◌, ◌/◌, ◌%◌, ◌≤◌, List, ◌++◌, length, drop, Ok, refl, sym, ap, ◌∙◌}
-use Rattle.std.proofs.Common.{subst, arith}
-use Rattle.std.specs.Prelude.{slice_index, sum}
-use Rattle.std.proofs.lemmas.List.{length-append, drop_at}
+use Rattle.std.proofs.Common.{◌≡◌, inr, ℕ, ◌+◌, ◌*◌, ◌/◌, ◌%◌, ◌^◌, ◌<◌, ◌≤◌, List, ◌++◌, length, drop, Ok, refl, sym, ap}
+use Rattle.std.proofs.Common.{◌∙◌, subst, arith}
+use Rattle.std.specs.Prelude.{map, slice_index, sum}
+use Rattle.std.specs.List.{All}
+use Rattle.std.specs.List.Sorted.{IsStrictlyIncreasing}
+use Rattle.std.proofs.lemmas.List.{length-append, length-map, drop_at}
 use Rattle.zcore.specs.declared.header.Version.{Version}
 use Rattle.zcore.specs.declared.header.Header.{Header}
 use Rattle.zcore.specs.Bytes.{word_at}
 use Rattle.zcore.specs.Header.{IsDictionary, IsDictionaryOf, IsPlaced, Reads, StatesSum, abbreviations_of}
 use Rattle.zcore.specs.Header.{defaults_of, dictionary_of, first_instruction_of, globals_of, high_memory_of, scale_of}
-use Rattle.zcore.specs.Header.{entry_length_of, entry_count, static_base_of, version_number}
-use Rattle.checker.specs.Places.{defaults_place, dictionary_place, start_place, routines_place, places_of}
-use Rattle.checker.specs.Resolved.{ProgramOf}
+use Rattle.zcore.specs.Header.{separator_count, entry_length_of, entry_count, static_base_of, version_number}
+use Rattle.tables.specs.Dictionary.{ReadsKeys}
+use Rattle.meaning.specs.Accepted.{IsAccepted}
+use Rattle.meaning.specs.Places.{defaults_place, dictionary_place, start_place, routines_place, places_of}
+use Rattle.meaning.specs.Resolved.{ProgramOf}
 use Rattle.code.specs.HeldProgram.{start_code}
-use Rattle.story.specs.Layout.{greatest_word, header_of, low_bytes, dictionary_bytes, parts_from}
-use Rattle.story.proofs.Parts.{whole, parts_end}
+use Rattle.story.specs.Layout.{greatest_word, header_of, low_bytes, key_bytes, dictionary_bytes, parts_from}
+use Rattle.story.proofs.Parts.{whole, holds_first, parts_end}
+use Rattle.story.proofs.Entries.{keys_read}
 use Rattle.story.proofs.Low.{word_is, byte_behind, word_behind, low_length, dictionary_stands}
 
 -- what the header of a program's story says
@@ -53,35 +58,30 @@ module _ (version : Version) (p : ProgramOf) (body : List ℕ) where
 
 -- The dictionary
 
-module _ (story rest : List ℕ) (at : ℕ) (long : at + 7 ≤ length story) (low : at + 7 ≤ 65536)
-    (stands : drop at story ≡ dictionary_bytes ++ rest) where
-  separators_are : slice_index story at ≡ 3
+module _ (story rest keys : List ℕ) (at : ℕ) (stands : drop at story ≡ dictionary_bytes keys ++ rest) where
+  separators_are : separator_count story at ≡ 3
   separators_are =
       let e : at ≡ at + 0 = omega arith in
-      ap (slice_index story) e ∙ byte_behind at 0 story (dictionary_bytes ++ rest) stands
+      ap (slice_index story) e ∙ byte_behind at 0 story (dictionary_bytes keys ++ rest) stands
 
   entry_length_is : entry_length_of story at ≡ 9
   entry_length_is =
       let e : at + 1 + 3 ≡ at + 4 = omega arith in
       ap (λ n. slice_index story (at + 1 + n)) separators_are ∙ ap (slice_index story) e
-      ∙ byte_behind at 4 story (dictionary_bytes ++ rest) stands
+      ∙ byte_behind at 4 story (dictionary_bytes keys ++ rest) stands
 
-  no_entries : entry_count story at ≡ 0
-  no_entries =
+  entries_are : entry_count story at ≡ length keys
+  entries_are =
       let e : at + 2 + 3 ≡ at + 5 = omega arith in
       ap (λ n. word_at story (at + 2 + n)) separators_are ∙ ap (word_at story) e
-      ∙ word_behind at 5 story (dictionary_bytes ++ rest) stands
+      ∙ word_behind at 5 story (dictionary_bytes keys ++ rest) stands
+      ∙ word_is (length (map key_bytes keys)) ∙ length-map keys key_bytes
 
-  is_dictionary : IsDictionary story at
-  is_dictionary =
-      let nothing : entry_count story at * entry_length_of story at ≡ 0 =
-      ap (λ n. n * entry_length_of story at) no_entries ∙ ap (λ n. 0 * n) entry_length_is in
-      record {
-        whole = omega (arith, nothing, separators_are, long, low);
-        entry_length = omega (arith, entry_length_is);
-        count = omega (arith, no_entries);
-        ascending = λ k h. absurd (omega (arith, h, no_entries));
-      }
+  pub keys_stand : All (λ k. k < 2 ^ 48) keys → IsStrictlyIncreasing keys
+      → at + (7 + 9 * length keys) ≤ length story → at + (7 + 9 * length keys) ≤ 65536 → ReadsKeys story at keys
+  keys_stand small ascending long low =
+      keys_read story at keys small ascending (omega (arith, low))
+      (holds_first at story (dictionary_bytes keys) rest stands) (omega (arith, long, low))
 
 -- Reading
 
@@ -94,13 +94,14 @@ header_read version p = record {
   abbreviations = 64;
   high_memory = start_place p;
   first_instruction = start_place p;
-  dictionary = record { address = dictionary_place p; separators = 3; entry_length = 9; entries = 0 };
+  dictionary = record { address = dictionary_place p; separators = 3; entry_length = 9; entries = length p.keys };
 }
 
 module _ (version : Version) (p : ProgramOf) (story rest : List ℕ) (said : Says version p story)
     (multiple : whole version (length story)) (placed : routines_place p ≤ greatest_word)
     (long : routines_place p ≤ length story)
-    (stands : drop (dictionary_place p) story ≡ dictionary_bytes ++ rest) where
+    (small : All (λ k. k < 2 ^ 48) p.keys) (ascending : IsStrictlyIncreasing p.keys)
+    (stands : drop (dictionary_place p) story ≡ dictionary_bytes p.keys ++ rest) where
   is_placed : IsPlaced story
   is_placed = record {
     static_base = (omega (arith, said.static_base), omega (arith, said.static_base, long));
@@ -115,18 +116,17 @@ module _ (version : Version) (p : ProgramOf) (story rest : List ℕ) (said : Say
     dictionary = omega (arith, said.dictionary, said.static_base);
   }
 
-  long_enough : dictionary_place p + 7 ≤ length story
-  long_enough = omega (arith, long)
-
-  low_enough : dictionary_place p + 7 ≤ 65536
-  low_enough = omega (arith, placed)
+  pub are_keys_read : ReadsKeys story (dictionary_place p) p.keys
+  are_keys_read =
+      keys_stand story rest p.keys (dictionary_place p) stands small ascending (omega (arith, long))
+      (omega (arith, placed))
 
   is_dictionary_read : IsDictionaryOf story (dictionary_place p) (header_read version p).dictionary
   is_dictionary_read = record {
     address = refl;
-    separators = sym (separators_are story rest (dictionary_place p) long_enough low_enough stands);
-    entry_length = sym (entry_length_is story rest (dictionary_place p) long_enough low_enough stands);
-    entries = sym (no_entries story rest (dictionary_place p) long_enough low_enough stands);
+    separators = sym (separators_are story rest p.keys (dictionary_place p) stands);
+    entry_length = sym (entry_length_is story rest p.keys (dictionary_place p) stands);
+    entries = sym (entries_are story rest p.keys (dictionary_place p) stands);
   }
 
   pub is_read : Reads story (Ok (header_read version p))
@@ -135,8 +135,7 @@ module _ (version : Version) (p : ProgramOf) (story rest : List ℕ) (said : Say
     ap (λ n. n * scale_of version) said.stated_length ∙ multiple,
     said.stated_sum,
     is_placed,
-    subst (IsDictionary story) (sym said.dictionary)
-        (is_dictionary story rest (dictionary_place p) long_enough low_enough stands),
+    subst (IsDictionary story) (sym said.dictionary) are_keys_read.dictionary,
     record {
       version = said.version_byte;
       static_base = sym said.static_base;
@@ -169,8 +168,15 @@ module _ (version : Version) (p : ProgramOf) (main : ℕ) (parts : List (List �
   pub laid_multiple : whole version (length laid_out)
   laid_multiple = subst (whole version) (sym laid_length) (parts_end version (routines_place p) parts)
 
-  pub laid_read : routines_place p ≤ greatest_word → Reads laid_out (Ok (header_read version p))
-  laid_read placed =
+  pub laid_read : routines_place p ≤ greatest_word → IsAccepted p → Reads laid_out (Ok (header_read version p))
+  laid_read placed accepted =
       is_read version p laid_out (start_code main ++ high) (says version p body) laid_multiple placed
-      (omega (arith, laid_length))
+      (omega (arith, laid_length)) accepted.keys accepted.ascending
+      (dictionary_stands laid_out p high main (behind_header version p body))
+
+  -- the keys of the program
+  pub laid_keys : routines_place p ≤ greatest_word → IsAccepted p → ReadsKeys laid_out (dictionary_place p) p.keys
+  laid_keys placed accepted =
+      are_keys_read version p laid_out (start_code main ++ high) (says version p body) laid_multiple placed
+      (omega (arith, laid_length)) accepted.keys accepted.ascending
       (dictionary_stands laid_out p high main (behind_header version p body))

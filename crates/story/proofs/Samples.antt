@@ -7,6 +7,8 @@ use Rattle.zcore.specs.declared.place.Place.{Place}
 use Rattle.zcore.specs.declared.place.Place.TheVariants as places
 use Rattle.zcore.specs.Alphabets.{spelling_of}
 use Rattle.zcore.specs.Arithmetic.{signed_text, decimal}
+use Rattle.zcore.specs.Dictionary.{number_of_key, entry_of}
+use Rattle.zcore.specs.Header.{key_at}
 use Rattle.zcore.specs.Instruction.{decode, bytes_of, opcode, operands, operand, byte, large, result_variable, branch}
 use Rattle.zcore.specs.Parts.{read_in_place, write_in_place, push, pop, read_local, write_local, read_global}
 use Rattle.zcore.specs.Parts.{write_global, read_variable, write_variable, test_variable, test_pull, operand_value}
@@ -16,19 +18,20 @@ use Rattle.zcore.specs.Parts.{test_calls, enter, call, test_return, leave, give_
 use Rattle.zcore.specs.Reading.{reads}
 use Rattle.zcore.specs.Execution.{step, perform, push_word, pull, load_word, load_byte, call_packed, return_popped, print_characters}
 use Rattle.zcore.specs.Execution.{print_inline, print_packed, text_at, give_result}
-use Rattle.zcore.specs.Text.{encoded, decoded, abbreviation}
+use Rattle.zcore.specs.Text.{encoded, decoded, key_of, abbreviation}
 use Rattle.zcore.specs.Turn.{Whole, opening, turn_from, weight}
 use Rattle.zcore.specs.Words.{packed, unpacked_text}
 use Rattle.statements.specs.Tree as trees
 use Rattle.syntax.specs.Tree.{ProgramTree, routine}
 use Rattle.expressions.specs.declared.tree.Binary.TheVariants as binaries
 use Rattle.expressions.specs.declared.tree.Width.TheVariants as widths
-use Rattle.checker.specs.declared.resolved.Variable.TheVariants as variables
-use Rattle.checker.specs.Meaning.{meaning}
-use Rattle.checker.specs.Names.{table_of, key_of}
-use Rattle.checker.specs.Programs.{resolve_program}
-use Rattle.checker.specs.Resolved.{ProgramOf, binary, call as calls, effect, entry, more, none, number, number_of}
-use Rattle.checker.specs.Resolved.{print as prints, read, stop, text, next}
+use Rattle.meaning.specs.declared.resolved.Variable.TheVariants as variables
+use Rattle.meaning.specs.Meaning.{meaning}
+use Rattle.names.specs.Names.{table_of}
+use Rattle.names.specs.Names as names
+use Rattle.checker.specs.Programs.{resolve_program, resolve_with}
+use Rattle.meaning.specs.Resolved.{ProgramOf, binary, call as calls, effect, entry, more, none, number, number_of}
+use Rattle.meaning.specs.Resolved.{print as prints, read, stop, text, next}
 use Rattle.story.specs.Compiled.{size_fault}
 use Rattle.story.specs.Layout.{array_addresses, fault_texts, low_bytes, packed_addresses, story_of}
 
@@ -55,7 +58,13 @@ texts = refl
 
 -- `[ Main; ];`: one routine that does nothing, of 2 bytes: no locals, rtrue
 abbrev nothing : ProgramOf
-nothing = record { globals = []; arrays = []; routines = record { locals = 0; body = stop } ∷ []; main = 0 }
+nothing = record {
+  globals = [];
+  arrays = [];
+  keys = [];
+  routines = record { locals = 0; body = stop } ∷ [];
+  main = 0;
+}
 
 low : length (low_bytes nothing 219) ≡ 811
 unfolding bytes_of encoded packed
@@ -129,6 +138,7 @@ abbrev division : ProgramOf
 division = record {
   globals = 7 ∷ 1000 ∷ [];
   arrays = [];
+  keys = [];
   routines = record {
     locals = 0;
     body = next (prints (number_of (binary binaries.Divide (number 1) (number 0)) ∷ [])) stop;
@@ -173,6 +183,7 @@ abbrev calling : ProgramOf
 calling = record {
   globals = [];
   arrays = [];
+  keys = [];
   routines = record { locals = 0; body = next (effect (calls 1 (more (number 3) none))) stop }
       ∷ record {
         locals = 1;
@@ -213,6 +224,7 @@ abbrev arrays : ProgramOf
 arrays = record {
   globals = [];
   arrays = (0 ∷ 1 ∷ 0 ∷ 2 ∷ 1 ∷ 44 ∷ []) ∷ (2 ∷ 97 ∷ 98 ∷ []) ∷ (0 ∷ 2 ∷ 0 ∷ 5 ∷ 0 ∷ 6 ∷ []) ∷ [];
+  keys = [];
   routines = record {
     locals = 0;
     body = next (prints (number_of (entry widths.Word 0 (number 2)) ∷ number_of (entry widths.Byte 1 (number 0))
@@ -253,6 +265,41 @@ arrays_meant : (meaning arrays 1000000 []).texts ≡ codes "30025" ∷ []
 unfolding meaning signed_text decimal
 arrays_meant = refl
 
+-- `[ Main; print 'take', 'box'; ];`, of which `box` has the smaller key
+abbrev words : ProgramOf
+words = record {
+  globals = [];
+  arrays = [];
+  keys = 0x1E9D14A594A5 ∷ 0x64D028A594A5 ∷ [];
+  routines = record {
+    locals = 0;
+    body = next (prints (number_of (number 880) ∷ number_of (number 871) ∷ [])) stop;
+  } ∷ [];
+  main = 0;
+}
+
+words_laid_out : take 25 (drop 864 (story_of V5 words))
+    ≡ (3 ∷ 46 ∷ 44 ∷ 34 ∷ 9 ∷ 0 ∷ 2 ∷ [])
+    ++ (30 ∷ 157 ∷ 20 ∷ 165 ∷ 148 ∷ 165 ∷ 0 ∷ 0 ∷ 0 ∷ [])
+    ++ (100 ∷ 208 ∷ 40 ∷ 165 ∷ 148 ∷ 165 ∷ 0 ∷ 0 ∷ 0 ∷ [])
+unfolding story_of bytes_of encoded packed spelling_of
+words_laid_out = refl
+
+-- the entries move the code that begins, which stands at 889; the dictionary stays at 864, the defaults at 738
+words_header : take 12 (drop 4 (story_of V5 words)) ≡ 3 ∷ 121 ∷ 3 ∷ 121 ∷ 3 ∷ 96 ∷ 2 ∷ 226 ∷ 1 ∷ 2 ∷ 3 ∷ 96 ∷ []
+unfolding story_of bytes_of encoded packed spelling_of
+words_header = refl
+
+-- the words are the keys of `box` and `take`, and are found where their numbers say
+words_keys : number_of_key (key_of (codes "box")) ∷ number_of_key (key_of (codes "take")) ∷ [] ≡ words.keys
+unfolding number_of_key key_of packed spelling_of
+words_keys = refl
+
+words_found : entry_of (story_of V5 words) 864 0x1E9D14A594A5 ∷ entry_of (story_of V5 words) 864 0x64D028A594A5 ∷ []
+    ≡ 871 ∷ 880 ∷ []
+unfolding story_of bytes_of encoded packed spelling_of entry_of key_at
+words_found = refl
+
 -- sources that are too large: of this weight, with a routine of that weight whose name stands in line 3
 abbrev weighing : ℕ → ℕ → ProgramTree
 weighing source one = record {
@@ -264,20 +311,21 @@ weighing source one = record {
   }) ∷ [];
   end = record { offset = 20; line = 4 };
   weight = source;
+  words = [];
 }
 
 small_source : size_fault V5 (weighing 190000 32000) ≡ None
-unfolding resolve_program table_of key_of
+unfolding resolve_program resolve_with table_of names.key_of
 small_source = refl
 
 large_source : size_fault V5 (weighing 190001 32001) ≡ Some (record { number = 31; line = 0 })
-unfolding resolve_program table_of key_of
+unfolding resolve_program resolve_with table_of names.key_of
 large_source = refl
 
 large_source_8 : size_fault V8 (weighing 450001 32000) ≡ Some (record { number = 31; line = 0 })
-unfolding resolve_program table_of key_of
+unfolding resolve_program resolve_with table_of names.key_of
 large_source_8 = refl
 
 large_routine : size_fault V8 (weighing 190001 32001) ≡ Some (record { number = 32; line = 3 })
-unfolding resolve_program table_of key_of
+unfolding resolve_program resolve_with table_of names.key_of
 large_routine = refl

@@ -5,10 +5,10 @@ use Rattle.std.specs.List.{All}
 use Rattle.zcore.specs.declared.header.Version.{Version}
 use Rattle.zcore.specs.declared.header.Version.TheVariants.{V5, V8}
 use Rattle.zcore.specs.Header.{scale_of}
-use Rattle.checker.specs.Resolved.{RoutineOf, ProgramOf}
-use Rattle.checker.specs.Accepted.{IsAccepted}
-use Rattle.checker.specs.Places.{routines_place}
-use Rattle.checker.specs.Sizes.{greatest_weight}
+use Rattle.meaning.specs.Resolved.{RoutineOf, ProgramOf}
+use Rattle.meaning.specs.Accepted.{IsAccepted}
+use Rattle.meaning.specs.Places.{routines_place}
+use Rattle.meaning.specs.Sizes.{greatest_weight}
 use Rattle.code.specs.HeldProgram.{sizes_of}
 use Rattle.code.specs.Sizes.{routine_size, routines_size}
 use Rattle.story.specs.Layout.{addresses_in, fault_texts, greatest_word, parts_from, story_of}

@@ -1,5 +1,5 @@
 -- What a source is compiled to, and why it is refused.
-use Rattle.std.specs.Prelude.{◌≡◌, ◌≤◌, ◌<◌, ◌+◌, ℕ, nat_lt, if◌then◌else◌, List, [], ◌∷◌, map, Option, Some, None}
+use Rattle.std.specs.Prelude.{◌≡◌, ◌≢◌, ◌≤◌, ◌<◌, ◌+◌, ℕ, nat_lt, if◌then◌else◌, List, [], ◌∷◌, map, Option, Some, None}
 use Rattle.std.specs.Prelude.{Result, Ok, Err}
 use Rattle.lexer.specs.declared.fault.SourceFault.{SourceFault}
 use Rattle.lexer.specs.declared.fault.TheConstants.{NESTED_TOO_DEEP, NOT_IN_GRAMMAR, TABLES_TOO_LARGE}
@@ -11,14 +11,17 @@ use Rattle.lexer.specs.Tokens.{SourceToken, Lexes}
 use Rattle.syntax.specs.Tree.{RoutineTree, ProgramTree}
 use Rattle.syntax.specs.Grammar.{IsProgram, program_nesting}
 use Rattle.syntax.specs.Nesting.{DeepProgram}
-use Rattle.checker.specs.declared.breach.Breach.{Breach}
-use Rattle.checker.specs.Breaches.{IsAmong, IsFirst}
+use Rattle.names.specs.declared.breach.Breach.{Breach}
+use Rattle.names.specs.Breaches.{IsAmong, IsFirst}
+use Rattle.names.specs.Keys as keys
 use Rattle.checker.specs.Programs.{program_breaches, resolve_program, routine_trees}
-use Rattle.checker.specs.Places.{routines_place}
-use Rattle.checker.specs.Sizes.{greatest_weight}
+use Rattle.meaning.specs.Places.{routines_place, number_in}
+use Rattle.meaning.specs.Resolved.{ProgramOf}
+use Rattle.meaning.specs.Sizes.{greatest_weight}
 use Rattle.zcore.specs.declared.header.Version.{Version}
 use Rattle.zcore.specs.declared.header.Header.{Header}
-use Rattle.zcore.specs.Header.{Reads}
+use Rattle.zcore.specs.Header.{Reads, dictionary_of}
+use Rattle.zcore.specs.Dictionary.{entry_of}
 use Rattle.code.specs.Laws.{Plays}
 use Rattle.story.specs.Layout.{story_of, greatest_word}
 
@@ -64,6 +67,13 @@ size_fault version p =
 
 -- Stories and refusals
 
+-- The dictionary of a story gives each key its number in a program, 0 to those that are not a program's. Those that are
+-- have numbers that are not 0, and differ.
+pub record NumbersKeys (story : List ℕ) (p : ProgramOf) : Type 0 where
+  pub numbers : (key : ℕ) → entry_of story (dictionary_of story) key ≡ number_in p key
+  pub there : (key : ℕ) → keys.IsAmong key p.keys → number_in p key ≢ 0
+  pub different : (k l : ℕ) → keys.IsAmong k p.keys → keys.IsAmong l p.keys → number_in p k ≡ number_in p l → k ≡ l
+
 -- the story of a source: it is read, and on any fuel and any lines it prints what the source means
 pub record IsStoryOf (version : Version) (source bytes : List ℕ) : Type 0 where
   pub tree : ProgramTree
@@ -72,6 +82,7 @@ pub record IsStoryOf (version : Version) (source bytes : List ℕ) : Type 0 wher
   pub fits : size_fault version tree ≡ None
   pub laid_out : bytes ≡ story_of version (resolve_program tree)
   pub reads : (header : Header) × Reads bytes (Ok header)
+  pub dictionary : NumbersKeys bytes (resolve_program tree)
   pub plays : (full : ℕ) (lines : List (List ℕ)) → Plays bytes (resolve_program tree) full lines
 
 -- why a source is refused: the earliest part that finds a fault answers, or a growth of memory was refused

@@ -4,10 +4,10 @@ use Rattle.std.specs.List.{All}
 use Rattle.zcore.specs.declared.header.Version.{Version}
 use Rattle.zcore.specs.declared.header.Header.{Header}
 use Rattle.zcore.specs.Header.{Reads, scale_of}
-use Rattle.checker.specs.Resolved.{RoutineOf, ProgramOf}
-use Rattle.checker.specs.Accepted.{IsAccepted}
-use Rattle.checker.specs.Sizes.{greatest_weight}
-use Rattle.checker.specs.Places.{routines_place}
+use Rattle.meaning.specs.Resolved.{RoutineOf, ProgramOf}
+use Rattle.meaning.specs.Accepted.{IsAccepted}
+use Rattle.meaning.specs.Sizes.{greatest_weight}
+use Rattle.meaning.specs.Places.{routines_place}
 use Rattle.items.specs.Items.{routine_items}
 use Rattle.code.specs.Bytes.{code_size}
 use Rattle.code.specs.Sizes.{routines_size}

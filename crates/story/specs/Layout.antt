@@ -1,18 +1,20 @@
 -- How a story is laid out (Z-Machine Standards Document 1.1, sections 1.1 and 11): first the parts of `Places` of
--- `checker`, then the routines in order of definition, and then the texts of faults, each at the next packed address.
+-- `meaning`, then the routines in order of definition, and then the texts of faults, each at the next packed address.
 -- Zero bytes fill what stands between them, and the end up to a multiple of the scale by which packed addresses
 -- count.
 use Rattle.std.specs.Prelude.{◌+◌, ◌-◌, ◌*◌, ◌/◌, ◌%◌, ℕ, List, [], ◌∷◌, ◌++◌, codes, length, map, replicate, take}
 use Rattle.std.specs.Prelude.{drop, slice_index, sum}
 use Rattle.std.specs.List.{flat_map, concat}
+use Rattle.byteorder.specs.Endian.{big_bytes}
 use Rattle.zcore.specs.declared.header.Version.{Version}
 use Rattle.zcore.specs.Header.{version_number, scale_of}
 use Rattle.zcore.specs.Text.{encoded}
-use Rattle.checker.specs.declared.places.Places.{Places}
-use Rattle.checker.specs.Places.{header_size, abbreviation_count, abbreviations_place, empty_text_place, global_count}
-use Rattle.checker.specs.Places.{arrays_place, default_count, routines_place, places_of}
-use Rattle.checker.specs.Resolved.{RoutineOf, ProgramOf}
-use Rattle.checker.specs.World.{words_of}
+use Rattle.tables.specs.Dictionary as tables
+use Rattle.meaning.specs.declared.places.Places.{Places}
+use Rattle.meaning.specs.Places.{header_size, abbreviation_count, abbreviations_place, empty_text_place, global_count}
+use Rattle.meaning.specs.Places.{arrays_place, default_count, routines_place, places_of}
+use Rattle.meaning.specs.Resolved.{RoutineOf, ProgramOf}
+use Rattle.meaning.specs.World.{words_of}
 use Rattle.items.specs.Items.{routine_items}
 use Rattle.code.specs.Addresses.{Addresses, all_causes}
 use Rattle.code.specs.Bytes.{code_bytes}
@@ -39,15 +41,23 @@ abbreviation_bytes = flat_map word (replicate abbreviation_count (empty_text_pla
 abbrev pub global_bytes : List ℕ → List ℕ
 global_bytes globals = flat_map word (take global_count (globals ++ replicate global_count 0))
 
--- three separators, the length of an entry, and no entries (13.2)
-abbrev pub dictionary_bytes : List ℕ
-dictionary_bytes = 3 ∷ codes ".,\"" ++ 9 ∷ word 0
+-- the six bytes of a key, the highest first
+abbrev pub key_bytes : ℕ → List ℕ
+key_bytes key = big_bytes 6 key
+
+-- the entries of keys, one behind another (13.2)
+abbrev pub entries_bytes : List ℕ → List ℕ
+entries_bytes keys = flat_map tables.entry_bytes (map key_bytes keys)
+
+-- the dictionary of keys
+abbrev pub dictionary_bytes : List ℕ → List ℕ
+dictionary_bytes keys = tables.dictionary_bytes (map key_bytes keys)
 
 -- the arrays stand one behind another
 abbrev pub low_bytes : ProgramOf → ℕ → List ℕ
 low_bytes p main =
     abbreviation_bytes ++ encoded [] ++ global_bytes p.globals ++ concat p.arrays ++ replicate (2 * default_count) 0
-    ++ dictionary_bytes ++ start_code main
+    ++ dictionary_bytes p.keys ++ start_code main
 
 -- Parts at packed addresses
 

@@ -2,12 +2,12 @@
 
 ghost use Rattle.std.specs.Prelude.{◌≡◌, ◌≤◌, ◌+◌, ◌/◌, ◌%◌, ◌++◌, OnOk, length, sum};
 ghost use Rattle.zcore.specs.Header.{scale_of, version_number};
-ghost use Rattle.checker.specs.Places.{header_size};
+ghost use Rattle.meaning.specs.Places.{header_size};
 ghost use Rattle.story.specs.Layout.{greatest_length, header_of};
 ghost use Rattle.story.specs.Written.{AreWords};
 
 use crate::words::{put_words, put_zeros};
-use checker::Places;
+use meaning::Places;
 use std::alloc::AllocError;
 use zcore::Version;
 

@@ -6,7 +6,7 @@ ghost use Rattle.zcore.specs.Alphabets.{is_printable};
 ghost use Rattle.zcore.specs.Header.{scale_of};
 ghost use Rattle.zcore.specs.Text.{encoded};
 ghost use Rattle.code.specs.Written.{addresses_of};
-ghost use Rattle.checker.specs.Places.{header_size};
+ghost use Rattle.meaning.specs.Places.{header_size};
 ghost use Rattle.story.specs.Layout as layout;
 ghost use Rattle.story.specs.Written.{IsReady, bytes_in, code_part};
 

@@ -1,12 +1,12 @@
 //! Compiled stories: a source is checked, and laid out as a story file.
 #![tactic(auto)]
 
+mod below;
 mod header;
 mod high;
 mod laws;
 mod packed;
 mod story;
-mod tables;
 mod words;
 mod write;
 

@@ -6,9 +6,11 @@ ghost use Rattle.story.specs.Compiled.{Compiles};
 
 use crate::laws::{stories_are_short, stories_hold};
 use crate::write::write_story;
-use checker::{accepted_programs, check, printable_programs, test_sizes};
-use code::{code_plays, small_sources_have_small_code};
+use checker::{accepted_programs, check, printable_programs};
+use code::code_plays;
 use lexer::{SourceFault, lex, printable_tokens};
+use meaning::test_sizes;
+use sizes::small_sources_have_small_code;
 use std::alloc::Global;
 use std::marker::Model;
 use syntax::{parse, printable_trees};

@@ -5,19 +5,19 @@ ghost use Rattle.std.specs.List.{list_all};
 ghost use Rattle.zcore.specs.Alphabets.{is_printable};
 ghost use Rattle.zcore.specs.Text.{encoded};
 ghost use Rattle.zcore.specs.Header.{scale_of};
-ghost use Rattle.checker.specs.Meaning.{routine_at};
-ghost use Rattle.checker.specs.Resolved.{program_of};
+ghost use Rattle.meaning.specs.Meaning.{routine_at};
+ghost use Rattle.meaning.specs.Resolved.{program_of};
 ghost use Rattle.code.specs.HeldProgram.{sizes_of};
 ghost use Rattle.code.specs.Written.{addresses_of};
 ghost use Rattle.story.specs.Layout as layout;
 ghost use Rattle.story.specs.Written.{Fits, bytes_in, code_of};
 
+use crate::below::{arrays_place, put_low};
 use crate::header::put_header;
 use crate::high::{put_routines, put_texts, z_text};
 use crate::packed::{add_text_sizes, array_addresses, code_sizes, packed_addresses};
-use crate::tables::{arrays_place, put_low};
-use checker::{Checked, part_places};
 use code::{Addresses, Code, CodeFault, routine_code};
+use meaning::{Checked, part_places};
 use std::alloc::{AllocError, Global};
 use zcore::Version;
 

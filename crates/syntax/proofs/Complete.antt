@@ -12,7 +12,7 @@ use Rattle.expressions.specs.Parse.{head, is_name, expect}
 use Rattle.expressions.proofs.Limited.{Limited, then, at_once}
 use Rattle.statements.specs.Tree.{LiteralTree, StatementTrees}
 use Rattle.statements.specs.Nesting.{begins_statement}
-use Rattle.statements.specs.Parse.{as_long, repeated, known_value, begins_value, statements}
+use Rattle.statements.specs.Parse.{as_long, repeated, named, known_value, begins_value, statements}
 use Rattle.statements.proofs.Complete.{listed, listed_back, at_Ss, repeated_stop, repeated_next}
 use Rattle.statements.proofs.Follow.{short_Ss}
 use Rattle.statements.proofs.KnownValues.{known_read, short_K, begins_K}
@@ -23,7 +23,7 @@ use Rattle.syntax.specs.Grammar.{weight_of, IsNames, names_stop, names_next, IsV
 use Rattle.syntax.specs.Grammar.{values_next, kind_of, IsDirective, d_global, d_global_value, d_constant, d_array}
 use Rattle.syntax.specs.Grammar.{d_routine, IsDirectives, directives_stop, directives_next, IsProgram}
 use Rattle.syntax.specs.Grammar.{program as program_is, directive_nesting, directives_nesting, program_nesting}
-use Rattle.syntax.specs.Parse.{named, names, placed, values, kind, array_behind, ended}
+use Rattle.syntax.specs.Parse.{names, placed, values, kind, array_behind, ended}
 use Rattle.syntax.specs.Parse.{global_behind, constant_behind, goes_on, routine_at, directive, directives, program}
 
 -- ---- names

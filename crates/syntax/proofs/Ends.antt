@@ -9,13 +9,14 @@ use Rattle.expressions.specs.Tree.{NameTree}
 use Rattle.expressions.specs.Parse.{head, tail, expect}
 use Rattle.expressions.proofs.Tokens.{expect_ok}
 use Rattle.statements.specs.Tree.{StatementTree}
-use Rattle.statements.specs.Parse.{statements}
+use Rattle.statements.specs.Parse.{named, statements}
+use Rattle.statements.proofs.NamesRead.{named_judged}
 use Rattle.statements.proofs.Sound.{judged_Ss}
 use Rattle.syntax.specs.Answers.{EndsWith}
 use Rattle.syntax.specs.Grammar.{weight_of}
-use Rattle.syntax.specs.Parse.{named, names}
+use Rattle.syntax.specs.Parse.{names}
 use Rattle.syntax.proofs.Spelled.{spelled_Names, spelled_Ss}
-use Rattle.syntax.proofs.Sound.{named_judged, names_judged}
+use Rattle.syntax.proofs.Sound.{names_judged}
 
 count : (ts : List Token) → length (lexemes ts) ≡ length ts
 count [] = refl

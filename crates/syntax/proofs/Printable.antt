@@ -7,12 +7,12 @@ use Rattle.lexer.specs.Token.{Lexeme, text}
 use Rattle.lexer.specs.Printable.{IsPrintable, HasPrintableText}
 use Rattle.expressions.specs.Tree.{ExpressionTree}
 use Rattle.statements.specs.Tree.{LiteralTree, PrintItemTree, StatementTree, StatementTrees, CaseTrees}
-use Rattle.statements.specs.Grammar.{IsK, k_number, k_negative, k_character, k_true, k_false, k_nothing, k_name}
+use Rattle.statements.specs.Grammar.{IsK, k_number, k_negative, k_character, k_word, k_true, k_false, k_nothing, k_name}
 use Rattle.statements.specs.Grammar.{IsOptional, optional_none, optional_some, IsItem, item_text, item_character}
 use Rattle.statements.specs.Grammar.{item_number, IsItems, items_last, items_comma, IsS, s_empty, s_block, s_text}
 use Rattle.statements.specs.Grammar.{s_print, s_print_ret, s_new_line, s_if, s_if_else, s_while, s_do, s_for, s_switch}
-use Rattle.statements.specs.Grammar.{s_break, s_continue, s_return, s_return_value, s_rtrue, s_rfalse, s_quit, s_effect}
-use Rattle.statements.specs.Grammar.{IsSs, ss_stop, ss_next, IsCases, cases_none, cases_default, cases_next}
+use Rattle.statements.specs.Grammar.{s_break, s_continue, s_return, s_return_value, s_rtrue, s_rfalse, s_quit, s_read}
+use Rattle.statements.specs.Grammar.{s_effect, IsSs, ss_stop, ss_next, IsCases, cases_none, cases_default, cases_next}
 use Rattle.syntax.specs.Tree.{ValueTree, DirectiveTree, ProgramTree}
 use Rattle.syntax.specs.Grammar.{IsValue, v_value, IsValues, values_stop, values_next}
 use Rattle.syntax.specs.Grammar.{IsDirective, d_global, d_global_value, d_constant, d_array, d_routine, IsDirectives}
@@ -84,6 +84,7 @@ mutual
   statement_prints s_rtrue h = tt
   statement_prints s_rfalse h = tt
   statement_prints s_quit h = tt
+  statement_prints s_read h = tt
   statement_prints (s_effect c f) h = tt
 
   statements_print : {ts r : List Lexeme} {xs : StatementTrees} → IsSs ts xs r → Prints ts → ArePrintableStatements xs
@@ -101,6 +102,7 @@ after_value : {ts r : List Lexeme} {k : LiteralTree} → IsK ts k r → Prints t
 after_value k_number h = after h
 after_value k_negative h = after (after h)
 after_value k_character h = after h
+after_value k_word h = after h
 after_value k_true h = after h
 after_value k_false h = after h
 after_value k_nothing h = after h

@@ -11,8 +11,9 @@ use Rattle.expressions.proofs.Judged.{Judged, judged_read, judged_grammar, judge
 use Rattle.expressions.proofs.Tokens.{at_sign, expect_ok, expect_not_deep}
 use Rattle.statements.specs.Tree.{trees_of}
 use Rattle.statements.specs.Grammar.{IsK, IsSs, body_nesting}
-use Rattle.statements.specs.Parse.{known_value, begins_value}
+use Rattle.statements.specs.Parse.{named, known_value, begins_value}
 use Rattle.statements.proofs.KnownValues.{known_judged}
+use Rattle.statements.proofs.NamesRead.{named_judged}
 use Rattle.statements.proofs.Sound.{repeated_judged, judged_Ss}
 use Rattle.syntax.specs.declared.tree.ArrayKind.{ArrayKind}
 use Rattle.syntax.specs.Tree.{DirectiveTree, global, constant, array, routine}
@@ -21,15 +22,10 @@ use Rattle.syntax.specs.Grammar.{values_next, kind_of, IsDirective, d_global, d_
 use Rattle.syntax.specs.Grammar.{d_constant, d_array, d_routine, IsDirectives, directives_stop, directives_next}
 use Rattle.syntax.specs.Grammar.{directive_nesting, directives_nesting}
 use Rattle.syntax.specs.Nesting.{DeepDirective, deep_d_routine, DeepProgram, deep_program_first, deep_program_next}
-use Rattle.syntax.specs.Parse.{named, names, placed, values, kind_on, kind, array_behind, ended}
+use Rattle.syntax.specs.Parse.{names, placed, values, kind_on, kind, array_behind, ended}
 use Rattle.syntax.specs.Parse.{global_behind, constant_behind, goes_on, routine_at, directive, directives}
 
 -- ---- names: in them no token stands too deep
-
-pub named_judged : (ts : List Lexeme) → Judged (λ n r. ts ≡ name n.text n.position ∷ r) ⊥ (named ts)
-unfolding named
-named_judged (name n p ∷ ts) = judged_read (record { text = n; position = p }) ts refl
-named_judged _ = judged_grammar
 
 pub names_judged : (ts : List Lexeme) → Judged (λ ns r. IsNames ts ns r) ⊥ (names ts)
 unfolding names

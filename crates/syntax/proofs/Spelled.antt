@@ -4,7 +4,7 @@ use Rattle.std.proofs.Common.{sym, ap, ◌∙◌, arith}
 use Rattle.lexer.specs.declared.token.Position.{Position}
 use Rattle.lexer.specs.declared.token.Sign.TheVariants as s
 use Rattle.lexer.specs.declared.token.Word.TheVariants as w
-use Rattle.lexer.specs.Token.{Lexeme, name, number, text, character, reserved, sign}
+use Rattle.lexer.specs.Token.{Lexeme, name, number, text, character, dictionary_word, reserved, sign}
 use Rattle.expressions.specs.declared.tree.Binary.{Binary}
 use Rattle.expressions.specs.declared.tree.Comparison.{Comparison}
 use Rattle.expressions.specs.declared.tree.Equality.{Equality}
@@ -16,16 +16,16 @@ use Rattle.expressions.specs.Grammar.{IsE, e_plain, e_assign, IsE1, e1_plain, e1
 use Rattle.expressions.specs.Grammar.{IsE2, e2_plain, e2_compare, e2_equal, IsChoice, choice_last, choice_or, IsE3}
 use Rattle.expressions.specs.Grammar.{e3_plain, e3_add, IsE4, e4_plain, e4_scale, IsN4, n4_plain, n4_complement, IsE5}
 use Rattle.expressions.specs.Grammar.{e5_plain, e5_index, IsU, u_plain, u_minus, u_before, u_after, IsP, p_number}
-use Rattle.expressions.specs.Grammar.{p_character, p_true, p_false, p_nothing, p_name, p_call, p_call_with}
+use Rattle.expressions.specs.Grammar.{p_character, p_word, p_true, p_false, p_nothing, p_name, p_call, p_call_with}
 use Rattle.expressions.specs.Grammar.{p_parenthesised, IsArguments, arguments_last, arguments_comma}
 use Rattle.statements.specs.Tree.{LiteralTree, RangeTree, PrintItemTree, StatementTree, StatementTrees, CaseTrees}
-use Rattle.statements.specs.Grammar.{IsK, k_number, k_negative, k_character, k_true, k_false, k_nothing, k_name}
+use Rattle.statements.specs.Grammar.{IsK, k_number, k_negative, k_character, k_word, k_true, k_false, k_nothing, k_name}
 use Rattle.statements.specs.Grammar.{IsRange, range_alone, range_to, IsRanges, ranges_last, ranges_comma, IsOptional}
 use Rattle.statements.specs.Grammar.{optional_none, optional_some, IsItem, item_text, item_character, item_number}
 use Rattle.statements.specs.Grammar.{IsItems, items_last, items_comma, IsS, s_empty, s_block, s_text, s_print}
 use Rattle.statements.specs.Grammar.{s_print_ret, s_new_line, s_if, s_if_else, s_while, s_do, s_for, s_switch, s_break}
-use Rattle.statements.specs.Grammar.{s_continue, s_return, s_return_value, s_rtrue, s_rfalse, s_quit, s_effect, IsSs}
-use Rattle.statements.specs.Grammar.{ss_stop, ss_next, IsCases, cases_none, cases_default, cases_next}
+use Rattle.statements.specs.Grammar.{s_continue, s_return, s_return_value, s_rtrue, s_rfalse, s_quit, s_read, s_effect}
+use Rattle.statements.specs.Grammar.{IsSs, ss_stop, ss_next, IsCases, cases_none, cases_default, cases_next}
 use Rattle.syntax.specs.Grammar.{token_weight, weight_of, IsNames, names_stop, names_next}
 use Rattle.syntax.specs.Weight.{expression_weight, expression_weights, item_weight, item_weights, range_weight}
 use Rattle.syntax.specs.Weight.{range_weights, optional_weight, statement_weight, statement_weights, case_weights}
@@ -202,6 +202,7 @@ mutual
   spelled_P : {ts r : List Lexeme} {e : ExpressionTree} → IsP ts e r → Spelled (expression_weight e) ts r
   spelled_P (p_number {r = r} {p = p} {n = n}) = behind (number n p) (spelled_none r)
   spelled_P (p_character {r = r} {p = p} {c = c}) = behind (character c p) (spelled_none r)
+  spelled_P (p_word {r = r} {p = p} {s = f}) = behind (dictionary_word f p) (spelled_none r)
   spelled_P (p_true {r = r} {p = p}) = behind (reserved w.True p) (spelled_none r)
   spelled_P (p_false {r = r} {p = p}) = behind (reserved w.False p) (spelled_none r)
   spelled_P (p_nothing {r = r} {p = p}) = behind (reserved w.Nothing p) (spelled_none r)
@@ -262,6 +263,7 @@ spelled_K (k_negative {r = r} {p = p} {q = q} {n = n}) = record {
   weight = refl;
 }
 spelled_K (k_character {r = r} {p = p} {c = c}) = about (behind (character c p) (spelled_none r)) refl
+spelled_K (k_word {r = r} {p = p} {s = f}) = about (behind (dictionary_word f p) (spelled_none r)) refl
 spelled_K (k_true {r = r} {p = p}) = about (behind (reserved w.True p) (spelled_none r)) refl
 spelled_K (k_false {r = r} {p = p}) = about (behind (reserved w.False p) (spelled_none r)) refl
 spelled_K (k_nothing {r = r} {p = p}) = about (behind (reserved w.Nothing p) (spelled_none r)) refl
@@ -343,6 +345,9 @@ mutual
   spelled_S (s_rtrue {r = r} {p = p} {q = q}) = pair_about (reserved w.Rtrue p) (sign s.Semicolon q) r refl
   spelled_S (s_rfalse {r = r} {p = p} {q = q}) = pair_about (reserved w.Rfalse p) (sign s.Semicolon q) r refl
   spelled_S (s_quit {r = r} {p = p} {q = q}) = pair_about (reserved w.Quit p) (sign s.Semicolon q) r refl
+  spelled_S (s_read {r = r} {p = p} {q = q} {o = o} {j = j} {a = a} {b = b}) = about
+      (behind (reserved w.Read p)
+      (behind (name a q) (behind (name b o) (behind (sign s.Semicolon j) (spelled_none r))))) refl
   spelled_S (s_effect {r = r} {q = q} c f) = about
       (joined (spelled_E c) (behind (sign s.Semicolon q) (spelled_none r))) (omega arith)
 

@@ -1,10 +1,10 @@
 -- The grammar of programs: a relation between the tokens from a place on, the tree, and the tokens after it, with one
 -- case for each alternative.
-use Rattle.std.specs.Prelude.{◌≡◌, ◌<◌, ◌+◌, ◌-◌, ◌*◌, ℕ, max, List, [], ◌∷◌, length, Option, Some, None}
+use Rattle.std.specs.Prelude.{◌≡◌, ◌<◌, ◌+◌, ◌-◌, ◌*◌, ℕ, max, List, [], ◌∷◌, ◌++◌, length, Option, Some, None}
 use Rattle.lexer.specs.declared.token.Position.{Position}
 use Rattle.lexer.specs.declared.token.Sign.TheVariants as s
 use Rattle.lexer.specs.declared.token.Word.TheVariants as w
-use Rattle.lexer.specs.Token.{Lexeme, name, text, reserved, sign, end, position_of}
+use Rattle.lexer.specs.Token.{Lexeme, name, text, dictionary_word, reserved, sign, end, position_of}
 use Rattle.expressions.specs.Tree.{NameTree}
 use Rattle.statements.specs.Tree.{LiteralTree, StatementTrees}
 use Rattle.statements.specs.Grammar.{IsK, IsSs, body_nesting}
@@ -22,6 +22,16 @@ token_weight _ = 32
 abbrev pub weight_of : List Lexeme → ℕ
 weight_of [] = 0
 weight_of (t ∷ ts) = token_weight t + weight_of ts
+
+-- The dictionary words among tokens, in order
+
+abbrev pub word_in : Lexeme → List (List ℕ)
+word_in (dictionary_word s p) = s ∷ []
+word_in _ = []
+
+abbrev pub dictionary_words : List Lexeme → List (List ℕ)
+dictionary_words [] = []
+dictionary_words (t ∷ ts) = word_in t ++ dictionary_words ts
 
 -- {name}
 pub data IsNames : List Lexeme → List NameTree → List Lexeme → Type 0 where
@@ -85,7 +95,12 @@ pub data IsDirectives : List Lexeme → List DirectiveTree → List Lexeme → T
 -- Program = {Directive}, up to the end
 pub data IsProgram : List Lexeme → ProgramTree → Type 0 where
   program : {ts : List Lexeme} {p : Position} {ds : List DirectiveTree} → IsDirectives ts ds (end p ∷ [])
-      → IsProgram ts (record { directives = ds; end = p; weight = weight_of ts })
+      → IsProgram ts (record {
+        directives = ds;
+        end = p;
+        weight = weight_of ts;
+        words = dictionary_words ts;
+      })
 
 -- How deep a program is nested
 

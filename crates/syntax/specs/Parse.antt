@@ -5,26 +5,19 @@ use Rattle.std.specs.Prelude.{None, Result, Ok, Err}
 use Rattle.lexer.specs.declared.token.Position.{Position}
 use Rattle.lexer.specs.declared.token.Sign.TheVariants as s
 use Rattle.lexer.specs.declared.token.Word.TheVariants as w
-use Rattle.lexer.specs.Token.{Lexeme, name, reserved, sign, end, position_of}
+use Rattle.lexer.specs.Token.{Lexeme, reserved, sign, end, position_of}
 use Rattle.expressions.specs.declared.error.Fault.{Fault}
 use Rattle.expressions.specs.declared.error.Fault.TheVariants.{Grammar}
 use Rattle.expressions.specs.Tree.{NameTree}
 use Rattle.expressions.specs.Parse.{Parse, ◌>>=◌, head, tail, is_name, is_sign, expect}
 use Rattle.statements.specs.Tree.{trees_of}
-use Rattle.statements.specs.Parse.{repeated, known_value, begins_value, statements}
+use Rattle.statements.specs.Parse.{repeated, named, known_value, begins_value, statements}
 use Rattle.syntax.specs.declared.tree.ArrayKind.{ArrayKind}
 use Rattle.syntax.specs.Tree.{ValueTree, ArrayTree, RoutineTree}
 use Rattle.syntax.specs.Tree.{DirectiveTree, global, constant, array, routine, ProgramTree}
-use Rattle.syntax.specs.Grammar.{weight_of, kind_of}
+use Rattle.syntax.specs.Grammar.{weight_of, dictionary_words, kind_of}
 
 -- ---- names
-
-abbrev pub named_on : Lexeme → Parse NameTree
-named_on (name n p) ts = Ok (record { text = n; position = p }, ts)
-named_on _ ts = Err Grammar
-
-unfoldable pub named : Parse NameTree
-named ts = named_on (head ts) (tail ts)
 
 unfoldable pub names : Parse (List NameTree)
 names ts = repeated is_name named (length ts) ts
@@ -84,7 +77,7 @@ end_alone _ = None
 
 -- a program of these directives and all of these tokens
 abbrev pub whole : List Lexeme → List DirectiveTree → Option Position → Result ProgramTree Fault
-whole ts ds (Some p) = Ok (record { directives = ds; end = p; weight = weight_of ts })
+whole ts ds (Some p) = Ok (record { directives = ds; end = p; weight = weight_of ts; words = dictionary_words ts })
 whole ts ds None = Err Grammar
 
 -- where d nestings may be opened in a statement

@@ -38,6 +38,8 @@ pub record ProgramTree : Type 0 where
   pub directives : List DirectiveTree
   pub end : Position
   pub weight : ℕ
+  -- its dictionary words, in order
+  pub words : List (List ℕ)
 
 -- The tree of a program of the code
 
@@ -67,4 +69,9 @@ directive_tree (directives.Array a) = array (array_tree a)
 directive_tree (directives.Routine r) = routine (routine_tree r)
 
 abbrev pub program_tree : Program → ProgramTree
-program_tree p = record { directives = map directive_tree p.directives.items; end = p.end; weight = p.weight }
+program_tree p = record {
+  directives = map directive_tree p.directives.items;
+  end = p.end;
+  weight = p.weight;
+  words = map (λ w. w.now) p.words.items;
+}

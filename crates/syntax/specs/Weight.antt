@@ -2,17 +2,19 @@
 -- argument, a value of a comparison, an item and a range count one token more, which stands before or after it. A `-`
 -- before a value of a range is not in its tree, and does not count here: there is at most one for each such value.
 use Rattle.std.specs.Prelude.{◌+◌, ◌*◌, ℕ, List, [], ◌∷◌, length, Option, Some, None}
-use Rattle.expressions.specs.Tree.{ExpressionTree, ExpressionTrees, constant, named, call, index, parenthesised}
-use Rattle.expressions.specs.Tree.{prefixed, step_before, step_after, binary, compare, equal, assign, none, more}
+use Rattle.expressions.specs.Tree.{ExpressionTree, ExpressionTrees, constant, word, named, call, index}
+use Rattle.expressions.specs.Tree.{parenthesised, prefixed, step_before, step_after, binary, compare, equal, assign}
+use Rattle.expressions.specs.Tree.{none, more}
 use Rattle.statements.specs.Tree.{LiteralTree, RangeTree, PrintItemTree, text_item, character_item, number_item}
 use Rattle.statements.specs.Tree.{StatementTree, StatementTrees, CaseTrees, empty, block, text_alone, print}
 use Rattle.statements.specs.Tree.{print_return, new_line, if_then, if_else, while_do, do_until, for_loop, switch_on}
 use Rattle.statements.specs.Tree.{break_at, continue_at, return_alone, return_value, return_true, return_false, quit}
-use Rattle.statements.specs.Tree.{effect, stop, next, no_case, default_case, case}
+use Rattle.statements.specs.Tree.{read_line, effect, stop, next, no_case, default_case, case}
 
 abbrev mutual
   pub expression_weight : ExpressionTree → ℕ
   expression_weight (constant n) = 32
+  expression_weight (word s) = 32
   expression_weight (named n) = 32
   expression_weight (call n none) = 96
   expression_weight (call n (more e es)) = 64 + (expression_weight e + 32 + expression_weights es)
@@ -76,6 +78,7 @@ abbrev mutual
   statement_weight return_true = 64
   statement_weight return_false = 64
   statement_weight quit = 64
+  statement_weight (read_line a b) = 128
   statement_weight (effect p e) = 32 + expression_weight e
 
   pub statement_weights : StatementTrees → ℕ

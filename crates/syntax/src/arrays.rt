@@ -7,11 +7,10 @@ ghost use Rattle.syntax.specs.Tree.{value_tree, array_tree};
 ghost use Rattle.syntax.specs.Grammar as grammar;
 ghost use Rattle.syntax.specs.Parse as spec;
 
-use crate::names::named;
 use crate::tree::{Array, ArrayKind, ArrayValue};
 use expressions::{Fault, ParseError, expect, fault_at, peek, position, skip};
 use lexer::{Kind, Sign, Token, Word};
-use statements::{begins_value, known_value};
+use statements::{begins_value, known_value, named};
 use std::alloc::Global;
 
 // The kind of array that the token names.

@@ -7,12 +7,12 @@ ghost use Rattle.syntax.specs.Tree.{routine_tree, directive_tree};
 ghost use Rattle.syntax.specs.Parse as spec;
 
 use crate::arrays::array;
-use crate::names::{named, names};
+use crate::names::names;
 use crate::tree::{Directive, Routine};
 use crate::weight::weight_before;
 use expressions::{Fault, ParseError, expect, fault_at, is_sign, peek, skip};
 use lexer::{Kind, Sign, Token, Word};
-use statements::{known_value, statements};
+use statements::{known_value, named, statements};
 use std::alloc::Global;
 
 // How many nestings may be opened in a statement of a routine.

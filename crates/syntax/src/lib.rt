@@ -8,6 +8,7 @@ mod names;
 mod program;
 mod tree;
 mod weight;
+mod words;
 
 pub use expressions::{Binary, Comparison, Equality, Expression, Name, Prefix, Step, Width};
 pub use laws::{printable_trees, weighed_routines};

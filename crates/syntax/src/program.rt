@@ -13,6 +13,7 @@ ghost use Rattle.syntax.specs.Parse as spec;
 use crate::directives::directives;
 use crate::tree::Program;
 use crate::weight::weight_of;
+use crate::words::dictionary_words;
 use expressions::{Fault, ParseError, fault_at};
 use lexer::{Kind, Position, SourceFault, Token};
 use std::alloc::Global;
@@ -51,6 +52,7 @@ fn program<'a>(alloc: Global, tokens: &[Token<'a>]) -> Result<Program<'a>, Parse
         directives,
         end,
         weight: weight_of(tokens),
+        words: dictionary_words(alloc, tokens)?,
     })
 }
 
@@ -60,7 +62,7 @@ fn program<'a>(alloc: Global, tokens: &[Token<'a>]) -> Result<Program<'a>, Parse
 /// Program = {Directive}
 /// Directive = "global" name ["=" K] ";" | "constant" name "=" K ";"
 ///   | "array" name ("->" | "-->" | "string" | "table") K+ ";" | "[" name {name} ";" {S} "]" ";"
-/// K = ["-"] number | char | name | "true" | "false" | "nothing"
+/// K = ["-"] number | char | word | name | "true" | "false" | "nothing"
 /// ```
 ///
 /// where S is a statement. A program is nested at most 100 deep.

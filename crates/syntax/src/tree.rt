@@ -68,4 +68,7 @@ pub struct Program<'a> {
 
     /// 32 for each token but the end, and 3 for each byte between the quotes of a text.
     pub weight: u128,
+
+    /// The dictionary words, in order, each as often as it stands.
+    pub words: Vec<&'a [u8]>,
 }

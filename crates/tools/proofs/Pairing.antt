@@ -9,7 +9,7 @@ use Rattle.zcore.specs.declared.header.HeaderFault.{HeaderFault}
 use Rattle.zcore.specs.declared.header.HeaderFault.TheVariants.{TooShort, UnknownVersion, WrongLength, WrongSum}
 use Rattle.zcore.specs.declared.header.HeaderFault.TheVariants.{WrongAddress}
 use Rattle.zcore.specs.Header.{Reads, IsOfVersion, StatesLength}
-use Rattle.checker.specs.Resolved.{ProgramOf}
+use Rattle.meaning.specs.Resolved.{ProgramOf}
 use Rattle.code.specs.Laws.{Plays}
 use Rattle.machine.specs.declared.load.LoadFault.TheVariants as loads
 use Rattle.session.specs.declared.fault.OpenFault.{OpenFault}

@@ -4,8 +4,8 @@ use Rattle.std.specs.Io.KnownBytes.{Keeps}
 use Rattle.zcore.specs.declared.header.Version.TheVariants.{V5}
 use Rattle.zcore.specs.declared.place.Place.{Place}
 use Rattle.checker.specs.Programs.{resolve_program}
-use Rattle.checker.specs.Resolved.{ProgramOf}
-use Rattle.checker.specs.Meaning.{meaning}
+use Rattle.meaning.specs.Resolved.{ProgramOf}
+use Rattle.meaning.specs.Meaning.{meaning}
 use Rattle.story.specs.Compiled.{IsStoryOf, Refuses}
 use Rattle.machine.specs.declared.load.LoadFault.TheVariants as loads
 use Rattle.session.specs.declared.fault.OpenFault.{OpenFault}

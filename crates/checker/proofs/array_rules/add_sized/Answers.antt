@@ -3,12 +3,13 @@ use Rattle.std.specs.Prelude.{replicate}
 use Rattle.std.specs.List.{flat_map}
 use Rattle.expressions.specs.declared.tree.Width.{Width}
 use Rattle.checker.specs.Arrays.{entry_bytes}
+use Rattle.names.specs.Scope.{file_in}
 use Rattle.checker.proofs.ArrayBytes.{sized_breaks, sized_adds}
 use Rattle.checker.proofs.array_rules.add_sized.Goals as goal
 
 pub returns-clause-bytes : goal.returns-clause-bytes
 returns-clause-bytes c =
-    sized_adds c.args.whole.now.entries c.args.kind c.args.values.now _ c.literal-size.result
+    sized_adds (file_in c.args.file.now) c.args.kind c.args.values.now _ c.literal-size.result
     c.zeros_of-count.result c.args.bytes.now.items c.add_number.new.bytes.items c.add_zeros.new.bytes.items
     c.requires.one c.literal-size.ensures.value c.zeros_of-count.ensures.value
     c.in_ok-add_number.ensures
@@ -17,6 +18,6 @@ returns-clause-bytes c =
 
 pub returns-clause-breaches : goal.returns-clause-breaches
 returns-clause-breaches c =
-    sized_breaks c.args.whole.now.entries c.args.position c.args.kind c.args.values.now _
+    sized_breaks c.args.file.now.table.entries c.args.position c.args.kind c.args.values.now _
     c.literal-size.result c.args.least.now c.literal-size.new.least c.zeros_of-count.new.least c.requires.one
     c.literal-size.ensures.value c.literal-size.ensures.breaches c.zeros_of-count.ensures.breaches

@@ -3,17 +3,18 @@ use Rattle.std.specs.Prelude.{map}
 use Rattle.syntax.specs.declared.tree.ArrayValue.{ArrayValue}
 use Rattle.syntax.specs.Tree.{value_tree, array_tree}
 use Rattle.checker.specs.Arrays.{bytes_of, entries_of, array_bytes}
+use Rattle.names.specs.Scope.{file_in}
 use Rattle.checker.proofs.ArrayBytes.{array_added}
 use Rattle.checker.proofs.array_rules.array.Goals as goal
 
 pub returns-clause-added : goal.returns-clause-added
 returns-clause-added c =
-    let whole = c.args.whole.now.entries in
+    let file = file_in c.args.file.now in
     let kind = c.args.written.now.kind in
     let old = c.args.found.now.bytes.items in
-    let more = array_bytes whole (array_tree c.args.written.now) in
+    let more = array_bytes file (array_tree c.args.written.now) in
     let mid : c.add_values.new.bytes.items ≡ old ++ more = c.in_ok-add_values.ensures.bytes
-    ∙ ap (λ (vs : List ArrayValue). old ++ bytes_of kind (entries_of whole kind (map value_tree vs)))
+    ∙ ap (λ (vs : List ArrayValue). old ++ bytes_of kind (entries_of file kind (map value_tree vs)))
     c.deref.ensures.value in
     let both = length-append old more in
     let long = ap length mid in

@@ -2,10 +2,13 @@ use Rattle.std.proofs.Common.{List, sym, ap, ◌∙◌}
 use Rattle.std.specs.Prelude.{map}
 use Rattle.syntax.specs.declared.tree.Directive.{Directive}
 use Rattle.syntax.specs.Tree.{directive_tree}
-use Rattle.checker.specs.Noted.{noted}
+use Rattle.names.specs.Noted.{noted}
 use Rattle.checker.specs.Programs.{directives_breaches}
-use Rattle.checker.proofs.Noted.{noted_none}
-use Rattle.checker.proofs.Directives.{counts_fit, drop_end, adding_more, adding_end, breaches_step}
+use Rattle.names.specs.Scope.{file_in}
+use Rattle.names.proofs.Noted.{noted_none}
+use Rattle.names.proofs.Dropped.{drop_end}
+use Rattle.names.proofs.Counting.{counts_fit}
+use Rattle.checker.proofs.Directives.{adding_more, adding_end, breaches_step}
 use Rattle.checker.proofs.directive_rules.add_all.Goals as goal
 
 pub loop-one-preserved : goal.loop-one-preserved
@@ -13,24 +16,24 @@ loop-one-preserved c = record {
   few = rw c.in_ok-add.ensures.counts
       (counts_fit (directive_tree c.one-item.result) c.loop-one.names.counts c.loop-one.one-index
       c.loop-one.invariant.few);
-  adding = adding_more c.args.whole.now.entries c.args.directives.now c.loop-one.one-index c.one-item.result
+  adding = adding_more (file_in c.args.file.now) c.args.directives.now c.loop-one.one-index c.one-item.result
       c.args.found.now c.loop-one.found c.directive.new.found c.loop-one-test.true c.one-item.is
       c.in_ok-directive.ensures.added c.loop-one.invariant.adding;
-  least = breaches_step c.args.whole.now.entries c.loop-one.names.table.entries c.add.new.self.table.entries
+  least = breaches_step c.args.file.now.table.entries c.loop-one.names.table.entries c.add.new.self.table.entries
       c.loop-one.names.counts c.add.new.self.counts c.loop-one.least c.directive.new.least c.args.directives.now c.loop-one.one-index c.one-item.result
       c.loop-one-test.true c.one-item.is
       c.in_ok-directive.ensures.breaches c.in_ok-add.ensures.table c.in_ok-add.ensures.counts ∙ c.loop-one.invariant.least;
 }
 
 pub returns-clause-added : goal.returns-clause-added
-returns-clause-added c = adding_end c.args.whole.now.entries c.args.directives.now c.loop-one.one-index
+returns-clause-added c = adding_end (file_in c.args.file.now) c.args.directives.now c.loop-one.one-index
     c.args.found.now c.loop-one.found c.loop-one-test.false c.loop-one.invariant.adding
 
 pub returns-clause-breaches : goal.returns-clause-breaches
 returns-clause-breaches c =
     sym (noted_none c.loop-one.least)
     ∙ ap (λ (ds : List Directive). noted c.loop-one.least
-    (directives_breaches c.args.whole.now.entries c.loop-one.names.table.entries c.loop-one.names.counts
+    (directives_breaches c.args.file.now.table.entries c.loop-one.names.table.entries c.loop-one.names.counts
     (map directive_tree ds)))
     (sym (drop_end c.args.directives.now c.loop-one.one-index c.loop-one-test.false))
     ∙ c.loop-one.invariant.least

@@ -1,20 +1,21 @@
 use Rattle.std.proofs.Common.{◌≡◌, ◌+◌, drop}
 use Rattle.std.specs.Prelude.{map}
 use Rattle.syntax.specs.Tree.{directive_tree}
-use Rattle.checker.specs.Names.{no_counts, AreFewer}
-use Rattle.checker.specs.Noted.{noted}
-use Rattle.checker.specs.Walk.{IsAdding}
+use Rattle.names.specs.Names.{no_counts, AreFewer}
+use Rattle.names.specs.Noted.{noted}
+use Rattle.checker.specs.Found.{IsAdding}
 use Rattle.checker.specs.Programs.{directives_breaches}
+use Rattle.names.specs.Scope.{file_in}
 use Rattle.checker.proofs.directive_rules.add_all.Given as goal
 
 abbrev pub invariant-loop-one : goal.invariant-loop-one
 invariant-loop-one l = record {
   few : AreFewer (l.one-index + 1) l.names.counts;
-  adding : IsAdding l.whole.entries (map directive_tree (drop l.one-index l.directives))
+  adding : IsAdding (file_in l.file) (map directive_tree (drop l.one-index l.directives))
       (map directive_tree l.directives) l.fn.found l.found;
   least : noted l.least
-      (directives_breaches l.whole.entries l.names.table.entries l.names.counts
+      (directives_breaches l.file.table.entries l.names.table.entries l.names.counts
       (map directive_tree (drop l.one-index l.directives)))
       ≡ noted l.fn.least
-      (directives_breaches l.whole.entries l.fn.names.table.entries no_counts (map directive_tree l.directives));
+      (directives_breaches l.file.table.entries l.fn.names.table.entries no_counts (map directive_tree l.directives));
 }

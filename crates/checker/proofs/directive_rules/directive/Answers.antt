@@ -3,17 +3,18 @@ use Rattle.expressions.specs.Tree.{name_tree}
 use Rattle.syntax.specs.Tree.{DirectiveTree, global, constant, array, routine, directive_tree, optional_tree}
 use Rattle.statements.specs.Tree.{literal_tree}
 use Rattle.syntax.specs.Tree.{array_tree, routine_tree}
-use Rattle.checker.specs.Noted.{noted}
-use Rattle.checker.specs.Literals.{named_breaches}
+use Rattle.names.specs.Noted.{noted}
+use Rattle.rules.specs.Literals.{named_breaches}
 use Rattle.checker.specs.Arrays.{array_breaches}
 use Rattle.checker.specs.Programs.{twice, routine_breaches, directive_breaches}
-use Rattle.checker.proofs.Noted.{noted_two}
+use Rattle.names.specs.Scope.{file_in}
+use Rattle.names.proofs.Noted.{noted_two}
 use Rattle.checker.proofs.Directives.{added_global, added_constant, added_array, added_routine}
 use Rattle.checker.proofs.directive_rules.directive.Goals as goal
 
 pub returns-in_ok-push-in-Global-clause-added : goal.returns-in_ok-push-in-Global-clause-added
 returns-in_ok-push-in-Global-clause-added c =
-    added_global c.args.whole.now.entries (directive_tree c.args.directive.now) (name_tree c.in-Global.name)
+    added_global (file_in c.args.file.now) (directive_tree c.args.directive.now) (name_tree c.in-Global.name)
     (optional_tree c.in-Global.value) c.args.found.now _ c.global.result
     (ap directive_tree c.in-Global.is) c.in_ok-push-in-Global.ensures.items c.global.ensures.value refl refl
 
@@ -23,12 +24,12 @@ returns-in_ok-push-in-Global-clause-breaches c =
     (optional_tree c.in-Global.value) = ap directive_tree c.in-Global.is in
     c.global.ensures.breaches
     ∙ ap (λ (d : DirectiveTree). noted c.args.least.now
-    (directive_breaches c.args.whole.now.entries c.args.names.now.table.entries c.args.names.now.counts d))
+    (directive_breaches c.args.file.now.table.entries c.args.names.now.table.entries c.args.names.now.counts d))
     (sym v)
 
 pub returns-in-Constant-clause-added : goal.returns-in-Constant-clause-added
 returns-in-Constant-clause-added c =
-    added_constant c.args.whole.now.entries (directive_tree c.args.directive.now) (name_tree c.in-Constant.name)
+    added_constant (file_in c.args.file.now) (directive_tree c.args.directive.now) (name_tree c.in-Constant.name)
     (literal_tree c.in-Constant.value) c.args.found.now (ap directive_tree c.in-Constant.is)
 
 pub returns-in-Constant-clause-breaches : goal.returns-in-Constant-clause-breaches
@@ -37,15 +38,15 @@ returns-in-Constant-clause-breaches c =
     (literal_tree c.in-Constant.value) = ap directive_tree c.in-Constant.is in
     noted_two c.args.least.now c.twice.new.least c.constant_value.new.least
     (twice c.args.names.now.table.entries (name_tree c.in-Constant.name))
-    (named_breaches c.args.whole.now.entries c.args.names.now.table.entries (literal_tree c.in-Constant.value))
+    (named_breaches c.args.file.now.table.entries c.args.names.now.table.entries (literal_tree c.in-Constant.value))
     c.twice.ensures c.constant_value.ensures
     ∙ ap (λ (d : DirectiveTree). noted c.args.least.now
-    (directive_breaches c.args.whole.now.entries c.args.names.now.table.entries c.args.names.now.counts d))
+    (directive_breaches c.args.file.now.table.entries c.args.names.now.table.entries c.args.names.now.counts d))
     (sym v)
 
 pub returns-in_ok-push-in-Routine-clause-added : goal.returns-in_ok-push-in-Routine-clause-added
 returns-in_ok-push-in-Routine-clause-added c =
-    added_routine c.args.whole.now.entries (directive_tree c.args.directive.now) (routine_tree c.in-Routine.written)
+    added_routine (file_in c.args.file.now) (directive_tree c.args.directive.now) (routine_tree c.in-Routine.written)
     c.args.found.now _ c.in_ok-routine-in-Routine.field-0
     (ap directive_tree c.in-Routine.is) c.in_ok-push-in-Routine.ensures.items
     c.in_ok-routine-in-Routine.ensures.value refl refl
@@ -56,15 +57,15 @@ returns-in_ok-push-in-Routine-clause-breaches c =
     c.in-Routine.is in
     noted_two c.args.least.now c.twice-in-Routine.new.least c.routine.new.least
     (twice c.args.names.now.table.entries (name_tree c.in-Routine.written.name))
-    (routine_breaches c.args.whole.now.entries (routine_tree c.in-Routine.written)) c.twice-in-Routine.ensures
+    (routine_breaches c.args.file.now.table.entries (routine_tree c.in-Routine.written)) c.twice-in-Routine.ensures
     c.in_ok-routine-in-Routine.ensures.breaches
     ∙ ap (λ (d : DirectiveTree). noted c.args.least.now
-    (directive_breaches c.args.whole.now.entries c.args.names.now.table.entries c.args.names.now.counts d))
+    (directive_breaches c.args.file.now.table.entries c.args.names.now.table.entries c.args.names.now.counts d))
     (sym v)
 
 pub returns-in_ok-array-in-Array-clause-added : goal.returns-in_ok-array-in-Array-clause-added
 returns-in_ok-array-in-Array-clause-added c =
-    added_array c.args.whole.now.entries (directive_tree c.args.directive.now) (array_tree c.in-Array.written)
+    added_array (file_in c.args.file.now) (directive_tree c.args.directive.now) (array_tree c.in-Array.written)
     c.args.found.now _ (ap directive_tree c.in-Array.is) c.in_ok-array-in-Array.ensures.added refl refl
 
 pub returns-in_ok-array-in-Array-clause-breaches : goal.returns-in_ok-array-in-Array-clause-breaches
@@ -73,8 +74,8 @@ returns-in_ok-array-in-Array-clause-breaches c =
     c.in-Array.is in
     noted_two c.args.least.now c.twice-in-Array.new.least c.array.new.least
     (twice c.args.names.now.table.entries (name_tree c.in-Array.written.name))
-    (array_breaches c.args.whole.now.entries (array_tree c.in-Array.written)) c.twice-in-Array.ensures
+    (array_breaches c.args.file.now.table.entries (array_tree c.in-Array.written)) c.twice-in-Array.ensures
     c.in_ok-array-in-Array.ensures.breaches
     ∙ ap (λ (d : DirectiveTree). noted c.args.least.now
-    (directive_breaches c.args.whole.now.entries c.args.names.now.table.entries c.args.names.now.counts d))
+    (directive_breaches c.args.file.now.table.entries c.args.names.now.table.entries c.args.names.now.counts d))
     (sym v)

@@ -1,15 +1,15 @@
 use Rattle.std.proofs.Common.{nat_le, [], ◌++◌, cond}
 use Rattle.expressions.specs.Tree.{name_tree}
 use Rattle.syntax.specs.Tree.{optional_tree}
-use Rattle.checker.specs.Breaches.{at}
-use Rattle.checker.specs.Literals.{initial_breaches}
+use Rattle.names.specs.Breaches.{at}
+use Rattle.rules.specs.Literals.{initial_breaches}
 use Rattle.checker.specs.Programs.{twice}
-use Rattle.checker.proofs.Noted.{noted_two}
+use Rattle.names.proofs.Noted.{noted_two}
 use Rattle.checker.proofs.directive_rules.global.Goals as goal
 
 pub returns-clause-breaches : goal.returns-clause-breaches
 returns-clause-breaches c =
-    let whole = c.args.whole.now.entries in
+    let whole = c.args.file.now.table.entries in
     let own = twice c.args.names.now.table.entries (name_tree c.args.name) in
     let many = cond (nat_le 232 c.args.names.now.counts.globals) (at c.args.name.position 24) [] in
     let value = initial_breaches whole (optional_tree c.args.value.now) in

@@ -1,16 +1,17 @@
 use Rattle.std.proofs.Common.{List, [], ℕ, map, refl, ap, ◌∙◌}
 use Rattle.expressions.specs.declared.tree.Name.{Name}
 use Rattle.expressions.specs.Tree.{name_tree}
-use Rattle.checker.specs.Names.{local_from}
-use Rattle.checker.specs.Noted.{noted}
-use Rattle.checker.specs.Scope.{local_binding}
+use Rattle.names.specs.Names.{local_from}
+use Rattle.names.specs.Noted.{noted}
+use Rattle.names.specs.Scope.{local_binding}
 use Rattle.checker.specs.Programs.{locals_breaches}
+use Rattle.names.specs.Scope.{file_in}
 use Rattle.checker.proofs.Locals.{routine_scoped}
 use Rattle.checker.proofs.directive_rules.routine.Goals as goal
 
 pub returns : goal.returns
 returns c =
-    routine_scoped c.routine_in.result _ c.args.whole.now.entries c.args.routine.now c.args.least.now
+    routine_scoped c.routine_in.result _ (file_in c.args.file.now) c.args.routine.now c.args.least.now
     c.locals.new.least c.routine_in.new.least refl
     (λ (key : List ℕ). c.in_ok-locals.ensures.table key
     ∙ ap (λ (y : List Name). local_binding (local_from 0 (map name_tree y) key)) c.deref.ensures.value)

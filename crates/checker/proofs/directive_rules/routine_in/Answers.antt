@@ -1,6 +1,6 @@
 use Rattle.std.proofs.Common.{◌≡◌, length, map, arith}
-use Rattle.checker.specs.Resolved.{action_of}
-use Rattle.checker.specs.Scope.{look_in}
+use Rattle.meaning.specs.Resolved.{action_of}
+use Rattle.names.specs.Scope.{seen_in}
 use Rattle.checker.proofs.Locals.{routine_walked}
 use Rattle.checker.proofs.directive_rules.routine_in.Goals as goal
 
@@ -8,6 +8,6 @@ pub returns : goal.returns
 returns c =
     let count : c.len.result ≡ length c.args.routine.now.locals.items = omega
     (arith, c.len.ensures, c.args.routine.now.locals.ok.0) in
-    routine_walked (look_in c.args.scope.now) c.args.routine.now c.deref.result.now c.len.result
+    routine_walked (seen_in c.args.scope.now) c.args.routine.now c.deref.result.now c.len.result
     (map action_of c.in_ok-body.body.items) c.args.least.now c.all_statements.new.least
     c.deref.ensures.value count c.in_ok-body.ensures

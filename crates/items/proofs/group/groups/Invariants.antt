@@ -1,5 +1,5 @@
 use Rattle.std.proofs.Common.{◌≡◌, ◌-◌, length, map, drop, reverse}
-use Rattle.checker.specs.Resolved.{range_of}
+use Rattle.meaning.specs.Resolved.{range_of}
 use Rattle.items.specs.Items as items
 use Rattle.items.specs.Code.{group_of}
 use Rattle.items.proofs.group.groups.Given as goal

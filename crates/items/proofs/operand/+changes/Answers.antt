@@ -2,8 +2,8 @@ use Rattle.std.proofs.Common.{sym, ap, ◌∙◌}
 use Rattle.std.specs.Prelude.{◌||◌, map}
 use Rattle.expressions.specs.declared.tree.Binary.{Binary}
 use Rattle.std.proofs.Common.{List}
-use Rattle.checker.specs.declared.resolved.Value as code_value
-use Rattle.checker.specs.Resolved.{value_of}
+use Rattle.meaning.specs.declared.resolved.Value as code_value
+use Rattle.meaning.specs.Resolved.{value_of}
 use Rattle.items.specs.Items as items
 use Rattle.items.specs.Writing.{change_links, link_of}
 use Rattle.items.proofs.Trees.{chain_changes}

@@ -1,5 +1,5 @@
 use Rattle.std.proofs.Common.{◌≡◌, map, drop}
-use Rattle.checker.specs.Resolved.{value_of, values_of}
+use Rattle.meaning.specs.Resolved.{value_of, values_of}
 use Rattle.items.specs.Items as items
 use Rattle.items.specs.Writing.{change_links, link_of}
 use Rattle.items.proofs.operand.+changes.Given as goal

@@ -1,5 +1,5 @@
 use Rattle.std.proofs.Common.{sym, subst}
-use Rattle.checker.specs.Resolved as source
+use Rattle.meaning.specs.Resolved as source
 use Rattle.items.specs.declared.wanted.Wanted.{Wanted}
 use Rattle.items.specs.Writing.{written_in, Written, wanted_items}
 use Rattle.items.proofs.parts.put_number.Goals as goal

@@ -1,6 +1,6 @@
 use Rattle.std.proofs.Common.{List, [], ◌∷◌, ◌++◌, map, ap, ◌∙◌, subst}
-use Rattle.checker.specs.declared.resolved.Action as code_action
-use Rattle.checker.specs.Resolved.{action_of, actions_of}
+use Rattle.meaning.specs.declared.resolved.Action as code_action
+use Rattle.meaning.specs.Resolved.{action_of, actions_of}
 use Rattle.items.specs.Items.{actions_items, return_true}
 use Rattle.items.specs.Code.{items_of}
 use Rattle.items.specs.Writing.{written_in, Written, exits_of}

@@ -1,11 +1,11 @@
 use Rattle.std.proofs.Common.{◌≡◌, ℕ, ◌+◌, ◌-◌, ◌<◌, List, [], length, map, drop, refl, sym, subst, arith}
-use Rattle.checker.specs.declared.resolved.Printed as code_printed
-use Rattle.checker.specs.declared.resolved.Action as code_action
+use Rattle.meaning.specs.declared.resolved.Printed as code_printed
+use Rattle.meaning.specs.declared.resolved.Action as code_action
 use Rattle.std.specs.Global.{Vec}
 use Rattle.std.specs.Option.{option_map}
-use Rattle.checker.specs.declared.resolved.Span.{Span}
-use Rattle.checker.specs.Resolved.{Action, CasesOf, while_do, do_until, for_loop, switch_on, value_of, printed_of}
-use Rattle.checker.specs.Resolved.{range_of, action_of, actions_of, case_of, cases_of, other_of}
+use Rattle.meaning.specs.declared.resolved.Span.{Span}
+use Rattle.meaning.specs.Resolved.{Action, CasesOf, while_do, do_until, for_loop, switch_on, value_of, printed_of}
+use Rattle.meaning.specs.Resolved.{range_of, action_of, actions_of, case_of, cases_of, other_of}
 use Rattle.items.specs.Items.{action_items, actions_items, cases_items, prints_items, groups_of, tests_items}
 use Rattle.items.specs.declared.exits.Exits.{Exits}
 use Rattle.items.specs.Writing.{written_in, Written, exits_of, LeavesCases}

@@ -1,5 +1,5 @@
 use Rattle.std.proofs.Common.{◌-◌, ◌+◌, ◌*◌, max, [], length, map, drop}
-use Rattle.checker.specs.Resolved.{action_of, actions_of}
+use Rattle.meaning.specs.Resolved.{action_of, actions_of}
 use Rattle.items.specs.Items.{actions_items}
 use Rattle.items.specs.Writing.{written_in, Written, exits_of, LeavesCases}
 use Rattle.items.proofs.statement.+statements.Given as goal

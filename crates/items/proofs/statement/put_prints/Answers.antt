@@ -1,5 +1,5 @@
 use Rattle.std.proofs.Common.{◌≡◌, ℕ, ◌+◌, ◌-◌, ◌<◌, length, map, drop, subst, arith}
-use Rattle.checker.specs.Resolved.{printed_of}
+use Rattle.meaning.specs.Resolved.{printed_of}
 use Rattle.items.specs.Items.{prints_items}
 use Rattle.items.specs.Writing.{written_in, Written}
 use Rattle.items.proofs.Actions.{printed_next}

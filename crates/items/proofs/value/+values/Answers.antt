@@ -3,8 +3,8 @@ use Rattle.std.proofs.Common.{arith}
 use Rattle.std.proofs.Common.{refl}
 use Rattle.std.proofs.lemmas.List.{take_rest}
 use Rattle.expressions.specs.declared.tree.Binary.{Binary}
-use Rattle.checker.specs.declared.resolved.Value as code_value
-use Rattle.checker.specs.Resolved.{Value, value_of, values_of}
+use Rattle.meaning.specs.declared.resolved.Value as code_value
+use Rattle.meaning.specs.Resolved.{Value, value_of, values_of}
 use Rattle.items.specs.Items.{pushed, branch_true, left_of, operand_of, operands_of, operands_items}
 use Rattle.items.specs.Items as items
 use Rattle.items.specs.Code.{as_operand, as_operands, as_destination}

@@ -1,5 +1,5 @@
 use Rattle.std.proofs.Common.{◌-◌, length, map, drop}
-use Rattle.checker.specs.Resolved.{value_of, values_of}
+use Rattle.meaning.specs.Resolved.{value_of, values_of}
 use Rattle.items.specs.Items.{operands_items}
 use Rattle.items.specs.Writing.{written_in, link_of, folded_items, Written, ReducesLinks}
 use Rattle.items.proofs.value.+values.Given as goal

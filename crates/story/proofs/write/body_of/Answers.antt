@@ -2,9 +2,9 @@ use Rattle.std.proofs.Common.{◌≡◌, ℕ, ◌*◌, ◌<◌, ◌≤◌, List,
 use Rattle.std.specs.Prelude.{slice_index}
 use Rattle.std.specs.Global.{Vec}
 use Rattle.zcore.specs.Header.{scale_of}
-use Rattle.checker.specs.declared.places.Places.{Places}
-use Rattle.checker.specs.Places.{arrays_place, routines_place}
-use Rattle.checker.specs.Resolved.{program_of}
+use Rattle.meaning.specs.declared.places.Places.{Places}
+use Rattle.meaning.specs.Places.{arrays_place, routines_place}
+use Rattle.meaning.specs.Resolved.{program_of}
 use Rattle.code.specs.Written.{addresses_of}
 use Rattle.story.specs.Layout.{fault_texts, packed_addresses, addresses_from, array_addresses, addresses_in}
 use Rattle.story.specs.Written.{bytes_in, end_from, packed_from}
@@ -48,6 +48,9 @@ index-requires c =
     let codes = codes_counted (program_of c.args.checked.now) c.deref.result.now (c.deref.ensures.value
     ∙ c.in_ok-codes.ensures) in
     omega (arith, count, codes, c.requires.accepted.main, c.main.ensures, c.in_ok-packed.packed.ok.0)
+
+pub put_low-requires-clause-keys : goal.put_low-requires-clause-keys
+put_low-requires-clause-keys c = omega (arith, c.requires.placed)
 
 pub put_routines-requires : goal.put_routines-requires
 put_routines-requires c =

@@ -1,5 +1,5 @@
 use Rattle.std.proofs.Common.{◌≡◌, take}
-use Rattle.checker.specs.Resolved.{program_of}
+use Rattle.meaning.specs.Resolved.{program_of}
 use Rattle.story.proofs.Laid.{codes_in}
 use Rattle.story.proofs.write.codes_of.Given as goal
 

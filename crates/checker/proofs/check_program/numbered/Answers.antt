@@ -1,0 +1,18 @@
+use Rattle.std.proofs.Common.{ℕ, List, Bor, refl, ap, ◌∙◌}
+use Rattle.std.specs.Prelude.{map}
+use Rattle.names.specs.Keys.{keys_of}
+use Rattle.names.specs.Scope.{file_in}
+use Rattle.checker.proofs.Numbered.{file_numbered}
+use Rattle.checker.proofs.check_program.numbered.Goals as goal
+
+pub returns-clause-file : goal.returns-clause-file
+returns-clause-file c =
+    file_numbered c.args.program.now c.deref.result.now c.deref-2.result.now (file_in c.in_ok-first.first)
+    c.in_ok-first.first.table.entries c.in_ok-keys.keys.items c.in_ok-bytes.bytes c.dictionary_behind.result
+    c.in_ok-first.ensures refl c.deref.ensures.value c.in_ok-bytes.ensures.bytes c.dictionary_behind.ensures
+    c.deref-2.ensures.value c.in_ok-keys.ensures.keys
+
+pub returns-clause-keys : goal.returns-clause-keys
+returns-clause-keys c =
+    c.in_ok-keys.ensures.keys
+    ∙ ap (λ (ws : List (Bor (List ℕ))). keys_of (map (λ (w : Bor (List ℕ)). w.now) ws)) c.deref-2.ensures.value

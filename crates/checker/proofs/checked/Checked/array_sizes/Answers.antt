@@ -1,9 +1,0 @@
-use Rattle.std.proofs.Common.{ap, ◌∙◌, length}
-use Rattle.std.specs.Prelude.{map}
-use Rattle.checker.specs.Resolved.{CheckedProgram}
-use Rattle.checker.proofs.Cutting.{cut_sizes}
-use Rattle.checker.proofs.checked.Checked.array_sizes.Goals as goal
-
-pub returns : goal.returns
-returns c = c.deref.ensures.value ∙ cut_sizes _ _ c.self.invariant
-    ∙ ap (λ (p : CheckedProgram). map length p.arrays) c.self.view_is

@@ -1,6 +1,0 @@
-use Rattle.std.proofs.Common.{◌≡◌, drop}
-use Rattle.checker.specs.Sizes.{first_heavy}
-use Rattle.checker.proofs.sizes.first_heavy.Given as goal
-
-abbrev pub invariant-loop-routine : goal.invariant-loop-routine
-invariant-loop-routine l = first_heavy (drop l.routine-index l.routines) ≡ first_heavy l.routines

@@ -1,6 +1,0 @@
-use Rattle.checker.specs.Resolved.{value_of}
-use Rattle.checker.proofs.Walks.{before}
-use Rattle.checker.proofs.statement_rules.whole.Goals as goal
-
-pub returns : goal.returns
-returns c = before value_of c.expression.result _ _ _ _ _ _ c.temporaries.ensures c.expression.ensures

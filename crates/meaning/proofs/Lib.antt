@@ -1,0 +1,6 @@
+pub mod Cutting
+pub mod Routines
+pub mod Mapped
+mod LoopSamples
+mod ReadSamples
+mod CallSamples

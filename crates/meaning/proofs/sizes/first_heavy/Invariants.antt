@@ -1,0 +1,6 @@
+use Rattle.std.proofs.Common.{◌≡◌, drop}
+use Rattle.meaning.specs.Sizes.{first_heavy}
+use Rattle.meaning.proofs.sizes.first_heavy.Given as goal
+
+abbrev pub invariant-loop-routine : goal.invariant-loop-routine
+invariant-loop-routine l = first_heavy (drop l.routine-index l.routines) ≡ first_heavy l.routines

@@ -1,0 +1,151 @@
+-- What the resolved tree of an accepted program satisfies: variables, arrays, routines and arguments are within their
+-- limits, no expression needs more than 48 temporaries, no `break` or `continue` stands outside, and the keys of words
+-- ascend.
+use Rattle.std.specs.Prelude.{◌≡◌, ◌≢◌, ◌+◌, ◌^◌, ◌<◌, ◌≤◌, ℕ, true, List, [], ◌∷◌, length, Option, Some, None}
+use Rattle.std.specs.List.{All}
+use Rattle.std.specs.List.Sorted.{IsStrictlyIncreasing}
+use Rattle.meaning.specs.declared.resolved.Variable.{Variable}
+use Rattle.meaning.specs.declared.resolved.Variable.TheVariants as variables
+use Rattle.meaning.specs.Operands.{operands}
+use Rattle.meaning.specs.Resolved.{Value, Values, number, read, call, prefixed, step_before, step_after, binary}
+use Rattle.meaning.specs.Resolved.{compare, equal, assign, entry, assign_entry, none, more, Printed, text}
+use Rattle.meaning.specs.Resolved.{character_of, number_of, Action, Actions, CasesOf, empty, block, text_alone, print}
+use Rattle.meaning.specs.Resolved.{print_return, new_line, if_then, if_else, while_do, do_until, for_loop, switch_on}
+use Rattle.meaning.specs.Resolved.{break_out, continue_on, read_line, return_value, quit, effect, stop, next, no_case}
+use Rattle.meaning.specs.Resolved.{default_case, case, RoutineOf, ProgramOf}
+use Rattle.meaning.specs.Meaning.{routine_at}
+use Rattle.meaning.specs.declared.around.Around.{Around}
+use Rattle.meaning.specs.Around.{outside, in_loop, in_switch}
+
+abbrev pub count_of : Values → ℕ
+count_of none = 0
+count_of (more v vs) = count_of vs + 1
+
+-- how many temporaries a value needs
+abbrev mutual
+  pub need_of : Value → ℕ
+  need_of (number n) = 1
+  need_of (read x) = 1
+  need_of (call r vs) = operands 0 (needs_of vs)
+  need_of (prefixed op v) = operands 0 (need_of v ∷ [])
+  need_of (step_before op x) = 1
+  need_of (step_after x op) = 1
+  need_of (binary op a b) = operands 0 (need_of a ∷ need_of b ∷ [])
+  need_of (compare op a b) = operands 0 (need_of a ∷ need_of b ∷ [])
+  need_of (equal op a bs) = operands 0 (need_of a ∷ needs_of bs)
+  need_of (assign x v) = operands 0 (need_of v ∷ [])
+  need_of (entry width a i) = operands 0 (need_of i ∷ [])
+  need_of (assign_entry width a i v) = operands 0 (need_of i ∷ need_of v ∷ [])
+
+  pub needs_of : Values → List ℕ
+  needs_of none = []
+  needs_of (more v vs) = need_of v ∷ needs_of vs
+
+-- in a routine with so many locals of this program
+module _ (p : ProgramOf) (locals : ℕ) where
+  abbrev pub IsVariable : Variable → Type 0
+  IsVariable (variables.Local i) = i < locals
+  IsVariable (variables.Global g) = g < length p.globals
+
+  abbrev mutual
+    pub IsValue : Value → Type 0
+    IsValue (number n) = Unit {0}
+    IsValue (read x) = IsVariable x
+    IsValue (call r vs) = (r < length p.routines) × (count_of vs ≤ 7)
+        × (count_of vs ≤ (routine_at p.routines r).locals) × AreValues vs
+    IsValue (prefixed op v) = IsValue v
+    IsValue (step_before op x) = IsVariable x
+    IsValue (step_after x op) = IsVariable x
+    IsValue (binary op a b) = IsValue a × IsValue b
+    IsValue (compare op a b) = IsValue a × IsValue b
+    IsValue (equal op a bs) = IsValue a × AreValues bs
+    IsValue (assign x v) = IsVariable x × IsValue v
+    IsValue (entry width a i) = (a < length p.arrays) × IsValue i
+    IsValue (assign_entry width a i v) = (a < length p.arrays) × IsValue i × IsValue v
+
+    pub AreValues : Values → Type 0
+    AreValues none = Unit {0}
+    AreValues (more v vs) = IsValue v × AreValues vs
+
+  -- a whole expression of a statement or an item
+  abbrev pub IsWhole : Value → Type 0
+  IsWhole v = IsValue v × (need_of v ≤ 48)
+
+  -- a part of a `for`
+  abbrev pub IsPart : Option Value → Type 0
+  IsPart None = Unit {0}
+  IsPart (Some v) = IsWhole v
+
+  abbrev pub IsPrinted : Printed → Type 0
+  IsPrinted (text bytes) = Unit {0}
+  IsPrinted (character_of v) = IsWhole v
+  IsPrinted (number_of v) = IsWhole v
+
+  abbrev mutual
+    pub IsAction : Action → Type 0
+    IsAction empty = Unit {0}
+    IsAction (block xs) = AreActions xs
+    IsAction (text_alone bytes) = Unit {0}
+    IsAction (print is) = All IsPrinted is
+    IsAction (print_return is) = All IsPrinted is
+    IsAction new_line = Unit {0}
+    IsAction (if_then v a) = IsWhole v × IsAction a
+    IsAction (if_else v a b) = IsWhole v × IsAction a × IsAction b
+    IsAction (while_do v a) = IsWhole v × IsAction a
+    IsAction (do_until a v) = IsAction a × IsWhole v
+    IsAction (for_loop x y z a) = IsPart x × IsPart y × IsPart z × IsAction a
+    IsAction (switch_on v cs) = IsWhole v × AreCases cs
+    IsAction break_out = Unit {0}
+    IsAction continue_on = Unit {0}
+    IsAction (read_line a b) = (a < length p.arrays) × (b < length p.arrays) × (a ≢ b)
+    IsAction (return_value v) = IsWhole v
+    IsAction quit = Unit {0}
+    IsAction (effect v) = IsWhole v
+
+    pub AreActions : Actions → Type 0
+    AreActions stop = Unit {0}
+    AreActions (next a rest) = IsAction a × AreActions rest
+
+    pub AreCases : CasesOf → Type 0
+    AreCases no_case = Unit {0}
+    AreCases (default_case xs) = AreActions xs
+    AreCases (case gs xs rest) = AreActions xs × AreCases rest
+
+-- each `break` stands in a loop or a `switch`, each `continue` in a loop, by what is around a statement
+abbrev mutual
+  pub StandsIn : Around → Action → Type 0
+  StandsIn around (block xs) = AllStandIn around xs
+  StandsIn around (if_then v a) = StandsIn around a
+  StandsIn around (if_else v a b) = StandsIn around a × StandsIn around b
+  StandsIn around (while_do v a) = StandsIn in_loop a
+  StandsIn around (do_until a v) = StandsIn in_loop a
+  StandsIn around (for_loop x y z a) = StandsIn in_loop a
+  StandsIn around (switch_on v cs) = CasesStandIn (in_switch around) cs
+  StandsIn around break_out = around.can_break ≡ true
+  StandsIn around continue_on = around.can_continue ≡ true
+  StandsIn around _ = Unit {0}
+
+  pub AllStandIn : Around → Actions → Type 0
+  AllStandIn around stop = Unit {0}
+  AllStandIn around (next a rest) = StandsIn around a × AllStandIn around rest
+
+  pub CasesStandIn : Around → CasesOf → Type 0
+  CasesStandIn around no_case = Unit {0}
+  CasesStandIn around (default_case xs) = AllStandIn around xs
+  CasesStandIn around (case gs xs rest) = AllStandIn around xs × CasesStandIn around rest
+
+abbrev pub IsRoutine : ProgramOf → RoutineOf → Type 0
+IsRoutine p r = (r.locals ≤ 15) × AreActions p r.locals r.body × AllStandIn outside r.body
+
+abbrev pub IsArray : List ℕ → Type 0
+IsArray bytes = length bytes ≤ 32000
+
+pub record IsAccepted (p : ProgramOf) : Type 0 where
+  pub globals : length p.globals ≤ 232
+  pub arrays : All IsArray p.arrays
+  pub routines : All (IsRoutine p) p.routines
+  pub main : p.main < length p.routines
+  pub alone : (routine_at p.routines p.main).locals ≡ 0
+  -- the keys of words have six bytes, and ascend
+  pub keys : All (λ k. k < 2 ^ 48) p.keys
+  pub ascending : IsStrictlyIncreasing p.keys

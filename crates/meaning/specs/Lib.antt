@@ -1,0 +1,10 @@
+pub mod Resolved
+pub mod World
+pub mod Reading
+pub mod Places
+pub mod Meaning
+pub mod Sizes
+pub mod Operands
+pub mod Around
+pub mod Accepted
+pub mod Printable

@@ -1,0 +1,167 @@
+-- What a running source changes, and the acts that change it.
+use Rattle.std.specs.Prelude.{◌+◌, ◌*◌, ◌/◌, ◌%◌, ◌==◌, ◌&&◌, ℕ, zero, suc, nat_le, nat_lt, Bool, if◌then◌else◌, List}
+use Rattle.std.specs.Prelude.{[], ◌∷◌, ◌++◌, codes, length, take, slice_index, slice_index_or, slice_set}
+use Rattle.zcore.specs.Bytes.{word_at}
+use Rattle.zcore.specs.Parts.{with_word}
+use Rattle.zcore.specs.declared.place.Place.{Place}
+use Rattle.zcore.specs.declared.place.Place.TheVariants as places
+use Rattle.zcore.specs.declared.place.Limit.TheVariants as limits
+use Rattle.zcore.specs.Turn.{notice}
+use Rattle.expressions.specs.declared.tree.Width.{Width}
+use Rattle.expressions.specs.declared.tree.Width.TheVariants as widths
+use Rattle.meaning.specs.declared.cause.Cause.{Cause}
+use Rattle.meaning.specs.declared.cause.Cause.TheVariants as causes
+use Rattle.meaning.specs.declared.resolved.Variable.{Variable}
+use Rattle.meaning.specs.declared.resolved.Variable.TheVariants as variables
+
+-- A whole run: the text of each turn, the opening's first, and where the last turn left the story.
+pub record Outcome : Type 0 where
+  pub texts : List (List ℕ)
+  pub place : Place
+
+-- The world of a running source. Text is in bytes of the transcript: a new line is byte 10.
+pub record World : Type 0 where
+  pub globals : List ℕ
+  -- the bytes of each array
+  pub arrays : List (List ℕ)
+  -- the units that the turn may still spend
+  pub fuel : ℕ
+  -- the lines that are still to come
+  pub lines : List (List ℕ)
+  -- what the turn has printed
+  pub text : List ℕ
+  -- the texts of the turns before it
+  pub texts : List (List ℕ)
+
+-- where a routine stands: its locals, and the world
+pub record Situation : Type 0 where
+  pub locals : List ℕ
+  pub world : World
+
+-- A part of a source comes to a value and a situation, or the run ends there.
+pub data Comes (A : Type 0) : Type 0 where
+  to : A → Situation → Comes A
+  over : Outcome → Comes A
+
+abbrev pub Part : Type 0 → Type 0
+Part A = Situation → Comes A
+
+abbrev pub bound : {A B : Type 0} → Comes A → (A → Part B) → Comes B
+bound (to a s) k = k a s
+bound (over outcome) k = over outcome
+
+infixl 10 ◌>>=◌
+abbrev pub ◌>>=◌ : {A B : Type 0} → Part A → (A → Part B) → Part B
+(f >>= k) s = bound (f s) k
+
+-- nothing is done
+abbrev pub give : {A : Type 0} → A → Part A
+give a s = to a s
+
+-- how a run ends; a limit's notice follows the text
+abbrev pub ended : Place → World → Outcome
+ended place w = record { texts = w.texts ++ (w.text ++ notice place) ∷ []; place = place }
+
+abbrev pub ends : {A : Type 0} → Place → Part A
+ends place s = over (ended place s.world)
+
+-- Text
+
+-- at most 65,536 bytes in a turn; those that fit stand
+abbrev pub put : List ℕ → Part (Unit {0})
+put bytes s =
+    if nat_le (length (s.world.text ++ bytes)) 65536
+    then to tt (record s { world = record (s.world) { text = s.world.text ++ bytes } })
+    else over (ended (places.Limit limits.Text) (record (s.world) { text = take 65536 (s.world.text ++ bytes) }))
+
+-- what stands between the quotes of a text: `^` is a new line, `~` a double quote
+abbrev pub shown : ℕ → ℕ
+shown character =
+    if character == 94 then 10
+    else (if character == 126 then 34
+    else character)
+
+-- Faults
+
+-- what a fault's line says
+abbrev pub words_of : Cause → List ℕ
+words_of causes.DivisionByZero = codes "division by zero"
+words_of causes.NotAnObject = codes "not an object"
+words_of causes.IndexOutOfRange = codes "index out of range"
+words_of causes.NoSuchProperty = codes "no such property"
+words_of causes.PropertyOfManyWords = codes "property of many words"
+words_of causes.ObjectInsideItself = codes "object inside itself"
+words_of causes.NotACharacter = codes "not a character"
+words_of causes.BufferTooSmall = codes "buffer too small"
+
+-- a source fault prints its line, and the story quits
+abbrev pub fault : {A : Type 0} → Cause → Part A
+fault cause = put (10 ∷ codes "[Fault: " ++ words_of cause ++ codes "]" ++ 10 ∷ []) >>= λ _. ends places.Quit
+
+-- Fuel
+
+abbrev pub spend_from : ℕ → Part (Unit {0})
+spend_from zero s = over (ended (places.Limit limits.Fuel) s.world)
+spend_from (suc fuel) s = to tt (record s { world = record (s.world) { fuel = fuel } })
+
+-- a unit is spent
+abbrev pub spend : Part (Unit {0})
+spend s = spend_from s.world.fuel s
+
+-- every unit that a run may still spend, whatever lines it reads, where each line brings so many
+abbrev pub units : ℕ → World → ℕ
+units full w = w.fuel + full * length w.lines
+
+-- Variables
+
+abbrev pub value_in : Variable → Situation → ℕ
+value_in (variables.Local i) s = slice_index s.locals i
+value_in (variables.Global g) s = slice_index s.world.globals g
+
+abbrev pub read_variable : Variable → Part ℕ
+read_variable x s = to (value_in x s) s
+
+abbrev pub with_value : Variable → ℕ → Situation → Situation
+with_value (variables.Local i) value s = record s { locals = slice_set s.locals i value }
+with_value (variables.Global g) value s = record
+    s { world = record (s.world) { globals = slice_set s.world.globals g value } }
+
+abbrev pub write_variable : Variable → ℕ → Part (Unit {0})
+write_variable x value s = to tt (with_value x value s)
+
+-- Arrays
+
+abbrev pub array_at : List (List ℕ) → ℕ → List ℕ
+array_at arrays a = slice_index_or arrays a []
+
+-- how many entries an array has: as many as bytes, or half as many words, rounded down
+abbrev pub entry_count : Width → List ℕ → ℕ
+entry_count widths.Byte bytes = length bytes
+entry_count widths.Word bytes = length bytes / 2
+
+-- An index is signed: at least 0, that is, a word below 32,768; and below the number of entries.
+abbrev pub is_index : Width → List ℕ → ℕ → Bool
+is_index width bytes i = nat_lt i 32768 && nat_lt i (entry_count width bytes)
+
+abbrev pub entry_at : Width → List ℕ → ℕ → ℕ
+entry_at widths.Byte bytes i = slice_index bytes i
+entry_at widths.Word bytes i = word_at bytes (2 * i)
+
+-- a byte keeps the low eight bits
+abbrev pub with_entry : Width → List ℕ → ℕ → ℕ → List ℕ
+with_entry widths.Byte bytes i value = slice_set bytes i (value % 256)
+with_entry widths.Word bytes i value = with_word bytes (2 * i) value
+
+abbrev pub read_entry : Width → ℕ → ℕ → Part ℕ
+read_entry width a i s =
+    if is_index width (array_at s.world.arrays a) i then to (entry_at width (array_at s.world.arrays a) i) s
+    else fault causes.IndexOutOfRange s
+
+abbrev pub with_array : ℕ → List ℕ → Situation → Situation
+with_array a bytes s = record s { world = record (s.world) { arrays = slice_set s.world.arrays a bytes } }
+
+abbrev pub write_entry : Width → ℕ → ℕ → ℕ → Part (Unit {0})
+write_entry width a i value s =
+    if is_index width (array_at s.world.arrays a) i
+    then to tt (with_array a (with_entry width (array_at s.world.arrays a) i value) s)
+    else fault causes.IndexOutOfRange s

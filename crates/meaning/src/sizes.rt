@@ -1,0 +1,62 @@
+//! Which programs are too large.
+
+ghost use Rattle.std.specs.Prelude.{◌≡◌};
+ghost use Rattle.meaning.specs.Sizes.{fault_of, size_fault};
+ghost use Rattle.meaning.specs.Sizes as spec;
+
+use crate::checked::{Checked, CheckedRoutine};
+use crate::places::part_places;
+use lexer::{Position, ROUTINE_TOO_LARGE, STORY_TOO_LARGE, SourceFault, TABLES_TOO_LARGE};
+use zcore::Version;
+
+fn greatest_weight(version: Version) -> u128
+    ensures { result ≡ spec.greatest_weight version }
+{
+    match version {
+        Version::V5 => 190_000,
+        Version::V8 => 450_000,
+    }
+}
+
+// The position of the name of the first routine that weighs too much.
+fn first_heavy(routines: &[CheckedRoutine<'_>]) -> Option<Position>
+    ensures { result ≡ spec.first_heavy routines.now }
+{
+    for routine in routines {
+        if routine.weight > 32_000 {
+            return Some(routine.name.position);
+        }
+    }
+    None
+}
+
+/// Whether a program is small enough to be compiled for a version.
+///
+/// # Errors
+///
+/// E30, with line 0, where the parts before the routines pass 65,535 bytes; else E31, with line 0, where the source
+/// weighs more than 190,000 in version 5 or 450,000 in version 8; else E32, with the line of its name, at the first routine
+/// that weighs more than 32,000.
+pub fn test_sizes(checked: &Checked<'_>, version: Version) -> Result<(), SourceFault>
+    ensures { fault_of result ≡ size_fault checked.now version }
+{
+    if part_places(checked).routines > 65_535 {
+        return Err(SourceFault {
+            number: TABLES_TOO_LARGE,
+            line: 0,
+        });
+    }
+    if checked.source_weight() > greatest_weight(version) {
+        return Err(SourceFault {
+            number: STORY_TOO_LARGE,
+            line: 0,
+        });
+    }
+    match first_heavy(checked.in_order()) {
+        None => Ok(()),
+        Some(position) => Err(SourceFault {
+            number: ROUTINE_TOO_LARGE,
+            line: position.line,
+        }),
+    }
+}

@@ -1,0 +1,10 @@
+pub mod Noted
+pub mod Keys
+pub mod Lettered
+pub mod Gathered
+pub mod SmallKeys
+pub mod Ranks
+pub mod Each
+pub mod Tables
+pub mod Counting
+pub mod Dropped

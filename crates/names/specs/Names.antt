@@ -1,0 +1,160 @@
+-- What names stand for. Case is ignored; all names of a file share one space, and a local hides a name of the file in
+-- its whole routine.
+use Rattle.std.specs.Prelude.{◌&&◌, ◌+◌, ◌<◌, ℕ, zero, suc, nat_eq, nat_le, Bool, true, false, if◌then◌else◌, List}
+use Rattle.std.specs.Prelude.{[], ◌∷◌, ◌++◌, codes, length, Option, Some, None, is_some}
+use Rattle.std.specs.Cmp.Lexicographic.{pointwise}
+use Rattle.expressions.specs.Tree as trees
+use Rattle.expressions.specs.Tree.{NameTree, ExpressionTree}
+use Rattle.statements.specs.Tree.{LiteralTree, number_value, word_value, named_value}
+use Rattle.syntax.specs.Tree.{DirectiveTree, global, constant, array, routine}
+use Rattle.names.specs.declared.binding.Binding.{Binding}
+use Rattle.names.specs.declared.binding.Binding.TheVariants as bindings
+use Rattle.names.specs.declared.counts.Counts.{Counts}
+use Rattle.names.specs.declared.known.Known.{Known}
+use Rattle.names.specs.declared.known.Known.TheVariants as knowns
+use Rattle.names.specs.Keys.{key_of_word, value_of_known, or_zero}
+
+abbrev pub lower_case : ℕ → ℕ
+lower_case c = if nat_le 65 c && nat_le c 90 then c + 32 else c
+
+-- so many bytes of a name, with zeros after it
+abbrev pub padded : ℕ → List ℕ → List ℕ
+padded zero s = []
+padded (suc n) [] = 0 ∷ padded n []
+padded (suc n) (c ∷ s) = lower_case c ∷ padded n s
+
+-- A name has at most 32 bytes. Two names are the same where their keys are.
+unfoldable pub key_of : List ℕ → List ℕ
+key_of name = padded 32 name
+
+-- the name that an expression is, parentheses apart
+abbrev pub name_of : ExpressionTree → Option NameTree
+name_of (trees.constant n) = None
+name_of (trees.word s) = None
+name_of (trees.named n) = Some n
+name_of (trees.call n es) = None
+name_of (trees.index n width e) = None
+name_of (trees.parenthesised e) = name_of e
+name_of (trees.prefixed op e) = None
+name_of (trees.step_before op p e) = None
+name_of (trees.step_after e op p) = None
+name_of (trees.binary op a b) = None
+name_of (trees.compare op a b) = None
+name_of (trees.equal op a bs) = None
+name_of (trees.assign a p b) = None
+
+-- an expression is an entry of an array, parentheses apart
+abbrev pub is_entry : ExpressionTree → Bool
+is_entry (trees.constant n) = false
+is_entry (trees.word s) = false
+is_entry (trees.named n) = false
+is_entry (trees.call n es) = false
+is_entry (trees.index n width e) = true
+is_entry (trees.parenthesised e) = is_entry e
+is_entry (trees.prefixed op e) = false
+is_entry (trees.step_before op p e) = false
+is_entry (trees.step_after e op p) = false
+is_entry (trees.binary op a b) = false
+is_entry (trees.compare op a b) = false
+is_entry (trees.equal op a bs) = false
+is_entry (trees.assign a p b) = false
+
+abbrev pub same_key : List ℕ → List ℕ → Bool
+same_key = pointwise nat_eq
+
+-- The names of a file, in order of definition
+
+abbrev pub Table : Type 0
+Table = List (List ℕ × Binding)
+
+-- what the first entry with a key stands for
+abbrev pub in_table : Table → List ℕ → Option Binding
+in_table [] key = None
+in_table (entry ∷ entries) key = if same_key entry.0 key then Some entry.1 else in_table entries key
+
+-- a name that is defined twice keeps its first meaning
+abbrev pub with_name : Table → NameTree → Binding → Table
+with_name table name binding =
+    if is_some (in_table table (key_of name.text)) then table
+    else table ++ (key_of name.text, binding) ∷ []
+
+-- the property `name` is there from the start
+abbrev pub first_table : Table
+first_table = (key_of (codes "name"), bindings.Property) ∷ []
+
+-- what a name stands for, where it is a constant
+abbrev pub constant_known : Option Binding → Option Known
+constant_known None = None
+constant_known (Some (bindings.Constant known)) = Some known
+constant_known (Some (bindings.Global g)) = None
+constant_known (Some (bindings.Array a kind)) = None
+constant_known (Some (bindings.Routine r locals)) = None
+constant_known (Some bindings.Property) = None
+constant_known (Some (bindings.Local l)) = None
+
+-- what a literal is, among these names
+abbrev pub literal_known : Table → LiteralTree → Option Known
+literal_known table (number_value n) = Some (knowns.Number n)
+literal_known table (word_value s) = Some (knowns.Key (key_of_word s))
+literal_known table (named_value n) = constant_known (in_table table (key_of n.text))
+
+-- a file as its directives see it: its names, and the numbers of keys
+pub record File : Type 0 where
+  pub table : Table
+  pub number : ℕ → ℕ
+
+abbrev pub literal_value : File → LiteralTree → ℕ
+literal_value file v = value_of_known file.number (or_zero (literal_known file.table v))
+
+-- what is defined before the first directive
+abbrev pub no_counts : Counts
+no_counts = record { globals = 0; arrays = 0; routines = 0 }
+
+-- fewer of each kind
+abbrev pub AreFewer : ℕ → Counts → Type 0
+AreFewer n counts = (counts.globals < n) × (counts.arrays < n) × (counts.routines < n)
+
+-- how many definitions there are after a directive
+abbrev pub counts_after : Counts → DirectiveTree → Counts
+counts_after counts (global n v) = record counts { globals = counts.globals + 1 }
+counts_after counts (constant n v) = counts
+counts_after counts (array a) = record counts { arrays = counts.arrays + 1 }
+counts_after counts (routine r) = record counts { routines = counts.routines + 1 }
+
+-- the names of a file after a directive, where so much was defined before; a name in a constant's value stands earlier
+abbrev pub with_directive : Table → Counts → DirectiveTree → Table
+with_directive table counts (global n v) = with_name table n (bindings.Global counts.globals)
+with_directive table counts (constant n v) = with_name table n (bindings.Constant (or_zero (literal_known table v)))
+with_directive table counts (array a) = with_name table a.name (bindings.Array counts.arrays a.kind)
+with_directive table counts (routine r) = with_name table r.name (bindings.Routine counts.routines (length r.locals))
+
+abbrev pub table_from : Table → Counts → List DirectiveTree → Table
+table_from table counts [] = table
+table_from table counts (d ∷ ds) = table_from (with_directive table counts d) (counts_after counts d) ds
+
+unfoldable pub table_of : List DirectiveTree → Table
+table_of directives = table_from first_table no_counts directives
+
+-- Names in a routine
+
+-- the number of the first local with a key, from a number on
+abbrev pub local_from : ℕ → List NameTree → List ℕ → Option ℕ
+local_from number [] key = None
+local_from number (l ∷ ls) key = if same_key (key_of l.text) key then Some number else local_from (number + 1) ls key
+
+abbrev pub local_first : Option ℕ → Option Binding → Option Binding
+local_first (Some number) found = Some (bindings.Local number)
+local_first None found = found
+
+-- what a name stands for in a routine with these locals
+unfoldable pub look_up : Table → List NameTree → List ℕ → Option Binding
+look_up table locals name = local_first (local_from 0 locals (key_of name)) (in_table table (key_of name))
+
+-- a file as a routine sees it: what a name stands for there, and the numbers of keys
+pub record Seen : Type 0 where
+  pub look : List ℕ → Option Binding
+  pub number : ℕ → ℕ
+
+-- what a routine with these locals sees
+abbrev pub seen_from : File → List NameTree → Seen
+seen_from file locals = record { look = look_up file.table locals; number = file.number }

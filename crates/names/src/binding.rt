@@ -1,0 +1,26 @@
+//! What names stand for.
+
+use crate::known::Known;
+use syntax::ArrayKind;
+
+/// What a name stands for in a routine.
+#[derive(Clone, Copy)]
+pub enum Binding {
+    /// A value.
+    Constant(Known),
+
+    /// A global variable, numbered from 0 in order of definition.
+    Global(usize),
+
+    /// An array, numbered from 0 in order of definition, and its kind.
+    Array(usize, ArrayKind),
+
+    /// A routine, numbered from 0 in order of definition, and how many locals it has.
+    Routine(usize, usize),
+
+    /// A property. The property `name` is there from the start.
+    Property,
+
+    /// A local of the routine, numbered from 0.
+    Local(usize),
+}

@@ -1,0 +1,5 @@
+pub mod Shapes
+pub mod Walks
+pub mod Needs
+pub mod Forms
+pub mod ReadNames

@@ -1,0 +1,223 @@
+use Rattle.std.proofs.Common.{Option, None, refl, sym, ◌∙◌}
+use Rattle.std.specs.Global.{Vec}
+use Rattle.std.specs.Prelude.{map}
+use Rattle.expressions.specs.Tree.{expression_tree}
+use Rattle.statements.specs.declared.tree.Range.{Range}
+use Rattle.statements.specs.declared.tree.Statement.{Statement}
+use Rattle.statements.specs.Tree.{other_tree}
+use Rattle.meaning.specs.declared.resolved.Value.TheVariants as made
+use Rattle.meaning.specs.Resolved as values
+use Rattle.meaning.specs.Resolved.{Value, Action, value_of, action_of, case_of, other_of}
+use Rattle.names.specs.Scope.{seen_in}
+use Rattle.rules.specs.Walk.{resolved_statement, own_statement_breaches, resolved_case, own_case_breaches}
+use Rattle.names.proofs.Each.{each_next, each_end, value_next, value_end}
+use Rattle.rules.proofs.Shapes.{is_empty_statement, is_text_statement, is_new_line_statement, is_quit_statement, is_read_statement}
+use Rattle.rules.proofs.Shapes.{is_block_statement, is_print_statement, is_print_return_statement, is_if_statement}
+use Rattle.rules.proofs.Shapes.{is_if_else_statement, is_while_statement, is_return_value_statement}
+use Rattle.rules.proofs.Shapes.{is_effect_statement, is_return_statement, is_return_true_statement}
+use Rattle.rules.proofs.Shapes.{is_return_false_statement, is_do_statement, is_for_statement, is_switch_statement}
+use Rattle.rules.proofs.Shapes.{is_break_statement, is_continue_statement}
+use Rattle.rules.proofs.Walks.{leaf, one, two, made_number, made_empty, made_text, made_new_line, made_quit}
+use Rattle.rules.proofs.Walks.{made_return_value, made_block, made_if_then, made_if_else, made_while_do, made_do}
+use Rattle.rules.proofs.Walks.{made_for, made_switch, made_break, made_continue}
+use Rattle.rules.proofs.Forms.{statements_walked, case_walked, other_walked, switch_walked}
+use Rattle.rules.proofs.statement_rules.+statement.Goals as goal
+
+abbrev pair : Action → Action → Action × Action
+pair a b = (a, b)
+
+pub all_statements-loop-s-preserved : goal.all_statements-loop-s-preserved
+all_statements-loop-s-preserved t c =
+    let f = λ (x : Statement). own_statement_breaches (seen_in c.args.scope.now) c.args.around x in
+    let g = λ (x : Statement). resolved_statement (seen_in c.args.scope.now) x in
+    record {
+      value = rw c.in_ok-push.ensures.items
+          (value_next f g action_of c.loop-s.found.items c.in-Ok.resolved c.args.all.now c.loop-s.s-index
+          c.s-item.result c.loop-s-test.true c.s-item.is c.loop-s.invariant.value c.in-Ok.ensures.value);
+      least = rw c.in-Ok.ensures.breaches
+          (sym (each_next f g action_of c.loop-s.least c.args.all.now c.loop-s.s-index c.s-item.result
+          c.loop-s-test.true c.s-item.is) ∙ c.loop-s.invariant.least);
+    }
+
+pub all_statements-returns : goal.all_statements-returns
+all_statements-returns t c =
+    let f = λ (x : Statement). own_statement_breaches (seen_in c.args.scope.now) c.args.around x in
+    let g = λ (x : Statement). resolved_statement (seen_in c.args.scope.now) x in
+    record {
+      value = c.loop-s.invariant.value ∙ value_end f g action_of c.args.all.now c.loop-s.s-index c.loop-s-test.false;
+      breaches = sym (each_end f g action_of c.loop-s.least c.args.all.now c.loop-s.s-index c.loop-s-test.false)
+          ∙ c.loop-s.invariant.least;
+    }
+
+pub block-returns : goal.block-returns
+block-returns t c =
+    rw (made_block c.in-Ok.found)
+    (one values.block
+    (statements_walked (seen_in c.args.scope.now) c.args.around c.args.all.now (map action_of c.in-Ok.found.items)
+    c.in-Ok.ensures))
+
+pub if_then-returns : goal.if_then-returns
+if_then-returns t c = rw (made_if_then c.in-Ok.condition c.in-Ok-boxed.body)
+    (two values.if_then c.in-Ok.ensures c.in-Ok-boxed.ensures)
+
+pub while_do-returns : goal.while_do-returns
+while_do-returns t c around = rw (made_while_do c.in-Ok.condition c.in-Ok-boxed.body)
+    (two values.while_do c.in-Ok.ensures c.in-Ok-boxed.ensures)
+
+pub if_else-returns : goal.if_else-returns
+if_else-returns t c =
+    rw (made_if_else c.in-Ok.condition c.in-Ok-boxed.first c.in-Ok-boxed-2.otherwise)
+    (two (λ v (ab : Action × Action). values.if_else v ab.0 ab.1) c.in-Ok.ensures
+    (two pair c.in-Ok-boxed.ensures c.in-Ok-boxed-2.ensures))
+
+pub do_until-returns : goal.do_until-returns
+do_until-returns t c around = rw (made_do c.in-Ok.body c.in-Ok-whole.condition)
+    (two values.do_until c.in-Ok.ensures c.in-Ok-whole.ensures)
+
+pub for_loop-returns : goal.for_loop-returns
+for_loop-returns t c around = rw (made_for c.in-Ok.before c.in-Ok.test c.in-Ok.behind c.in-Ok-boxed.body)
+    (two (λ (h : Option Value × Option Value × Option Value) (x : Action). values.for_loop h.0 h.1 h.2 x)
+    c.in-Ok.ensures c.in-Ok-boxed.ensures)
+
+pub one_case-returns : goal.one_case-returns
+one_case-returns t c = case_walked (seen_in c.args.scope.now) c.args.around c.args.given.now c.in-Ok.spans
+    c.in-Ok-all_statements.body c.deref.result.now c.deref-2.result.now c.deref.ensures.value c.deref-2.ensures.value
+    c.in-Ok.ensures c.in-Ok-all_statements.ensures
+
+pub all_cases-loop-c-preserved : goal.all_cases-loop-c-preserved
+all_cases-loop-c-preserved t c =
+    let f = λ (x : Vec Range × Vec Statement). own_case_breaches (seen_in c.args.scope.now) c.args.around x in
+    let g = λ (x : Vec Range × Vec Statement). resolved_case (seen_in c.args.scope.now) x in
+    record {
+      value = rw c.in_ok-push.ensures.items
+          (value_next f g case_of c.loop-c.found.items c.in-Ok.resolved c.args.given.now c.loop-c.c-index
+          c.c-item.result c.loop-c-test.true c.c-item.is c.loop-c.invariant.value c.in-Ok.ensures.value);
+      least = rw c.in-Ok.ensures.breaches
+          (sym (each_next f g case_of c.loop-c.least c.args.given.now c.loop-c.c-index c.c-item.result
+          c.loop-c-test.true c.c-item.is) ∙ c.loop-c.invariant.least);
+    }
+
+pub all_cases-returns : goal.all_cases-returns
+all_cases-returns t c =
+    let f = λ (x : Vec Range × Vec Statement). own_case_breaches (seen_in c.args.scope.now) c.args.around x in
+    let g = λ (x : Vec Range × Vec Statement). resolved_case (seen_in c.args.scope.now) x in
+    record {
+      value = c.loop-c.invariant.value ∙ value_end f g case_of c.args.given.now c.loop-c.c-index c.loop-c-test.false;
+      breaches = sym (each_end f g case_of c.loop-c.least c.args.given.now c.loop-c.c-index c.loop-c-test.false)
+          ∙ c.loop-c.invariant.least;
+    }
+
+pub otherwise-returns-in-None : goal.otherwise-returns-in-None
+otherwise-returns-in-None t c = rw c.in-None.is (leaf c.args.least.now None)
+
+pub otherwise-returns-in-Ok : goal.otherwise-returns-in-Ok
+otherwise-returns-in-Ok t c = rw c.in-Some.is
+    (other_walked (seen_in c.args.scope.now) c.args.around c.deref.result.now c.in-Some.all.items
+    (map action_of c.in-Ok.found.items) c.deref.ensures.value c.in-Ok.ensures)
+
+pub switch_on-returns : goal.switch_on-returns
+switch_on-returns t c around is = rw (made_switch c.in-Ok.value c.in-Ok-all_cases.cases c.in-Ok-otherwise.other)
+    (switch_walked (seen_in c.args.scope.now) around c.args.inside c.args.position (expression_tree c.args.value.now)
+    (value_of c.in-Ok.value) c.args.cases.now (other_tree c.args.other.now)
+    (map case_of c.in-Ok-all_cases.cases.items) (other_of c.in-Ok-otherwise.other) is c.in-Ok.ensures
+    c.in-Ok-all_cases.ensures c.in-Ok-otherwise.ensures)
+
+pub statement-returns-in-Do : goal.statement-returns-in-Do
+statement-returns-in-Do t c = let v = c.in-Do in
+    rw (is_do_statement c.args.s.now v.position v.body v.condition v.is, ← c.deref-in-Do.ensures)
+    (c.do_until.ensures c.args.around)
+
+pub statement-returns-in-For : goal.statement-returns-in-For
+statement-returns-in-For t c = let v = c.in-For in
+    rw (is_for_statement c.args.s.now v.position v.parts v.body v.is) (c.for_loop.ensures c.args.around)
+
+pub statement-returns-in-Switch : goal.statement-returns-in-Switch
+statement-returns-in-Switch t c = let v = c.in-Switch in
+    rw (
+      is_switch_statement c.args.s.now v.position v.value v.cases v.other v.is,
+      ← c.deref-in-Switch.ensures.value,
+      ← c.deref-in-Switch-2.ensures,
+    )
+    (c.switch_on.ensures c.args.around c.in_switch.ensures)
+
+pub statement-returns-in-Break : goal.statement-returns-in-Break
+statement-returns-in-Break t c = rw (is_break_statement c.args.s.now c.in-Break.position c.in-Break.is, made_break)
+    (record { value = refl; breaches = c.outside.ensures })
+
+pub statement-returns-in-Continue : goal.statement-returns-in-Continue
+statement-returns-in-Continue t c = rw
+    (is_continue_statement c.args.s.now c.in-Continue.position c.in-Continue.is, made_continue)
+    (record { value = refl; breaches = c.outside-in-Continue.ensures })
+
+pub statement-returns-in-Block : goal.statement-returns-in-Block
+statement-returns-in-Block t c = let v = c.in-Block in
+    rw (is_block_statement c.args.s.now v.all v.is, ← c.deref.ensures.value) c.block.ensures
+
+pub statement-returns-in-Print : goal.statement-returns-in-Print
+statement-returns-in-Print t c = let v = c.in-Print in
+    rw (is_print_statement c.args.s.now v.all v.is, ← c.deref-in-Print.ensures.value) (c.print.ensures c.args.around)
+
+pub statement-returns-in-PrintReturn : goal.statement-returns-in-PrintReturn
+statement-returns-in-PrintReturn t c = let v = c.in-PrintReturn in
+    rw (is_print_return_statement c.args.s.now v.all v.is, ← c.deref-in-PrintReturn.ensures.value)
+    (c.print_return.ensures c.args.around)
+
+pub statement-returns-in-If : goal.statement-returns-in-If
+statement-returns-in-If t c = let v = c.in-If in
+    rw (is_if_statement c.args.s.now v.position v.condition v.then v.is, ← c.deref-in-If.ensures) c.if_then.ensures
+
+pub statement-returns-in-IfElse : goal.statement-returns-in-IfElse
+statement-returns-in-IfElse t c = let v = c.in-IfElse in
+    rw (is_if_else_statement c.args.s.now v.position v.condition v.then v.otherwise v.is, ← c.deref-in-IfElse.ensures)
+    c.if_else.ensures
+
+pub statement-returns-in-While : goal.statement-returns-in-While
+statement-returns-in-While t c = let v = c.in-While in
+    rw (is_while_statement c.args.s.now v.position v.condition v.body v.is, ← c.deref-in-While.ensures)
+    (c.while_do.ensures c.args.around)
+
+pub statement-returns-in-ReturnValue : goal.statement-returns-in-ReturnValue
+statement-returns-in-ReturnValue t c = let v = c.in-ReturnValue in
+    rw (is_return_value_statement c.args.s.now v.position v.e v.is, ← c.deref-in-ReturnValue.ensures)
+    (c.return_value.ensures c.args.around)
+
+pub statement-returns-in-Effect : goal.statement-returns-in-Effect
+statement-returns-in-Effect t c = let v = c.in-Effect in
+    rw (is_effect_statement c.args.s.now v.position v.e v.is, ← c.deref-in-Effect.ensures)
+    (c.effect.ensures c.args.around)
+
+pub statement-returns-in-Empty : goal.statement-returns-in-Empty
+statement-returns-in-Empty t c = rw (is_empty_statement c.args.s.now c.in-Empty.is, made_empty)
+    (leaf c.args.least.now values.empty)
+
+pub statement-returns-in-NewLine : goal.statement-returns-in-NewLine
+statement-returns-in-NewLine t c = rw (is_new_line_statement c.args.s.now c.in-NewLine.is, made_new_line)
+    (leaf c.args.least.now values.new_line)
+
+pub statement-returns-in-Quit : goal.statement-returns-in-Quit
+statement-returns-in-Quit t c = rw (is_quit_statement c.args.s.now c.in-Quit.is, made_quit)
+    (leaf c.args.least.now values.quit)
+
+pub statement-returns-in-Read : goal.statement-returns-in-Read
+statement-returns-in-Read t c = rw
+    (is_read_statement c.args.s.now c.in-Read.text c.in-Read.words c.in-Read.is) (c.read.ensures c.args.around)
+
+pub statement-returns-in-Text : goal.statement-returns-in-Text
+statement-returns-in-Text t c = rw
+    (is_text_statement c.args.s.now c.in-Text.text c.in-Text.is, made_text c.in-Text.text)
+    (leaf c.args.least.now (values.text_alone c.in-Text.text.now))
+
+pub statement-returns-in-Return : goal.statement-returns-in-Return
+statement-returns-in-Return t c = rw
+    (is_return_statement c.args.s.now c.in-Return.is, made_return_value (made.Number 1), made_number 1)
+    (leaf c.args.least.now (values.return_value (values.number 1)))
+
+pub statement-returns-in-ReturnTrue : goal.statement-returns-in-ReturnTrue
+statement-returns-in-ReturnTrue t c = rw
+    (is_return_true_statement c.args.s.now c.in-ReturnTrue.is, made_return_value (made.Number 1), made_number 1)
+    (leaf c.args.least.now (values.return_value (values.number 1)))
+
+pub statement-returns-in-ReturnFalse : goal.statement-returns-in-ReturnFalse
+statement-returns-in-ReturnFalse t c = rw
+    (is_return_false_statement c.args.s.now c.in-ReturnFalse.is, made_return_value (made.Number 0), made_number 0)
+    (leaf c.args.least.now (values.return_value (values.number 0)))

@@ -1,0 +1,163 @@
+-- The rules that a statement can break, and what it resolves to.
+use Rattle.std.specs.Prelude.{ℕ, nat_lt, Bool, if◌then◌else◌, List, [], ◌∷◌, ◌++◌, map, Option, Some}
+use Rattle.std.specs.Prelude.{None}
+use Rattle.std.specs.List.{flat_map}
+use Rattle.std.specs.Option.{option_map}
+use Rattle.lexer.specs.declared.token.Position.{Position}
+use Rattle.expressions.specs.Tree.{ExpressionTree}
+use Rattle.statements.specs.Tree as trees
+use Rattle.statements.specs.Tree.{LiteralTree, RangeTree, PrintItemTree, StatementTree, StatementTrees, CaseTrees}
+use Rattle.meaning.specs.declared.around.Around.{Around}
+use Rattle.meaning.specs.Around.{in_loop, in_switch}
+use Rattle.names.specs.declared.binding.Binding.{Binding}
+use Rattle.names.specs.declared.breach.Breach.{Breach}
+use Rattle.names.specs.Breaches.{at}
+use Rattle.rules.specs.Literals.{constant_breaches}
+use Rattle.names.specs.Keys.{key_of_word, value_of_known, or_zero}
+use Rattle.rules.specs.Buffers.{read_breaches}
+use Rattle.names.specs.Names.{constant_known, Seen}
+use Rattle.rules.specs.Temporaries.{need}
+use Rattle.meaning.specs.Operands.{operands}
+use Rattle.meaning.specs.Resolved.{RangeOf, one, between, Printed, text, character_of, number_of, Action, Actions, CasesOf, empty}
+use Rattle.meaning.specs.Resolved.{block, text_alone, print, print_return, new_line, if_then, if_else, while_do}
+use Rattle.meaning.specs.Resolved.{do_until, for_loop, switch_on, break_out, continue_on, read_line, return_value, quit, effect}
+use Rattle.meaning.specs.Resolved.{stop, next, no_case, default_case, case, number}
+use Rattle.rules.specs.Expressions.{breaches, array_of_binding, resolve}
+
+-- `break` may stand in a loop or a `switch`, `continue` in a loop; in the body of a routine neither may
+
+-- what the parts of a `for` need, as operands of one form: those that are there
+abbrev pub part_needs : Option ExpressionTree → List ℕ
+part_needs None = []
+part_needs (Some e) = need e ∷ []
+
+abbrev pub heading_need : Option ExpressionTree → Option ExpressionTree → Option ExpressionTree → ℕ
+heading_need a b c = operands 0 (part_needs a ++ (part_needs b ++ part_needs c))
+
+-- `break` or `continue` where it may not stand
+abbrev pub outside_breaches : Bool → Position → List Breach
+outside_breaches stands p = if stands then [] else at p 27
+
+-- `look` tells what a name stands for
+module _ (look : List ℕ → Option Binding) where
+  -- an expression of a statement or an item that begins at p: E29 where it needs more than 48 temporaries
+  abbrev pub whole_breaches : Position → ExpressionTree → List Breach
+  whole_breaches p e = (if nat_lt 48 (need e) then at p 29 else []) ++ breaches look e
+
+  -- the parts of a `for` that begins at p
+  abbrev pub part_breaches : Option ExpressionTree → List Breach
+  part_breaches None = []
+  part_breaches (Some e) = breaches look e
+
+  abbrev pub heading_breaches : Position → Option ExpressionTree → Option ExpressionTree → Option ExpressionTree
+      → List Breach
+  heading_breaches p a b c = (if nat_lt 48 (heading_need a b c) then at p 29 else [])
+      ++ (part_breaches a ++ (part_breaches b ++ part_breaches c))
+
+  -- a value of a case: a name in it is a constant, and a local hides one
+  abbrev pub known_breaches : LiteralTree → List Breach
+  known_breaches (trees.number_value n) = []
+  known_breaches (trees.word_value s) = []
+  known_breaches (trees.named_value n) = constant_breaches n.position (look n.text)
+
+  abbrev pub high_breaches : Option LiteralTree → List Breach
+  high_breaches None = []
+  high_breaches (Some k) = known_breaches k
+
+  abbrev pub range_breaches : RangeTree → List Breach
+  range_breaches g = known_breaches g.low ++ high_breaches g.high
+
+  abbrev pub item_breaches : PrintItemTree → List Breach
+  item_breaches (trees.text_item s) = []
+  item_breaches (trees.character_item p e) = whole_breaches p e
+  item_breaches (trees.number_item p e) = whole_breaches p e
+
+  -- of a statement that stands in what is around it
+  abbrev mutual
+    pub statement_breaches : Around → StatementTree → List Breach
+    statement_breaches around trees.empty = []
+    statement_breaches around (trees.block xs) = statements_breaches around xs
+    statement_breaches around (trees.text_alone s) = []
+    statement_breaches around (trees.print is) = flat_map item_breaches is
+    statement_breaches around (trees.print_return is) = flat_map item_breaches is
+    statement_breaches around trees.new_line = []
+    statement_breaches around (trees.if_then p c x) = whole_breaches p c ++ statement_breaches around x
+    statement_breaches around (trees.if_else p c x y) = whole_breaches p c
+        ++ (statement_breaches around x ++ statement_breaches around y)
+    statement_breaches around (trees.while_do p c x) = whole_breaches p c ++ statement_breaches in_loop x
+    statement_breaches around (trees.do_until p x c) = statement_breaches in_loop x ++ whole_breaches p c
+    statement_breaches around (trees.for_loop p a b c x) = heading_breaches p a b c ++ statement_breaches in_loop x
+    statement_breaches around (trees.switch_on p e cs) = whole_breaches p e ++ cases_breaches (in_switch around) cs
+    statement_breaches around (trees.break_at p) = outside_breaches around.can_break p
+    statement_breaches around (trees.continue_at p) = outside_breaches around.can_continue p
+    statement_breaches around trees.return_alone = []
+    statement_breaches around (trees.return_value p e) = whole_breaches p e
+    statement_breaches around trees.return_true = []
+    statement_breaches around trees.return_false = []
+    statement_breaches around trees.quit = []
+    statement_breaches around (trees.read_line n m) = read_breaches look n m
+    statement_breaches around (trees.effect p e) = whole_breaches p e
+
+    pub statements_breaches : Around → StatementTrees → List Breach
+    statements_breaches around trees.stop = []
+    statements_breaches around (trees.next x xs) = statement_breaches around x ++ statements_breaches around xs
+
+    pub cases_breaches : Around → CaseTrees → List Breach
+    cases_breaches around trees.no_case = []
+    cases_breaches around (trees.default_case xs) = statements_breaches around xs
+    cases_breaches around (trees.case gs xs cs) = flat_map range_breaches gs
+        ++ (statements_breaches around xs ++ cases_breaches around cs)
+
+-- Resolving, in a routine that sees so much of the file
+module _ (seen : Seen) where
+  abbrev pub known_number : LiteralTree → ℕ
+  known_number (trees.number_value n) = n
+  known_number (trees.word_value s) = seen.number (key_of_word s)
+  known_number (trees.named_value n) = value_of_known seen.number (or_zero (constant_known (seen.look n.text)))
+
+  abbrev pub range_to : ℕ → Option LiteralTree → RangeOf
+  range_to low None = one low
+  range_to low (Some k) = between low (known_number k)
+
+  abbrev pub resolve_range : RangeTree → RangeOf
+  resolve_range g = range_to (known_number g.low) g.high
+
+  abbrev pub resolve_item : PrintItemTree → Printed
+  resolve_item (trees.text_item s) = text s
+  resolve_item (trees.character_item p e) = character_of (resolve seen e)
+  resolve_item (trees.number_item p e) = number_of (resolve seen e)
+
+  abbrev mutual
+    pub resolve_statement : StatementTree → Action
+    resolve_statement trees.empty = empty
+    resolve_statement (trees.block xs) = block (resolve_statements xs)
+    resolve_statement (trees.text_alone s) = text_alone s
+    resolve_statement (trees.print is) = print (map resolve_item is)
+    resolve_statement (trees.print_return is) = print_return (map resolve_item is)
+    resolve_statement trees.new_line = new_line
+    resolve_statement (trees.if_then p c x) = if_then (resolve seen c) (resolve_statement x)
+    resolve_statement (trees.if_else p c x y) = if_else (resolve seen c) (resolve_statement x) (resolve_statement y)
+    resolve_statement (trees.while_do p c x) = while_do (resolve seen c) (resolve_statement x)
+    resolve_statement (trees.do_until p x c) = do_until (resolve_statement x) (resolve seen c)
+    resolve_statement (trees.for_loop p a b c x) = for_loop (option_map (resolve seen) a) (option_map (resolve seen) b)
+        (option_map (resolve seen) c) (resolve_statement x)
+    resolve_statement (trees.switch_on p e cs) = switch_on (resolve seen e) (resolve_cases cs)
+    resolve_statement (trees.break_at p) = break_out
+    resolve_statement (trees.continue_at p) = continue_on
+    resolve_statement trees.return_alone = return_value (number 1)
+    resolve_statement (trees.return_value p e) = return_value (resolve seen e)
+    resolve_statement trees.return_true = return_value (number 1)
+    resolve_statement trees.return_false = return_value (number 0)
+    resolve_statement trees.quit = quit
+    resolve_statement (trees.read_line n m) = read_line (array_of_binding (seen.look n.text))
+        (array_of_binding (seen.look m.text))
+    resolve_statement (trees.effect p e) = effect (resolve seen e)
+
+    pub resolve_statements : StatementTrees → Actions
+    resolve_statements trees.stop = stop
+    resolve_statements (trees.next x xs) = next (resolve_statement x) (resolve_statements xs)
+
+    pub resolve_cases : CaseTrees → CasesOf
+    resolve_cases trees.no_case = no_case
+    resolve_cases (trees.default_case xs) = default_case (resolve_statements xs)
+    resolve_cases (trees.case gs xs cs) = case (map resolve_range gs) (resolve_statements xs) (resolve_cases cs)

@@ -1,0 +1,180 @@
+-- Words of proofs: what a walk over a part of a tree finds, and what it notes.
+use Rattle.std.specs.Prelude.{◌≡◌, List, [], ◌++◌, Option, Some, None, map}
+use Rattle.std.specs.Global.{Vec}
+use Rattle.std.specs.List.{flat_map}
+use Rattle.std.specs.Option.{option_map}
+use Rattle.lexer.specs.declared.token.Position.{Position}
+use Rattle.expressions.specs.declared.tree.Binary.{Binary}
+use Rattle.expressions.specs.declared.tree.Expression.{Expression}
+use Rattle.expressions.specs.Tree.{ExpressionTree, expression_tree}
+use Rattle.statements.specs.declared.tree.PrintItem.{PrintItem}
+use Rattle.statements.specs.declared.tree.Range.{Range}
+use Rattle.statements.specs.declared.tree.Statement.{Statement}
+use Rattle.statements.specs.Tree.{HeadingTree, RangeTree, PrintItemTree, StatementTree, CaseTree, trees_of, range_tree}
+use Rattle.statements.specs.Tree.{item_tree, statement_tree, case_tree}
+use Rattle.meaning.specs.declared.around.Around.{Around}
+use Rattle.names.specs.declared.breach.Breach.{Breach}
+use Rattle.meaning.specs.declared.resolved.Variable.{Variable}
+use Rattle.meaning.specs.declared.resolved.Value as code_value
+use Rattle.names.specs.Names.{name_of, is_entry, Seen}
+use Rattle.names.specs.Noted.{noted}
+use Rattle.meaning.specs.Resolved.{Value, RangeOf, Printed, Action, Actions, value_of}
+use Rattle.rules.specs.Expressions.{breaches, left_breaches, assigned_breaches, target, resolve}
+use Rattle.rules.specs.Statements.{whole_breaches, part_breaches, heading_breaches, range_breaches, resolve_range}
+use Rattle.rules.specs.Statements.{item_breaches, resolve_item, statement_breaches, statements_breaches}
+use Rattle.rules.specs.Statements.{resolve_statement, resolve_statements}
+
+-- what is found is what is meant, and the broken rules are noted over what was noted before
+pub record IsWalked {A : Type 0} (broken : List Breach) (before after : Option Breach) (found meant : A) : Type 0
+  where
+    pub value : found ≡ meant
+    pub breaches : after ≡ noted before broken
+
+abbrev pub value_link : Binary × code_value.Value → Binary × Value
+value_link l = (l.0, value_of l.1)
+
+abbrev pub parts_of : Option code_value.Value × Option code_value.Value × Option code_value.Value
+    → Option Value × Option Value × Option Value
+parts_of x = (option_map value_of x.0, option_map value_of x.1, option_map value_of x.2)
+
+-- in a routine that sees so much of the file
+module _ (seen : Seen) where
+  -- Parts of the code's trees
+
+  abbrev pub own_breaches : Expression → List Breach
+  own_breaches e = breaches seen.look (expression_tree e)
+
+  abbrev pub resolved : Expression → Value
+  resolved e = resolve seen (expression_tree e)
+
+  abbrev pub link_breaches : Binary × Expression → List Breach
+  link_breaches l = breaches seen.look (expression_tree l.1)
+
+  abbrev pub resolved_link : Binary × Expression → Binary × Value
+  resolved_link l = (l.0, resolve seen (expression_tree l.1))
+
+  abbrev pub own_item_breaches : PrintItem → List Breach
+  own_item_breaches x = item_breaches seen.look (item_tree x)
+
+  abbrev pub resolved_item : PrintItem → Printed
+  resolved_item x = resolve_item seen (item_tree x)
+
+  abbrev pub own_range_breaches : Range → List Breach
+  own_range_breaches g = range_breaches seen.look (range_tree g)
+
+  abbrev pub resolved_range : Range → RangeOf
+  resolved_range g = resolve_range seen (range_tree g)
+
+  -- a case, with its ranges and its statements
+  abbrev pub case_breaches : Around → CaseTree → List Breach
+  case_breaches around c = flat_map (range_breaches seen.look) c.0 ++ statements_breaches seen.look around c.1
+
+  abbrev pub resolve_case : CaseTree → List RangeOf × Actions
+  resolve_case c = (map (resolve_range seen) c.0, resolve_statements seen c.1)
+
+  abbrev pub own_case_breaches : Around → Vec Range × Vec Statement → List Breach
+  own_case_breaches around c = case_breaches around (case_tree c)
+
+  abbrev pub resolved_case : Vec Range × Vec Statement → List RangeOf × Actions
+  resolved_case c = resolve_case (case_tree c)
+
+  -- the statements of `default`
+  abbrev pub other_breaches : Around → Option (List StatementTree) → List Breach
+  other_breaches around None = []
+  other_breaches around (Some xs) = statements_breaches seen.look around (trees_of xs)
+
+  abbrev pub resolved_other : Option (List StatementTree) → Option (List Action)
+  resolved_other other = option_map (λ xs. map (resolve_statement seen) xs) other
+
+  abbrev pub own_statement_breaches : Around → Statement → List Breach
+  own_statement_breaches around s = statement_breaches seen.look around (statement_tree s)
+
+  abbrev pub resolved_statement : Statement → Action
+  resolved_statement s = resolve_statement seen (statement_tree s)
+
+  -- Walks, from what was noted before to what is noted after
+
+  abbrev pub IsResolved : ExpressionTree → Option Breach → Option Breach → Value → Type 0
+  IsResolved e before after v = IsWalked (breaches seen.look e) before after v (resolve seen e)
+
+  abbrev pub AreResolved : List Expression → Option Breach → Option Breach → List Value → Type 0
+  AreResolved es before after vs = IsWalked (flat_map own_breaches es) before after vs (map resolved es)
+
+  abbrev pub AreLinks : List (Binary × Expression) → Option Breach → Option Breach → List (Binary × Value) → Type 0
+  AreLinks ls before after vs = IsWalked (flat_map link_breaches ls) before after vs (map resolved_link ls)
+
+  -- what is stepped by an operator there
+  abbrev pub IsTarget : Position → ExpressionTree → Option Breach → Option Breach → Variable → Type 0
+  IsTarget operator e before after x =
+      IsWalked (left_breaches seen.look operator (name_of e) (breaches seen.look e)) before after x (target seen (name_of e))
+
+  -- the left side of an assignment there
+  abbrev pub IsAssigned : Position → ExpressionTree → Option Breach → Option Breach → Value → Type 0
+  IsAssigned operator e before after v =
+      IsWalked (assigned_breaches seen.look operator (name_of e) (is_entry e) (breaches seen.look e)) before after v
+      (resolve seen e)
+
+  -- a whole expression of what begins there
+  abbrev pub IsWhole : Position → ExpressionTree → Option Breach → Option Breach → Value → Type 0
+  IsWhole position e before after v = IsWalked (whole_breaches seen.look position e) before after v (resolve seen e)
+
+  -- the parts of a `for`
+
+  abbrev pub IsPart : Option ExpressionTree → Option Breach → Option Breach → Option Value → Type 0
+  IsPart e before after v = IsWalked (part_breaches seen.look e) before after v (option_map (resolve seen) e)
+
+  abbrev pub resolve_heading : HeadingTree → Option Value × Option Value × Option Value
+  resolve_heading h = (
+    option_map (resolve seen) h.before,
+    option_map (resolve seen) h.test,
+    option_map (resolve seen) h.behind,
+  )
+
+  abbrev pub AreParts : HeadingTree → Option Breach → Option Breach
+      → Option Value × Option Value × Option Value → Type 0
+  AreParts h before after x =
+      IsWalked (part_breaches seen.look h.before ++ (part_breaches seen.look h.test ++ part_breaches seen.look h.behind)) before after
+      x (resolve_heading h)
+
+  abbrev pub IsHeading : Position → HeadingTree → Option Breach → Option Breach
+      → Option Value × Option Value × Option Value → Type 0
+  IsHeading position h before after x =
+      IsWalked (heading_breaches seen.look position h.before h.test h.behind) before after x (resolve_heading h)
+
+  -- what begins a case
+
+  abbrev pub IsRange : RangeTree → Option Breach → Option Breach → RangeOf → Type 0
+  IsRange g before after r = IsWalked (range_breaches seen.look g) before after r (resolve_range seen g)
+
+  abbrev pub AreRanges : List Range → Option Breach → Option Breach → List RangeOf → Type 0
+  AreRanges gs before after rs = IsWalked (flat_map own_range_breaches gs) before after rs (map resolved_range gs)
+
+  abbrev pub IsItem : PrintItemTree → Option Breach → Option Breach → Printed → Type 0
+  IsItem x before after i = IsWalked (item_breaches seen.look x) before after i (resolve_item seen x)
+
+  abbrev pub AreItems : List PrintItem → Option Breach → Option Breach → List Printed → Type 0
+  AreItems xs before after is = IsWalked (flat_map own_item_breaches xs) before after is (map resolved_item xs)
+
+  -- statements that stand in what is around them
+
+  abbrev pub IsAction : Around → StatementTree → Option Breach → Option Breach → Action → Type 0
+  IsAction around s before after a = IsWalked (statement_breaches seen.look around s) before after a
+      (resolve_statement seen s)
+
+  abbrev pub AreActions : Around → List Statement → Option Breach → Option Breach → List Action → Type 0
+  AreActions around ss before after found = IsWalked (flat_map (own_statement_breaches around) ss) before after found
+      (map resolved_statement ss)
+
+  abbrev pub IsCase : Around → Vec Range × Vec Statement → Option Breach → Option Breach → List RangeOf × Actions
+      → Type 0
+  IsCase around c before after found = IsWalked (own_case_breaches around c) before after found (resolved_case c)
+
+  abbrev pub AreCases : Around → List (Vec Range × Vec Statement) → Option Breach → Option Breach
+      → List (List RangeOf × Actions) → Type 0
+  AreCases around cs before after found =
+      IsWalked (flat_map (own_case_breaches around) cs) before after found (map resolved_case cs)
+
+  abbrev pub IsOther : Around → Option (List StatementTree) → Option Breach → Option Breach → Option (List Action)
+      → Type 0
+  IsOther around other before after found =
+      IsWalked (other_breaches around other) before after found (resolved_other other)

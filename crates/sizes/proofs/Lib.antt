@@ -1,0 +1,11 @@
+pub mod Most
+pub mod Bounds
+pub mod Sizes
+pub mod SizesOfInstructions
+pub mod SizesOfTexts
+pub mod SizesOfExpressions
+pub mod SizesOfTrees
+pub mod SizesOfPrograms
+pub mod SizesOfChecked
+mod SizesSamples
+mod Runs

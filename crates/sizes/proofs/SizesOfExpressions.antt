@@ -1,0 +1,233 @@
+-- The code of an expression is shorter than its tree weighs.
+use Rattle.std.proofs.Common.{◌≤◌, ◌+◌, ◌*◌, ℕ, List, Option, Some, None, Bool, arith}
+use Rattle.lexer.specs.declared.token.Position.{Position}
+use Rattle.lexer.specs.Token.{Lexeme}
+use Rattle.expressions.specs.declared.tree.Binary.{Binary}
+use Rattle.expressions.specs.declared.tree.Equality.{Equality}
+use Rattle.expressions.specs.declared.tree.Comparison.{Comparison}
+use Rattle.expressions.specs.declared.tree.Prefix.{Prefix}
+use Rattle.expressions.specs.declared.tree.Step.{Step}
+use Rattle.expressions.specs.declared.tree.Width.{Width}
+use Rattle.expressions.specs.Tree.{NameTree, ExpressionTree, ExpressionTrees}
+use Rattle.expressions.specs.Tree as trees
+use Rattle.expressions.specs.Grammar.{IsE, e_plain, e_assign, IsE1, e1_plain, e1_logical, IsN1, n1_plain, n1_not}
+use Rattle.expressions.specs.Grammar.{IsE2, e2_plain, e2_compare, e2_equal, IsChoice, choice_last, choice_or, IsE3}
+use Rattle.expressions.specs.Grammar.{e3_plain, e3_add, IsE4, e4_plain, e4_scale, IsN4, n4_plain, n4_complement}
+use Rattle.expressions.specs.Grammar.{IsE5, e5_plain, e5_index, IsU, u_plain, u_minus, u_before, u_after, IsP}
+use Rattle.expressions.specs.Grammar.{p_number, p_character, p_word, p_true, p_false, p_nothing, p_name, p_call}
+use Rattle.expressions.specs.Grammar.{p_call_with, p_parenthesised, IsArguments, arguments_last, arguments_comma}
+use Rattle.syntax.specs.Weight.{expression_weight, expression_weights}
+use Rattle.names.specs.declared.binding.Binding.{Binding}
+use Rattle.names.specs.declared.binding.Binding.TheVariants as bindings
+use Rattle.names.specs.Names.{Seen}
+use Rattle.meaning.specs.Accepted.{count_of}
+use Rattle.rules.specs.Expressions.{value_of_binding, assigned, resolve, resolve_all}
+use Rattle.meaning.specs.Resolved.{Value}
+use Rattle.meaning.specs.Resolved as source
+use Rattle.items.specs.Items.{Destination, push, alone, value_items, branch_items, alone_items}
+use Rattle.sizes.proofs.Most.{most_of, tokens, list_tokens, alternative_tokens, or_tokens, if_small}
+use Rattle.sizes.proofs.Most.{alternatives_are}
+use Rattle.sizes.proofs.Bounds.{small}
+
+-- what a name stands for
+binding_few : (numbers : ℕ → ℕ) (b : Option Binding) → tokens (value_of_binding numbers b) ≤ 1
+binding_few numbers None = omega arith
+binding_few numbers (Some (bindings.Constant known)) = omega arith
+binding_few numbers (Some (bindings.Global g)) = omega arith
+binding_few numbers (Some (bindings.Array a kind)) = omega arith
+binding_few numbers (Some (bindings.Local l)) = omega arith
+binding_few numbers (Some (bindings.Routine r n)) = omega arith
+binding_few numbers (Some bindings.Property) = omega arith
+
+some_tokens : (v : Value) → 1 ≤ tokens v
+some_tokens (source.number n) = omega arith
+some_tokens (source.read x) = omega arith
+some_tokens (source.call r vs) = omega arith
+some_tokens (source.prefixed op v) = omega arith
+some_tokens (source.step_before op x) = omega arith
+some_tokens (source.step_after x op) = omega arith
+some_tokens (source.binary op a b) = omega arith
+some_tokens (source.compare op a b) = omega arith
+some_tokens (source.equal op a bs) = omega (arith, alternatives_are bs)
+some_tokens (source.assign x v) = omega arith
+some_tokens (source.entry width a i) = omega arith
+some_tokens (source.assign_entry width a i v) = omega arith
+
+-- an assignment, by its left side
+assigned_tokens : (w v : Value) → tokens (assigned w v) ≤ tokens w + (1 + tokens v)
+assigned_tokens (source.entry width a i) v = omega arith
+assigned_tokens (source.number n) v = omega arith
+assigned_tokens (source.read x) v = omega arith
+assigned_tokens (source.call r vs) v = omega arith
+assigned_tokens (source.prefixed op w) v = omega (arith, some_tokens w)
+assigned_tokens (source.step_before op x) v = omega arith
+assigned_tokens (source.step_after x op) v = omega arith
+assigned_tokens (source.binary op a b) v = omega (arith, some_tokens a)
+assigned_tokens (source.compare op a b) v = omega (arith, some_tokens a)
+assigned_tokens (source.equal op a bs) v = omega (arith, some_tokens a)
+assigned_tokens (source.assign x w) v = omega arith
+assigned_tokens (source.assign_entry width a i w) v = omega arith
+
+-- in a routine that sees so much of the file
+module _ (seen : Seen) where
+  -- an expression has tokens enough
+  pub record Fits (e : ExpressionTree) : Type 0 where
+    pub weighs : 32 * tokens (resolve seen e) ≤ expression_weight e
+
+  pub record AllFit (es : ExpressionTrees) : Type 0 where
+    pub arguments : 32 * list_tokens (resolve_all seen es) + 32 * count_of (resolve_all seen es) ≤ expression_weights
+        es
+    pub others : 32 * or_tokens (resolve_all seen es) ≤ expression_weights es
+
+  -- the values with which one is compared
+  pub record Sides (es : ExpressionTrees) : Type 0 where
+    pub all : AllFit es
+    pub first : 32 * alternative_tokens (resolve_all seen es) ≤ expression_weights es
+
+  number_fits : {n : ℕ} → Fits (trees.constant n)
+  number_fits = record { weighs = omega arith }
+
+  word_fits : {s : List ℕ} → Fits (trees.word s)
+  word_fits = record { weighs = omega arith }
+
+  name_fits : {n : NameTree} → Fits (trees.named n)
+  name_fits {n} = record { weighs = omega (arith, binding_few seen.number (seen.look n.text)) }
+
+  none_fit : AllFit trees.none
+  none_fit = record { arguments = omega arith; others = omega arith }
+
+  more_fit : {e : ExpressionTree} {es : ExpressionTrees} → Fits e → AllFit es → AllFit (trees.more e es)
+  more_fit a b =
+      record { arguments = omega (arith, a.weighs, b.arguments); others = omega (arith, a.weighs, b.others) }
+
+  sides_fit : {e : ExpressionTree} {es : ExpressionTrees} → Fits e → AllFit es → Sides (trees.more e es)
+  sides_fit a b = record { all = more_fit a b; first = omega (arith, a.weighs, b.others) }
+
+  called : (n : NameTree) (es : ExpressionTrees) → AllFit es
+      → 32 * tokens (resolve seen (trees.call n es)) ≤ expression_weight (trees.call n es)
+  called n trees.none a = omega arith
+  called n (trees.more e es) a = omega (arith, a.arguments)
+
+  call_fits : {n : NameTree} {es : ExpressionTrees} → AllFit es → Fits (trees.call n es)
+  call_fits {n} {es} a = record { weighs = called n es a }
+
+  index_fits : {n : NameTree} {width : Width} {e : ExpressionTree} → Fits e → Fits (trees.index n width e)
+  index_fits a = record { weighs = omega (arith, a.weighs) }
+
+  parenthesised_fits : {e : ExpressionTree} → Fits e → Fits (trees.parenthesised e)
+  parenthesised_fits a = record { weighs = omega (arith, a.weighs) }
+
+  prefixed_fits : {op : Prefix} {e : ExpressionTree} → Fits e → Fits (trees.prefixed op e)
+  prefixed_fits a = record { weighs = omega (arith, a.weighs) }
+
+  -- an expression has a token at least
+  some_weight : (e : ExpressionTree) → 32 ≤ expression_weight e
+  some_weight (trees.constant n) = omega arith
+  some_weight (trees.word s) = omega arith
+  some_weight (trees.named n) = omega arith
+  some_weight (trees.call n trees.none) = omega arith
+  some_weight (trees.call n (trees.more e es)) = omega arith
+  some_weight (trees.index n width e) = omega arith
+  some_weight (trees.parenthesised e) = omega arith
+  some_weight (trees.prefixed op e) = omega arith
+  some_weight (trees.step_before op p e) = omega arith
+  some_weight (trees.step_after e op p) = omega arith
+  some_weight (trees.binary op a b) = omega arith
+  some_weight (trees.compare op a b) = omega arith
+  some_weight (trees.equal op a bs) = let h = some_weight a in omega (arith, h)
+  some_weight (trees.assign a p b) = omega arith
+
+  step_before_fits : {op : Step} {p : Position} {e : ExpressionTree} → Fits e → Fits (trees.step_before op p e)
+  step_before_fits {e = e} a = record { weighs = omega (arith, some_weight e) }
+
+  step_after_fits : {op : Step} {p : Position} {e : ExpressionTree} → Fits e → Fits (trees.step_after e op p)
+  step_after_fits {e = e} a = record { weighs = omega (arith, some_weight e) }
+
+  binary_fits : {op : Binary} {a b : ExpressionTree} → Fits a → Fits b → Fits (trees.binary op a b)
+  binary_fits f g = record { weighs = omega (arith, f.weighs, g.weighs) }
+
+  compare_fits : {op : Comparison} {a b : ExpressionTree} → Fits a → Fits b → Fits (trees.compare op a b)
+  compare_fits f g = record { weighs = omega (arith, f.weighs, g.weighs) }
+
+  equal_fits : {op : Equality} {a : ExpressionTree} {bs : ExpressionTrees} → Fits a → Sides bs
+      → Fits (trees.equal op a bs)
+  equal_fits f g = record { weighs = omega (arith, f.weighs, g.first) }
+
+  assign_fits : {p : Position} {a b : ExpressionTree} → Fits a → Fits b → Fits (trees.assign a p b)
+  assign_fits {a = a} {b = b} f g =
+      record { weighs = omega (arith, f.weighs, g.weighs, assigned_tokens (resolve seen a) (resolve seen b)) }
+
+  mutual
+    pub fits_E : {ts r : List Lexeme} {e : ExpressionTree} → IsE ts e r → Fits e
+    fits_E (e_plain a) = fits_E1 a
+    fits_E (e_assign a b) = assign_fits (fits_E1 a) (fits_E b)
+
+    fits_E1 : {ts r : List Lexeme} {e : ExpressionTree} → IsE1 ts e r → Fits e
+    fits_E1 (e1_plain a) = fits_N1 a
+    fits_E1 (e1_logical a o b) = binary_fits (fits_E1 a) (fits_N1 b)
+
+    fits_N1 : {ts r : List Lexeme} {e : ExpressionTree} → IsN1 ts e r → Fits e
+    fits_N1 (n1_plain a) = fits_E2 a
+    fits_N1 (n1_not a) = prefixed_fits (fits_N1 a)
+
+    fits_E2 : {ts r : List Lexeme} {e : ExpressionTree} → IsE2 ts e r → Fits e
+    fits_E2 (e2_plain a) = fits_E3 a
+    fits_E2 (e2_compare a o b) = compare_fits (fits_E3 a) (fits_E3 b)
+    fits_E2 (e2_equal a o b) = equal_fits (fits_E3 a) (fits_Choice b)
+
+    fits_Choice : {ts r : List Lexeme} {es : ExpressionTrees} → IsChoice ts es r → Sides es
+    fits_Choice (choice_last a) = sides_fit (fits_E3 a) none_fit
+    fits_Choice (choice_or a b) = sides_fit (fits_E3 a) (fits_Choice b).all
+
+    fits_E3 : {ts r : List Lexeme} {e : ExpressionTree} → IsE3 ts e r → Fits e
+    fits_E3 (e3_plain a) = fits_E4 a
+    fits_E3 (e3_add a o b) = binary_fits (fits_E3 a) (fits_E4 b)
+
+    fits_E4 : {ts r : List Lexeme} {e : ExpressionTree} → IsE4 ts e r → Fits e
+    fits_E4 (e4_plain a) = fits_N4 a
+    fits_E4 (e4_scale a o b) = binary_fits (fits_E4 a) (fits_N4 b)
+
+    fits_N4 : {ts r : List Lexeme} {e : ExpressionTree} → IsN4 ts e r → Fits e
+    fits_N4 (n4_plain a) = fits_E5 a
+    fits_N4 (n4_complement a) = prefixed_fits (fits_N4 a)
+
+    fits_E5 : {ts r : List Lexeme} {e : ExpressionTree} → IsE5 ts e r → Fits e
+    fits_E5 (e5_plain a) = fits_U a
+    fits_E5 (e5_index o a) = index_fits (fits_U a)
+
+    fits_U : {ts r : List Lexeme} {e : ExpressionTree} → IsU ts e r → Fits e
+    fits_U (u_plain a) = fits_P a
+    fits_U (u_minus a) = prefixed_fits (fits_U a)
+    fits_U (u_before o a) = step_before_fits (fits_P a)
+    fits_U (u_after a o) = step_after_fits (fits_P a)
+
+    fits_P : {ts r : List Lexeme} {e : ExpressionTree} → IsP ts e r → Fits e
+    fits_P p_number = number_fits
+    fits_P p_character = number_fits
+    fits_P p_word = word_fits
+    fits_P p_true = number_fits
+    fits_P p_false = number_fits
+    fits_P p_nothing = number_fits
+    fits_P p_name = name_fits
+    fits_P p_call = call_fits none_fit
+    fits_P (p_call_with a) = call_fits (fits_Arguments a)
+    fits_P (p_parenthesised a) = parenthesised_fits (fits_E a)
+
+    fits_Arguments : {ts r : List Lexeme} {es : ExpressionTrees} → IsArguments ts es r → AllFit es
+    fits_Arguments (arguments_last a) = more_fit (fits_E a) none_fit
+    fits_Arguments (arguments_comma a b) = more_fit (fits_E a) (fits_Arguments b)
+
+  -- The items of an expression
+
+  pub few_value : (e : ExpressionTree) → Fits e → (d : Destination) (at : ℕ)
+      → most_of (value_items at (resolve seen e) d) + 20 ≤ expression_weight e
+  few_value e f d at = let s = (small (resolve seen e)).value d at in omega (arith, s, f.weighs)
+
+  pub few_branch : (e : ExpressionTree) → Fits e → (when : Bool) (at t : ℕ)
+      → most_of (branch_items at (resolve seen e) when t) + 20 ≤ expression_weight e
+  few_branch e f when at t = let s = (small (resolve seen e)).branch when at t in omega (arith, s, f.weighs)
+
+  pub few_alone : (e : ExpressionTree) → Fits e → (at : ℕ)
+      → most_of (alone_items at (resolve seen e)) + 20 ≤ expression_weight e
+  few_alone e f at = if_small (alone (resolve seen e)) (value_items at (resolve seen e) push) (expression_weight e)
+      (few_value e f push at)

@@ -1,0 +1,103 @@
+-- The code of a program is no longer than its source weighs.
+use Rattle.std.proofs.Common.{◌≡◌, ◌≤◌, ◌+◌, ◌-◌, ℕ, List, [], ◌∷◌, ◌++◌, arith}
+use Rattle.std.specs.List.{All}
+use Rattle.std.proofs.lemmas.List.Elements.{All-nil, All-cons}
+use Rattle.lexer.specs.declared.token.Position.{Position}
+use Rattle.lexer.specs.declared.token.Sign.TheVariants as s
+use Rattle.lexer.specs.Token.{Lexeme, name, sign}
+use Rattle.expressions.specs.Tree.{NameTree}
+use Rattle.statements.specs.Tree.{LiteralTree, StatementTrees}
+use Rattle.statements.specs.Grammar.{IsK, k_number, k_negative, k_character, k_word, k_true, k_false, k_nothing}
+use Rattle.statements.specs.Grammar.{k_name, IsSs}
+use Rattle.syntax.specs.Tree.{ValueTree, RoutineTree, DirectiveTree, ProgramTree}
+use Rattle.syntax.specs.Grammar.{weight_of, IsNames, v_value, IsValues, values_stop, values_next, IsDirective}
+use Rattle.syntax.specs.Grammar.{d_global, d_global_value, d_constant, d_array, d_routine}
+use Rattle.syntax.specs.Grammar.{IsDirectives, directives_stop, directives_next, IsProgram, program}
+use Rattle.syntax.proofs.Spelled.{weight_Ss, spelled_Names, weighs}
+use Rattle.names.specs.Names.{File, seen_from}
+use Rattle.checker.specs.Programs.{resolve_routine, routines_of, routine_trees}
+use Rattle.rules.specs.Statements.{resolve_statements}
+use Rattle.items.specs.Items.{return_true, actions_count, exits_to, actions_items}
+use Rattle.code.specs.Sizes.{routine_size, routines_size}
+use Rattle.sizes.specs.Laws.{IsShort, CodeIsShort}
+use Rattle.sizes.proofs.Most.{most_append}
+use Rattle.sizes.proofs.Sizes.{code_few}
+use Rattle.sizes.proofs.SizesOfTrees.{fits_Ss}
+
+value_weight : {ts r : List Lexeme} {k : LiteralTree} → IsK ts k r → weight_of r ≤ weight_of ts
+value_weight k_number = omega arith
+value_weight k_negative = omega arith
+value_weight k_character = omega arith
+value_weight k_word = omega arith
+value_weight k_true = omega arith
+value_weight k_false = omega arith
+value_weight k_nothing = omega arith
+value_weight k_name = omega arith
+
+values_weight : {ts r : List Lexeme} {vs : List ValueTree} → IsValues ts vs r → weight_of r ≤ weight_of ts
+values_weight values_stop = omega arith
+values_weight (values_next (v_value k) vs) = omega (arith, value_weight k, values_weight vs)
+
+-- names and words stand for what a file tells, and arrays have these sizes
+module _ (file : File) (sizes : List ℕ) where
+  abbrev pub IsRoutineShort : RoutineTree → Type 0
+  IsRoutineShort r = routine_size sizes (resolve_routine file r) + 7 ≤ r.weight
+
+  record AreShort (ts : List Lexeme) (ds : List DirectiveTree) (r : List Lexeme) : Type 0 where
+    pub each : All IsRoutineShort (routine_trees ds)
+    pub all : routines_size sizes (routines_of file ds) + weight_of r ≤ weight_of ts
+
+  record Weighed (ts : List Lexeme) (routine : RoutineTree) (r : List Lexeme) : Type 0 where
+    pub short : IsRoutineShort routine
+    pub weight : routine.weight + weight_of r ≡ weight_of ts
+
+  routine_short : {m k r : List Lexeme} {p q o l j : Position} {n : List ℕ} {ns : List NameTree} {xs : StatementTrees}
+      → IsNames m ns (sign s.Semicolon o ∷ k) → IsSs k xs (sign s.CloseBracket l ∷ sign s.Semicolon j ∷ r)
+      → Weighed (sign s.OpenBracket p ∷ name n q ∷ m)
+      (record {
+        name = record { text = n; position = q };
+        locals = ns;
+        body = xs;
+        weight = weight_of (sign s.OpenBracket p ∷ name n q ∷ m) - weight_of r;
+      }) r
+  routine_short {m} {r = r} {ns = ns} {xs = xs} a b =
+      let seen = seen_from file ns in
+      let actions = resolve_statements seen xs in
+      let exits = exits_to (actions_count actions) (actions_count actions) in
+      let code = (fits_Ss seen b).within exits 0 in
+      let body = weight_Ss b in
+      let locals = weighs (spelled_Names a) in
+      record {
+        short = omega (
+          arith,
+          code_few sizes (actions_items exits 0 actions ++ return_true ∷ []),
+          most_append (actions_items exits 0 actions) (return_true ∷ []),
+          code,
+          body,
+          locals,
+        );
+        weight = omega (arith, body, locals);
+      }
+
+  first_short : {ts m r : List Lexeme} {d : DirectiveTree} {ds : List DirectiveTree} → IsDirective ts d m
+      → AreShort m ds r → AreShort ts (d ∷ ds) r
+  first_short d_global b = record { each = b.each; all = omega (arith, b.all) }
+  first_short (d_global_value k) b = record { each = b.each; all = omega (arith, b.all, value_weight k) }
+  first_short (d_constant k) b = record { each = b.each; all = omega (arith, b.all, value_weight k) }
+  first_short (d_array t vs n) b = record { each = b.each; all = omega (arith, b.all, values_weight vs) }
+  first_short {ds = ds} (d_routine {p = p} {q = q} {n = n} ns xs) b =
+      let f = routine_short {p = p} {q = q} {n = n} ns xs in
+      record {
+        each = All-cons IsRoutineShort _ (routine_trees ds) f.short b.each;
+        all = omega (arith, b.all, f.short, f.weight);
+      }
+
+  are_short : {ts r : List Lexeme} {ds : List DirectiveTree} → IsDirectives ts ds r → AreShort ts ds r
+  are_short directives_stop = record { each = All-nil IsRoutineShort; all = omega arith }
+  are_short (directives_next a b) = first_short a (are_short b)
+
+  program_short : {ts : List Lexeme} {p : ProgramTree} → IsProgram ts p → IsShort p file sizes
+  program_short (program a) = let f = are_short a in record { each = f.each; all = omega (arith, f.all) }
+
+pub code_is_short : CodeIsShort
+code_is_short tokens p a file sizes = program_short file sizes a

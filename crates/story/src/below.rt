@@ -1,0 +1,107 @@
+//! What stands between the header of a story and its routines.
+
+ghost use Rattle.std.specs.Prelude.{◌≡◌, ◌≤◌, ◌++◌, OnOk, length};
+ghost use Rattle.tables.specs.Dictionary.{entry_bytes};
+ghost use Rattle.code.specs.HeldProgram.{start_code};
+ghost use Rattle.meaning.specs.Places as places;
+ghost use Rattle.meaning.specs.Places.{global_count};
+ghost use Rattle.meaning.specs.Resolved.{program_of};
+ghost use Rattle.story.specs.Layout.{dictionary_bytes, entries_bytes, global_bytes, greatest_word, key_bytes, low_bytes};
+
+use crate::words::{put_word, put_words, put_zeros};
+use meaning::{Checked, part_places};
+use std::alloc::AllocError;
+
+/// The table has as many words.
+const ABBREVIATIONS: usize = 96;
+
+/// The address of the empty text, halved (Z-Machine Standards Document 1.1, section 3.3).
+const EMPTY_TEXT: u16 = 128;
+
+/// Three Z-characters 5, the last word of a text.
+const NO_CHARACTERS: u16 = 0x94A5;
+
+/// Words of globals (section 6.2).
+const GLOBALS: usize = 240;
+
+/// Bytes of property defaults, of which there are 63 words (section 12.2).
+const DEFAULTS: usize = 126;
+
+/// `call_1n` with a large constant (section 14).
+const CALL: u8 = 0x8F;
+
+/// `quit` (section 14).
+const QUIT: u8 = 0xBA;
+
+/// The words with which the globals begin, 0 where the source has none.
+fn put_globals(bytes: &mut Vec<u8>, globals: &[u16]) -> Result<(), AllocError>
+    requires { length globals.now ≤ global_count }
+    ensures { OnOk result (bytes.new.items ≡ bytes.old.items ++ global_bytes globals.now) }
+{
+    put_words(bytes, globals)?;
+    put_zeros(bytes, 2 * (GLOBALS - globals.len()))?;
+    Ok(())
+}
+
+/// An entry of the dictionary: the six bytes of its key, the highest first, and three of data that are 0.
+fn put_entry(bytes: &mut Vec<u8>, key: u64) -> Result<(), AllocError>
+    ensures { OnOk result (bytes.new.items ≡ bytes.old.items ++ entry_bytes (key_bytes key)) }
+{
+    bytes.extend_from_slice(&key.to_be_bytes()[2..])?;
+    bytes.extend_from_slice(&[0; 3])?;
+    Ok(())
+}
+
+/// The entries of keys, one behind another.
+fn put_entries(bytes: &mut Vec<u8>, keys: &[u64]) -> Result<(), AllocError>
+    ensures { OnOk result (bytes.new.items ≡ bytes.old.items ++ entries_bytes keys.now) }
+{
+    for key in keys {
+        put_entry(bytes, *key)?;
+    }
+    Ok(())
+}
+
+/// The dictionary of keys, with three separators, whose entries have nine bytes (section 13.2).
+fn put_dictionary(bytes: &mut Vec<u8>, keys: &[u64]) -> Result<(), AllocError>
+    requires { length keys.now ≤ greatest_word }
+    ensures { OnOk result (bytes.new.items ≡ bytes.old.items ++ dictionary_bytes keys.now) }
+{
+    bytes.extend_from_slice(b"\x03.,\"\x09")?;
+    put_word(bytes, keys.len() as u16)?;
+    put_entries(bytes, keys)?;
+    Ok(())
+}
+
+/// The code that calls the routine at a packed address, and then ends the story.
+fn put_start(bytes: &mut Vec<u8>, main: u16) -> Result<(), AllocError>
+    ensures { OnOk result (bytes.new.items ≡ bytes.old.items ++ start_code main) }
+{
+    bytes.push(CALL)?;
+    put_word(bytes, main)?;
+    bytes.push(QUIT)?;
+    Ok(())
+}
+
+/// Where the arrays stand: behind the globals.
+pub fn arrays_place(checked: &Checked<'_>) -> usize
+    ensures { result ≡ places.arrays_place }
+{
+    part_places(checked).globals + 2 * GLOBALS
+}
+
+/// All that stands between the header and the routines.
+pub fn put_low(bytes: &mut Vec<u8>, checked: &Checked<'_>, main: u16) -> Result<(), AllocError>
+    requires globals { length checked.now.globals ≤ global_count }
+    requires keys { length checked.now.keys ≤ greatest_word }
+    ensures { OnOk result (bytes.new.items ≡ bytes.old.items ++ low_bytes (program_of checked.now) main) }
+{
+    put_words(bytes, &[EMPTY_TEXT; ABBREVIATIONS])?;
+    put_word(bytes, NO_CHARACTERS)?;
+    put_globals(bytes, checked.globals())?;
+    bytes.extend_from_slice(checked.array_bytes())?;
+    put_zeros(bytes, DEFAULTS)?;
+    put_dictionary(bytes, checked.keys())?;
+    put_start(bytes, main)?;
+    Ok(())
+}
