@@ -1,13 +1,12 @@
 -- A program that breaks no rule resolves to one within the limits.
-use Rattle.std.proofs.Common.{◌≡◌, ℕ, ◌+◌, ◌^◌, ◌<◌, ◌≤◌, nat_le, false, List, [], ◌∷◌, ◌++◌, length, Option, Some, None}
+use Rattle.std.proofs.Common.{◌≡◌, ℕ, ◌+◌, ◌^◌, ◌<◌, ◌≤◌, nat_le, List, [], ◌∷◌, ◌++◌, length, Option, Some, None}
 use Rattle.std.proofs.Common.{cond, refl, sym, subst, length-append, arith}
 use Rattle.std.specs.List.{All}
 use Rattle.std.specs.List.Sorted.{IsStrictlyIncreasing}
-use Rattle.std.proofs.lemmas.Bool.Decides.{nat_tests}
 use Rattle.std.proofs.lemmas.List.Elements.{All-nil, All-cons}
 use Rattle.lexer.specs.declared.token.Position.{Position}
 use Rattle.expressions.specs.Tree.{NameTree}
-use Rattle.syntax.specs.Tree.{RoutineTree, DirectiveTree, global, constant, array, routine}
+use Rattle.syntax.specs.Tree.{RoutineTree, DirectiveTree, global, constant, array, attribute, property, object, routine}
 use Rattle.names.specs.declared.binding.Binding.{Binding}
 use Rattle.names.specs.declared.binding.Binding.TheVariants as bindings
 use Rattle.names.specs.Breaches.{at}
@@ -21,23 +20,27 @@ use Rattle.rules.specs.Statements.{statements_breaches}
 use Rattle.meaning.specs.Around.{outside}
 use Rattle.rules.specs.Literals.{initial_breaches}
 use Rattle.checker.specs.Arrays.{array_breaches, array_bytes}
-use Rattle.checker.specs.Programs.{twice, has_local, locals_breaches, routine_breaches}
+use Rattle.checker.specs.Repeated.{has_name}
+use Rattle.checker.specs.Objects.{object_breaches, standing_breaches, parents_of, object_in, placed, all_defaults}
+use Rattle.checker.specs.Programs.{limit_breaches, object_trees, defaults_in, objects_in, objects_of}
+use Rattle.checker.specs.Programs.{twice, locals_breaches, routine_breaches}
 use Rattle.checker.specs.Programs.{directive_breaches, directives_breaches, main_key, first_routine, position_or}
 use Rattle.checker.specs.Programs.{main_breaches, program_breaches, globals_of, arrays_of, resolve_routine}
 use Rattle.checker.specs.Programs.{routines_of}
 use Rattle.checker.specs.Programs.{routine_number, resolve_with, file_of, resolve_program}
-use Rattle.meaning.specs.Accepted.{IsRoutine, IsArray, IsAccepted}
+use Rattle.meaning.specs.Objects.{object_at}
+use Rattle.meaning.specs.Accepted.{IsRoutine, IsArray, IsObject, IsAccepted}
 use Rattle.checker.specs.Laws.{AcceptedPrograms}
 use Rattle.checker.proofs.Whole.{made}
 use Rattle.names.proofs.Gathered.{keys_ascend}
 use Rattle.names.proofs.SmallKeys.{keys_small}
 use Rattle.checker.proofs.ArrayBytes.{array_short}
-use Rattle.checker.proofs.Unbroken.{left_empty, right_empty, kept, IsMeant, statements_within}
+use Rattle.checker.proofs.Kept.{left_empty, right_empty, kept, below}
+use Rattle.checker.proofs.Chains.{placed_many}
+use Rattle.checker.proofs.Placed.{IsAlone, object_within, objects_placed, parents_rise, defaults_many, defaults_small}
+use Rattle.checker.proofs.Unbroken.{IsMeant, statements_within}
 use Rattle.checker.proofs.Unbroken.{statements_stand}
-use Rattle.checker.proofs.Bindings.{AreEntries, file_entries, found_meant, name_meant}
-
-below : (limit n : ℕ) → nat_le limit n ≡ false → n < limit
-below limit n h = grind (arith, nat_tests)
+use Rattle.checker.proofs.Bindings.{attributes_in, AreEntries, file_entries, found_meant, name_meant}
 
 -- Counts
 
@@ -45,7 +48,7 @@ locals_few : (before ls : List NameTree) → length before ≤ 15 → locals_bre
     → length before + length ls ≤ 15
 locals_few before [] few h = omega (arith, few)
 locals_few before (l ∷ ls) few h =
-    let same = cond (has_local before l) (at l.position 22) [] in
+    let same = cond (has_name before l) (at l.position 22) [] in
     let many = cond (nat_le 15 (length before)) (at l.position 24) [] in
     let rest = right_empty same (many ++ locals_breaches (before ++ l ∷ []) ls) h in
     let room = below 15 (length before)
@@ -61,29 +64,178 @@ globals_few file t counts [] few h = omega (arith, few)
 globals_few file t counts (global n v ∷ ds) few h =
     let d = global n v in
     let own = directive_breaches file.table t counts d in
-    let rest = directives_breaches file.table (with_directive t counts d) (counts_after counts d) ds in
-    let many = cond (nat_le 232 counts.globals) (at n.position 24) [] in
+    let rest = directives_breaches file.table (with_directive file.table t counts d) (counts_after counts d) ds in
+    let many = limit_breaches 232 counts.globals n in
     let here = left_empty many (initial_breaches file.table v)
     (right_empty (twice t n) (many ++ initial_breaches file.table v) (left_empty own rest h)) in
-    let room = below 232 counts.globals (kept (nat_le 232 counts.globals) n.position 24 here) in
-    let all = globals_few file (with_directive t counts d) (counts_after counts d) ds (omega (arith, room))
+    let room = below 232 counts.globals (kept (nat_le 232 counts.globals) (n).position 24 here) in
+    let all = globals_few file (with_directive file.table t counts d) (counts_after counts d) ds (omega (arith, room))
     (right_empty own rest h) in
     omega (arith, all)
 globals_few file t counts (constant n v ∷ ds) few h =
     let d = constant n v in
-    globals_few file (with_directive t counts d) counts ds few
+    globals_few file (with_directive file.table t counts d) (counts_after counts d) ds few
     (right_empty (directive_breaches file.table t counts d)
-    (directives_breaches file.table (with_directive t counts d) counts ds) h)
+    (directives_breaches file.table (with_directive file.table t counts d) (counts_after counts d) ds) h)
 globals_few file t counts (array a ∷ ds) few h =
     let d = array a in
-    globals_few file (with_directive t counts d) (counts_after counts d) ds few
+    globals_few file (with_directive file.table t counts d) (counts_after counts d) ds few
     (right_empty (directive_breaches file.table t counts d)
-    (directives_breaches file.table (with_directive t counts d) (counts_after counts d) ds) h)
+    (directives_breaches file.table (with_directive file.table t counts d) (counts_after counts d) ds) h)
+globals_few file t counts (attribute n ∷ ds) few h =
+    let d = attribute n in
+    globals_few file (with_directive file.table t counts d) (counts_after counts d) ds few
+    (right_empty (directive_breaches file.table t counts d)
+    (directives_breaches file.table (with_directive file.table t counts d) (counts_after counts d) ds) h)
+globals_few file t counts (property n v ∷ ds) few h =
+    let d = property n v in
+    globals_few file (with_directive file.table t counts d) (counts_after counts d) ds few
+    (right_empty (directive_breaches file.table t counts d)
+    (directives_breaches file.table (with_directive file.table t counts d) (counts_after counts d) ds) h)
+globals_few file t counts (object o ∷ ds) few h =
+    let d = object o in
+    globals_few file (with_directive file.table t counts d) (counts_after counts d) ds few
+    (right_empty (directive_breaches file.table t counts d)
+    (directives_breaches file.table (with_directive file.table t counts d) (counts_after counts d) ds) h)
 globals_few file t counts (routine r ∷ ds) few h =
     let d = routine r in
-    globals_few file (with_directive t counts d) (counts_after counts d) ds few
+    globals_few file (with_directive file.table t counts d) (counts_after counts d) ds few
     (right_empty (directive_breaches file.table t counts d)
-    (directives_breaches file.table (with_directive t counts d) (counts_after counts d) ds) h)
+    (directives_breaches file.table (with_directive file.table t counts d) (counts_after counts d) ds) h)
+
+attributes_few : (file : File) (t : Table) (counts : Counts) (ds : List DirectiveTree) → counts.attributes ≤ 48
+    → directives_breaches file.table t counts ds ≡ [] → counts.attributes + attributes_in ds ≤ 48
+attributes_few file t counts [] few h = omega (arith, few)
+attributes_few file t counts (global n v ∷ ds) few h =
+    let d = global n v in
+    attributes_few file (with_directive file.table t counts d) (counts_after counts d) ds few
+    (right_empty (directive_breaches file.table t counts d)
+    (directives_breaches file.table (with_directive file.table t counts d) (counts_after counts d) ds) h)
+attributes_few file t counts (constant n v ∷ ds) few h =
+    let d = constant n v in
+    attributes_few file (with_directive file.table t counts d) (counts_after counts d) ds few
+    (right_empty (directive_breaches file.table t counts d)
+    (directives_breaches file.table (with_directive file.table t counts d) (counts_after counts d) ds) h)
+attributes_few file t counts (array a ∷ ds) few h =
+    let d = array a in
+    attributes_few file (with_directive file.table t counts d) (counts_after counts d) ds few
+    (right_empty (directive_breaches file.table t counts d)
+    (directives_breaches file.table (with_directive file.table t counts d) (counts_after counts d) ds) h)
+attributes_few file t counts (attribute n ∷ ds) few h =
+    let d = attribute n in
+    let own = directive_breaches file.table t counts d in
+    let rest = directives_breaches file.table (with_directive file.table t counts d) (counts_after counts d) ds in
+    let many = limit_breaches 48 counts.attributes n in
+    let here = right_empty (twice t n) many (left_empty own rest h) in
+    let room = below 48 counts.attributes (kept (nat_le 48 counts.attributes) (n).position 24 here) in
+    let all = attributes_few file (with_directive file.table t counts d) (counts_after counts d) ds (omega (arith, room))
+    (right_empty own rest h) in
+    omega (arith, all)
+attributes_few file t counts (property n v ∷ ds) few h =
+    let d = property n v in
+    attributes_few file (with_directive file.table t counts d) (counts_after counts d) ds few
+    (right_empty (directive_breaches file.table t counts d)
+    (directives_breaches file.table (with_directive file.table t counts d) (counts_after counts d) ds) h)
+attributes_few file t counts (object o ∷ ds) few h =
+    let d = object o in
+    attributes_few file (with_directive file.table t counts d) (counts_after counts d) ds few
+    (right_empty (directive_breaches file.table t counts d)
+    (directives_breaches file.table (with_directive file.table t counts d) (counts_after counts d) ds) h)
+attributes_few file t counts (routine r ∷ ds) few h =
+    let d = routine r in
+    attributes_few file (with_directive file.table t counts d) (counts_after counts d) ds few
+    (right_empty (directive_breaches file.table t counts d)
+    (directives_breaches file.table (with_directive file.table t counts d) (counts_after counts d) ds) h)
+
+properties_few : (file : File) (t : Table) (counts : Counts) (ds : List DirectiveTree) → counts.properties ≤ 62
+    → directives_breaches file.table t counts ds ≡ [] → counts.properties + length (defaults_in file ds) ≤ 62
+properties_few file t counts [] few h = omega (arith, few)
+properties_few file t counts (global n v ∷ ds) few h =
+    let d = global n v in
+    properties_few file (with_directive file.table t counts d) (counts_after counts d) ds few
+    (right_empty (directive_breaches file.table t counts d)
+    (directives_breaches file.table (with_directive file.table t counts d) (counts_after counts d) ds) h)
+properties_few file t counts (constant n v ∷ ds) few h =
+    let d = constant n v in
+    properties_few file (with_directive file.table t counts d) (counts_after counts d) ds few
+    (right_empty (directive_breaches file.table t counts d)
+    (directives_breaches file.table (with_directive file.table t counts d) (counts_after counts d) ds) h)
+properties_few file t counts (array a ∷ ds) few h =
+    let d = array a in
+    properties_few file (with_directive file.table t counts d) (counts_after counts d) ds few
+    (right_empty (directive_breaches file.table t counts d)
+    (directives_breaches file.table (with_directive file.table t counts d) (counts_after counts d) ds) h)
+properties_few file t counts (attribute n ∷ ds) few h =
+    let d = attribute n in
+    properties_few file (with_directive file.table t counts d) (counts_after counts d) ds few
+    (right_empty (directive_breaches file.table t counts d)
+    (directives_breaches file.table (with_directive file.table t counts d) (counts_after counts d) ds) h)
+properties_few file t counts (property n v ∷ ds) few h =
+    let d = property n v in
+    let own = directive_breaches file.table t counts d in
+    let rest = directives_breaches file.table (with_directive file.table t counts d) (counts_after counts d) ds in
+    let many = limit_breaches 62 counts.properties n in
+    let here = left_empty many (initial_breaches file.table v)
+    (right_empty (twice t n) (many ++ initial_breaches file.table v) (left_empty own rest h)) in
+    let room = below 62 counts.properties (kept (nat_le 62 counts.properties) (n).position 24 here) in
+    let all = properties_few file (with_directive file.table t counts d) (counts_after counts d) ds (omega (arith, room))
+    (right_empty own rest h) in
+    omega (arith, all)
+properties_few file t counts (object o ∷ ds) few h =
+    let d = object o in
+    properties_few file (with_directive file.table t counts d) (counts_after counts d) ds few
+    (right_empty (directive_breaches file.table t counts d)
+    (directives_breaches file.table (with_directive file.table t counts d) (counts_after counts d) ds) h)
+properties_few file t counts (routine r ∷ ds) few h =
+    let d = routine r in
+    properties_few file (with_directive file.table t counts d) (counts_after counts d) ds few
+    (right_empty (directive_breaches file.table t counts d)
+    (directives_breaches file.table (with_directive file.table t counts d) (counts_after counts d) ds) h)
+
+objects_few : (file : File) (t : Table) (counts : Counts) (ds : List DirectiveTree) → counts.objects ≤ 2000
+    → directives_breaches file.table t counts ds ≡ [] → counts.objects + length (objects_in file ds) ≤ 2000
+objects_few file t counts [] few h = omega (arith, few)
+objects_few file t counts (global n v ∷ ds) few h =
+    let d = global n v in
+    objects_few file (with_directive file.table t counts d) (counts_after counts d) ds few
+    (right_empty (directive_breaches file.table t counts d)
+    (directives_breaches file.table (with_directive file.table t counts d) (counts_after counts d) ds) h)
+objects_few file t counts (constant n v ∷ ds) few h =
+    let d = constant n v in
+    objects_few file (with_directive file.table t counts d) (counts_after counts d) ds few
+    (right_empty (directive_breaches file.table t counts d)
+    (directives_breaches file.table (with_directive file.table t counts d) (counts_after counts d) ds) h)
+objects_few file t counts (array a ∷ ds) few h =
+    let d = array a in
+    objects_few file (with_directive file.table t counts d) (counts_after counts d) ds few
+    (right_empty (directive_breaches file.table t counts d)
+    (directives_breaches file.table (with_directive file.table t counts d) (counts_after counts d) ds) h)
+objects_few file t counts (attribute n ∷ ds) few h =
+    let d = attribute n in
+    objects_few file (with_directive file.table t counts d) (counts_after counts d) ds few
+    (right_empty (directive_breaches file.table t counts d)
+    (directives_breaches file.table (with_directive file.table t counts d) (counts_after counts d) ds) h)
+objects_few file t counts (property n v ∷ ds) few h =
+    let d = property n v in
+    objects_few file (with_directive file.table t counts d) (counts_after counts d) ds few
+    (right_empty (directive_breaches file.table t counts d)
+    (directives_breaches file.table (with_directive file.table t counts d) (counts_after counts d) ds) h)
+objects_few file t counts (object o ∷ ds) few h =
+    let d = object o in
+    let own = directive_breaches file.table t counts d in
+    let rest = directives_breaches file.table (with_directive file.table t counts d) (counts_after counts d) ds in
+    let many = limit_breaches 2000 counts.objects o.name in
+    let here = left_empty many (object_breaches file.table o)
+    (right_empty (twice t o.name) (many ++ object_breaches file.table o) (left_empty own rest h)) in
+    let room = below 2000 counts.objects (kept (nat_le 2000 counts.objects) (o.name).position 24 here) in
+    let all = objects_few file (with_directive file.table t counts d) (counts_after counts d) ds (omega (arith, room))
+    (right_empty own rest h) in
+    omega (arith, all)
+objects_few file t counts (routine r ∷ ds) few h =
+    let d = routine r in
+    objects_few file (with_directive file.table t counts d) (counts_after counts d) ds few
+    (right_empty (directive_breaches file.table t counts d)
+    (directives_breaches file.table (with_directive file.table t counts d) (counts_after counts d) ds) h)
 
 -- Arrays
 
@@ -92,39 +244,54 @@ arrays_within : (file : File) (t : Table) (counts : Counts) (ds : List Directive
 arrays_within file t counts [] h = All-nil IsArray
 arrays_within file t counts (global n v ∷ ds) h =
     let d = global n v in
-    arrays_within file (with_directive t counts d) (counts_after counts d) ds
+    arrays_within file (with_directive file.table t counts d) (counts_after counts d) ds
     (right_empty (directive_breaches file.table t counts d)
-    (directives_breaches file.table (with_directive t counts d) (counts_after counts d) ds) h)
+    (directives_breaches file.table (with_directive file.table t counts d) (counts_after counts d) ds) h)
 arrays_within file t counts (constant n v ∷ ds) h =
     let d = constant n v in
-    arrays_within file (with_directive t counts d) counts ds
+    arrays_within file (with_directive file.table t counts d) (counts_after counts d) ds
     (right_empty (directive_breaches file.table t counts d)
-    (directives_breaches file.table (with_directive t counts d) counts ds) h)
+    (directives_breaches file.table (with_directive file.table t counts d) (counts_after counts d) ds) h)
 arrays_within file t counts (array a ∷ ds) h =
     let d = array a in
     let own = directive_breaches file.table t counts d in
-    let rest = directives_breaches file.table (with_directive t counts d) (counts_after counts d) ds in
+    let rest = directives_breaches file.table (with_directive file.table t counts d) (counts_after counts d) ds in
     All-cons IsArray (array_bytes file a) (arrays_of file ds)
     (array_short file a (right_empty (twice t a.name) (array_breaches file.table a) (left_empty own rest h)))
-    (arrays_within file (with_directive t counts d) (counts_after counts d) ds (right_empty own rest h))
+    (arrays_within file (with_directive file.table t counts d) (counts_after counts d) ds (right_empty own rest h))
+arrays_within file t counts (attribute n ∷ ds) h =
+    let d = attribute n in
+    arrays_within file (with_directive file.table t counts d) (counts_after counts d) ds
+    (right_empty (directive_breaches file.table t counts d)
+    (directives_breaches file.table (with_directive file.table t counts d) (counts_after counts d) ds) h)
+arrays_within file t counts (property n v ∷ ds) h =
+    let d = property n v in
+    arrays_within file (with_directive file.table t counts d) (counts_after counts d) ds
+    (right_empty (directive_breaches file.table t counts d)
+    (directives_breaches file.table (with_directive file.table t counts d) (counts_after counts d) ds) h)
+arrays_within file t counts (object o ∷ ds) h =
+    let d = object o in
+    arrays_within file (with_directive file.table t counts d) (counts_after counts d) ds
+    (right_empty (directive_breaches file.table t counts d)
+    (directives_breaches file.table (with_directive file.table t counts d) (counts_after counts d) ds) h)
 arrays_within file t counts (routine r ∷ ds) h =
     let d = routine r in
-    arrays_within file (with_directive t counts d) (counts_after counts d) ds
+    arrays_within file (with_directive file.table t counts d) (counts_after counts d) ds
     (right_empty (directive_breaches file.table t counts d)
-    (directives_breaches file.table (with_directive t counts d) (counts_after counts d) ds) h)
+    (directives_breaches file.table (with_directive file.table t counts d) (counts_after counts d) ds) h)
 
 -- Routines
 
-module _ (p : ProgramOf) (file : File)
-    (entries : AreEntries (length p.globals) (length p.arrays) p.routines file.table) where
+module _ (p : ProgramOf) (file : File) (attributes properties : ℕ) (few : attributes ≤ 48) (short : properties ≤ 62)
+    (entries : AreEntries (length p.globals) (length p.arrays) attributes properties p.routines file.table) where
   routine_within : (r : RoutineTree) → routine_breaches file.table r ≡ [] → IsRoutine p (resolve_routine file r)
   routine_within r h =
       let names = locals_breaches [] r.locals in
       let body = statements_breaches (look_up file.table r.locals) outside r.body in
-      let few = locals_few [] r.locals (omega arith) (left_empty names body h) in (
-        omega (arith, few),
+      let brief = locals_few [] r.locals (omega arith) (left_empty names body h) in (
+        omega (arith, brief),
         statements_within p (length r.locals) (seen_from file r.locals)
-            (λ name. name_meant p file.table r.locals name entries) outside r.body (right_empty names body h),
+            (λ name. name_meant p attributes properties few short file.table r.locals name entries) outside r.body (right_empty names body h),
         statements_stand (seen_from file r.locals) outside r.body (right_empty names body h),
       )
 
@@ -133,26 +300,87 @@ module _ (p : ProgramOf) (file : File)
   routines_within t counts [] h = All-nil (IsRoutine p)
   routines_within t counts (global n v ∷ ds) h =
       let d = global n v in
-      routines_within (with_directive t counts d) (counts_after counts d) ds
+      routines_within (with_directive file.table t counts d) (counts_after counts d) ds
       (right_empty (directive_breaches file.table t counts d)
-      (directives_breaches file.table (with_directive t counts d) (counts_after counts d) ds) h)
+      (directives_breaches file.table (with_directive file.table t counts d) (counts_after counts d) ds) h)
   routines_within t counts (constant n v ∷ ds) h =
       let d = constant n v in
-      routines_within (with_directive t counts d) counts ds
+      routines_within (with_directive file.table t counts d) (counts_after counts d) ds
       (right_empty (directive_breaches file.table t counts d)
-      (directives_breaches file.table (with_directive t counts d) counts ds) h)
+      (directives_breaches file.table (with_directive file.table t counts d) (counts_after counts d) ds) h)
   routines_within t counts (array a ∷ ds) h =
       let d = array a in
-      routines_within (with_directive t counts d) (counts_after counts d) ds
+      routines_within (with_directive file.table t counts d) (counts_after counts d) ds
       (right_empty (directive_breaches file.table t counts d)
-      (directives_breaches file.table (with_directive t counts d) (counts_after counts d) ds) h)
+      (directives_breaches file.table (with_directive file.table t counts d) (counts_after counts d) ds) h)
+  routines_within t counts (attribute n ∷ ds) h =
+      let d = attribute n in
+      routines_within (with_directive file.table t counts d) (counts_after counts d) ds
+      (right_empty (directive_breaches file.table t counts d)
+      (directives_breaches file.table (with_directive file.table t counts d) (counts_after counts d) ds) h)
+  routines_within t counts (property n v ∷ ds) h =
+      let d = property n v in
+      routines_within (with_directive file.table t counts d) (counts_after counts d) ds
+      (right_empty (directive_breaches file.table t counts d)
+      (directives_breaches file.table (with_directive file.table t counts d) (counts_after counts d) ds) h)
+  routines_within t counts (object o ∷ ds) h =
+      let d = object o in
+      routines_within (with_directive file.table t counts d) (counts_after counts d) ds
+      (right_empty (directive_breaches file.table t counts d)
+      (directives_breaches file.table (with_directive file.table t counts d) (counts_after counts d) ds) h)
   routines_within t counts (routine r ∷ ds) h =
       let d = routine r in
       let own = directive_breaches file.table t counts d in
-      let rest = directives_breaches file.table (with_directive t counts d) (counts_after counts d) ds in
+      let rest = directives_breaches file.table (with_directive file.table t counts d) (counts_after counts d) ds in
       All-cons (IsRoutine p) (resolve_routine file r) (routines_of file ds)
       (routine_within r (right_empty (twice t r.name) (routine_breaches file.table r) (left_empty own rest h)))
-      (routines_within (with_directive t counts d) (counts_after counts d) ds (right_empty own rest h))
+      (routines_within (with_directive file.table t counts d) (counts_after counts d) ds (right_empty own rest h))
+
+  -- Objects, still without their parents
+
+  objects_within : (t : Table) (counts : Counts) (ds : List DirectiveTree)
+      → directives_breaches file.table t counts ds ≡ [] → All IsAlone (objects_in file ds)
+  objects_within t counts [] h = All-nil IsAlone
+  objects_within t counts (global n v ∷ ds) h =
+      let d = global n v in
+      objects_within (with_directive file.table t counts d) (counts_after counts d) ds
+      (right_empty (directive_breaches file.table t counts d)
+      (directives_breaches file.table (with_directive file.table t counts d) (counts_after counts d) ds) h)
+  objects_within t counts (constant n v ∷ ds) h =
+      let d = constant n v in
+      objects_within (with_directive file.table t counts d) (counts_after counts d) ds
+      (right_empty (directive_breaches file.table t counts d)
+      (directives_breaches file.table (with_directive file.table t counts d) (counts_after counts d) ds) h)
+  objects_within t counts (array a ∷ ds) h =
+      let d = array a in
+      objects_within (with_directive file.table t counts d) (counts_after counts d) ds
+      (right_empty (directive_breaches file.table t counts d)
+      (directives_breaches file.table (with_directive file.table t counts d) (counts_after counts d) ds) h)
+  objects_within t counts (attribute n ∷ ds) h =
+      let d = attribute n in
+      objects_within (with_directive file.table t counts d) (counts_after counts d) ds
+      (right_empty (directive_breaches file.table t counts d)
+      (directives_breaches file.table (with_directive file.table t counts d) (counts_after counts d) ds) h)
+  objects_within t counts (property n v ∷ ds) h =
+      let d = property n v in
+      objects_within (with_directive file.table t counts d) (counts_after counts d) ds
+      (right_empty (directive_breaches file.table t counts d)
+      (directives_breaches file.table (with_directive file.table t counts d) (counts_after counts d) ds) h)
+  objects_within t counts (object o ∷ ds) h =
+      let d = object o in
+      let own = directive_breaches file.table t counts d in
+      let rest = directives_breaches file.table (with_directive file.table t counts d) (counts_after counts d) ds in
+      All-cons IsAlone (object_in file o) (objects_in file ds)
+      (object_within p attributes properties few short file entries o
+      (right_empty (limit_breaches 2000 counts.objects o.name) (object_breaches file.table o)
+      (right_empty (twice t o.name) (limit_breaches 2000 counts.objects o.name ++ object_breaches file.table o)
+      (left_empty own rest h))))
+      (objects_within (with_directive file.table t counts d) (counts_after counts d) ds (right_empty own rest h))
+  objects_within t counts (routine r ∷ ds) h =
+      let d = routine r in
+      objects_within (with_directive file.table t counts d) (counts_after counts d) ds
+      (right_empty (directive_breaches file.table t counts d)
+      (directives_breaches file.table (with_directive file.table t counts d) (counts_after counts d) ds) h)
 
   -- Main
 
@@ -170,33 +398,55 @@ module _ (p : ProgramOf) (file : File)
       let none = below 1 n (kept (nat_le 1 n) (position_or end name) 21 h) in
       let same = m.1 in
       record { there = m.0; alone = omega (arith, none, same) }
-  main_within end name (Some bindings.Property) m h = absurd cc
+  main_within end name (Some (bindings.Attribute a)) m h = absurd cc
+  main_within end name (Some (bindings.Property n)) m h = absurd cc
+  main_within end name (Some (bindings.Object o)) m h = absurd cc
   main_within end name (Some (bindings.Local l)) m h = absurd cc
 
 -- Programs
 
 accepted : (ds : List DirectiveTree) (end : Position) (name : Option NameTree) (keys : List ℕ) (file : File)
     → All (λ k. k < 2 ^ 48) keys → IsStrictlyIncreasing keys → file.table ≡ table_of ds
-    → directives_breaches file.table first_table no_counts ds ++ main_breaches end name (in_table file.table main_key)
+    → directives_breaches file.table first_table no_counts ds
+    ++ (standing_breaches file.table (object_trees ds) ++ main_breaches end name (in_table file.table main_key))
     ≡ []
     → IsAccepted
-    (made (globals_of file ds) (arrays_of file ds) keys (routines_of file ds)
-    (routine_number (in_table file.table main_key)))
+    (made (globals_of file ds) (arrays_of file ds) (all_defaults (defaults_in file ds)) (objects_of file ds) keys
+    (routines_of file ds) (routine_number (in_table file.table main_key)))
 accepted ds end name keys file small ascending is h =
-    let p : ProgramOf = made (globals_of file ds) (arrays_of file ds) keys (routines_of file ds)
-    (routine_number (in_table file.table main_key)) in
-    let entries : AreEntries (length p.globals) (length p.arrays) p.routines file.table = subst
-    (λ (t : Table). AreEntries (length p.globals) (length p.arrays) p.routines t) (sym is)
-    (file_entries (length p.globals) (length p.arrays) p.routines file ds refl refl refl) in
+    let p : ProgramOf = made (globals_of file ds) (arrays_of file ds) (all_defaults (defaults_in file ds))
+    (objects_of file ds) keys (routines_of file ds) (routine_number (in_table file.table main_key)) in
+    let attributes : ℕ = attributes_in ds in
+    let properties : ℕ = length (defaults_in file ds) in
     let all = directives_breaches file.table first_table no_counts ds in
+    let standing = standing_breaches file.table (object_trees ds) in
     let main = main_breaches end name (in_table file.table main_key) in
-    let kept_main = main_within p file entries end name (in_table file.table main_key)
-    (found_meant p 0 file.table main_key entries) (right_empty all main h) in
-    let few = globals_few file first_table no_counts ds (omega arith) (left_empty all main h) in
+    let own = left_empty all (standing ++ main) h in
+    let rest = right_empty all (standing ++ main) h in
+    let globals = globals_few file first_table no_counts ds (omega arith) own in
+    let all_few = attributes_few file first_table no_counts ds (omega arith) own in
+    let all_short = properties_few file first_table no_counts ds (omega arith) own in
+    let few : attributes ≤ 48 = omega (arith, all_few) in
+    let short : properties ≤ 62 = omega (arith, all_short) in
+    let many = objects_few file first_table no_counts ds (omega arith) own in
+    let entries : AreEntries (length p.globals) (length p.arrays) attributes properties p.routines file.table = subst
+    (λ (t : Table). AreEntries (length p.globals) (length p.arrays) attributes properties p.routines t) (sym is)
+    (file_entries (length p.globals) (length p.arrays) attributes properties p.routines file ds refl refl refl refl refl) in
+    let parents : List ℕ = parents_of file.table (object_trees ds) in
+    let as_many = placed_many parents (objects_in file ds) in
+    let kept_main = main_within p file attributes properties few short entries end name (in_table file.table main_key)
+    (found_meant p attributes properties few short 0 file.table main_key entries) (right_empty standing main rest) in
     record {
-      globals = omega (arith, few);
-      arrays = arrays_within file first_table no_counts ds (left_empty all main h);
-      routines = routines_within p file entries first_table no_counts ds (left_empty all main h);
+      globals = omega (arith, globals);
+      arrays = arrays_within file first_table no_counts ds own;
+      defaults = (defaults_many (defaults_in file ds), defaults_small file ds);
+      few = omega (arith, many, as_many);
+      objects = λ (k : ℕ) lt. subst (λ (n : ℕ). IsObject (object_at (placed parents (objects_in file ds)) (k + 1)) n)
+          (omega arith)
+          (objects_placed 0 parents (objects_in file ds)
+          (parents_rise file.table [] 0 (object_trees ds) tt (left_empty standing main rest))
+          (objects_within p file attributes properties few short entries first_table no_counts ds own) k lt);
+      routines = routines_within p file attributes properties few short entries first_table no_counts ds own;
       main = kept_main.there;
       alone = kept_main.alone;
       keys = small;

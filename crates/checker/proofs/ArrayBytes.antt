@@ -30,7 +30,7 @@ use Rattle.checker.specs.Found.{most, number_bytes, own_entry_bytes, own_entry_b
 use Rattle.names.proofs.Noted.{noted_none, noted_append, noted_two}
 use Rattle.names.proofs.Dropped.{drop_cons, drop_end}
 use Rattle.checker.proofs.Directives.{nothing_more}
-use Rattle.checker.proofs.Unbroken.{left_empty}
+use Rattle.checker.proofs.Kept.{left_empty}
 
 -- Sizes
 

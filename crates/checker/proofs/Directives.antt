@@ -1,5 +1,5 @@
 -- Directives, one at a time.
-use Rattle.std.proofs.Common.{◌≡◌, ℕ, ◌+◌, ◌<◌, ◌≤◌, List, [], ◌∷◌, ◌++◌, length, drop, slice_index_or}
+use Rattle.std.proofs.Common.{◌≡◌, ℕ, ◌+◌, ◌%◌, ◌<◌, ◌≤◌, List, [], ◌∷◌, ◌++◌, length, drop, slice_index_or}
 use Rattle.std.proofs.Common.{Option, append_assoc, refl, sym, subst, ap, ◌∙◌}
 use Rattle.std.specs.Prelude.{map}
 use Rattle.std.specs.List.{concat}
@@ -7,10 +7,12 @@ use Rattle.std.specs.Global.{Vec}
 use Rattle.syntax.specs.declared.tree.Directive.{Directive}
 use Rattle.expressions.specs.Tree.{NameTree}
 use Rattle.statements.specs.Tree.{LiteralTree}
-use Rattle.syntax.specs.Tree.{ArrayTree, RoutineTree, DirectiveTree, global, constant, array, routine}
+use Rattle.syntax.specs.Tree.{ArrayTree, ObjectTree, RoutineTree, DirectiveTree, global, constant, array, attribute}
+use Rattle.syntax.specs.Tree.{property, object, routine}
 use Rattle.syntax.specs.Tree.{directive_tree}
 use Rattle.meaning.specs.declared.arrays.Arrays.{Arrays}
 use Rattle.names.specs.declared.breach.Breach.{Breach}
+use Rattle.meaning.specs.declared.checked.CheckedObject.{CheckedObject}
 use Rattle.meaning.specs.declared.checked.CheckedRoutine.{CheckedRoutine}
 use Rattle.checker.specs.declared.directive_rules.Found.{Found}
 use Rattle.names.specs.declared.counts.Counts.{Counts}
@@ -18,11 +20,13 @@ use Rattle.names.specs.Names.{Table, File, counts_after, with_directive}
 use Rattle.names.specs.Noted.{noted}
 use Rattle.names.proofs.Dropped.{drop_here, drop_end}
 use Rattle.names.proofs.Noted.{noted_append}
-use Rattle.meaning.specs.Resolved.{RoutineOf, routine_of, title_of}
+use Rattle.meaning.specs.Objects.{ObjectOf}
+use Rattle.meaning.specs.Resolved.{RoutineOf, object_of, routine_of, title_of}
 use Rattle.checker.specs.Arrays.{array_bytes}
 use Rattle.rules.specs.Literals.{initial_value}
 use Rattle.checker.specs.Found.{IsArrayAdded, IsAdded, IsAdding}
-use Rattle.checker.specs.Programs.{globals_of, arrays_of, routines_of, resolve_routine, routine_trees, title}
+use Rattle.checker.specs.Objects.{object_in}
+use Rattle.checker.specs.Programs.{globals_of, arrays_of, defaults_in, objects_in, routines_of, resolve_routine, routine_trees, title}
 use Rattle.checker.specs.Programs.{directive_breaches, directives_breaches}
 
 pub nothing_more : {A : Type 0} (xs : List A) → xs ≡ xs ++ []
@@ -37,6 +41,9 @@ globals_more : (file : File) (d : DirectiveTree) (ds : List DirectiveTree)
     → globals_of file (d ∷ ds) ≡ globals_of file (d ∷ []) ++ globals_of file ds
 globals_more file (global n v) ds = refl
 globals_more file (constant n v) ds = refl
+globals_more file (attribute n) ds = refl
+globals_more file (property n v) ds = refl
+globals_more file (object o) ds = refl
 globals_more file (array a) ds = refl
 globals_more file (routine r) ds = refl
 
@@ -44,6 +51,9 @@ routines_more : (file : File) (d : DirectiveTree) (ds : List DirectiveTree)
     → routines_of file (d ∷ ds) ≡ routines_of file (d ∷ []) ++ routines_of file ds
 routines_more file (global n v) ds = refl
 routines_more file (constant n v) ds = refl
+routines_more file (attribute n) ds = refl
+routines_more file (property n v) ds = refl
+routines_more file (object o) ds = refl
 routines_more file (array a) ds = refl
 routines_more file (routine r) ds = refl
 
@@ -51,6 +61,9 @@ titles_more : (d : DirectiveTree) (ds : List DirectiveTree)
     → map title (routine_trees (d ∷ ds)) ≡ map title (routine_trees (d ∷ [])) ++ map title (routine_trees ds)
 titles_more (global n v) ds = refl
 titles_more (constant n v) ds = refl
+titles_more (attribute n) ds = refl
+titles_more (property n v) ds = refl
+titles_more (object o) ds = refl
 titles_more (array a) ds = refl
 titles_more (routine r) ds = refl
 
@@ -58,6 +71,9 @@ pub bytes_more : (file : File) (d : DirectiveTree) (ds : List DirectiveTree)
     → concat (arrays_of file (d ∷ ds)) ≡ concat (arrays_of file (d ∷ [])) ++ concat (arrays_of file ds)
 bytes_more file (global n v) ds = refl
 bytes_more file (constant n v) ds = refl
+bytes_more file (attribute n) ds = refl
+bytes_more file (property n v) ds = refl
+bytes_more file (object o) ds = refl
 bytes_more file (array a) ds = ap (λ (x : List ℕ). x ++ concat (arrays_of file ds))
     (nothing_more (array_bytes file a))
 bytes_more file (routine r) ds = refl
@@ -66,8 +82,31 @@ sizes_more : (file : File) (d : DirectiveTree) (ds : List DirectiveTree)
     → map length (arrays_of file (d ∷ ds)) ≡ map length (arrays_of file (d ∷ [])) ++ map length (arrays_of file ds)
 sizes_more file (global n v) ds = refl
 sizes_more file (constant n v) ds = refl
+sizes_more file (attribute n) ds = refl
+sizes_more file (property n v) ds = refl
+sizes_more file (object o) ds = refl
 sizes_more file (array a) ds = refl
 sizes_more file (routine r) ds = refl
+
+defaults_more : (file : File) (d : DirectiveTree) (ds : List DirectiveTree)
+    → defaults_in file (d ∷ ds) ≡ defaults_in file (d ∷ []) ++ defaults_in file ds
+defaults_more file (global n v) ds = refl
+defaults_more file (constant n v) ds = refl
+defaults_more file (array a) ds = refl
+defaults_more file (attribute n) ds = refl
+defaults_more file (property n v) ds = refl
+defaults_more file (object o) ds = refl
+defaults_more file (routine r) ds = refl
+
+pub objects_more : (file : File) (d : DirectiveTree) (ds : List DirectiveTree)
+    → objects_in file (d ∷ ds) ≡ objects_in file (d ∷ []) ++ objects_in file ds
+objects_more file (global n v) ds = refl
+objects_more file (constant n v) ds = refl
+objects_more file (array a) ds = refl
+objects_more file (attribute n) ds = refl
+objects_more file (property n v) ds = refl
+objects_more file (object o) ds = refl
+objects_more file (routine r) ds = refl
 
 -- what one directive adds
 
@@ -77,42 +116,112 @@ same_bytes old new same = ap (λ (a : Arrays). a.bytes.items) same ∙ nothing_m
 same_sizes : (old new : Arrays) → new ≡ old → new.sizes.items ≡ old.sizes.items ++ []
 same_sizes old new same = ap (λ (a : Arrays). a.sizes.items) same ∙ nothing_more old.sizes.items
 
-pub added_global : (file : File) (d : DirectiveTree) (n : NameTree) (v : Option LiteralTree) (old new : Found)
-    (x : ℕ)
+-- what was found of other kinds stays as it was
+
+pub record KeepsButGlobals (old new : Found) : Type 0 where
+  pub arrays : new.arrays ≡ old.arrays
+  pub defaults : new.defaults ≡ old.defaults
+  pub objects : new.objects ≡ old.objects
+  pub routines : new.routines ≡ old.routines
+
+pub record KeepsButArrays (old new : Found) : Type 0 where
+  pub globals : new.globals ≡ old.globals
+  pub defaults : new.defaults ≡ old.defaults
+  pub objects : new.objects ≡ old.objects
+  pub routines : new.routines ≡ old.routines
+
+pub record KeepsButDefaults (old new : Found) : Type 0 where
+  pub globals : new.globals ≡ old.globals
+  pub arrays : new.arrays ≡ old.arrays
+  pub objects : new.objects ≡ old.objects
+  pub routines : new.routines ≡ old.routines
+
+pub record KeepsButObjects (old new : Found) : Type 0 where
+  pub globals : new.globals ≡ old.globals
+  pub arrays : new.arrays ≡ old.arrays
+  pub defaults : new.defaults ≡ old.defaults
+  pub routines : new.routines ≡ old.routines
+
+pub record KeepsButRoutines (old new : Found) : Type 0 where
+  pub globals : new.globals ≡ old.globals
+  pub arrays : new.arrays ≡ old.arrays
+  pub defaults : new.defaults ≡ old.defaults
+  pub objects : new.objects ≡ old.objects
+
+pub added_global : (file : File) (d : DirectiveTree) (n : NameTree) (v : Option LiteralTree) (old new : Found) (x : ℕ)
     → d ≡ global n v → new.globals.items ≡ old.globals.items ++ x ∷ [] → x ≡ initial_value file v
-    → new.arrays ≡ old.arrays → new.routines ≡ old.routines → IsAdded file (d ∷ []) old new
-added_global file d n v old new x is more value kept same = rw is (record {
+    → KeepsButGlobals old new → IsAdded file (d ∷ []) old new
+added_global file d n v old new x is more value keeps = rw is (record {
   globals = more ∙ ap (λ y. old.globals.items ++ y ∷ []) value;
-  bytes = same_bytes old.arrays new.arrays kept;
-  sizes = same_sizes old.arrays new.arrays kept;
-  routines = ap (λ (rs : Vec CheckedRoutine). map routine_of rs.items) same
-      ∙ nothing_more (map routine_of old.routines.items);
-  titles = ap (λ (rs : Vec CheckedRoutine). map title_of rs.items) same
-      ∙ nothing_more (map title_of old.routines.items);
+  bytes = same_bytes old.arrays new.arrays keeps.arrays;
+  sizes = same_sizes old.arrays new.arrays keeps.arrays;
+  defaults = ap (λ (ws : Vec ℕ). ws.items) keeps.defaults ∙ nothing_more old.defaults.items;
+  objects = ap (λ (os : Vec CheckedObject). map object_of os.items) keeps.objects ∙ nothing_more (map object_of old.objects.items);
+  routines = ap (λ (rs : Vec CheckedRoutine). map routine_of rs.items) keeps.routines ∙ nothing_more (map routine_of old.routines.items);
+  titles = ap (λ (rs : Vec CheckedRoutine). map title_of rs.items) keeps.routines ∙ nothing_more (map title_of old.routines.items);
 })
+
+-- nothing is added
+nothing_added : (file : File) (ds : List DirectiveTree) (old : Found) → globals_of file ds ≡ []
+    → concat (arrays_of file ds) ≡ [] → map length (arrays_of file ds) ≡ [] → defaults_in file ds ≡ []
+    → objects_in file ds ≡ [] → routines_of file ds ≡ [] → map title (routine_trees ds) ≡ [] → IsAdded file ds old old
+nothing_added file ds old g b s w o r t = record {
+  globals = nothing_more old.globals.items ∙ ap (λ x. old.globals.items ++ x) (sym g);
+  bytes = nothing_more old.arrays.bytes.items ∙ ap (λ x. old.arrays.bytes.items ++ x) (sym b);
+  sizes = nothing_more old.arrays.sizes.items ∙ ap (λ x. old.arrays.sizes.items ++ x) (sym s);
+  defaults = nothing_more old.defaults.items ∙ ap (λ x. old.defaults.items ++ x) (sym w);
+  objects = nothing_more (map object_of old.objects.items) ∙ ap (λ x. map object_of old.objects.items ++ x) (sym o);
+  routines = nothing_more (map routine_of old.routines.items) ∙ ap (λ x. map routine_of old.routines.items ++ x) (sym r);
+  titles = nothing_more (map title_of old.routines.items) ∙ ap (λ x. map title_of old.routines.items ++ x) (sym t);
+}
 
 pub added_constant : (file : File) (d : DirectiveTree) (n : NameTree) (v : LiteralTree) (old : Found)
     → d ≡ constant n v → IsAdded file (d ∷ []) old old
-added_constant file d n v old is = rw is (record {
-  globals = nothing_more old.globals.items;
-  bytes = nothing_more old.arrays.bytes.items;
-  sizes = nothing_more old.arrays.sizes.items;
-  routines = nothing_more (map routine_of old.routines.items);
-  titles = nothing_more (map title_of old.routines.items);
-})
+added_constant file d n v old is = rw is (nothing_added file (constant n v ∷ []) old refl refl refl refl refl refl refl)
+
+pub added_attribute : (file : File) (d : DirectiveTree) (n : NameTree) (old : Found)
+    → d ≡ attribute n → IsAdded file (d ∷ []) old old
+added_attribute file d n old is = rw is (nothing_added file (attribute n ∷ []) old refl refl refl refl refl refl refl)
 
 pub added_array : (file : File) (d : DirectiveTree) (a : ArrayTree) (old new : Found) → d ≡ array a
-    → IsArrayAdded (array_bytes file a) old.arrays new.arrays → new.globals ≡ old.globals
-    → new.routines ≡ old.routines → IsAdded file (d ∷ []) old new
-added_array file d a old new is more kept same = rw is (record {
-  globals = ap (λ (gs : Vec ℕ). gs.items) kept ∙ nothing_more old.globals.items;
+    → IsArrayAdded (array_bytes file a) old.arrays new.arrays → KeepsButArrays old new
+    → IsAdded file (d ∷ []) old new
+added_array file d a old new is more keeps = rw is (record {
+  globals = ap (λ (gs : Vec ℕ). gs.items) keeps.globals ∙ nothing_more old.globals.items;
   bytes = more.bytes_added
       ∙ ap (λ (x : List ℕ). old.arrays.bytes.items ++ x) (nothing_more (array_bytes file a));
   sizes = more.size_added;
-  routines = ap (λ (rs : Vec CheckedRoutine). map routine_of rs.items) same
-      ∙ nothing_more (map routine_of old.routines.items);
-  titles = ap (λ (rs : Vec CheckedRoutine). map title_of rs.items) same
-      ∙ nothing_more (map title_of old.routines.items);
+  defaults = ap (λ (ws : Vec ℕ). ws.items) keeps.defaults ∙ nothing_more old.defaults.items;
+  objects = ap (λ (os : Vec CheckedObject). map object_of os.items) keeps.objects ∙ nothing_more (map object_of old.objects.items);
+  routines = ap (λ (rs : Vec CheckedRoutine). map routine_of rs.items) keeps.routines ∙ nothing_more (map routine_of old.routines.items);
+  titles = ap (λ (rs : Vec CheckedRoutine). map title_of rs.items) keeps.routines ∙ nothing_more (map title_of old.routines.items);
+})
+
+pub added_property : (file : File) (d : DirectiveTree) (n : NameTree) (v : Option LiteralTree) (old new : Found) (x : ℕ)
+    → d ≡ property n v → new.defaults.items ≡ old.defaults.items ++ x ∷ [] → x ≡ initial_value file v % 65536
+    → KeepsButDefaults old new → IsAdded file (d ∷ []) old new
+added_property file d n v old new x is more value keeps = rw is (record {
+  globals = ap (λ (gs : Vec ℕ). gs.items) keeps.globals ∙ nothing_more old.globals.items;
+  bytes = same_bytes old.arrays new.arrays keeps.arrays;
+  sizes = same_sizes old.arrays new.arrays keeps.arrays;
+  defaults = more ∙ ap (λ y. old.defaults.items ++ y ∷ []) value;
+  objects = ap (λ (os : Vec CheckedObject). map object_of os.items) keeps.objects ∙ nothing_more (map object_of old.objects.items);
+  routines = ap (λ (rs : Vec CheckedRoutine). map routine_of rs.items) keeps.routines ∙ nothing_more (map routine_of old.routines.items);
+  titles = ap (λ (rs : Vec CheckedRoutine). map title_of rs.items) keeps.routines ∙ nothing_more (map title_of old.routines.items);
+})
+
+pub added_object : (file : File) (d : DirectiveTree) (o : ObjectTree) (old new : Found) (c : CheckedObject)
+    → d ≡ object o → new.objects.items ≡ old.objects.items ++ c ∷ [] → object_of c ≡ object_in file o
+    → KeepsButObjects old new → IsAdded file (d ∷ []) old new
+added_object file d o old new c is more value keeps = rw is (record {
+  globals = ap (λ (gs : Vec ℕ). gs.items) keeps.globals ∙ nothing_more old.globals.items;
+  bytes = same_bytes old.arrays new.arrays keeps.arrays;
+  sizes = same_sizes old.arrays new.arrays keeps.arrays;
+  defaults = ap (λ (ws : Vec ℕ). ws.items) keeps.defaults ∙ nothing_more old.defaults.items;
+  objects = ap (λ os. map object_of os) more ∙ map_push object_of old.objects.items c
+      ∙ ap (λ (x : ObjectOf). map object_of old.objects.items ++ x ∷ []) value;
+  routines = ap (λ (rs : Vec CheckedRoutine). map routine_of rs.items) keeps.routines ∙ nothing_more (map routine_of old.routines.items);
+  titles = ap (λ (rs : Vec CheckedRoutine). map title_of rs.items) keeps.routines ∙ nothing_more (map title_of old.routines.items);
 })
 
 -- the bytes of one directive alone
@@ -131,6 +240,18 @@ pub bytes_constant : (file : File) (d : DirectiveTree) (n : NameTree) (v : Liter
     → d ≡ constant n v → bytes ≡ bytes ++ concat (arrays_of file (d ∷ []))
 bytes_constant file d n v bytes is = rw is (nothing_more bytes)
 
+pub bytes_attribute : (file : File) (d : DirectiveTree) (n : NameTree) (bytes : List ℕ)
+    → d ≡ attribute n → bytes ≡ bytes ++ concat (arrays_of file (d ∷ []))
+bytes_attribute file d n bytes is = rw is (nothing_more bytes)
+
+pub bytes_property : (file : File) (d : DirectiveTree) (n : NameTree) (v : Option LiteralTree) (bytes : List ℕ)
+    → d ≡ property n v → bytes ≡ bytes ++ concat (arrays_of file (d ∷ []))
+bytes_property file d n v bytes is = rw is (nothing_more bytes)
+
+pub bytes_object : (file : File) (d : DirectiveTree) (o : ObjectTree) (bytes : List ℕ)
+    → d ≡ object o → bytes ≡ bytes ++ concat (arrays_of file (d ∷ []))
+bytes_object file d o bytes is = rw is (nothing_more bytes)
+
 pub bytes_routine : (file : File) (d : DirectiveTree) (r : RoutineTree) (bytes : List ℕ)
     → d ≡ routine r → bytes ≡ bytes ++ concat (arrays_of file (d ∷ []))
 bytes_routine file d r bytes is = rw is (nothing_more bytes)
@@ -140,12 +261,14 @@ IsSame p q = p ≡ q
 
 pub added_routine : (file : File) (d : DirectiveTree) (r : RoutineTree) (old new : Found) (c : CheckedRoutine)
     → d ≡ routine r → new.routines.items ≡ old.routines.items ++ c ∷ []
-    → IsSame (routine_of c, title_of c) (resolve_routine file r, title r) → new.globals ≡ old.globals
-    → new.arrays ≡ old.arrays → IsAdded file (d ∷ []) old new
-added_routine file d r old new c is more value same kept = rw is (record {
-  globals = ap (λ (gs : Vec ℕ). gs.items) same ∙ nothing_more old.globals.items;
-  bytes = same_bytes old.arrays new.arrays kept;
-  sizes = same_sizes old.arrays new.arrays kept;
+    → IsSame (routine_of c, title_of c) (resolve_routine file r, title r) → KeepsButRoutines old new
+    → IsAdded file (d ∷ []) old new
+added_routine file d r old new c is more value keeps = rw is (record {
+  globals = ap (λ (gs : Vec ℕ). gs.items) keeps.globals ∙ nothing_more old.globals.items;
+  bytes = same_bytes old.arrays new.arrays keeps.arrays;
+  sizes = same_sizes old.arrays new.arrays keeps.arrays;
+  defaults = ap (λ (ws : Vec ℕ). ws.items) keeps.defaults ∙ nothing_more old.defaults.items;
+  objects = ap (λ (os : Vec CheckedObject). map object_of os.items) keeps.objects ∙ nothing_more (map object_of old.objects.items);
   routines =
       ap (λ rs. map routine_of rs) more ∙ map_push routine_of old.routines.items c
       ∙ ap (λ (p : RoutineOf × (NameTree × ℕ)). map routine_of old.routines.items ++ p.0 ∷ []) value;
@@ -179,6 +302,10 @@ adding_more file ds i x first old new lt is a h = record {
       old.arrays.bytes.items new.arrays.bytes.items ds i x lt is a.bytes ∙ h.bytes;
   sizes = list_step (λ (q : List DirectiveTree). map length (arrays_of file q)) (sizes_more file)
       old.arrays.sizes.items new.arrays.sizes.items ds i x lt is a.sizes ∙ h.sizes;
+  defaults = list_step (λ (q : List DirectiveTree). defaults_in file q) (defaults_more file) old.defaults.items
+      new.defaults.items ds i x lt is a.defaults ∙ h.defaults;
+  objects = list_step (λ (q : List DirectiveTree). objects_in file q) (objects_more file)
+      (map object_of old.objects.items) (map object_of new.objects.items) ds i x lt is a.objects ∙ h.objects;
   routines = list_step (λ (q : List DirectiveTree). routines_of file q) (routines_more file)
       (map routine_of old.routines.items) (map routine_of new.routines.items) ds i x lt is a.routines ∙ h.routines;
   titles = list_step (λ (q : List DirectiveTree). map title (routine_trees q)) titles_more
@@ -196,20 +323,22 @@ adding_end file ds i first found end h =
       globals = nothing_more found.globals.items ∙ k.globals;
       bytes = nothing_more found.arrays.bytes.items ∙ k.bytes;
       sizes = nothing_more found.arrays.sizes.items ∙ k.sizes;
+      defaults = nothing_more found.defaults.items ∙ k.defaults;
+      objects = nothing_more (map object_of found.objects.items) ∙ k.objects;
       routines = nothing_more (map routine_of found.routines.items) ∙ k.routines;
       titles = nothing_more (map title_of found.routines.items) ∙ k.titles;
     }
 
 pub breaches_step : (whole t u : Table) (g h : Counts) (m n : Option Breach) (ds : List Directive) (i : ℕ)
     (x : Directive) → i < length ds → x ≡ slice_index_or ds i x
-    → n ≡ noted m (directive_breaches whole t g (directive_tree x)) → u ≡ with_directive t g (directive_tree x)
+    → n ≡ noted m (directive_breaches whole t g (directive_tree x)) → u ≡ with_directive whole t g (directive_tree x)
     → h ≡ counts_after g (directive_tree x)
     → noted n (directives_breaches whole u h (map directive_tree (drop (i + 1) ds)))
     ≡ noted m (directives_breaches whole t g (map directive_tree (drop i ds)))
 breaches_step whole t u g h m n ds i x lt is a b c =
     rw (a, b, c)
     (sym (noted_append m (directive_breaches whole t g (directive_tree x))
-    (directives_breaches whole (with_directive t g (directive_tree x)) (counts_after g (directive_tree x))
+    (directives_breaches whole (with_directive whole t g (directive_tree x)) (counts_after g (directive_tree x))
     (map directive_tree (drop (i + 1) ds))))
     ∙ ap (λ (q : List Directive). noted m (directives_breaches whole t g (map directive_tree q)))
     (sym (drop_here ds i x lt is)))

@@ -2,13 +2,20 @@ pub mod Samples
 mod ArraySamples
 mod LoopSamples
 mod WordSamples
+mod ObjectSamples
 pub mod Directives
+pub mod NameTables
+pub mod Mapped
 pub mod Locals
 pub mod Whole
 pub mod NeedsBelow
+pub mod Kept
 pub mod Unbroken
 pub mod ArrayBytes
 pub mod Numbered
 pub mod Bindings
+pub mod Placed
 pub mod Acceptance
 pub mod Printable
+pub mod ObjectLists
+pub mod Chains

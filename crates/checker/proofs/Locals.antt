@@ -1,10 +1,9 @@
--- Locals, one at a time, and what a routine sees.
-use Rattle.std.proofs.Common.{◌≡◌, ℕ, zero, suc, ◌+◌, ◌<◌, ◌≤◌, Bool, true, false, nat_le, List, [], ◌∷◌, ◌++◌}
-use Rattle.std.proofs.Common.{length, take, drop, slice_index_or, Option, Some, None, is_some, cond, refl, sym, ap}
-use Rattle.std.proofs.Common.{subst, ◌∙◌, arith}
+-- What a routine sees.
+use Rattle.std.proofs.Common.{◌≡◌, ℕ, suc, List, [], ◌∷◌}
+use Rattle.std.proofs.Common.{length, Option, Some, None, refl, sym, ap}
+use Rattle.std.proofs.Common.{subst, ◌∙◌}
 use Rattle.std.specs.Prelude.{map, Result, IfOk}
 use Rattle.std.specs.declared.alloc.AllocError.{AllocError}
-use Rattle.std.specs.Cmp.Lexicographic.{same_text}
 use Rattle.std.proofs.Math.Path.{fun_ext}
 use Rattle.expressions.specs.declared.tree.Name.{Name}
 use Rattle.expressions.specs.Tree.{NameTree, name_tree}
@@ -12,12 +11,10 @@ use Rattle.statements.specs.declared.tree.Statement.{Statement}
 use Rattle.syntax.specs.declared.tree.Routine.{Routine}
 use Rattle.syntax.specs.Tree.{routine_tree}
 use Rattle.names.specs.declared.binding.Binding.{Binding}
-use Rattle.names.specs.declared.binding.Binding.TheVariants as bindings
 use Rattle.names.specs.declared.breach.Breach.{Breach}
 use Rattle.names.specs.declared.table.Scope.{Scope}
 use Rattle.meaning.specs.declared.checked.CheckedRoutine.{CheckedRoutine}
-use Rattle.names.specs.Breaches.{at}
-use Rattle.names.specs.Names.{Table, key_of, same_key, in_table, with_name, local_from, local_first, look_up}
+use Rattle.names.specs.Names.{Table, key_of, in_table, local_from, local_first, look_up}
 use Rattle.names.specs.Names.{File, Seen, seen_from}
 use Rattle.names.specs.Noted.{noted}
 use Rattle.names.specs.Scope.{either, number_at, file_in, look_in, local_binding, seen_in}
@@ -26,158 +23,9 @@ use Rattle.rules.specs.Statements.{statements_breaches}
 use Rattle.meaning.specs.Around.{outside}
 use Rattle.rules.specs.Walk.{IsWalked, AreActions}
 use Rattle.checker.specs.Found.{IsRoutineIn, IsRoutineOf}
-use Rattle.checker.specs.Programs.{has_local, locals_breaches, twice, title, resolve_body, resolve_routine}
-use Rattle.names.proofs.Noted.{noted_none, noted_two}
+use Rattle.checker.specs.Programs.{locals_breaches, title, resolve_body, resolve_routine}
 use Rattle.rules.proofs.Walks.{before}
 use Rattle.rules.proofs.Forms.{statements_walked}
-
--- The number of a local
-
-or_local : Option ℕ → Option ℕ → Option ℕ
-or_local (Some n) o = Some n
-or_local None o = o
-
-or_cond : (c : Bool) (n : ℕ) (x y z : Option ℕ) → x ≡ or_local y z
-    → cond c (Some n) x ≡ or_local (cond c (Some n) y) z
-unfolding or_local
-or_cond true n x y z h = refl
-or_cond false n x y z h = h
-
-local_more : (n : ℕ) (before : List NameTree) (l : NameTree) (key : List ℕ)
-    → local_from n (before ++ l ∷ []) key ≡ or_local (local_from n before key)
-    (cond (same_key (key_of l.text) key) (Some (n + length before)) None)
-unfolding or_local
-local_more n [] l key = let e : n + 0 ≡ n = omega arith in rw e refl
-local_more n (b ∷ bs) l key =
-    let e : n + suc (length bs) ≡ (n + 1) + length bs = omega arith in
-    rw e (or_cond (same_key (key_of b.text) key) n (local_from (n + 1) (bs ++ l ∷ []) key)
-    (local_from (n + 1) bs key) (cond (same_key (key_of l.text) key) (Some ((n + 1) + length bs)) None)
-    (local_more (n + 1) bs l key))
-
-some_cond : (c : Bool) (n : ℕ) (b : Bool) (o : Option ℕ) → b ≡ is_some o → cond c true b ≡ is_some (cond c (Some n) o)
-some_cond true n b o h = refl
-some_cond false n b o h = h
-
-has_number : (n : ℕ) (before : List NameTree) (l : NameTree)
-    → has_local before l ≡ is_some (local_from n before (key_of l.text))
-has_number n [] l = refl
-has_number n (b ∷ bs) l = some_cond (same_key (key_of b.text) (key_of l.text)) n (has_local bs l)
-    (local_from (n + 1) bs (key_of l.text)) (has_number (n + 1) bs l)
-
-some_binding : (o : Option ℕ) → is_some (local_binding o) ≡ is_some o
-some_binding None = refl
-some_binding (Some n) = refl
-
--- The table of locals
-
--- what an entry after the others adds
-after_all : (t : Table) (k key : List ℕ) (b : Binding)
-    → in_table (t ++ (k, b) ∷ []) key ≡ either (in_table t key) (cond (same_key k key) (Some b) None)
-after_all [] k key b = refl
-after_all (e ∷ es) k key b = go (same_key e.0 key) (after_all es k key b)
-  where
-    go : (c : Bool) → in_table (es ++ (k, b) ∷ []) key
-        ≡ either (in_table es key) (cond (same_key k key) (Some b) None)
-        → cond c (Some e.1) (in_table (es ++ (k, b) ∷ []) key)
-        ≡ either (cond c (Some e.1) (in_table es key)) (cond (same_key k key) (Some b) None)
-    go true h = refl
-    go false h = h
-
-either_local : (o : Option ℕ) (c : Bool) (n : ℕ)
-    → either (local_binding o) (cond c (Some (bindings.Local n)) None)
-    ≡ local_binding (or_local o (cond c (Some n) None))
-unfolding or_local
-either_local (Some m) c n = refl
-either_local None true n = refl
-either_local None false n = refl
-
-apart : false ≡ true → ⊥
-apart e = cc
-
--- a key that has a number keeps it
-old_local : (found : Option ℕ) (c : Bool) (n : ℕ) → (c ≡ true → is_some found ≡ true)
-    → local_binding found ≡ local_binding (or_local found (cond c (Some n) None))
-unfolding or_local
-old_local (Some m) c n h = refl
-old_local None true n h = absurd (apart (h refl))
-old_local None false n h = refl
-
-in_either : (t : Table) (before : List NameTree) (l : NameTree) (n : ℕ) (key : List ℕ) (s : Bool)
-    → s ≡ is_some (in_table t (key_of l.text))
-    → ((k : List ℕ) → in_table t k ≡ local_binding (local_from 0 before k)) → n ≡ 0 + length before
-    → in_table (cond s t (t ++ (key_of l.text, bindings.Local n) ∷ [])) key
-    ≡ local_binding (local_from 0 (before ++ l ∷ []) key)
-in_either t before l n key true e h len =
-    h key
-    ∙ old_local (local_from 0 before key) (same_key (key_of l.text) key) (0 + length before)
-    (λ (same : same_key (key_of l.text) key ≡ true).
-    ap (λ (k : List ℕ). is_some (local_from 0 before k)) (sym (same_text (key_of l.text) key (sym same)))
-    ∙ sym (some_binding (local_from 0 before (key_of l.text))) ∙ ap is_some (sym (h (key_of l.text))) ∙ sym e)
-    ∙ ap local_binding (sym (local_more 0 before l key))
-in_either t before l n key false e h len =
-    rw len (after_all t (key_of l.text) key (bindings.Local (0 + length before))
-    ∙ ap (λ (o : Option Binding). either o
-    (cond (same_key (key_of l.text) key) (Some (bindings.Local (0 + length before))) None)) (h key)
-    ∙ either_local (local_from 0 before key) (same_key (key_of l.text) key) (0 + length before)
-    ∙ ap local_binding (sym (local_more 0 before l key)))
-
-take_more : (names : List Name) (i : ℕ) (d : Name) → i < length names
-    → map name_tree (take (suc i) names) ≡ map name_tree (take i names) ++ name_tree (slice_index_or names i d) ∷ []
-take_more [] i d h = absurd (omega arith)
-take_more (x ∷ xs) zero d h = refl
-take_more (x ∷ xs) (suc i) d h = ap (λ r. name_tree x ∷ r) (take_more xs i d (omega arith))
-
-taken : (names : List Name) (i : ℕ) → i ≤ length names → length (map name_tree (take i names)) ≡ i
-taken names zero h = refl
-taken [] (suc i) h = absurd (omega arith)
-taken (x ∷ xs) (suc i) h = ap suc (taken xs i (omega arith))
-
-left : (names : List Name) (i : ℕ) (d : Name) → i < length names
-    → map name_tree (drop i names) ≡ name_tree (slice_index_or names i d) ∷ map name_tree (drop (suc i) names)
-left [] i d h = absurd (omega arith)
-left (x ∷ xs) zero d h = refl
-left (x ∷ xs) (suc i) d h = left xs i d (omega arith)
-
--- one more local in the table
-pub table_next : (t u : Table) (names : List Name) (i : ℕ) (d : Name) → i < length names
-    → ((k : List ℕ) → in_table t k ≡ local_binding (local_from 0 (map name_tree (take i names)) k))
-    → u ≡ with_name t (name_tree (slice_index_or names i d)) (bindings.Local i) → (key : List ℕ)
-    → in_table u key ≡ local_binding (local_from 0 (map name_tree (take (i + 1) names)) key)
-table_next t u names i d lt h is key =
-    let j : i + 1 ≡ suc i = omega arith in
-    let n : i ≡ 0 + length (map name_tree (take i names)) = omega (arith, taken names i (omega arith)) in
-    rw (is, j, take_more names i d lt)
-    (in_either t (map name_tree (take i names)) (name_tree (slice_index_or names i d)) i key _ refl h n)
-
--- the rules that one more local breaks
-pub locals_next : (m o p : Option Breach) (t : Table) (names : List Name) (i : ℕ) (d : Name) → i < length names
-    → ((k : List ℕ) → in_table t k ≡ local_binding (local_from 0 (map name_tree (take i names)) k))
-    → o ≡ noted m (twice t (name_tree (slice_index_or names i d)))
-    → p ≡ noted o (cond (nat_le 15 i) (at (name_tree (slice_index_or names i d)).position 24) [])
-    → noted p (locals_breaches (map name_tree (take (i + 1) names)) (map name_tree (drop (i + 1) names)))
-    ≡ noted m (locals_breaches (map name_tree (take i names)) (map name_tree (drop i names)))
-locals_next m o p t names i d lt h a b =
-    let j : i + 1 ≡ suc i = omega arith in
-    let x : NameTree = name_tree (slice_index_or names i d) in
-    let before : List NameTree = map name_tree (take i names) in
-    let e : is_some (in_table t (key_of x.text)) ≡ has_local before x = ap is_some (h (key_of x.text))
-    ∙ some_binding (local_from 0 before (key_of x.text)) ∙ sym (has_number 0 before x) in
-    let a2 : o ≡ noted m (cond (has_local before x) (at x.position 22) []) = a
-    ∙ ap (λ (s : Bool). noted m (cond s (at x.position 22) [])) e in
-    let b2 : p ≡ noted o (cond (nat_le 15 (length before)) (at x.position 24) []) = b
-    ∙ ap (λ (n : ℕ). noted o (cond (nat_le 15 n) (at x.position 24) [])) (sym (taken names i (omega arith))) in
-    let rest : List Breach = locals_breaches (before ++ x ∷ []) (map name_tree (drop (suc i) names)) in
-    rw (j, take_more names i d lt, left names i d lt)
-    (noted_two m o (noted p rest) (cond (has_local before x) (at x.position 22) [])
-    (cond (nat_le 15 (length before)) (at x.position 24) [] ++ rest) a2
-    (noted_two o p (noted p rest) (cond (nat_le 15 (length before)) (at x.position 24) []) rest b2 refl))
-
-pub locals_end : (m : Option Breach) (names : List Name) (i : ℕ) (before : List NameTree) → length names ≤ i
-    → noted m (locals_breaches before (map name_tree (drop i names))) ≡ m
-locals_end m [] zero before h = noted_none m
-locals_end m [] (suc i) before h = noted_none m
-locals_end m (x ∷ xs) zero before h = absurd (omega arith)
-locals_end m (x ∷ xs) (suc i) before h = locals_end m xs i before (omega arith)
 
 -- What a routine sees
 

@@ -12,6 +12,7 @@ use Rattle.meaning.specs.declared.resolved.Variable.TheVariants as variables
 use Rattle.meaning.specs.Resolved as r
 use Rattle.names.specs.Breaches.{at}
 use Rattle.names.specs.Names.{table_of, key_of, look_up}
+use Rattle.checker.specs.Objects.{all_defaults}
 use Rattle.checker.specs.Programs.{program_breaches, resolve_with, file_of, resolve_program}
 use Rattle.checker.proofs.Samples.{p, the, routine, program}
 
@@ -47,6 +48,8 @@ the_i = r.read (variables.Global 1)
 loops_resolve : resolve_program loops ≡ record {
   globals = 0 ∷ 0 ∷ [];
   arrays = [];
+  defaults = all_defaults [];
+  objects = [];
   keys = [];
   routines = record {
     locals = 0;

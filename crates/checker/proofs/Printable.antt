@@ -1,14 +1,20 @@
 -- Texts stay as they are where names are resolved.
-use Rattle.std.proofs.Common.{List, [], ◌∷◌}
+use Rattle.std.proofs.Common.{ℕ, List, [], ◌∷◌}
 use Rattle.std.specs.Prelude.{map}
 use Rattle.std.specs.List.{All}
 use Rattle.std.proofs.lemmas.List.Elements.{All-nil, All-cons, All-head, All-tail}
-use Rattle.statements.specs.Tree.{PrintItemTree, text_item, character_item, number_item, StatementTree}
+use Rattle.statements.specs.Tree.{PrintItemTree, text_item, character_item, object_item, number_item, StatementTree}
+use Rattle.statements.specs.Tree.{give, move, remove, each, each_in, each_where}
 use Rattle.statements.specs.Tree.{StatementTrees, CaseTrees, empty, block, text_alone, print, print_return, new_line}
 use Rattle.statements.specs.Tree.{if_then, if_else, while_do, do_until, for_loop, switch_on, break_at, continue_at}
 use Rattle.statements.specs.Tree.{return_alone, return_value, return_true, return_false, quit, read_line, effect, stop}
 use Rattle.statements.specs.Tree.{next, no_case, default_case, case}
-use Rattle.syntax.specs.Tree.{DirectiveTree, global, constant, array, routine}
+use Rattle.std.specs.Prelude.{Option, Some, None}
+use Rattle.lexer.specs.Printable.{IsPrintable}
+use Rattle.syntax.specs.Tree.{TextTree, DirectiveTree, global, constant, array, attribute, property, object, routine}
+use Rattle.meaning.specs.Objects.{ObjectOf}
+use Rattle.checker.specs.Objects.{short_name, object_in, placed, parents_of}
+use Rattle.checker.specs.Programs.{objects_in, object_trees}
 use Rattle.syntax.specs.Printable as source
 use Rattle.names.specs.Names.{File, Seen, seen_from}
 use Rattle.rules.specs.Statements.{resolve_item, resolve_statement, resolve_statements, resolve_cases}
@@ -21,6 +27,7 @@ module _ (seen : Seen) where
   item_prints : (i : PrintItemTree) → source.IsPrintableItem i → IsPrintableItem (resolve_item seen i)
   item_prints (text_item bytes) h = h
   item_prints (character_item p e) h = tt
+  item_prints (object_item p e) h = tt
   item_prints (number_item p e) h = tt
 
   items_print : (is : List PrintItemTree) → All source.IsPrintableItem is
@@ -54,6 +61,12 @@ module _ (seen : Seen) where
     statement_prints return_false h = tt
     statement_prints quit h = tt
     statement_prints (read_line n m) h = tt
+    statement_prints (give p e xs) h = tt
+    statement_prints (move p a b) h = tt
+    statement_prints (remove p e) h = tt
+    statement_prints (each n x) h = statement_prints x h
+    statement_prints (each_in p n e x) h = statement_prints x h
+    statement_prints (each_where p n e x) h = statement_prints x h
     statement_prints (effect p e) h = tt
 
     statements_print : (xs : StatementTrees) → source.ArePrintableStatements xs
@@ -73,6 +86,12 @@ routines_print file (global n v ∷ ds) h = routines_print file ds
     (All-tail source.IsPrintableDirective (global n v) ds h)
 routines_print file (constant n v ∷ ds) h = routines_print file ds
     (All-tail source.IsPrintableDirective (constant n v) ds h)
+routines_print file (attribute n ∷ ds) h = routines_print file ds
+    (All-tail source.IsPrintableDirective (attribute n) ds h)
+routines_print file (property n v ∷ ds) h = routines_print file ds
+    (All-tail source.IsPrintableDirective (property n v) ds h)
+routines_print file (object o ∷ ds) h = routines_print file ds
+    (All-tail source.IsPrintableDirective (object o) ds h)
 routines_print file (array a ∷ ds) h = routines_print file ds
     (All-tail source.IsPrintableDirective (array a) ds h)
 routines_print file (routine r ∷ ds) h =
@@ -80,6 +99,42 @@ routines_print file (routine r ∷ ds) h =
     (statements_print (seen_from file r.locals) r.body (All-head source.IsPrintableDirective (routine r) ds h))
     (routines_print file ds (All-tail source.IsPrintableDirective (routine r) ds h))
 
+-- the names of objects
+
+abbrev NamePrints : ObjectOf → Type 0
+NamePrints o = All IsPrintable o.name
+
+short_prints : (s : Option TextTree) → source.IsPrintableName s → All IsPrintable (short_name s)
+short_prints None h = All-nil IsPrintable
+short_prints (Some s) h = h
+
+names_print : (file : File) (ds : List DirectiveTree) → All source.IsPrintableDirective ds
+    → All NamePrints (objects_in file ds)
+names_print file [] h = All-nil NamePrints
+names_print file (global n v ∷ ds) h = names_print file ds (All-tail source.IsPrintableDirective (global n v) ds h)
+names_print file (constant n v ∷ ds) h = names_print file ds (All-tail source.IsPrintableDirective (constant n v) ds h)
+names_print file (array a ∷ ds) h = names_print file ds (All-tail source.IsPrintableDirective (array a) ds h)
+names_print file (attribute n ∷ ds) h = names_print file ds (All-tail source.IsPrintableDirective (attribute n) ds h)
+names_print file (property n v ∷ ds) h = names_print file ds (All-tail source.IsPrintableDirective (property n v) ds h)
+names_print file (routine r ∷ ds) h = names_print file ds (All-tail source.IsPrintableDirective (routine r) ds h)
+names_print file (object o ∷ ds) h =
+    All-cons NamePrints (object_in file o) (objects_in file ds)
+    (short_prints o.short (All-head source.IsPrintableDirective (object o) ds h))
+    (names_print file ds (All-tail source.IsPrintableDirective (object o) ds h))
+
+placed_print : (ps : List ℕ) (os : List ObjectOf) → All NamePrints os → All NamePrints (placed ps os)
+placed_print ps [] h = All-nil NamePrints
+placed_print [] (o ∷ os) h =
+    All-cons NamePrints (record o { parent = 0 }) (placed [] os) (All-head NamePrints o os h)
+    (placed_print [] os (All-tail NamePrints o os h))
+placed_print (p ∷ ps) (o ∷ os) h =
+    All-cons NamePrints (record o { parent = p }) (placed ps os) (All-head NamePrints o os h)
+    (placed_print ps os (All-tail NamePrints o os h))
+
 pub printable_programs : PrintablePrograms
 unfolding resolve_program resolve_with
-printable_programs p h = routines_print (file_of p) p.directives h
+printable_programs p h = (
+  routines_print (file_of p) p.directives h,
+  placed_print (parents_of (file_of p).table (object_trees p.directives)) (objects_in (file_of p) p.directives)
+      (names_print (file_of p) p.directives h),
+)

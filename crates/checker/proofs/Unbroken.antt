@@ -10,13 +10,13 @@ use Rattle.lexer.specs.declared.token.Position.{Position}
 use Rattle.expressions.specs.Tree as trees
 use Rattle.expressions.specs.Tree.{NameTree, ExpressionTree, ExpressionTrees}
 use Rattle.statements.specs.Tree as written
-use Rattle.statements.specs.Tree.{PrintItemTree, StatementTree, StatementTrees, CaseTrees}
+use Rattle.statements.specs.Tree.{FlagTree, PrintItemTree, StatementTree, StatementTrees, CaseTrees}
 use Rattle.meaning.specs.declared.around.Around.{Around}
 use Rattle.names.specs.declared.binding.Binding.{Binding}
 use Rattle.names.specs.declared.binding.Binding.TheVariants as bindings
 use Rattle.names.specs.declared.breach.Breach.{Breach}
 use Rattle.names.specs.Breaches.{at}
-use Rattle.names.specs.Names.{name_of, is_entry, Seen}
+use Rattle.names.specs.Names.{name_of, is_place, Seen}
 use Rattle.rules.specs.Buffers.{buffer_breaches, is_array, same_breaches, read_breaches}
 use Rattle.rules.specs.Temporaries.{need}
 use Rattle.meaning.specs.Operands.{operands}
@@ -24,35 +24,22 @@ use Rattle.meaning.specs.Resolved.{Value, ProgramOf}
 use Rattle.rules.specs.Expressions.{value_breaches, call_breaches, target_breaches, count, value_of_binding}
 use Rattle.rules.specs.Expressions.{variable_of_binding, routine_of_binding, left_breaches, breaches, all_breaches}
 use Rattle.rules.specs.Expressions.{target, resolve, resolve_all, array_name_breaches, array_of_binding, assigned}
-use Rattle.rules.specs.Expressions.{assigned_breaches}
+use Rattle.rules.specs.Expressions.{assigned_breaches, attribute_breaches, property_breaches, tested_breaches}
+use Rattle.rules.specs.Expressions.{attribute_of_binding, property_of_binding, tested_for}
+use Rattle.rules.specs.Statements.{loop_breaches, flag_breaches, move_need, resolve_flag}
+use Rattle.expressions.specs.declared.tree.ObjectTest.{ObjectTest}
+use Rattle.expressions.specs.declared.tree.ObjectTest.TheVariants as tests
 use Rattle.rules.specs.Statements.{outside_breaches, part_needs, heading_need, whole_breaches, part_breaches}
 use Rattle.meaning.specs.Around.{in_loop, in_switch}
 use Rattle.rules.specs.Statements.{heading_breaches, range_breaches, item_breaches, statement_breaches}
 use Rattle.rules.specs.Statements.{statements_breaches, cases_breaches, resolve_item, resolve_statement}
 use Rattle.rules.specs.Statements.{resolve_statements, resolve_cases}
 use Rattle.meaning.specs.Meaning.{routine_at}
-use Rattle.meaning.specs.Accepted.{IsVariable, IsValue, AreValues, IsWhole, IsPart, IsPrinted}
+use Rattle.meaning.specs.Accepted.{IsVariable, IsValue, AreValues, IsWhole, IsPart, IsPrinted, IsProperty}
 use Rattle.meaning.specs.Accepted.{IsAction, AreActions, AreCases, StandsIn, AllStandIn, CasesStandIn}
 use Rattle.rules.proofs.Forms.{named_resolves}
+use Rattle.checker.proofs.Kept.{left_empty, right_empty, kept, at_most}
 use Rattle.checker.proofs.NeedsBelow.{count_same, need_below}
-
--- Lists of broken rules that are empty
-
-pub left_empty : {A : Type 0} (xs ys : List A) → xs ++ ys ≡ [] → xs ≡ []
-left_empty [] ys h = refl
-left_empty (x ∷ xs) ys h = absurd cc
-
-pub right_empty : {A : Type 0} (xs ys : List A) → xs ++ ys ≡ [] → ys ≡ []
-right_empty [] ys h = h
-right_empty (x ∷ xs) ys h = absurd cc
-
--- a rule that is tested is kept
-pub kept : (c : Bool) (p : Position) (n : ℕ) → cond c (at p n) [] ≡ [] → c ≡ false
-kept true p n h = absurd cc
-kept false p n h = refl
-
-at_most : (limit n : ℕ) → nat_lt limit n ≡ false → n ≤ limit
-at_most limit n h = grind (arith, nat_tests)
 
 -- two arrays of bytes that are not one
 
@@ -66,7 +53,9 @@ second_apart q a (Some (bindings.Array b kind)) h k = λ e. differ (kept (a == b
     differ : (a == b) ≡ false → a ≡ b → ⊥
     differ f e = grind (arith, nat_tests)
 second_apart q a (Some (bindings.Routine r n)) h k = absurd cc
-second_apart q a (Some bindings.Property) h k = absurd cc
+second_apart q a (Some (bindings.Attribute x)) h k = absurd cc
+second_apart q a (Some (bindings.Property x)) h k = absurd cc
+second_apart q a (Some (bindings.Object x)) h k = absurd cc
 second_apart q a (Some (bindings.Local l)) h k = absurd cc
 
 apart : (p q : Position) (first second : Option Binding) → buffer_breaches p first ≡ []
@@ -77,7 +66,9 @@ apart p q (Some (bindings.Constant n)) second g h k = absurd cc
 apart p q (Some (bindings.Global x)) second g h k = absurd cc
 apart p q (Some (bindings.Array a kind)) second g h k = second_apart q a second h k
 apart p q (Some (bindings.Routine r n)) second g h k = absurd cc
-apart p q (Some bindings.Property) second g h k = absurd cc
+apart p q (Some (bindings.Attribute x)) second g h k = absurd cc
+apart p q (Some (bindings.Property x)) second g h k = absurd cc
+apart p q (Some (bindings.Object x)) second g h k = absurd cc
 apart p q (Some (bindings.Local l)) second g h k = absurd cc
 
 -- What names stand for
@@ -90,7 +81,9 @@ module _ (p : ProgramOf) (locals : ℕ) where
   IsMeant (Some (bindings.Global g)) = g < length p.globals
   IsMeant (Some (bindings.Array a kind)) = a < length p.arrays
   IsMeant (Some (bindings.Routine r n)) = (r < length p.routines) × ((routine_at p.routines r).locals ≡ n)
-  IsMeant (Some bindings.Property) = Unit {0}
+  IsMeant (Some (bindings.Attribute a)) = a < 48
+  IsMeant (Some (bindings.Property n)) = IsProperty n
+  IsMeant (Some (bindings.Object o)) = Unit {0}
   IsMeant (Some (bindings.Local l)) = l < locals
 
   named_within : (numbers : ℕ → ℕ) (position : Position) (o : Option Binding) → IsMeant o → value_breaches position o ≡ []
@@ -100,7 +93,9 @@ module _ (p : ProgramOf) (locals : ℕ) where
   named_within numbers position (Some (bindings.Global g)) m h = m
   named_within numbers position (Some (bindings.Array a kind)) m h = absurd cc
   named_within numbers position (Some (bindings.Routine r n)) m h = absurd cc
-  named_within numbers position (Some bindings.Property) m h = absurd cc
+  named_within numbers position (Some (bindings.Attribute x)) m h = absurd cc
+  named_within numbers position (Some (bindings.Property x)) m h = absurd cc
+  named_within numbers position (Some (bindings.Object x)) m h = tt
   named_within numbers position (Some (bindings.Local l)) m h = m
 
   target_within : (position operator : Position) (o : Option Binding) → IsMeant o
@@ -110,7 +105,9 @@ module _ (p : ProgramOf) (locals : ℕ) where
   target_within position operator (Some (bindings.Global g)) m h = m
   target_within position operator (Some (bindings.Array a kind)) m h = absurd cc
   target_within position operator (Some (bindings.Routine r n)) m h = absurd cc
-  target_within position operator (Some bindings.Property) m h = absurd cc
+  target_within position operator (Some (bindings.Attribute x)) m h = absurd cc
+  target_within position operator (Some (bindings.Property x)) m h = absurd cc
+  target_within position operator (Some (bindings.Object x)) m h = absurd cc
   target_within position operator (Some (bindings.Local l)) m h = m
 
   array_within : (position : Position) (o : Option Binding) → IsMeant o → array_name_breaches position o ≡ []
@@ -120,7 +117,9 @@ module _ (p : ProgramOf) (locals : ℕ) where
   array_within position (Some (bindings.Global g)) m h = absurd cc
   array_within position (Some (bindings.Array a kind)) m h = m
   array_within position (Some (bindings.Routine r n)) m h = absurd cc
-  array_within position (Some bindings.Property) m h = absurd cc
+  array_within position (Some (bindings.Attribute x)) m h = absurd cc
+  array_within position (Some (bindings.Property x)) m h = absurd cc
+  array_within position (Some (bindings.Object x)) m h = absurd cc
   array_within position (Some (bindings.Local l)) m h = absurd cc
 
   buffer_within : (position : Position) (o : Option Binding) → IsMeant o → buffer_breaches position o ≡ []
@@ -130,8 +129,53 @@ module _ (p : ProgramOf) (locals : ℕ) where
   buffer_within position (Some (bindings.Global g)) m h = absurd cc
   buffer_within position (Some (bindings.Array a kind)) m h = m
   buffer_within position (Some (bindings.Routine r n)) m h = absurd cc
-  buffer_within position (Some bindings.Property) m h = absurd cc
+  buffer_within position (Some (bindings.Attribute x)) m h = absurd cc
+  buffer_within position (Some (bindings.Property x)) m h = absurd cc
+  buffer_within position (Some (bindings.Object x)) m h = absurd cc
   buffer_within position (Some (bindings.Local l)) m h = absurd cc
+
+  pub attribute_within : (position : Position) (o : Option Binding) → IsMeant o → attribute_breaches position o ≡ []
+      → attribute_of_binding o < 48
+  attribute_within position None m h = absurd cc
+  attribute_within position (Some (bindings.Constant n)) m h = absurd cc
+  attribute_within position (Some (bindings.Global g)) m h = absurd cc
+  attribute_within position (Some (bindings.Array a kind)) m h = absurd cc
+  attribute_within position (Some (bindings.Routine r n)) m h = absurd cc
+  attribute_within position (Some (bindings.Attribute x)) m h = m
+  attribute_within position (Some (bindings.Property x)) m h = absurd cc
+  attribute_within position (Some (bindings.Object x)) m h = absurd cc
+  attribute_within position (Some (bindings.Local l)) m h = absurd cc
+
+  pub property_within : (position : Position) (o : Option Binding) → IsMeant o → property_breaches position o ≡ []
+      → IsProperty (property_of_binding o)
+  property_within position None m h = absurd cc
+  property_within position (Some (bindings.Constant n)) m h = absurd cc
+  property_within position (Some (bindings.Global g)) m h = absurd cc
+  property_within position (Some (bindings.Array a kind)) m h = absurd cc
+  property_within position (Some (bindings.Routine r n)) m h = absurd cc
+  property_within position (Some (bindings.Attribute x)) m h = absurd cc
+  property_within position (Some (bindings.Property x)) m h = m
+  property_within position (Some (bindings.Object x)) m h = absurd cc
+  property_within position (Some (bindings.Local l)) m h = absurd cc
+
+  tested_within : (test : ObjectTest) (v : Value) (position : Position) (o : Option Binding) → IsMeant o
+      → tested_breaches test position o ≡ [] → IsValue p locals v → IsValue p locals (tested_for test v o)
+  tested_within tests.Has v position o m h k = (attribute_within position o m h, k)
+  tested_within tests.HasNot v position o m h k = (attribute_within position o m h, k)
+  tested_within tests.Provides v position o m h k = (property_within position o m h, k)
+
+  -- the variable of an `objectloop`
+  loop_within : (position : Position) (o : Option Binding) → IsMeant o → loop_breaches position o ≡ []
+      → IsVariable p locals (variable_of_binding o)
+  loop_within position None m h = absurd cc
+  loop_within position (Some (bindings.Constant n)) m h = absurd cc
+  loop_within position (Some (bindings.Global g)) m h = m
+  loop_within position (Some (bindings.Array a kind)) m h = absurd cc
+  loop_within position (Some (bindings.Routine r n)) m h = absurd cc
+  loop_within position (Some (bindings.Attribute x)) m h = absurd cc
+  loop_within position (Some (bindings.Property x)) m h = absurd cc
+  loop_within position (Some (bindings.Object x)) m h = absurd cc
+  loop_within position (Some (bindings.Local l)) m h = m
 
   -- an assignment to a name
   name_assigned : (numbers : ℕ → ℕ) (position operator : Position) (o : Option Binding) (v : Value) → IsMeant o
@@ -142,7 +186,9 @@ module _ (p : ProgramOf) (locals : ℕ) where
   name_assigned numbers position operator (Some (bindings.Global g)) v m h k = (m, k)
   name_assigned numbers position operator (Some (bindings.Array a kind)) v m h k = absurd cc
   name_assigned numbers position operator (Some (bindings.Routine r n)) v m h k = absurd cc
-  name_assigned numbers position operator (Some bindings.Property) v m h k = absurd cc
+  name_assigned numbers position operator (Some (bindings.Attribute x)) v m h k = absurd cc
+  name_assigned numbers position operator (Some (bindings.Property x)) v m h k = absurd cc
+  name_assigned numbers position operator (Some (bindings.Object x)) v m h k = absurd cc
   name_assigned numbers position operator (Some (bindings.Local l)) v m h k = (m, k)
 
   record IsCall (r given : ℕ) : Type 0 where
@@ -165,7 +211,9 @@ module _ (p : ProgramOf) (locals : ℕ) where
       (right_empty (cond (nat_lt 7 given) (at position 24) []) (cond (nat_lt n given) (at position 25) []) h)) in
       let same = m.1 in
       record { there = m.0; seven = seven; taken = omega arith }
-  call_within position given (Some bindings.Property) m h = absurd cc
+  call_within position given (Some (bindings.Attribute x)) m h = absurd cc
+  call_within position given (Some (bindings.Property x)) m h = absurd cc
+  call_within position given (Some (bindings.Object x)) m h = absurd cc
   call_within position given (Some (bindings.Local l)) m h = absurd cc
 
   -- where each name is meant so
@@ -180,31 +228,37 @@ module _ (p : ProgramOf) (locals : ℕ) where
     left_within operator (Some n) inside h = target_within n.position operator (seen.look n.text) (meant n.text) h
     left_within operator None inside h = absurd (not_empty inside operator h)
 
-    -- an assignment to an entry
-    entry_assigned : (e : ExpressionTree) (v : Value) → is_entry e ≡ true → IsValue p locals (resolve seen e)
+    -- an assignment to an entry, a property or a word of a property
+    place_assigned : (e : ExpressionTree) (v : Value) → is_place e ≡ true → IsValue p locals (resolve seen e)
         → IsValue p locals v → IsValue p locals (assigned (resolve seen e) v)
-    entry_assigned (trees.constant n) v h i k = absurd cc
-    entry_assigned (trees.word s) v h i k = absurd cc
-    entry_assigned (trees.named n) v h i k = absurd cc
-    entry_assigned (trees.call n es) v h i k = absurd cc
-    entry_assigned (trees.index n width e) v h i k = (i.0, i.1, k)
-    entry_assigned (trees.parenthesised e) v h i k = entry_assigned e v h i k
-    entry_assigned (trees.prefixed op e) v h i k = absurd cc
-    entry_assigned (trees.step_before op q e) v h i k = absurd cc
-    entry_assigned (trees.step_after e op q) v h i k = absurd cc
-    entry_assigned (trees.binary op a b) v h i k = absurd cc
-    entry_assigned (trees.compare op a b) v h i k = absurd cc
-    entry_assigned (trees.equal op a bs) v h i k = absurd cc
-    entry_assigned (trees.assign a q b) v h i k = absurd cc
+    place_assigned (trees.constant n) v h i k = absurd cc
+    place_assigned (trees.word s) v h i k = absurd cc
+    place_assigned (trees.named n) v h i k = absurd cc
+    place_assigned (trees.call n es) v h i k = absurd cc
+    place_assigned (trees.index n width e) v h i k = (i.0, i.1, k)
+    place_assigned (trees.parenthesised e) v h i k = place_assigned e v h i k
+    place_assigned (trees.relative_of q e) v h i k = absurd cc
+    place_assigned (trees.property e n) v h i k = (i.0, i.1, k)
+    place_assigned (trees.property_length e n) v h i k = absurd cc
+    place_assigned (trees.property_entry e n j) v h i k = (i.0, i.1, i.2, k)
+    place_assigned (trees.prefixed op e) v h i k = absurd cc
+    place_assigned (trees.step_before op q e) v h i k = absurd cc
+    place_assigned (trees.step_after e op q) v h i k = absurd cc
+    place_assigned (trees.binary op a b) v h i k = absurd cc
+    place_assigned (trees.compare op a b) v h i k = absurd cc
+    place_assigned (trees.equal op a bs) v h i k = absurd cc
+    place_assigned (trees.contained op a b) v h i k = absurd cc
+    place_assigned (trees.tested test e n) v h i k = absurd cc
+    place_assigned (trees.assign a q b) v h i k = absurd cc
 
     assigned_within : (operator : Position) (e : ExpressionTree) (o : Option NameTree) → name_of e ≡ o → (c : Bool)
-        → is_entry e ≡ c → (v : Value) → assigned_breaches seen.look operator o c (breaches seen.look e) ≡ []
+        → is_place e ≡ c → (v : Value) → assigned_breaches seen.look operator o c (breaches seen.look e) ≡ []
         → (breaches seen.look e ≡ [] → IsValue p locals (resolve seen e)) → IsValue p locals v
         → IsValue p locals (assigned (resolve seen e) v)
     assigned_within operator e (Some n) is c one v h i k =
         subst (λ (w : Value). IsValue p locals (assigned w v)) (sym (named_resolves seen e n is))
         (name_assigned seen.number n.position operator (seen.look n.text) v (meant n.text) h k)
-    assigned_within operator e None is true one v h i k = entry_assigned e v one (i h) k
+    assigned_within operator e None is true one v h i k = place_assigned e v one (i h) k
     assigned_within operator e None is false one v h i k = absurd (not_empty (breaches seen.look e) operator h)
 
     mutual
@@ -230,6 +284,24 @@ module _ (p : ProgramOf) (locals : ℕ) where
             (right_empty (array_name_breaches n.position (seen.look n.text)) (breaches seen.look e) h),
       )
       value_within (trees.parenthesised e) h = value_within e h
+      value_within (trees.relative_of q e) h = value_within e h
+      value_within (trees.property e n) h =
+          let own = property_breaches n.position (seen.look n.text) in (
+            property_within n.position (seen.look n.text) (meant n.text) (right_empty (breaches seen.look e) own h),
+            value_within e (left_empty (breaches seen.look e) own h),
+          )
+      value_within (trees.property_length e n) h =
+          let own = property_breaches n.position (seen.look n.text) in (
+            property_within n.position (seen.look n.text) (meant n.text) (right_empty (breaches seen.look e) own h),
+            value_within e (left_empty (breaches seen.look e) own h),
+          )
+      value_within (trees.property_entry e n i) h =
+          let own = property_breaches n.position (seen.look n.text) in
+          let rest = right_empty (breaches seen.look e) (own ++ breaches seen.look i) h in (
+            property_within n.position (seen.look n.text) (meant n.text) (left_empty own (breaches seen.look i) rest),
+            value_within e (left_empty (breaches seen.look e) (own ++ breaches seen.look i) h),
+            value_within i (right_empty own (breaches seen.look i) rest),
+          )
       value_within (trees.prefixed op e) h = value_within e h
       value_within (trees.step_before op q e) h = left_within q (name_of e) (breaches seen.look e) h
       value_within (trees.step_after e op q) h = left_within q (name_of e) (breaches seen.look e) h
@@ -248,9 +320,18 @@ module _ (p : ProgramOf) (locals : ℕ) where
         values_within bs
             (right_empty (breaches seen.look a) (all_breaches seen.look bs) h),
       )
+      value_within (trees.contained op a b) h = (
+        value_within a (left_empty (breaches seen.look a) (breaches seen.look b) h),
+        value_within b
+            (right_empty (breaches seen.look a) (breaches seen.look b) h),
+      )
+      value_within (trees.tested test e n) h =
+          let own = tested_breaches test n.position (seen.look n.text) in
+          tested_within test (resolve seen e) n.position (seen.look n.text) (meant n.text)
+          (right_empty (breaches seen.look e) own h) (value_within e (left_empty (breaches seen.look e) own h))
       value_within (trees.assign a q b) h =
-          let left = assigned_breaches seen.look q (name_of a) (is_entry a) (breaches seen.look a) in
-          assigned_within q a (name_of a) refl (is_entry a) refl (resolve seen b)
+          let left = assigned_breaches seen.look q (name_of a) (is_place a) (breaches seen.look a) in
+          assigned_within q a (name_of a) refl (is_place a) refl (resolve seen b)
           (left_empty left (breaches seen.look b) h) (value_within a) (value_within b (right_empty left (breaches seen.look b) h))
 
       pub values_within : (es : ExpressionTrees) → all_breaches seen.look es ≡ []
@@ -338,6 +419,7 @@ module _ (p : ProgramOf) (locals : ℕ) where
     item_within : (i : PrintItemTree) → item_breaches seen.look i ≡ [] → IsPrinted p locals (resolve_item seen i)
     item_within (written.text_item s) h = tt
     item_within (written.character_item q e) h = whole_within q e h
+    item_within (written.object_item q e) h = whole_within q e h
     item_within (written.number_item q e) h = whole_within q e h
 
     items_within : (is : List PrintItemTree) → flat_map (item_breaches seen.look) is ≡ []
@@ -347,6 +429,17 @@ module _ (p : ProgramOf) (locals : ℕ) where
         All-cons (IsPrinted p locals) (resolve_item seen i) (map (resolve_item seen) is)
         (item_within i (left_empty (item_breaches seen.look i) (flat_map (item_breaches seen.look) is) h))
         (items_within is (right_empty (item_breaches seen.look i) (flat_map (item_breaches seen.look) is) h))
+
+    -- the attributes of a `give`
+    flags_within : (xs : List FlagTree) → flat_map (flag_breaches seen.look) xs ≡ []
+        → All (λ (c : Bool × ℕ). c.1 < 48) (map (resolve_flag seen) xs)
+    flags_within [] h = All-nil (λ (c : Bool × ℕ). c.1 < 48)
+    flags_within (x ∷ xs) h =
+        let own = flag_breaches seen.look x in
+        let rest = flat_map (flag_breaches seen.look) xs in
+        All-cons (λ (c : Bool × ℕ). c.1 < 48) (resolve_flag seen x) (map (resolve_flag seen) xs)
+        (attribute_within x.1.position (seen.look x.1.text) (meant x.1.text) (left_empty own rest h))
+        (flags_within xs (right_empty own rest h))
 
     mutual
       pub statement_within : (around : Around) (x : StatementTree) → statement_breaches seen.look around x ≡ []
@@ -405,6 +498,46 @@ module _ (p : ProgramOf) (locals : ℕ) where
       statement_within around written.return_false h = (tt, omega arith)
       statement_within around written.quit h = tt
       statement_within around (written.read_line n m) h = buffers_within n m h
+      statement_within around (written.give q e xs) h =
+          let own = whole_breaches seen.look q e in
+          let rest = flat_map (flag_breaches seen.look) xs in
+          (whole_within q e (left_empty own rest h), flags_within xs (right_empty own rest h))
+      statement_within around (written.move q a b) h =
+          let large = cond (nat_lt 48 (move_need a b)) (at q 29) [] in
+          let parts = right_empty large (breaches seen.look a ++ breaches seen.look b) h in
+          let few = at_most 48 (move_need a b)
+          (kept (nat_lt 48 (move_need a b)) q 29 (left_empty large (breaches seen.look a ++ breaches seen.look b) h)) in
+          let first = need_below seen a in
+          let second = need_below seen b in (
+            value_within a (left_empty (breaches seen.look a) (breaches seen.look b) parts),
+            value_within b (right_empty (breaches seen.look a) (breaches seen.look b) parts),
+            omega (arith, few, first, second),
+          )
+      statement_within around (written.remove q e) h = whole_within q e h
+      statement_within around (written.each n x) h =
+          let own = loop_breaches n.position (seen.look n.text) in
+          let body = statement_breaches seen.look in_loop x in (
+            loop_within n.position (seen.look n.text) (meant n.text) (left_empty own body h),
+            statement_within in_loop x (right_empty own body h),
+          )
+      statement_within around (written.each_in q n e x) h =
+          let own = loop_breaches n.position (seen.look n.text) in
+          let whole = whole_breaches seen.look q e in
+          let body = statement_breaches seen.look in_loop x in
+          let rest = right_empty own (whole ++ body) h in (
+            loop_within n.position (seen.look n.text) (meant n.text) (left_empty own (whole ++ body) h),
+            whole_within q e (left_empty whole body rest),
+            statement_within in_loop x (right_empty whole body rest),
+          )
+      statement_within around (written.each_where q n e x) h =
+          let own = loop_breaches n.position (seen.look n.text) in
+          let whole = whole_breaches seen.look q e in
+          let body = statement_breaches seen.look in_loop x in
+          let rest = right_empty own (whole ++ body) h in (
+            loop_within n.position (seen.look n.text) (meant n.text) (left_empty own (whole ++ body) h),
+            whole_within q e (left_empty whole body rest),
+            statement_within in_loop x (right_empty whole body rest),
+          )
       statement_within around (written.effect q e) h = whole_within q e h
 
       pub statements_within : (around : Around) (xs : StatementTrees) → statements_breaches seen.look around xs ≡ []
@@ -470,6 +603,21 @@ module _ (seen : Seen) where
     statement_stands around written.return_false h = tt
     statement_stands around written.quit h = tt
     statement_stands around (written.read_line n m) h = tt
+    statement_stands around (written.give q e xs) h = tt
+    statement_stands around (written.move q a b) h = tt
+    statement_stands around (written.remove q e) h = tt
+    statement_stands around (written.each n x) h = statement_stands in_loop x
+        (right_empty (loop_breaches n.position (seen.look n.text)) (statement_breaches seen.look in_loop x) h)
+    statement_stands around (written.each_in q n e x) h =
+        let whole = whole_breaches seen.look q e in
+        let body = statement_breaches seen.look in_loop x in
+        statement_stands in_loop x
+        (right_empty whole body (right_empty (loop_breaches n.position (seen.look n.text)) (whole ++ body) h))
+    statement_stands around (written.each_where q n e x) h =
+        let whole = whole_breaches seen.look q e in
+        let body = statement_breaches seen.look in_loop x in
+        statement_stands in_loop x
+        (right_empty whole body (right_empty (loop_breaches n.position (seen.look n.text)) (whole ++ body) h))
     statement_stands around (written.effect q e) h = tt
 
     pub statements_stand : (around : Around) (xs : StatementTrees) → statements_breaches seen.look around xs ≡ []

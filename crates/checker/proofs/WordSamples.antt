@@ -17,6 +17,7 @@ use Rattle.zcore.specs.Words.{packed}
 use Rattle.names.specs.Breaches.{at}
 use Rattle.names.specs.Keys.{key_of_word}
 use Rattle.names.specs.Names.{table_of, key_of, look_up}
+use Rattle.checker.specs.Objects.{all_defaults}
 use Rattle.checker.specs.Programs.{program_breaches, resolve_with, file_of, resolve_program}
 use Rattle.meaning.specs.Resolved as r
 use Rattle.meaning.specs.Meaning.{meaning}
@@ -129,6 +130,8 @@ reads_fine = refl
 reads_resolve : resolve_program reads ≡ record {
   globals = [];
   arrays = replicate 8 0 ∷ replicate 14 0 ∷ [];
+  defaults = all_defaults [];
+  objects = [];
   keys = 0x64D028A594A5 ∷ [];
   routines = record {
     locals = 0;

@@ -14,11 +14,11 @@ use Rattle.meaning.specs.declared.checked.CheckedRoutine.{CheckedRoutine}
 use Rattle.checker.specs.declared.directive_rules.Found.{Found}
 use Rattle.names.specs.Names.{Table, File, Seen}
 use Rattle.checker.specs.Arrays.{entry_bytes, entry_value, entry_breaches}
-use Rattle.meaning.specs.Resolved.{RoutineOf, routine_of, title_of}
+use Rattle.meaning.specs.Resolved.{RoutineOf, object_of, routine_of, title_of}
 use Rattle.rules.specs.Statements.{statements_breaches}
 use Rattle.meaning.specs.Around.{outside}
 use Rattle.checker.specs.Programs.{routine_breaches, resolve_body, resolve_routine, routine_trees, title, globals_of}
-use Rattle.checker.specs.Programs.{arrays_of, routines_of}
+use Rattle.checker.specs.Programs.{arrays_of, defaults_in, objects_in, routines_of}
 use Rattle.rules.specs.Walk.{IsWalked}
 
 -- in a routine that sees so much of the file
@@ -67,6 +67,8 @@ pub record IsFound (file : File) (ds : List DirectiveTree) (found : Found) : Typ
   pub globals : found.globals.items ≡ globals_of file ds
   pub bytes : found.arrays.bytes.items ≡ concat (arrays_of file ds)
   pub sizes : found.arrays.sizes.items ≡ map length (arrays_of file ds)
+  pub defaults : found.defaults.items ≡ defaults_in file ds
+  pub objects : map object_of found.objects.items ≡ objects_in file ds
   pub routines : map routine_of found.routines.items ≡ routines_of file ds
   pub titles : map title_of found.routines.items ≡ map title (routine_trees ds)
 
@@ -75,6 +77,8 @@ pub record IsAdded (file : File) (ds : List DirectiveTree) (old new : Found) : T
   pub globals : new.globals.items ≡ old.globals.items ++ globals_of file ds
   pub bytes : new.arrays.bytes.items ≡ old.arrays.bytes.items ++ concat (arrays_of file ds)
   pub sizes : new.arrays.sizes.items ≡ old.arrays.sizes.items ++ map length (arrays_of file ds)
+  pub defaults : new.defaults.items ≡ old.defaults.items ++ defaults_in file ds
+  pub objects : map object_of new.objects.items ≡ map object_of old.objects.items ++ objects_in file ds
   pub routines : map routine_of new.routines.items ≡ map routine_of old.routines.items ++ routines_of file ds
   pub titles : map title_of new.routines.items ≡ map title_of old.routines.items ++ map title (routine_trees ds)
 
@@ -85,6 +89,9 @@ pub record IsAdding (file : File) (rest all : List DirectiveTree) (first found :
       ++ concat (arrays_of file all)
   pub sizes : found.arrays.sizes.items ++ map length (arrays_of file rest) ≡ first.arrays.sizes.items
       ++ map length (arrays_of file all)
+  pub defaults : found.defaults.items ++ defaults_in file rest ≡ first.defaults.items ++ defaults_in file all
+  pub objects : map object_of found.objects.items ++ objects_in file rest ≡ map object_of first.objects.items
+      ++ objects_in file all
   pub routines : map routine_of found.routines.items ++ routines_of file rest ≡ map routine_of first.routines.items
       ++ routines_of file all
   pub titles : map title_of found.routines.items ++ map title (routine_trees rest)

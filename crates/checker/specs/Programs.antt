@@ -1,10 +1,11 @@
 -- The rules that a program can break, and what it resolves to.
-use Rattle.std.specs.Prelude.{◌≡◌, ℕ, nat_le, map, Bool, true, false, if◌then◌else◌, List, [], ◌∷◌, ◌++◌, codes}
+use Rattle.std.specs.Prelude.{◌≡◌, ◌%◌, ℕ, nat_le, map, if◌then◌else◌, List, [], ◌∷◌, ◌++◌, codes}
 use Rattle.std.specs.Prelude.{length, Option, Some, None, is_some}
 use Rattle.lexer.specs.declared.token.Position.{Position}
 use Rattle.expressions.specs.Tree.{NameTree}
 use Rattle.statements.specs.Tree.{LiteralTree}
-use Rattle.syntax.specs.Tree.{RoutineTree, DirectiveTree, global, constant, array, routine, ProgramTree}
+use Rattle.syntax.specs.Tree.{RoutineTree, DirectiveTree, global, constant, array, attribute, property, object}
+use Rattle.syntax.specs.Tree.{routine, ObjectTree, ProgramTree}
 use Rattle.names.specs.declared.binding.Binding.{Binding}
 use Rattle.names.specs.declared.binding.Binding.TheVariants as bindings
 use Rattle.names.specs.declared.breach.Breach.{Breach}
@@ -16,26 +17,30 @@ use Rattle.names.specs.Names.{counts_after, table_of, look_up, Seen, seen_from}
 use Rattle.meaning.specs.Places.{number_in}
 use Rattle.rules.specs.Literals.{initial_breaches, named_breaches, initial_value}
 use Rattle.checker.specs.Arrays.{array_breaches, array_bytes}
+use Rattle.checker.specs.Repeated.{has_name}
+use Rattle.checker.specs.Objects.{object_breaches, standing_breaches, parents_of, object_in, placed, all_defaults}
+use Rattle.meaning.specs.Objects.{ObjectOf}
 use Rattle.rules.specs.Statements.{statements_breaches, resolve_statements}
 use Rattle.meaning.specs.Around.{outside}
 use Rattle.meaning.specs.Resolved.{RoutineOf, ProgramOf, CheckedProgram, program_of, title_of}
 
--- Definitions: E22 at a name that is defined already, E24 at the 233rd global
+-- Definitions: E22 at a name that is defined already; E24 at the 233rd global, the 49th attribute, the 63rd property
+-- beside `name` and the 2,001st object
 
 abbrev pub twice : Table → NameTree → List Breach
 twice table name = if is_some (in_table table (key_of name.text)) then at name.position 22 else []
 
--- Locals: E22 at the second of two, E24 at the 16th
+-- of a kind of which there may be so many
+abbrev pub limit_breaches : ℕ → ℕ → NameTree → List Breach
+limit_breaches most before name = if nat_le most before then at name.position 24 else []
 
-abbrev pub has_local : List NameTree → NameTree → Bool
-has_local [] name = false
-has_local (l ∷ ls) name = if same_key (key_of l.text) (key_of name.text) then true else has_local ls name
+-- Locals: E22 at the second of two, E24 at the 16th
 
 -- of the locals that follow some
 abbrev pub locals_breaches : List NameTree → List NameTree → List Breach
 locals_breaches before [] = []
 locals_breaches before (l ∷ ls) =
-    (if has_local before l then at l.position 22 else [])
+    (if has_name before l then at l.position 22 else [])
     ++ ((if nat_le 15 (length before) then at l.position 24 else [])
     ++ locals_breaches (before ++ l ∷ []) ls)
 
@@ -44,20 +49,45 @@ routine_breaches whole r = locals_breaches [] r.locals ++ statements_breaches (l
 
 abbrev pub global_directive_breaches : Table → Table → Counts → NameTree → Option LiteralTree → List Breach
 global_directive_breaches whole table counts n v =
-    twice table n ++ ((if nat_le 232 counts.globals then at n.position 24 else []) ++ initial_breaches whole v)
+    twice table n ++ (limit_breaches 232 counts.globals n ++ initial_breaches whole v)
+
+abbrev pub attribute_directive_breaches : Table → Counts → NameTree → List Breach
+attribute_directive_breaches table counts n = twice table n ++ limit_breaches 48 counts.attributes n
+
+abbrev pub property_directive_breaches : Table → Table → Counts → NameTree → Option LiteralTree → List Breach
+property_directive_breaches whole table counts n v =
+    twice table n ++ (limit_breaches 62 counts.properties n ++ initial_breaches whole v)
+
+abbrev pub object_directive_breaches : Table → Table → Counts → ObjectTree → List Breach
+object_directive_breaches whole table counts o =
+    twice table o.name ++ (limit_breaches 2000 counts.objects o.name ++ object_breaches whole o)
 
 -- of a directive, with the names of the whole file, and the names and how much is defined before it
 abbrev pub directive_breaches : Table → Table → Counts → DirectiveTree → List Breach
 directive_breaches whole table counts (global n v) = global_directive_breaches whole table counts n v
 directive_breaches whole table counts (constant n v) = twice table n ++ named_breaches whole table v
 directive_breaches whole table counts (array a) = twice table a.name ++ array_breaches whole a
+directive_breaches whole table counts (attribute n) = attribute_directive_breaches table counts n
+directive_breaches whole table counts (property n v) = property_directive_breaches whole table counts n v
+directive_breaches whole table counts (object o) = object_directive_breaches whole table counts o
 directive_breaches whole table counts (routine r) = twice table r.name ++ routine_breaches whole r
 
 abbrev pub directives_breaches : Table → Table → Counts → List DirectiveTree → List Breach
 directives_breaches whole table counts [] = []
 directives_breaches whole table counts (d ∷ ds) =
     directive_breaches whole table counts d
-    ++ directives_breaches whole (with_directive table counts d) (counts_after counts d) ds
+    ++ directives_breaches whole (with_directive whole table counts d) (counts_after counts d) ds
+
+-- the objects of a file in order
+abbrev pub object_trees : List DirectiveTree → List ObjectTree
+object_trees [] = []
+object_trees (global n v ∷ ds) = object_trees ds
+object_trees (constant n v ∷ ds) = object_trees ds
+object_trees (array a ∷ ds) = object_trees ds
+object_trees (attribute n ∷ ds) = object_trees ds
+object_trees (property n v ∷ ds) = object_trees ds
+object_trees (object o ∷ ds) = o ∷ object_trees ds
+object_trees (routine r ∷ ds) = object_trees ds
 
 -- Main: E21 at the end of the source where no routine has this name, and at its name where it has locals
 
@@ -70,6 +100,9 @@ first_routine [] key = None
 first_routine (global n v ∷ ds) key = first_routine ds key
 first_routine (constant n v ∷ ds) key = first_routine ds key
 first_routine (array a ∷ ds) key = first_routine ds key
+first_routine (attribute n ∷ ds) key = first_routine ds key
+first_routine (property n v ∷ ds) key = first_routine ds key
+first_routine (object o ∷ ds) key = first_routine ds key
 first_routine (routine r ∷ ds) key = if same_key (key_of r.name.text) key then Some r.name else first_routine ds key
 
 abbrev pub position_or : Position → Option NameTree → Position
@@ -83,14 +116,17 @@ main_breaches end name (Some (bindings.Global g)) = at end 21
 main_breaches end name (Some (bindings.Array a kind)) = at end 21
 main_breaches end name (Some (bindings.Routine r locals)) = if nat_le 1 locals then at (position_or end name) 21
     else []
-main_breaches end name (Some bindings.Property) = at end 21
+main_breaches end name (Some (bindings.Attribute a)) = at end 21
+main_breaches end name (Some (bindings.Property n)) = at end 21
+main_breaches end name (Some (bindings.Object o)) = at end 21
 main_breaches end name (Some (bindings.Local l)) = at end 21
 
 -- every broken rule of a program, with its place
 unfoldable pub program_breaches : ProgramTree → List Breach
 program_breaches p =
     directives_breaches (table_of p.directives) first_table no_counts p.directives
-    ++ main_breaches p.end (first_routine p.directives main_key) (in_table (table_of p.directives) main_key)
+    ++ (standing_breaches (table_of p.directives) (object_trees p.directives)
+    ++ main_breaches p.end (first_routine p.directives main_key) (in_table (table_of p.directives) main_key))
 
 -- Resolving
 
@@ -98,6 +134,9 @@ abbrev pub globals_of : File → List DirectiveTree → List ℕ
 globals_of file [] = []
 globals_of file (global n v ∷ ds) = initial_value file v ∷ globals_of file ds
 globals_of file (constant n v ∷ ds) = globals_of file ds
+globals_of file (attribute n ∷ ds) = globals_of file ds
+globals_of file (property n v ∷ ds) = globals_of file ds
+globals_of file (object o ∷ ds) = globals_of file ds
 globals_of file (array a ∷ ds) = globals_of file ds
 globals_of file (routine r ∷ ds) = globals_of file ds
 
@@ -105,8 +144,36 @@ abbrev pub arrays_of : File → List DirectiveTree → List (List ℕ)
 arrays_of file [] = []
 arrays_of file (global n v ∷ ds) = arrays_of file ds
 arrays_of file (constant n v ∷ ds) = arrays_of file ds
+arrays_of file (attribute n ∷ ds) = arrays_of file ds
+arrays_of file (property n v ∷ ds) = arrays_of file ds
+arrays_of file (object o ∷ ds) = arrays_of file ds
 arrays_of file (array a ∷ ds) = array_bytes file a ∷ arrays_of file ds
 arrays_of file (routine r ∷ ds) = arrays_of file ds
+
+-- the defaults of the properties that are defined
+abbrev pub defaults_in : File → List DirectiveTree → List ℕ
+defaults_in file [] = []
+defaults_in file (global n v ∷ ds) = defaults_in file ds
+defaults_in file (constant n v ∷ ds) = defaults_in file ds
+defaults_in file (array a ∷ ds) = defaults_in file ds
+defaults_in file (attribute n ∷ ds) = defaults_in file ds
+defaults_in file (property n v ∷ ds) = initial_value file v % 65536 ∷ defaults_in file ds
+defaults_in file (object o ∷ ds) = defaults_in file ds
+defaults_in file (routine r ∷ ds) = defaults_in file ds
+
+-- the objects of a file, still without their parents
+abbrev pub objects_in : File → List DirectiveTree → List ObjectOf
+objects_in file [] = []
+objects_in file (global n v ∷ ds) = objects_in file ds
+objects_in file (constant n v ∷ ds) = objects_in file ds
+objects_in file (array a ∷ ds) = objects_in file ds
+objects_in file (attribute n ∷ ds) = objects_in file ds
+objects_in file (property n v ∷ ds) = objects_in file ds
+objects_in file (object o ∷ ds) = object_in file o ∷ objects_in file ds
+objects_in file (routine r ∷ ds) = objects_in file ds
+
+abbrev pub objects_of : File → List DirectiveTree → List ObjectOf
+objects_of file ds = placed (parents_of file.table (object_trees ds)) (objects_in file ds)
 
 -- where a routine sees so much of the file
 abbrev pub resolve_body : Seen → RoutineTree → RoutineOf
@@ -119,6 +186,9 @@ abbrev pub routines_of : File → List DirectiveTree → List RoutineOf
 routines_of file [] = []
 routines_of file (global n v ∷ ds) = routines_of file ds
 routines_of file (constant n v ∷ ds) = routines_of file ds
+routines_of file (attribute n ∷ ds) = routines_of file ds
+routines_of file (property n v ∷ ds) = routines_of file ds
+routines_of file (object o ∷ ds) = routines_of file ds
 routines_of file (array a ∷ ds) = routines_of file ds
 routines_of file (routine r ∷ ds) = resolve_routine file r ∷ routines_of file ds
 
@@ -128,7 +198,9 @@ routine_number (Some (bindings.Constant n)) = 0
 routine_number (Some (bindings.Global g)) = 0
 routine_number (Some (bindings.Array a kind)) = 0
 routine_number (Some (bindings.Routine r locals)) = r
-routine_number (Some bindings.Property) = 0
+routine_number (Some (bindings.Attribute a)) = 0
+routine_number (Some (bindings.Property n)) = 0
+routine_number (Some (bindings.Object o)) = 0
 routine_number (Some (bindings.Local l)) = 0
 
 -- with the names of a file and these numbers of keys
@@ -136,6 +208,8 @@ unfoldable pub resolve_with : File → ProgramTree → ProgramOf
 resolve_with file p = record {
   globals = globals_of file p.directives;
   arrays = arrays_of file p.directives;
+  defaults = all_defaults (defaults_in file p.directives);
+  objects = objects_of file p.directives;
   keys = keys_of p.words;
   routines = routines_of file p.directives;
   main = routine_number (in_table file.table main_key);
@@ -144,8 +218,8 @@ resolve_with file p = record {
 abbrev pub no_numbers : ProgramTree → File
 no_numbers p = record { table = table_of p.directives; number = λ key. 0 }
 
--- The numbers of keys rest on the sizes of arrays and on how many keys there are, and these do not rest on the numbers
--- of keys: they are the same where every key has the number 0.
+-- The numbers of keys rest on the sizes of arrays and of the tables of objects, and on how many keys there are. These do
+-- not rest on the numbers of keys: they are the same where every key has the number 0.
 unfoldable pub file_of : ProgramTree → File
 file_of p = record { table = table_of p.directives; number = number_in (resolve_with (no_numbers p) p) }
 
@@ -159,6 +233,9 @@ abbrev pub routine_trees : List DirectiveTree → List RoutineTree
 routine_trees [] = []
 routine_trees (global n v ∷ ds) = routine_trees ds
 routine_trees (constant n v ∷ ds) = routine_trees ds
+routine_trees (attribute n ∷ ds) = routine_trees ds
+routine_trees (property n v ∷ ds) = routine_trees ds
+routine_trees (object o ∷ ds) = routine_trees ds
 routine_trees (array a ∷ ds) = routine_trees ds
 routine_trees (routine r ∷ ds) = r ∷ routine_trees ds
 

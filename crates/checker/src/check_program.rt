@@ -8,10 +8,13 @@ ghost use Rattle.checker.specs.Programs.{program_breaches, no_numbers, file_of, 
 ghost use Rattle.names.specs.Scope.{file_in};
 ghost use Rattle.names.specs.Keys.{keys_of};
 
-use crate::directive_rules::{all_directives, bytes_of_arrays};
+use crate::defaults::all_defaults;
+use crate::directive_rules::all_directives;
 use crate::main_rules::main_number;
+use crate::standing::{parents, place};
+use crate::table_bytes::{bytes_of_arrays, objects_alone};
 use lexer::{NO_MEMORY, SourceFault};
-use meaning::{Checked, dictionary_behind};
+use meaning::{Checked, dictionary_behind, objects_size};
 use names::{Breach, File, Numbers, gather, tabulate};
 use std::alloc::{AllocError, Global};
 use syntax::Program;
@@ -29,11 +32,16 @@ fn resolve_with<'a>(
     ensures value { IfOk result (λ c. IsCheckedOf (program_tree program.now) c) }
     ensures breaches { OnOk result (least.new ≡ noted least.old (program_breaches (program_tree program.now))) }
 {
-    let found = all_directives(alloc, &file, &program.directives, least)?;
+    let mut found = all_directives(alloc, &file, &program.directives, least)?;
+    let parents = parents(alloc, &file.table, &program.directives, least)?;
+    place(&parents, &mut found.objects);
+    let defaults = all_defaults(alloc, &found.defaults)?;
     let main = main_number(&program.directives, program.end, &file.table, least);
     Ok(Checked::new(
         found.globals,
         found.arrays,
+        defaults,
+        found.objects,
         file.numbers.keys,
         found.routines,
         main,
@@ -51,7 +59,7 @@ fn unnumbered(alloc: Global, program: &Program<'_>) -> Result<File, AllocError>
     Ok(File { table, numbers })
 }
 
-// The names of a program and the numbers of its words, which rest on how many bytes its arrays have.
+// The names of a program and the numbers of its words, which rest on how many bytes its arrays and its objects have.
 fn numbered(alloc: Global, program: &Program<'_>) -> Result<File, AllocError>
     ensures file { IfOk result (λ f. file_in f ≡ file_of (program_tree program.now)) }
     ensures keys { IfOk result (λ f. f.numbers.keys.items ≡ keys_of (program_tree program.now).words) }
@@ -59,6 +67,7 @@ fn numbered(alloc: Global, program: &Program<'_>) -> Result<File, AllocError>
 {
     let first = unnumbered(alloc, program)?;
     let bytes = bytes_of_arrays(alloc, &first, &program.directives)?;
+    let objects = objects_alone(alloc, &first, &program.directives)?;
     let keys = gather(alloc, &program.words)?;
     let File { table, numbers } = first;
     drop(numbers);
@@ -66,7 +75,7 @@ fn numbered(alloc: Global, program: &Program<'_>) -> Result<File, AllocError>
         table,
         numbers: Numbers {
             keys,
-            dictionary: dictionary_behind(bytes),
+            dictionary: dictionary_behind(bytes, objects_size(&objects)),
         },
     })
 }
@@ -88,9 +97,9 @@ fn resolve<'a>(
 /// # Errors
 ///
 /// The fault is that at the smallest place, and of several there the one with the smallest number: E20 an unknown name,
-/// E21 no proper `Main`, E22 a name that is defined twice, E23 a name of the wrong kind, E24 too many globals, locals or
-/// arguments, E25 more arguments than the routine has locals, E26 an assignment to what is
-/// neither a variable nor an entry of an array, E28 an entry or a size that an array may not have, E29 an expression
+/// E21 no proper `Main`, E22 a name that is defined twice, E23 a name of the wrong kind, E24 too many globals, attributes,
+/// properties, objects, locals, arguments or words of a property, or too long a short name, E25 more arguments than the routine has locals, E26 an assignment to what is
+/// neither a variable, nor an entry of an array, nor a property or a word of one, E28 an entry or a size that an array may not have, E29 an expression
 /// that needs too many temporaries. E99, with line 0: memory was refused.
 pub fn check<'a>(alloc: Global, program: Program<'a>) -> Result<Checked<'a>, SourceFault>
     ensures { Answers result (program_breaches (program_tree program.entry)) (λ c. IsCheckedOf (program_tree program.entry) c) }

@@ -1,36 +1,38 @@
 //! Directives: the rules that they can break, and what they resolve to.
 
-ghost use Rattle.std.specs.Prelude.{◌≡◌, ◌<◌, ◌^◌, ◌∷◌, ◌++◌, [], ℕ, List, IfOk, OnOk, length, map, nat_le, if◌then◌else◌};
-ghost use Rattle.std.specs.List.{concat};
+ghost use Rattle.std.specs.Prelude.{◌≡◌, ◌%◌, ◌∷◌, ◌++◌, [], ℕ, List, IfOk, OnOk, length, map, nat_le, if◌then◌else◌};
 ghost use Rattle.expressions.specs.Tree.{name_tree};
-ghost use Rattle.syntax.specs.Tree.{optional_tree, routine_tree, directive_tree};
+ghost use Rattle.syntax.specs.Tree.{optional_tree, object_tree, routine_tree, directive_tree};
 ghost use Rattle.names.specs.Names.{in_table, local_from, first_table, no_counts};
 ghost use Rattle.names.specs.Breaches.{at};
 ghost use Rattle.rules.specs.Literals.{initial_value};
 ghost use Rattle.names.specs.Noted.{noted};
 ghost use Rattle.names.specs.Scope.{file_in, seen_in, local_binding};
 ghost use Rattle.checker.specs.Found.{IsRoutineIn, IsRoutineOf, IsAdded, IsFound};
+ghost use Rattle.meaning.specs.Resolved.{object_of};
+ghost use Rattle.checker.specs.Objects.{object_in};
 ghost use Rattle.checker.specs.Programs as spec;
 
 use crate::array_rules::array;
+use crate::object_rules::object;
+use crate::twice::twice;
 use expressions::Name;
 use indexmap::IndexMap;
-use lexer::{DEFINED_TWICE, Position, TOO_MANY};
-use meaning::{Arrays, CheckedRoutine, OUTSIDE};
-use names::{Binding, Breach, File, Names, Scope, Table, define, find, note};
+use lexer::{Position, TOO_MANY};
+use meaning::{Arrays, CheckedObject, CheckedRoutine, OUTSIDE};
+use names::{Binding, Breach, File, Names, Scope, Table, define, note};
 use rules::{all_statements, constant_value, initial};
 use std::alloc::{AllocError, Global};
-use syntax::{Directive, Literal, Routine};
+use syntax::{Directive, Literal, Object, Routine, Statement};
 
-// A name that is defined where these names are defined.
-#[tactic(auto, using(names::proofs::Noted::noted_none))]
-fn twice(table: &Table, name: Name<'_>, least: &mut Option<Breach>)
-    ensures { least.new ≡ noted least.old (spec.twice table.now.entries (name_tree name.entry)) }
-{
-    if find(table, name.text).is_some() {
-        note(least, DEFINED_TWICE, name.position);
-    }
-}
+// What there may be of each kind; of properties, beside `name`.
+const MOST_GLOBALS: usize = 232;
+
+const MOST_ATTRIBUTES: usize = 48;
+
+const MOST_PROPERTIES: usize = 62;
+
+const MOST_OBJECTS: usize = 2000;
 
 #[tactic(auto, using(names::proofs::Noted::noted_none))]
 fn count_locals(number: usize, position: Position, least: &mut Option<Breach>)
@@ -60,6 +62,12 @@ fn locals(
     Ok(table)
 }
 
+fn body_of<'r, 'a>(routine: &'r Routine<'a>) -> &'r [Statement<'a>]
+    ensures { result.now ≡ routine.now.body.items }
+{
+    &routine.body
+}
+
 // A routine whose names this scope has.
 fn routine_in<'a>(
     alloc: Global,
@@ -69,12 +77,15 @@ fn routine_in<'a>(
 ) -> Result<CheckedRoutine<'a>, AllocError>
     ensures { IfOk result (λ r. IsRoutineIn (seen_in scope.now) (routine_tree routine.now) least.old least.new r) }
 {
-    let body = all_statements(alloc, scope, OUTSIDE, &routine.body, least)?;
+    let name = routine.name;
+    let locals = routine.locals.len();
+    let weight = routine.weight;
+    let body = all_statements(alloc, scope, OUTSIDE, body_of(routine), least)?;
     Ok(CheckedRoutine {
-        name: routine.name,
-        locals: routine.locals.len(),
+        name,
+        locals,
         body,
-        weight: routine.weight,
+        weight,
     })
 }
 
@@ -103,16 +114,23 @@ pub struct Found<'a> {
     /// What the arrays begin with.
     pub arrays: Arrays,
 
+    /// The defaults of the properties, in order of definition.
+    pub defaults: Vec<u16>,
+
+    /// The objects in order of definition, still without their parents.
+    pub objects: Vec<CheckedObject<'a>>,
+
     /// The routines in order of definition.
     pub routines: Vec<CheckedRoutine<'a>>,
 }
 
+// A name of a kind of which there may be so many.
 #[tactic(auto, using(names::proofs::Noted::noted_none))]
-fn count_globals(globals: usize, position: Position, least: &mut Option<Breach>)
-    ensures { least.new ≡ noted least.old (if nat_le 232 globals then at position 24 else []) }
+fn limit(most: usize, before: usize, name: Name<'_>, least: &mut Option<Breach>)
+    ensures { least.new ≡ noted least.old (spec.limit_breaches most before (name_tree name.entry)) }
 {
-    if globals >= 232 {
-        note(least, TOO_MANY, position);
+    if before >= most {
+        note(least, TOO_MANY, name.position);
     }
 }
 
@@ -127,8 +145,47 @@ fn global(
     ensures breaches { least.new ≡ noted least.old (spec.global_directive_breaches file.now.table.entries names.now.table.entries names.now.counts (name_tree name.entry) (optional_tree value.now)) }
 {
     twice(&names.table, name, least);
-    count_globals(names.counts.globals, name.position, least);
+    limit(MOST_GLOBALS, names.counts.globals, name, least);
     initial(value, file, least)
+}
+
+fn attribute(names: &Names, name: Name<'_>, least: &mut Option<Breach>)
+    ensures { least.new ≡ noted least.old (spec.attribute_directive_breaches names.now.table.entries names.now.counts (name_tree name.entry)) }
+{
+    twice(&names.table, name, least);
+    limit(MOST_ATTRIBUTES, names.counts.attributes, name, least);
+}
+
+// The default of a property.
+fn property(
+    file: &File,
+    names: &Names,
+    name: Name<'_>,
+    value: &Option<Literal<'_>>,
+    least: &mut Option<Breach>,
+) -> u16
+    ensures value { result ≡ initial_value (file_in file.now) (optional_tree value.now) % 65536 }
+    ensures breaches { least.new ≡ noted least.old (spec.property_directive_breaches file.now.table.entries names.now.table.entries names.now.counts (name_tree name.entry) (optional_tree value.now)) }
+{
+    twice(&names.table, name, least);
+    limit(MOST_PROPERTIES, names.counts.properties, name, least);
+    initial(value, file, least)
+}
+
+fn defined_object<'a>(
+    alloc: Global,
+    file: &File,
+    names: &Names,
+    written: &Object<'a>,
+    least: &mut Option<Breach>,
+) -> Result<CheckedObject<'a>, AllocError>
+    ensures value { IfOk result (λ o. object_of o ≡ object_in (file_in file.now) (object_tree written.now)) }
+    ensures breaches { OnOk result (least.new ≡ noted least.old (spec.object_directive_breaches file.now.table.entries names.now.table.entries names.now.counts (object_tree written.now))) }
+{
+    twice(&names.table, written.name, least);
+    limit(MOST_OBJECTS, names.counts.objects, written.name, least);
+    let made = object(alloc, written, file, least)?;
+    Ok(made)
 }
 
 // A directive that follows those of these names.
@@ -160,6 +217,22 @@ fn directive<'a>(
             array(written, file, &mut found.arrays, least)?;
             Ok(())
         }
+        Directive::Attribute(name) => {
+            attribute(names, *name, least);
+            Ok(())
+        }
+        Directive::Property(name, value) => {
+            found
+                .defaults
+                .push(property(file, names, *name, value, least))?;
+            Ok(())
+        }
+        Directive::Object(written) => {
+            found
+                .objects
+                .push(defined_object(alloc, file, names, written, least)?)?;
+            Ok(())
+        }
         Directive::Routine(written) => {
             twice(&names.table, written.name, least);
             found.routines.push(routine(alloc, file, written, least)?)?;
@@ -183,7 +256,7 @@ fn add_all<'a>(
 {
     for one in directives {
         directive(alloc, file, names, one, found, least)?;
-        names.add(one)?;
+        names.add(&file.table, one)?;
     }
     Ok(())
 }
@@ -207,55 +280,10 @@ pub fn all_directives<'a>(
     let mut found = Found {
         globals: Vec::new(alloc),
         arrays: Arrays::none(alloc),
+        defaults: Vec::new(alloc),
+        objects: Vec::new(alloc),
         routines: Vec::new(alloc),
     };
     add_all(alloc, file, directives, &mut names, &mut found, least)?;
     Ok(found)
-}
-
-// The bytes of the array that a directive defines, if it does.
-fn add_array(file: &File, directive: &Directive<'_>, arrays: &mut Arrays) -> Result<(), AllocError>
-    ensures { OnOk result (arrays.new.bytes.items ≡ arrays.old.bytes.items ++ concat (spec.arrays_of (file_in file.now) (directive_tree directive.now ∷ []))) }
-{
-    match directive {
-        Directive::Array(written) => {
-            let mut least = None;
-            array(written, file, arrays, &mut least)
-        }
-        Directive::Global(_, _) => Ok(()),
-        Directive::Constant(_, _) => Ok(()),
-        Directive::Routine(_) => Ok(()),
-    }
-}
-
-// The bytes of the arrays that directives define.
-fn add_arrays(
-    file: &File,
-    directives: &[Directive<'_>],
-    arrays: &mut Arrays,
-) -> Result<(), AllocError>
-    ensures { OnOk result (arrays.new.bytes.items ≡ arrays.old.bytes.items ++ concat (spec.arrays_of (file_in file.now) (map directive_tree directives.now))) }
-{
-    for one in directives {
-        add_array(file, one, arrays)?;
-    }
-    Ok(())
-}
-
-/// How many bytes the arrays have that directives define, in a file of these names and numbers.
-///
-/// # Errors
-///
-/// `AllocError` where memory is refused.
-pub fn bytes_of_arrays(
-    alloc: Global,
-    file: &File,
-    directives: &[Directive<'_>],
-) -> Result<usize, AllocError>
-    ensures bytes { IfOk result (λ n. n ≡ length (concat (spec.arrays_of (file_in file.now) (map directive_tree directives.now)))) }
-    ensures few { IfOk result (λ n. n < 2 ^ 63) }
-{
-    let mut arrays = Arrays::none(alloc);
-    add_arrays(file, directives, &mut arrays)?;
-    Ok(arrays.bytes.len())
 }

@@ -103,7 +103,7 @@ pub record ReadsAlike (number : ℕ → ℕ) (memory : List ℕ) (base : ℕ) (a
     pub stands : Stands
         (turn.with_line memory (base + offset_in arrays t) (base + offset_in arrays p)
         (letters_for memory (base + offset_in arrays t) line)) base (concat (with_line number t p line arrays))
-    pub kept : KeepsOutside base (static_base_of memory) memory
+    pub kept : KeepsOutside base (base + length (concat arrays)) memory
         (turn.with_line memory (base + offset_in arrays t) (base + offset_in arrays p)
         (letters_for memory (base + offset_in arrays t) line))
 
@@ -147,10 +147,10 @@ module _ (number : ℕ → ℕ) (memory : List ℕ) (base : ℕ) (arrays : List 
   read_alike line =
       let text = array_at arrays t in
       let parse = array_at arrays p in
-      let to = static_base_of memory in
+      let to = base + length (concat arrays) in
       let letters = letters_for text 0 line in
       let bytes = words_bytes number (words_for parse letters) in
-      let first = writes_array memory base to arrays t (length letters ∷ letters) b.stands b.dynamic b.text
+      let first = writes_array memory base to arrays t (length letters ∷ letters) b.stands (omega arith) b.text
       (omega (arith, few_letters text line, text_room)) in
       let after = with_bytes text 1 (length letters ∷ letters) in
       let next = set arrays t after in
@@ -158,7 +158,7 @@ module _ (number : ℕ → ℕ) (memory : List ℕ) (base : ℕ) (arrays : List 
       let place : offset_in next p ≡ offset_in arrays p =
       offset_same arrays t p after (length_bytes text 1 (length letters ∷ letters)) in
       let middle = with_letters memory (base + offset_in arrays t) letters in
-      let second = writes_array middle base to next p bytes first.stands (omega (arith, first.size, b.dynamic))
+      let second = writes_array middle base to next p bytes first.stands (omega (arith, first.size))
       (omega (arith, b.parse, length-set arrays t after))
       (omega (
         arith,

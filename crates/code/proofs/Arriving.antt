@@ -18,6 +18,7 @@ use Rattle.items.specs.Items.{Item}
 use Rattle.items.specs.Stack.{Caller}
 use Rattle.items.specs.Stack as stack
 use Rattle.code.proofs.Behind.{Holds}
+use Rattle.meaning.specs.Objects.{Objects}
 use Rattle.code.specs.Addresses.{Addresses}
 use Rattle.code.specs.Instructions.{item_code}
 use Rattle.code.specs.Bytes.{text_bytes, item_bytes, place_of, offset_of}
@@ -84,9 +85,10 @@ module _ (story : List ℕ) (a : Addresses) (p : ProgramOf) (accepted : IsAccept
           unpacked_low (nat_eq (slice_index story 0) 8) (slice_index a.routines r) routine.word,
         )
 
-    pub ground_is : (m globals : List ℕ) (arrays : List (List ℕ)) → Stored story a globals arrays m
+    pub ground_is : (m globals : List ℕ) (arrays : List (List ℕ)) (objects : Objects)
+        → Stored story a p globals arrays objects m
         → Ground (static_base_of story) m
-    ground_is m globals arrays stored =
+    ground_is m globals arrays objects stored =
         let b = stored.header 12 (omega arith) in
         let c = stored.header 13 (omega arith) in
         let same : globals_of m ≡ globals_of story =
@@ -172,7 +174,7 @@ module _ (c : Running) where
     pub followed : address story a p routine (place + 1) < length m
 
   pub ground : Ground (static_base_of story) m
-  ground = ground_is story a p accepted holds m world.globals world.arrays good.stored
+  ground = ground_is story a p accepted holds m world.globals world.arrays world.objects good.stored
 
   pub high : static_base_of story ≤ here
   high = address_high story a p accepted holds routine place good.known
@@ -206,7 +208,8 @@ module _ (c : Running) where
   -- The machine comes to the next item, with room on its stack, or where there is room
   pub arrives_with : (chosen : Option ℕ) (before after m1 : List ℕ) (situation : Situation) (end : ℕ)
       → IsChosen story m1 chosen → end ≡ address story a p routine (place + 1) → length after ≤ 48
-      → Stored story a situation.world.globals situation.world.arrays m1 → length situation.locals ≡ length locals
+      → Stored story a p situation.world.globals situation.world.arrays situation.world.objects m1
+      → length situation.locals ≡ length locals
       → length situation.world.globals ≡ length world.globals
       → map length situation.world.arrays ≡ map length world.arrays
       → Leads (point here world.fuel) (at_words around m locals before world.text) (point end situation.world.fuel)
@@ -241,7 +244,8 @@ module _ (c : Running) where
 
   pub arrives_on : (before after m1 : List ℕ) (situation : Situation) (end : ℕ)
       → end ≡ address story a p routine (place + 1) → length after ≤ 48
-      → Stored story a situation.world.globals situation.world.arrays m1 → length situation.locals ≡ length locals
+      → Stored story a p situation.world.globals situation.world.arrays situation.world.objects m1
+      → length situation.locals ≡ length locals
       → length situation.world.globals ≡ length world.globals
       → map length situation.world.arrays ≡ map length world.arrays
       → Leads (point here world.fuel) (at_words around m locals before world.text) (point end situation.world.fuel)
@@ -260,7 +264,8 @@ module _ (c : Running) where
 
   pub arrives : (before after m1 : List ℕ) (situation : Situation) (end : ℕ)
       → end ≡ address story a p routine (place + 1)
-      → Stored story a situation.world.globals situation.world.arrays m1 → length situation.locals ≡ length locals
+      → Stored story a p situation.world.globals situation.world.arrays situation.world.objects m1
+      → length situation.locals ≡ length locals
       → length situation.world.globals ≡ length world.globals
       → map length situation.world.arrays ≡ map length world.arrays
       → Leads (point here world.fuel) (at_words around m locals before world.text) (point end situation.world.fuel)

@@ -157,7 +157,8 @@ module _ (c : Running) where
         };
         some = branching_some op (operands os);
         taken = t.values world.text;
-        branches = kinds.does;
+        branches = λ when offset from after.
+            kinds.does when offset from after (at_words (around c) t.memory locals rest world.text);
       }
 
       next : next_place c ≡ q + length (flat_map bytes_of (labelled op (operands os) when (2 + d)))

@@ -209,15 +209,18 @@ module _ (c : Running) where
         let there = subst (λ b. Leads (point (here c) world.fuel) (at_words (around c) m locals before world.text)
         (point (if b then q + 18 else q + 14) world.fuel) st) e tested in
         fails_led c causes.NotACharacter (fault_address a causes.NotACharacter) (q + 14) before mid other
-        (λ _ situation. stack.goes (stack.after (at c before) mid situation)) (cause_line causes.NotACharacter) (holds.faults causes.NotACharacter)
+        (λ _ situation. stack.goes (stack.after (at c before) mid situation)) (cause_line causes.NotACharacter)
+        (holds.faults causes.NotACharacter)
         (omega (arith, from)) scratch parts.fault there
 
   -- a number is printed, or is none of a character
   number_led : (b : Bool) (n : ℕ) (s : List ℕ) → is_character n ≡ b → length s ≤ 48
       → Holds m (here c) (flat_map bytes_of (if b
-      then plain operations.PrintCharacter (in_place (items.number n) ∷ []) ∷ [] else fail (fault_address a causes.NotACharacter)))
+      then plain operations.PrintCharacter (in_place (items.number n) ∷ []) ∷ [] else fail
+      (fault_address a causes.NotACharacter)))
       → here c + length (flat_map bytes_of (if b
-      then plain operations.PrintCharacter (in_place (items.number n) ∷ []) ∷ [] else fail (fault_address a causes.NotACharacter)))
+      then plain operations.PrintCharacter (in_place (items.number n) ∷ []) ∷ [] else fail
+      (fault_address a causes.NotACharacter)))
       ≡ next_place c
       → LedFrom c s (stack.prints (if b then put (transcribed n) else source.fault causes.NotACharacter) s
       (at c s))
@@ -237,7 +240,8 @@ module _ (c : Running) where
       (transcribed n) (append-nil (transcribed n)) room))
   number_led false n s e short h end =
       fails_led c causes.NotACharacter (fault_address a causes.NotACharacter) (here c) s s m
-      (λ _ situation. stack.goes (stack.after (at c s) s situation)) (cause_line causes.NotACharacter) (holds.faults causes.NotACharacter)
+      (λ _ situation. stack.goes (stack.after (at c s) s situation)) (cause_line causes.NotACharacter)
+      (holds.faults causes.NotACharacter)
       (omega arith)
       (scratch_here c) h
       (stays (point (here c) world.fuel) (at_words (around c) m locals s world.text))

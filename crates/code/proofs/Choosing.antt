@@ -70,7 +70,8 @@ module _ (c : Running) where
       → word_at other (globals_of story + 478) ≡ word_of other chosen_variable
   last_same other scratch =
       ap (λ g. word_at other (g + 478))
-      (sym (same_globals story a world.globals world.arrays other scratch.ground (few c) scratch.stored))
+      (sym (same_globals story a p world.globals world.arrays world.objects other scratch.ground (few c)
+      scratch.stored))
 
   -- The word is kept
 
@@ -192,7 +193,7 @@ module _ (c : Running) where
         some = branching_some op os;
         taken = values_then st st st (Variable chosen_variable) (map constant ns) v ns
             (variable_value (around c) m locals words world.text chosen_variable v reads) (constants_value st ns);
-        branches = kinds.does;
+        branches = λ when offset from after. kinds.does when offset from after st;
       }
 
       next : next_place c ≡ here c + length (flat_map bytes_of (labelled op os when (2 + d)))

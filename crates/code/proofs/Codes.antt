@@ -14,7 +14,7 @@ use Rattle.items.specs.declared.item.Item as code
 use Rattle.items.specs.Items.{Item}
 use Rattle.items.specs.Items as items
 use Rattle.items.specs.Code.{item_of, items_of}
-use Rattle.code.specs.Addresses.{Addresses}
+use Rattle.code.specs.Addresses.{Addresses, Sizes}
 use Rattle.code.specs.Bytes.{item_bytes, no_addresses, target_of, least_size, label_size, part_of, parts_of, lefts_of}
 use Rattle.code.specs.Bytes.{place_of, offset_of, items_bytes, code_bytes, code_size}
 use Rattle.code.specs.Written.{CodeOf, place_in, branch_offsets}
@@ -60,8 +60,8 @@ parts_on ps ps1 x y rest more total last same is all =
     ap (λ l. l ++ rest) last ∙ append_assoc ps (x ∷ []) rest ∙ ap (λ (q : Part). ps ++ q ∷ rest) same
     ∙ ap (λ l. ps ++ l) (sym is) ∙ all
 
--- where arrays have these sizes
-module _ (sizes : List ℕ) where
+-- of a program of these sizes
+module _ (sizes : Sizes) where
   abbrev pub least_sum : List Item → ℕ
   least_sum [] = 0
   least_sum (i ∷ is) = least_size sizes i + least_sum is
@@ -180,6 +180,18 @@ module _ (sizes : List ℕ) where
           ap (λ k. k ∷ map (λ (u : BranchUse). u.offset) (uses (n + 1) (parts_of sizes is)))
           (sym (branch_offset sizes all (lefts (n + 1) (parts_of sizes is)) n target rest))
           ∙ ap (λ ks. offset_of (place_of sizes all) n (items.branch test os when target) ∷ ks) more
+      go (items.is_in o q when target) rest more =
+          ap (λ k. k ∷ map (λ (u : BranchUse). u.offset) (uses (n + 1) (parts_of sizes is)))
+          (sym (branch_offset sizes all (lefts (n + 1) (parts_of sizes is)) n target rest))
+          ∙ ap (λ ks. offset_of (place_of sizes all) n (items.is_in o q when target) ∷ ks) more
+      go (items.has o a when target) rest more =
+          ap (λ k. k ∷ map (λ (u : BranchUse). u.offset) (uses (n + 1) (parts_of sizes is)))
+          (sym (branch_offset sizes all (lefts (n + 1) (parts_of sizes is)) n target rest))
+          ∙ ap (λ ks. offset_of (place_of sizes all) n (items.has o a when target) ∷ ks) more
+      go (items.provides o q when target) rest more =
+          ap (λ k. k ∷ map (λ (u : BranchUse). u.offset) (uses (n + 1) (parts_of sizes is)))
+          (sym (branch_offset sizes all (lefts (n + 1) (parts_of sizes is)) n target rest))
+          ∙ ap (λ ks. offset_of (place_of sizes all) n (items.provides o q when target) ∷ ks) more
       go (items.case test ns when target) rest more =
           ap (λ k. k ∷ map (λ (u : BranchUse). u.offset) (uses (n + 1) (parts_of sizes is)))
           (sym (branch_offset sizes all (lefts (n + 1) (parts_of sizes is)) n target rest))

@@ -1,5 +1,6 @@
 -- A look-up in memory that keeps a story's static part finds what one in the story finds: a word.
-use Rattle.std.proofs.Common.{◌≡◌, ℕ, zero, suc, ◌+◌, ◌-◌, ◌*◌, ◌==◌, ◌<◌, ◌≤◌, Bool, true, false, cond, List, take, drop, slice_index, refl, sym, ap}
+use Rattle.std.proofs.Common.{◌≡◌, ℕ, zero, suc, ◌+◌, ◌-◌, ◌*◌, ◌==◌, ◌<◌, ◌≤◌, Bool, true, false, cond, List, take}
+use Rattle.std.proofs.Common.{drop, slice_index, refl, sym, ap}
 use Rattle.std.proofs.Common.{◌∙◌, arith}
 use Rattle.std.specs.Prelude.{if◌then◌else◌}
 use Rattle.std.proofs.Math.Nat.{suc-mul}
@@ -9,7 +10,7 @@ use Rattle.zcore.specs.Bytes.{word_at}
 use Rattle.zcore.specs.Header.{key_at, first_entry, entry_length_of, entry_count, IsDictionary}
 use Rattle.zcore.specs.Dictionary.{entry_in, entry_of}
 use Rattle.zcore.specs.Parsing.{separators_of}
-use Rattle.code.proofs.Memory.{same_on}
+use Rattle.code.proofs.Regions.{same_on}
 
 -- an entry stands before the end of all
 

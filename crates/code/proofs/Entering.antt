@@ -22,6 +22,7 @@ use Rattle.meaning.specs.Accepted.{IsAccepted}
 use Rattle.items.specs.Items.{routine_items}
 use Rattle.items.specs.Stack.{Caller}
 use Rattle.items.specs.Stack as stack
+use Rattle.meaning.specs.Objects.{Objects}
 use Rattle.code.specs.Addresses.{Addresses}
 use Rattle.code.specs.Bytes.{code_bytes}
 use Rattle.code.specs.HeldProgram.{sizes_of, HoldsProgram}
@@ -141,10 +142,10 @@ module _ (memory : List ℕ) (frames : List Frame) (text : List ℕ) (packed cou
 module _ (story : List ℕ) (a : Addresses) (p : ProgramOf) (accepted : IsAccepted p) (holds : HoldsProgram story a p)
   where
     -- the machine counts packed addresses in the story's way
-    pub same_place : (globals memory : List ℕ) (arrays : List (List ℕ)) (packed : ℕ)
-        → Stored story a globals arrays memory
+    pub same_place : (globals memory : List ℕ) (arrays : List (List ℕ)) (objects : Objects) (packed : ℕ)
+        → Stored story a p globals arrays objects memory
         → unpacked memory packed ≡ unpacked story packed
-    same_place globals memory arrays packed stored =
+    same_place globals memory arrays objects packed stored =
         ap (λ (b : ℕ). (if nat_eq b 8 then 8 else 4) * packed) (stored.header 0 (omega arith))
 
     frames_count : (callers : List Caller) (counts : List ℕ)
@@ -152,16 +153,16 @@ module _ (story : List ℕ) (a : Addresses) (p : ProgramOf) (accepted : IsAccept
     frames_count [] counts = refl
     frames_count (c ∷ callers) counts = ap suc (frames_count callers (other_counts counts))
 
-    pub callable : (globals memory : List ℕ) (arrays : List (List ℕ)) (callers : List Caller) (counts : List ℕ)
-        (r : ℕ)
-        → r < length p.routines → Stored story a globals arrays memory → All (IsCaller story a p) callers
+    pub callable : (globals memory : List ℕ) (arrays : List (List ℕ)) (objects : Objects) (callers : List Caller)
+        (counts : List ℕ) (r : ℕ)
+        → r < length p.routines → Stored story a p globals arrays objects memory → All (IsCaller story a p) callers
         → length callers ≤ 1000
         → Callable memory (frames_of story a p callers counts) (slice_index a.routines r)
         (routine_at p.routines r).locals
-    callable globals memory arrays callers counts r known stored all few =
+    callable globals memory arrays objects callers counts r known stored all few =
         let h = holds.routines r known in
         let packed = slice_index a.routines r in
-        let is = same_place globals memory arrays packed stored in
+        let is = same_place globals memory arrays objects packed stored in
         let there : Holds memory (unpacked story packed)
         ((routine_at p.routines r).locals ∷ code_bytes (sizes_of p) a (routine_items (routine_at p.routines r))) =
         holds_on (static_base_of story) (unpacked story packed) story memory _ stored.kept h.above h.bytes in
@@ -181,8 +182,8 @@ module _ (story : List ℕ) (a : Addresses) (p : ProgramOf) (accepted : IsAccept
     -- A call whose caller waits already: the limit of calls, then the unit, and then the routine begins.
     pub enter_led : (full pc : ℕ) (begin : State) (memory counts : List ℕ) (r : ℕ) (arguments : List ℕ)
         (callers : List Caller) (s : Situation)
-        → r < length p.routines → Stored story a s.world.globals s.world.arrays memory
-        → length s.world.globals ≡ length p.globals → map length s.world.arrays ≡ sizes_of p
+        → r < length p.routines → Stored story a p s.world.globals s.world.arrays s.world.objects memory
+        → length s.world.globals ≡ length p.globals → map length s.world.arrays ≡ (sizes_of p).arrays
         → All (IsCaller story a p) callers → length callers ≤ 1000
         → step (point pc s.world.fuel) begin
         ≡ call_packed (point pc s.world.fuel) (back_of story a p callers) (result_of story a p callers)
@@ -204,7 +205,7 @@ module _ (story : List ℕ) (a : Addresses) (p : ProgramOf) (accepted : IsAccept
         packed = slice_index a.routines r
 
         can : Callable memory frames packed count
-        can = callable s.world.globals memory s.world.arrays callers counts r known stored all few
+        can = callable s.world.globals memory s.world.arrays s.world.objects callers counts r known stored all few
 
         Called : ℕ → Type 0
         Called fuel = step (point pc fuel) begin ≡ call_packed (point pc fuel) (back_of story a p callers)
@@ -253,7 +254,7 @@ module _ (story : List ℕ) (a : Addresses) (p : ProgramOf) (accepted : IsAccept
             let place : unpacked memory packed + 1 ≡ address story a p r 0 =
             omega (
               arith,
-              same_place s.world.globals memory s.world.arrays packed stored,
+              same_place s.world.globals memory s.world.arrays s.world.objects packed stored,
               starts (sizes_of p) (routine_items (routine_at p.routines r)),
             ) in
             record {

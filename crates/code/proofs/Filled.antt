@@ -1,5 +1,6 @@
 -- A story that holds a program: the law of code speaks of some.
-use Rattle.std.proofs.Common.{◌≡◌, ℕ, zero, suc, ◌+◌, ◌*◌, ◌^◌, ◌<◌, List, [], ◌∷◌, true, refl, arith, slice_index}
+use Rattle.std.proofs.Common.{length, ◌≤◌, ◌≡◌, ℕ, zero, suc, ◌+◌, ◌*◌, ◌^◌, ◌<◌, List, [], ◌∷◌, true, refl, arith}
+use Rattle.std.proofs.Common.{slice_index}
 use Rattle.std.specs.Prelude.{nat_lt, codes}
 use Rattle.std.specs.List.{All, list_all}
 use Rattle.std.proofs.lemmas.Bool.{ltb-true, leb-true}
@@ -17,21 +18,25 @@ use Rattle.meaning.specs.declared.cause.Cause.{Cause}
 use Rattle.meaning.specs.declared.cause.Cause.TheVariants as causes
 use Rattle.meaning.specs.World.{words_of}
 use Rattle.code.specs.Addresses.{fault_address}
-use Rattle.meaning.specs.Accepted.{IsArray, IsPrinted, IsRoutine, IsAccepted}
+use Rattle.meaning.specs.Accepted.{IsArray, IsPrinted, IsProperty, IsObject, IsRoutine, IsAccepted}
+use Rattle.meaning.specs.Objects.{ObjectOf, object_at}
 use Rattle.meaning.specs.Meaning.{routine_at}
 use Rattle.items.specs.Laws.{ItemsFollow, ItemsAreWithin}
 use Rattle.code.specs.Laws.{Plays}
 use Rattle.lexer.specs.Printable.{IsPrintable}
-use Rattle.meaning.specs.Printable.{IsPrintableItem, HasPrintableTexts}
+use Rattle.meaning.specs.Printable.{IsPrintableItem, IsPrintableRoutine, HasPrintableTexts}
+use Rattle.region.specs.Laws.{HoldsRows}
 use Rattle.code.specs.HeldProgram.{sizes_of, offset_in, HoldsRoutine, HoldsText, HoldsProgram, fault_line}
 use Rattle.code.proofs.Leading.{code_plays_by}
-use Rattle.code.proofs.Stories.{a, table, main, sum_of_two, program, story, greeting, count_down, quotient_of_seven}
+use Rattle.code.proofs.Stories.{a, table, main, sum_of_two, defaults, box, ball, objects, program, story}
+use Rattle.code.proofs.Stories.{greeting, count_down}
+use Rattle.code.proofs.Stories.{quotient_of_seven}
 
 -- bytes that pass a test one by one
 small_by : (bytes : List ℕ) → list_all (λ b. nat_lt b 256) bytes ≡ true → All (λ b. b < 256) bytes
 small_by bytes e k d h = ltb-true _ _ (AllPass-from_list_all (λ b. nat_lt b 256) bytes e k d h)
 
-main_held : HoldsRoutine story (sizes_of program) a 270 main
+main_held : HoldsRoutine story (sizes_of program) a 314 main
 unfolding bytes_of encoded packed spelling_of
 main_held = record {
   bytes = refl;
@@ -42,7 +47,7 @@ main_held = record {
   short = leb-true _ _ refl;
 }
 
-sum_held : HoldsRoutine story (sizes_of program) a 310 sum_of_two
+sum_held : HoldsRoutine story (sizes_of program) a 354 sum_of_two
 unfolding bytes_of encoded packed spelling_of
 sum_held = record {
   bytes = refl;
@@ -80,10 +85,10 @@ only_array zero h = refl
 only_array (suc n) h = absurd (omega (arith, h))
 
 -- the dictionary has no entry
-dictionary_held : ReadsKeys story 868 []
+dictionary_held : ReadsKeys story 909 []
 unfolding bytes_of encoded packed spelling_of entry_of
 dictionary_held =
-    let none : entry_count story 868 ≡ 0 = refl in
+    let none : entry_count story 909 ≡ 0 = refl in
     record {
       dictionary = record {
         whole = leb-true _ _ refl;
@@ -94,6 +99,48 @@ dictionary_held =
       separators = refl;
       numbers = λ key. refl;
     }
+
+-- its objects stand behind the defaults of properties
+objects_held : HoldsRows story objects defaults
+unfolding bytes_of encoded packed spelling_of
+objects_held = record { stand = refl; above = leb-true _ _ refl; below = leb-true _ _ refl }
+
+words_small : All (λ w. w < 65536) defaults
+words_small k d h = ltb-true _ _ (AllPass-from_list_all (λ w. nat_lt w 65536) defaults refl k d h)
+
+box_accepted : IsObject box 0
+unfolding encoded packed spelling_of
+box_accepted = record {
+  parent = leb-true _ _ refl;
+  name = leb-true _ _ refl;
+  attributes = All-cons (λ (b : ℕ). b < 48) 3 [] (ltb-true _ _ refl) (All-nil (λ (b : ℕ). b < 48));
+  numbers = All-cons (λ (x : ℕ × List ℕ). IsProperty x.0) (5, 7 ∷ []) [] (omega arith, omega arith)
+      (All-nil (λ (x : ℕ × List ℕ). IsProperty x.0));
+  words = All-cons HasWords (5, 7 ∷ []) [] (
+    omega arith,
+    omega arith,
+    All-cons (λ (w : ℕ). w < 65536) 7 [] (ltb-true _ _ refl)
+        (All-nil (λ (w : ℕ). w < 65536)),
+  ) (All-nil HasWords);
+}
+  where
+    HasWords : ℕ × List ℕ → Type 0
+    HasWords x = (1 ≤ length x.1) × (length x.1 ≤ 32) × All (λ w. w < 65536) x.1
+
+ball_accepted : IsObject ball 1
+unfolding encoded packed spelling_of
+ball_accepted = record {
+  parent = leb-true _ _ refl;
+  name = leb-true _ _ refl;
+  attributes = All-nil (λ (b : ℕ). b < 48);
+  numbers = All-nil (λ (x : ℕ × List ℕ). IsProperty x.0);
+  words = λ k d h. absurd (omega (arith, h));
+}
+
+objects_accepted : (k : ℕ) → k < 2 → IsObject (object_at objects (k + 1)) k
+objects_accepted zero h = box_accepted
+objects_accepted (suc zero) h = ball_accepted
+objects_accepted (suc (suc k)) h = absurd (omega (arith, h))
 
 pub held : HoldsProgram story a program
 unfolding bytes_of encoded packed spelling_of
@@ -111,7 +158,8 @@ held = record {
   arrays = refl;
   arrays_each = only_array;
   arrays_above = leb-true _ _ refl;
-  arrays_below = leb-true _ _ refl;
+  objects_above = leb-true _ _ refl;
+  objects = objects_held;
   dictionary_above = leb-true _ _ refl;
   dictionary_there = refl;
   keys = dictionary_held;
@@ -174,16 +222,40 @@ quotient_well : All IsPrintableItem quotient_of_seven
 quotient_well zero d h = tt
 quotient_well (suc k) d h = absurd (omega (arith, h))
 
+routines_printable : All IsPrintableRoutine program.routines
+routines_printable zero d h = (greeting_well, (tt, (tt, ((count_well, (tt, tt)), (quotient_well, tt)))))
+routines_printable (suc zero) d h = (tt, tt)
+routines_printable (suc (suc k)) d h = absurd (omega (arith, h))
+
+box_printable : All IsPrintable (codes "box")
+box_printable zero d h = (omega arith, omega arith)
+box_printable (suc zero) d h = (omega arith, omega arith)
+box_printable (suc (suc zero)) d h = (omega arith, omega arith)
+box_printable (suc (suc (suc k))) d h = absurd (omega (arith, h))
+
+ball_printable : All IsPrintable (codes "ball")
+ball_printable zero d h = (omega arith, omega arith)
+ball_printable (suc zero) d h = (omega arith, omega arith)
+ball_printable (suc (suc zero)) d h = (omega arith, omega arith)
+ball_printable (suc (suc (suc zero))) d h = (omega arith, omega arith)
+ball_printable (suc (suc (suc (suc k)))) d h = absurd (omega (arith, h))
+
+names_printable : All (λ (o : ObjectOf). All IsPrintable o.name) objects
+names_printable zero d h = box_printable
+names_printable (suc zero) d h = ball_printable
+names_printable (suc (suc k)) d h = absurd (omega (arith, h))
+
 printable : HasPrintableTexts program
-printable zero d h = (greeting_well, (tt, (tt, ((count_well, (tt, tt)), (quotient_well, tt)))))
-printable (suc zero) d h = (tt, tt)
-printable (suc (suc k)) d h = absurd (omega (arith, h))
+printable = (routines_printable, names_printable)
 
 -- the program is an accepted one
 accepted : IsAccepted program
 accepted = record {
   globals = leb-true _ _ refl;
   arrays = All-cons IsArray table [] (leb-true _ _ refl) (All-nil IsArray);
+  defaults = (refl, words_small);
+  few = leb-true _ _ refl;
+  objects = objects_accepted;
   routines = All-cons (IsRoutine program) main (sum_of_two ∷ []) main_accepted
       (All-cons (IsRoutine program) sum_of_two [] sum_accepted (All-nil (IsRoutine program)));
   main = ltb-true _ _ refl;

@@ -10,7 +10,7 @@ use Rattle.zcore.specs.Operations.{has_branch}
 use Rattle.zcore.specs.Instruction.{Instruction, opcode_bytes, operand_bytes, result_bytes, branch_bytes, bytes_of}
 use Rattle.zcore.specs.Instruction.{FitsOperand, FitsResult, FitsBranch, IsEncodable}
 use Rattle.code.proofs.Behind.{Holds}
-use Rattle.code.proofs.Memory.{same_on}
+use Rattle.code.proofs.Regions.{same_on}
 use Rattle.code.proofs.Steps.{fits_none, fits_more}
 
 abbrev pub AreBytes : List ℕ → Type 0

@@ -18,12 +18,12 @@ use Rattle.meaning.specs.declared.cause.Cause.TheVariants as causes
 use Rattle.meaning.specs.World.{value_in}
 use Rattle.items.specs.Items as items
 use Rattle.code.specs.Addresses.{fault_address}
-use Rattle.code.specs.Instructions.{branching, constant, pull, fail, number_of, is_entry, tested_index, at_index}
-use Rattle.code.specs.Instructions.{tested_between}
+use Rattle.code.specs.Instructions.{branching, constant, pull, fail, number_of, is_entry, at_index, tested_between}
+use Rattle.code.specs.Instructions.{is_between, at_tested, tests_in, pulled_into, word_in}
 use Rattle.code.proofs.Behind.{Holds, holds_append}
 use Rattle.code.proofs.Play.{Leads}
 use Rattle.code.proofs.Memory.{word_of, with_variable}
-use Rattle.code.proofs.Parts.{machine as at_words, Reads}
+use Rattle.code.proofs.Parts.{machine as at_words, Reads, global_reads}
 use Rattle.code.proofs.Steps.{point, leads_then, one_step, first_held, others_held, two_operands, small_value}
 use Rattle.code.proofs.Steps.{large_value, variable_value, landing}
 use Rattle.code.proofs.SingleSteps.{branch_step}
@@ -31,26 +31,45 @@ use Rattle.code.proofs.Fitting.{Shaped, held_bytes, encodable}
 use Rattle.code.proofs.ItemOperands.{constant_value}
 use Rattle.code.proofs.Arriving.{Running, around, here, high, above, kept, situation_here}
 use Rattle.code.proofs.Variables.{variable_held}
-use Rattle.code.proofs.Temporaries.{Scratch, scratch_with, reads_written, word_unwritten, held_in, pull_temporary}
-use Rattle.code.proofs.Temporaries.{others_held_pull}
+use Rattle.code.proofs.Temporaries.{Scratch, scratch_with, reads_written, word_written, word_unwritten, held_in}
+use Rattle.code.proofs.Temporaries.{pull_temporary, others_held_pull}
 use Rattle.code.proofs.Alone.{Alone, IsOperandHere, next_place}
 
--- which indices the two tests let through
-by_order : (count i : ℕ) → count < 32768 → (i < 32768) ⊎ (32768 ≤ i)
-    → is_entry count i ≡ (not (signed_less i 0) && signed_less i count)
-by_order count i few (inl h) =
-    let e : nat_lt i 32768 ≡ true = lt-ltb i 32768 h in
-    let f : nat_le 32768 i ≡ false = lt-leb 32768 i h in
-    let g : nat_lt i 0 ≡ false = le-ltb i 0 (omega arith) in
-    let k : nat_le 32768 count ≡ false = lt-leb 32768 count few in
-    rw (e, f, g, k) refl
-by_order count i few (inr h) =
-    let e : nat_lt i 32768 ≡ false = le-ltb i 32768 h in
-    let f : nat_le 32768 i ≡ true = le-leb 32768 i h in
+-- which numbers the two tests let through
+ordered : (low i : ℕ) → (i < low) ⊎ (low ≤ i) → nat_le low i ≡ not (nat_lt i low)
+ordered low i (inl h) =
+    let e : nat_le low i ≡ false = lt-leb low i h in
+    let f : nat_lt i low ≡ true = lt-ltb i low h in
+    rw (e, f) refl
+ordered low i (inr h) =
+    let e : nat_le low i ≡ true = le-leb low i h in
+    let f : nat_lt i low ≡ false = le-ltb i low h in
     rw (e, f) refl
 
-entry_tests : (count i : ℕ) → count < 32768 → is_entry count i ≡ (not (signed_less i 0) && signed_less i count)
-entry_tests count i few = by_order count i few (cases_lt i 32768)
+by_order : (low end i : ℕ) → low < 32768 → end < 32768 → (i < 32768) ⊎ (32768 ≤ i)
+    → is_between low end i ≡ (not (signed_less i low) && signed_less i end)
+by_order low end i small few (inl h) =
+    let e : nat_lt i 32768 ≡ true = lt-ltb i 32768 h in
+    let f : nat_le 32768 i ≡ false = lt-leb 32768 i h in
+    let g : nat_le low i ≡ not (nat_lt i low) = ordered low i (cases_lt i low) in
+    let k : nat_le 32768 low ≡ false = lt-leb 32768 low small in
+    let l : nat_le 32768 end ≡ false = lt-leb 32768 end few in
+    rw (e, f, g, k, l) refl
+by_order low end i small few (inr h) =
+    let e : nat_lt i 32768 ≡ false = le-ltb i 32768 h in
+    let f : nat_le 32768 i ≡ true = le-leb 32768 i h in
+    let k : nat_le 32768 low ≡ false = lt-leb 32768 low small in
+    rw (e, f, k) refl
+
+pub between_tests : (low end i : ℕ) → low < 32768 → end < 32768
+    → is_between low end i ≡ (not (signed_less i low) && signed_less i end)
+between_tests low end i small few = by_order low end i small few (cases_lt i 32768)
+
+-- an index is a number from 0 on
+pub entry_between : (count i : ℕ) → is_between 0 count i ≡ is_entry count i
+entry_between count i =
+    let e : nat_le 0 i ≡ true = le-leb 0 i (omega arith) in
+    rw e refl
 
 module _ (c : Running) where
   open c use {story, a, p, accepted, holds, full, m, count, counts, routine, place, callers, locals, world, good}
@@ -74,6 +93,10 @@ module _ (c : Running) where
     pub end : reached.q + length (flat_map bytes_of (act operand)) ≡ next_place c
     pub value : operand_value operand (at_words (around c) reached.memory locals rest world.text)
         ≡ done i (at_words (around c) reached.memory locals rest world.text)
+    -- and it is the same word where other variables of the compiler differ
+    pub stays : (memory words : List ℕ) → Scratch c memory → word_of memory 248 ≡ word_of reached.memory 248
+        → operand_value operand (at_words (around c) memory locals words world.text)
+        ≡ done i (at_words (around c) memory locals words world.text)
 
   -- two tests of 4 and as many bytes as the fault is away
   tests_lead : (below within : Bool) (st : State) (q away : ℕ)
@@ -86,6 +109,14 @@ module _ (c : Running) where
       leads_then (point q world.fuel) (point (q + 4) world.fuel) (point (q + 4 + away + 4) world.fuel) st st st e f
   tests_lead false false st q away e f =
       leads_then (point q world.fuel) (point (q + 4) world.fuel) (point (q + 4 + away) world.fuel) st st st e f
+
+  -- what was written to the first of the compiler's variables, where others differ
+  pub reads_still : (other : List ℕ) (v : ℕ) → Scratch c other → (memory : List ℕ) → Scratch c memory
+      → word_of memory 248 ≡ word_of (with_variable other 248 v) 248 → Reads (around c) memory locals 248 v
+  reads_still other v scratch memory still same =
+      subst (λ x. Reads (around c) memory locals 248 x)
+      (same ∙ word_written c other 248 v scratch (omega arith) (omega arith))
+      (global_reads (around c) memory locals 248 (omega arith) (omega arith))
 
   -- what is done with a word that is between two numbers, and else a fault
   abbrev pub Tested : Cause → Bool → ℕ → List ℕ → List ℕ → List ℕ → (Operand → List Instruction) → Type 0
@@ -101,6 +132,8 @@ module _ (c : Running) where
       (before rest other : List ℕ)
       (r : Reached before rest other (tested_between a cause low number variable ++ act (Variable variable)))
       (reads : Reads (around c) r.memory locals variable i)
+      (still : (memory : List ℕ) → Scratch c memory → word_of memory 248 ≡ word_of r.memory 248
+      → Reads (around c) memory locals variable i)
       (end : r.q + length (flat_map bytes_of (tested_between a cause low number variable ++ act (Variable variable)))
       ≡ next_place c) (followed : next_place c < length m) where
     abbrev fault_code : List Instruction
@@ -219,6 +252,8 @@ module _ (c : Running) where
       };
       end = omega (arith, size, t.size);
       value = variable_value (around c) r.memory locals rest world.text variable i reads;
+      stays = λ memory words scratch same.
+          variable_value (around c) memory locals words world.text variable i (still memory scratch same);
     }
     tested_by small away t size false e = record {
       memory = r.memory;
@@ -242,31 +277,35 @@ module _ (c : Running) where
         go true h size b e = tested_by true 4 (small_tested h size) size b e
         go false h size b e = tested_by false 6 (large_tested h size) size b e
 
-  -- an index in a variable
-  at_entry : (variable i number : ℕ) → number < 32768 → (act : Operand → List Instruction)
+  -- a word in a variable, which is to be one of those
+  in_variable : (cause : Cause) (low end variable i : ℕ) → low < 32768 → end < 32768
+      → (act : Operand → List Instruction)
       → (before rest other : List ℕ)
-      → (r : Reached before rest other (tested_index a number variable ++ act (Variable variable)))
+      → (r : Reached before rest other (tested_between a cause low end variable ++ act (Variable variable)))
       → Reads (around c) r.memory locals variable i
-      → r.q + length (flat_map bytes_of (tested_index a number variable ++ act (Variable variable))) ≡ next_place c
-      → next_place c < length m → Indexed (is_entry number i) i before rest other act
-  at_entry variable i number few act before rest other r reads end followed =
-      subst (λ b. Indexed b i before rest other act) (sym (entry_tests number i few))
-      (tested causes.IndexOutOfRange 0 variable i number act before rest other r reads end followed)
+      → ((memory : List ℕ) → Scratch c memory → word_of memory 248 ≡ word_of r.memory 248
+      → Reads (around c) memory locals variable i)
+      → r.q + length (flat_map bytes_of (tested_between a cause low end variable ++ act (Variable variable)))
+      ≡ next_place c
+      → next_place c < length m → Tested cause (is_between low end i) i before rest other act
+  in_variable cause low end variable i small few act before rest other r reads still size followed =
+      subst (λ b. Tested cause b i before rest other act) (sym (between_tests low end i small few))
+      (tested cause low variable i end act before rest other r reads still size followed)
 
-  -- an index that stands in place of its tests
-  number_tested : (number n : ℕ) (act : Operand → List Instruction) (before rest other : List ℕ) (b : Bool)
-      → (r : Reached before rest other
-      (if b then act (constant n) else fail (fault_address a causes.IndexOutOfRange)))
-      → r.q + length (flat_map bytes_of
-      (if b then act (constant n) else fail (fault_address a causes.IndexOutOfRange))) ≡ next_place c
-      → Indexed b n before rest other act
-  number_tested number n act before rest other true r end = record {
+  -- a number that stands in place of its tests
+  number_tested : (cause : Cause) (n : ℕ) (act : Operand → List Instruction) (before rest other : List ℕ) (b : Bool)
+      → (r : Reached before rest other (if b then act (constant n) else fail (fault_address a cause)))
+      → r.q + length (flat_map bytes_of (if b then act (constant n) else fail (fault_address a cause)))
+      ≡ next_place c
+      → Tested cause b n before rest other act
+  number_tested cause n act before rest other true r end = record {
     operand = constant n;
     reached = r;
     end = end;
     value = constant_value (at_words (around c) r.memory locals rest world.text) n;
+    stays = λ memory words scratch same. constant_value (at_words (around c) memory locals words world.text) n;
   }
-  number_tested number n act before rest other false r end = r
+  number_tested cause n act before rest other false r end = r
 
   -- an index that is pushed goes to a variable of the compiler
   pulled : (is : List Instruction) (before mid other : List ℕ) (v : ℕ) (rest : List ℕ) → mid ≡ v ∷ rest
@@ -296,26 +335,75 @@ module _ (c : Running) where
             (omega (arith, low)) (λ f. omega (arith, f, low)) ∙ r.unwritten x low small;
       }
 
+  -- a word in any place, which is to be one of those from one number on and below another
+  pub between : (cause : Cause) (low end : ℕ) (o : items.Operand) (act : Operand → List Instruction)
+      (before mid other : List ℕ) (v : ℕ) (rest : List ℕ) → low < 32768 → end < 32768 → IsOperandHere c o
+      → Alone o (situation_here c) mid v rest
+      → (r : Reached before mid other (at_tested a cause low end o act))
+      → r.q + length (flat_map bytes_of (at_tested a cause low end o act)) ≡ next_place c → next_place c < length m
+      → Tested cause (is_between low end v) v before rest other act
+  unfolding bytes_of pulled
+  between cause low end items.pushed act before mid other v rest small few is alone r size followed =
+      let code = tested_between a cause low end 248 ++ act (Variable 248) in
+      let next = pulled code before mid other v rest alone r in
+      in_variable cause low end 248 v small few act before rest other next
+      (reads_written c r.memory 248 v r.scratch (omega arith) (omega arith))
+      (reads_still r.memory v r.scratch) (omega (arith, size)) followed
+  between cause low end (items.number n) act before mid other v rest small few is alone r size followed =
+      subst (λ (x : ℕ). Tested cause (is_between low end x) x before rest other act) alone.0
+      (subst (λ ws. Tested cause (is_between low end n) n before ws other act) alone.1
+      (number_tested cause n act before mid other (is_between low end n) r size))
+  between cause low end (items.variable x) act before mid other v rest small few is alone r size followed =
+      subst (λ (i : ℕ). Tested cause (is_between low end i) i before rest other act) alone.0
+      (subst (λ ws. Tested cause (is_between low end (value_in x (situation_here c))) (value_in x (situation_here c))
+      before ws other act) alone.1
+      (in_variable cause low end (number_of x) (value_in x (situation_here c)) small few act before mid other r
+      (variable_held c r.memory x r.scratch is).reads
+      (λ memory scratch same. (variable_held c memory x scratch is).reads) size followed))
+
+  -- a number whose tests stand before what is done, which is then behind their fault
+  number_labelled : (cause : Cause) (n : ℕ) (act : Operand → List Instruction) (before rest other : List ℕ) (b : Bool)
+      → (r : Reached before rest other ((if b then [] else fail (fault_address a cause)) ++ act (constant n)))
+      → r.q + length (flat_map bytes_of ((if b then [] else fail (fault_address a cause)) ++ act (constant n)))
+      ≡ next_place c
+      → Tested cause b n before rest other act
+  unfolding bytes_of
+  number_labelled cause n act before rest other true r end = number_tested cause n act before rest other true r end
+  number_labelled cause n act before rest other false r end =
+      let k = fail (fault_address a cause) in
+      record {
+        memory = r.memory;
+        scratch = r.scratch;
+        q = r.q;
+        from = r.from;
+        held = (holds_append m r.q (flat_map bytes_of k) (flat_map bytes_of (act (constant n))) r.held).0;
+        leads = r.leads;
+        unwritten = r.unwritten;
+      }
+
+  -- the same where what is done ends in a branch to a label
+  pub between_labelled : (cause : Cause) (low end : ℕ) (o : items.Operand) (act : Operand → List Instruction)
+      (before mid other : List ℕ) (v : ℕ) (rest : List ℕ) → low < 32768 → end < 32768 → IsOperandHere c o
+      → Alone o (situation_here c) mid v rest
+      → (r : Reached before mid other (pulled_into 0 o ++ (tests_in 0 a cause low end o ++ act (word_in 0 o))))
+      → r.q + length (flat_map bytes_of (pulled_into 0 o ++ (tests_in 0 a cause low end o ++ act (word_in 0 o))))
+      ≡ next_place c → next_place c < length m
+      → Tested cause (is_between low end v) v before rest other act
+  between_labelled cause low end items.pushed act before mid other v rest small few is alone r size followed =
+      between cause low end items.pushed act before mid other v rest small few is alone r size followed
+  between_labelled cause low end (items.number n) act before mid other v rest small few is alone r size followed =
+      subst (λ (x : ℕ). Tested cause (is_between low end x) x before rest other act) alone.0
+      (subst (λ ws. Tested cause (is_between low end n) n before ws other act) alone.1
+      (number_labelled cause n act before mid other (is_between low end n) r size))
+  between_labelled cause low end (items.variable x) act before mid other v rest small few is alone r size followed =
+      between cause low end (items.variable x) act before mid other v rest small few is alone r size followed
+
   -- an index in any place
   pub indexed : (number : ℕ) (o : items.Operand) (act : Operand → List Instruction) (before mid other : List ℕ)
       (v : ℕ) (rest : List ℕ) → number < 32768 → IsOperandHere c o → Alone o (situation_here c) mid v rest
       → (r : Reached before mid other (at_index a number o act))
       → r.q + length (flat_map bytes_of (at_index a number o act)) ≡ next_place c → next_place c < length m
       → Indexed (is_entry number v) v before rest other act
-  unfolding bytes_of pulled
-  indexed number items.pushed act before mid other v rest few is alone r end followed =
-      let code = tested_index a number 248 ++ act (Variable 248) in
-      let next = pulled code before mid other v rest alone r in
-      at_entry 248 v number few act before rest other next
-      (reads_written c r.memory 248 v r.scratch (omega arith) (omega arith)) (omega (arith, end)) followed
-  indexed number (items.number n) act before mid other v rest few is alone r end followed =
-      subst (λ (x : ℕ). Indexed (is_entry number x) x before rest other act) alone.0
-      (subst (λ ws. Indexed (is_entry number n) n before ws other act) alone.1
-      (number_tested number n act before mid other (is_entry number n) r end))
-  indexed number (items.variable x) act before mid other v rest few is alone r end followed =
-      subst (λ (i : ℕ). Indexed (is_entry number i) i before rest other act) alone.0
-      (subst (λ ws. Indexed (is_entry number (value_in x (situation_here c))) (value_in x (situation_here c)) before
-      ws other
-      act) alone.1
-      (at_entry (number_of x) (value_in x (situation_here c)) number few act before mid other r
-      (variable_held c r.memory x r.scratch is).reads end followed))
+  indexed number o act before mid other v rest few is alone r end followed =
+      subst (λ b. Indexed b v before rest other act) (entry_between number v)
+      (between causes.IndexOutOfRange 0 number o act before mid other v rest (omega arith) few is alone r end followed)

@@ -37,7 +37,7 @@ use Rattle.code.proofs.Ends.{does_after, does_halt, prints, prints_part, prints_
 use Rattle.code.proofs.Texts.{number_prints, text_prints, text_read, printable_kept, IsLine, line_read}
 use Rattle.code.proofs.Arriving.{unpacked_low, address_low, Running, at, around, here, LedFrom, Stands, kept}
 use Rattle.code.proofs.Arriving.{code_held, arrives_on, situation_here}
-use Rattle.code.proofs.Temporaries.{Scratch, scratch_here, held_in, made}
+use Rattle.code.proofs.Temporaries.{Scratch, scratch_here, held_in, made, made_at}
 use Rattle.code.proofs.Alone.{by_operand, alone_count, alone_value, IsOperandHere, next_place, single}
 
 -- what a fault puts into the text
@@ -169,50 +169,51 @@ module _ (c : Running) where
   unpacked_same other k scratch = ap (λ b. (if b == 8 then 8 else 4) * k) (scratch.stored.header 0 (omega arith))
 
   -- a fault's line is printed, and the story quits
-  fault_by : {A : Type 0} (cause : Cause) (before mid m1 : List ℕ) (q : ℕ) (next : A → Situation → stack.Next)
-      → Leads (point (here c) world.fuel) (at_words (around c) m locals before world.text) (point q world.fuel)
+  fault_by : {A : Type 0} (cause : Cause) (before mid m1 : List ℕ) (q fuel : ℕ) (next : A → Situation → stack.Next)
+      → Leads (point (here c) world.fuel) (at_words (around c) m locals before world.text) (point q fuel)
       (at_words (around c) m1 locals mid world.text)
       → (nat_le (length (world.text ++ fault_bytes (words_of cause))) 65536 ≡ true
-      → step (point q world.fuel) (at_words (around c) m1 locals mid world.text)
-      ≡ done (point (q + 3) world.fuel) (at_words (around c) m1 locals mid (world.text ++ fault_bytes (words_of cause))))
+      → step (point q fuel) (at_words (around c) m1 locals mid world.text)
+      ≡ done (point (q + 3) fuel) (at_words (around c) m1 locals mid (world.text ++ fault_bytes (words_of cause))))
       → (nat_le (length (world.text ++ fault_bytes (words_of cause))) 65536 ≡ false
-      → step (point q world.fuel) (at_words (around c) m1 locals mid world.text)
+      → step (point q fuel) (at_words (around c) m1 locals mid world.text)
       ≡ halt (places.Limit limits.Text) (at_words (around c) m1 locals mid
       (take 65536 (world.text ++ fault_bytes (words_of cause)))))
       → Holds m1 (q + 3) (bytes_of (plain operations.Quit []))
       → LedFrom c before (stack.after_part (source.fault cause (situation_here c)) next)
-  fault_by {A} cause before mid m1 q next leads fits over_full h =
+  fault_by {A} cause before mid m1 q fuel next leads fits over_full h =
       go (nat_le (length (world.text ++ fault_bytes (words_of cause))) 65536) refl
     where
       go : (b : Bool) → nat_le (length (world.text ++ fault_bytes (words_of cause))) 65536 ≡ b
           → LedFrom c before (stack.after_part (bound (put_by b (fault_bytes (words_of cause))) (λ _. source.ends {A =
           A} places.Quit)) next)
       go true e =
-          does_after full world _ (point (here c) world.fuel) (point q world.fuel)
+          does_after full world _ (point (here c) world.fuel) (point q fuel)
           (at_words (around c) m locals before world.text) (at_words (around c) m1 locals mid world.text) leads
-          (does_after full world _ (point q world.fuel) (point (q + 3) world.fuel)
+          (does_after full world _ (point q fuel) (point (q + 3) fuel)
           (at_words (around c) m1 locals mid world.text)
           (at_words (around c) m1 locals mid (world.text ++ fault_bytes (words_of cause)))
-          (one_step (point q world.fuel) (point (q + 3) world.fuel) (at_words (around c) m1 locals mid world.text)
+          (one_step (point q fuel) (point (q + 3) fuel) (at_words (around c) m1 locals mid world.text)
           (at_words (around c) m1 locals mid (world.text ++ fault_bytes (words_of cause))) (fits e))
-          (quits (around c) m1 locals mid (world.text ++ fault_bytes (words_of cause)) full (q + 3) world.fuel world h))
+          (quits (around c) m1 locals mid (world.text ++ fault_bytes (words_of cause)) full (q + 3) fuel world h))
       go false e =
-          does_after full world _ (point (here c) world.fuel) (point q world.fuel)
+          does_after full world _ (point (here c) world.fuel) (point q fuel)
           (at_words (around c) m locals before world.text) (at_words (around c) m1 locals mid world.text) leads
-          (does_halt full world (point q world.fuel) (at_words (around c) m1 locals mid world.text)
+          (does_halt full world (point q fuel) (at_words (around c) m1 locals mid world.text)
           (at_words (around c) m1 locals mid (take 65536 (world.text ++ fault_bytes (words_of cause))))
           (places.Limit limits.Text)
           refl (over_full e))
 
-  -- where the machine comes to a fault's code, it does what a fault does
-  pub fails_led : {A : Type 0} (cause : Cause) (k q : ℕ) (before mid m1 : List ℕ) (next : A → Situation → stack.Next)
+  -- where the machine comes to a fault's code, it does what a fault does, with whatever fuel
+  pub fails_at : {A : Type 0} (cause : Cause) (k q fuel : ℕ) (before mid m1 : List ℕ)
+      (next : A → Situation → stack.Next)
       → IsLine (words_of cause) → HoldsText story k (fault_line (words_of cause)) → here c ≤ q → Scratch c m1
       → Holds m q (flat_map bytes_of (fail k))
-      → Leads (point (here c) world.fuel) (at_words (around c) m locals before world.text) (point q world.fuel)
+      → Leads (point (here c) world.fuel) (at_words (around c) m locals before world.text) (point q fuel)
       (at_words (around c) m1 locals mid world.text)
       → LedFrom c before (stack.after_part (source.fault cause (situation_here c)) next)
   unfolding bytes_of perform print_packed text_at
-  fails_led cause k q before mid m1 next line text from scratch h leads =
+  fails_at cause k q fuel before mid m1 next line text from scratch h leads =
       let st = at_words (around c) m1 locals mid world.text in
       let i = plain operations.PrintPacked (Large k ∷ []) in
       let quit = plain operations.Quit [] in
@@ -220,19 +221,29 @@ module _ (c : Running) where
       let small = text.word in
       let same = unpacked_same m1 k scratch in
       let kept1 = scratch.kept ∙ kept c in
-      let line_held = holds_on (static_base_of story) (unpacked story k) story m1 (encoded (fault_line (words_of cause))) kept1
+      let line_held = holds_on (static_base_of story) (unpacked story k) story m1
+      (encoded (fault_line (words_of cause))) kept1
       text.above text.bytes in
       let read = line_read (words_of cause) m1 (unpacked m1 k) line
       (subst (λ x. machine_text.Holds m1 x (encoded (fault_line (words_of cause)))) (sym same) line_held)
       (omega (arith, same, unpacked_low (nat_eq (slice_index story 0) 8) k small)) in
       let shaped : Shaped i = record { least = omega arith; most = omega arith; result_fits = tt; branch_fits = tt } in
-      let makes = made c m1 mid mid world.text q i (k ∷ []) scratch from shaped first
+      let makes = made_at c fuel m1 mid mid world.text q i (k ∷ []) scratch from shaped first
       (one_operand st st (Large k) k (large_value st k)) in
       let h2 = held_in c m1 (bytes_of quit) (q + 3) scratch (omega (arith, from))
       (first_held m (q + 3) quit [] (others_held m q i (quit ∷ []) h)) in
-      fault_by cause before mid m1 q next leads
-      (λ e. makes ∙ rw read (prints_on (around c) m1 locals mid world.text (point q world.fuel) (q + 3)
+      fault_by cause before mid m1 q fuel next leads
+      (λ e. makes ∙ rw read (prints_on (around c) m1 locals mid world.text (point q fuel) (q + 3)
       (fault_line (words_of cause)) (fault_bytes (words_of cause)) line.prints e))
-      (λ e. makes ∙ rw read (prints_off (around c) m1 locals mid world.text (point q world.fuel) (q + 3)
+      (λ e. makes ∙ rw read (prints_off (around c) m1 locals mid world.text (point q fuel) (q + 3)
       (fault_line (words_of cause)) (fault_bytes (words_of cause)) line.prints e))
       h2
+
+  pub fails_led : {A : Type 0} (cause : Cause) (k q : ℕ) (before mid m1 : List ℕ) (next : A → Situation → stack.Next)
+      → IsLine (words_of cause) → HoldsText story k (fault_line (words_of cause)) → here c ≤ q → Scratch c m1
+      → Holds m q (flat_map bytes_of (fail k))
+      → Leads (point (here c) world.fuel) (at_words (around c) m locals before world.text) (point q world.fuel)
+      (at_words (around c) m1 locals mid world.text)
+      → LedFrom c before (stack.after_part (source.fault cause (situation_here c)) next)
+  fails_led cause k q before mid m1 next line text from scratch h leads =
+      fails_at cause k q world.fuel before mid m1 next line text from scratch h leads

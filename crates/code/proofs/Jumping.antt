@@ -19,9 +19,9 @@ use Rattle.code.proofs.Behind.{Holds}
 use Rattle.code.specs.Instructions.{plain, jump_offset}
 use Rattle.code.specs.Bytes.{code_size, place_of}
 use Rattle.code.specs.HeldProgram.{sizes_of}
-use Rattle.code.proofs.Play.{items_in, address, base, Good, Led, IsChosen, none_chosen}
+use Rattle.code.proofs.Play.{Leads, stays, items_in, address, base, Good, Led, IsChosen, none_chosen}
 use Rattle.code.proofs.Parts.{Around, machine as at_words}
-use Rattle.code.proofs.Steps.{point, one_step, step_is, fits_one, one_operand, large_value}
+use Rattle.code.proofs.Steps.{point, leads_then, one_step, step_is, fits_one, one_operand, large_value}
 use Rattle.code.proofs.SingleSteps.{jump_step}
 use Rattle.code.proofs.Ends.{does_halt}
 use Rattle.code.proofs.Places.{rises, ends_by, offset_leads}
@@ -33,7 +33,7 @@ module _ (e : Around) (m l s t : List ℕ) (q offset target : ℕ) (fits : offse
     (is : jump_target (q + 3) offset
     ≡ target) (above_header : 64 ≤ target) (behind : target ≤ q) (within : target < length m)
     (h : Holds m q (bytes_of (plain operations.Jump (Large offset ∷ [])))) where
-  back_step : (fuel : ℕ) → step (point q (suc fuel)) (at_words e m l s t)
+  pub back_step : (fuel : ℕ) → step (point q (suc fuel)) (at_words e m l s t)
       ≡ done (point target fuel) (at_words e m l s t)
   unfolding perform jump test_target go spend bytes_of
   back_step fuel =
@@ -53,7 +53,7 @@ module _ (e : Around) (m l s t : List ℕ) (q offset target : ℕ) (fits : offse
       }) h (one_operand st st (Large offset) offset (large_value st offset))
       ∙ rw (is, a, b, c) (rw d (rw g refl))
 
-  back_ends : step (point q 0) (at_words e m l s t) ≡ halt (places.Limit limits.Fuel) (at_words e m l s t)
+  pub back_ends : step (point q 0) (at_words e m l s t) ≡ halt (places.Limit limits.Fuel) (at_words e m l s t)
   unfolding perform jump test_target go spend bytes_of
   back_ends =
       let st = at_words e m l s t in
@@ -114,11 +114,11 @@ module _ (c : Running) where
   }
 
   -- the jump of an item that leads from the next one
-  abbrev offset_to : ℕ → ℕ
+  abbrev pub offset_to : ℕ → ℕ
   offset_to target = jump_offset (place_of (sizes_of p) is_in (place + 1)) (place_of (sizes_of p) is_in target) %
       65536
 
-  abbrev jump_to : ℕ → Instruction
+  abbrev pub jump_to : ℕ → Instruction
   jump_to target = plain operations.Jump (Large (offset_to target) ∷ [])
 
   small_offset : (target : ℕ) → offset_to target < 65536
@@ -138,35 +138,54 @@ module _ (c : Running) where
       (omega (arith, short, ends_by (sizes_of p) is_in (place + 1)))
       (omega (arith, short, ends_by (sizes_of p) is_in target))
 
-  -- a word of a `switch` stays where it is
-  pub jump_led : (target : ℕ) (chosen : Option ℕ) (words : List ℕ) → length words ≤ 48 → IsChosen story m chosen
-      → Stands c (items.jump target) → LedFrom c words (stack.jump_forward target (at_case c chosen words))
-  jump_led target chosen words room kept stands = go (nat_lt place target) refl
+  -- a jump ahead from behind some steps; a word of a `switch` stays where it is
+  pub jumps_led : (q offset target : ℕ) (chosen : Option ℕ) (before words : List ℕ) → length words ≤ 48
+      → IsChosen story m chosen → offset < 65536
+      → jump_target (q + 3) offset ≡ address story a p routine target → here c ≤ q
+      → q < address story a p routine (place + 1) → Holds m q (bytes_of (plain operations.Jump (Large offset ∷ [])))
+      → Leads (point (here c) world.fuel) (at_words (around c) m locals before world.text) (point q world.fuel)
+      (at_words (around c) m locals words world.text)
+      → LedFrom c before (stack.jump_forward target (at_case c chosen words))
+  jumps_led q offset target chosen before words room kept small to from low h leads = go (nat_lt place target) refl
     where
-      there : Single c (jump_to target)
-      there = single c (items.jump target) (jump_to target) refl refl stands
-
       st : State
       st = at_words (around c) m locals words world.text
 
       go : (b : Bool) → nat_lt place target ≡ b
-          → LedFrom c words (if b then stack.goes (record (at_case c chosen words) { place = target })
+          → LedFrom c before (if b then stack.goes (record (at_case c chosen words) { place = target })
           else stack.stuck)
       go false e = tt
       go true e =
-          let before : place < target = ltb-true _ _ e in
-          let up = rises (sizes_of p) is_in (place + 1) target (omega (arith, before)) in
+          let ahead : place < target = ltb-true _ _ e in
+          let up = rises (sizes_of p) is_in (place + 1) target (omega (arith, ahead)) in
           record {
             memory = m;
             count = count;
             counts = counts;
             good = good_there target words chosen world.fuel room kept;
-            leads = one_step (point (here c) world.fuel) (point (address story a p routine target) world.fuel) st st
-                (jump_step (around c) world.fuel m locals words world.text (here c) (offset_to target)
-                (address story a p routine target) (small_offset target)
-                (leads_there target there) (above c) (omega (arith, up, there.end, jump_length (offset_to target)))
-                (target_within target) there.held);
+            leads = leads_then (point (here c) world.fuel) (point q world.fuel)
+                (point (address story a p routine target) world.fuel)
+                (at_words (around c) m locals before world.text) st st leads
+                (one_step (point q world.fuel) (point (address story a p routine target) world.fuel) st st
+                (jump_step (around c) world.fuel m locals words world.text q offset
+                (address story a p routine target) small to (omega (arith, above c, from)) (omega (arith, up, low))
+                (target_within target) h));
           }
+
+  -- where the jump is all that an item does
+  pub jump_alone_led : (target : ℕ) (chosen : Option ℕ) (words : List ℕ) → length words ≤ 48
+      → IsChosen story m chosen
+      → Single c (jump_to target) → LedFrom c words (stack.jump_forward target (at_case c chosen words))
+  jump_alone_led target chosen words room kept there =
+      jumps_led (here c) (offset_to target) target chosen words words room kept (small_offset target)
+      (leads_there target there) (omega arith) (omega (arith, there.end, jump_length (offset_to target))) there.held
+      (stays (point (here c) world.fuel) (at_words (around c) m locals words world.text))
+
+  pub jump_led : (target : ℕ) (chosen : Option ℕ) (words : List ℕ) → length words ≤ 48 → IsChosen story m chosen
+      → Stands c (items.jump target) → LedFrom c words (stack.jump_forward target (at_case c chosen words))
+  jump_led target chosen words room kept stands =
+      jump_alone_led target chosen words room kept
+      (single c (items.jump target) (jump_to target) refl refl stands)
 
   pub back_led : (target : ℕ) (words : List ℕ) → length words ≤ 48 → Stands c (items.back target)
       → LedFrom c words (stack.go_back target (at c words))

@@ -10,7 +10,7 @@ use Rattle.zcore.specs.declared.instruction.Operation.{Operation}
 use Rattle.zcore.specs.declared.instruction.Operation.TheVariants as operations
 use Rattle.zcore.specs.declared.next.Next.{Next}
 use Rattle.zcore.specs.Instruction.{Instruction, bytes_of, IsEncodable}
-use Rattle.zcore.specs.State.{State, done}
+use Rattle.zcore.specs.State.{done}
 use Rattle.zcore.specs.Parts.{operand_values, branch_on, jump_target}
 use Rattle.zcore.specs.Execution.{perform}
 use Rattle.code.proofs.Behind.{Holds}
@@ -18,7 +18,7 @@ use Rattle.code.specs.Instructions.{plain, branching, labelled}
 use Rattle.code.proofs.Play.{Leads, stays}
 use Rattle.code.proofs.Parts.{Around, machine as at_words}
 use Rattle.code.proofs.Steps.{point, leads_then, one_step, first_held, others_held, landing}
-use Rattle.code.proofs.SingleSteps.{branch_step, jump_step}
+use Rattle.code.proofs.SingleSteps.{branch_here_step, jump_step}
 
 jump_length : (offset : ℕ) → length (bytes_of (plain operations.Jump (Large offset ∷ []))) ≡ 3
 unfolding bytes_of
@@ -38,9 +38,9 @@ pub record Branching (e : Around) (m l s s1 t : List ℕ) (op : Operation) (os :
     pub fits : (when : Bool) (offset : ℕ) → offset < 16384 → IsEncodable (branching op os when offset)
     pub some : (when : Bool) (offset : ℕ) → 0 < length (bytes_of (branching op os when offset))
     pub taken : operand_values os (at_words e m l s t) ≡ done values (at_words e m l s1 t)
-    pub branches : (when : Bool) (offset : ℕ) (here : Next) (after : ℕ) (st : State)
-        → perform op here after None (Some (record { when = when; offset = offset })) values st
-        ≡ branch_on here after (Some (record { when = when; offset = offset })) holds st
+    pub branches : (when : Bool) (offset : ℕ) (here : Next) (after : ℕ)
+        → perform op here after None (Some (record { when = when; offset = offset })) values (at_words e m l s1 t)
+        ≡ branch_on here after (Some (record { when = when; offset = offset })) holds (at_words e m l s1 t)
 
 module _ (e : Around) (fuel : ℕ) (m l s s1 t : List ℕ) (q d : ℕ) (op : Operation) (os : List Operand)
     (when holds : Bool) (b : Branching e m l s s1 t op os holds) (above : 64 ≤ q) (near : d < 32100) where
@@ -53,8 +53,10 @@ module _ (e : Around) (fuel : ℕ) (m l s s1 t : List ℕ) (q d : ℕ) (op : Ope
       let i = branching op os when (2 + d) in
       one_step (point q fuel) (point (landing when holds (q + length (bytes_of i)) d) fuel) (at_words e m l s t)
       (at_words e m l s1 t)
-      (branch_step e fuel m l s s1 t q d op os b.values when holds (b.fits when (2 + d) (omega (arith, few))) b.taken
-      (b.branches when (2 + d)) few above (b.some when (2 + d)) within (first_held m q i [] h))
+      (branch_here_step e fuel m l s s1 t q d op os b.values when holds (b.fits when (2 + d) (omega (arith, few)))
+      b.taken
+      (λ after. b.branches when (2 + d) (point q fuel) after) few above (b.some when (2 + d)) within
+      (first_held m q i [] h))
 
   -- the opposite branch, over a jump: where it comes to, and where the whole does
   far : (w c : Bool) (after : ℕ) → Leads (point after fuel) (at_words e m l s1 t) (point (after + 3 + d) fuel)
@@ -76,9 +78,10 @@ module _ (e : Around) (fuel : ℕ) (m l s s1 t : List ℕ) (q d : ℕ) (op : Ope
       let j = plain operations.Jump (Large (2 + d) ∷ []) in
       let after = q + length (bytes_of i) in
       let st = at_words e m l s1 t in
-      let first = branch_step e fuel m l s s1 t q 3 op os b.values (not when) holds
+      let first = branch_here_step e fuel m l s s1 t q 3 op os b.values (not when) holds
       (b.fits (not when) 5 (omega arith))
-      b.taken (b.branches (not when) 5) (omega arith) above (b.some (not when) 5) (omega (arith, within))
+      b.taken (λ after. b.branches (not when) 5 (point q fuel) after) (omega arith) above (b.some (not when) 5)
+      (omega (arith, within))
       (first_held m q i (j ∷ []) h) in
       let leads = jump_leads (after + 3) d near in
       let jump = jump_step e fuel m l s1 t after (2 + d) (after + 3 + d) (omega (arith, near)) leads

@@ -48,6 +48,16 @@ use Rattle.code.proofs.Jumping.{jump_led, back_led}
 use Rattle.code.proofs.Calling.{call_led}
 use Rattle.code.proofs.Returning.{return_led}
 use Rattle.code.proofs.Reading.{read_led}
+use Rattle.code.proofs.Relatives.{relative_led}
+use Rattle.code.proofs.NamedObjects.{name_printable, print_name_led}
+use Rattle.code.proofs.PropertyReads.{property_led, property_size_led}
+use Rattle.code.proofs.RemovedObjects.{remove_object_led}
+use Rattle.code.proofs.PropertyWords.{property_word_led}
+use Rattle.code.proofs.Giving.{give_led}
+use Rattle.code.proofs.MovingObjects.{move_object_led}
+use Rattle.code.proofs.AssigningProperties.{assign_property_led, assign_property_word_led}
+use Rattle.code.proofs.EachObject.{first_object_led, next_object_led}
+use Rattle.code.proofs.LabelledObjects.{has_led, is_in_led, provides_led}
 use Rattle.code.proofs.Keeps.{is_read}
 use Rattle.code.proofs.Sim.{ItemsLead}
 use Rattle.code.proofs.Opening.{plays_it}
@@ -119,7 +129,7 @@ module _ (story : List ℕ) (a : Addresses) (p : ProgramOf) (accepted : IsAccept
       }
 
   items_lead : ItemsLead story a p full
-  items_lead s m count counts i good e = go i e (stands s m count counts i good e) is_item has_text
+  items_lead s m count counts i good short e = go i e (stands s m count counts i good e) is_item has_text
     where
       c : Running
       c = running s m count counts good
@@ -137,7 +147,7 @@ module _ (story : List ℕ) (a : Addresses) (p : ProgramOf) (accepted : IsAccept
       has_text : HasPrintableText i
       has_text = each HasPrintableText is s.place i
           (texts_printable routine (each_routine (λ (r : RoutineOf). ArePrintableActions r.body) p.routines s.routine
-          printable good.known)) e
+          printable.0 good.known)) e
 
       words : List ℕ
       words = s.stack
@@ -163,6 +173,19 @@ module _ (story : List ℕ) (a : Addresses) (p : ProgramOf) (accepted : IsAccept
       go (items.entry width n o d) f st is text = entry_led c width n o d words is.0 is.1 is.2 good.room st
       go (items.assign_entry width n o q d) f st is text =
           assign_entry_led c width n o q d words is.0 is.1 is.2 is.3 good.room st
+      go (items.relative r o d) f st is text = relative_led c r o d words is.0 is.1 good.room st
+      go (items.property o q d) f st is text = property_led c o q d words is.0 is.1 is.2 good.room st
+      go (items.property_size o q d) f st is text =
+          property_size_led c o q d words is.0 is.1 is.2 good.room st
+      go (items.property_word q o i d) f st is text =
+          property_word_led c q o i d words is.0 is.1 is.2 is.3 good.room st
+      go (items.assign_property q o v d) f st is text =
+          assign_property_led c q o v d words is.0 is.1 is.2 is.3 good.room st
+      go (items.assign_property_word q o i v d) f st is text =
+          assign_property_word_led c q o i v d words is.0 is.1 is.2 is.3 is.4 good.room st
+      go (items.give o changes) f st is text = give_led c o changes words is.0 is.1 good.room st
+      go (items.move_object o into) f st is text = move_object_led c o into words is.0 is.1 good.room st
+      go (items.remove_object o) f st is text = remove_object_led c o words is good.room st
       go (items.keep x) f st is text = keep_led c x s.chosen words is st
       go items.first_equal f st is text = first_equal_led c s.chosen words good.room st
       go items.also_equal f st is text = also_equal_led c s.chosen words good.room st
@@ -170,6 +193,8 @@ module _ (story : List ℕ) (a : Addresses) (p : ProgramOf) (accepted : IsAccept
       go (items.print_text bytes) f st is text = print_text_led c bytes words text good.room st
       go (items.print_character o) f st is text = print_character_led c o words is good.room st
       go (items.print_number o) f st is text = print_number_led c o words is good.room st
+      go (items.print_name o) f st is text =
+          print_name_led c o words (λ v object. name_printable p.objects v printable.1 object) short is good.room st
       go items.new_line f st is text = new_line_led c words good.room st
       go (items.read_line t q) f st is text = read_led c t q words is.0 is.1 is.2 good.room st
       go items.quit f st is text = quits (around c) m s.situation.locals words s.situation.world.text full
@@ -177,6 +202,15 @@ module _ (story : List ℕ) (a : Addresses) (p : ProgramOf) (accepted : IsAccept
           (single c items.quit (plain operations.Quit []) refl refl st).held
       go (items.branch test os when target) f st is text =
           branch_led c test os when target s.chosen words is.0 is.1 good.room st
+      go (items.is_in o q when target) f st is text =
+          is_in_led c o q when target s.chosen words is.0 is.1 good.room st
+      go (items.has o n when target) f st is text = has_led c o n when target s.chosen words is.0 is.1 good.room st
+      go (items.provides o q when target) f st is text =
+          provides_led c o q when target s.chosen words is.0 is.1 good.room st
+      go (items.first_object x target) f st is text =
+          first_object_led c x target s.chosen words is.0 good.room st
+      go (items.next_object x target) f st is text =
+          next_object_led c x target s.chosen words is.0 good.room st
       go (items.choose o) f st is text = choose_led c o words is good.room st
       go (items.case test ns when target) f st is text =
           case_led c test ns when target s.chosen words is.0 is.1 good.room good.chosen st
@@ -187,4 +221,5 @@ module _ (story : List ℕ) (a : Addresses) (p : ProgramOf) (accepted : IsAccept
 
 pub code_plays_by : ItemsFollow → ItemsAreWithin → CodePlays
 code_plays_by follows within story a p accepted printable holds full lines =
-    plays_it story a p accepted holds full lines follows (items_lead story a p accepted printable holds within full)
+    plays_it story a p accepted printable holds full lines follows
+    (items_lead story a p accepted printable holds within full)

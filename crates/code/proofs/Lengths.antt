@@ -1,7 +1,7 @@
 -- How long the bytes of an item are: it depends on no address, and of its branch on the form alone.
 use Rattle.std.proofs.Common.{◌≡◌, ℕ, ◌+◌, ◌-◌, ◌%◌, ◌≤◌, List, [], ◌∷◌, ◌++◌, length, Option, Some, None, Bool, true}
 use Rattle.std.proofs.Common.{false, refl, sym, ap, ◌∙◌, arith, length-append, append_assoc, append-nil}
-use Rattle.std.specs.Prelude.{nat_lt, ◌==◌, if◌then◌else◌, not, take, slice_index}
+use Rattle.std.specs.Prelude.{nat_lt, ◌==◌, if◌then◌else◌, not, map, take, slice_index}
 use Rattle.std.specs.List.{flat_map}
 use Rattle.std.proofs.lemmas.Bool.{ltb-true, ltb-false}
 use Rattle.zcore.specs.declared.instruction.Operand.{Operand}
@@ -19,20 +19,27 @@ use Rattle.expressions.specs.declared.tree.Binary.{Binary}
 use Rattle.expressions.specs.declared.tree.Binary.TheVariants as binaries
 use Rattle.expressions.specs.declared.tree.Width.{Width}
 use Rattle.meaning.specs.Meaning.{is_character}
+use Rattle.meaning.specs.declared.resolved.Variable as source
 use Rattle.items.specs.Items.{Item, Destination, Test}
 use Rattle.items.specs.Items as items
 use Rattle.meaning.specs.declared.cause.Cause.{Cause}
 use Rattle.meaning.specs.declared.cause.Cause.TheVariants as causes
-use Rattle.code.specs.Addresses.{Addresses, fault_address}
+use Rattle.code.specs.Addresses.{Addresses, Sizes, fault_address}
 use Rattle.code.specs.Instructions.{plain, branching, fail, labelled, takes, operands, test_operation, tested_code}
 use Rattle.code.specs.Instructions.{asks_none, least_word, branch_code, compared, case_code, calling, call_operation}
 use Rattle.code.specs.Instructions.{call_result}
 use Rattle.code.specs.Instructions.{call_code, divided, character_code, item_code, most_tested, most_arguments}
-use Rattle.code.specs.Instructions.{number_of, temporary, constant, pull, giving, result_in, entries_in, is_entry}
-use Rattle.code.specs.Instructions.{load_operation, store_operation, behind_comparison, tested_between, tested_index}
-use Rattle.code.specs.Instructions.{at_index, first_byte, tested_first, letters_in, words_in, line_code, read_code}
+use Rattle.code.specs.Instructions.{number_of, temporary, constant, giving, result_in, entries_in}
+use Rattle.code.specs.Instructions.{load_operation, store_operation, behind_comparison, tested_between, at_index}
+use Rattle.code.specs.Instructions.{first_byte, tested_first, letters_in, words_in, line_code, read_code, is_between}
+use Rattle.code.specs.Instructions.{pulled_into, word_in, tests_in, tested_in, at_tested, at_object, objects_of}
+use Rattle.code.specs.Instructions.{property_address, length_at, branching_zero, branching_single, property_value}
+use Rattle.code.specs.Instructions.{provided, tested_word, tested_single, behind_operand, loaded_at, assigned_single}
+use Rattle.code.specs.Instructions.{assigned_at, property_word_code, assign_property_code, assign_property_word_code}
+use Rattle.code.specs.Instructions.{store, climbing, moved_into, relative_of, changing, jump_by, next_object_code}
 use Rattle.code.specs.Instructions.{entry_code, assigned_takes, assigned_word, passed_on, assign_entry_code}
-use Rattle.code.specs.Bytes.{bytes_of_all, item_bytes, no_addresses, least_size, target_of, part_of}
+use Rattle.code.specs.Bytes.{bytes_of_all, item_bytes, text_bytes, no_addresses, label_size, least_size, target_of}
+use Rattle.code.specs.Bytes.{part_of}
 
 -- Lists of instructions
 
@@ -153,52 +160,61 @@ between_same a b cause low end v =
       fail_same fa fb,
     )
 
-tested_same : (a b : Addresses) (count v : ℕ)
-    → length (bytes_of_all (tested_index a count v)) ≡ length (bytes_of_all (tested_index b count v))
-tested_same a b count v = between_same a b causes.IndexOutOfRange 0 count v
-
--- what is done at an index is as long as something else that is done there
-abbrev AsLong : (Operand → List Instruction) → (Operand → List Instruction) → Type 0
+-- what is done with a word is as long as something else that is done with it
+abbrev pub AsLong : (Operand → List Instruction) → (Operand → List Instruction) → Type 0
 AsLong act other = (i : Operand) → length (bytes_of_all (act i)) ≡ length (bytes_of_all (other i))
 
-behind_tests : (a b : Addresses) (count v : ℕ) (act other : Operand → List Instruction) → AsLong act other
-    → length (bytes_of_all (tested_index a count v ++ act (Variable v)))
-    ≡ length (bytes_of_all (tested_index b count v ++ other (Variable v)))
-behind_tests a b count v act other same = omega (
-  arith,
-  all_length (tested_index a count v) (act (Variable v)),
-  all_length (tested_index b count v) (other (Variable v)),
-  tested_same a b count v,
-  same (Variable v),
-)
+-- an operand that is tested
+module _ (a b : Addresses) (cause : Cause) (low end : ℕ) where
+  behind_tests : (v : ℕ) (act other : Operand → List Instruction) → AsLong act other
+      → length (bytes_of_all (tested_between a cause low end v ++ act (Variable v)))
+      ≡ length (bytes_of_all (tested_between b cause low end v ++ other (Variable v)))
+  behind_tests v act other same = omega (
+    arith,
+    all_length (tested_between a cause low end v) (act (Variable v)),
+    all_length (tested_between b cause low end v) (other (Variable v)),
+    between_same a b cause low end v,
+    same (Variable v),
+  )
 
-at_same : (a b : Addresses) (count : ℕ) (o : items.Operand) (act other : Operand → List Instruction)
-    → AsLong act other
-    → length (bytes_of_all (at_index a count o act)) ≡ length (bytes_of_all (at_index b count o other))
-at_same a b count items.pushed act other same =
-    let v = temporary 0 in
-    let pulled = pull v ∷ [] in
-    omega (
-      arith,
-      all_length pulled (tested_index a count v ++ act (Variable v)),
-      all_length pulled (tested_index b count v ++ other (Variable v)),
-      behind_tests a b count v act other same,
-    )
-at_same a b count (items.number n) act other same =
-    let fa = fault_address a causes.IndexOutOfRange in
-    let fb = fault_address b causes.IndexOutOfRange in
-    either_same (is_entry count n) (act (constant n)) (other (constant n)) (fail fa) (same (constant n))
-    ∙ or_same (is_entry count n) (fail fa) (fail fb) (other (constant n)) (fail_same fa fb)
-at_same a b count (items.variable x) act other same = behind_tests a b count (number_of x) act other same
+  in_same : (n : ℕ) (o : items.Operand) (act other : Operand → List Instruction) → AsLong act other
+      → length (bytes_of_all (tested_in n a cause low end o act))
+      ≡ length (bytes_of_all (tested_in n b cause low end o other))
+  in_same n items.pushed act other same = behind_tests (temporary n) act other same
+  in_same n (items.number k) act other same =
+      let fa = fault_address a cause in
+      let fb = fault_address b cause in
+      either_same (is_between low end k) (act (constant k)) (other (constant k)) (fail fa) (same (constant k))
+      ∙ or_same (is_between low end k) (fail fa) (fail fb) (other (constant k)) (fail_same fa fb)
+  in_same n (items.variable x) act other same = behind_tests (number_of x) act other same
+
+  at_same : (o : items.Operand) (act other : Operand → List Instruction) → AsLong act other
+      → length (bytes_of_all (at_tested a cause low end o act))
+      ≡ length (bytes_of_all (at_tested b cause low end o other))
+  at_same o act other same = omega (
+    arith,
+    all_length (pulled_into 0 o) (tested_in 0 a cause low end o act),
+    all_length (pulled_into 0 o) (tested_in 0 b cause low end o other),
+    in_same 0 o act other same,
+  )
+
+  tests_same : (n : ℕ) (o : items.Operand)
+      → length (bytes_of_all (tests_in n a cause low end o)) ≡ length (bytes_of_all (tests_in n b cause low end o))
+  tests_same n items.pushed = between_same a b cause low end (temporary n)
+  tests_same n (items.number k) =
+      or_same (is_between low end k) (fail (fault_address a cause)) (fail (fault_address b cause)) []
+      (fail_same (fault_address a cause) (fault_address b cause))
+  tests_same n (items.variable x) = between_same a b cause low end (number_of x)
 
 entry_same : (a b : Addresses) (width : Width) (size x y : ℕ) (o : items.Operand) (d : Destination)
     → length (bytes_of_all (entry_code a width size x o d)) ≡ length (bytes_of_all (entry_code b width size y o d))
-entry_same a b width size x y o d = at_same a b (entries_in width size) o (load x) (load y) (λ i. omega (
-  arith,
-  one_length (giving (load_operation width) (Large x ∷ i ∷ []) (result_in d)),
-  one_length (giving (load_operation width) (Large y ∷ i ∷ []) (result_in d)),
-  same_call (load_operation width) (i ∷ []) (Some (result_in d)) x y,
-))
+entry_same a b width size x y o d =
+    at_same a b causes.IndexOutOfRange 0 (entries_in width size) o (load x) (load y) (λ i. omega (
+      arith,
+      one_length (giving (load_operation width) (Large x ∷ i ∷ []) (result_in d)),
+      one_length (giving (load_operation width) (Large y ∷ i ∷ []) (result_in d)),
+      same_call (load_operation width) (i ∷ []) (Some (result_in d)) x y,
+    ))
   where
     load : ℕ → Operand → List Instruction
     load place i = giving (load_operation width) (Large place ∷ i ∷ []) (result_in d) ∷ []
@@ -212,7 +228,7 @@ assign_same a b width size x y o q d =
       arith,
       all_length (assigned_takes q) (at_index a count o (store x)),
       all_length (assigned_takes q) (at_index b count o (store y)),
-      at_same a b count o (store x) (store y) stores,
+      at_same a b causes.IndexOutOfRange 0 count o (store x) (store y) stores,
     )
   where
     word : Operand
@@ -230,6 +246,171 @@ assign_same a b width size x y o q d =
       one_length (plain (store_operation width) (Large y ∷ i ∷ word ∷ [])),
       same_call (store_operation width) (i ∷ word ∷ []) None x y,
     )
+
+-- Objects
+
+-- faults within
+through : (before : List Instruction) (x y : ℕ) (more other : List Instruction)
+    → length (bytes_of_all more) ≡ length (bytes_of_all other)
+    → length (bytes_of_all (before ++ (fail x ++ more))) ≡ length (bytes_of_all (before ++ (fail y ++ other)))
+through before x y more other same = omega (
+  arith,
+  all_length before (fail x ++ more),
+  all_length before (fail y ++ other),
+  all_length (fail x) more,
+  all_length (fail y) other,
+  fail_same x y,
+  same,
+)
+
+module _ (a b : Addresses) where
+  value_same : (q v : ℕ) → AsLong (λ x. property_value a x q v) (λ x. property_value b x q v)
+  value_same q v x =
+      through
+      (property_address x q (temporary 1) ∷ branching_zero (temporary 1) true 13
+      ∷ length_at (temporary 1) (temporary 1) ∷ branching_single (temporary 1) ∷ [])
+      (fault_address a causes.PropertyOfManyWords) (fault_address b causes.PropertyOfManyWords)
+      (giving operations.GetProperty (x ∷ Small q ∷ []) v ∷ [])
+      (giving operations.GetProperty (x ∷ Small q ∷ []) v ∷ [])
+      refl
+
+  provided_same : (x : Operand) (q : ℕ) (more other : List Instruction)
+      → length (bytes_of_all more) ≡ length (bytes_of_all other)
+      → length (bytes_of_all (provided a x q ++ more)) ≡ length (bytes_of_all (provided b x q ++ other))
+  provided_same x q more other same =
+      through (property_address x q (temporary 2) ∷ branching_zero (temporary 2) false 6 ∷ [])
+      (fault_address a causes.NoSuchProperty) (fault_address b causes.NoSuchProperty) more other same
+
+  word_same : (i : Operand) (more : List Instruction)
+      → length (bytes_of_all (tested_word a i ++ more)) ≡ length (bytes_of_all (tested_word b i ++ more))
+  word_same i more =
+      through
+      (length_at (temporary 2) (temporary 3)
+      ∷ giving operations.Div (Variable (temporary 3) ∷ Small 2 ∷ []) (temporary 3)
+      ∷ branching operations.JumpIfLess (i ∷ Small 0 ∷ []) true (behind_operand i)
+      ∷ branching operations.JumpIfLess (i ∷ Variable (temporary 3) ∷ []) true 6 ∷ [])
+      (fault_address a causes.IndexOutOfRange) (fault_address b causes.IndexOutOfRange) more more refl
+
+  single_same : (more : List Instruction)
+      → length (bytes_of_all (tested_single a ++ more)) ≡ length (bytes_of_all (tested_single b ++ more))
+  single_same more =
+      through (length_at (temporary 2) (temporary 3) ∷ branching_single (temporary 3) ∷ [])
+      (fault_address a causes.PropertyOfManyWords) (fault_address b causes.PropertyOfManyWords) more more refl
+
+  module _ (objects : ℕ) where
+    object_same : (o : items.Operand) (act other : Operand → List Instruction) → AsLong act other
+        → length (bytes_of_all (at_object a objects o act)) ≡ length (bytes_of_all (at_object b objects o other))
+    object_same o act other same = at_same a b causes.NotAnObject 1 (objects + 1) o act other same
+
+    behind_same : (before : List Instruction) (o : items.Operand) (act other : Operand → List Instruction)
+        → AsLong act other
+        → length (bytes_of_all (before ++ at_object a objects o act))
+        ≡ length (bytes_of_all (before ++ at_object b objects o other))
+    behind_same before o act other same = omega (
+      arith,
+      all_length before (at_object a objects o act),
+      all_length before (at_object b objects o other),
+      object_same o act other same,
+    )
+
+    loaded_same : (q : ℕ) (o i : items.Operand) (d : Destination)
+        → length (bytes_of_all (property_word_code a objects q o i d))
+        ≡ length (bytes_of_all (property_word_code b objects q o i d))
+    loaded_same q o i d =
+        behind_same (assigned_takes i) o (λ x. loaded_at a x q (assigned_word i) (result_in d))
+        (λ x. loaded_at b x q (assigned_word i) (result_in d))
+        (λ x. provided_same x q (tested_word a (assigned_word i) ++ load) (tested_word b (assigned_word i) ++ load)
+        (word_same (assigned_word i) load))
+      where
+        load : List Instruction
+        load = giving operations.LoadWord (Variable (temporary 2) ∷ assigned_word i ∷ []) (result_in d) ∷ []
+
+    single_assigned_same : (q : ℕ) (o w : items.Operand) (d : Destination)
+        → length (bytes_of_all (assign_property_code a objects q o w d))
+        ≡ length (bytes_of_all (assign_property_code b objects q o w d))
+    single_assigned_same q o w d =
+        behind_same (assigned_takes w) o (λ x. assigned_single a x q (assigned_word w) d)
+        (λ x. assigned_single b x q (assigned_word w) d)
+        (λ x. provided_same x q (tested_single a ++ store) (tested_single b ++ store) (single_same store))
+      where
+        store : List Instruction
+        store = plain operations.StoreWord (Variable (temporary 2) ∷ Small 0 ∷ assigned_word w ∷ [])
+            ∷ passed_on d (assigned_word w)
+
+    word_assigned_same : (q : ℕ) (o i w : items.Operand) (d : Destination)
+        → length (bytes_of_all (assign_property_word_code a objects q o i w d))
+        ≡ length (bytes_of_all (assign_property_word_code b objects q o i w d))
+    word_assigned_same q o i w d = omega (
+      arith,
+      all_length (assigned_takes w) (pulled_into 4 i ++ at_object a objects o (act a)),
+      all_length (assigned_takes w) (pulled_into 4 i ++ at_object b objects o (act b)),
+      behind_same (pulled_into 4 i) o (act a) (act b)
+          (λ x. provided_same x q (tested_word a (word_in 4 i) ++ store) (tested_word b (word_in 4 i) ++ store)
+          (word_same (word_in 4 i) store)),
+    )
+      where
+        store : List Instruction
+        store = plain operations.StoreWord (Variable (temporary 2) ∷ word_in 4 i ∷ assigned_word w ∷ [])
+            ∷ passed_on d (assigned_word w)
+
+        act : Addresses → Operand → List Instruction
+        act c x = assigned_at c x q (word_in 4 i) (assigned_word w) d
+
+    abbrev insert : Operand → List Instruction
+    insert y = plain operations.InsertObject (Variable (temporary 2) ∷ y ∷ []) ∷ []
+
+    climb_same : AsLong (λ y. climbing a y ++ insert y) (λ y. climbing b y ++ insert y)
+    climb_same y =
+        through
+        (store (temporary 3) y
+        ∷ branching operations.JumpIfEqual (Variable (temporary 3) ∷ Variable (temporary 2) ∷ []) true 11
+        ∷ giving operations.GetParent (Variable (temporary 3) ∷ []) (temporary 3)
+        ∷ branching operations.JumpIfZero (Variable (temporary 3) ∷ []) true 9
+        ∷ plain operations.Jump (Large 65525 ∷ []) ∷ [])
+        (fault_address a causes.ObjectInsideItself) (fault_address b causes.ObjectInsideItself) (insert y) (insert y)
+        refl
+
+    moved_same : (into : items.Operand)
+        → AsLong (λ x. moved_into a objects x into) (λ x. moved_into b objects x into)
+    moved_same into x =
+        let before = store (temporary 2) x ∷ [] in
+        let act = λ (c : Addresses) (y : Operand). climbing c y ++ insert y in
+        let test = λ (c : Addresses). tested_in 1 c causes.NotAnObject 1 (objects + 1) into (act c) in
+        let first : length (bytes_of_all (moved_into a objects x into))
+        ≡ length (bytes_of_all before) + length (bytes_of_all (test a)) = all_length before (test a) in
+        let second : length (bytes_of_all (moved_into b objects x into))
+        ≡ length (bytes_of_all before) + length (bytes_of_all (test b)) = all_length before (test b) in
+        omega (arith, first, second, in_same a b causes.NotAnObject 1 (objects + 1) 1 into (act a) (act b) climb_same)
+
+first_same_jump : (none : Bool) (x y v : ℕ)
+    → length (bytes_of_all ((if none then jump_by x else store v (Small 1)) ∷ []))
+    ≡ length (bytes_of_all ((if none then jump_by y else store v (Small 1)) ∷ []))
+unfolding bytes_of
+first_same_jump true x y v = refl
+first_same_jump false x y v = refl
+
+jump_and_step : (x v : ℕ) → length (bytes_of_all (jump_by x ∷ plain operations.Increment (Small v ∷ []) ∷ [])) ≡ 5
+unfolding bytes_of
+jump_and_step x v = refl
+
+next_same : (objects x y : ℕ) (v : source.Variable)
+    → length (bytes_of_all (next_object_code objects v x)) ≡ length (bytes_of_all (next_object_code objects v y))
+next_same objects x y v = omega (
+  arith,
+  all_length tests (jump_by (x + 2) ∷ step ∷ []),
+  all_length tests (jump_by (y + 2) ∷ step ∷ []),
+  jump_and_step (x + 2) (number_of v),
+  jump_and_step (y + 2) (number_of v),
+)
+  where
+    step : Instruction
+    step = plain operations.Increment (Small (number_of v) ∷ [])
+
+    tests : List Instruction
+    tests =
+        branching operations.JumpIfLess (Variable (number_of v) ∷ Small 1 ∷ []) true (behind_comparison objects)
+        ∷ branching operations.JumpIfLess (Variable (number_of v) ∷ constant objects ∷ []) true 5
+        ∷ []
 
 -- Lines
 
@@ -369,10 +550,50 @@ case_length test ns when offset =
 case_some : (test : Test) (ns : List ℕ) (when : Bool) → 1 ≤ length (bytes_of_all (case_code test ns when 2))
 case_some test ns when = omega (arith, labelled_length (test_operation test) (compared ns) when 2)
 
+-- a branch by an object likewise, behind its tests
+label_length : (a b : Addresses) (objects : ℕ) (o : items.Operand) (before : List Instruction) (op : Operation)
+    (os : List Operand) (when : Bool) (offset : ℕ)
+    → length (bytes_of_all (pulled_into 0 o ++ (tests_in 0 a causes.NotAnObject 1 (objects + 1) o
+    ++ (before ++ labelled op os when offset)))) + 1
+    ≡ length (bytes_of_all (pulled_into 0 o ++ (tests_in 0 b causes.NotAnObject 1 (objects + 1) o
+    ++ (before ++ labelled op os when 2)))) + size_with (form_for offset)
+label_length a b objects o before op os when offset =
+    let tests = λ (c : Addresses). tests_in 0 c causes.NotAnObject 1 (objects + 1) o in
+    omega (
+      arith,
+      all_length (pulled_into 0 o) (tests a ++ (before ++ labelled op os when offset)),
+      all_length (pulled_into 0 o) (tests b ++ (before ++ labelled op os when 2)),
+      all_length (tests a) (before ++ labelled op os when offset),
+      all_length (tests b) (before ++ labelled op os when 2),
+      all_length before (labelled op os when offset),
+      all_length before (labelled op os when 2),
+      tests_same a b causes.NotAnObject 1 (objects + 1) 0 o,
+      labelled_length op os when offset,
+      labelled_length op os when 2,
+    )
+
+label_some : (a : Addresses) (objects : ℕ) (o : items.Operand) (before : List Instruction) (op : Operation)
+    (os : List Operand) (when : Bool)
+    → 1 ≤ length (bytes_of_all (pulled_into 0 o ++ (tests_in 0 a causes.NotAnObject 1 (objects + 1) o
+    ++ (before ++ labelled op os when 2))))
+label_some a objects o before op os when =
+    let tests = tests_in 0 a causes.NotAnObject 1 (objects + 1) o in
+    omega (
+      arith,
+      all_length (pulled_into 0 o) (tests ++ (before ++ labelled op os when 2)),
+      all_length tests (before ++ labelled op os when 2),
+      all_length before (labelled op os when 2),
+      labelled_length op os when 2,
+    )
+
 -- Items
 
--- where arrays have these sizes
-module _ (sizes : List ℕ) where
+no_text_same : (xs ys : List Instruction) → length (bytes_of_all xs) ≡ length (bytes_of_all ys)
+    → length (bytes_of_all xs ++ []) ≡ length (bytes_of_all ys ++ [])
+no_text_same xs ys e = omega (arith, e, length-append (bytes_of_all xs) [], length-append (bytes_of_all ys) [])
+
+-- of a program of these sizes
+module _ (sizes : Sizes) where
   operate_length : (a : Addresses) (offset : ℕ) (op : Binary) (x y : items.Operand) (d : Destination)
       → length (item_bytes sizes a offset (items.operate op x y d)) ≡ least_size sizes (items.operate op x y d)
   operate_length a offset binaries.Divide x y d =
@@ -399,7 +620,7 @@ module _ (sizes : List ℕ) where
   unfolding bytes_of
   same_length a offset (items.operate op x y d) e = operate_length a offset op x y d
   same_length a offset (items.entry width n o d) e =
-      let size = slice_index sizes n % 65536 in
+      let size = slice_index sizes.arrays n % 65536 in
       let same = entry_same a no_addresses width size (slice_index a.arrays n)
       (slice_index no_addresses.arrays n) o d in
       omega (
@@ -409,7 +630,7 @@ module _ (sizes : List ℕ) where
         length-append (bytes_of_all (item_code sizes no_addresses 2 (items.entry width n o d))) [],
       )
   same_length a offset (items.assign_entry width n o q d) e =
-      let size = slice_index sizes n % 65536 in
+      let size = slice_index sizes.arrays n % 65536 in
       let same = assign_same a no_addresses width size (slice_index a.arrays n)
       (slice_index no_addresses.arrays n) o q d in
       omega (
@@ -427,8 +648,8 @@ module _ (sizes : List ℕ) where
         length-append (bytes_of_all (character_code no_addresses o)) [],
       )
   same_length a offset (items.read_line t q) e =
-      let text_size = slice_index sizes t % 65536 in
-      let parse_size = slice_index sizes q % 65536 in
+      let text_size = slice_index sizes.arrays t % 65536 in
+      let parse_size = slice_index sizes.arrays q % 65536 in
       let same = read_same a no_addresses text_size parse_size (slice_index a.arrays t) (slice_index a.arrays q)
       (slice_index no_addresses.arrays t) (slice_index no_addresses.arrays q) in
       omega (
@@ -437,6 +658,68 @@ module _ (sizes : List ℕ) where
         length-append (bytes_of_all (item_code sizes a offset (items.read_line t q))) [],
         length-append (bytes_of_all (item_code sizes no_addresses 2 (items.read_line t q))) [],
       )
+  same_length a offset (items.relative r o d) e =
+      no_text_same (item_code sizes a offset (items.relative r o d))
+      (item_code sizes no_addresses 2 (items.relative r o d))
+      (object_same a no_addresses (objects_of sizes) o (λ x. relative_of r x (result_in d) ∷ [])
+      (λ x. relative_of r x (result_in d) ∷ []) (λ x. refl))
+  same_length a offset (items.property o q d) e =
+      no_text_same (item_code sizes a offset (items.property o q d))
+      (item_code sizes no_addresses 2 (items.property o q d))
+      (object_same a no_addresses (objects_of sizes) o
+      (λ x. property_value a x (q % 256) (result_in d)) (λ x. property_value no_addresses x (q % 256) (result_in d))
+      (value_same a no_addresses (q % 256) (result_in d)))
+  same_length a offset (items.property_size o q d) e =
+      no_text_same (item_code sizes a offset (items.property_size o q d))
+      (item_code sizes no_addresses 2 (items.property_size o q d))
+      (object_same a no_addresses (objects_of sizes) o (size (q % 256)) (size (q % 256)) (λ x. refl))
+    where
+      size : ℕ → Operand → List Instruction
+      size n x = property_address x n (temporary 1) ∷ length_at (temporary 1) (result_in d) ∷ []
+  same_length a offset (items.property_word q o i d) e =
+      no_text_same (item_code sizes a offset (items.property_word q o i d))
+      (item_code sizes no_addresses 2 (items.property_word q o i d))
+      (loaded_same a no_addresses (objects_of sizes) (q % 256) o i d)
+  same_length a offset (items.assign_property q o w d) e =
+      no_text_same (item_code sizes a offset (items.assign_property q o w d))
+      (item_code sizes no_addresses 2 (items.assign_property q o w d))
+      (single_assigned_same a no_addresses (objects_of sizes) (q % 256) o w d)
+  same_length a offset (items.assign_property_word q o i w d) e =
+      no_text_same (item_code sizes a offset (items.assign_property_word q o i w d))
+      (item_code sizes no_addresses 2 (items.assign_property_word q o i w d))
+      (word_assigned_same a no_addresses (objects_of sizes) (q % 256) o i w d)
+  same_length a offset (items.give o changes) e =
+      no_text_same (item_code sizes a offset (items.give o changes))
+      (item_code sizes no_addresses 2 (items.give o changes))
+      (object_same a no_addresses (objects_of sizes) o (λ x. map (changing x) changes)
+      (λ x. map (changing x) changes) (λ x. refl))
+  same_length a offset (items.move_object o into) e =
+      no_text_same (item_code sizes a offset (items.move_object o into))
+      (item_code sizes no_addresses 2 (items.move_object o into))
+      (behind_same a no_addresses (objects_of sizes) (assigned_takes into) o
+      (λ x. moved_into a (objects_of sizes) x into) (λ x. moved_into no_addresses (objects_of sizes) x into)
+      (moved_same a no_addresses (objects_of sizes) into))
+  same_length a offset (items.remove_object o) e =
+      no_text_same (item_code sizes a offset (items.remove_object o))
+      (item_code sizes no_addresses 2 (items.remove_object o))
+      (object_same a no_addresses (objects_of sizes) o (λ x. plain operations.RemoveObject (x ∷ []) ∷ [])
+      (λ x. plain operations.RemoveObject (x ∷ []) ∷ []) (λ x. refl))
+  same_length a offset (items.print_name o) e =
+      no_text_same (item_code sizes a offset (items.print_name o))
+      (item_code sizes no_addresses 2 (items.print_name o))
+      (object_same a no_addresses (objects_of sizes) o (λ x. plain operations.PrintObject (x ∷ []) ∷ [])
+      (λ x. plain operations.PrintObject (x ∷ []) ∷ []) (λ x. refl))
+  same_length a offset (items.first_object x target) e =
+      no_text_same (item_code sizes a offset (items.first_object x target))
+      (item_code sizes no_addresses 2 (items.first_object x target))
+      (first_same_jump (objects_of sizes == 0) offset 2 (number_of x))
+  same_length a offset (items.next_object x target) e =
+      no_text_same (item_code sizes a offset (items.next_object x target))
+      (item_code sizes no_addresses 2 (items.next_object x target))
+      (next_same (objects_of sizes) offset 2 x)
+  same_length a offset (items.is_in o q when target) e = absurd (cc)
+  same_length a offset (items.has o n when target) e = absurd (cc)
+  same_length a offset (items.provides o q when target) e = absurd (cc)
   same_length a offset (items.branch test os when target) e = absurd (cc)
   same_length a offset (items.case test ns when target) e = absurd (cc)
   same_length a offset (items.jump target) e = refl
@@ -480,6 +763,69 @@ module _ (sizes : List ℕ) where
         length-append (bytes_of_all (case_code test ns when 2)) [],
       )
 
+  -- an item that ends in a branch to a label, by how long its code is
+  labelled_size : (a : Addresses) (n : ℕ) (rest : List ℕ) (i : Item) (target : ℕ) → target_of i ≡ Some target
+      → text_bytes i ≡ []
+      → ((offset : ℕ) → length (bytes_of_all (item_code sizes a offset i)) + 1
+      ≡ length (bytes_of_all (item_code sizes no_addresses 2 i)) + size_with (form_for offset))
+      → 1 ≤ length (bytes_of_all (item_code sizes no_addresses 2 i))
+      → length (item_bytes sizes a (offset_over (target - (n + 1)) rest) i) ≡ part_size n (part_of sizes i) rest
+  labelled_size a n rest i target t text long some =
+      let offset = offset_over (target - (n + 1)) rest in
+      let least : least_size sizes i ≡ length (bytes_of_all (item_code sizes no_addresses 2 i)) =
+      ap (λ xs. length (bytes_of_all (item_code sizes no_addresses 2 i) ++ xs)) text
+      ∙ ap length (append-nil (bytes_of_all (item_code sizes no_addresses 2 i))) in
+      let whole : length (item_bytes sizes a offset i) ≡ length (bytes_of_all (item_code sizes a offset i)) =
+      ap (λ xs. length (bytes_of_all (item_code sizes a offset i) ++ xs)) text
+      ∙ ap length (append-nil (bytes_of_all (item_code sizes a offset i))) in
+      let beside : part_size n (part_of sizes i) rest ≡ least_size sizes i - 1 + size_with (form_for offset) =
+      ap (λ (x : Option ℕ). part_size n (record { size = least_size sizes i - label_size x; target = x }) rest) t in
+      omega (arith, long offset, some, least, whole, beside)
+
+  is_in_size : (a : Addresses) (n : ℕ) (rest : List ℕ) (o q : items.Operand) (when : Bool) (target : ℕ)
+      → length (item_bytes sizes a (offset_over (target - (n + 1)) rest) (items.is_in o q when target))
+      ≡ part_size n (part_of sizes (items.is_in o q when target)) rest
+  is_in_size a n rest o q when target =
+      labelled_size a n rest (items.is_in o q when target) target refl refl
+      (λ offset. omega (
+        arith,
+        all_length (assigned_takes q) (asked a offset),
+        all_length (assigned_takes q) (asked no_addresses 2),
+        label_length a no_addresses (objects_of sizes) o [] operations.JumpIfIn words when offset,
+      ))
+      (omega (
+        arith,
+        all_length (assigned_takes q) (asked no_addresses 2),
+        label_some no_addresses (objects_of sizes) o [] operations.JumpIfIn words when,
+      ))
+    where
+      words : List Operand
+      words = word_in 0 o ∷ assigned_word q ∷ []
+
+      asked : Addresses → ℕ → List Instruction
+      asked c offset =
+          pulled_into 0 o ++ (tests_in 0 c causes.NotAnObject 1 (objects_of sizes + 1) o
+          ++ labelled operations.JumpIfIn words when offset)
+
+  has_size : (a : Addresses) (n : ℕ) (rest : List ℕ) (o : items.Operand) (k : ℕ) (when : Bool) (target : ℕ)
+      → length (item_bytes sizes a (offset_over (target - (n + 1)) rest) (items.has o k when target))
+      ≡ part_size n (part_of sizes (items.has o k when target)) rest
+  has_size a n rest o k when target =
+      let words = word_in 0 o ∷ Small (k % 256) ∷ [] in
+      labelled_size a n rest (items.has o k when target) target refl refl
+      (label_length a no_addresses (objects_of sizes) o [] operations.TestAttribute words when)
+      (label_some no_addresses (objects_of sizes) o [] operations.TestAttribute words when)
+
+  provides_size : (a : Addresses) (n : ℕ) (rest : List ℕ) (o : items.Operand) (k : ℕ) (when : Bool) (target : ℕ)
+      → length (item_bytes sizes a (offset_over (target - (n + 1)) rest) (items.provides o k when target))
+      ≡ part_size n (part_of sizes (items.provides o k when target)) rest
+  provides_size a n rest o k when target =
+      let before = property_address (word_in 0 o) (k % 256) (temporary 0) ∷ [] in
+      let words = Variable (temporary 0) ∷ [] in
+      labelled_size a n rest (items.provides o k when target) target refl refl
+      (label_length a no_addresses (objects_of sizes) o before operations.JumpIfZero words (not when))
+      (label_some no_addresses (objects_of sizes) o before operations.JumpIfZero words (not when))
+
   -- the bytes of an item are those of its part
   pub item_length : (a : Addresses) (n : ℕ) (rest : List ℕ) (offset : ℕ) (i : Item)
       → ((target : ℕ) → target_of i ≡ Some target → offset ≡ offset_over (target - (n + 1)) rest)
@@ -490,4 +836,13 @@ module _ (sizes : List ℕ) where
   item_length a n rest offset (items.case test ns when target) is =
       ap (λ (k : ℕ). length (item_bytes sizes a k (items.case test ns when target))) (is target refl)
       ∙ case_size a n rest test ns when target
+  item_length a n rest offset (items.is_in o q when target) is =
+      ap (λ (k : ℕ). length (item_bytes sizes a k (items.is_in o q when target))) (is target refl)
+      ∙ is_in_size a n rest o q when target
+  item_length a n rest offset (items.has o k when target) is =
+      ap (λ (j : ℕ). length (item_bytes sizes a j (items.has o k when target))) (is target refl)
+      ∙ has_size a n rest o k when target
+  item_length a n rest offset (items.provides o q when target) is =
+      ap (λ (k : ℕ). length (item_bytes sizes a k (items.provides o q when target))) (is target refl)
+      ∙ provides_size a n rest o q when target
   item_length a n rest offset i is = omega (arith, same_length a offset i refl)

@@ -75,16 +75,16 @@ module _ (c : Running) where
   bytes_in n = array_at world.arrays n
 
   abbrev pub size_in : ℕ → ℕ
-  size_in n = slice_index (sizes_of p) n % 65536
+  size_in n = slice_index (sizes_of p).arrays n % 65536
 
   pub array_there : (n : ℕ) → n < length p.arrays → n < length world.arrays
   array_there n known =
       omega (arith, known, ap length good.sizes, length-map world.arrays length, length-map p.arrays length)
 
-  pub array_size : (n : ℕ) → slice_index (sizes_of p) n ≡ length (bytes_in n)
+  pub array_size : (n : ℕ) → slice_index (sizes_of p).arrays n ≡ length (bytes_in n)
   array_size n = ap (λ ns. slice_index ns n) (sym good.sizes) ∙ size_at world.arrays n
 
-  pub array_short : (n : ℕ) → n < length p.arrays → slice_index (sizes_of p) n ≤ 32000
+  pub array_short : (n : ℕ) → n < length p.arrays → slice_index (sizes_of p).arrays n ≤ 32000
   array_short n known = omega (arith, size_at p.arrays n, accepted.arrays n [] known)
 
   pub few_entries : (width : Width) (n : ℕ) → n < length p.arrays → entries_in width (size_in n) < 32768
@@ -134,8 +134,10 @@ module _ (c : Running) where
       let k = load width n d t.operand in
       let st = at_words (around c) other locals rest world.text in
       let stored = t.reached.scratch.stored in
-      let inside = entry_inside story a world.globals world.arrays other stored n (array_there n known) width i index in
-      let value = entry_is story a world.globals world.arrays other stored n (array_there n known) width i index in
+      let inside = entry_inside story a p world.globals world.arrays world.objects other stored n
+      (array_there n known) width i index in
+      let value = entry_is story a p world.globals world.arrays world.objects other stored n (array_there n known)
+      width i index in
       gives_here_led c (load_operation width) (Large (place_in n) ∷ t.operand ∷ []) d (entry_at width (bytes_in n) i)
       t.reached.q before rest rest other (place_in n ∷ i ∷ []) is_d t.reached.scratch room t.reached.from
       (load_shaped width n d t.operand) (first_held m t.reached.q k [] t.reached.held)

@@ -1,15 +1,19 @@
 -- Words written to the globals of a story in memory, and what they leave as it was.
 use Rattle.std.proofs.Common.{◌≡◌, ◌≢◌, ◌⊎◌, inl, inr, ℕ, ◌+◌, ◌-◌, ◌*◌, ◌/◌, ◌%◌, ◌<◌, ◌≤◌, List, length, take, drop}
-use Rattle.std.proofs.Common.{slice_index, slice_set, sym, ap, ◌∙◌, subst, arith}
+use Rattle.std.proofs.Common.{slice_index, slice_set, sym, ap, ◌∙◌, arith}
 use Rattle.std.specs.List.{concat}
 use Rattle.std.proofs.lemmas.Bool.{cases_eq, cases_lt}
-use Rattle.std.proofs.lemmas.List.{length-set, drop-set-lt, drop-drop, get_or-set_same, get_or-set_other}
+use Rattle.std.proofs.lemmas.List.{length-set, drop-set-lt, get_or-set_same, get_or-set_other}
 use Rattle.zcore.specs.Bytes.{word_at}
-use Rattle.zcore.specs.Header.{globals_of, static_base_of}
+use Rattle.zcore.specs.Header.{defaults_of, globals_of, static_base_of}
 use Rattle.zcore.specs.Parts.{global_address, with_word}
 use Rattle.zcore.specs.Text.{Holds}
+use Rattle.meaning.specs.Objects.{Objects}
+use Rattle.meaning.specs.Resolved.{ProgramOf}
+use Rattle.region.specs.Region.{HasObjects}
+use Rattle.region.proofs.Frames.{keeps}
 use Rattle.code.specs.Addresses.{Addresses}
-use Rattle.code.proofs.Regions.{stands_on}
+use Rattle.code.proofs.Regions.{stands_on, same_on}
 use Rattle.code.proofs.Play.{HoldsArrays, Stored}
 
 -- the word of a variable from 16 on, and the memory where it is another
@@ -56,13 +60,6 @@ module _ (memory : List ℕ) (at word : ℕ) where
       ∙ whole
 
 -- memory that is the same from an address on holds the same bytes there
-pub same_on : (base q : ℕ) (memory other : List ℕ) → drop base other ≡ drop base memory → base ≤ q
-    → drop q other ≡ drop q memory
-same_on base q memory other kept high =
-    let e : base + (q - base) ≡ q = omega (arith, high) in
-    subst (λ x. drop x other ≡ drop x memory) e (sym (drop-drop (q - base) base other) ∙ ap (drop (q - base)) kept
-    ∙ drop-drop (q - base) base memory)
-
 pub holds_on : (base q : ℕ) (memory other bytes : List ℕ) → drop base other ≡ drop base memory → base ≤ q
     → Holds memory q bytes → Holds other q bytes
 holds_on base q memory other bytes kept high h = ap (take (length bytes)) (same_on base q memory other kept high) ∙ h
@@ -128,9 +125,9 @@ writes_ground base memory variable word ground low high =
 
 -- The globals of the source
 
-module _ (story : List ℕ) (a : Addresses) (globals : List ℕ) (arrays : List (List ℕ)) (memory : List ℕ)
-    (ground : Ground (static_base_of story) memory) (few : length globals ≤ 232)
-    (stored : Stored story a globals arrays memory) where
+module _ (story : List ℕ) (a : Addresses) (p : ProgramOf) (globals : List ℕ) (arrays : List (List ℕ))
+    (objects : Objects) (memory : List ℕ) (ground : Ground (static_base_of story) memory) (few : length globals ≤ 232)
+    (stored : Stored story a p globals arrays objects memory) where
   pub same_globals : globals_of memory ≡ globals_of story
   same_globals =
       let high = stored.header 12 (omega arith) in
@@ -167,9 +164,31 @@ module _ (story : List ℕ) (a : Addresses) (globals : List ℕ) (arrays : List 
             (λ e. omega (arith, e, h, before)));
       }
 
+  same_defaults : defaults_of memory ≡ defaults_of story
+  same_defaults =
+      ap (λ x. x * 256 + slice_index memory 11) (stored.header 10 (omega arith))
+      ∙ ap (λ x. slice_index story 10 * 256 + x) (stored.header 11 (omega arith))
+
+  -- the objects lie behind the arrays
+  objects_kept : (variable word : ℕ) → 16 ≤ variable → variable < 256
+      → HasObjects p.objects p.defaults objects stored.tables (with_variable memory variable word)
+  objects_kept variable word low high =
+      let r = stored.regions in
+      let at = global_address memory variable in
+      let before : at + 1 < defaults_of memory =
+      omega (arith, low, high, same_globals, r.above, r.below, same_defaults) in
+      keeps p.objects p.defaults objects stored.tables memory (with_variable memory variable word) stored.has
+      (record {
+        size = length_with memory at word;
+        header = λ q h. byte_other memory at word q (λ e. omega (arith, h, e, ground.above))
+            (λ e. omega (arith, h, e, ground.above));
+        above = λ q h _. byte_other memory at word q (λ e. omega (arith, e, h, before))
+            (λ e. omega (arith, e, h, before));
+      })
+
   -- a variable of the compiler is written
   pub stored_temporary : (variable word : ℕ) → 248 ≤ variable → variable < 256
-      → Stored story a globals arrays (with_variable memory variable word)
+      → Stored story a p globals arrays objects (with_variable memory variable word)
   stored_temporary variable word low high =
       let w = writes_ground (static_base_of story) memory variable word ground (omega (arith, low)) high in
       record {
@@ -179,11 +198,13 @@ module _ (story : List ℕ) (a : Addresses) (globals : List ℕ) (arrays : List 
         values = λ g h. word_other memory (global_address memory variable) word (globals_of story + 2 * g)
             (inl (omega (arith, h, few, low, same_globals))) ∙ stored.values g h;
         regions = arrays_kept variable word (omega (arith, low)) high;
+        tables = stored.tables;
+        has = objects_kept variable word (omega (arith, low)) high;
       }
 
   -- a global of the source is written
   pub stored_global : (g word : ℕ) → g < length globals
-      → Stored story a (slice_set globals g word) arrays (with_variable memory (16 + g) word)
+      → Stored story a p (slice_set globals g word) arrays objects (with_variable memory (16 + g) word)
   stored_global g word within =
       let w = writes_ground (static_base_of story) memory (16 + g) word ground (omega arith)
       (omega (arith, within, few)) in
@@ -193,6 +214,8 @@ module _ (story : List ℕ) (a : Addresses) (globals : List ℕ) (arrays : List 
         kept = w.kept ∙ stored.kept;
         values = λ k h. value k (omega (arith, h, length-set globals g word)) (cases_eq k g);
         regions = arrays_kept (16 + g) word (omega arith) (omega (arith, within, few));
+        tables = stored.tables;
+        has = objects_kept (16 + g) word (omega arith) (omega (arith, within, few));
       }
     where
       value : (k : ℕ) → k < length globals → (k ≡ g) ⊎ (k ≡ g → ⊥)

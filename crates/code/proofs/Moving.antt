@@ -136,7 +136,7 @@ module _ (c : Running) where
   -- the machine comes to the next item, where a variable has changed
   pub written_led : (before after m1 : List ℕ) (situation : Situation) (end : ℕ) → end ≡ next_place c
       → length after ≤ 48
-      → Stored story a situation.world.globals situation.world.arrays m1
+      → Stored story a p situation.world.globals situation.world.arrays situation.world.objects m1
       → length situation.locals ≡ length locals → length situation.world.globals ≡ length world.globals
       → map length situation.world.arrays ≡ map length world.arrays
       → situation.world.fuel ≡ world.fuel → situation.world.text ≡ world.text
@@ -158,7 +158,7 @@ module _ (c : Running) where
       arrives_on c before after m1 situation end is room stored locals_same globals_same arrays_same two
 
   pub within_led : (before after m1 : List ℕ) (situation : Situation) (end : ℕ) → end ≡ next_place c
-      → Stored story a situation.world.globals situation.world.arrays m1
+      → Stored story a p situation.world.globals situation.world.arrays situation.world.objects m1
       → length situation.locals ≡ length locals → length situation.world.globals ≡ length world.globals
       → map length situation.world.arrays ≡ map length world.arrays
       → situation.world.fuel ≡ world.fuel → situation.world.text ≡ world.text

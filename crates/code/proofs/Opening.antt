@@ -1,10 +1,12 @@
 -- The opening of a story that holds a program: Main is called, and the rest is what the program means.
-use Rattle.std.proofs.Common.{◌≡◌, ℕ, ◌+◌, List, [], ◌∷◌, slice_index, Option, Some, None, refl, sym, ap, ◌∙◌, arith}
+use Rattle.std.proofs.Common.{◌≡◌, ℕ, ◌+◌, ◌≤◌, List, [], ◌∷◌, slice_index, Option, Some, None, refl, sym, ap, ◌∙◌}
+use Rattle.std.proofs.Common.{arith}
 use Rattle.std.specs.Prelude.{map}
 use Rattle.std.specs.List.{concat}
 use Rattle.zcore.specs.declared.instruction.Operand.TheVariants.{Large}
 use Rattle.zcore.specs.declared.instruction.Operation.TheVariants.{Call1n, Quit}
 use Rattle.zcore.specs.Bytes.{word_at}
+use Rattle.zcore.specs.Header.{static_base_of}
 use Rattle.zcore.specs.Instruction.{bytes_of}
 use Rattle.zcore.specs.Execution.{step, perform, call_packed}
 use Rattle.zcore.specs.Turn.{Whole, first_next, first_state, opening, entries, plays_from, last_place}
@@ -13,8 +15,13 @@ use Rattle.meaning.specs.Resolved.{ProgramOf}
 use Rattle.meaning.specs.World.{Situation}
 use Rattle.meaning.specs.Meaning.{first_world, meaning}
 use Rattle.meaning.specs.Accepted.{IsAccepted}
+use Rattle.meaning.specs.Printable.{HasPrintableTexts}
 use Rattle.items.specs.Laws.{ItemsFollow}
 use Rattle.items.specs.Stack as stack
+use Rattle.meaning.specs.Objects.{first_objects}
+use Rattle.region.specs.Region.{HasObjects}
+use Rattle.region.specs.Tables.{Table}
+use Rattle.region.proofs.Together.{region_laws}
 use Rattle.code.specs.Addresses.{Addresses}
 use Rattle.code.specs.Instructions.{plain}
 use Rattle.code.specs.Laws.{Plays}
@@ -26,8 +33,8 @@ use Rattle.code.proofs.Keeps.{enter_keeps, enter_faultless, from_no_fault, exec_
 use Rattle.code.proofs.Sim.{ItemsLead, led_on, sim}
 use Rattle.code.proofs.Entering.{enter_led}
 
-module _ (story : List ℕ) (a : Addresses) (p : ProgramOf) (accepted : IsAccepted p) (holds : HoldsProgram story a p)
-    (full : ℕ) (lines : List (List ℕ)) where
+module _ (story : List ℕ) (a : Addresses) (p : ProgramOf) (accepted : IsAccepted p) (printable : HasPrintableTexts p)
+    (holds : HoldsProgram story a p) (full : ℕ) (lines : List (List ℕ)) where
   abbrev begins : Situation
   begins = record { locals = []; world = first_world p full lines }
 
@@ -53,7 +60,19 @@ module _ (story : List ℕ) (a : Addresses) (p : ProgramOf) (accepted : IsAccept
       ))
       (one_operand (first_state story) (first_state story) (Large word) word (large_value (first_state story) word))
 
-  stored : Stored story a p.globals p.arrays story
+  -- static memory begins at a word
+  static_small : static_base_of story ≤ 65535
+  static_small =
+      let high = holds.byte_each 14 0 (omega (arith, holds.globals_above, holds.globals_below, holds.static_below)) in
+      let low = holds.byte_each 15 0 (omega (arith, holds.globals_above, holds.globals_below, holds.static_below)) in
+      omega (arith, high, low)
+
+  begun : (tables : List Table) × HasObjects p.objects p.defaults (first_objects p.objects) tables story
+  begun =
+      region_laws.begins story p.objects p.defaults (record { each = accepted.objects; names = printable.1 })
+      accepted.defaults.0 accepted.defaults.1 holds.objects holds.static_below static_small
+
+  stored : Stored story a p p.globals p.arrays (first_objects p.objects) story
   stored = record {
     size = refl;
     header = λ q h. refl;
@@ -62,11 +81,13 @@ module _ (story : List ℕ) (a : Addresses) (p : ProgramOf) (accepted : IsAccept
     regions = record {
       first = holds.first_array;
       above = holds.arrays_above;
-      below = holds.arrays_below;
+      below = holds.objects_above;
       places = holds.arrays_each;
       stands = held_stands story holds.first_array (concat p.arrays)
-          (omega (arith, holds.arrays_below, holds.static_below)) holds.arrays;
+          (omega (arith, holds.objects_above, holds.objects.below, holds.static_below)) holds.arrays;
     };
+    tables = begun.0;
+    has = begun.1;
   }
 
   module _ (follows : ItemsFollow) (led : ItemsLead story a p full) where
@@ -78,7 +99,7 @@ module _ (story : List ℕ) (a : Addresses) (p : ProgramOf) (accepted : IsAccept
         (first_world p full lines) (stack.start p full lines) (meaning p full lines)
         (enter_led story a p accepted holds full (word_at story 6) (first_state story) story [] p.main [] [] begins
         accepted.main stored refl refl (λ k d h. absurd (omega (arith, h))) (omega arith) calls_main)
-        (enter_keeps p p.main [] [] begins) f.comes
+        (enter_keeps p p.main [] [] begins) (omega arith) f.comes
 
     opened : opening story full ≡ Some does.whole
     unfolding opening

@@ -54,7 +54,7 @@ some_is zero e = absurd cc
 some_is (suc y) e = omega arith
 
 -- a division by another number than 0
-divides : (here : Next) (after v x y : ℕ) (s : State) → (y == 0) ≡ false
+pub divides : (here : Next) (after v x y : ℕ) (s : State) → (y == 0) ≡ false
     → divide here after (Some v) x y s ≡ give_result here after (Some v) (quotient x y) s
 unfolding divide give_result
 divides here after v x y s e = let some : nat_le 1 y ≡ true = le-leb 1 y (some_is y e) in rw some refl
@@ -94,7 +94,8 @@ module _ (c : Running) where
       let i = giving op (in_place x ∷ Variable variable ∷ []) (result_in d) in
       let rest = fail (fault_address a causes.DivisionByZero) ++ i ∷ [] in
       let h1 = others_held m q (test_of variable) rest h in
-      let parts = holds_append m (q + 3) (flat_map bytes_of (fail (fault_address a causes.DivisionByZero))) (flat_map bytes_of (i ∷ []))
+      let parts = holds_append m (q + 3) (flat_map bytes_of (fail (fault_address a causes.DivisionByZero)))
+      (flat_map bytes_of (i ∷ []))
       h1 in
       let number : q + 3 + 4 ≡ q + 7 = omega arith in
       record {
@@ -158,7 +159,8 @@ module _ (c : Running) where
           let there = subst (λ b. Leads (point q world.fuel) st (point (landing false b (q + 3) 4) world.fuel) st) e
           tests in
           fails_led c causes.DivisionByZero (fault_address a causes.DivisionByZero) (q + 3) before mid other
-          (λ v situation. stack.delivered d v (stack.after (at c before) rest situation)) (cause_line causes.DivisionByZero)
+          (λ v situation. stack.delivered d v (stack.after (at c before) rest situation))
+          (cause_line causes.DivisionByZero)
           (holds.faults causes.DivisionByZero)
           (omega (arith, from)) scratch parts.fault
           (leads_then (point (here c) world.fuel) (point q world.fuel) (point (q + 3) world.fuel)
@@ -197,7 +199,8 @@ module _ (c : Running) where
   number_led op f x n d s true e is is_d short h end least most result branch performs =
       by_operand x (situation_here c) s (LedFrom c s) (λ v rest. Divided true (f v n) d s rest) tt (λ v rest alone.
       fails_led c causes.DivisionByZero (fault_address a causes.DivisionByZero) (here c) s s m
-      (λ v situation. stack.delivered d v (stack.after (at c s) rest situation)) (cause_line causes.DivisionByZero) (holds.faults causes.DivisionByZero)
+      (λ v situation. stack.delivered d v (stack.after (at c s) rest situation)) (cause_line causes.DivisionByZero)
+      (holds.faults causes.DivisionByZero)
       (omega arith) (scratch_here c) h
       (stays (point (here c) world.fuel) (at_words (around c) m locals s world.text)))
   number_led op f x n d s false e is is_d short h end least most result branch performs =

@@ -10,7 +10,7 @@ use Rattle.forms.specs.declared.layout.Part.{Part}
 use Rattle.forms.specs.Layout.{first, offset_over, part_size, lefts}
 use Rattle.items.specs.Items.{Item}
 use Rattle.items.specs.Items as items
-use Rattle.code.specs.Addresses.{Addresses}
+use Rattle.code.specs.Addresses.{Addresses, Sizes}
 use Rattle.code.specs.Instructions.{jump_offset}
 use Rattle.code.specs.Bytes.{item_bytes, target_of, part_of, parts_of, lefts_of, code_size, place_of, offset_of}
 use Rattle.code.specs.Bytes.{items_bytes, code_bytes}
@@ -70,8 +70,8 @@ at_end k [] (suc n) h = refl
 at_end k (y ∷ ps) zero h = absurd (omega (arith, h))
 at_end k (y ∷ ps) (suc n) h = at_end (k + 1) ps n (omega (arith, h))
 
--- where arrays have these sizes
-module _ (sizes : List ℕ) where
+-- of a program of these sizes
+module _ (sizes : Sizes) where
   part_at : (is : List Item) (n : ℕ) (i : Item) → slice_get is n ≡ Some i
       → slice_get (parts_of sizes is) n ≡ Some (part_of sizes i)
   part_at [] n i e = absurd (cc)
@@ -136,6 +136,15 @@ module _ (sizes : List ℕ) where
           → ((j : ℕ) → slice_index rest j ≡ slice_index (lefts_of sizes is) (suc n + j))
           → offset_of (place_of sizes is) n i ≡ offset_over (target - (n + 1)) rest
       leads (items.branch test os when t) target e rest at =
+          let same : t ≡ target = cc in
+          branch_offset is rest n t at ∙ ap (λ (x : ℕ). offset_over (x - (n + 1)) rest) same
+      leads (items.is_in o q when t) target e rest at =
+          let same : t ≡ target = cc in
+          branch_offset is rest n t at ∙ ap (λ (x : ℕ). offset_over (x - (n + 1)) rest) same
+      leads (items.has o k when t) target e rest at =
+          let same : t ≡ target = cc in
+          branch_offset is rest n t at ∙ ap (λ (x : ℕ). offset_over (x - (n + 1)) rest) same
+      leads (items.provides o q when t) target e rest at =
           let same : t ≡ target = cc in
           branch_offset is rest n t at ∙ ap (λ (x : ℕ). offset_over (x - (n + 1)) rest) same
       leads (items.case test ns when t) target e rest at =

@@ -5,11 +5,14 @@ use Rattle.std.specs.Prelude.{map}
 use Rattle.std.specs.List.{All, concat}
 use Rattle.zcore.specs.declared.next.Next.{Next}
 use Rattle.zcore.specs.Bytes.{word_at}
-use Rattle.zcore.specs.Header.{globals_of, static_base_of}
+use Rattle.zcore.specs.Header.{defaults_of, globals_of, static_base_of}
 use Rattle.zcore.specs.Parts.{unpacked}
 use Rattle.zcore.specs.State.{Frame, State, done}
 use Rattle.zcore.specs.Execution.{step}
 use Rattle.zcore.specs.Turn.{Whole, Turns, turn_from, turn_on, is_waiting, first_environment, plays_from, last_place}
+use Rattle.region.specs.Region.{HasObjects}
+use Rattle.region.specs.Tables.{Table}
+use Rattle.meaning.specs.Objects.{Objects}
 use Rattle.meaning.specs.Resolved.{ProgramOf}
 use Rattle.meaning.specs.World.{Outcome, World}
 use Rattle.meaning.specs.Meaning.{routine_at}
@@ -35,24 +38,26 @@ pub record Does (full : ℕ) (here : Next) (s : State) (w : World) (outcome : Ou
   pub texts : outcome.texts ≡ w.texts ++ map (λ (v : Whole). v.text) (whole ∷ plays_from full whole w.lines)
   pub place : outcome.place ≡ last_place (whole ∷ plays_from full whole w.lines)
 
--- these are the arrays of the source: they stand one behind another, behind the globals and below static memory
+-- these are the arrays of the source: they stand one behind another, behind the globals and below the objects
 pub record HoldsArrays (story : List ℕ) (a : Addresses) (arrays : List (List ℕ)) (memory : List ℕ) : Type 0 where
   pub first : ℕ
   pub above : globals_of story + 480 ≤ first
-  pub below : first + length (concat arrays) ≤ static_base_of story
+  pub below : first + length (concat arrays) ≤ defaults_of story
   pub places : (n : ℕ) → n < length arrays → slice_index a.arrays n ≡ first + offset_in arrays n
   pub stands : Stands memory first (concat arrays)
 
--- the memory of a story that runs: these are the globals and the arrays of the source, and header, static and high
--- memory are the story's
-pub record Stored (story : List ℕ) (a : Addresses) (globals : List ℕ) (arrays : List (List ℕ)) (memory : List ℕ) :
-    Type 0
+-- the memory of a story that runs: these are the globals, the arrays and the objects of the source, and header, static
+-- and high memory are the story's
+pub record Stored (story : List ℕ) (a : Addresses) (p : ProgramOf) (globals : List ℕ) (arrays : List (List ℕ))
+    (objects : Objects) (memory : List ℕ) : Type 0
   where
     pub size : length memory ≡ length story
     pub header : (q : ℕ) → q < 64 → slice_index memory q ≡ slice_index story q
     pub kept : drop (static_base_of story) memory ≡ drop (static_base_of story) story
     pub values : (g : ℕ) → g < length globals → word_at memory (globals_of story + 2 * g) ≡ slice_index globals g
     pub regions : HoldsArrays story a arrays memory
+    pub tables : List Table
+    pub has : HasObjects p.objects p.defaults objects tables memory
 
 -- a word of a `switch` that is tested stands in the last variable
 abbrev pub IsChosen : List ℕ → List ℕ → Option ℕ → Type 0
@@ -137,8 +142,8 @@ module _ (story : List ℕ) (a : Addresses) (p : ProgramOf) where
     pub callers : All IsCaller s.callers
     pub few : length s.callers < 1000
     pub globals : length s.situation.world.globals ≡ length p.globals
-    pub sizes : map length s.situation.world.arrays ≡ sizes_of p
-    pub stored : Stored story a s.situation.world.globals s.situation.world.arrays memory
+    pub sizes : map length s.situation.world.arrays ≡ (sizes_of p).arrays
+    pub stored : Stored story a p s.situation.world.globals s.situation.world.arrays s.situation.world.objects memory
     pub chosen : IsChosen story memory s.chosen
 
   -- the machine comes to a state that stands for this one

@@ -8,6 +8,9 @@ use Rattle.expressions.specs.declared.tree.Binary.TheVariants as binaries
 use Rattle.expressions.specs.declared.tree.Equality.{Equality}
 use Rattle.expressions.specs.declared.tree.Prefix.{Prefix}
 use Rattle.expressions.specs.declared.tree.Prefix.TheVariants as prefixes
+use Rattle.expressions.specs.declared.tree.Containment.{Containment}
+use Rattle.expressions.specs.declared.tree.Relative.{Relative}
+use Rattle.expressions.specs.declared.tree.Relative.TheVariants as relatives
 use Rattle.expressions.specs.declared.tree.Step.{Step}
 use Rattle.expressions.specs.declared.tree.Width.{Width}
 use Rattle.meaning.specs.declared.resolved.Variable.{Variable}
@@ -17,6 +20,7 @@ use Rattle.meaning.specs.Meaning.{is_true}
 use Rattle.meaning.specs.Printable.{IsPrintableItem, IsPrintableAction, ArePrintableActions, ArePrintableCases}
 use Rattle.lexer.specs.Printable.{IsPrintable}
 use Rattle.items.specs.Items.{Item, Operand, pushed, number, variable, Destination, push, into, nowhere, operand_of}
+use Rattle.items.specs.Items.{first_of, each_items, relative_items, children_items}
 use Rattle.items.specs.Items.{alone, left_of, if_pushed, is_few, agrees, value_count, operand_count, operands_count}
 use Rattle.items.specs.Items.{branch_count, many_count, moved, truth_items, after_items, kept_items, value_items}
 use Rattle.items.specs.Items.{operands_items, branch_items, many_items, also_items, printed_count, action_count}
@@ -186,6 +190,105 @@ assign_entry_fine width n i v f g = record {
       (g.value (at + operand_count i (left_of i v)) push) (first _ _ tt (first _ _ tt nothing));
 }
 
+-- one operand, an item that gives a word of it, and a branch by that word
+one_fine : (v : Value) (item : Operand → Destination → Item)
+    → ((o : Operand) (d : Destination) → HasPrintableText (item o d))
+    → ValueFine v
+    → ((at : ℕ) (d : Destination) → Fine (if_pushed (alone v) (value_items at v push) [] ++ item (alone v) d ∷ []))
+    × ((at : ℕ) (when : Bool) (t : ℕ)
+    → Fine (if_pushed (alone v) (value_items at v push) []
+    ++ item (alone v) push ∷ items.branch_true pushed when t ∷ []))
+one_fine v item text f = (
+  λ at d. last (if_pushed (alone v) (value_items at v push) []) _ (pushed_fine (alone v) _ (f.value at push))
+      (text (alone v) d),
+  λ at when t. joined (if_pushed (alone v) (value_items at v push) []) _
+      (pushed_fine (alone v) _ (f.value at push)) (first _ _ (text (alone v) push) (first _ _ tt nothing)),
+)
+
+-- one operand, and an item that branches by it
+tested_fine : (v : Value) (item : Bool → ℕ → Item) → ((when : Bool) (t : ℕ) → HasPrintableText (item when t))
+    → ValueFine v
+    → ((at : ℕ) (d : Destination) → Fine (truth_items at (operand_count v (alone v) + 1) d
+    (λ t. if_pushed (alone v) (value_items at v push) [] ++ item true t ∷ [])))
+    × ((at : ℕ) (when : Bool) (t : ℕ) → Fine (if_pushed (alone v) (value_items at v push) [] ++ item when t ∷ []))
+tested_fine v item text f =
+    let branches : (at : ℕ) (when : Bool) (t : ℕ)
+    → Fine (if_pushed (alone v) (value_items at v push) [] ++ item when t ∷ []) =
+    λ at when t. last (if_pushed (alone v) (value_items at v push) []) _ (pushed_fine (alone v) _ (f.value at push))
+    (text when t) in (
+      λ at d. truth_fine at (operand_count v (alone v) + 1) d
+          (λ t. if_pushed (alone v) (value_items at v push) [] ++ item true t ∷ []) (λ t. branches at true t),
+      branches,
+    )
+
+relative_fine : (r : Relative) (v : Value) → ValueFine v → ValueFine (source.relative r v)
+relative_fine r v f =
+    let both = one_fine v (λ o d. items.relative r o d) (λ o d. tt) f in
+    record { value = both.0; branch = both.1 }
+
+property_fine : (v : Value) (q : ℕ) → ValueFine v → ValueFine (source.property v q)
+property_fine v q f =
+    let both = one_fine v (λ o d. items.property o q d) (λ o d. tt) f in
+    record { value = both.0; branch = both.1 }
+
+property_size_fine : (v : Value) (q : ℕ) → ValueFine v → ValueFine (source.property_size v q)
+property_size_fine v q f =
+    let both = one_fine v (λ o d. items.property_size o q d) (λ o d. tt) f in
+    record { value = both.0; branch = both.1 }
+
+has_fine : (positive : Bool) (v : Value) (n : ℕ) → ValueFine v → ValueFine (source.has positive v n)
+has_fine positive v n f =
+    let both = tested_fine v (λ when t. items.has (alone v) n (agrees positive when) t) (λ when t. tt) f in
+    record { value = both.0; branch = both.1 }
+
+provides_fine : (v : Value) (q : ℕ) → ValueFine v → ValueFine (source.provides v q)
+provides_fine v q f =
+    let both = tested_fine v (λ when t. items.provides (alone v) q when t) (λ when t. tt) f in
+    record { value = both.0; branch = both.1 }
+
+contained_fine : (op : Containment) (a b : Value) → ValueFine a → ValueFine b → ValueFine (source.contained op a b)
+contained_fine op a b f g =
+    let branches : (at : ℕ) (when : Bool) (t : ℕ) → Fine (branch_items at (source.contained op a b) when t) =
+    λ at when t. two_fine (left_of a b) (alone b) _ _ _ (f.value at push)
+    (g.value (at + operand_count a (left_of a b)) push) (first _ _ tt nothing) in
+    record {
+      value = λ at d. truth_fine at (operand_count a (left_of a b) + operand_count b (alone b) + 1) d
+          (λ t. branch_items at (source.contained op a b) true t) (λ t. branches at true t);
+      branch = branches;
+    }
+
+property_word_fine : (v : Value) (q : ℕ) (i : Value) → ValueFine v → ValueFine i
+    → ValueFine (source.property_word v q i)
+property_word_fine v q i f g = record {
+  value = λ at d. two_fine (left_of v i) (alone i) _ _ _ (f.value at push)
+      (g.value (at + operand_count v (left_of v i)) push) (first _ _ tt nothing);
+  branch = λ at when t. two_fine (left_of v i) (alone i) _ _ _ (f.value at push)
+      (g.value (at + operand_count v (left_of v i)) push) (first _ _ tt (first _ _ tt nothing));
+}
+
+assign_property_fine : (v : Value) (q : ℕ) (w : Value) → ValueFine v → ValueFine w
+    → ValueFine (source.assign_property v q w)
+assign_property_fine v q w f g = record {
+  value = λ at d. two_fine (left_of v w) (alone w) _ _ _ (f.value at push)
+      (g.value (at + operand_count v (left_of v w)) push) (first _ _ tt nothing);
+  branch = λ at when t. two_fine (left_of v w) (alone w) _ _ _ (f.value at push)
+      (g.value (at + operand_count v (left_of v w)) push) (first _ _ tt (first _ _ tt nothing));
+}
+
+assign_property_word_fine : (v : Value) (q : ℕ) (i w : Value) → ValueFine v → ValueFine i → ValueFine w
+    → ValueFine (source.assign_property_word v q i w)
+assign_property_word_fine v q i w f g h = record {
+  value = λ at d. joined (if_pushed (first_of v i w) (value_items at v push) []) _
+      (pushed_fine (first_of v i w) _ (f.value at push))
+      (two_fine (left_of i w) (alone w) _ _ _ (g.value (at + operand_count v (first_of v i w)) push)
+      (h.value (at + operand_count v (first_of v i w) + operand_count i (left_of i w)) push) (first _ _ tt nothing));
+  branch = λ at when t. joined (if_pushed (first_of v i w) (value_items at v push) []) _
+      (pushed_fine (first_of v i w) _ (f.value at push))
+      (two_fine (left_of i w) (alone w) _ _ _ (g.value (at + operand_count v (first_of v i w)) push)
+      (h.value (at + operand_count v (first_of v i w) + operand_count i (left_of i w)) push)
+      (first _ _ tt (first _ _ tt nothing)));
+}
+
 none_fine : ValuesFine none
 none_fine = record {
   all = λ at. nothing;
@@ -234,6 +337,16 @@ mutual
   }
   value_fine (source.entry width n i) = entry_fine width n i (value_fine i)
   value_fine (source.assign_entry width n i v) = assign_entry_fine width n i v (value_fine i) (value_fine v)
+  value_fine (source.relative r v) = relative_fine r v (value_fine v)
+  value_fine (source.contained op a b) = contained_fine op a b (value_fine a) (value_fine b)
+  value_fine (source.has positive v n) = has_fine positive v n (value_fine v)
+  value_fine (source.provides v q) = provides_fine v q (value_fine v)
+  value_fine (source.property v q) = property_fine v q (value_fine v)
+  value_fine (source.property_size v q) = property_size_fine v q (value_fine v)
+  value_fine (source.property_word v q i) = property_word_fine v q i (value_fine v) (value_fine i)
+  value_fine (source.assign_property v q w) = assign_property_fine v q w (value_fine v) (value_fine w)
+  value_fine (source.assign_property_word v q i w) =
+      assign_property_word_fine v q i w (value_fine v) (value_fine i) (value_fine w)
 
   values_fine : (vs : Values) → ValuesFine vs
   values_fine none = none_fine
@@ -248,6 +361,7 @@ printed_fine : (i : Printed) → IsPrintableItem i → (at : ℕ) → Fine (prin
 printed_fine (source.text bytes) h at = first _ _ h nothing
 printed_fine (source.character_of v) h at = last (alone_items at v) _ (alone_fine v at) tt
 printed_fine (source.number_of v) h at = last (alone_items at v) _ (alone_fine v at) tt
+printed_fine (source.name_of v) h at = last (alone_items at v) _ (alone_fine v at) tt
 
 prints_fine : (is : List Printed) → All IsPrintableItem is → (at : ℕ) → Fine (prints_items at is)
 prints_fine [] h at = nothing
@@ -281,6 +395,27 @@ tests_fine (g ∷ h ∷ gs) at inside behind =
 
 over_fine : (later end : ℕ) → Fine (over_items later end)
 over_fine later end = either_fine (later == 0) _ _ nothing (first _ _ tt nothing)
+
+-- Objects one after another
+
+each_fine : (at : ℕ) (x : Variable) (body : ℕ) (run : Exits → ℕ → List Item)
+    → ((inside : Exits) (place : ℕ) → Fine (run inside place)) → Fine (each_items at x body run)
+each_fine at x body run h =
+    let inside = exits_to (at + 1 + body) (at + 1 + body + 2) in
+    first _ _ tt (joined (run inside (at + 1)) _ (h inside (at + 1)) (first _ _ tt (first _ _ tt nothing)))
+
+relatives_fine : (r : Relative) (o : Operand) (x : Variable) (end : ℕ) → Fine (relative_items r o x end)
+relatives_fine r o x end = first _ _ tt (first _ _ tt (first _ _ tt nothing))
+
+children_fine : (at : ℕ) (x : Variable) (o : Operand) (body : ℕ) (run : Exits → ℕ → List Item)
+    → ((inside : Exits) (place : ℕ) → Fine (run inside place)) → Fine (children_items at x o body run)
+children_fine at x o body run h =
+    let end = at + 3 + body + 4 in
+    let inside = exits_to (at + 3 + body) end in
+    joined (relative_items relatives.Child o x end) _ (relatives_fine relatives.Child o x end)
+    (joined (run inside (at + 3)) _ (h inside (at + 3))
+    (joined (relative_items relatives.Sibling (variable x) x end) _
+    (relatives_fine relatives.Sibling (variable x) x end) (first _ _ tt nothing)))
 
 mutual
   action_fine : (x : Exits) (a : Action) → IsPrintableAction a → (at : ℕ) → Fine (action_items x at a)
@@ -327,6 +462,26 @@ mutual
   action_fine x source.break_out h at = first _ _ tt nothing
   action_fine x source.continue_on h at = first _ _ tt nothing
   action_fine x (source.read_line t p) h at = first _ _ tt nothing
+  action_fine x (source.give_to v changes) h at = last (alone_items at v) _ (alone_fine v at) tt
+  action_fine x (source.move_to v w) h at =
+      two_fine (left_of v w) (alone w) _ _ _ ((value_fine v).value at push)
+      ((value_fine w).value (at + operand_count v (left_of v w)) push) (first _ _ tt nothing)
+  action_fine x (source.remove_from v) h at = last (alone_items at v) _ (alone_fine v at) tt
+  action_fine x (source.each_object y a) h at =
+      each_fine at y (action_count a) (λ inside place. action_items inside place a)
+      (λ inside place. action_fine inside a h place)
+  action_fine x (source.each_where y v a) h at =
+      each_fine at y (branch_count v false + action_count a)
+      (λ inside place.
+      branch_items place v false (place + branch_count v false + action_count a)
+      ++ action_items inside (place + branch_count v false) a)
+      (λ inside place.
+      joined (branch_items place v false _) _ ((value_fine v).branch place false _)
+      (action_fine inside a h (place + branch_count v false)))
+  action_fine x (source.each_in y v a) h at =
+      joined (alone_items at v) _ (alone_fine v at)
+      (children_fine (at + operand_count v (alone v)) y (alone v) (action_count a)
+      (λ inside place. action_items inside place a) (λ inside place. action_fine inside a h place))
   action_fine x (source.return_value v) h at = last (alone_items at v) _ (alone_fine v at) tt
   action_fine x source.quit h at = first _ _ tt nothing
   action_fine x (source.effect v) h at = (value_fine v).value at nowhere

@@ -15,7 +15,7 @@ use Rattle.zcore.specs.Instruction.{Instruction, bytes_of}
 use Rattle.zcore.specs.State.{Pending, State, Out, done, halt}
 use Rattle.zcore.specs.Parts.{is_text_buffer, is_parse_buffer, test_text_buffer, test_parse_buffer, test_result}
 use Rattle.zcore.specs.Parts.{store_result, wait}
-use Rattle.zcore.specs.Header.{static_base_of}
+use Rattle.zcore.specs.Header.{defaults_of, static_base_of}
 use Rattle.zcore.specs.Execution.{perform, step, read}
 use Rattle.zcore.specs.Turn.{Whole, Turns, ended, given, resumed, turn_on, turn_from, after_step, plays_from}
 use Rattle.zcore.specs.Turn.{last_place}
@@ -37,8 +37,8 @@ use Rattle.code.proofs.Play.{Leads, Stored, Does, Good, LedOn, stays, moves, nex
 use Rattle.code.proofs.Memory.{with_variable, stored_temporary}
 use Rattle.code.proofs.Regions.{KeepsOutside}
 use Rattle.code.proofs.Flat.{array_within}
-use Rattle.code.proofs.StoredEntries.{Inside, entry_inside, entry_is, entry_keeps}
-use Rattle.code.proofs.StoredEntries.{stored_entry, sizes_kept}
+use Rattle.code.proofs.StoredEntries.{high_kept, Inside, entry_inside, entry_is, entry_keeps}
+use Rattle.code.proofs.StoredEntries.{high_kept, stored_entry, sizes_kept}
 use Rattle.code.proofs.StoredLines.{line_sizes, text_passes, parse_passes, memory_with_line, stored_line}
 use Rattle.code.proofs.Alike.{cleared, letters_cleared, words_cleared, line_cleared}
 use Rattle.code.proofs.Parts.{machine as at_words, global_writes}
@@ -52,7 +52,7 @@ use Rattle.code.proofs.Temporaries.{Scratch, scratch_here, scratch_with, reads_w
 use Rattle.code.proofs.Delivering.{given as gives}
 use Rattle.code.proofs.Alone.{next_place, plain_length}
 use Rattle.code.proofs.ItemsThatPrint.{fails_led}
-use Rattle.code.proofs.Indexing.{Reached, Tested, tested}
+use Rattle.code.proofs.Indexing.{Reached, Tested, tested, reads_still}
 use Rattle.code.proofs.Loading.{loads, bytes_in, size_in, array_there, array_size, array_short, static_small}
 use Rattle.code.proofs.Storing.{stores, static_same}
 
@@ -223,7 +223,8 @@ module _ (c : Running) where
   -- it is that of the array, where there is one
   byte_is : (n : ℕ) (other : List ℕ) → n < length p.arrays → Scratch c other → IsFirst (bytes_in c n) (byte_in n other)
   byte_is n other known scratch some =
-      entry_is story a world.globals world.arrays other scratch.stored n (array_there c n known) widths.Byte 0
+      entry_is story a p world.globals world.arrays world.objects other scratch.stored n (array_there c n known)
+      widths.Byte 0
       (lt-ltb 0 (length (bytes_in c n)) some)
 
   -- a first byte, and its tests
@@ -237,7 +238,7 @@ module _ (c : Running) where
       tested c causes.BufferTooSmall 1 248 (byte_in n r.memory) (most + 1) (λ _. rest) s s m
       (loaded n s (tested_first a most ++ rest) known room followed r)
       (reads_written c r.memory 248 (byte_in n r.memory) r.scratch (omega arith) (omega arith))
-      (omega (arith, end)) followed
+      (reads_still c r.memory (byte_in n r.memory) r.scratch) (omega (arith, end)) followed
 
   -- the fault, as an item that reads comes to it
   too_small : (s : List ℕ) → Reached c s s m (fail (fault_address a causes.BufferTooSmall))
@@ -262,7 +263,7 @@ module _ (c : Running) where
     abbrev other : List ℕ
     other = r.memory
 
-    abbrev stored : Stored story a world.globals world.arrays other
+    abbrev stored : Stored story a p world.globals world.arrays world.objects other
     stored = r.scratch.stored
 
     text_there : t < length world.arrays
@@ -287,18 +288,21 @@ module _ (c : Running) where
     abbrev memory0 : List ℕ
     memory0 = set other (place_in t + 1) 0
 
-    stored0 : Stored story a world.globals arrays0 memory0
-    stored0 = stored_entry story a world.globals world.arrays other stored t text_there widths.Byte 1 0 index
+    stored0 : Stored story a p world.globals arrays0 world.objects memory0
+    stored0 = stored_entry story a p world.globals world.arrays world.objects other stored t text_there widths.Byte 1
+        0 index
         holds.globals_above (few c)
 
-    keeps0 : KeepsOutside stored.regions.first (static_base_of story) other memory0
-    keeps0 = entry_keeps story a world.globals world.arrays other stored t text_there widths.Byte 1 0 index
+    keeps0 : KeepsOutside stored.regions.first (defaults_of story) other memory0
+    keeps0 = entry_keeps story a p world.globals world.arrays world.objects other stored t text_there widths.Byte 1 0
+        index
 
     sizes0 : map length arrays0 ≡ map length world.arrays
-    sizes0 = sizes_kept story a world.globals world.arrays other stored t text_there widths.Byte 1 0
+    sizes0 = sizes_kept story a p world.globals world.arrays world.objects other stored t text_there widths.Byte 1 0
 
-    lies : Inside story a world.globals world.arrays other stored t text_there (place_in t + 1) (place_in t + 1)
-    lies = entry_inside story a world.globals world.arrays other stored t text_there widths.Byte 1 index
+    lies : Inside story a p world.globals world.arrays world.objects other stored t text_there (place_in t + 1)
+        (place_in t + 1)
+    lies = entry_inside story a p world.globals world.arrays world.objects other stored t text_there widths.Byte 1 index
 
     text0 : t < length arrays0
     text0 = omega (arith, text_there, length-set world.arrays t (set (bytes_in c t) 1 0))
@@ -313,11 +317,13 @@ module _ (c : Running) where
     words0 = words_cleared (number_in p) world.arrays t q text_there other_way words
 
     text_ok : is_text_buffer memory0 (place_in t) ≡ true
-    text_ok = text_passes story a p holds world.globals arrays0 memory0 stored0 (few c) t q text0 parse0 other_way
+    text_ok = text_passes story a p holds world.globals arrays0 world.objects memory0 stored0 (few c) t q text0 parse0
+        other_way
         letters0 words0 (get_or-set_same other (place_in t + 1) 0 0 lies.long)
 
     parse_ok : is_parse_buffer memory0 (place_in q) ≡ true
-    parse_ok = parse_passes story a p holds world.globals arrays0 memory0 stored0 (few c) t q text0 parse0 other_way
+    parse_ok = parse_passes story a p holds world.globals arrays0 world.objects memory0 stored0 (few c) t q text0
+        parse0 other_way
         letters0 words0
 
     abbrev clears : Instruction
@@ -375,7 +381,9 @@ module _ (c : Running) where
         step_is (point (r.q + 6) world.fuel) st0 st0 reads (place_in t ∷ place_in q ∷ [])
         (encodable reads shaped (held_bytes (static_base_of story) (r.q + 6) story m (bytes_of reads) holds.byte_each
         (kept c) from reads_held))
-        (holds_on (static_base_of story) (r.q + 6) m memory0 (bytes_of reads) (keeps0.after ∙ r.scratch.kept) from
+        (holds_on (static_base_of story) (r.q + 6) m memory0 (bytes_of reads)
+        (high_kept story a p world.globals world.arrays world.objects other memory0 stored keeps0.after
+        ∙ r.scratch.kept) from
         reads_held)
         (two_operands st0 st0 st0 (Large (place_in t)) (Large (place_in q)) (place_in t) (place_in q)
         (large_value st0 (place_in t)) (large_value st0 (place_in q)))
@@ -409,23 +417,26 @@ module _ (c : Running) where
     arrays_with line = with_line (number_in p) t q line world.arrays
 
     abbrev line_memory : List ℕ → List ℕ
-    line_memory line = memory_with_line story a p holds world.globals arrays0 memory0 stored0 (few c) t q text0 parse0
+    line_memory line = memory_with_line story a p holds world.globals arrays0 world.objects memory0 stored0 (few c) t
+        q text0 parse0
         other_way letters0 words0 line
 
     abbrev last_memory : List ℕ → List ℕ
     last_memory line = with_variable (line_memory line) 248 13
 
-    line_stored : (line : List ℕ) → Stored story a world.globals (arrays_with line) (line_memory line)
+    line_stored : (line : List ℕ) → Stored story a p world.globals (arrays_with line) world.objects (line_memory line)
     line_stored line =
-        subst (λ xs. Stored story a world.globals xs (line_memory line))
+        subst (λ xs. Stored story a p world.globals xs world.objects (line_memory line))
         (line_cleared (number_in p) world.arrays t q text_there other_way line)
-        (stored_line story a p holds world.globals arrays0 memory0 stored0 (few c) t q text0 parse0 other_way letters0
+        (stored_line story a p holds world.globals arrays0 world.objects memory0 stored0 (few c) t q text0 parse0
+        other_way letters0
         words0 line)
 
-    last_stored : (line : List ℕ) → Stored story a world.globals (arrays_with line) (last_memory line)
+    last_stored : (line : List ℕ) → Stored story a p world.globals (arrays_with line) world.objects (last_memory line)
     last_stored line =
-        stored_temporary story a world.globals (arrays_with line) (line_memory line)
-        (ground_is story a p accepted holds (line_memory line) world.globals (arrays_with line) (line_stored line))
+        stored_temporary story a p world.globals (arrays_with line) world.objects (line_memory line)
+        (ground_is story a p accepted holds (line_memory line) world.globals (arrays_with line) world.objects
+        (line_stored line))
         (few c) (line_stored line) 248 13 (omega arith) (omega arith)
 
     given_is : (line : List ℕ) → given pending line full (resumed whole.state)

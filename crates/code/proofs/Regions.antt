@@ -1,8 +1,8 @@
 -- Bytes that stand in memory, and what writes leave of them.
-use Rattle.std.proofs.Common.{◌≡◌, ℕ, ◌+◌, ◌/◌, ◌%◌, ◌<◌, ◌≤◌, ◌⊎◌, inl, inr, List, [], ◌∷◌, length, set}
+use Rattle.std.proofs.Common.{◌≡◌, ℕ, ◌+◌, ◌-◌, ◌/◌, ◌%◌, ◌<◌, ◌≤◌, ◌⊎◌, inl, inr, List, [], ◌∷◌, length, set}
 use Rattle.std.proofs.Common.{drop, slice_index, refl, ap, sym, ◌∙◌, subst, arith}
 use Rattle.std.proofs.lemmas.Bool.{cases_eq}
-use Rattle.std.proofs.lemmas.List.{get_or-set_same, get_or-set_other, length-set, drop-set-lt, get_or-drop}
+use Rattle.std.proofs.lemmas.List.{get_or-set_same, get_or-set_other, length-set, drop-set-lt, get_or-drop, drop-drop}
 use Rattle.std.proofs.lemmas.List.{get_or-take}
 use Rattle.zcore.specs.Parts.{with_word}
 use Rattle.zcore.specs.Turn.{with_bytes}
@@ -61,11 +61,31 @@ stands_on memory other base bytes s size same = record {
   each = λ j h. same (base + j) (omega arith) ∙ s.each j h;
 }
 
+-- memory that is the same from an address on
+pub same_on : (base q : ℕ) (memory other : List ℕ) → drop base other ≡ drop base memory → base ≤ q
+    → drop q other ≡ drop q memory
+same_on base q memory other kept high =
+    let e : base + (q - base) ≡ q = omega (arith, high) in
+    subst (λ x. drop x other ≡ drop x memory) e (sym (drop-drop (q - base) base other) ∙ ap (drop (q - base)) kept
+    ∙ drop-drop (q - base) base memory)
+
 -- bytes before one address, and from another on, are the same
 pub record KeepsOutside (from to : ℕ) (old new : List ℕ) : Type 0 where
   pub size : length new ≡ length old
   pub before : (q : ℕ) → q < from → slice_index new q ≡ slice_index old q
   pub after : drop to new ≡ drop to old
+
+-- and more bytes may differ
+pub keeps_wider : (from to end : ℕ) (l m : List ℕ) → to ≤ end → KeepsOutside from to l m → KeepsOutside from end l m
+keeps_wider from to end l m le k = record { size = k.size; before = k.before; after = same_on to end l m k.after le }
+
+-- a byte behind them
+pub byte_behind : (from to : ℕ) (l m : List ℕ) (q : ℕ) → KeepsOutside from to l m → to ≤ q
+    → slice_index m q ≡ slice_index l q
+byte_behind from to l m q k high =
+    let e : to + (q - to) ≡ q = omega (arith, high) in
+    ap (slice_index m) (sym e) ∙ sym (get_or-drop to m (q - to) 0) ∙ ap (λ bs. slice_index bs (q - to)) k.after
+    ∙ get_or-drop to l (q - to) 0 ∙ ap (slice_index l) e
 
 pub keeps_then : (from to : ℕ) (l m n : List ℕ) → KeepsOutside from to l m → KeepsOutside from to m n
     → KeepsOutside from to l n

@@ -17,31 +17,31 @@ use Rattle.forms.specs.Layout.{uses}
 use Rattle.items.specs.Items.{Item, pushed, number, variable, push, into, nowhere, is_zero, less, greater, same, move}
 use Rattle.items.specs.Items.{operate, step, entry, assign_entry, print_text, read_line, branch, choose, case, jump}
 use Rattle.items.specs.Items.{call, return}
-use Rattle.code.specs.Addresses.{Addresses}
+use Rattle.code.specs.Addresses.{Addresses, Sizes}
 use Rattle.code.specs.Bytes.{item_bytes, parts_of, code_bytes}
 use Rattle.code.specs.HeldProgram.{start_code}
 
-abbrev a : Addresses
+abbrev pub a : Addresses
 a = record {
   routines = 300 ∷ 400 ∷ [];
   arrays = 560 ∷ 570 ∷ [];
   faults = 515 ∷ 516 ∷ 517 ∷ 518 ∷ 519 ∷ 521 ∷ 520 ∷ 522 ∷ [];
 }
 
--- arrays of 10 bytes and of 600
-abbrev sizes : List ℕ
-sizes = 10 ∷ 600 ∷ []
+-- arrays of 10 bytes and of 600, and 3 objects
+abbrev pub sizes : Sizes
+sizes = record { arrays = 10 ∷ 600 ∷ []; objects = 3 }
 
-abbrev x : Variable
+abbrev pub x : Variable
 x = variables.Local 0
 
-abbrev y : Variable
+abbrev pub y : Variable
 y = variables.Local 1
 
 abbrev g : Variable
 g = variables.Global 0
 
-abbrev written : Item → List ℕ
+abbrev pub written : Item → List ℕ
 written = item_bytes sizes a 0
 
 -- add y 5 -> x

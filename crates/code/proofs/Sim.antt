@@ -1,5 +1,6 @@
 -- The machine does what the machine of items does, where it does what each item leads to.
-use Rattle.std.proofs.Common.{◌≡◌, ℕ, zero, suc, ◌++◌, List, [], ◌∷◌, Option, Some, None, Bool, true, false, refl}
+use Rattle.std.proofs.Common.{◌≡◌, ℕ, zero, suc, ◌≤◌, length, ◌++◌, List, [], ◌∷◌, Option, Some, None, Bool, true}
+use Rattle.std.proofs.Common.{false, refl}
 use Rattle.std.proofs.Common.{sym, ap, ◌∙◌, subst, append_assoc}
 use Rattle.std.specs.Prelude.{slice_get, map, if◌then◌else◌}
 use Rattle.zcore.specs.declared.next.Next.{Next}
@@ -13,7 +14,7 @@ use Rattle.items.specs.Stack as stack
 use Rattle.code.specs.Addresses.{Addresses}
 use Rattle.code.proofs.Play.{Does, Good, Led, LedOn, LedBy, items_in, next_of, state_of}
 use Rattle.code.proofs.Ends.{does_after}
-use Rattle.code.proofs.Keeps.{Same, Keeps, KeepsBy, is_read, act_keeps}
+use Rattle.code.proofs.Keeps.{Same, Keeps, Bounded, KeepsBy, is_read, act_keeps}
 
 -- a turn goes on in the same way for worlds with the same lines and texts
 pub does_same : (full : ℕ) (here : Next) (t : State) (w v : World) (o : Outcome) → Same w v → Does full here t v o
@@ -54,6 +55,7 @@ module _ (story : List ℕ) (a : Addresses) (p : ProgramOf) (full : ℕ) where
   abbrev pub ItemsLead : Type 0
   ItemsLead =
       (s : stack.State) (memory : List ℕ) (count : ℕ) (counts : List ℕ) (i : Item) → Good story a p s memory
+      → length s.situation.world.text ≤ 65536
       → slice_get (items_in story a p s.routine) s.place ≡ Some i
       → LedBy story a p (is_read i) full (next_of story a p s) (state_of story a p s memory count counts)
       s.situation.world (stack.act p full (Some i) s)
@@ -62,40 +64,43 @@ module _ (story : List ℕ) (a : Addresses) (p : ProgramOf) (full : ℕ) where
   abbrev pub Simulated : ℕ → Type 0
   Simulated n =
       (s : stack.State) (memory : List ℕ) (count : ℕ) (counts : List ℕ) (o : Outcome) → Good story a p s memory
-      → stack.exec p full n s ≡ Some o
+      → length s.situation.world.text ≤ 65536 → stack.exec p full n s ≡ Some o
       → Does full (next_of story a p s) (state_of story a p s memory count counts) s.situation.world o
 
   -- what an item leads to, and the items after it
   pub led_on : (n : ℕ) → Simulated n → (here : Next) (t : State) (w : World) (next : stack.Next) (o : Outcome)
-      → Led story a p full here t w next → Keeps w next → stack.from next (stack.exec p full n) ≡ Some o
-      → Does full here t w o
-  led_on n later here t w (stack.goes s) o l keeps e =
+      → Led story a p full here t w next → Keeps w next → length w.text ≤ 65536
+      → stack.from next (stack.exec p full n) ≡ Some o → Does full here t w o
+  led_on n later here t w (stack.goes s) o l keeps short e =
       does_after full w o here (next_of story a p s) t (state_of story a p s l.memory l.count l.counts) l.leads
       (does_same full (next_of story a p s) (state_of story a p s l.memory l.count l.counts) w s.situation.world o
       keeps
-      (later s l.memory l.count l.counts o l.good e))
-  led_on n later here t w (stack.ends x) o l keeps e = let is : x ≡ o = cc in subst (λ y. Does full here t w y) is l
-  led_on n later here t w stack.stuck o l keeps e = absurd (cc)
+      (later s l.memory l.count l.counts o l.good (keeps.short short) e))
+  led_on n later here t w (stack.ends x) o l keeps short e =
+      let is : x ≡ o = cc in subst (λ y. Does full here t w y) is l
+  led_on n later here t w stack.stuck o l keeps short e = absurd (cc)
 
   -- what an item that reads a line leads to
   line_led : (n : ℕ) → Simulated n → (here : Next) (t : State) (w : World) (next : stack.Next) (o : Outcome)
-      → LedOn story a p full here t w next → stack.from next (stack.exec p full n) ≡ Some o → Does full here t w o
-  line_led n later here t w (stack.goes s) o l e =
+      → LedOn story a p full here t w next → Bounded w next → length w.text ≤ 65536
+      → stack.from next (stack.exec p full n) ≡ Some o → Does full here t w o
+  line_led n later here t w (stack.goes s) o l bounded short e =
       does_await full here (next_of story a p s) t (state_of story a p s l.memory l.count l.counts) w
       s.situation.world o l.line l.whole l.lines l.texts l.turns l.waits l.given
-      (later s l.memory l.count l.counts o l.good e)
-  line_led n later here t w (stack.ends x) o l e = let is : x ≡ o = cc in subst (λ y. Does full here t w y) is l
-  line_led n later here t w stack.stuck o l e = absurd (cc)
+      (later s l.memory l.count l.counts o l.good (bounded short) e)
+  line_led n later here t w (stack.ends x) o l bounded short e =
+      let is : x ≡ o = cc in subst (λ y. Does full here t w y) is l
+  line_led n later here t w stack.stuck o l bounded short e = absurd (cc)
 
   led_by : (b : Bool) (n : ℕ) → Simulated n → (here : Next) (t : State) (w : World) (next : stack.Next) (o : Outcome)
-      → LedBy story a p b full here t w next → KeepsBy b w next → stack.from next (stack.exec p full n) ≡ Some o
-      → Does full here t w o
-  led_by true n later here t w next o l keeps e = line_led n later here t w next o l e
-  led_by false n later here t w next o l keeps e = led_on n later here t w next o l keeps e
+      → LedBy story a p b full here t w next → KeepsBy b w next → length w.text ≤ 65536
+      → stack.from next (stack.exec p full n) ≡ Some o → Does full here t w o
+  led_by true n later here t w next o l keeps short e = line_led n later here t w next o l keeps short e
+  led_by false n later here t w next o l keeps short e = led_on n later here t w next o l keeps short e
 
   pub sim : ItemsLead → (n : ℕ) → Simulated n
-  sim led zero s memory count counts o good e = absurd (cc)
-  sim led (suc n) s memory count counts o good e =
+  sim led zero s memory count counts o good short e = absurd (cc)
+  sim led (suc n) s memory count counts o good short e =
       go (slice_get (items_in story a p s.routine) s.place) refl (sim led n) e
     where
       go : (i : Option Item) → slice_get (items_in story a p s.routine) s.place ≡ i → Simulated n
@@ -104,5 +109,5 @@ module _ (story : List ℕ) (a : Addresses) (p : ProgramOf) (full : ℕ) where
       go None h later f = absurd (cc)
       go (Some i) h later f =
           led_by (is_read i) n later (next_of story a p s) (state_of story a p s memory count counts)
-          s.situation.world (stack.act p full (Some i) s) o (led s memory count counts i good h)
-          (act_keeps p full i s) f
+          s.situation.world (stack.act p full (Some i) s) o (led s memory count counts i good short h)
+          (act_keeps p full i s) short f

@@ -187,6 +187,29 @@ module _ (e : Around) (fuel : ℕ) where
 
   -- Branches ahead
 
+  pub branch_here_step : (m l s s1 t : List ℕ) (q d : ℕ) (op : Operation) (operands : List Operand) (values : List ℕ)
+      (when holds : Bool) → IsEncodable (branching op operands when (2 + d))
+      → operand_values operands (at_words e m l s t) ≡ done values (at_words e m l s1 t)
+      → ((after : ℕ)
+      → perform op (point q fuel) after None (Some (record { when = when; offset = 2 + d })) values
+      (at_words e m l s1 t)
+      ≡ branch_on (point q fuel) after (Some (record { when = when; offset = 2 + d })) holds (at_words e m l s1 t))
+      → d < 8190 → 64 ≤ q → 0 < length (bytes_of (branching op operands when (2 + d)))
+      → q + length (bytes_of (branching op operands when (2 + d))) + d < length m
+      → Holds m q (bytes_of (branching op operands when (2 + d)))
+      → step (point q fuel) (at_words e m l s t)
+      ≡ done (point (landing when holds (q + length (bytes_of (branching op operands when (2 + d)))) d) fuel)
+      (at_words e m l s1 t)
+  branch_here_step m l s s1 t q d op operands values when holds fits v is near above some within h =
+      let n = q + length (bytes_of (branching op operands when (2 + d))) in
+      step_is (point q fuel) (at_words e m l s t) (at_words e m l s1 t) (branching op operands when (2 + d)) values
+      fits
+      h v
+      ∙ is n
+      ∙ branches (point q fuel) n d when holds (at_words e m l s1 t) near (omega (arith, some)) (omega (arith, above))
+      within
+
+  -- of an operation that branches in the same way in each state
   pub branch_step : (m l s s1 t : List ℕ) (q d : ℕ) (op : Operation) (operands : List Operand) (values : List ℕ)
       (when holds : Bool) → IsEncodable (branching op operands when (2 + d))
       → operand_values operands (at_words e m l s t) ≡ done values (at_words e m l s1 t)
@@ -200,13 +223,8 @@ module _ (e : Around) (fuel : ℕ) where
       ≡ done (point (landing when holds (q + length (bytes_of (branching op operands when (2 + d)))) d) fuel)
       (at_words e m l s1 t)
   branch_step m l s s1 t q d op operands values when holds fits v is near above some within h =
-      let n = q + length (bytes_of (branching op operands when (2 + d))) in
-      step_is (point q fuel) (at_words e m l s t) (at_words e m l s1 t) (branching op operands when (2 + d)) values
-      fits
-      h v
-      ∙ is (point q fuel) n (at_words e m l s1 t)
-      ∙ branches (point q fuel) n d when holds (at_words e m l s1 t) near (omega (arith, some)) (omega (arith, above))
-      within
+      branch_here_step m l s s1 t q d op operands values when holds fits v
+      (λ after. is (point q fuel) after (at_words e m l s1 t)) near above some within h
 
   -- a jump ahead
   pub jump_step : (m l s t : List ℕ) (q offset target : ℕ) → offset < 65536

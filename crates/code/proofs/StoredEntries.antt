@@ -1,21 +1,25 @@
 -- Entries of arrays in the memory of a story that runs.
-use Rattle.std.proofs.Common.{◌≡◌, ℕ, ◌+◌, ◌-◌, ◌*◌, ◌%◌, ◌<◌, ◌≤◌, List, length, slice_index, slice_set}
+use Rattle.std.proofs.Common.{◌≡◌, ℕ, ◌+◌, ◌-◌, ◌*◌, ◌%◌, ◌<◌, ◌≤◌, List, length, drop, slice_index, slice_set}
 use Rattle.std.proofs.Common.{true, sym, ap, ◌∙◌, subst, arith}
 use Rattle.std.specs.Prelude.{nat_lt, map}
 use Rattle.std.specs.List.{concat}
 use Rattle.std.proofs.lemmas.Bool.{and_parts, ltb-true}
 use Rattle.std.proofs.lemmas.List.{length-set}
 use Rattle.zcore.specs.Bytes.{word_at}
-use Rattle.zcore.specs.Header.{globals_of, static_base_of}
+use Rattle.zcore.specs.Header.{defaults_of, globals_of, static_base_of}
 use Rattle.zcore.specs.Parts.{with_word}
 use Rattle.expressions.specs.declared.tree.Width.{Width}
 use Rattle.expressions.specs.declared.tree.Width.TheVariants as widths
 use Rattle.meaning.specs.World.{array_at, entry_count, is_index, entry_at, with_entry}
+use Rattle.meaning.specs.Objects.{Objects}
+use Rattle.meaning.specs.Resolved.{ProgramOf}
+use Rattle.region.proofs.Frames as region
 use Rattle.code.specs.Addresses.{Addresses}
 use Rattle.code.specs.HeldProgram.{offset_in}
 use Rattle.code.proofs.Flat.{array_within, byte_at, byte_set, word_set, sizes_same, concat_same, place_same}
 use Rattle.code.proofs.Flat.{count_same}
-use Rattle.code.proofs.Regions.{Stands, stands_set, stands_word, KeepsOutside, keeps_set, keeps_word}
+use Rattle.code.proofs.Regions.{Stands, stands_set, stands_word, KeepsOutside, keeps_set, keeps_word, byte_behind}
+use Rattle.code.proofs.Regions.{same_on}
 use Rattle.code.proofs.Play.{Stored}
 use Rattle.code.proofs.Memory.{word_of, length_with}
 
@@ -54,18 +58,44 @@ with_length : (width : Width) (bytes : List ℕ) (i v : ℕ) → length (with_en
 with_length widths.Byte bytes i v = length-set bytes i (v % 256)
 with_length widths.Word bytes i v = length_with bytes (2 * i) v
 
+-- objects and static memory begin in the same places
+pub defaults_same : (story memory : List ℕ) → ((q : ℕ) → q < 64 → slice_index memory q ≡ slice_index story q)
+    → defaults_of memory ≡ defaults_of story
+defaults_same story memory header =
+    ap (λ x. x * 256 + slice_index memory 11) (header 10 (omega arith))
+    ∙ ap (λ x. slice_index story 10 * 256 + x) (header 11 (omega arith))
+
+pub static_same : (story memory : List ℕ) → ((q : ℕ) → q < 64 → slice_index memory q ≡ slice_index story q)
+    → static_base_of memory ≡ static_base_of story
+static_same story memory header =
+    ap (λ x. x * 256 + slice_index memory 15) (header 14 (omega arith))
+    ∙ ap (λ x. slice_index story 14 * 256 + x) (header 15 (omega arith))
+
+-- what is the same from the objects on is so from static memory on
+pub high_kept : (story : List ℕ) (a : Addresses) (p : ProgramOf) (globals : List ℕ) (arrays : List (List ℕ))
+    (objects : Objects) (memory other : List ℕ) → Stored story a p globals arrays objects memory
+    → drop (defaults_of story) other ≡ drop (defaults_of story) memory
+    → drop (static_base_of story) other ≡ drop (static_base_of story) memory
+high_kept story a p globals arrays objects memory other stored kept =
+    let base = defaults_same story memory stored.header in
+    let static = static_same story memory stored.header in
+    let entries = stored.has.entries in
+    same_on (defaults_of story) (static_base_of story) memory other kept (omega (arith, base, static, entries.below))
+
 -- other bytes stand in the region of arrays
-pub stored_other : (story : List ℕ) (a : Addresses) (globals : List ℕ) (arrays other_arrays : List (List ℕ))
-    (memory other : List ℕ) (stored : Stored story a globals arrays memory)
-    → KeepsOutside stored.regions.first (static_base_of story) memory other
+pub stored_other : (story : List ℕ) (a : Addresses) (p : ProgramOf) (globals : List ℕ)
+    (arrays other_arrays : List (List ℕ)) (objects : Objects) (memory other : List ℕ)
+    (stored : Stored story a p globals arrays objects memory)
+    → KeepsOutside stored.regions.first (defaults_of story) memory other
     → Stands other stored.regions.first (concat other_arrays) → map length other_arrays ≡ map length arrays
-    → 64 ≤ globals_of story → length globals ≤ 232 → Stored story a globals other_arrays other
-stored_other story a globals arrays other_arrays memory other stored keeps stands same low few =
+    → 64 ≤ globals_of story → length globals ≤ 232 → Stored story a p globals other_arrays objects other
+stored_other story a p globals arrays other_arrays objects memory other stored keeps stands same low few =
     let r = stored.regions in
+    let base = defaults_same story memory stored.header in
     record {
       size = keeps.size ∙ stored.size;
       header = λ q h. keeps.before q (omega (arith, h, low, r.above)) ∙ stored.header q h;
-      kept = keeps.after ∙ stored.kept;
+      kept = high_kept story a p globals arrays objects memory other stored keeps.after ∙ stored.kept;
       values = λ g h.
           let here = globals_of story + 2 * g in
           ap (λ x. x * 256 + slice_index other (here + 1)) (keeps.before here (omega (arith, h, few, r.above)))
@@ -79,10 +109,18 @@ stored_other story a globals arrays other_arrays memory other stored keeps stand
             ∙ ap (λ x. r.first + x) (sym (place_same other_arrays arrays n same));
         stands = stands;
       };
+      tables = stored.tables;
+      has = region.keeps p.objects p.defaults objects stored.tables memory other stored.has
+          (record {
+            size = keeps.size;
+            header = λ q h. keeps.before q (omega (arith, h, low, r.above));
+            above = λ q h _. byte_behind r.first (defaults_of story) memory other q keeps (omega (arith, h, base));
+          });
     }
 
-module _ (story : List ℕ) (a : Addresses) (globals : List ℕ) (arrays : List (List ℕ)) (memory : List ℕ)
-    (stored : Stored story a globals arrays memory) (k : ℕ) (known : k < length arrays) where
+module _ (story : List ℕ) (a : Addresses) (p : ProgramOf) (globals : List ℕ) (arrays : List (List ℕ))
+    (objects : Objects) (memory : List ℕ) (stored : Stored story a p globals arrays objects memory) (k : ℕ)
+    (known : k < length arrays) where
   abbrev bytes : List ℕ
   bytes = array_at arrays k
 
@@ -103,17 +141,22 @@ module _ (story : List ℕ) (a : Addresses) (globals : List ℕ) (arrays : List 
   pub record Inside (at last : ℕ) : Type 0 where
     pub from : first ≤ at
     pub behind : globals_of story + 480 ≤ at
+    pub low : last < defaults_of story
     pub below : last < static_base_of story
     pub long : last < length memory
 
   inside : (j n : ℕ) → j + n < length bytes → Inside (place + j) (place + j + n)
   inside j n h =
       let r = stored.regions in
+      let base = defaults_same story memory stored.header in
+      let static = static_same story memory stored.header in
+      let entries = stored.has.entries in
       let is = r.places k known in
       record {
         from = omega (arith, is);
         behind = omega (arith, is, r.above);
-        below = omega (arith, is, r.below, within, h);
+        low = omega (arith, is, r.below, within, h);
+        below = omega (arith, is, r.below, within, h, base, static, entries.below);
         long = omega (arith, is, r.stands.within, within, h);
       }
 
@@ -168,32 +211,33 @@ module _ (story : List ℕ) (a : Addresses) (globals : List ℕ) (arrays : List 
       (omega (arith, within, below))))
 
   pub entry_keeps : (width : Width) (i v : ℕ) → is_index width bytes i ≡ true
-      → KeepsOutside first (static_base_of story) memory (next_memory width i v)
+      → KeepsOutside first (defaults_of story) memory (next_memory width i v)
   entry_keeps widths.Byte i v index =
       let there = entry_inside widths.Byte i index in
-      keeps_set first (static_base_of story) (place + i) (v % 256) memory there.from there.below
+      keeps_set first (defaults_of story) (place + i) (v % 256) memory there.from there.low
   entry_keeps widths.Word i v index =
       let there = entry_inside widths.Word i index in
-      keeps_word first (static_base_of story) (place + 2 * i) v memory there.from there.below
+      keeps_word first (defaults_of story) (place + 2 * i) v memory there.from there.low
 
   pub sizes_kept : (width : Width) (i v : ℕ) → map length (next_arrays width i v) ≡ map length arrays
   sizes_kept width i v = sizes_same arrays k (with_entry width bytes i v) (with_length width bytes i v)
 
   -- an entry is written
   pub stored_entry : (width : Width) (i v : ℕ) → is_index width bytes i ≡ true → 64 ≤ globals_of story
-      → length globals ≤ 232 → Stored story a globals (next_arrays width i v) (next_memory width i v)
+      → length globals ≤ 232 → Stored story a p globals (next_arrays width i v) objects (next_memory width i v)
   stored_entry width i v index low few =
-      stored_other story a globals arrays (next_arrays width i v) memory (next_memory width i v) stored
+      stored_other story a p globals arrays (next_arrays width i v) objects memory (next_memory width i v) stored
       (entry_keeps width i v index) (entry_stands width i v index) (sizes_kept width i v) low few
 
 -- a variable from 16 on is the same where an entry is written
-pub variable_kept : (story : List ℕ) (a : Addresses) (globals : List ℕ) (arrays other_arrays : List (List ℕ))
-    (memory other : List ℕ) (first to variable : ℕ) → Stored story a globals arrays memory
-    → Stored story a globals other_arrays other → KeepsOutside first to memory other
+pub variable_kept : (story : List ℕ) (a : Addresses) (p : ProgramOf) (globals : List ℕ)
+    (arrays other_arrays : List (List ℕ)) (objects : Objects) (memory other : List ℕ) (first to variable : ℕ)
+    → Stored story a p globals arrays objects memory → Stored story a p globals other_arrays objects other
+    → KeepsOutside first to memory other
     → globals_of story + 480 ≤ first → 16 ≤ variable → variable < 256
     → word_of other variable ≡ word_of memory variable
-variable_kept story a globals arrays other_arrays memory other first to variable stored stored_other keeps above low
-    small =
+variable_kept story a p globals arrays other_arrays objects memory other first to variable stored stored_other keeps
+    above low small =
     let here : globals_of memory ≡ globals_of story = globals_at memory stored.header in
     let there : globals_of other ≡ globals_of story = globals_at other stored_other.header in
     let at = globals_of story + 2 * (variable - 16) in

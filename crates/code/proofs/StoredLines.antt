@@ -1,11 +1,13 @@
 -- A line that the machine reads, in the memory of a story that runs.
-use Rattle.std.proofs.Common.{◌≡◌, ◌≢◌, ℕ, ◌+◌, ◌*◌, ◌%◌, ◌<◌, ◌≤◌, List, [], ◌∷◌, length, set, slice_index, true, sym, ap}
+use Rattle.std.proofs.Common.{◌≡◌, ◌≢◌, ℕ, ◌+◌, ◌*◌, ◌%◌, ◌<◌, ◌≤◌, List, [], ◌∷◌, length, set, slice_index, true, sym}
+use Rattle.std.proofs.Common.{ap}
 use Rattle.std.proofs.Common.{◌∙◌, subst, arith}
 use Rattle.std.specs.Prelude.{map}
 use Rattle.std.proofs.lemmas.List.{get_or-set_other}
 use Rattle.std.proofs.Math.Nat.{mod-eq_of_lt}
 use Rattle.zcore.specs.Dictionary.{entry_of}
-use Rattle.zcore.specs.Header.{dictionary_of, static_base_of}
+use Rattle.zcore.specs.Header.{defaults_of, dictionary_of, static_base_of}
+use Rattle.meaning.specs.Objects.{Objects}
 use Rattle.zcore.specs.Parsing.{separators_of}
 use Rattle.zcore.specs.Parts.{is_text_buffer, is_parse_buffer}
 use Rattle.zcore.specs.Turn.{with_bytes, with_letters, letters_for}
@@ -18,7 +20,8 @@ use Rattle.meaning.specs.Reading.{holds_letters, holds_words, words_for, words_b
 use Rattle.code.specs.Addresses.{Addresses}
 use Rattle.code.specs.HeldProgram.{offset_in, HoldsProgram}
 use Rattle.code.proofs.Flat.{length_bytes, sizes_same}
-use Rattle.code.proofs.Regions.{KeepsOutside}
+use Rattle.code.proofs.Regions.{keeps_wider}
+use Rattle.std.specs.List.{concat}
 use Rattle.code.proofs.Play.{Stored}
 use Rattle.code.proofs.StoredEntries.{stored_other}
 use Rattle.code.proofs.Dictionaries.{entry_word, entry_same, separators_same}
@@ -39,7 +42,8 @@ line_sizes number arrays t p line apart =
     ∙ sizes_same arrays t new (length_bytes text 1 (length letters ∷ letters))
 
 module _ (story : List ℕ) (a : Addresses) (p : ProgramOf) (holds : HoldsProgram story a p) (globals : List ℕ)
-    (arrays : List (List ℕ)) (memory : List ℕ) (stored : Stored story a globals arrays memory)
+    (arrays : List (List ℕ)) (objects : Objects) (memory : List ℕ)
+    (stored : Stored story a p globals arrays objects memory)
     (few : length globals ≤ 232) (t q : ℕ) (text : t < length arrays) (parse : q < length arrays) (apart : q ≢ t)
     (letters : holds_letters (array_at arrays t) ≡ true) (words : holds_words (array_at arrays q) ≡ true) where
   abbrev base : ℕ
@@ -53,6 +57,11 @@ module _ (story : List ℕ) (a : Addresses) (p : ProgramOf) (holds : HoldsProgra
       ap (λ x. x * 256 + slice_index memory 15) (stored.header 14 (omega arith))
       ∙ ap (λ x. slice_index story 14 * 256 + x) (stored.header 15 (omega arith))
 
+  defaults_same : defaults_of memory ≡ defaults_of story
+  defaults_same =
+      ap (λ x. x * 256 + slice_index memory 11) (stored.header 10 (omega arith))
+      ∙ ap (λ x. slice_index story 10 * 256 + x) (stored.header 11 (omega arith))
+
   dictionary_same : dictionary_of memory ≡ dictionary_of story
   dictionary_same =
       ap (λ x. x * 256 + slice_index memory 9) (stored.header 8 (omega arith))
@@ -62,7 +71,7 @@ module _ (story : List ℕ) (a : Addresses) (p : ProgramOf) (holds : HoldsProgra
   buffers = record {
     stands = stored.regions.stands;
     behind_header = omega (arith, stored.regions.above, holds.globals_above);
-    dynamic = omega (arith, stored.regions.below, static_same);
+    dynamic = omega (arith, stored.regions.below, static_same, defaults_same, stored.has.entries.below);
     text = text;
     parse = parse;
     apart = apart;
@@ -98,7 +107,7 @@ module _ (story : List ℕ) (a : Addresses) (p : ProgramOf) (holds : HoldsProgra
   memory_with_line line = turn.with_line memory text_place parse_place (letters_for memory text_place line)
 
   pub stored_line : (line : List ℕ)
-      → Stored story a globals (with_line (number_in p) t q line arrays) (memory_with_line line)
+      → Stored story a p globals (with_line (number_in p) t q line arrays) objects (memory_with_line line)
   stored_line line =
       let alike = read_alike (number_in p) memory first arrays t q buffers line in
       let there = turn.with_line memory (first + offset_in arrays t) (first + offset_in arrays q)
@@ -107,7 +116,8 @@ module _ (story : List ℕ) (a : Addresses) (p : ProgramOf) (holds : HoldsProgra
       ap (λ x. turn.with_line memory x parse_place (letters_for memory x line)) (stored.regions.places t text)
       ∙ ap (λ y. turn.with_line memory (first + offset_in arrays t) y
       (letters_for memory (first + offset_in arrays t) line)) (stored.regions.places q parse) in
-      subst (Stored story a globals (with_line (number_in p) t q line arrays)) (sym is)
-      (stored_other story a globals arrays (with_line (number_in p) t q line arrays) memory there stored
-      (subst (λ n. KeepsOutside first n memory there) static_same alike.kept) alike.stands
+      subst (Stored story a p globals (with_line (number_in p) t q line arrays) objects) (sym is)
+      (stored_other story a p globals arrays (with_line (number_in p) t q line arrays) objects memory there stored
+      (keeps_wider first (first + length (concat arrays)) (defaults_of story) memory there stored.regions.below
+      alike.kept) alike.stands
       (line_sizes (number_in p) arrays t q line apart) holds.globals_above few)

@@ -27,15 +27,17 @@ use Rattle.zcore.specs.Alphabets.{spelling_of}
 use Rattle.zcore.specs.Arithmetic.{quotient, decimal, signed_text}
 use Rattle.std.specs.List.{flat_map}
 use Rattle.tables.specs.Dictionary.{dictionary_bytes}
+use Rattle.region.specs.Rows.{rows_of, rows_bytes}
 use Rattle.meaning.specs.declared.cause.Cause.{Cause}
 use Rattle.meaning.specs.declared.cause.Cause.TheVariants as causes
 use Rattle.meaning.specs.World.{words_of}
 use Rattle.meaning.specs.declared.resolved.Variable.TheVariants as variables
+use Rattle.meaning.specs.Objects.{ObjectOf}
 use Rattle.meaning.specs.Resolved as source
 use Rattle.meaning.specs.Resolved.{Action, Actions, RoutineOf, ProgramOf}
 use Rattle.meaning.specs.Meaning.{routine_at, meaning}
 use Rattle.items.specs.Items.{routine_items}
-use Rattle.code.specs.Addresses.{Addresses, all_causes}
+use Rattle.code.specs.Addresses.{Addresses, Sizes, all_causes}
 use Rattle.code.specs.Bytes.{code_bytes}
 use Rattle.code.specs.HeldProgram.{start_code, fault_line}
 
@@ -43,49 +45,66 @@ use Rattle.code.specs.HeldProgram.{start_code, fault_line}
 abbrev slot : ℕ → List ℕ → List ℕ
 slot size bytes = take size (bytes ++ replicate size 0)
 
-abbrev routine_bytes : List ℕ → Addresses → RoutineOf → List ℕ
+abbrev routine_bytes : Sizes → Addresses → RoutineOf → List ℕ
 routine_bytes sizes a r = r.locals ∷ code_bytes sizes a (routine_items r)
 
--- Version 5; globals at 64, an array at 544, static memory and the texts of faults from 560 on, among them at 868 the
--- dictionary, code from 1072 on, Main at 1080, another routine at 1240.
+-- Version 5; globals at 64, an array at 544, objects at 560, static memory and the texts of faults from 736 on, among
+-- them at 909 the dictionary, code from 1248 on, Main at 1256, another routine at 1416.
 abbrev pub a : Addresses
 a = record {
-  routines = 270 ∷ 310 ∷ [];
+  routines = 314 ∷ 354 ∷ [];
   arrays = 544 ∷ [];
-  faults = 140 ∷ 156 ∷ 172 ∷ 188 ∷ 204 ∷ 220 ∷ 236 ∷ 252 ∷ [];
+  faults = 184 ∷ 200 ∷ 216 ∷ 232 ∷ 248 ∷ 264 ∷ 280 ∷ 296 ∷ [];
 }
 
+abbrev pub defaults : List ℕ
+defaults = replicate 63 0
+
+-- Object box "box" with number 7, has flag; Object -> ball "ball";  where `number` is property 5 and `flag` attribute 3
+abbrev pub box : ObjectOf
+box = record { parent = 0; name = codes "box"; attributes = 3 ∷ []; properties = (5, 7 ∷ []) ∷ [] }
+
+abbrev pub ball : ObjectOf
+ball = record { parent = 1; name = codes "ball"; attributes = []; properties = [] }
+
+abbrev pub objects : List ObjectOf
+objects = box ∷ ball ∷ []
+
 abbrev head : List ℕ
-head = slot 64 (5 ∷ 0 ∷ 0 ∷ 1 ∷ 4 ∷ 0x30 ∷ 4 ∷ 0x30 ∷ 3 ∷ 0x64 ∷ 0 ∷ 0 ∷ 0 ∷ 0x40 ∷ 2 ∷ 0x30 ∷ [])
+head = slot 64 (5 ∷ 0 ∷ 0 ∷ 1 ∷ 4 ∷ 0xE0 ∷ 4 ∷ 0xE0 ∷ 3 ∷ 0x8D ∷ 2 ∷ 0x30 ∷ 0 ∷ 0x40 ∷ 2 ∷ 0xE0 ∷ [])
 
 -- the text of a fault
 abbrev line_slot : Cause → List ℕ
 line_slot cause = slot 64 (encoded (fault_line (words_of cause)))
 
--- those of all, and the dictionary of no words behind the fifth
+-- those of all, and the dictionary of no words behind the third
 abbrev lines_and_dictionary : List ℕ
 lines_and_dictionary =
-    flat_map line_slot (take 4 all_causes)
-    ++ (slot 52 (encoded (fault_line (words_of causes.PropertyOfManyWords)))
-    ++ (slot 12 (dictionary_bytes [])
-    ++ flat_map line_slot (drop 5 all_causes)))
+    flat_map line_slot (take 2 all_causes)
+    ++ (slot 45 (encoded (fault_line (words_of causes.IndexOutOfRange)))
+    ++ (slot 19 (dictionary_bytes [])
+    ++ flat_map line_slot (drop 3 all_causes)))
 
-abbrev story_of : List ℕ → List ℕ → RoutineOf → RoutineOf → List ℕ
+abbrev sizes_with : List ℕ → Sizes
+sizes_with array = record { arrays = length array ∷ []; objects = 2 }
+
+abbrev pub story_of : List ℕ → List ℕ → RoutineOf → RoutineOf → List ℕ
 story_of globals array main other =
     head ++ (slot 480 globals
     ++ (slot 16 array
+    ++ (slot 176 (rows_bytes (rows_of objects) defaults 560)
     ++ (lines_and_dictionary
-    ++ (slot 8 (start_code 270)
-    ++ (slot 160 (routine_bytes (length array ∷ []) a main)
-    ++ (slot 160 (routine_bytes (length array ∷ []) a other) ++ 0 ∷ []))))))
+    ++ (slot 8 (start_code 314)
+    ++ (slot 160 (routine_bytes (sizes_with array) a main)
+    ++ (slot 160 (routine_bytes (sizes_with array) a other) ++ 0 ∷ [])))))))
 
-abbrev list : List Action → Actions
+abbrev pub list : List Action → Actions
 list xs = source.actions_of xs
 
 abbrev local : ℕ → source.Value
 local i = source.read (variables.Local i)
 
-abbrev global : ℕ → source.Value
+abbrev pub global : ℕ → source.Value
 global g = source.read (variables.Global g)
 
 abbrev pub greeting : List source.Printed
@@ -128,12 +147,20 @@ sum_of_two = record {
 }
 
 abbrev pub program : ProgramOf
-program = record { globals = 9 ∷ []; arrays = table ∷ []; keys = []; routines = main ∷ sum_of_two ∷ []; main = 0 }
+program = record {
+  globals = 9 ∷ [];
+  arrays = table ∷ [];
+  defaults = defaults;
+  objects = objects;
+  keys = [];
+  routines = main ∷ sum_of_two ∷ [];
+  main = 0;
+}
 
 abbrev pub story : List ℕ
 story = story_of (0 ∷ 9 ∷ []) table main sum_of_two
 
-abbrev texts : List Whole → List (List ℕ)
+abbrev pub texts : List Whole → List (List ℕ)
 texts wholes = map (λ (w : Whole). w.text) wholes
 
 means : (meaning program 1000 []).texts ≡ (codes "Hi" ++ 10 ∷ codes "42A321" ++ 10 ∷ codes "[Fault: division by zero]"
@@ -186,6 +213,8 @@ abbrev calls_itself : ProgramOf
 calls_itself = record {
   globals = 0 ∷ [];
   arrays = [];
+  defaults = defaults;
+  objects = objects;
   keys = [];
   routines = record {
     locals = 0;
@@ -234,7 +263,15 @@ asks = record {
 }
 
 abbrev asking : ProgramOf
-asking = record { globals = 9 ∷ []; arrays = []; keys = []; routines = asks ∷ sum_of_two ∷ []; main = 0 }
+asking = record {
+  globals = 9 ∷ [];
+  arrays = [];
+  defaults = defaults;
+  objects = objects;
+  keys = [];
+  routines = asks ∷ sum_of_two ∷ [];
+  main = 0;
+}
 
 means_asked : (meaning asking 100 []).texts ≡ (codes "yes" ++ 34 ∷ codes "-5" ++ 10 ∷ codes "[Fault: not a character]"
     ++ 10 ∷ []) ∷ []
@@ -264,9 +301,18 @@ reaches = record {
 }
 
 abbrev reaching : ProgramOf
-reaching = record { globals = 9 ∷ []; arrays = table ∷ []; keys = []; routines = reaches ∷ sum_of_two ∷ []; main = 0 }
+reaching = record {
+  globals = 9 ∷ [];
+  arrays = table ∷ [];
+  defaults = defaults;
+  objects = objects;
+  keys = [];
+  routines = reaches ∷ sum_of_two ∷ [];
+  main = 0;
+}
 
-means_reached : (meaning reaching 100 []).texts ≡ (codes "-2" ++ 10 ∷ codes "[Fault: index out of range]" ++ 10 ∷ []) ∷ []
+means_reached : (meaning reaching 100 []).texts
+    ≡ (codes "-2" ++ 10 ∷ codes "[Fault: index out of range]" ++ 10 ∷ []) ∷ []
 unfolding meaning signed_text decimal
 means_reached = refl
 

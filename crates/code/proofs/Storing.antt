@@ -7,7 +7,7 @@ use Rattle.std.proofs.lemmas.Bool.{lt-ltb, le-leb}
 use Rattle.zcore.specs.declared.instruction.Operand.{Operand}
 use Rattle.zcore.specs.declared.instruction.Operand.TheVariants.{Large, Small}
 use Rattle.zcore.specs.declared.next.Next.{Next}
-use Rattle.zcore.specs.Header.{static_base_of}
+use Rattle.zcore.specs.Header.{defaults_of, static_base_of}
 use Rattle.zcore.specs.Instruction.{Instruction, bytes_of}
 use Rattle.zcore.specs.State.{State, done}
 use Rattle.zcore.specs.Parts.{operand_value, write_byte, write_word}
@@ -31,7 +31,7 @@ use Rattle.code.proofs.Play.{Leads, Stored, stays, none_chosen}
 use Rattle.code.proofs.Memory.{word_of, with_variable}
 use Rattle.code.proofs.Regions.{KeepsOutside}
 use Rattle.code.proofs.StoredEntries.{entry_address, written_at, last_byte, Inside, entry_inside, entry_keeps}
-use Rattle.code.proofs.StoredEntries.{sizes_kept, stored_entry, variable_kept}
+use Rattle.code.proofs.StoredEntries.{sizes_kept, stored_entry, variable_kept, high_kept}
 use Rattle.code.proofs.Parts.{machine as at_words, pushes, Reads, global_reads}
 use Rattle.code.proofs.Steps.{point, leads_then, one_step, first_held, others_held, one_operand, two_operands}
 use Rattle.code.proofs.Steps.{three_operands, small_value, large_value, variable_value}
@@ -75,7 +75,7 @@ stores widths.Word here after place i v st above below small =
     rw (whole, e, f, g, h) refl
 
 -- what follows two parts
-after_bound : {A B : Type 0} (f : Comes A) (g : A → Part B) (k : B → Situation → stack.Next)
+pub after_bound : {A B : Type 0} (f : Comes A) (g : A → Part B) (k : B → Situation → stack.Next)
     → stack.after_part (bound f g) k ≡ stack.after_part f (λ x s. stack.after_part (g x s) k)
 after_bound (to x s) g k = refl
 after_bound (over o) g k = refl
@@ -135,21 +135,26 @@ module _ (c : Running) where
     abbrev next_situation : Situation
     next_situation = with_array n (with_entry width (bytes_in c n) i v) (situation_here c)
 
-    lies : Inside story a world.globals world.arrays other scratch.stored n (array_there c n known) address
+    lies : Inside story a p world.globals world.arrays world.objects other scratch.stored n (array_there c n known)
+        address
         (last_byte width address)
-    lies = entry_inside story a world.globals world.arrays other scratch.stored n (array_there c n known) width i
+    lies = entry_inside story a p world.globals world.arrays world.objects other scratch.stored n
+        (array_there c n known) width i
         index
 
-    keeps : KeepsOutside scratch.stored.regions.first (static_base_of story) other next_memory
-    keeps = entry_keeps story a world.globals world.arrays other scratch.stored n (array_there c n known) width i v
+    keeps : KeepsOutside scratch.stored.regions.first (defaults_of story) other next_memory
+    keeps = entry_keeps story a p world.globals world.arrays world.objects other scratch.stored n
+        (array_there c n known) width i v
         index
 
-    next_stored : Stored story a world.globals next_situation.world.arrays next_memory
-    next_stored = stored_entry story a world.globals world.arrays other scratch.stored n (array_there c n known) width
+    next_stored : Stored story a p world.globals next_situation.world.arrays world.objects next_memory
+    next_stored = stored_entry story a p world.globals world.arrays world.objects other scratch.stored n
+        (array_there c n known) width
         i v index holds.globals_above (few c)
 
     same_sizes : map length next_situation.world.arrays ≡ map length world.arrays
-    same_sizes = sizes_kept story a world.globals world.arrays other scratch.stored n (array_there c n known) width i
+    same_sizes = sizes_kept story a p world.globals world.arrays world.objects other scratch.stored n
+        (array_there c n known) width i
         v
 
     -- the routine where the entry is another
@@ -184,14 +189,16 @@ module _ (c : Running) where
 
     held_next : (bytes : List ℕ) (there : ℕ) → here c ≤ there → Holds m there bytes → Holds next_memory there bytes
     held_next bytes there from h =
-        holds_on (static_base_of story) there m next_memory bytes (keeps.after ∙ scratch.kept)
+        holds_on (static_base_of story) there m next_memory bytes
+        (high_kept story a p world.globals world.arrays world.objects other next_memory scratch.stored keeps.after
+        ∙ scratch.kept)
         (omega (arith, high c, from)) h
 
     -- the word is still where it was
     holding_next : (q : items.Operand) → Holding c q v other → Holding next_runs q v next_memory
     holding_next items.pushed h =
-        variable_kept story a world.globals world.arrays next_situation.world.arrays other next_memory
-        scratch.stored.regions.first (static_base_of story) 249 scratch.stored next_stored keeps
+        variable_kept story a p world.globals world.arrays next_situation.world.arrays world.objects other next_memory
+        scratch.stored.regions.first (defaults_of story) 249 scratch.stored next_stored keeps
         scratch.stored.regions.above (omega arith) (omega arith) ∙ h
     holding_next (items.number k) h = h
     holding_next (items.variable x) h =
@@ -211,7 +218,8 @@ module _ (c : Running) where
     unfolding perform push_word
     passed items.push before rest there is_d room from h end leads =
         let k = push (assigned_word q) in
-        let shaped : Shaped k = record { least = omega arith; most = omega arith; result_fits = tt; branch_fits = tt } in
+        let shaped : Shaped k = record { least = omega arith; most = omega arith; result_fits = tt; branch_fits = tt }
+        in
         let st = at_words (around c) next_memory locals rest world.text in
         let last = there + length (bytes_of k) in
         let to = at_words (around c) next_memory locals (v ∷ rest) world.text in
@@ -228,7 +236,8 @@ module _ (c : Running) where
         refl)))
     passed (items.into x) before rest there is_d room from h end leads =
         let k = store (number_of x) (assigned_word q) in
-        let shaped : Shaped k = record { least = omega arith; most = omega arith; result_fits = tt; branch_fits = tt } in
+        let shaped : Shaped k = record { least = omega arith; most = omega arith; result_fits = tt; branch_fits = tt }
+        in
         let st = at_words (around c) next_memory locals rest world.text in
         let last = there + length (bytes_of k) in
         let held = variable_held next_runs next_memory x (scratch_here next_runs) is_d in

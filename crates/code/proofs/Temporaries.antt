@@ -22,7 +22,7 @@ module _ (c : Running) where
   -- memory with other words in the compiler's variables
   pub record Scratch (other : List ℕ) : Type 0 where
     pub ground : Ground (static_base_of story) other
-    pub stored : Stored story a world.globals world.arrays other
+    pub stored : Stored story a p world.globals world.arrays world.objects other
     pub kept : drop (static_base_of story) other ≡ drop (static_base_of story) m
 
   pub scratch_here : Scratch m
@@ -35,7 +35,8 @@ module _ (c : Running) where
       small in
       record {
         ground = written.ground;
-        stored = stored_temporary story a world.globals world.arrays other scratch.ground (few c) scratch.stored
+        stored = stored_temporary story a p world.globals world.arrays world.objects other scratch.ground (few c)
+            scratch.stored
             variable word low
             small;
         kept = written.kept ∙ scratch.kept;
@@ -75,7 +76,23 @@ module _ (c : Running) where
   held_in other bytes q scratch from h =
       holds_on (static_base_of story) q m other bytes scratch.kept (omega (arith, high c, from)) h
 
-  -- the step of an instruction whose operands have values
+  -- the step of an instruction whose operands have values, with so much fuel
+  pub made_at : (fuel : ℕ) (other s s1 text : List ℕ) (q : ℕ) (i : Instruction) (values : List ℕ) → Scratch other
+      → here c ≤ q
+      → Shaped i → Holds m q (bytes_of i)
+      → operand_values i.operands (at_words (around c) other locals s text)
+      ≡ done values (at_words (around c) other locals s1 text)
+      → step (point q fuel) (at_words (around c) other locals s text)
+      ≡ perform i.operation (point q fuel) (q + length (bytes_of i)) i.result i.branch values
+      (at_words (around c) other locals s1 text)
+  made_at fuel other s s1 text q i values scratch from shaped h is =
+      step_is (point q fuel) (at_words (around c) other locals s text)
+      (at_words (around c) other locals s1 text)
+      i values
+      (encodable i shaped (held_bytes (static_base_of story) q story m (bytes_of i) holds.byte_each (kept c)
+      (omega (arith, high c, from)) h))
+      (held_in other (bytes_of i) q scratch from h) is
+
   pub made : (other s s1 text : List ℕ) (q : ℕ) (i : Instruction) (values : List ℕ) → Scratch other → here c ≤ q
       → Shaped i → Holds m q (bytes_of i)
       → operand_values i.operands (at_words (around c) other locals s text)
@@ -84,12 +101,7 @@ module _ (c : Running) where
       ≡ perform i.operation (point q world.fuel) (q + length (bytes_of i)) i.result i.branch values
       (at_words (around c) other locals s1 text)
   made other s s1 text q i values scratch from shaped h is =
-      step_is (point q world.fuel) (at_words (around c) other locals s text)
-      (at_words (around c) other locals s1 text)
-      i values
-      (encodable i shaped (held_bytes (static_base_of story) q story m (bytes_of i) holds.byte_each (kept c)
-      (omega (arith, high c, from)) h))
-      (held_in other (bytes_of i) q scratch from h) is
+      made_at world.fuel other s s1 text q i values scratch from shaped h is
 
   -- a word is pulled into a temporary
   pub pull_temporary : (other s text : List ℕ) (q variable word : ℕ) → Scratch other → 248 ≤ variable → variable < 256

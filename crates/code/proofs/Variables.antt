@@ -33,8 +33,9 @@ module _ (c : Running) where
     pub again : (word : ℕ) → Reads (around c) (memory_with other x word) (with_value x word (situation_here c)).locals
         (number_of x) word
     pub kept : (word : ℕ) → drop (static_base_of story) (memory_with other x word) ≡ drop (static_base_of story) other
-    pub stored : (word : ℕ) → Stored story a (with_value x word (situation_here c)).world.globals
-        (with_value x word (situation_here c)).world.arrays (memory_with other x word)
+    pub stored : (word : ℕ) → Stored story a p (with_value x word (situation_here c)).world.globals
+        (with_value x word (situation_here c)).world.arrays (with_value x word (situation_here c)).world.objects
+        (memory_with other x word)
     pub locals_same : (word : ℕ) → length (with_value x word (situation_here c)).locals ≡ length locals
     pub globals_same : (word : ℕ) → length (with_value x word (situation_here c)).world.globals ≡ length world.globals
     pub arrays_same : (word : ℕ) → (with_value x word (situation_here c)).world.arrays ≡ world.arrays
@@ -66,7 +67,8 @@ module _ (c : Running) where
       let from : 16 ≤ 16 + g = omega arith in
       let small : 16 + g < 256 = omega (arith, within, few c) in
       let number : 16 + g ≡ (16 + g) % 256 = omega (arith, small) in
-      let value = global_is story a world.globals world.arrays other scratch.ground (few c) scratch.stored g within in
+      let value = global_is story a p world.globals world.arrays world.objects other scratch.ground (few c)
+      scratch.stored g within in
       record {
         reads = subst (λ n. Reads (around c) other locals n (slice_index world.globals g)) number
             (subst (λ v. Reads (around c) other locals (16 + g) v) value
@@ -78,7 +80,8 @@ module _ (c : Running) where
             (writes_ground (static_base_of story) other (16 + g) word scratch.ground from small).is
             (global_reads (around c) (with_variable other (16 + g) word) locals (16 + g) from small));
         kept = λ word. (writes_ground (static_base_of story) other (16 + g) word scratch.ground from small).kept;
-        stored = λ word. stored_global story a world.globals world.arrays other scratch.ground (few c) scratch.stored
+        stored = λ word. stored_global story a p world.globals world.arrays world.objects other scratch.ground (few c)
+            scratch.stored
             g word within;
         locals_same = λ word. refl;
         globals_same = λ word. length-set world.globals g word;

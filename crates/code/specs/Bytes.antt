@@ -9,7 +9,7 @@ use Rattle.forms.specs.declared.layout.Part.{Part}
 use Rattle.forms.specs.Layout.{first, lefts}
 use Rattle.items.specs.Items.{Item}
 use Rattle.items.specs.Items as items
-use Rattle.code.specs.Addresses.{Addresses}
+use Rattle.code.specs.Addresses.{Addresses, Sizes}
 use Rattle.code.specs.Instructions.{jump_offset, item_code}
 
 abbrev pub bytes_of_all : List Instruction → List ℕ
@@ -27,8 +27,8 @@ abbrev pub text_bytes : Item → List ℕ
 text_bytes (items.print_text bytes) = encoded (filter is_printable (map character_of bytes))
 text_bytes _ = []
 
--- an item where arrays have these sizes, and whose branch or jump has this offset
-abbrev pub item_bytes : List ℕ → Addresses → ℕ → Item → List ℕ
+-- an item of a program of these sizes, whose branch or jump has this offset
+abbrev pub item_bytes : Sizes → Addresses → ℕ → Item → List ℕ
 item_bytes sizes a offset item = bytes_of_all (item_code sizes a offset item) ++ text_bytes item
 
 -- Where items stand
@@ -36,6 +36,9 @@ item_bytes sizes a offset item = bytes_of_all (item_code sizes a offset item) ++
 -- the item to which one branches
 abbrev pub target_of : Item → Option ℕ
 target_of (items.branch test os when target) = Some target
+target_of (items.is_in o q when target) = Some target
+target_of (items.has o n when target) = Some target
+target_of (items.provides o q when target) = Some target
 target_of (items.case test ns when target) = Some target
 target_of _ = None
 
@@ -51,13 +54,18 @@ label_size (Some target) = 1
 -- where the item of a number leads to, from the place of the next one
 abbrev pub offset_of : (ℕ → ℕ) → ℕ → Item → ℕ
 offset_of places n (items.branch test os when target) = 2 + (places target - places (n + 1))
+offset_of places n (items.is_in o q when target) = 2 + (places target - places (n + 1))
+offset_of places n (items.has o a when target) = 2 + (places target - places (n + 1))
+offset_of places n (items.provides o q when target) = 2 + (places target - places (n + 1))
+offset_of places n (items.first_object x target) = jump_offset (places (n + 1)) (places target)
+offset_of places n (items.next_object x target) = jump_offset (places (n + 1)) (places target)
 offset_of places n (items.case test ns when target) = 2 + (places target - places (n + 1))
 offset_of places n (items.jump target) = jump_offset (places (n + 1)) (places target)
 offset_of places n (items.back target) = jump_offset (places (n + 1)) (places target)
 offset_of places n _ = 0
 
--- where arrays have these sizes
-module _ (sizes : List ℕ) where
+-- of a program of these sizes
+module _ (sizes : Sizes) where
   -- the bytes of an item whose branch is the shortest
   abbrev pub least_size : Item → ℕ
   least_size item = length (item_bytes sizes no_addresses 2 item)

@@ -4,7 +4,7 @@ use Rattle.std.specs.List.{All, concat}
 use Rattle.zcore.specs.declared.instruction.Operand.TheVariants.{Large}
 use Rattle.zcore.specs.declared.instruction.Operation.TheVariants.{Call1n, Quit}
 use Rattle.zcore.specs.Bytes.{word_at}
-use Rattle.zcore.specs.Header.{dictionary_of, globals_of, static_base_of}
+use Rattle.zcore.specs.Header.{defaults_of, dictionary_of, globals_of, static_base_of}
 use Rattle.zcore.specs.Parts.{unpacked}
 use Rattle.zcore.specs.Text.{Holds, encoded}
 use Rattle.tables.specs.Dictionary.{ReadsKeys}
@@ -14,7 +14,8 @@ use Rattle.meaning.specs.World.{words_of}
 use Rattle.meaning.specs.Places.{dictionary_place}
 use Rattle.meaning.specs.declared.cause.Cause.{Cause}
 use Rattle.items.specs.Items.{routine_items}
-use Rattle.code.specs.Addresses.{Addresses, fault_address}
+use Rattle.region.specs.Laws.{HoldsRows}
+use Rattle.code.specs.Addresses.{Addresses, Sizes, fault_address}
 use Rattle.code.specs.Instructions.{plain}
 use Rattle.code.specs.Bytes.{bytes_of_all, code_size, code_bytes}
 
@@ -22,17 +23,16 @@ use Rattle.code.specs.Bytes.{bytes_of_all, code_size, code_bytes}
 abbrev pub start_code : ℕ → List ℕ
 start_code main = bytes_of_all (plain Call1n (Large main ∷ []) ∷ plain Quit [] ∷ [])
 
--- how many bytes each array has
-abbrev pub sizes_of : ProgramOf → List ℕ
-sizes_of p = map length p.arrays
+abbrev pub sizes_of : ProgramOf → Sizes
+sizes_of p = record { arrays = map length p.arrays; objects = length p.objects }
 
 -- how many bytes of arrays stand before the array of a number, where they stand one behind another
 abbrev pub offset_in : List (List ℕ) → ℕ → ℕ
 offset_in arrays n = length (concat (take n arrays))
 
--- a routine at a packed address, where arrays have these sizes: how many locals it has, and its code (5.2). Bytes
--- follow it, and it stands in static memory or behind.
-pub record HoldsRoutine (story sizes : List ℕ) (a : Addresses) (packed : ℕ) (r : RoutineOf) : Type 0 where
+-- a routine at a packed address, of a program of these sizes: how many locals it has, and its code (5.2). Bytes follow
+-- it, and it stands in static memory or behind.
+pub record HoldsRoutine (story : List ℕ) (sizes : Sizes) (a : Addresses) (packed : ℕ) (r : RoutineOf) : Type 0 where
   pub bytes : Holds story (unpacked story packed) (r.locals ∷ code_bytes sizes a (routine_items r))
   pub followed : unpacked story packed + 1 + code_size sizes (routine_items r) < length story
   pub above : static_base_of story ≤ unpacked story packed
@@ -64,12 +64,14 @@ pub record HoldsProgram (story : List ℕ) (a : Addresses) (p : ProgramOf) : Typ
   pub globals_below : globals_of story + 480 ≤ static_base_of story
   pub static_below : static_base_of story ≤ length story
   pub globals : (g : ℕ) → g < length p.globals → word_at story (globals_of story + 2 * g) ≡ slice_index p.globals g
-  -- the arrays, one behind another, behind the globals and below static memory
+  -- the arrays, one behind another, behind the globals and below the objects
   pub first_array : ℕ
   pub arrays : Holds story first_array (concat p.arrays)
   pub arrays_each : (n : ℕ) → n < length p.arrays → slice_index a.arrays n ≡ first_array + offset_in p.arrays n
   pub arrays_above : globals_of story + 480 ≤ first_array
-  pub arrays_below : first_array + length (concat p.arrays) ≤ static_base_of story
+  pub objects_above : first_array + length (concat p.arrays) ≤ defaults_of story
+  -- the objects, below static memory
+  pub objects : HoldsRows story p.objects p.defaults
   -- the dictionary of its words, in static memory, which begins where their numbers say
   pub dictionary_above : static_base_of story ≤ dictionary_of story
   pub dictionary_there : dictionary_of story ≡ dictionary_place p

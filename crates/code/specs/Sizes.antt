@@ -2,10 +2,11 @@
 use Rattle.std.specs.Prelude.{◌+◌, ℕ, List, [], ◌∷◌}
 use Rattle.meaning.specs.Resolved.{RoutineOf}
 use Rattle.items.specs.Items.{routine_items}
+use Rattle.code.specs.Addresses.{Sizes}
 use Rattle.code.specs.Bytes.{code_size}
 
--- where arrays have these sizes
-module _ (sizes : List ℕ) where
+-- of a program of these sizes
+module _ (sizes : Sizes) where
   -- a byte that tells how many locals it has, and its code (Z-Machine Standards Document 1.1, section 5.2)
   abbrev pub routine_size : RoutineOf → ℕ
   routine_size r = 1 + code_size sizes (routine_items r)

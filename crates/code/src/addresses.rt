@@ -14,6 +14,13 @@ pub struct Addresses<'a> {
     pub faults: &'a [u16],
 }
 
+/// How many bytes each array of a program has, in order of definition, and how many objects it has.
+#[derive(Clone, Copy)]
+pub struct Sizes<'a> {
+    pub arrays: &'a [usize],
+    pub objects: usize,
+}
+
 /// The address of a number, 0 where there is none.
 fn address_at(addresses: &[u16], number: usize) -> u16
     ensures { result ≡ slice_index addresses.now number }

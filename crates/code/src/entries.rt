@@ -5,27 +5,20 @@ ghost use Rattle.zcore.specs.declared.instruction.Operand.TheVariants.{Large, Va
 ghost use Rattle.meaning.specs.declared.cause.Cause.TheVariants.{IndexOutOfRange};
 ghost use Rattle.items.specs.Items as source_items;
 ghost use Rattle.items.specs.Code.{as_operand, as_destination};
-ghost use Rattle.code.specs.Instructions.{tested_between, tested_index, at_index, entry_code, passed_on};
-ghost use Rattle.code.specs.Instructions.{assign_entry_code};
+ghost use Rattle.code.specs.Instructions.{tested_index, at_index, entry_code, passed_on, assign_entry_code};
 ghost use Rattle.code.specs.Instructions as spec;
-ghost use Rattle.code.specs.Addresses as places;
 ghost use Rattle.code.specs.Bytes.{bytes_of_all};
-ghost use Rattle.code.specs.Written.{addresses_of, instruction_of};
+ghost use Rattle.code.specs.Written.{addresses_of};
 
-use crate::addresses::{Addresses, array_address, fault_address};
-use crate::instruction::{
-    FIRST, Instruction, Operands, SECOND, branching, giving, plain, print_fault, pull, push,
-    put_all, quit, store,
-};
+use crate::addresses::{Addresses, Sizes, array_address};
+use crate::instruction::{FIRST, Operands, SECOND, giving, plain, pull, push, put_all, store};
 use crate::operands::{constant, in_place, result_in, variable_number};
+use crate::tested::{FIRST_NEGATIVE, put_fail, put_tested_between};
 use expressions::Width;
 use items::Destination;
 use meaning::Cause;
 use std::alloc::AllocError;
 use zcore::{Operand, Operation};
-
-/// Words from this one on are negative as signed numbers.
-const FIRST_NEGATIVE: u16 = 0x8000;
 
 /// An array in a story, as entries of a width.
 #[derive(Clone, Copy)]
@@ -39,12 +32,12 @@ pub struct Array {
 }
 
 /// The array of a number. No program that breaks no rule of the language has one of 65,536 bytes.
-pub fn array_of(sizes: &[usize], addresses: &Addresses<'_>, width: Width, number: usize) -> Array
+pub fn array_of(sizes: &Sizes<'_>, addresses: &Addresses<'_>, width: Width, number: usize) -> Array
     ensures width { result.width ≡ width }
-    ensures size { result.size ≡ slice_index sizes.now number % 65536 }
+    ensures size { result.size ≡ slice_index sizes.now.arrays.now number % 65536 }
     ensures address { result.address ≡ slice_index addresses.now.arrays.now number }
 {
-    let size = match sizes.get(number) {
+    let size = match sizes.arrays.get(number) {
         Some(size) => (*size % 65536) as u16,
         None => 0,
     };
@@ -73,13 +66,6 @@ fn is_entry(count: u16, index: u16) -> bool
     index < FIRST_NEGATIVE && index < count
 }
 
-/// How far a branch leads to behind a comparison with a constant.
-pub fn behind_comparison(number: u16) -> u8
-    ensures { result ≡ spec.behind_comparison number }
-{
-    if number < 256 { 6 } else { 8 }
-}
-
 /// The instruction that reads an entry.
 fn load_operation(width: Width) -> Operation
     ensures { result ≡ spec.load_operation width }
@@ -98,47 +84,6 @@ fn store_operation(width: Width) -> Operation
         Width::Byte => Operation::StoreByte,
         Width::Word => Operation::StoreWord,
     }
-}
-
-/// The index of an entry that no array has: the text of the fault is printed, and the story ends.
-fn put_out_of_range(bytes: &mut Vec<u8>, addresses: &Addresses<'_>) -> Result<(), AllocError>
-    ensures { OnOk result (bytes.new.items ≡ bytes.old.items
-        ++ bytes_of_all (spec.fail (places.fault_address (addresses_of addresses.now) IndexOutOfRange))) }
-{
-    put_all(
-        bytes,
-        &[
-            print_fault(fault_address(addresses, Cause::IndexOutOfRange)),
-            quit(),
-        ],
-    )
-}
-
-/// A word in a variable is tested: where it is not, as a signed number, from one number on and below another, the text
-/// of a fault is printed, and the story ends.
-pub fn put_tested_between(
-    bytes: &mut Vec<u8>,
-    addresses: &Addresses<'_>,
-    cause: Cause,
-    low: u8,
-    end: u16,
-    variable: u8,
-) -> Result<(), AllocError>
-    ensures { OnOk result (bytes.new.items ≡ bytes.old.items
-        ++ bytes_of_all (tested_between (addresses_of addresses.now) cause low end variable)) }
-{
-    let word = Operand::Variable(variable);
-    let before = Operands::Two(word, Operand::Small(low));
-    let below = Operands::Two(word, constant(end));
-    put_all(
-        bytes,
-        &[
-            branching(Operation::JumpIfLess, before, true, behind_comparison(end)),
-            branching(Operation::JumpIfLess, below, true, 6),
-            print_fault(fault_address(addresses, cause)),
-            quit(),
-        ],
-    )
 }
 
 /// An index in a variable is tested: where it is none of so many entries, the text of the fault is printed, and the
@@ -207,7 +152,7 @@ fn put_entry_at(
     if is_entry(entries_in(array), index) {
         put_load(bytes, array, constant(index), destination)
     } else {
-        put_out_of_range(bytes, addresses)
+        put_fail(bytes, addresses, Cause::IndexOutOfRange)
     }
 }
 
@@ -298,7 +243,7 @@ fn put_store_at(
     if is_entry(entries_in(array), index) {
         put_store(bytes, array, constant(index), word, destination)
     } else {
-        put_out_of_range(bytes, addresses)
+        put_fail(bytes, addresses, Cause::IndexOutOfRange)
     }
 }
 

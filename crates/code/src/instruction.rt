@@ -228,6 +228,8 @@ pub const SECOND: u8 = 249;
 
 pub const THIRD: u8 = 250;
 
+pub const FOURTH: u8 = 251;
+
 /// The variable of the word that the cases of a `switch` are tested on.
 pub const CHOSEN: u8 = 255;
 

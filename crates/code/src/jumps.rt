@@ -49,7 +49,7 @@ pub fn put_jump(bytes: &mut Vec<u8>, offset: u16) -> Result<(), AllocError>
 
 /// A branch by an offset of two bytes, or the opposite branch over a jump where it does not reach.
 #[tactic(auto, using(crate::proofs::Chains::one_there, crate::proofs::Chains::two_there))]
-fn put_labelled(
+pub fn put_labelled(
     bytes: &mut Vec<u8>,
     operation: Operation,
     operands: &[Operand],

@@ -6,8 +6,9 @@ ghost use Rattle.code.specs.Bytes.{bytes_of_all};
 ghost use Rattle.code.specs.Written.{addresses_of, instruction_of};
 
 use crate::addresses::Addresses;
-use crate::entries::{Array, put_tested_between};
+use crate::entries::Array;
 use crate::instruction::{FIRST, Instruction, Operands, giving, plain, put_all};
+use crate::tested::put_tested_between;
 use meaning::Cause;
 use std::alloc::AllocError;
 use zcore::{Operand, Operation};

@@ -9,9 +9,9 @@ ghost use Rattle.items.specs.Items as definitions;
 ghost use Rattle.code.specs.Bytes.{lefts_of, place_of, items_bytes};
 ghost use Rattle.code.specs.Bytes as spec;
 ghost use Rattle.code.specs.HeldProgram.{sizes_of};
-ghost use Rattle.code.specs.Written.{addresses_of, place_in};
+ghost use Rattle.code.specs.Written.{addresses_of, place_in, sizes_in};
 
-use crate::addresses::Addresses;
+use crate::addresses::{Addresses, Sizes};
 use crate::fault::CodeFault;
 use crate::item::put_item;
 use crate::jumps::jump_offset;
@@ -27,8 +27,8 @@ pub struct Code<'a, 'b> {
     alloc: Global,
     locals: usize,
 
-    /// How many bytes each array has.
-    sizes: &'b [usize],
+    /// How many bytes each array has, and how many objects there are.
+    sizes: Sizes<'b>,
 
     items: Vec<Item<'a>>,
 
@@ -47,16 +47,16 @@ impl<'a, 'b> Model for Code<'a, 'b> {
     ghost use Rattle.forms.specs.Layout.{bytes_limit, uses};
     ghost use Rattle.items.specs.Code.{items_of};
     ghost use Rattle.code.specs.Bytes.{parts_of, lefts_of, code_size};
-    ghost use Rattle.code.specs.Written.{CodeOf};
+    ghost use Rattle.code.specs.Written.{CodeOf, sizes_in};
 
     ghost Value = { CodeOf };
 
-    ghost view = { λ c. record { locals = c.locals; sizes = c.sizes.now; items = items_of c.items.items } };
+    ghost view = { λ c. record { locals = c.locals; sizes = sizes_in c.sizes; items = items_of c.items.items } };
 
-    ghost invariant = { λ c. (c.left.items ≡ reverse (lefts_of c.sizes.now (items_of c.items.items)))
-        × (c.branches.items ≡ uses 0 (parts_of c.sizes.now (items_of c.items.items)))
-        × (c.length ≡ 1 + code_size c.sizes.now (items_of c.items.items))
-        × (code_size c.sizes.now (items_of c.items.items) < bytes_limit) };
+    ghost invariant = { λ c. (c.left.items ≡ reverse (lefts_of (sizes_in c.sizes) (items_of c.items.items)))
+        × (c.branches.items ≡ uses 0 (parts_of (sizes_in c.sizes) (items_of c.items.items)))
+        × (c.length ≡ 1 + code_size (sizes_in c.sizes) (items_of c.items.items))
+        × (code_size (sizes_in c.sizes) (items_of c.items.items) < bytes_limit) };
 }
 
 /// The item to which one branches.
@@ -64,7 +64,11 @@ fn target_of(item: &Item<'_>) -> Option<usize>
     ensures { result ≡ spec.target_of (item_of item.now) }
 {
     match item {
-        Item::Branch(_, _, _, target) | Item::Case(_, _, _, target) => Some(*target),
+        Item::Branch(_, _, _, target)
+        | Item::IsIn(_, _, _, target)
+        | Item::Has(_, _, _, target)
+        | Item::Provides(_, _, _, target)
+        | Item::Case(_, _, _, target) => Some(*target),
         _ => None,
     }
 }
@@ -81,9 +85,9 @@ fn label_size(target: Option<usize>) -> usize
 
 /// The items as parts that are laid out. They are written once, with no addresses and the shortest branches, and their
 /// bytes are thrown away: an item has as many bytes wherever all stands, but for the form of its branch.
-fn parts_of(alloc: Global, sizes: &[usize], items: &[Item<'_>]) -> Result<Vec<Part>, AllocError>
-    ensures parts { IfOk result (λ v. v.items ≡ spec.parts_of sizes.now (items_of items.now)) }
-    ensures fits { IfOk result (λ v. spec.code_size sizes.now (items_of items.now) < bytes_limit) }
+fn parts_of(alloc: Global, sizes: &Sizes<'_>, items: &[Item<'_>]) -> Result<Vec<Part>, AllocError>
+    ensures parts { IfOk result (λ v. v.items ≡ spec.parts_of (sizes_in sizes.now) (items_of items.now)) }
+    ensures fits { IfOk result (λ v. spec.code_size (sizes_in sizes.now) (items_of items.now) < bytes_limit) }
 {
     let addresses = Addresses {
         routines: &[],
@@ -130,10 +134,17 @@ fn offset_of(left: &[usize], number: usize, item: &Item<'_>) -> usize
     ensures { result ≡ spec.offset_of (place_in (reverse left.now)) number (item_of item.now) }
 {
     match item {
-        Item::Branch(_, _, _, target) | Item::Case(_, _, _, target) => {
+        Item::Branch(_, _, _, target)
+        | Item::IsIn(_, _, _, target)
+        | Item::Has(_, _, _, target)
+        | Item::Provides(_, _, _, target)
+        | Item::Case(_, _, _, target) => {
             2 + place(left, *target).saturating_sub(place(left, number + 1))
         }
-        Item::Jump(target) | Item::Back(target) => {
+        Item::FirstObject(_, target)
+        | Item::NextObject(_, target)
+        | Item::Jump(target)
+        | Item::Back(target) => {
             jump_offset(place(left, number + 1), place(left, *target)) as usize
         }
         _ => 0,
@@ -144,15 +155,15 @@ fn offset_of(left: &[usize], number: usize, item: &Item<'_>) -> usize
 fn put_items(
     bytes: &mut Vec<u8>,
     alloc: Global,
-    sizes: &[usize],
+    sizes: &Sizes<'_>,
     addresses: &Addresses<'_>,
     items: &[Item<'_>],
     left: &[usize],
 ) -> Result<(), AllocError>
-    requires left { left.now ≡ reverse (lefts_of sizes.now (items_of items.now)) }
-    requires small { spec.code_size sizes.now (items_of items.now) < bytes_limit }
+    requires left { left.now ≡ reverse (lefts_of (sizes_in sizes.now) (items_of items.now)) }
+    requires small { spec.code_size (sizes_in sizes.now) (items_of items.now) < bytes_limit }
     ensures { OnOk result (bytes.new.items ≡ bytes.old.items
-        ++ items_bytes sizes.now (addresses_of addresses.now) (place_of sizes.now (items_of items.now)) 0
+        ++ items_bytes (sizes_in sizes.now) (addresses_of addresses.now) (place_of (sizes_in sizes.now) (items_of items.now)) 0
         (items_of items.now)) }
 {
     for number in 0..items.len() {
@@ -163,16 +174,16 @@ fn put_items(
     Ok(())
 }
 
-/// The code of items of a routine with so many locals, where arrays have these sizes.
+/// The code of items of a routine with so many locals, of a program of these sizes.
 fn code_of<'a, 'b>(
     alloc: Global,
     locals: usize,
-    sizes: &'b [usize],
+    sizes: Sizes<'b>,
     items: Vec<Item<'a>>,
 ) -> Result<Code<'a, 'b>, AllocError>
-    ensures { IfOk result (λ c. c ≡ record { locals = locals; sizes = sizes.now; items = items_of items.entry.items }) }
+    ensures { IfOk result (λ c. c ≡ record { locals = locals; sizes = sizes_in sizes.entry; items = items_of items.entry.items }) }
 {
-    let parts = parts_of(alloc, sizes, &items)?;
+    let parts = parts_of(alloc, &sizes, &items)?;
     let left = lay_out(alloc, &parts)?;
     let branches = branches(alloc, &parts, &left)?;
     let length = 1 + place(&left, items.len());
@@ -204,7 +215,11 @@ pub fn routine_code<'a, 'b>(
 {
     let source = checked.routine(routine);
     let items = routine_items(alloc, source)?;
-    Ok(code_of(alloc, source.locals, checked.array_sizes(), items)?)
+    let sizes = Sizes {
+        arrays: checked.array_sizes(),
+        objects: checked.objects().len(),
+    };
+    Ok(code_of(alloc, source.locals, sizes, items)?)
 }
 
 impl Code<'_, '_> {
@@ -249,7 +264,7 @@ impl Code<'_, '_> {
         put_items(
             &mut bytes,
             self.alloc,
-            self.sizes,
+            &self.sizes,
             addresses,
             &self.items,
             &self.left,

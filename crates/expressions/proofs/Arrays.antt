@@ -8,8 +8,9 @@ use Rattle.expressions.specs.declared.tree.Width.{Width}
 use Rattle.expressions.specs.Tree.{ExpressionTree, name_tree}
 use Rattle.expressions.specs.Operators.{stepping, indexing}
 use Rattle.expressions.specs.Parse.{head, tail, is_name, array_of, array_at}
-use Rattle.expressions.specs.Grammar.{IsU, u_plain, u_minus, u_before, u_after, IsP, p_number, p_character, p_word}
-use Rattle.expressions.specs.Grammar.{p_true, p_false, p_nothing, p_name, p_call, p_call_with, p_parenthesised}
+use Rattle.expressions.specs.Grammar.{IsU, u_plain, u_minus, u_before, u_after, u_length, IsP, p_property, p_number}
+use Rattle.expressions.specs.Grammar.{p_character, p_word, p_true, p_false, p_nothing, p_name, p_call, p_call_with}
+use Rattle.expressions.specs.Grammar.{p_relative, p_parenthesised}
 use Rattle.expressions.proofs.Follow.{Stops, indexing_stops}
 
 -- ---- by what the code found
@@ -47,8 +48,9 @@ step_no_name (sign s.Increment p) op e = refl
 step_no_name (sign s.Decrement p) op e = refl
 step_no_name _ op e = absurd cc
 
-no_array_P : {ts r : List Lexeme} {e : ExpressionTree} → IsP ts e r → indexing (head r) ≡ None → array_at ts ≡ None
+pub no_array_P : {ts r : List Lexeme} {e : ExpressionTree} → IsP ts e r → indexing (head r) ≡ None → array_at ts ≡ None
 unfolding array_at
+no_array_P (p_property a) h = no_array_P a refl
 no_array_P p_number h = refl
 no_array_P p_character h = refl
 no_array_P p_word h = refl
@@ -58,6 +60,7 @@ no_array_P p_nothing h = refl
 no_array_P p_name h = rw h refl
 no_array_P p_call h = refl
 no_array_P (p_call_with a) h = refl
+no_array_P (p_relative {t = t} o a) h = no_arrow t
 no_array_P (p_parenthesised a) h = refl
 
 -- an operand is no array up to a token that is no arrow
@@ -67,3 +70,4 @@ no_array {r = r} (u_plain a) st = no_array_P a (indexing_stops (head r) st)
 no_array (u_minus a) st = refl
 no_array {ts} (u_before {t = t} {op = op} o a) st = array_no_name ts (step_no_name t op o)
 no_array (u_after {t = t} {op = op} a o) st = no_array_P a (step_no_index t op o)
+no_array (u_length a) st = no_array_P a refl

@@ -9,10 +9,15 @@ use Rattle.expressions.specs.declared.tree.Binary.TheVariants as op
 use Rattle.expressions.specs.declared.tree.Equality.TheVariants as equality
 use Rattle.expressions.specs.declared.tree.Prefix.TheVariants as prefix
 use Rattle.expressions.specs.declared.tree.Width.TheVariants as width
-use Rattle.expressions.specs.Tree.{NameTree, constant, word, named, index, prefixed, binary, equal, none, more}
-use Rattle.expressions.specs.Grammar.{IsE, e_plain, e1_plain, n1_plain, IsE2, e2_plain, e2_equal, choice_last}
-use Rattle.expressions.specs.Grammar.{choice_or, e3_plain, e3_add, e4_plain, n4_plain, IsE5, e5_plain, e5_index}
-use Rattle.expressions.specs.Grammar.{u_plain, u_minus, p_number, p_word, p_name}
+use Rattle.expressions.specs.declared.tree.Containment.TheVariants as containment
+use Rattle.expressions.specs.declared.tree.ObjectTest.TheVariants as test
+use Rattle.expressions.specs.declared.tree.Relative.TheVariants as relative
+use Rattle.expressions.specs.Tree.{NameTree, constant, word, named, index, relative_of, property, property_length}
+use Rattle.expressions.specs.Tree.{property_entry, prefixed, binary, equal, contained, tested, none, more}
+use Rattle.expressions.specs.Grammar.{IsE, e_plain, e1_plain, n1_plain, IsE2, e2_plain, e2_equal, e2_contained}
+use Rattle.expressions.specs.Grammar.{e2_tested, choice_last, choice_or, e3_plain, e3_add, e4_plain, n4_plain, IsE5}
+use Rattle.expressions.specs.Grammar.{e5_plain, e5_index, e5_entry, IsU, u_plain, u_minus, u_length, p_property}
+use Rattle.expressions.specs.Grammar.{p_number, p_word, p_name, p_relative}
 
 abbrev p : Position
 p = record { offset = 0; line = 1 }
@@ -47,3 +52,35 @@ word_among_words : IsE2
 word_among_words = e2_equal (e3_plain (e4_plain (n4_plain (e5_plain (u_plain p_name))))) refl
     (choice_or (e3_plain (e4_plain (n4_plain (e5_plain (u_plain p_word)))))
     (choice_last (e3_plain (e4_plain (n4_plain (e5_plain (u_plain p_word)))))))
+
+-- a.i.#a: the length of a property of the property i of a
+length_of_property : IsU
+    (name (codes "a") p ∷ sign s.Dot p ∷ name (codes "i") p ∷ sign s.DotHash p ∷ name (codes "a") p ∷ [])
+    (property_length (property (named a) i) a) []
+length_of_property = u_length (p_property p_name)
+
+-- a.&i-->1
+word_of_property : IsE5
+    (name (codes "a") p ∷ sign s.DotAmpersand p ∷ name (codes "i") p ∷ sign s.LongArrow p ∷ number 1 p ∷ [])
+    (property_entry (named a) i (constant 1)) []
+word_of_property = e5_entry p_name (u_plain p_number)
+
+-- parent(a) in i
+parent_in : IsE2
+    (reserved w.Parent p ∷ sign s.OpenParenthesis p ∷ name (codes "a") p ∷ sign s.CloseParenthesis p
+    ∷ reserved w.In p ∷ name (codes "i") p ∷ [])
+    (contained containment.In (relative_of relative.Parent (named a)) (named i)) []
+parent_in = e2_contained
+    (e3_plain
+    (e4_plain
+    (n4_plain
+    (e5_plain
+    (u_plain
+    (p_relative refl
+    (e_plain
+    (e1_plain (n1_plain (e2_plain (e3_plain (e4_plain (n4_plain (e5_plain (u_plain p_name)))))))))))))))
+    refl (e3_plain (e4_plain (n4_plain (e5_plain (u_plain p_name)))))
+
+-- a hasnt i
+without : IsE2 (name (codes "a") p ∷ reserved w.Hasnt p ∷ name (codes "i") p ∷ []) (tested test.HasNot (named a) i) []
+without = e2_tested (e3_plain (e4_plain (n4_plain (e5_plain (u_plain p_name))))) refl

@@ -3,10 +3,11 @@ use Rattle.std.proofs.Common.{◌<◌, List, length, arith}
 use Rattle.lexer.specs.Token.{Lexeme}
 use Rattle.expressions.specs.Tree.{ExpressionTree, ExpressionTrees}
 use Rattle.expressions.specs.Grammar.{IsE, e_plain, e_assign, IsE1, e1_plain, e1_logical, IsN1, n1_plain, n1_not}
-use Rattle.expressions.specs.Grammar.{IsE2, e2_plain, e2_compare, e2_equal, IsChoice, choice_last, choice_or, IsE3}
-use Rattle.expressions.specs.Grammar.{e3_plain, e3_add, IsE4, e4_plain, e4_scale, IsN4, n4_plain, n4_complement, IsE5}
-use Rattle.expressions.specs.Grammar.{e5_plain, e5_index, IsU, u_plain, u_minus, u_before, u_after, IsP, p_number}
-use Rattle.expressions.specs.Grammar.{p_character, p_word, p_true, p_false, p_nothing, p_name, p_call, p_call_with}
+use Rattle.expressions.specs.Grammar.{IsE2, e2_plain, e2_compare, e2_equal, e2_contained, e2_tested, IsChoice}
+use Rattle.expressions.specs.Grammar.{choice_last, choice_or, IsE3, e3_plain, e3_add, IsE4, e4_plain, e4_scale, IsN4}
+use Rattle.expressions.specs.Grammar.{n4_plain, n4_complement, IsE5, e5_plain, e5_index, e5_entry, IsU, u_plain}
+use Rattle.expressions.specs.Grammar.{u_minus, u_before, u_after, u_length, IsP, p_property, p_number, p_character}
+use Rattle.expressions.specs.Grammar.{p_word, p_true, p_false, p_nothing, p_name, p_call, p_call_with, p_relative}
 use Rattle.expressions.specs.Grammar.{p_parenthesised, IsArguments, arguments_last, arguments_comma}
 
 mutual
@@ -26,6 +27,8 @@ mutual
   short_E2 (e2_plain a) = short_E3 a
   short_E2 (e2_compare a o b) = omega (arith, short_E3 a, short_E3 b)
   short_E2 (e2_equal a o b) = omega (arith, short_E3 a, short_Choice b)
+  short_E2 (e2_contained a o b) = omega (arith, short_E3 a, short_E3 b)
+  short_E2 (e2_tested a o) = omega (arith, short_E3 a)
 
   pub short_Choice : {ts r : List Lexeme} {es : ExpressionTrees} → IsChoice ts es r → length r < length ts
   short_Choice (choice_last a) = short_E3 a
@@ -46,14 +49,17 @@ mutual
   pub short_E5 : {ts r : List Lexeme} {e : ExpressionTree} → IsE5 ts e r → length r < length ts
   short_E5 (e5_plain a) = short_U a
   short_E5 (e5_index o a) = omega (arith, short_U a)
+  short_E5 (e5_entry a b) = omega (arith, short_P a, short_U b)
 
   pub short_U : {ts r : List Lexeme} {e : ExpressionTree} → IsU ts e r → length r < length ts
   short_U (u_plain a) = short_P a
   short_U (u_minus a) = omega (arith, short_U a)
   short_U (u_before o a) = omega (arith, short_P a)
   short_U (u_after a o) = omega (arith, short_P a)
+  short_U (u_length a) = omega (arith, short_P a)
 
   pub short_P : {ts r : List Lexeme} {e : ExpressionTree} → IsP ts e r → length r < length ts
+  short_P (p_property a) = omega (arith, short_P a)
   short_P p_number = omega arith
   short_P p_character = omega arith
   short_P p_word = omega arith
@@ -63,6 +69,7 @@ mutual
   short_P p_name = omega arith
   short_P p_call = omega arith
   short_P (p_call_with a) = omega (arith, short_Arguments a)
+  short_P (p_relative o a) = omega (arith, short_E a)
   short_P (p_parenthesised a) = omega (arith, short_E a)
 
   pub short_Arguments : {ts r : List Lexeme} {es : ExpressionTrees} → IsArguments ts es r → length r < length ts

@@ -8,12 +8,17 @@ use Rattle.lexer.specs.Token.{Lexeme, name, number, character, dictionary_word, 
 use Rattle.expressions.specs.declared.tree.Binary.{Binary}
 use Rattle.expressions.specs.declared.tree.Comparison.{Comparison}
 use Rattle.expressions.specs.declared.tree.Equality.{Equality}
+use Rattle.expressions.specs.declared.tree.Containment.{Containment}
+use Rattle.expressions.specs.declared.tree.ObjectTest.{ObjectTest}
 use Rattle.expressions.specs.declared.tree.Prefix.TheVariants as prefix
+use Rattle.expressions.specs.declared.tree.Relative.{Relative}
 use Rattle.expressions.specs.declared.tree.Step.{Step}
 use Rattle.expressions.specs.declared.tree.Width.{Width}
 use Rattle.expressions.specs.Tree.{ExpressionTree, ExpressionTrees, constant, word, named, call, index, parenthesised}
-use Rattle.expressions.specs.Tree.{prefixed, step_before, step_after, binary, compare, equal, assign, none, more}
-use Rattle.expressions.specs.Operators.{logical, comparing, equating, adding, scaling, stepping, indexing}
+use Rattle.expressions.specs.Tree.{relative_of, property, property_length, property_entry, prefixed, step_before}
+use Rattle.expressions.specs.Tree.{step_after, binary, compare, equal, contained, tested, assign, none, more}
+use Rattle.expressions.specs.Operators.{logical, comparing, equating, containing, testing, adding, scaling, stepping}
+use Rattle.expressions.specs.Operators.{indexing, relating}
 
 mutual
   -- E = E1 ["=" E]
@@ -34,13 +39,19 @@ mutual
     n1_not : {m r : List Lexeme} {p : Position} {e : ExpressionTree} → IsN1 m e r
         → IsN1 (sign s.Not p ∷ m) (prefixed prefix.Not e) r
 
-  -- E2 = E3 | E3 ("<" | ">" | "<=" | ">=") E3 | E3 ("==" | "~=") E3 {"or" E3}
+  -- E2 = E3 | E3 ("<" | ">" | "<=" | ">=" | "in" | "notin") E3 | E3 ("==" | "~=") E3 {"or" E3}
+  --    | E3 ("has" | "hasnt" | "provides") name
   pub data IsE2 : List Lexeme → ExpressionTree → List Lexeme → Type 0 where
     e2_plain : {ts r : List Lexeme} {e : ExpressionTree} → IsE3 ts e r → IsE2 ts e r
     e2_compare : {ts m r : List Lexeme} {t : Lexeme} {op : Comparison} {a b : ExpressionTree} → IsE3 ts a (t ∷ m)
         → comparing t ≡ Some op → IsE3 m b r → IsE2 ts (compare op a b) r
     e2_equal : {ts m r : List Lexeme} {t : Lexeme} {op : Equality} {a : ExpressionTree} {bs : ExpressionTrees}
         → IsE3 ts a (t ∷ m) → equating t ≡ Some op → IsChoice m bs r → IsE2 ts (equal op a bs) r
+    e2_contained : {ts m r : List Lexeme} {t : Lexeme} {op : Containment} {a b : ExpressionTree} → IsE3 ts a (t ∷ m)
+        → containing t ≡ Some op → IsE3 m b r → IsE2 ts (contained op a b) r
+    e2_tested : {ts r : List Lexeme} {p : Position} {t : Lexeme} {n : List ℕ} {test : ObjectTest} {e : ExpressionTree}
+        → IsE3 ts e (t ∷ name n p ∷ r) → testing t ≡ Some test
+        → IsE2 ts (tested test e (record { text = n; position = p })) r
 
   -- E3 {"or" E3}
   pub data IsChoice : List Lexeme → ExpressionTrees → List Lexeme → Type 0 where
@@ -66,14 +77,17 @@ mutual
     n4_complement : {m r : List Lexeme} {p : Position} {e : ExpressionTree} → IsN4 m e r
         → IsN4 (sign s.Tilde p ∷ m) (prefixed prefix.Complement e) r
 
-  -- E5 = name ("->" | "-->") U | U
+  -- E5 = name ("->" | "-->") U | P ".&" name "-->" U | U
   pub data IsE5 : List Lexeme → ExpressionTree → List Lexeme → Type 0 where
     e5_plain : {ts r : List Lexeme} {e : ExpressionTree} → IsU ts e r → IsE5 ts e r
     e5_index : {m r : List Lexeme} {p : Position} {t : Lexeme} {n : List ℕ} {width : Width} {e : ExpressionTree}
         → indexing t ≡ Some width → IsU m e r
         → IsE5 (name n p ∷ t ∷ m) (index (record { text = n; position = p }) width e) r
+    e5_entry : {ts m r : List Lexeme} {p q o : Position} {n : List ℕ} {e i : ExpressionTree}
+        → IsP ts e (sign s.DotAmpersand q ∷ name n p ∷ sign s.LongArrow o ∷ m) → IsU m i r
+        → IsE5 ts (property_entry e (record { text = n; position = p }) i) r
 
-  -- U = "-" U | ("++" | "--") P | P ["++" | "--"]
+  -- U = "-" U | ("++" | "--") P | P ["++" | "--"] | P ".#" name
   pub data IsU : List Lexeme → ExpressionTree → List Lexeme → Type 0 where
     u_plain : {ts r : List Lexeme} {e : ExpressionTree} → IsP ts e r → IsU ts e r
     u_minus : {m r : List Lexeme} {p : Position} {e : ExpressionTree} → IsU m e r
@@ -82,9 +96,15 @@ mutual
         → IsU (t ∷ m) (step_before op (position_of t) e) r
     u_after : {ts r : List Lexeme} {t : Lexeme} {op : Step} {e : ExpressionTree} → IsP ts e (t ∷ r)
         → stepping t ≡ Some op → IsU ts (step_after e op (position_of t)) r
+    u_length : {ts r : List Lexeme} {p q : Position} {n : List ℕ} {e : ExpressionTree}
+        → IsP ts e (sign s.DotHash q ∷ name n p ∷ r)
+        → IsU ts (property_length e (record { text = n; position = p })) r
 
-  -- P = number | char | word | name | "true" | "false" | "nothing" | name "(" [E {"," E}] ")" | "(" E ")"
+  -- P = P "." name | number | char | word | name | "true" | "false" | "nothing" | name "(" [E {"," E}] ")"
+  --    | ("parent" | "child" | "sibling") "(" E ")" | "(" E ")"
   pub data IsP : List Lexeme → ExpressionTree → List Lexeme → Type 0 where
+    p_property : {ts r : List Lexeme} {p q : Position} {n : List ℕ} {e : ExpressionTree}
+        → IsP ts e (sign s.Dot q ∷ name n p ∷ r) → IsP ts (property e (record { text = n; position = p })) r
     p_number : {r : List Lexeme} {p : Position} {n : ℕ} → IsP (number n p ∷ r) (constant n) r
     p_character : {r : List Lexeme} {p : Position} {c : ℕ} → IsP (character c p ∷ r) (constant c) r
     p_word : {r : List Lexeme} {p : Position} {s : List ℕ} → IsP (dictionary_word s p ∷ r) (word s) r
@@ -99,6 +119,9 @@ mutual
     p_call_with : {m r : List Lexeme} {p q o : Position} {n : List ℕ} {es : ExpressionTrees}
         → IsArguments m es (sign s.CloseParenthesis o ∷ r)
         → IsP (name n p ∷ sign s.OpenParenthesis q ∷ m) (call (record { text = n; position = p }) es) r
+    p_relative : {m r : List Lexeme} {p o : Position} {t : Lexeme} {which : Relative} {e : ExpressionTree}
+        → relating t ≡ Some which → IsE m e (sign s.CloseParenthesis o ∷ r)
+        → IsP (t ∷ sign s.OpenParenthesis p ∷ m) (relative_of which e) r
     p_parenthesised : {m r : List Lexeme} {p o : Position} {e : ExpressionTree}
         → IsE m e (sign s.CloseParenthesis o ∷ r) → IsP (sign s.OpenParenthesis p ∷ m) (parenthesised e) r
 
@@ -108,8 +131,9 @@ mutual
     arguments_comma : {ts m r : List Lexeme} {p : Position} {e : ExpressionTree} {es : ExpressionTrees}
         → IsE ts e (sign s.Comma p ∷ m) → IsArguments m es r → IsArguments ts (more e es) r
 
--- How deep a tree is nested: a parenthesis, also that of a call, and an operator before its operand count from their
--- own token on, the right side of an assignment from its first token on. The index of an array adds none.
+-- How deep a tree is nested: a parenthesis, also that of a call or behind `parent`, `child` and `sibling`, and an
+-- operator before its operand count from their own token on, the right side of an assignment from its first token on.
+-- Properties, and the index of an array or of a property, add none.
 abbrev mutual
   pub nesting : ExpressionTree → ℕ
   nesting (constant n) = 0
@@ -118,12 +142,18 @@ abbrev mutual
   nesting (call n es) = suc (nestings es)
   nesting (index n width e) = nesting e
   nesting (parenthesised e) = suc (nesting e)
+  nesting (relative_of which e) = suc (nesting e)
+  nesting (property e n) = nesting e
+  nesting (property_length e n) = nesting e
+  nesting (property_entry e n i) = max (nesting e) (nesting i)
   nesting (prefixed op e) = suc (nesting e)
   nesting (step_before op p e) = suc (nesting e)
   nesting (step_after e op p) = nesting e
   nesting (binary op a b) = max (nesting a) (nesting b)
   nesting (compare op a b) = max (nesting a) (nesting b)
   nesting (equal op a bs) = max (nesting a) (nestings bs)
+  nesting (contained op a b) = max (nesting a) (nesting b)
+  nesting (tested test e n) = nesting e
   nesting (assign a p b) = max (nesting a) (suc (nesting b))
 
   pub nestings : ExpressionTrees → ℕ

@@ -2,21 +2,36 @@
 -- which a part can stand in an alternative of the grammar.
 --
 -- DeepE n ts: an expression that begins at ts can be read as far as a token that stands n nestings deep in it. What
--- lies before that token in its parts is complete. A parenthesis, also that of a call, and an operator before its
--- operand stand one deeper than what holds them, and so does the first token of the right side of an assignment.
+-- lies before that token in its parts is complete. A parenthesis, also that of a call or behind `parent`, `child` and
+-- `sibling`, and an operator before its operand stand one deeper than what holds them, and so does the first token of
+-- the right side of an assignment.
 use Rattle.std.specs.Prelude.{◌≡◌, Bool, true, false, ℕ, suc, List, ◌∷◌, Some}
 use Rattle.lexer.specs.declared.token.Position.{Position}
 use Rattle.lexer.specs.declared.token.Sign.TheVariants as s
+use Rattle.lexer.specs.declared.token.Word.{Word}
 use Rattle.lexer.specs.declared.token.Word.TheVariants as w
 use Rattle.lexer.specs.Token.{Lexeme, name, number, character, dictionary_word, reserved, sign}
 use Rattle.expressions.specs.declared.tree.Binary.{Binary}
 use Rattle.expressions.specs.declared.tree.Comparison.{Comparison}
 use Rattle.expressions.specs.declared.tree.Equality.{Equality}
+use Rattle.expressions.specs.declared.tree.Containment.{Containment}
+use Rattle.expressions.specs.declared.tree.Relative.{Relative}
 use Rattle.expressions.specs.declared.tree.Step.{Step}
 use Rattle.expressions.specs.declared.tree.Width.{Width}
 use Rattle.expressions.specs.Tree.{ExpressionTree}
-use Rattle.expressions.specs.Operators.{logical, comparing, equating, adding, scaling, stepping, indexing}
-use Rattle.expressions.specs.Grammar.{IsE, IsE1, IsE3, IsE4}
+use Rattle.expressions.specs.Operators.{logical, comparing, equating, containing, adding, scaling, stepping, indexing}
+use Rattle.expressions.specs.Operators.{relating}
+use Rattle.expressions.specs.Grammar.{IsE, IsE1, IsE3, IsE4, IsP}
+
+-- the reserved words with which an expression can begin
+abbrev pub word_begins : Word → Bool
+word_begins w.True = true
+word_begins w.False = true
+word_begins w.Nothing = true
+word_begins w.Parent = true
+word_begins w.Child = true
+word_begins w.Sibling = true
+word_begins _ = false
 
 -- the tokens with which an expression can begin
 abbrev pub begins_expression : Lexeme → Bool
@@ -24,9 +39,7 @@ begins_expression (name _ _) = true
 begins_expression (number _ _) = true
 begins_expression (character _ _) = true
 begins_expression (dictionary_word _ _) = true
-begins_expression (reserved w.True _) = true
-begins_expression (reserved w.False _) = true
-begins_expression (reserved w.Nothing _) = true
+begins_expression (reserved w _) = word_begins w
 begins_expression (sign s.OpenParenthesis _) = true
 begins_expression (sign s.Minus _) = true
 begins_expression (sign s.Tilde _) = true
@@ -56,13 +69,16 @@ mutual
     deep_n1_not : {m : List Lexeme} {p : Position} → DeepN1 1 (sign s.Not p ∷ m)
     deep_n1_in : {n : ℕ} {m : List Lexeme} {p : Position} → DeepN1 n m → DeepN1 (suc n) (sign s.Not p ∷ m)
 
-  -- E2 = E3 | E3 ("<" | ">" | "<=" | ">=") E3 | E3 ("==" | "~=") E3 {"or" E3}
+  -- E2 = E3 | E3 ("<" | ">" | "<=" | ">=" | "in" | "notin") E3 | E3 ("==" | "~=") E3 {"or" E3}
+  --    | E3 ("has" | "hasnt" | "provides") name
   pub data DeepE2 : ℕ → List Lexeme → Type 0 where
     deep_e2_left : {n : ℕ} {ts : List Lexeme} → DeepE3 n ts → DeepE2 n ts
     deep_e2_compare : {n : ℕ} {ts m : List Lexeme} {t : Lexeme} {op : Comparison} {a : ExpressionTree}
         → IsE3 ts a (t ∷ m) → comparing t ≡ Some op → DeepE3 n m → DeepE2 n ts
     deep_e2_equal : {n : ℕ} {ts m : List Lexeme} {t : Lexeme} {op : Equality} {a : ExpressionTree} → IsE3 ts a (t ∷ m)
         → equating t ≡ Some op → DeepChoice n m → DeepE2 n ts
+    deep_e2_contained : {n : ℕ} {ts m : List Lexeme} {t : Lexeme} {op : Containment} {a : ExpressionTree}
+        → IsE3 ts a (t ∷ m) → containing t ≡ Some op → DeepE3 n m → DeepE2 n ts
 
   -- E3 {"or" E3}
   pub data DeepChoice : ℕ → List Lexeme → Type 0 where
@@ -88,13 +104,15 @@ mutual
     deep_n4_complement : {m : List Lexeme} {p : Position} → DeepN4 1 (sign s.Tilde p ∷ m)
     deep_n4_in : {n : ℕ} {m : List Lexeme} {p : Position} → DeepN4 n m → DeepN4 (suc n) (sign s.Tilde p ∷ m)
 
-  -- E5 = name ("->" | "-->") U | U
+  -- E5 = name ("->" | "-->") U | P ".&" name "-->" U | U
   pub data DeepE5 : ℕ → List Lexeme → Type 0 where
     deep_e5_plain : {n : ℕ} {ts : List Lexeme} → DeepU n ts → DeepE5 n ts
     deep_e5_index : {n : ℕ} {m : List Lexeme} {p : Position} {t : Lexeme} {a : List ℕ} {width : Width}
         → indexing t ≡ Some width → DeepU n m → DeepE5 n (name a p ∷ t ∷ m)
+    deep_e5_entry : {n : ℕ} {ts m : List Lexeme} {p q o : Position} {a : List ℕ} {e : ExpressionTree}
+        → IsP ts e (sign s.DotAmpersand q ∷ name a p ∷ sign s.LongArrow o ∷ m) → DeepU n m → DeepE5 n ts
 
-  -- U = "-" U | ("++" | "--") P | P ["++" | "--"]
+  -- U = "-" U | ("++" | "--") P | P ["++" | "--"] | P ".#" name
   pub data DeepU : ℕ → List Lexeme → Type 0 where
     deep_u_plain : {n : ℕ} {ts : List Lexeme} → DeepP n ts → DeepU n ts
     deep_u_minus : {m : List Lexeme} {p : Position} → DeepU 1 (sign s.Minus p ∷ m)
@@ -103,11 +121,15 @@ mutual
     deep_u_before_in : {n : ℕ} {m : List Lexeme} {t : Lexeme} {op : Step} → stepping t ≡ Some op → DeepP n m
         → DeepU (suc n) (t ∷ m)
 
-  -- P = .. | name "(" [E {"," E}] ")" | "(" E ")"
+  -- P = P "." name | .. | name "(" [E {"," E}] ")" | ("parent" | "child" | "sibling") "(" E ")" | "(" E ")"
   pub data DeepP : ℕ → List Lexeme → Type 0 where
     deep_p_call : {m : List Lexeme} {p q : Position} {f : List ℕ} → DeepP 1 (name f p ∷ sign s.OpenParenthesis q ∷ m)
     deep_p_arguments : {n : ℕ} {m : List Lexeme} {p q : Position} {f : List ℕ} → DeepArguments n m
         → DeepP (suc n) (name f p ∷ sign s.OpenParenthesis q ∷ m)
+    deep_p_relative : {m : List Lexeme} {q : Position} {t : Lexeme} {which : Relative} → relating t ≡ Some which
+        → DeepP 1 (t ∷ sign s.OpenParenthesis q ∷ m)
+    deep_p_relative_in : {n : ℕ} {m : List Lexeme} {q : Position} {t : Lexeme} {which : Relative}
+        → relating t ≡ Some which → DeepE n m → DeepP (suc n) (t ∷ sign s.OpenParenthesis q ∷ m)
     deep_p_parenthesis : {m : List Lexeme} {p : Position} → DeepP 1 (sign s.OpenParenthesis p ∷ m)
     deep_p_in : {n : ℕ} {m : List Lexeme} {p : Position} → DeepE n m → DeepP (suc n) (sign s.OpenParenthesis p ∷ m)
 

@@ -1,13 +1,21 @@
 -- Which tokens are operators, level by level.
-use Rattle.std.specs.Prelude.{Option, Some, None}
-use Rattle.lexer.specs.Token.{Lexeme, sign}
+use Rattle.std.specs.Prelude.{Bool, true, false, Option, Some, None}
+use Rattle.lexer.specs.Token.{Lexeme, reserved, sign}
 use Rattle.lexer.specs.declared.token.Sign.TheVariants as s
+use Rattle.lexer.specs.declared.token.Word.{Word}
+use Rattle.lexer.specs.declared.token.Word.TheVariants as w
 use Rattle.expressions.specs.declared.tree.Binary.{Binary}
 use Rattle.expressions.specs.declared.tree.Binary.TheVariants as op
 use Rattle.expressions.specs.declared.tree.Comparison.{Comparison}
 use Rattle.expressions.specs.declared.tree.Comparison.TheVariants as comparison
 use Rattle.expressions.specs.declared.tree.Equality.{Equality}
 use Rattle.expressions.specs.declared.tree.Equality.TheVariants as equality
+use Rattle.expressions.specs.declared.tree.Containment.{Containment}
+use Rattle.expressions.specs.declared.tree.Containment.TheVariants as containment
+use Rattle.expressions.specs.declared.tree.ObjectTest.{ObjectTest}
+use Rattle.expressions.specs.declared.tree.ObjectTest.TheVariants as test
+use Rattle.expressions.specs.declared.tree.Relative.{Relative}
+use Rattle.expressions.specs.declared.tree.Relative.TheVariants as relative
 use Rattle.expressions.specs.declared.tree.Step.{Step}
 use Rattle.expressions.specs.declared.tree.Step.TheVariants as step
 use Rattle.expressions.specs.declared.tree.Width.{Width}
@@ -30,6 +38,26 @@ equating (sign s.Equal _) = Some equality.Equal
 equating (sign s.NotEqual _) = Some equality.NotEqual
 equating _ = None
 
+abbrev pub containing_word : Word → Option Containment
+containing_word w.In = Some containment.In
+containing_word w.Notin = Some containment.NotIn
+containing_word _ = None
+
+abbrev pub containing : Lexeme → Option Containment
+containing (reserved w _) = containing_word w
+containing _ = None
+
+abbrev pub testing_word : Word → Option ObjectTest
+testing_word w.Has = Some test.Has
+testing_word w.Hasnt = Some test.HasNot
+testing_word w.Provides = Some test.Provides
+testing_word _ = None
+
+-- what a name behind it is tested for
+abbrev pub testing : Lexeme → Option ObjectTest
+testing (reserved w _) = testing_word w
+testing _ = None
+
 abbrev pub adding : Lexeme → Option Binary
 adding (sign s.Plus _) = Some op.Add
 adding (sign s.Minus _) = Some op.Subtract
@@ -47,6 +75,23 @@ abbrev pub stepping : Lexeme → Option Step
 stepping (sign s.Increment _) = Some step.Increment
 stepping (sign s.Decrement _) = Some step.Decrement
 stepping _ = None
+
+-- an operator before an operand of the tightest level
+abbrev pub prefixes : Lexeme → Bool
+prefixes (sign s.Minus _) = true
+prefixes (sign s.Increment _) = true
+prefixes (sign s.Decrement _) = true
+prefixes _ = false
+
+abbrev pub relating_word : Word → Option Relative
+relating_word w.Parent = Some relative.Parent
+relating_word w.Child = Some relative.Child
+relating_word w.Sibling = Some relative.Sibling
+relating_word _ = None
+
+abbrev pub relating : Lexeme → Option Relative
+relating (reserved w _) = relating_word w
+relating _ = None
 
 -- the width of the entries that an arrow indexes
 abbrev pub indexing : Lexeme → Option Width

@@ -10,7 +10,10 @@ use Rattle.lexer.specs.Token.{Lexeme, name, number, character, dictionary_word, 
 use Rattle.expressions.specs.declared.tree.Binary.{Binary}
 use Rattle.expressions.specs.declared.tree.Comparison.{Comparison}
 use Rattle.expressions.specs.declared.tree.Equality.{Equality}
+use Rattle.expressions.specs.declared.tree.Containment.{Containment}
+use Rattle.expressions.specs.declared.tree.ObjectTest.{ObjectTest}
 use Rattle.expressions.specs.declared.tree.Prefix.TheVariants as op
+use Rattle.expressions.specs.declared.tree.Relative.{Relative}
 use Rattle.expressions.specs.declared.tree.Step.{Step}
 use Rattle.expressions.specs.declared.tree.Width.{Width}
 use Rattle.expressions.specs.declared.error.Fault.{Fault}
@@ -18,8 +21,10 @@ use Rattle.expressions.specs.declared.error.Fault.TheVariants.{Grammar, Deep}
 use Rattle.expressions.specs.declared.error.ParseError.{ParseError}
 use Rattle.expressions.specs.declared.error.ParseError.TheVariants as errors
 use Rattle.expressions.specs.Tree.{NameTree, ExpressionTree, constant, word, named, call, index, parenthesised, prefixed}
-use Rattle.expressions.specs.Tree.{step_before, step_after, binary, compare, equal, assign, none, trees_of}
-use Rattle.expressions.specs.Operators.{logical, comparing, equating, adding, scaling, stepping, indexing}
+use Rattle.expressions.specs.Tree.{relative_of, property, property_length, property_entry, step_before, step_after}
+use Rattle.expressions.specs.Tree.{binary, compare, equal, contained, tested, assign, none, trees_of}
+use Rattle.expressions.specs.Operators.{logical, comparing, equating, containing, testing, adding, scaling, stepping}
+use Rattle.expressions.specs.Operators.{prefixes, relating_word, indexing}
 use Rattle.expressions.specs.Nesting.{begins_expression}
 
 -- what is read, and the tokens after it; or why nothing is
@@ -175,6 +180,14 @@ expect s ts = if is_sign s (head ts) then Ok (tail ts) else Err Grammar
 unfoldable pub expect_word : Word → List Lexeme → Result (List Lexeme) Fault
 expect_word w ts = if is_word w (head ts) then Ok (tail ts) else Err Grammar
 
+-- the name that comes next, and the tokens after it
+abbrev pub name_on : Lexeme → List Lexeme → Result (NameTree × List Lexeme) Fault
+name_on (name n p) ts = Ok (record { text = n; position = p }, ts)
+name_on _ ts = Err Grammar
+
+unfoldable pub expect_name : Parse NameTree
+expect_name ts = name_on (head ts) (tail ts)
+
 -- what stands in parentheses, with the second of them
 abbrev pub closed : {A B : Type 0} → (A → B) → A × List Lexeme → Result (B × List Lexeme) Fault
 closed make x = expect s.CloseParenthesis x.1 >>= λ r. Ok (make x.0, r)
@@ -202,7 +215,46 @@ further separates item (suc n) ts =
 unfoldable pub list : {A : Type 0} → (Lexeme → Bool) → Parse A → Parse (List A)
 list separates item ts = item ts >>= λ x. further separates item (length x.1) x.1 >>= λ y. Ok (x.0 ∷ y.0, y.1)
 
+-- ---- what stands behind an object
+
+-- a property of an owner, from behind its sign on
+unfoldable pub property_next : ExpressionTree → Parse ExpressionTree
+property_next e ts = expect_name ts >>= λ x. Ok (property e x.0, x.1)
+
+-- {"." name} after an owner
+unfoldable pub properties : ℕ → ExpressionTree → Parse ExpressionTree
+properties zero e ts = Ok (e, ts)
+properties (suc n) e ts =
+    if is_sign s.Dot (head ts) then (property_next e (tail ts) >>= λ x. properties n x.0 x.1) else Ok (e, ts)
+
+-- the name of a property whose entry is read, behind its sign, and the arrow behind it
+unfoldable pub entry_of : Parse NameTree
+entry_of ts = expect_name ts >>= λ x. expect s.LongArrow x.1 >>= λ r. Ok (x.0, r)
+
+unfoldable pub lengthened : ExpressionTree → Parse ExpressionTree
+lengthened e ts =
+    if is_sign s.DotHash (head ts) then (expect_name (tail ts) >>= λ x. Ok (property_length e x.0, x.1))
+    else Ok (e, ts)
+
+abbrev pub tested_on : ExpressionTree → List Lexeme → Option ObjectTest → Result (ExpressionTree × List Lexeme) Fault
+tested_on e ts None = Ok (e, ts)
+tested_on e ts (Some test) = expect_name (tail ts) >>= λ x. Ok (tested test e x.0, x.1)
+
+unfoldable pub tested_next : ExpressionTree → Parse ExpressionTree
+tested_next e ts = tested_on e ts (testing (head ts))
+
 -- ---- the levels of the grammar
+
+-- the value of a reserved word
+abbrev pub word_value : Word → Option ℕ
+word_value w.True = Some 1
+word_value w.False = Some 0
+word_value w.Nothing = Some 0
+word_value _ = None
+
+abbrev pub valued : Option ℕ → Parse ExpressionTree
+valued None ts = Err Grammar
+valued (Some n) ts = Ok (constant n, ts)
 
 -- what is read one nesting further in
 pub data Level : Type 0 where
@@ -213,10 +265,13 @@ pub data Level : Type 0 where
   operand : Level
   arguments : NameTree → Level
 
--- an operand, and `++` or `--` where it stands after it
+-- an operand, and `++`, `--` or the length of a property where it stands after it
 abbrev pub step_on : ExpressionTree → List Lexeme → Option Step → Result (ExpressionTree × List Lexeme) Fault
-step_on e ts None = Ok (e, ts)
+step_on e ts None = lengthened e ts
 step_on e ts (Some op) = Ok (step_after e op (position_of (head ts)), tail ts)
+
+unfoldable pub suffixed : ExpressionTree → Parse ExpressionTree
+suffixed e ts = step_on e ts (stepping (head ts))
 
 -- over the levels one nesting further in
 module _ (below : Level → Parse ExpressionTree) where
@@ -227,27 +282,35 @@ module _ (below : Level → Parse ExpressionTree) where
       else Ok (named n, ts)
 
   unfoldable pub enclosed : Parse ExpressionTree
-  enclosed ts = do
-    x ← below whole ts
-    r ← expect s.CloseParenthesis x.1
-    Ok (parenthesised x.0, r)
+  enclosed ts = below whole ts >>= closed parenthesised
 
-  abbrev pub primary_on : Lexeme → Parse ExpressionTree
-  primary_on (number n p) ts = Ok (constant n, ts)
-  primary_on (character c p) ts = Ok (constant c, ts)
-  primary_on (dictionary_word f p) ts = Ok (word f, ts)
-  primary_on (reserved w.True p) ts = Ok (constant 1, ts)
-  primary_on (reserved w.False p) ts = Ok (constant 0, ts)
-  primary_on (reserved w.Nothing p) ts = Ok (constant 0, ts)
-  primary_on (name n p) ts = after_name (record { text = n; position = p }) ts
-  primary_on (sign s.OpenParenthesis p) ts = enclosed ts
-  primary_on _ ts = Err Grammar
+  -- behind `parent`, `child` or `sibling`
+  unfoldable pub related : Relative → Parse ExpressionTree
+  related which ts =
+      if is_sign s.OpenParenthesis (head ts) then (below whole (tail ts) >>= closed (relative_of which))
+      else Err Grammar
+
+  abbrev pub word_on : Word → Option Relative → Parse ExpressionTree
+  word_on w None ts = valued (word_value w) ts
+  word_on w (Some which) ts = related which ts
+
+  abbrev pub atom_on : Lexeme → Parse ExpressionTree
+  atom_on (number n p) ts = Ok (constant n, ts)
+  atom_on (character c p) ts = Ok (constant c, ts)
+  atom_on (dictionary_word f p) ts = Ok (word f, ts)
+  atom_on (reserved w p) ts = word_on w (relating_word w) ts
+  atom_on (name n p) ts = after_name (record { text = n; position = p }) ts
+  atom_on (sign s.OpenParenthesis p) ts = enclosed ts
+  atom_on _ ts = Err Grammar
+
+  unfoldable pub atom : Parse ExpressionTree
+  atom ts = atom_on (head ts) (tail ts)
 
   unfoldable pub primary : Parse ExpressionTree
-  primary ts = primary_on (head ts) (tail ts)
+  primary ts = atom ts >>= λ x. properties (length x.1) x.0 x.1
 
   unfoldable pub stepped : Parse ExpressionTree
-  stepped ts = primary ts >>= λ x. step_on x.0 x.1 (stepping (head x.1))
+  stepped ts = primary ts >>= λ x. suffixed x.0 x.1
 
   abbrev pub unary_on : List Lexeme → Option Step → Result (ExpressionTree × List Lexeme) Fault
   unary_on ts None = stepped ts
@@ -258,8 +321,18 @@ module _ (below : Level → Parse ExpressionTree) where
       if is_sign s.Minus (head ts) then (below prefix (tail ts) >>= λ x. Ok (prefixed op.Minus x.0, x.1))
       else unary_on ts (stepping (head ts))
 
+  -- an entry of a property of an object, from behind its sign on
+  unfoldable pub entry : ExpressionTree → Parse ExpressionTree
+  entry e ts = entry_of ts >>= λ x. unary x.1 >>= λ y. Ok (property_entry e x.0 y.0, y.1)
+
+  unfoldable pub owned : ExpressionTree → Parse ExpressionTree
+  owned e ts = if is_sign s.DotAmpersand (head ts) then entry e (tail ts) else suffixed e ts
+
+  unfoldable pub unindexed : Parse ExpressionTree
+  unindexed ts = if prefixes (head ts) then unary ts else (primary ts >>= λ x. owned x.0 x.1)
+
   abbrev pub indexed_on : List Lexeme → Option (NameTree × Width) → Result (ExpressionTree × List Lexeme) Fault
-  indexed_on ts None = unary ts
+  indexed_on ts None = unindexed ts
   indexed_on ts (Some a) = unary (tail (tail ts)) >>= λ x. Ok (index a.0 a.1 x.0, x.1)
 
   unfoldable pub indexed : Parse ExpressionTree
@@ -279,8 +352,13 @@ module _ (below : Level → Parse ExpressionTree) where
   unfoldable pub equated : ExpressionTree → Equality → Parse ExpressionTree
   equated left op ts = list (is_word w.Or) sum ts >>= λ x. Ok (equal op left (trees_of x.0), x.1)
 
+  abbrev pub contained_on : ExpressionTree → List Lexeme → Option Containment
+      → Result (ExpressionTree × List Lexeme) Fault
+  contained_on left ts None = tested_next left ts
+  contained_on left ts (Some op) = sum (tail ts) >>= λ x. Ok (contained op left x.0, x.1)
+
   abbrev pub equated_on : ExpressionTree → List Lexeme → Option Equality → Result (ExpressionTree × List Lexeme) Fault
-  equated_on left ts None = Ok (left, ts)
+  equated_on left ts None = contained_on left ts (containing (head ts))
   equated_on left ts (Some op) = equated left op (tail ts)
 
   abbrev pub compared_on : ExpressionTree → List Lexeme → Option Comparison

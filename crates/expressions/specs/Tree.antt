@@ -5,7 +5,10 @@ use Rattle.expressions.specs.declared.tree.Name.{Name}
 use Rattle.expressions.specs.declared.tree.Binary.{Binary}
 use Rattle.expressions.specs.declared.tree.Comparison.{Comparison}
 use Rattle.expressions.specs.declared.tree.Equality.{Equality}
+use Rattle.expressions.specs.declared.tree.Containment.{Containment}
+use Rattle.expressions.specs.declared.tree.ObjectTest.{ObjectTest}
 use Rattle.expressions.specs.declared.tree.Prefix.{Prefix}
+use Rattle.expressions.specs.declared.tree.Relative.{Relative}
 use Rattle.expressions.specs.declared.tree.Step.{Step}
 use Rattle.expressions.specs.declared.tree.Width.{Width}
 use Rattle.expressions.specs.declared.tree.Expression.{Expression, fold-Expression}
@@ -24,12 +27,19 @@ mutual
     call : NameTree → ExpressionTrees → ExpressionTree
     index : NameTree → Width → ExpressionTree → ExpressionTree
     parenthesised : ExpressionTree → ExpressionTree
+    relative_of : Relative → ExpressionTree → ExpressionTree
+    property : ExpressionTree → NameTree → ExpressionTree
+    property_length : ExpressionTree → NameTree → ExpressionTree
+    -- the last is the index
+    property_entry : ExpressionTree → NameTree → ExpressionTree → ExpressionTree
     prefixed : Prefix → ExpressionTree → ExpressionTree
     step_before : Step → Position → ExpressionTree → ExpressionTree
     step_after : ExpressionTree → Step → Position → ExpressionTree
     binary : Binary → ExpressionTree → ExpressionTree → ExpressionTree
     compare : Comparison → ExpressionTree → ExpressionTree → ExpressionTree
     equal : Equality → ExpressionTree → ExpressionTrees → ExpressionTree
+    contained : Containment → ExpressionTree → ExpressionTree → ExpressionTree
+    tested : ObjectTest → ExpressionTree → NameTree → ExpressionTree
     assign : ExpressionTree → Position → ExpressionTree → ExpressionTree
 
   pub data ExpressionTrees : Type 0 where
@@ -50,6 +60,11 @@ abbrev pub chained : ExpressionTree → List (Binary × ExpressionTree) → Expr
 chained e [] = e
 chained e (l ∷ ls) = chained (binary l.0 e l.1) ls
 
+-- properties, each of the value of the one before it
+abbrev pub propertied : ExpressionTree → List Name → ExpressionTree
+propertied e [] = e
+propertied e (n ∷ ns) = propertied (property e (name_tree n)) ns
+
 abbrev pub layer : Expression-F ExpressionTree → ExpressionTree
 layer (Expression-F.Constant n) = constant n
 layer (Expression-F.Word s) = word s.now
@@ -57,12 +72,18 @@ layer (Expression-F.Named n) = named (name_tree n)
 layer (Expression-F.Call n es) = call (name_tree n) (trees_of es.items)
 layer (Expression-F.Index n width e) = index (name_tree n) width e.value
 layer (Expression-F.Parenthesised e) = parenthesised e.value
+layer (Expression-F.RelativeOf r e) = relative_of r e.value
+layer (Expression-F.Property e n ns) = propertied (property e.value (name_tree n)) ns.items
+layer (Expression-F.PropertyLength e n) = property_length e.value (name_tree n)
+layer (Expression-F.PropertyEntry e n i) = property_entry e.value (name_tree n) i.value
 layer (Expression-F.Prefixed op e) = prefixed op e.value
 layer (Expression-F.StepBefore op p e) = step_before op p e.value
 layer (Expression-F.StepAfter e op p) = step_after e.value op p
 layer (Expression-F.Chain a op b ls) = chained (binary op a.value b.value) ls.items
 layer (Expression-F.Compare a op b) = compare op a.value b.value
 layer (Expression-F.Equal a op b es) = equal op a.value (more b.value (trees_of es.items))
+layer (Expression-F.Contained a op b) = contained op a.value b.value
+layer (Expression-F.Tested a test n) = tested test a.value (name_tree n)
 layer (Expression-F.Assign a p b) = assign a.value p b.value
 
 abbrev pub expression_tree : Expression → ExpressionTree

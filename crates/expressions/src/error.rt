@@ -8,7 +8,7 @@ use lexer::SourceFault;
 use std::alloc::{AllocError, AllocFailed};
 
 /// Why tokens have no tree.
-#[derive(Clone, Copy, Debug)]
+#[derive(Clone, Copy)]
 pub enum Fault {
     /// No derivation of the grammar goes on with the token (E10).
     Grammar,
@@ -18,7 +18,7 @@ pub enum Fault {
 }
 
 /// Why tokens are not read.
-#[derive(Debug, Drop)]
+#[derive(Drop)]
 pub enum ParseError {
     /// A growth of memory was refused (E99).
     Memory,

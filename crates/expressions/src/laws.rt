@@ -1,6 +1,7 @@
-//! Laws of expressions. The function does nothing: it carries the laws as its contract.
+//! Laws of expressions. The functions do nothing: they carry the laws as their contracts.
 
 ghost use Rattle.expressions.specs.Laws.{ReadsWhatDerives, DerivesWhatIsRead, DeepWhereDeep, OneTree};
+ghost use Rattle.expressions.specs.Laws.{ReadsUnassigned, UnassignedIsRead, UnassignedDeep, OneUnassigned};
 
 /// What `expression` gives is what the grammar says: the function on lists that its contract cites reads the trees of the
 /// grammar, each list of tokens has one, and a fault of depth comes only where a token stands too deep.
@@ -9,4 +10,12 @@ pub fn reads_the_grammar()
     ensures complete { DerivesWhatIsRead }
     ensures deep { DeepWhereDeep }
     ensures one_tree { OneTree }
+{}
+
+/// The same of `unassigned` and the expressions without an assignment at their root.
+pub fn reads_unassigned()
+    ensures sound { ReadsUnassigned }
+    ensures complete { UnassignedIsRead }
+    ensures deep { UnassignedDeep }
+    ensures one_tree { OneUnassigned }
 {}

@@ -5,8 +5,9 @@ ghost use Rattle.lexer.specs.Token.{lexeme};
 ghost use Rattle.expressions.specs.Operators as spec;
 ghost use Rattle.expressions.specs.Nesting as nesting;
 ghost use Rattle.expressions.specs.Levels.{operator_of};
+ghost use Rattle.expressions.specs.Parse as parse;
 
-use crate::tree::{Binary, Comparison, Equality, Step, Width};
+use crate::tree::{Binary, Comparison, Containment, Equality, ObjectTest, Relative, Step, Width};
 use lexer::{Kind, Sign, Token, Word};
 
 /// The operators of one level, in chains that group to the left.
@@ -88,6 +89,80 @@ pub fn equating(token: Token<'_>) -> Option<Equality>
     }
 }
 
+/// `in` or `notin`, where the token is one.
+pub fn containing(token: Token<'_>) -> Option<Containment>
+    ensures { result ≡ spec.containing (lexeme token.entry) }
+{
+    match token.kind {
+        Kind::Reserved(word) => containing_word(word),
+        _ => None,
+    }
+}
+
+fn containing_word(word: Word) -> Option<Containment>
+    ensures { result ≡ spec.containing_word word }
+{
+    match word {
+        Word::In => Some(Containment::In),
+        Word::Notin => Some(Containment::NotIn),
+        _ => None,
+    }
+}
+
+/// What the name behind the token is tested for, where it is `has`, `hasnt` or `provides`.
+pub fn testing(token: Token<'_>) -> Option<ObjectTest>
+    ensures { result ≡ spec.testing (lexeme token.entry) }
+{
+    match token.kind {
+        Kind::Reserved(word) => testing_word(word),
+        _ => None,
+    }
+}
+
+fn testing_word(word: Word) -> Option<ObjectTest>
+    ensures { result ≡ spec.testing_word word }
+{
+    match word {
+        Word::Has => Some(ObjectTest::Has),
+        Word::Hasnt => Some(ObjectTest::HasNot),
+        Word::Provides => Some(ObjectTest::Provides),
+        _ => None,
+    }
+}
+
+/// `parent`, `child` or `sibling`, where the word is one.
+pub fn relating_word(word: Word) -> Option<Relative>
+    ensures { result ≡ spec.relating_word word }
+{
+    match word {
+        Word::Parent => Some(Relative::Parent),
+        Word::Child => Some(Relative::Child),
+        Word::Sibling => Some(Relative::Sibling),
+        _ => None,
+    }
+}
+
+/// The value of `true`, `false` and `nothing`.
+pub fn word_value(word: Word) -> Option<u16>
+    ensures { result ≡ parse.word_value word }
+{
+    match word {
+        Word::True => Some(1),
+        Word::False | Word::Nothing => Some(0),
+        _ => None,
+    }
+}
+
+/// Whether the token is an operator before an operand of the tightest level: `-`, `++` or `--`.
+pub fn prefixes(token: Token<'_>) -> bool
+    ensures { result ≡ spec.prefixes (lexeme token.entry) }
+{
+    match token.kind {
+        Kind::Sign(sign) => matches!(sign, Sign::Minus | Sign::Increment | Sign::Decrement),
+        _ => false,
+    }
+}
+
 /// `++` or `--`, where the token is one.
 pub fn stepping(token: Token<'_>) -> Option<Step>
     ensures { result ≡ spec.stepping (lexeme token.entry) }
@@ -110,13 +185,22 @@ pub fn indexing(token: Token<'_>) -> Option<Width>
     }
 }
 
+fn word_begins(word: Word) -> bool
+    ensures { result ≡ nesting.word_begins word }
+{
+    matches!(
+        word,
+        Word::True | Word::False | Word::Nothing | Word::Parent | Word::Child | Word::Sibling
+    )
+}
+
 /// Whether an expression can begin with the token.
 pub fn begins_expression(token: Token<'_>) -> bool
     ensures { result ≡ nesting.begins_expression (lexeme token.entry) }
 {
     match token.kind {
         Kind::Name(_) | Kind::Number(_) | Kind::Character(_) | Kind::DictionaryWord(_) => true,
-        Kind::Reserved(word) => matches!(word, Word::True | Word::False | Word::Nothing),
+        Kind::Reserved(word) => word_begins(word),
         Kind::Sign(sign) => matches!(
             sign,
             Sign::OpenParenthesis

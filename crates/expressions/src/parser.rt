@@ -7,20 +7,26 @@ ghost use Rattle.std.specs.Prelude.{◌≡◌, ◌∷◌, map};
 ghost use Rattle.lexer.specs.Token.{lexemes};
 ghost use Rattle.expressions.specs.Tree.{name_tree, expression_tree};
 ghost use Rattle.expressions.specs.Parse as spec;
+ghost use Rattle.expressions.specs.Operators as operators;
 ghost use Rattle.expressions.specs.Parse.{Gives, tail};
 ghost use Rattle.expressions.specs.Levels.{operand_of, chain_of};
 
 use crate::error::{Fault, ParseError};
-use crate::operators::{Operators, begins_expression, comparing, equating, operator, stepping};
+use crate::operators::{
+    Operators, begins_expression, comparing, containing, equating, operator, prefixes,
+    relating_word, stepping,
+};
 use crate::parts;
-use crate::reading::{array, fault_at, is_sign, is_word, open, peek, position, skip};
-use crate::tree::{Expression, Name, Prefix};
+use crate::reading::{
+    array, fault_at, is_sign, is_word, open, peek, position, property_name, skip,
+};
+use crate::tree::{Expression, Name, Prefix, Relative};
 use lexer::{Kind, Sign, Token, Word};
 use std::alloc::Global;
 
 /// The expression at the front of the tokens, and the tokens after it. `depth` is how many nestings more may be opened: a
-/// parenthesis, also that of a call, and an operator before its operand open one at their own token, the right side of an
-/// assignment at its first token.
+/// parenthesis, also that of a call or behind `parent`, `child` and `sibling`, and an operator before its operand open one
+/// at their own token, the right side of an assignment at its first token.
 ///
 /// # Errors
 ///
@@ -45,6 +51,19 @@ pub fn expression<'t, 'a>(
     parts::assign(alloc, left, position(rest), right)
 }
 
+/// The expression at the front of the tokens as far as an assignment sign at its root, and the tokens after it. Depth and
+/// errors are those of `expression`.
+pub fn unassigned<'t, 'a>(
+    alloc: Global,
+    depth: usize,
+    tokens: &'t [Token<'a>],
+) -> Result<(Box<Expression<'a>>, &'t [Token<'a>]), ParseError>
+    ensures { Gives (λ x. (expression_tree x.0.value, lexemes x.1.now)) result
+        (spec.condition (spec.nested depth) (lexemes tokens.now)) }
+{
+    chain(alloc, depth, Operators::Logical, tokens)
+}
+
 /// The right side of an assignment, a nesting at its first token.
 #[cycle(expression)]
 #[tactic(auto, unfolding(crate::specs::Parse::assigned), using(crate::proofs::Nested::nested_zero, crate::proofs::Nested::nested_whole))]
@@ -59,7 +78,22 @@ fn assigned<'t, 'a>(
     if !begins_expression(peek(tokens)) {
         return Err(fault_at(Fault::Grammar, tokens));
     }
-    let inside = open(depth, tokens)?;
+    within(alloc, depth, tokens, tokens)
+}
+
+/// An expression one nesting further in, which the token at `opening` opens.
+#[cycle(expression)]
+#[tactic(auto, using(crate::proofs::Nested::nested_zero, crate::proofs::Nested::nested_whole))]
+fn within<'t, 'a>(
+    alloc: Global,
+    depth: usize,
+    opening: &[Token<'a>],
+    tokens: &'t [Token<'a>],
+) -> Result<(Box<Expression<'a>>, &'t [Token<'a>]), ParseError>
+    ensures { Gives (λ x. (expression_tree x.0.value, lexemes x.1.now)) result
+        (spec.nested depth spec.whole (lexemes tokens.now)) }
+{
+    let inside = open(depth, opening)?;
     expression(alloc, inside, tokens)
 }
 
@@ -130,7 +164,7 @@ fn negated<'t, 'a>(
     parts::prefixed(alloc, Prefix::Not, operand)
 }
 
-/// A sum, or two that are compared. A comparison is no operand of another.
+/// A sum, or two that are compared, or one that is tested. A comparison or a test is no operand of another.
 #[cycle(expression)]
 #[tactic(auto, unfolding(crate::specs::Parse::comparison, crate::specs::Parse::equated))]
 fn comparison<'t, 'a>(
@@ -150,7 +184,11 @@ fn comparison<'t, 'a>(
         let values = values(alloc, depth, skip(rest));
         return parts::equal(alloc, left, equality, values);
     }
-    Ok((left, rest))
+    if let Some(containment) = containing(peek(rest)) {
+        let container = chain(alloc, depth, Operators::Adding, skip(rest));
+        return parts::contained(alloc, left, containment, container);
+    }
+    parts::tested(alloc, left, rest)
 }
 
 /// What stands behind `==` or `~=`: a value, and further values behind `or`.
@@ -196,7 +234,7 @@ fn complemented<'t, 'a>(
     parts::prefixed(alloc, Prefix::Complement, operand)
 }
 
-/// An entry of an array, or an operand with at most `-`, `++` and `--`. An index is no nesting.
+/// An entry of an array or of a property, or an operand with at most `-`, `++`, `--` and `.#`. An index is no nesting.
 #[cycle(expression)]
 fn indexed<'t, 'a>(
     alloc: Global,
@@ -207,13 +245,49 @@ fn indexed<'t, 'a>(
         (spec.indexed (spec.nested depth) (lexemes tokens.now)) }
 {
     let Some((array, width)) = array(tokens) else {
-        return unary(alloc, depth, tokens);
+        return unindexed(alloc, depth, tokens);
     };
     let index = unary(alloc, depth, skip(skip(tokens)));
     parts::index(alloc, array, width, index)
 }
 
-/// `-` before its operand, or a primary with `++` or `--` before or after it.
+/// An entry of a property, or an operand with at most `-`, `++`, `--` and `.#`.
+#[cycle(expression)]
+fn unindexed<'t, 'a>(
+    alloc: Global,
+    depth: usize,
+    tokens: &'t [Token<'a>],
+) -> Result<(Box<Expression<'a>>, &'t [Token<'a>]), ParseError>
+    ensures { Gives (λ x. (expression_tree x.0.value, lexemes x.1.now)) result
+        (spec.unindexed (spec.nested depth) (lexemes tokens.now)) }
+{
+    if prefixes(peek(tokens)) {
+        return unary(alloc, depth, tokens);
+    }
+    let (owner, rest) = primary(alloc, depth, tokens)?;
+    if !is_sign(peek(rest), Sign::DotAmpersand) {
+        return parts::suffix(alloc, owner, rest);
+    }
+    entry(alloc, depth, owner, skip(rest))
+}
+
+/// An entry of a property of the owner, from behind `.&` on.
+#[cycle(expression)]
+fn entry<'t, 'a>(
+    alloc: Global,
+    depth: usize,
+    owner: Box<Expression<'a>>,
+    tokens: &'t [Token<'a>],
+) -> Result<(Box<Expression<'a>>, &'t [Token<'a>]), ParseError>
+    ensures { Gives (λ x. (expression_tree x.0.value, lexemes x.1.now)) result
+        (spec.entry (spec.nested depth) (expression_tree owner.entry.value) (lexemes tokens.now)) }
+{
+    let (name, rest) = property_name(tokens)?;
+    let index = unary(alloc, depth, rest);
+    parts::property_entry(alloc, owner, name, index)
+}
+
+/// `-` before its operand, or a primary with `++` or `--` before or after it, or with `.#` after it.
 #[cycle(expression)]
 #[tactic(auto, unfolding(crate::specs::Parse::unary, crate::specs::Parse::stepped), using(crate::proofs::Nested::nested_zero, crate::proofs::Nested::nested_prefix, crate::proofs::Nested::nested_operand))]
 fn unary<'t, 'a>(
@@ -235,12 +309,11 @@ fn unary<'t, 'a>(
         let stepped = primary(alloc, within, after);
         return parts::step_before(alloc, step, position(tokens), stepped);
     }
-    parts::stepped(alloc, primary(alloc, depth, tokens))
+    parts::suffixed(alloc, primary(alloc, depth, tokens))
 }
 
-/// A constant, a dictionary word, a name, a call, or an expression in parentheses.
+/// An operand without operators: what `atom` reads, and properties behind it.
 #[cycle(expression)]
-#[tactic(auto, unfolding(crate::specs::Parse::primary))]
 fn primary<'t, 'a>(
     alloc: Global,
     depth: usize,
@@ -249,15 +322,27 @@ fn primary<'t, 'a>(
     ensures { Gives (λ x. (expression_tree x.0.value, lexemes x.1.now)) result
         (spec.primary (spec.nested depth) (lexemes tokens.now)) }
 {
+    parts::with_properties(alloc, atom(alloc, depth, tokens))
+}
+
+/// A constant, a dictionary word, a name, a call, a relative of an object, or an expression in parentheses.
+#[cycle(expression)]
+#[tactic(auto, unfolding(crate::specs::Parse::atom))]
+fn atom<'t, 'a>(
+    alloc: Global,
+    depth: usize,
+    tokens: &'t [Token<'a>],
+) -> Result<(Box<Expression<'a>>, &'t [Token<'a>]), ParseError>
+    ensures { Gives (λ x. (expression_tree x.0.value, lexemes x.1.now)) result
+        (spec.atom (spec.nested depth) (lexemes tokens.now)) }
+{
     let token = peek(tokens);
     let rest = skip(tokens);
     match token.kind {
         Kind::Number(number) => parts::constant(alloc, number, rest),
         Kind::Character(code) => parts::constant(alloc, code as u16, rest),
         Kind::DictionaryWord(word) => parts::word(alloc, word, rest),
-        Kind::Reserved(Word::True) => parts::constant(alloc, 1, rest),
-        Kind::Reserved(Word::False) => parts::constant(alloc, 0, rest),
-        Kind::Reserved(Word::Nothing) => parts::constant(alloc, 0, rest),
+        Kind::Reserved(word) => reserved(alloc, depth, word, tokens),
         Kind::Name(text) => {
             let name = Name {
                 text,
@@ -291,7 +376,6 @@ fn after_name<'t, 'a>(
 
 /// An expression in parentheses, from the first of them on.
 #[cycle(expression)]
-#[tactic(auto, unfolding(crate::specs::Parse::enclosed), using(crate::proofs::Nested::nested_zero, crate::proofs::Nested::nested_whole))]
 fn enclosed<'t, 'a>(
     alloc: Global,
     depth: usize,
@@ -300,9 +384,44 @@ fn enclosed<'t, 'a>(
     ensures { Gives (λ x. (expression_tree x.0.value, lexemes x.1.now)) result
         (spec.enclosed (spec.nested depth) (tail (lexemes tokens.now))) }
 {
-    let inside = open(depth, tokens)?;
-    let enclosed = expression(alloc, inside, skip(tokens));
-    parts::parenthesised(alloc, enclosed)
+    let inside = within(alloc, depth, tokens, skip(tokens));
+    parts::parenthesised(alloc, inside)
+}
+
+/// The value of the reserved word that comes next, or a relative of an object.
+#[cycle(expression)]
+fn reserved<'t, 'a>(
+    alloc: Global,
+    depth: usize,
+    word: Word,
+    tokens: &'t [Token<'a>],
+) -> Result<(Box<Expression<'a>>, &'t [Token<'a>]), ParseError>
+    ensures { Gives (λ x. (expression_tree x.0.value, lexemes x.1.now)) result
+        (spec.word_on (spec.nested depth) word (operators.relating_word word) (tail (lexemes tokens.now))) }
+{
+    let Some(relative) = relating_word(word) else {
+        return parts::word_constant(alloc, word, tokens);
+    };
+    related(alloc, depth, relative, skip(tokens))
+}
+
+/// The parent, the child or the sibling of what stands in parentheses, from the first of them on.
+#[cycle(expression)]
+#[tactic(auto, unfolding(crate::specs::Parse::related))]
+fn related<'t, 'a>(
+    alloc: Global,
+    depth: usize,
+    relative: Relative,
+    tokens: &'t [Token<'a>],
+) -> Result<(Box<Expression<'a>>, &'t [Token<'a>]), ParseError>
+    ensures { Gives (λ x. (expression_tree x.0.value, lexemes x.1.now)) result
+        (spec.related (spec.nested depth) relative (lexemes tokens.now)) }
+{
+    if !is_sign(peek(tokens), Sign::OpenParenthesis) {
+        return Err(fault_at(Fault::Grammar, tokens));
+    }
+    let inside = within(alloc, depth, tokens, skip(tokens));
+    parts::relative_of(alloc, relative, inside)
 }
 
 /// The call of a name, from behind its parenthesis.

@@ -6,21 +6,23 @@
 //!
 //! # Errors
 //!
-//! Those of the part; `Memory` where a growth is refused; `Fault::Grammar` where a parenthesis is not closed.
+//! Those of the part; `Memory` where a growth is refused; `Fault::Grammar` where a parenthesis is not closed, and where a
+//! name is to stand and does not.
 
-ghost use Rattle.std.specs.Prelude.{◌≡◌, ◌∷◌, IfErr, IfOk, Ok, Result, map, List, [], ◌++◌};
+ghost use Rattle.std.specs.Prelude.{◌≡◌, ◌∷◌, IfErr, IfOk, Ok, Result, length, map, List, [], ◌++◌};
 ghost use Rattle.lexer.specs.Token.{Lexeme, lexeme, lexemes, position_of};
-ghost use Rattle.expressions.specs.Operators as operators;
 ghost use Rattle.expressions.specs.Tree as tree;
 ghost use Rattle.expressions.specs.Tree.{ExpressionTree, chained, link, name_tree, expression_tree, trees_of};
 ghost use Rattle.expressions.specs.Parse as spec;
 ghost use Rattle.expressions.specs.Parse.{Gives, GoesOn, ReadOne};
 
-use crate::error::ParseError;
-use crate::operators::stepping;
-use crate::reading::{expect, peek, position, skip};
-use crate::tree::{Binary, Comparison, Equality, Expression, Name, Prefix, Step, Width};
-use lexer::{Position, Sign, Token};
+use crate::error::{Fault, ParseError};
+use crate::operators::{stepping, testing, word_value};
+use crate::reading::{expect, expect_name, fault_at, is_sign, peek, position, skip};
+use crate::tree::{
+    Binary, Comparison, Containment, Equality, Expression, Name, Prefix, Relative, Step, Width,
+};
+use lexer::{Position, Sign, Token, Word};
 use std::alloc::Global;
 
 // A tree in a box, and the tokens after it. Where memory is refused the tree is dropped here.
@@ -46,6 +48,21 @@ pub fn constant<'t, 'a>(
     ensures { Gives {Y = ReadOne} (λ x. (expression_tree x.0.value, lexemes x.1.now)) result (Ok (tree.constant value, lexemes rest.now)) }
 {
     in_box(alloc, Expression::Constant(value), rest)
+}
+
+/// The value of the reserved word that comes next.
+pub fn word_constant<'t, 'a>(
+    alloc: Global,
+    word: Word,
+    tokens: &'t [Token<'a>],
+) -> Result<(Box<Expression<'a>>, &'t [Token<'a>]), ParseError>
+    ensures { Gives (λ x. (expression_tree x.0.value, lexemes x.1.now)) result
+        (spec.valued (spec.word_value word) (spec.tail (lexemes tokens.now))) }
+{
+    match word_value(word) {
+        Some(value) => constant(alloc, value, skip(tokens)),
+        None => Err(fault_at(Fault::Grammar, tokens)),
+    }
 }
 
 /// A dictionary word.
@@ -151,6 +168,65 @@ pub fn index<'t, 'a>(
     }
 }
 
+/// An entry of a property.
+#[tactic(auto, using(crate::proofs::GoesOn::part_fails, crate::proofs::GoesOn::part_made))]
+pub fn property_entry<'t, 'a>(
+    alloc: Global,
+    owner: Box<Expression<'a>>,
+    name: Name<'a>,
+    index: Result<(Box<Expression<'a>>, &'t [Token<'a>]), ParseError>,
+) -> Result<(Box<Expression<'a>>, &'t [Token<'a>]), ParseError>
+    ensures { GoesOn {A = ReadOne} {B = ReadOne} (λ x. (expression_tree x.0.value, lexemes x.1.now)) index.entry
+        (λ x. (expression_tree x.0.value, lexemes x.1.now)) result
+        (λ x. Ok (tree.property_entry (expression_tree owner.entry.value) (name_tree name.entry) x.0, x.1)) }
+{
+    match index {
+        Ok((index, rest)) => in_box(alloc, Expression::PropertyEntry(owner, name, index), rest),
+        Err(e) => Err(e),
+    }
+}
+
+// The properties that stand behind an owner, each a property of what stands before it.
+fn properties<'t, 'a>(
+    alloc: Global,
+    owner: Box<Expression<'a>>,
+    tokens: &'t [Token<'a>],
+) -> Result<(Box<Expression<'a>>, &'t [Token<'a>]), ParseError>
+    ensures { Gives (λ x. (expression_tree x.0.value, lexemes x.1.now)) result
+        (spec.properties (length (lexemes tokens.now)) (expression_tree owner.entry.value) (lexemes tokens.now)) }
+{
+    if !is_sign(peek(tokens), Sign::Dot) {
+        return Ok((owner, tokens));
+    }
+    let turns = tokens.len();
+    let (first, mut rest) = expect_name(skip(tokens))?;
+    let mut others = Vec::new(alloc);
+    for _turn in 1..turns {
+        if !is_sign(peek(rest), Sign::Dot) {
+            break;
+        }
+        let (next, after) = expect_name(skip(rest))?;
+        others.push(next)?;
+        rest = after;
+    }
+    in_box(alloc, Expression::Property(owner, first, others), rest)
+}
+
+/// A constant, a name, a call or what stands in parentheses, with the properties that stand behind it.
+#[tactic(auto, using(crate::proofs::GoesOn::part_fails, crate::proofs::GoesOn::part_made))]
+pub fn with_properties<'t, 'a>(
+    alloc: Global,
+    owner: Result<(Box<Expression<'a>>, &'t [Token<'a>]), ParseError>,
+) -> Result<(Box<Expression<'a>>, &'t [Token<'a>]), ParseError>
+    ensures { GoesOn {A = ReadOne} {B = ReadOne} (λ x. (expression_tree x.0.value, lexemes x.1.now)) owner.entry
+        (λ x. (expression_tree x.0.value, lexemes x.1.now)) result (λ x. spec.properties (length x.1) x.0 x.1) }
+{
+    match owner {
+        Ok((owner, rest)) => properties(alloc, owner, rest),
+        Err(e) => Err(e),
+    }
+}
+
 /// `++` or `--` before its operand.
 #[tactic(auto, using(crate::proofs::GoesOn::part_fails, crate::proofs::GoesOn::part_made))]
 pub fn step_before<'t, 'a>(
@@ -187,21 +263,51 @@ fn step_after<'t, 'a>(
     in_box(alloc, tree, skip(tokens))
 }
 
-/// An operand, with `++` or `--` where it stands after it.
+// An operand, with the length of its property where that is asked for after it.
+fn lengthened<'t, 'a>(
+    alloc: Global,
+    operand: Box<Expression<'a>>,
+    tokens: &'t [Token<'a>],
+) -> Result<(Box<Expression<'a>>, &'t [Token<'a>]), ParseError>
+    ensures { Gives (λ x. (expression_tree x.0.value, lexemes x.1.now)) result
+        (spec.lengthened (expression_tree operand.entry.value) (lexemes tokens.now)) }
+{
+    if !is_sign(peek(tokens), Sign::DotHash) {
+        return Ok((operand, tokens));
+    }
+    match expect_name(skip(tokens)) {
+        Ok((name, rest)) => in_box(alloc, Expression::PropertyLength(operand, name), rest),
+        Err(e) => Err(e),
+    }
+}
+
+/// An operand, with `++`, `--` or `.#` where it stands after it.
+#[tactic(auto, unfolding(crate::specs::Parse::suffixed))]
+pub fn suffix<'t, 'a>(
+    alloc: Global,
+    operand: Box<Expression<'a>>,
+    tokens: &'t [Token<'a>],
+) -> Result<(Box<Expression<'a>>, &'t [Token<'a>]), ParseError>
+    ensures { Gives (λ x. (expression_tree x.0.value, lexemes x.1.now)) result
+        (spec.suffixed (expression_tree operand.entry.value) (lexemes tokens.now)) }
+{
+    match stepping(peek(tokens)) {
+        Some(step) => step_after(alloc, step, operand, tokens),
+        None => lengthened(alloc, operand, tokens),
+    }
+}
+
+/// An operand that was read, with `++`, `--` or `.#` where it stands after it.
 #[tactic(auto, using(crate::proofs::GoesOn::part_fails, crate::proofs::GoesOn::part_made))]
-pub fn stepped<'t, 'a>(
+pub fn suffixed<'t, 'a>(
     alloc: Global,
     operand: Result<(Box<Expression<'a>>, &'t [Token<'a>]), ParseError>,
 ) -> Result<(Box<Expression<'a>>, &'t [Token<'a>]), ParseError>
     ensures { GoesOn {A = ReadOne} {B = ReadOne} (λ x. (expression_tree x.0.value, lexemes x.1.now)) operand.entry
-        (λ x. (expression_tree x.0.value, lexemes x.1.now)) result
-        (λ x. spec.step_on x.0 x.1 (operators.stepping (spec.head x.1))) }
+        (λ x. (expression_tree x.0.value, lexemes x.1.now)) result (λ x. spec.suffixed x.0 x.1) }
 {
     match operand {
-        Ok((operand, rest)) => match stepping(peek(rest)) {
-            Some(step) => step_after(alloc, step, operand, rest),
-            None => Ok((operand, rest)),
-        },
+        Ok((operand, rest)) => suffix(alloc, operand, rest),
         Err(e) => Err(e),
     }
 }
@@ -220,6 +326,61 @@ pub fn parenthesised<'t, 'a>(
             Ok(rest) => in_box(alloc, Expression::Parenthesised(enclosed), rest),
             Err(e) => Err(e),
         },
+        Err(e) => Err(e),
+    }
+}
+
+/// The parent, the child or the sibling of what stands in parentheses, with the second of them.
+#[tactic(auto, using(crate::proofs::GoesOn::part_fails, crate::proofs::GoesOn::part_made))]
+pub fn relative_of<'t, 'a>(
+    alloc: Global,
+    relative: Relative,
+    enclosed: Result<(Box<Expression<'a>>, &'t [Token<'a>]), ParseError>,
+) -> Result<(Box<Expression<'a>>, &'t [Token<'a>]), ParseError>
+    ensures { GoesOn {A = ReadOne} {B = ReadOne} (λ x. (expression_tree x.0.value, lexemes x.1.now)) enclosed.entry
+        (λ x. (expression_tree x.0.value, lexemes x.1.now)) result (spec.closed (tree.relative_of relative)) }
+{
+    match enclosed {
+        Ok((enclosed, rest)) => match expect(Sign::CloseParenthesis, rest) {
+            Ok(rest) => in_box(alloc, Expression::RelativeOf(relative, enclosed), rest),
+            Err(e) => Err(e),
+        },
+        Err(e) => Err(e),
+    }
+}
+
+/// Whether an object is, or is not, a child of another.
+#[tactic(auto, using(crate::proofs::GoesOn::part_fails, crate::proofs::GoesOn::part_made))]
+pub fn contained<'t, 'a>(
+    alloc: Global,
+    left: Box<Expression<'a>>,
+    operator: Containment,
+    right: Result<(Box<Expression<'a>>, &'t [Token<'a>]), ParseError>,
+) -> Result<(Box<Expression<'a>>, &'t [Token<'a>]), ParseError>
+    ensures { GoesOn {A = ReadOne} {B = ReadOne} (λ x. (expression_tree x.0.value, lexemes x.1.now)) right.entry
+        (λ x. (expression_tree x.0.value, lexemes x.1.now)) result
+        (λ x. Ok (tree.contained operator (expression_tree left.entry.value) x.0, x.1)) }
+{
+    match right {
+        Ok((right, rest)) => in_box(alloc, Expression::Contained(left, operator, right), rest),
+        Err(e) => Err(e),
+    }
+}
+
+/// An operand, with `has`, `hasnt` or `provides` and a name where they stand behind it.
+pub fn tested<'t, 'a>(
+    alloc: Global,
+    left: Box<Expression<'a>>,
+    tokens: &'t [Token<'a>],
+) -> Result<(Box<Expression<'a>>, &'t [Token<'a>]), ParseError>
+    ensures { Gives (λ x. (expression_tree x.0.value, lexemes x.1.now)) result
+        (spec.tested_next (expression_tree left.entry.value) (lexemes tokens.now)) }
+{
+    let Some(test) = testing(peek(tokens)) else {
+        return Ok((left, tokens));
+    };
+    match expect_name(skip(tokens)) {
+        Ok((name, rest)) => in_box(alloc, Expression::Tested(left, test, name), rest),
         Err(e) => Err(e),
     }
 }

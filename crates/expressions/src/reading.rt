@@ -92,6 +92,43 @@ pub fn array<'a>(tokens: &[Token<'a>]) -> Option<(Name<'a>, Width)>
     Some((name, width))
 }
 
+/// The name that comes next.
+///
+/// # Errors
+///
+/// `Fault::Grammar` at the next token: it is no name.
+#[tactic(auto, using(crate::proofs::NamesRead::name_found, crate::proofs::NamesRead::no_name))]
+pub fn expect_name<'t, 'a>(
+    tokens: &'t [Token<'a>],
+) -> Result<(Name<'a>, &'t [Token<'a>]), ParseError>
+    ensures { Gives (λ x. (name_tree x.0, lexemes x.1.now)) result (spec.expect_name (lexemes tokens.now)) }
+{
+    let Some(name) = name_of(peek(tokens)) else {
+        return Err(fault_at(Fault::Grammar, tokens));
+    };
+    Ok((name, skip(tokens)))
+}
+
+/// The name of a property whose entry is read, and the arrow behind it, from behind `.&` on.
+///
+/// # Errors
+///
+/// `Fault::Grammar` at the token that is not the name, or not the arrow.
+#[tactic(auto, using(crate::proofs::NamesRead::entry_unnamed, crate::proofs::NamesRead::entry_unmarked, crate::proofs::NamesRead::entry_found))]
+pub fn property_name<'t, 'a>(
+    tokens: &'t [Token<'a>],
+) -> Result<(Name<'a>, &'t [Token<'a>]), ParseError>
+    ensures { Gives (λ x. (name_tree x.0, lexemes x.1.now)) result (spec.entry_of (lexemes tokens.now)) }
+{
+    match expect_name(tokens) {
+        Ok((name, rest)) => match expect(Sign::LongArrow, rest) {
+            Ok(rest) => Ok((name, rest)),
+            Err(e) => Err(e),
+        },
+        Err(e) => Err(e),
+    }
+}
+
 /// A fault at the next token, with its line.
 pub fn fault_at(fault: Fault, tokens: &[Token<'_>]) -> ParseError
     ensures { result ≡ ParseError.Fault fault (position_of (spec.head (lexemes tokens.now))).line }

@@ -83,8 +83,37 @@ pub enum Width {
     Word,
 }
 
-/// An expression. Chains that group to the left are flat, so a tree is at most as deep as its nesting, a few levels for
-/// each.
+/// What an object stands to another.
+#[derive(Clone, Copy)]
+pub enum Relative {
+    Parent,
+    /// the first child
+    Child,
+    Sibling,
+}
+
+/// Whether a value is to be the parent of an object.
+#[derive(Clone, Copy)]
+pub enum Containment {
+    /// `in`
+    In,
+    /// `notin`
+    NotIn,
+}
+
+/// What an object is tested for: an attribute or a property.
+#[derive(Clone, Copy)]
+pub enum ObjectTest {
+    /// `has`
+    Has,
+    /// `hasnt`
+    HasNot,
+    /// `provides`
+    Provides,
+}
+
+/// An expression. Chains of operators that group to the left are flat, and so are properties of properties (`a.p.q`): a tree
+/// is at most as deep as its nesting, a few levels for each.
 #[derive(Drop)]
 pub enum Expression<'a> {
     /// A number or a character; `true` is 1, `false` and `nothing` are 0.
@@ -105,6 +134,18 @@ pub enum Expression<'a> {
     /// An expression in parentheses.
     Parenthesised(Box<Expression<'a>>),
 
+    /// `parent`, `child` or `sibling`, of the object in its parentheses.
+    RelativeOf(Relative, Box<Expression<'a>>),
+
+    /// Properties, one behind another: of an object, and then of each property's value.
+    Property(Box<Expression<'a>>, Name<'a>, Vec<Name<'a>>),
+
+    /// The length of a property: `.#`
+    PropertyLength(Box<Expression<'a>>, Name<'a>),
+
+    /// An entry of a property, with the index behind `-->`: `.&`
+    PropertyEntry(Box<Expression<'a>>, Name<'a>, Box<Expression<'a>>),
+
     Prefixed(Prefix, Box<Expression<'a>>),
 
     /// `++` or `--` before its operand, with the operator's position.
@@ -121,6 +162,11 @@ pub enum Expression<'a> {
 
     /// The left side, the first value that it is compared with, and those after `or`.
     Equal(Box<Expression<'a>>, Equality, Box<Expression<'a>>, Vec<Expression<'a>>),
+
+    Contained(Box<Expression<'a>>, Containment, Box<Expression<'a>>),
+
+    /// Whether an object has an attribute, or provides a property.
+    Tested(Box<Expression<'a>>, ObjectTest, Name<'a>),
 
     /// An assignment, with the position of `=`.
     Assign(Box<Expression<'a>>, Position, Box<Expression<'a>>),

@@ -9,7 +9,7 @@ use crate::words::{Words, command, words_of};
 use std::fmt::Display;
 use std::process::ExitCode;
 use std::{env, fs};
-use story::compile;
+use story::compile_for;
 
 /// The exit status where the source is refused.
 const REFUSED: u8 = 1;
@@ -30,7 +30,10 @@ fn main(rt: HostRuntime) -> ExitCode {
         return misused(&rt, "cannot read the command line");
     };
     match command.try_get_matches_from(given.as_slice()) {
-        Ok(matches) => build(&rt, words_of(&matches)),
+        Ok(matches) => match words_of(&matches) {
+            Some(words) => build(&rt, words),
+            None => misused(&rt, "the version after -v is 5 or 8"),
+        },
         Err(error) => {
             let status = if error.use_stderr() { MISUSED } else { 0 };
             match error.print(&rt) {
@@ -58,7 +61,7 @@ fn build(rt: &HostRuntime, words: Words<'_>) -> ExitCode {
             format_args!("cannot write {}: it is the source", words.story),
         );
     }
-    match compile(rt.alloc(), &source) {
+    match compile_for(rt.alloc(), &source, words.version) {
         Ok(story) => match write_whole(rt, words.story, story.bytes()) {
             Ok(()) => ExitCode::SUCCESS,
             Err(_) => misused(rt, format_args!("cannot write {}", words.story)),

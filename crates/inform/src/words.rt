@@ -2,6 +2,7 @@
 
 use clap::{Arg, ArgAction, ArgMatches, Command, value_parser};
 use std::alloc::{AllocError, Global};
+use zcore::Version;
 
 /// What the command line asks for.
 #[derive(Clone, Copy)]
@@ -11,16 +12,19 @@ pub struct Words<'a> {
 
     /// The name of the story file to write.
     pub story: &'a str,
+
+    /// The version of the story file.
+    pub version: Version,
 }
 
-/// The program's command line. The version of the story, `-v`, is 5 alone.
+/// The program's command line.
 pub fn command<'a>(alloc: Global) -> Result<Command<'a>, AllocError> {
     let version = Arg::new(alloc, "version_number")
         .short('v')
         .value_name("VERSION")
-        .help("The version of the story file [default: 5]")
+        .help("The version of the story file, 5 or 8 [default: 5]")
         .action(ArgAction::Set)
-        .value_parser(value_parser!(u32).range(5..=5));
+        .value_parser(value_parser!(u32));
     let source = Arg::new(alloc, "source")
         .value_name("SOURCE")
         .help("A source file")
@@ -39,10 +43,16 @@ pub fn command<'a>(alloc: Global) -> Result<Command<'a>, AllocError> {
         .arg(story)
 }
 
-/// What the words of a command line that passed `command` ask for.
-pub fn words_of<'a>(matches: &ArgMatches<'a>) -> Words<'a> {
-    Words {
+/// What the words of a command line that passed `command` ask for; `None` where they name another version than 5 and 8.
+pub fn words_of<'a>(matches: &ArgMatches<'a>) -> Option<Words<'a>> {
+    let version = match matches.get_one::<u32>("version_number") {
+        None | Some(5) => Version::V5,
+        Some(8) => Version::V8,
+        Some(_) => return None,
+    };
+    Some(Words {
         source: matches.get_str("source").unwrap_or(""),
         story: matches.get_str("story").unwrap_or(""),
-    }
+        version,
+    })
 }

@@ -8,7 +8,8 @@ use Rattle.meaning.specs.Resolved.{Value, Printed, Action, Actions, actions_of, 
 use Rattle.meaning.specs.Resolved as source
 use Rattle.items.specs.Items.{Item, Operand, alone, if_pushed, push, branch_count, value_count, value_items}
 use Rattle.items.specs.Items.{branch_items, printed_count, prints_count, action_count, printed_items, prints_items}
-use Rattle.items.specs.Items.{actions_count, alone_items, action_items, actions_items, return_true}
+use Rattle.items.specs.Items.{actions_count, alone_items, action_items, actions_items, return_true, left_of}
+use Rattle.items.specs.Items.{operand_count}
 use Rattle.items.specs.Items as items
 use Rattle.items.specs.declared.wanted.Wanted.TheVariants.{Branch}
 use Rattle.items.specs.declared.exits.Exits.{Exits}
@@ -42,6 +43,21 @@ pub return_more : (c c1 : List Item) (o : Operand) (v : Value) → o
     → Written c c1 (λ n at. alone_items at v ++ items.return (alone v) ∷ [])
 return_more c c1 o v e w =
     as_items (λ n at _. ap (λ x. if_pushed x (value_items at v push) [] ++ items.return x ∷ []) e) w
+
+-- both objects, and then the first goes into the second
+pub move_more : (c c1 c2 : List Item) (o ow : Operand) (v w : Value) → o ≡ left_of v w → ow ≡ alone w
+    → Written c c1 (taken_items ow (items.move_object o ow) w) → Written c1 c2 (pushes o v)
+    → Written c c2 (λ n at. if_pushed (left_of v w) (value_items at v push) []
+    ++ (if_pushed (alone w) (value_items (at + operand_count v (left_of v w)) w push) []
+    ++ items.move_object (left_of v w) (alone w) ∷ []))
+move_more c c1 c2 o ow v w eo ew wt wv =
+    as_items (λ n at _. ap (λ x. whole x ow at) eo ∙ ap (λ y. whole (left_of v w) y at) ew)
+    (both (if_pushed o (value_count v push) 0) (λ n at. pushes_length o v n at) wt wv)
+  where
+    whole : Operand → Operand → ℕ → List Item
+    whole x y at = if_pushed x (value_items at v push) []
+        ++ (if_pushed y (value_items (at + if_pushed x (value_count v push) 0) w push) []
+        ++ items.move_object x y ∷ [])
 
 pub character_more : (c c1 : List Item) (o : Operand) (v : Value) → o
     ≡ alone v → Written c c1 (taken_items o (items.print_character o) v)

@@ -46,7 +46,7 @@ equal_condition op a bs at d = go (is_few bs) _ _ _ _
     go true m k f g = refl
     go false m k f g = refl
 
-both_length : (oa ob : Operand) (a b : Value) (n at : ℕ) → length (both_push oa a ob b n at)
+pub both_length : (oa ob : Operand) (a b : Value) (n at : ℕ) → length (both_push oa a ob b n at)
     ≡ if_pushed oa (value_count a push) 0 + if_pushed ob (value_count b push) 0
 both_length oa ob a b n at =
     omega (

@@ -15,7 +15,7 @@ use Rattle.items.specs.Items as items
 use Rattle.items.specs.Stack.{stuck, act}
 use Rattle.items.proofs.Counts.{value_length}
 use Rattle.items.proofs.Acts.{keeps_give, keeps_write}
-use Rattle.items.proofs.Running.{steps_on, Running, code, calls}
+use Rattle.items.proofs.Running.{steps_on, Running, code, setting}
 use Rattle.items.proofs.Standing.{HasAt, split}
 use Rattle.items.proofs.Needs.{some_needed_of}
 use Rattle.items.proofs.Leads.{Leads, on, then_to, here, stands, lands, at_place}
@@ -35,10 +35,10 @@ module _ (now : Running) where
     where
       stepped_to : (s : Situation) (n pc : ℕ) (words : List ℕ) (dest : Destination) → slice_get (code now) pc
           ≡ Some (items.step op x dest) → length words + 1 ≤ 48
-          → Leads now s n (stands now pc words s) (evaluate (calls now) (source.step_before op x) s)
+          → Leads now s n (stands now pc words s) (evaluate (setting now) (source.step_before op x) s)
           (lands now dest (pc + 1) words)
       stepped_to s n pc words dest h le =
-          one now pc words dest (items.step op x dest) (evaluate (calls now) (source.step_before op x)) words h refl
+          one now pc words dest (items.step op x dest) (evaluate (setting now) (source.step_before op x)) words h refl
           (λ s. keeps_write full x _ s) le
 
   pub step_after_ok : (x : Variable) (op : Step) → ValueOk now (source.step_after x op)
@@ -70,7 +70,7 @@ module _ (now : Running) where
 
       after_does : (s : Situation) (n pc q : ℕ) (words : List ℕ) (dest : Destination)
           → HasAt (code now) pc (after_items x op dest) q → length words + 1 ≤ 48
-          → Leads now s n (stands now pc words s) (evaluate (calls now) (source.step_after x op) s)
+          → Leads now s n (stands now pc words s) (evaluate (setting now) (source.step_after x op) s)
           (lands now dest q words)
       after_does s n pc q words push has le = at_place now (λ y. lands now push y words) (pc + 1 + 1) q has.1.1
           (pushes s n pc words has.0 has.1.0 le)
@@ -105,20 +105,20 @@ module _ (now : Running) where
 
       topmost : (s : Situation) (n pc m : ℕ) (words : List ℕ) → HasAt (code now) pc (value_items pc v push) m
           → slice_get (code now) m ≡ Some (items.keep x) → length words + need_of v ≤ 48
-          → Leads now s n (stands now pc words s) (evaluate (calls now) (source.assign x v) s)
+          → Leads now s n (stands now pc words s) (evaluate (setting now) (source.assign x v) s)
           (lands now push (m + 1) words)
       topmost s n pc m words has h le =
-          on now (evaluate (calls now) v) word (ok.value s n pc m words push has le)
+          on now (evaluate (setting now) v) word (ok.value s n pc m words push has le)
           (λ w s1 _. one now m words push (items.keep x) (word w) (w ∷ words) h refl (λ s. keeps_write full x w s)
           (omega (arith, le, some)))
 
       assigned : (s : Situation) (n pc q : ℕ) (words : List ℕ) (dest : Destination)
           → HasAt (code now) pc (kept_items x dest (value_items pc v (into x)) (value_items pc v push)) q
           → length words + need_of v ≤ 48
-          → Leads now s n (stands now pc words s) (evaluate (calls now) (source.assign x v) s)
+          → Leads now s n (stands now pc words s) (evaluate (setting now) (source.assign x v) s)
           (lands now dest q words)
       assigned s n pc q words nowhere has le =
-          on now (evaluate (calls now) v) word (ok.value s n pc q words (into x) has le)
+          on now (evaluate (setting now) v) word (ok.value s n pc q words (into x) has le)
           (λ w s1 _. record { does = λ k le d. d w (with_value x w s1) refl (keeps_write full x w s1) })
       assigned s n pc q words push has le =
           let m = pc + value_count v push in

@@ -4,12 +4,12 @@ use Rattle.std.proofs.Common.{ap, ◌∙◌, subst}
 use Rattle.std.specs.Prelude.{if◌then◌else◌, nat_lt, slice_get}
 use Rattle.std.proofs.lemmas.Bool.{lt-ltb}
 use Rattle.meaning.specs.Resolved.{ProgramOf}
-use Rattle.meaning.specs.World.{Outcome, Situation, Comes}
+use Rattle.meaning.specs.World.{Outcome, Situation, Comes, to, over}
 use Rattle.meaning.specs.Meaning.{routine_at}
 use Rattle.items.specs.Items.{Item, Operand, pushed, number, variable, Test, agrees, routine_items}
 use Rattle.items.specs.Items as items
 use Rattle.items.specs.Stack.{Caller, State, Next, goes, stuck, with_operand, with_operands, branch, holds, act, from}
-use Rattle.items.specs.Stack.{exec}
+use Rattle.items.specs.Stack.{exec, after_part, stands_in, tested_attribute, is_provided, begins_objects, steps_object}
 use Rattle.items.specs.Stack as stack
 use Rattle.items.proofs.Running.{Does, steps_on, Running, code}
 use Rattle.items.proofs.Leads.{Leads, here, stands}
@@ -38,6 +38,12 @@ module _ (p : ProgramOf) (full r : ℕ) (callers : List Caller) where
       → branch b t rest (at_word None pc words s) ≡ branch b t rest (at_word (Some v) pc words s)
   branch_alike true t v pc words s rest = refl
   branch_alike false t v pc words s rest = refl
+
+  decided_alike : (c : Comes Bool) (when : Bool) (t v pc : ℕ) (words : List ℕ) (rest : List ℕ)
+      → after_part c (λ so last. branch (agrees so when) t rest (at_word None pc words last))
+      ≡ after_part c (λ so last. branch (agrees so when) t rest (at_word (Some v) pc words last))
+  decided_alike (to so last) when t v pc words rest = branch_alike (agrees so when) t v pc words last rest
+  decided_alike (over outcome) when t v pc words rest = refl
 
   -- a jump, if what it leads to comes to the same
   jumps_alike : (b : Bool) (n t v : ℕ) (words : List ℕ) (s : Situation) (o : Outcome)
@@ -91,6 +97,24 @@ module _ (p : ProgramOf) (full r : ℕ) (callers : List Caller) where
       subst (λ x. from x (exec p full n) ≡ Some o)
       (with_operands_alike os s words _ _
       (λ vs rest. branch_alike (agrees (holds test vs) when) t v pc words s rest)) e
+  item_with_word v n pc words s o on (Some (items.is_in a b when t)) e =
+      subst (λ x. from x (exec p full n) ≡ Some o)
+      (with_operand_alike b s words _ _ (λ y rest. with_operand_alike a s rest _ _
+      (λ x left. decided_alike (stands_in p x y s) when t v pc words left))) e
+  item_with_word v n pc words s o on (Some (items.has a k when t)) e =
+      subst (λ x. from x (exec p full n) ≡ Some o)
+      (with_operand_alike a s words _ _
+      (λ x left. decided_alike (tested_attribute p x k s) when t v pc words left)) e
+  item_with_word v n pc words s o on (Some (items.provides a k when t)) e =
+      subst (λ x. from x (exec p full n) ≡ Some o)
+      (with_operand_alike a s words _ _
+      (λ x left. decided_alike (is_provided p x k s) when t v pc words left)) e
+  item_with_word v n pc words s o on (Some (items.first_object x t)) e =
+      subst (λ x. from x (exec p full n) ≡ Some o)
+      (decided_alike (begins_objects p x s) false t v pc words words) e
+  item_with_word v n pc words s o on (Some (items.next_object x t)) e =
+      subst (λ x. from x (exec p full n) ≡ Some o)
+      (decided_alike (steps_object p x s) false t v pc words words) e
   item_with_word v n pc words s o on (Some (items.case test ns when t)) e = absurd (cc)
   item_with_word v n pc words s o on (Some (items.jump t)) e =
       jumps_alike (nat_lt pc t) n t v words s o (on t) e

@@ -6,12 +6,11 @@ use Rattle.meaning.specs.Resolved as source
 use Rattle.meaning.specs.Accepted.{IsWhole}
 use Rattle.meaning.specs.World.{Situation, to, Part, ◌>>=◌, give}
 use Rattle.meaning.specs.Meaning.{is_true, evaluate, Ending, goes_on, breaks, continues, returns, run}
-use Rattle.meaning.specs.Places.{number_in}
 use Rattle.items.specs.Items.{agrees, branch_count, branch_items, action_count, Exits, action_items}
 use Rattle.items.specs.Items as items
 use Rattle.items.proofs.Counts.{branch_length}
 use Rattle.items.proofs.StatementCounts.{action_length}
-use Rattle.items.proofs.Running.{Running, code, locals, calls}
+use Rattle.items.proofs.Running.{Running, code, locals, setting}
 use Rattle.items.proofs.Standing.{HasAt, split, long}
 use Rattle.items.proofs.Leads.{Leads, on, given, then_to, stands}
 use Rattle.items.proofs.Steps.{jumps}
@@ -27,7 +26,7 @@ module _ (now : Running) where
 
   abbrev pub ActionOk : Action → Type 0
   ActionOk a = (x : Exits) (s : Situation) (n pc q : ℕ) → IsAhead q x → HasAt (code now) pc (action_items x pc a) q
-      → Leads now s n (stands now pc [] s) (run (calls now) (number_in p) full a s) (ended_at now x q)
+      → Leads now s n (stands now pc [] s) (run (setting now) a s) (ended_at now x q)
 
   -- a test, and what follows where it is true, and where it is not
   tested : {s : Situation} {n : ℕ} (x : Exits) (v : Value) (pc t m q : ℕ) (f g : Part Ending)
@@ -35,10 +34,10 @@ module _ (now : Running) where
       → HasAt (code now) pc (branch_items pc v false t) m → m ≤ t
       → ((last : Situation) → Leads now last n (stands now m [] last) (f last) (ended_at now x q))
       → ((last : Situation) → Leads now last n (stands now t [] last) (g last) (ended_at now x q))
-      → Leads now s n (stands now pc [] s) ((evaluate (calls now) v >>= λ x. if is_true x then f else g) s)
+      → Leads now s n (stands now pc [] s) ((evaluate (setting now) v >>= λ x. if is_true x then f else g) s)
       (ended_at now x q)
   tested {s = s} {n = n} x v pc t m q f g fine has ahead hf hg =
-      on now (evaluate (calls now) v) _
+      on now (evaluate (setting now) v) _
       ((value_ok now v).branch s n pc t m [] false has ahead (omega (arith, fine.1)))
       (λ w s1 _. go (is_true w) s1)
     where
@@ -54,7 +53,7 @@ module _ (now : Running) where
       let h = split (code now) pc (branch_items pc v false e) (action_items x m a) q (branch_count v false)
       (branch_length v false pc e) has in
       let behind = long (code now) m (action_items x m a) q (action_count a) (action_length x a m) h.1 in
-      tested x v pc e m q (run (calls now) (number_in p) full a) (give goes_on) fine h.0 (omega arith)
+      tested x v pc e m q (run (setting now) a) (give goes_on) fine h.0 (omega arith)
       (λ last. oka x last n m q ahead h.1)
       (λ last. goes_at now x e q behind)
 
@@ -71,9 +70,9 @@ module _ (now : Running) where
       let first = ahead.0 in
       let second = ahead.1 in
       let inner : IsAhead e x = (omega (arith, first, behind), omega (arith, second, behind)) in
-      tested x v pc (e + 1) m q (run (calls now) (number_in p) full a) (run (calls now) (number_in p) full b) fine h.0
+      tested x v pc (e + 1) m q (run (setting now) a) (run (setting now) b) fine h.0
       (omega arith)
-      (λ last. then_to now (run (calls now) (number_in p) full a last) (oka x last n m e inner ha.0)
+      (λ last. then_to now (run (setting now) a last) (oka x last n m e inner ha.0)
       (λ ending later _. passes ending later e (e + 1 + action_count b) ha.1.0 (omega arith) behind))
       (λ last. okb x last n (e + 1) q ahead ha.1.1)
     where

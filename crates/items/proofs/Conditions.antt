@@ -1,15 +1,17 @@
 -- What branches ask, and the words 1 and 0.
 use Rattle.std.proofs.Common.{◌≡◌, ℕ, zero, suc, List, [], ◌∷◌, Bool, true, false, refl, sym, ap, ◌∙◌, subst, arith}
-use Rattle.std.specs.Prelude.{◌||◌, ◌==◌, not, nat_lt}
+use Rattle.std.specs.Prelude.{◌||◌, ◌==◌, not, nat_lt, if◌then◌else◌}
 use Rattle.std.specs.List.{list_any}
 use Rattle.std.proofs.lemmas.Bool.{lt-ltb, ne_eqb}
 use Rattle.zcore.specs.Arithmetic.{signed_less}
 use Rattle.expressions.specs.declared.tree.Comparison.{Comparison}
 use Rattle.expressions.specs.declared.tree.Comparison.TheVariants as comparisons
+use Rattle.expressions.specs.declared.tree.Containment.{Containment}
+use Rattle.expressions.specs.declared.tree.Containment.TheVariants as containments
 use Rattle.expressions.specs.declared.tree.Equality.{Equality}
 use Rattle.expressions.specs.declared.tree.Equality.TheVariants as equalities
-use Rattle.meaning.specs.Meaning.{truth, is_true, equated, compared}
-use Rattle.items.specs.Items.{agrees, comparison_test, comparison_when, equality_when}
+use Rattle.meaning.specs.Meaning.{truth, is_true, equated, compared, contains}
+use Rattle.items.specs.Items.{agrees, comparison_test, comparison_when, equality_when, containment_when}
 use Rattle.items.specs.Stack.{holds}
 
 pub truth_back : (b : Bool) → is_true (truth b) ≡ b
@@ -68,3 +70,14 @@ or-false false = refl
 pub or-assoc : (a b c : Bool) → ((a || b) || c) ≡ (a || (b || c))
 or-assoc true b c = refl
 or-assoc false b c = refl
+
+-- what `in`, `notin`, `has` and `hasnt` ask of a branch
+pub contains_asks : (op : Containment) (so when : Bool) → agrees (contains op so) when
+    ≡ agrees so (containment_when op when)
+contains_asks containments.In so when = refl
+contains_asks containments.NotIn so when = agrees_not so when
+
+pub has_asks : (positive so when : Bool) → agrees (if positive then so else not so) when
+    ≡ agrees so (agrees positive when)
+has_asks true so when = refl
+has_asks false so when = agrees_not so when

@@ -13,6 +13,7 @@ use Rattle.meaning.specs.Resolved.{Value, Values, none, more, Printed, Action, A
 use Rattle.meaning.specs.Resolved as source
 use Rattle.meaning.specs.Meaning.{is_true}
 use Rattle.items.specs.Items.{Item, Operand, pushed, number, variable, Destination, push, into, nowhere, operand_of}
+use Rattle.items.specs.Items.{containment_when, first_of}
 use Rattle.items.specs.Items.{operands_of, alone, left_of, if_pushed, branch_true, agrees, is_few, comparison_test}
 use Rattle.items.specs.Items.{comparison_when, equality_when, moved_count, truth_count, after_count, kept_count}
 use Rattle.items.specs.Items.{value_count, operand_count, operands_count, branch_count, many_count, also_count, moved}
@@ -69,6 +70,17 @@ two_length oa ob xa xb tail na nb k ea eb et =
       length-append (if_pushed oa xa [])
           (if_pushed ob xb [] ++ tail),
       length-append (if_pushed ob xb []) tail,
+    )
+
+three_length : (oa ob oc : Operand) (xa xb xc tail : List Item) (na nb nc k : ℕ) → length xa ≡ na → length xb
+    ≡ nb → length xc ≡ nc → length tail ≡ k
+    → length (if_pushed oa xa [] ++ (if_pushed ob xb [] ++ (if_pushed oc xc [] ++ tail)))
+    ≡ if_pushed oa na 0 + if_pushed ob nb 0 + if_pushed oc nc 0 + k
+three_length oa ob oc xa xb xc tail na nb nc k ea eb ec et =
+    omega (
+      arith,
+      joined (if_pushed oa xa []) _ _ _ (if_length oa xa na ea)
+          (two_length ob oc xb xc tail nb nc k eb ec et),
     )
 
 kept_length : (x : Variable) (d : Destination) (xs ys : List Item) (n m : ℕ) → length xs ≡ n → length ys
@@ -170,6 +182,22 @@ assign_entry_counted width a i v ci cv = record {
   );
 }
 
+-- an item that takes a value alone, and with a branch behind it
+
+one_length : (v : Value) → Counted v → (i : Item) (at : ℕ)
+    → length (if_pushed (alone v) (value_items at v push) [] ++ i ∷ []) ≡ if_pushed (alone v) (value_count v push) 0 + 1
+one_length v c i at = joined (if_pushed (alone v) (value_items at v push) []) _ _ 1
+    (if_length (alone v) _ _ (c.value push at)) refl
+
+one_branch : (v : Value) → Counted v → (i : Item) (when : Bool) (at t : ℕ)
+    → length (if_pushed (alone v) (value_items at v push) [] ++ i ∷ branch_true pushed when t ∷ [])
+    ≡ if_pushed (alone v) (value_count v push) 0 + 1 + 1
+one_branch v c i when at t = omega (
+  arith,
+  joined (if_pushed (alone v) (value_items at v push) []) (i ∷ branch_true pushed when t ∷ []) _ 2
+      (if_length (alone v) _ _ (c.value push at)) refl,
+)
+
 few_length : (op : Equality) (a : Value) (bs : Values) → Counted a
     → ((at : ℕ) → length (operands_items at bs) ≡ operands_count bs) → (when : Bool) (at t : ℕ)
     → length (if_pushed (operand_of a bs) (value_items at a push) []
@@ -238,6 +266,71 @@ mutual
   }
   counted (source.entry width a i) = entry_counted width a i (counted i)
   counted (source.assign_entry width a i v) = assign_entry_counted width a i v (counted i) (counted v)
+  counted (source.relative r v) = record {
+    value = λ d at. one_length v (counted v) (items.relative r (alone v) d) at;
+    branch = λ when at t. one_branch v (counted v) (items.relative r (alone v) push) when at t;
+  }
+  counted (source.contained op a b) = record {
+    value = λ d at. truth_length at _ d _
+        (λ t. two_length (left_of a b) (alone b) _ _
+        (items.is_in (left_of a b) (alone b) (containment_when op true) t ∷ []) _ _ 1
+        ((counted a).value push at) ((counted b).value push (at + operand_count a (left_of a b))) refl);
+    branch = λ when at t. two_length (left_of a b) (alone b) _ _
+        (items.is_in (left_of a b) (alone b) (containment_when op when) t ∷ []) _ _ 1
+        ((counted a).value push at) ((counted b).value push (at + operand_count a (left_of a b))) refl;
+  }
+  counted (source.has positive v a) = record {
+    value = λ d at. truth_length at _ d _
+        (λ t. one_length v (counted v) (items.has (alone v) a (agrees positive true) t) at);
+    branch = λ when at t. one_length v (counted v) (items.has (alone v) a (agrees positive when) t) at;
+  }
+  counted (source.provides v p) = record {
+    value = λ d at. truth_length at _ d _ (λ t. one_length v (counted v) (items.provides (alone v) p true t) at);
+    branch = λ when at t. one_length v (counted v) (items.provides (alone v) p when t) at;
+  }
+  counted (source.property v p) = record {
+    value = λ d at. one_length v (counted v) (items.property (alone v) p d) at;
+    branch = λ when at t. one_branch v (counted v) (items.property (alone v) p push) when at t;
+  }
+  counted (source.property_size v p) = record {
+    value = λ d at. one_length v (counted v) (items.property_size (alone v) p d) at;
+    branch = λ when at t. one_branch v (counted v) (items.property_size (alone v) p push) when at t;
+  }
+  counted (source.property_word v p i) = record {
+    value = λ d at. two_length (left_of v i) (alone i) _ _ (items.property_word p (left_of v i) (alone i) d ∷ []) _ _ 1
+        ((counted v).value push at) ((counted i).value push (at + operand_count v (left_of v i))) refl;
+    branch = λ when at t. omega (
+      arith,
+      two_length (left_of v i) (alone i) _ _
+          (items.property_word p (left_of v i) (alone i) push ∷ branch_true pushed when t ∷ []) _ _ 2
+          ((counted v).value push at) ((counted i).value push (at + operand_count v (left_of v i))) refl,
+    );
+  }
+  counted (source.assign_property v p w) = record {
+    value = λ d at. two_length (left_of v w) (alone w) _ _
+        (items.assign_property p (left_of v w) (alone w) d ∷ []) _ _ 1
+        ((counted v).value push at) ((counted w).value push (at + operand_count v (left_of v w))) refl;
+    branch = λ when at t. omega (
+      arith,
+      two_length (left_of v w) (alone w) _ _
+          (items.assign_property p (left_of v w) (alone w) push ∷ branch_true pushed when t ∷ []) _ _ 2
+          ((counted v).value push at) ((counted w).value push (at + operand_count v (left_of v w))) refl,
+    );
+  }
+  counted (source.assign_property_word v p i w) = record {
+    value = λ d at. three_length (first_of v i w) (left_of i w) (alone w) _ _ _
+        (items.assign_property_word p (first_of v i w) (left_of i w) (alone w) d ∷ []) _ _ _ 1
+        ((counted v).value push at) ((counted i).value push (at + operand_count v (first_of v i w)))
+        ((counted w).value push (at + operand_count v (first_of v i w) + operand_count i (left_of i w))) refl;
+    branch = λ when at t. omega (
+      arith,
+      three_length (first_of v i w) (left_of i w) (alone w) _ _ _
+          (items.assign_property_word p (first_of v i w) (left_of i w) (alone w) push
+          ∷ branch_true pushed when t ∷ []) _ _ _ 2
+          ((counted v).value push at) ((counted i).value push (at + operand_count v (first_of v i w)))
+          ((counted w).value push (at + operand_count v (first_of v i w) + operand_count i (left_of i w))) refl,
+    );
+  }
 
   pub operands_length : (vs : Values) (at : ℕ) → length (operands_items at vs) ≡ operands_count vs
   operands_length none at = refl

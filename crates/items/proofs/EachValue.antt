@@ -8,6 +8,9 @@ use Rattle.items.proofs.Equalities.{AlsoOk, also_none, also_more, compare_ok, Se
 use Rattle.items.proofs.Logical.{binary_ok}
 use Rattle.items.proofs.Assignments.{step_before_ok, step_after_ok, assign_ok}
 use Rattle.items.proofs.Entries.{entry_ok, assign_entry_ok}
+use Rattle.items.proofs.ObjectValues.{relative_ok, property_ok, property_size_ok, property_word_ok, assign_property_ok}
+use Rattle.items.proofs.ObjectValues.{assign_property_word_ok}
+use Rattle.items.proofs.ObjectConditions.{contained_ok, has_ok, provides_ok}
 
 module _ (now : Running) where
   mutual
@@ -24,6 +27,16 @@ module _ (now : Running) where
     value_ok (source.assign x v) = assign_ok now x v (value_ok v)
     value_ok (source.entry width a i) = entry_ok now width a i (value_ok i)
     value_ok (source.assign_entry width a i v) = assign_entry_ok now width a i v (value_ok i) (value_ok v)
+    value_ok (source.relative r v) = relative_ok now r v (value_ok v)
+    value_ok (source.contained op a b) = contained_ok now op a b (value_ok a) (value_ok b)
+    value_ok (source.has positive v k) = has_ok now positive v k (value_ok v)
+    value_ok (source.provides v k) = provides_ok now v k (value_ok v)
+    value_ok (source.property v k) = property_ok now v k (value_ok v)
+    value_ok (source.property_size v k) = property_size_ok now v k (value_ok v)
+    value_ok (source.property_word v k w) = property_word_ok now v k w (value_ok v) (value_ok w)
+    value_ok (source.assign_property v k w) = assign_property_ok now v k w (value_ok v) (value_ok w)
+    value_ok (source.assign_property_word v k w z) =
+        assign_property_word_ok now v k w z (value_ok v) (value_ok w) (value_ok z)
 
     list_ok : (vs : Values) → ListOk now vs
     list_ok none = list_none now

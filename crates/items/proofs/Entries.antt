@@ -14,7 +14,7 @@ use Rattle.items.specs.Items as items
 use Rattle.items.specs.Stack.{with_operand, gives, assigned_entry}
 use Rattle.items.proofs.Counts.{alone_length}
 use Rattle.items.proofs.Acts.{keeps_read_entry, keeps_assigned_entry}
-use Rattle.items.proofs.Running.{Running, code, calls}
+use Rattle.items.proofs.Running.{Running, code, setting}
 use Rattle.items.proofs.Standing.{HasAt, split}
 use Rattle.items.proofs.Held.{onto, with_held, AllHeld, onto_all}
 use Rattle.items.proofs.Leads.{Leads, on, here, stands, lands, goes_by, at_place}
@@ -28,10 +28,10 @@ module _ (now : Running) where
       (dest : Destination) → HasAt (code now) pc (alone_items pc i) m
       → slice_get (code now) m ≡ Some (items.entry width a (alone i) dest)
       → length words + operands 0 (need_of i ∷ []) ≤ 48
-      → Leads now s n (stands now pc words s) (evaluate (calls now) (source.entry width a i) s)
+      → Leads now s n (stands now pc words s) (evaluate (setting now) (source.entry width a i) s)
       (lands now dest (m + 1) words)
   entry_piece width a i ok s n pc m words dest has h le =
-      on now (evaluate (calls now) i) _ (operand_does now i none ok s n pc m words has (omega (arith, le)))
+      on now (evaluate (setting now) i) _ (operand_does now i none ok s n pc m words has (omega (arith, le)))
       (λ x s1 e1.
       one now m words dest (items.entry width a (alone i) dest) (read_entry width a x) (onto (alone i) x words) h
       (with_held (alone i) x s1 words

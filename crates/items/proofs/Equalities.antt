@@ -20,7 +20,7 @@ use Rattle.items.specs.Items as items
 use Rattle.items.specs.Stack.{stuck}
 use Rattle.items.proofs.Counts.{value_length, branch_length, if_length, operands_length, many_length}
 use Rattle.items.proofs.Unchanged.{all_unchanged}
-use Rattle.items.proofs.Running.{Running, code, calls}
+use Rattle.items.proofs.Running.{Running, code, setting}
 use Rattle.items.proofs.Standing.{HasAt, split}
 use Rattle.items.proofs.Needs.{some_needed, some_needed_of}
 use Rattle.items.proofs.Conditions.{truth_back, zero_agrees, compares, closed, closes, equated_is, or-false, or-assoc}
@@ -56,14 +56,14 @@ module _ (now : Running) where
       let ha = split (code now) pc (if_pushed o (value_items pc a push) []) _ q (operand_count a o)
       (if_length o _ _ (value_length a push pc)) has in
       let hb = split (code now) m (operands_items m bs) _ q (operands_count bs) (operands_length bs m) ha.1 in
-      on now (evaluate (calls now) a) _ (operand_does now a bs oka s n pc m words ha.0 (omega (arith, le)))
+      on now (evaluate (setting now) a) _ (operand_does now a bs oka s n pc m words ha.0 (omega (arith, le)))
       (λ x s1 e1.
-      on now (evaluate_all (calls now) bs) _
+      on now (evaluate_all (setting now) bs) _
       (okbs.all s1 n (length words) 1 m e (onto o x words) hb.0 (onto_length o x words) (omega (arith, le)))
       (λ ys s2 e2.
       tests now e t q words same (o ∷ operands_of bs) (x ∷ ys) (equality_when op when) when
       (truth (equated op x ys)) hb.1.0 (omega (arith, before, hb.1.1)) hb.1.1 (
-        still_held now a bs s1 s2 x (λ z f. all_unchanged (calls now) keep z bs s1 s2 ys f e2)
+        still_held now a bs s1 s2 x (λ z f. all_unchanged (setting now) keep z bs s1 s2 ys f e2)
             (operand_held now a bs s s1 x e1),
         all_held now bs s1 s2 ys e2,
       )
@@ -77,7 +77,7 @@ module _ (now : Running) where
         → length words + 2 ≤ 48 → length words + operands before (needs_of vs) ≤ 48
         → ((ys : List ℕ) → truth (closed op (b || list_any (λ y. x == y) ys)) ≡ word ys)
         → Leads now s n (stands now pc (truth b ∷ x ∷ words) s)
-        ((evaluate_all (calls now) vs >>= λ ys. give (word ys)) s)
+        ((evaluate_all (setting now) vs >>= λ ys. give (word ys)) s)
         (goes_by now when t q words)
 
   pub also_none : AlsoOk none
@@ -99,8 +99,8 @@ module _ (now : Running) where
     also = λ s n before pc t q x words op when b word has ahead two room_left le e.
         let m = pc + value_count v push in
         let hv = split (code now) pc (value_items pc v push) _ q (value_count v push) (value_length v push pc) has in
-        regroup now (evaluate (calls now) v) _ (λ ys. give (word ys))
-        (on now (evaluate (calls now) v) _
+        regroup now (evaluate (setting now) v) _ (λ ys. give (word ys))
+        (on now (evaluate (setting now) v) _
         (okv.value s n pc m (truth b ∷ x ∷ words) push hv.0 (omega (arith, two, le)))
         (λ z s1 e1.
         steps now m (m + 1) (z ∷ truth b ∷ x ∷ words) (truth (b || x == z) ∷ x ∷ words) items.also_equal hv.1.0
@@ -108,7 +108,7 @@ module _ (now : Running) where
         (truth (c || x == z) ∷ x ∷ words) s1 else stuck) (truth_back b)
         ∙ ap (λ c. if c then stands now (m + 1) (truth (b || x == z) ∷ x ∷ words) s1 else stuck)
         (le-leb _ _ (omega (arith, room_left))))
-        (regroup now (evaluate_all (calls now) vs) _ (λ ys. give (word ys))
+        (regroup now (evaluate_all (setting now) vs) _ (λ ys. give (word ys))
         (okvs.also s1 n (before + 1) (m + 1) t q x words op when (b || x == z) (λ ys. word (z ∷ ys)) hv.1.1 ahead
         (omega (arith, two)) room_left (omega (arith, le))
         (λ ys. ap (λ c. truth (closed op c)) (or-assoc b (x == z) (list_any (λ y. x == y) ys)) ∙ e (z ∷ ys))))));
@@ -123,13 +123,13 @@ module _ (now : Running) where
       let ha = split (code now) pc (value_items pc a push) _ q (value_count a push) (value_length a push pc) has in
       let hv = split (code now) m (value_items m v push) _ q (value_count v push) (value_length v push m) ha.1 in
       let some = some_needed_of v in
-      on now (evaluate (calls now) a) _ (oka.value s n pc m words push ha.0 (omega (arith, le))) (λ x s1 e1.
-      regroup now (evaluate (calls now) v) _ (λ ys. give (truth (equated op x ys)))
-      (on now (evaluate (calls now) v) _ (okv.value s1 n m e (x ∷ words) push hv.0 (omega (arith, le))) (λ y s2 e2.
+      on now (evaluate (setting now) a) _ (oka.value s n pc m words push ha.0 (omega (arith, le))) (λ x s1 e1.
+      regroup now (evaluate (setting now) v) _ (λ ys. give (truth (equated op x ys)))
+      (on now (evaluate (setting now) v) _ (okv.value s1 n m e (x ∷ words) push hv.0 (omega (arith, le))) (λ y s2 e2.
       steps now e (e + 1) (y ∷ x ∷ words) (truth (x == y) ∷ x ∷ words) items.first_equal hv.1.0
       (ap (λ c. if c then stands now (e + 1) (truth (x == y) ∷ x ∷ words) s2 else stuck)
       (le-leb _ _ (omega (arith, le, some))))
-      (regroup now (evaluate_all (calls now) vs) _ (λ ys. give (truth (equated op x ys)))
+      (regroup now (evaluate_all (setting now) vs) _ (λ ys. give (truth (equated op x ys)))
       (okvs.also s2 n 2 (e + 1) t q x words op when (x == y) (λ ys. truth (equated op x (y ∷ ys))) hv.1.1 before
       (omega arith) (omega (arith, le, some)) (omega (arith, le))
       (λ ys. ap truth (sym (equated_is op x (y ∷ ys)))))))))

@@ -149,6 +149,15 @@ module _ (here : Bounds) where
       joined (if_pushed oa xa []) _ (pushed_fine oa xa na at (omega (arith, lt)) ha)
       (joined (if_pushed ob xb []) tail (pushed_fine ob xb nb (at + if_pushed oa na 0) (omega (arith, lt)) hb) ht)
 
+  pub three_fine : (oa ob oc : Operand) (xa xb xc tail : List Item) (na nb nc at : ℕ)
+      → at + (if_pushed oa na 0 + if_pushed ob nb 0 + if_pushed oc nc 0) < count → (at + na < count → Fine xa)
+      → (at + if_pushed oa na 0 + nb < count → Fine xb)
+      → (at + if_pushed oa na 0 + if_pushed ob nb 0 + nc < count → Fine xc) → Fine tail
+      → Fine (if_pushed oa xa [] ++ (if_pushed ob xb [] ++ (if_pushed oc xc [] ++ tail)))
+  three_fine oa ob oc xa xb xc tail na nb nc at lt ha hb hc ht =
+      joined (if_pushed oa xa []) _ (pushed_fine oa xa na at (omega (arith, lt)) ha)
+      (two_fine ob oc xb xc tail nb nc (at + if_pushed oa na 0) (omega (arith, lt)) hb hc ht)
+
   pub either_fine : (b : Bool) (xs ys : List Item) → (b ≡ true → Fine xs) → (b ≡ false → Fine ys)
       → Fine (if b then xs else ys)
   either_fine true xs ys hx hy = hx refl

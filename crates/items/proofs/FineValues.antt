@@ -12,15 +12,14 @@ use Rattle.meaning.specs.declared.resolved.Variable.{Variable}
 use Rattle.meaning.specs.Resolved.{Value, Values, none, more}
 use Rattle.meaning.specs.Resolved as source
 use Rattle.meaning.specs.Accepted.{IsVariable, IsValue, AreValues}
-use Rattle.meaning.specs.Meaning.{is_true}
 use Rattle.items.specs.Items.{Item, Operand, pushed, number, variable, Destination, push, into, operand_of}
 use Rattle.items.specs.Items.{operands_of, alone, left_of, if_pushed, agrees, is_few, comparison_when, equality_when}
 use Rattle.items.specs.Items.{truth_count, value_count, operand_count, operands_count, branch_count, many_count}
 use Rattle.items.specs.Items.{also_count, value_items, operands_items, branch_items, many_items, also_items}
 use Rattle.items.specs.Items as items
 use Rattle.items.specs.Laws.{IsDestination, IsItem}
-use Rattle.items.proofs.Fine.{Bounds, Fine, after_fine, branch_same, branch_two, chosen, counted_else, counted_then}
-use Rattle.items.proofs.Fine.{either_fine, first, joined, kept_fine, last, last_two, moved_fine, nothing}
+use Rattle.items.proofs.Fine.{Bounds, Fine, branch_same, branch_two, chosen, counted_else, counted_then}
+use Rattle.items.proofs.Fine.{either_fine, first, joined, kept_fine, last, last_two, nothing}
 use Rattle.items.proofs.Fine.{operand_fine, operands_count_is, operands_fine, pushed_fine, true_fine, truth_fine}
 use Rattle.items.proofs.Fine.{two_fine}
 
@@ -33,11 +32,11 @@ module _ (here : Bounds) where
     pub branch : (at : ℕ) (when : Bool) (t : ℕ) → at + branch_count v when < count → t < count
         → Fine here (branch_items at v when t)
 
-  record FineList (vs : Values) : Type 0 where
-    list : (at : ℕ) → at + operands_count vs < count → Fine here (operands_items at vs)
-    also : (op : Equality) (at : ℕ) (when : Bool) (t : ℕ) → at + also_count vs < count → t < count
+  pub record FineList (vs : Values) : Type 0 where
+    pub list : (at : ℕ) → at + operands_count vs < count → Fine here (operands_items at vs)
+    pub also : (op : Equality) (at : ℕ) (when : Bool) (t : ℕ) → at + also_count vs < count → t < count
         → Fine here (also_items at op vs when t)
-    many : (op : Equality) (at : ℕ) (when : Bool) (t : ℕ) → at + many_count vs < count → t < count
+    pub many : (op : Equality) (at : ℕ) (when : Bool) (t : ℕ) → at + many_count vs < count → t < count
         → Fine here (many_items at op vs when t)
 
   pub operand_pushed : (o : Operand) (v : Value) → FineValue v → (at : ℕ)
@@ -45,7 +44,7 @@ module _ (here : Bounds) where
   operand_pushed o v f at lt = pushed_fine here o (value_items at v push) (value_count v push) at lt
       (λ lt. f.value at push tt lt)
 
-  two_operands : (a b : Value) → FineValue a → FineValue b → (at : ℕ) (tail : List Item)
+  pub two_operands : (a b : Value) → FineValue a → FineValue b → (at : ℕ) (tail : List Item)
       → at + (operand_count a (left_of a b) + operand_count b (alone b)) < count → Fine here tail
       → Fine here (if_pushed (left_of a b) (value_items at a push) []
       ++ (if_pushed (alone b) (value_items (at + operand_count a (left_of a b)) b push) [] ++ tail))
@@ -58,14 +57,15 @@ module _ (here : Bounds) where
   call_item r vs h d hd = let n =
       operands_count_is vs in (h.0, operands_fine here vs h.3, omega (arith, n, h.1), omega (arith, n, h.2), hd)
 
-  call_fine : (r : ℕ) (vs : Values) → IsValue p locals (source.call r vs) → FineList vs → FineValue (source.call r vs)
+  pub call_fine : (r : ℕ) (vs : Values) → IsValue p locals (source.call r vs) → FineList vs
+      → FineValue (source.call r vs)
   call_fine r vs h f = record {
     value = λ at d hd lt. last here (operands_items at vs) _ (f.list at (omega (arith, lt))) (call_item r vs h d hd);
     branch = λ at when t lt le. last_two here (operands_items at vs) _ _ (f.list at (omega (arith, lt)))
         (call_item r vs h push tt) (true_fine here pushed when t tt le);
   }
 
-  prefixed_fine : (op : Prefix) (v : Value) → IsValue p locals v → FineValue v → FineValue (source.prefixed op v)
+  pub prefixed_fine : (op : Prefix) (v : Value) → IsValue p locals v → FineValue v → FineValue (source.prefixed op v)
   prefixed_fine prefixes.Not v h f = record {
     value = λ at d hd lt. truth_fine here at (branch_count v false) d (λ t. branch_items at v false t) hd lt
         (λ t le. f.branch at false t (omega (arith, lt)) le);
@@ -87,7 +87,7 @@ module _ (here : Bounds) where
       joined here (branch_items at a wa ta) _ (fa.branch at wa ta (omega (arith, lt)) la)
       (fb.branch (at + branch_count a wa) wb tb (omega (arith, lt)) lb)
 
-  binary_fine : (op : Binary) (a b : Value) → IsValue p locals a → IsValue p locals b → FineValue a → FineValue b
+  pub binary_fine : (op : Binary) (a b : Value) → IsValue p locals a → IsValue p locals b → FineValue a → FineValue b
       → FineValue (source.binary op a b)
   binary_fine binaries.AndAlso a b ha hb fa fb = record {
     value = λ at d hd lt.
@@ -113,8 +113,8 @@ module _ (here : Bounds) where
         (first here _ _ (true_fine here pushed when t tt le) (nothing here)));
   }
 
-  compare_fine : (op : Comparison) (a b : Value) → IsValue p locals a → IsValue p locals b → FineValue a → FineValue b
-      → FineValue (source.compare op a b)
+  pub compare_fine : (op : Comparison) (a b : Value) → IsValue p locals a → IsValue p locals b → FineValue a
+      → FineValue b → FineValue (source.compare op a b)
   compare_fine op a b ha hb fa fb = record {
     value = λ at d hd lt. truth_fine here at (operand_count a (left_of a b) + operand_count b (alone b) + 1) d _ hd lt
         (λ t le. branches at true t (omega (arith, lt)) le);
@@ -149,7 +149,7 @@ module _ (here : Bounds) where
       joined here (value_items at a push) _ (fa.value at push tt (omega (arith, lt)))
       (fbs.many op (at + value_count a push) when t (omega (arith, lt)) le)
 
-  equal_fine : (op : Equality) (a : Value) (bs : Values) → IsValue p locals a → AreValues p locals bs → FineValue a
+  pub equal_fine : (op : Equality) (a : Value) (bs : Values) → IsValue p locals a → AreValues p locals bs → FineValue a
       → FineList bs → FineValue (source.equal op a bs)
   equal_fine op a bs ha hbs fa fbs = record {
     value = λ at d hd lt.
@@ -172,7 +172,7 @@ module _ (here : Bounds) where
       all : ℕ
       all = value_count a push + many_count bs
 
-  assign_fine : (x : Variable) (v : Value) → IsVariable p locals x → FineValue v → FineValue (source.assign x v)
+  pub assign_fine : (x : Variable) (v : Value) → IsVariable p locals x → FineValue v → FineValue (source.assign x v)
   assign_fine x v hx f = record {
     value =
         λ at d hd lt. kept_fine here x d (value_items at v (into x)) (value_items at v push) (value_count v (into x))
@@ -181,7 +181,7 @@ module _ (here : Bounds) where
         (true_fine here pushed when t tt le);
   }
 
-  entry_fine : (width : Width) (a : ℕ) (i : Value) → a < length p.arrays → IsValue p locals i → FineValue i
+  pub entry_fine : (width : Width) (a : ℕ) (i : Value) → a < length p.arrays → IsValue p locals i → FineValue i
       → FineValue (source.entry width a i)
   entry_fine width a i ha h f = record {
     value = λ at d hd lt. last here (if_pushed (alone i) (value_items at i push) []) _
@@ -191,7 +191,7 @@ module _ (here : Bounds) where
         (true_fine here pushed when t tt le);
   }
 
-  assign_entry_fine : (width : Width) (a : ℕ) (i v : Value) → a < length p.arrays → IsValue p locals i
+  pub assign_entry_fine : (width : Width) (a : ℕ) (i v : Value) → a < length p.arrays → IsValue p locals i
       → IsValue p locals v → FineValue i → FineValue v → FineValue (source.assign_entry width a i v)
   assign_entry_fine width a i v ha hi hv fi fv = record {
     value = λ at d hd lt. two_operands i v fi fv at _ (omega (arith, lt))
@@ -201,7 +201,7 @@ module _ (here : Bounds) where
         (first here _ _ (true_fine here pushed when t tt le) (nothing here)));
   }
 
-  list_none : FineList none
+  pub list_none : FineList none
   list_none = record {
     list = λ at lt. nothing here;
     also = λ op at when t lt le. first here _ _ tt
@@ -209,7 +209,7 @@ module _ (here : Bounds) where
     many = λ op at when t lt le. first here _ _ (true_fine here pushed when t tt le) (nothing here);
   }
 
-  list_more : (v : Value) (vs : Values) → FineValue v → FineList vs → FineList (more v vs)
+  pub list_more : (v : Value) (vs : Values) → FineValue v → FineList vs → FineList (more v vs)
   list_more v vs f fs = record {
     list = λ at lt. joined here (if_pushed (operand_of v vs) (value_items at v push) []) _
         (operand_pushed (operand_of v vs) v f at (omega (arith, lt)))
@@ -219,42 +219,3 @@ module _ (here : Bounds) where
     many = λ op at when t lt le. joined here (value_items at v push) _ (f.value at push tt (omega (arith, lt)))
         (first here _ _ tt (fs.also op (at + value_count v push + 1) when t (omega (arith, lt)) le));
   }
-
-  mutual
-    pub value_fine : (v : Value) → IsValue p locals v → FineValue v
-    value_fine (source.number n) h = record {
-      value = λ at d hd lt. moved_fine here (number n) d tt hd;
-      branch = λ at when t lt le. either_fine here (agrees (is_true n) when) (items.jump t ∷ []) []
-          (λ e. first here (items.jump t) [] le (nothing here)) (λ e. nothing here);
-    }
-    value_fine (source.read x) h =
-        record {
-          value = λ at d hd lt. moved_fine here (variable x) d h hd;
-          branch =
-              λ at when t lt le. first here _ _ (true_fine here (variable x) when t h le) (nothing here);
-        }
-    value_fine (source.call r vs) h = call_fine r vs h (list_fine vs h.3)
-    value_fine (source.prefixed op v) h = prefixed_fine op v h (value_fine v h)
-    value_fine (source.step_before op x) h =
-        record {
-          value = λ at d hd lt. first here _ _ (h, hd) (nothing here);
-          branch =
-              λ at when t lt le. first here _ _ (h, tt)
-              (first here _ _ (true_fine here pushed when t tt le) (nothing here));
-        }
-    value_fine (source.step_after x op) h = record {
-      value = λ at d hd lt. after_fine here x op d h hd;
-      branch = λ at when t lt le. first here _ _ (h, tt)
-          (first here _ _ (h, tt) (first here _ _ (true_fine here pushed when t tt le) (nothing here)));
-    }
-    value_fine (source.binary op a b) h = binary_fine op a b h.0 h.1 (value_fine a h.0) (value_fine b h.1)
-    value_fine (source.compare op a b) h = compare_fine op a b h.0 h.1 (value_fine a h.0) (value_fine b h.1)
-    value_fine (source.equal op a bs) h = equal_fine op a bs h.0 h.1 (value_fine a h.0) (list_fine bs h.1)
-    value_fine (source.assign x v) h = assign_fine x v h.0 (value_fine v h.1)
-    value_fine (source.entry width a i) h = entry_fine width a i h.0 h.1 (value_fine i h.1)
-    value_fine (source.assign_entry width a i v) h =
-        assign_entry_fine width a i v h.0 h.1 h.2 (value_fine i h.1) (value_fine v h.2)
-
-    list_fine : (vs : Values) → AreValues p locals vs → FineList vs
-    list_fine none h = list_none
-    list_fine (more v vs) h = list_more v vs (value_fine v h.0) (list_fine vs h.1)

@@ -11,9 +11,8 @@ use Rattle.meaning.specs.Resolved.{RoutineOf, ProgramOf}
 use Rattle.meaning.specs.Accepted.{IsRoutine}
 use Rattle.meaning.specs.World.{Outcome, Situation, Comes, to, over, bound, give, ended, spend, units, value_in}
 use Rattle.meaning.specs.World as world
-use Rattle.meaning.specs.Meaning.{Ending, run_all, locals_of, routine_at, word_of, to_caller, call_in}
+use Rattle.meaning.specs.Meaning.{Ending, run_all, locals_of, routine_at, word_of, to_caller, call_in, setting}
 use Rattle.meaning.specs.Meaning.{first_world, quits, meaning}
-use Rattle.meaning.specs.Places.{number_in}
 use Rattle.items.specs.Stack.{goes, ends, after_part}
 use Rattle.items.specs.Laws.{ItemsFollow}
 use Rattle.items.proofs.Acts.{hand, spends}
@@ -46,7 +45,7 @@ leaves_calls p full zero i r arguments = λ s. tt
 leaves_calls p full (suc d) i r arguments =
     leaves_bound (variables.Local i) spend _ (λ s. spent s.world.fuel s refl)
     (λ _ s. back s.locals
-    (run_all (call_in p full d) (number_in p) full (routine_at p.routines r).body
+    (run_all (setting p full (call_in p full d)) (routine_at p.routines r).body
     (record { locals = locals_of (routine_at p.routines r).locals arguments; world = s.world })) s refl)
   where
     spent : (fuel : ℕ) (s : Situation) → s.world.fuel
@@ -82,17 +81,17 @@ module _ (p : ProgramOf) (full : ℕ) (fine : (r : ℕ) → IsRoutine p (routine
       let inner : Situation → Situation =
       λ last. record { locals = locals_of R.locals arguments; world = last.world } in
       let body : Situation → Comes ℕ =
-      λ last. to_caller last.locals (run_all (call_in p full d) (number_in p) full R.body (inner last)) in
+      λ last. to_caller last.locals (run_all (setting p full (call_in p full d)) R.body (inner last)) in
       let P : Comes (Unit {0}) → Type 0 = λ c. spend s
       ≡ c → Does p full (after_part c (λ _ last. stands now 0 [] (inner last))) (hand (bound c (λ _. body)) k) in
       let there : P (spend s) = spends full s P (λ e _. ends_there p full _) (λ last low locals_are e.
       subst (Does p full (stands now 0 [] (inner last)))
-      (hand_caller last.locals (run_all (call_in p full d) (number_in p) full R.body (inner last)) k)
+      (hand_caller last.locals (run_all (setting p full (call_in p full d)) R.body (inner last)) k)
       ((routine_does now (fine r).1 (inner last) (units full last.world)).does
       (λ v later. k v (record { locals = last.locals; world = later.world })) (omega arith)
       (λ v later e2 low2. ret v (record { locals = last.locals; world = later.world })
       (ap (λ c. bound c (λ _. body)) e
-      ∙ to_caller_is last.locals (run_all (call_in p full d) (number_in p) full R.body (inner last)) v later e2)
+      ∙ to_caller_is last.locals (run_all (setting p full (call_in p full d)) R.body (inner last)) v later e2)
       locals_are (omega (arith, low, low2))))) in
       subst (λ c. Does p full (if c then after_part (spend s) (λ _ last. stands now 0 [] (inner last)) else ends
       (ended (places.Limit limits.Calls) s.world)) (hand (call_in p full (suc d) r arguments s) k))

@@ -1,10 +1,8 @@
 -- The groups of numbers and ranges that the tests of a case ask for.
-use Rattle.std.proofs.Common.{◌≡◌, ℕ, ◌≤◌, List, [], ◌∷◌, ◌++◌, length, Bool, true, false, refl, ap, ◌∙◌}
-use Rattle.std.proofs.Common.{arith, length-append}
+use Rattle.std.proofs.Common.{◌≡◌, ℕ, ◌≤◌, List, [], ◌∷◌, length, Bool, true, false, refl, ap, ◌∙◌, arith}
 use Rattle.std.specs.Prelude.{◌||◌, ◌&&◌, ◌==◌, not, nat_lt, if◌then◌else◌}
 use Rattle.std.specs.List.{All, list_any}
 use Rattle.std.proofs.lemmas.List.Elements.{All-nil, All-cons, All-tail}
-use Rattle.std.proofs.lemmas.List.Folds.{list_any-append}
 use Rattle.std.proofs.lemmas.Bool.{ltb-true}
 use Rattle.zcore.specs.Arithmetic.{signed_less}
 use Rattle.meaning.specs.Resolved.{RangeOf}
@@ -22,11 +20,9 @@ abbrev pub IsGroup : Group → Type 0
 IsGroup (numbers ns) = (1 ≤ length ns) × (length ns ≤ 3)
 IsGroup (range low high) = Unit {0}
 
-last_first : (a b c : Bool) → ((a || (b || false)) || c) ≡ (b || (a || c))
-last_first true true c = refl
-last_first true false c = refl
-last_first false true c = refl
-last_first false false c = refl
+first_of_group : (a b c : Bool) → ((a || b) || c) ≡ (a || (b || c))
+first_of_group true b c = refl
+first_of_group false b c = refl
 
 alone_first : (b c : Bool) → ((b || false) || c) ≡ (b || c)
 alone_first true c = refl
@@ -38,15 +34,10 @@ number_holds v n [] = alone_first (v == n) false
 number_holds v n (range low high ∷ groups) = alone_first (v == n) (list_any (asks v) (range low high ∷ groups))
 number_holds v n (numbers ns ∷ groups) = go (nat_lt (length ns) 3)
   where
-    together : list_any (asks v) (numbers (ns ++ n ∷ []) ∷ groups)
-        ≡ ((v == n) || list_any (asks v) (numbers ns ∷ groups))
-    together = ap (λ b. b || list_any (asks v) groups) (list_any-append (λ y. v == y) ns (n ∷ []))
-        ∙ last_first (list_any (λ y. v == y) ns) (v == n) (list_any (asks v) groups)
-
     go : (b : Bool) → list_any (asks v)
-        (if b then numbers (ns ++ n ∷ []) ∷ groups else numbers (n ∷ []) ∷ numbers ns ∷ groups)
+        (if b then numbers (n ∷ ns) ∷ groups else numbers (n ∷ []) ∷ numbers ns ∷ groups)
         ≡ ((v == n) || list_any (asks v) (numbers ns ∷ groups))
-    go true = together
+    go true = first_of_group (v == n) (list_any (λ y. v == y) ns) (list_any (asks v) groups)
     go false = alone_first (v == n) (list_any (asks v) (numbers ns ∷ groups))
 
 -- the groups hold for the words that the ranges hold for
@@ -63,11 +54,10 @@ number_grouped n (range low high ∷ groups) h =
 number_grouped n (numbers ns ∷ groups) h = go (nat_lt (length ns) 3) refl
   where
     go : (b : Bool) → nat_lt (length ns) 3 ≡ b → All IsGroup
-        (if b then numbers (ns ++ n ∷ []) ∷ groups else numbers (n ∷ []) ∷ numbers ns ∷ groups)
+        (if b then numbers (n ∷ ns) ∷ groups else numbers (n ∷ []) ∷ numbers ns ∷ groups)
     go true e =
         let few = ltb-true (length ns) 3 e in
-        let both = length-append ns (n ∷ []) in
-        All-cons IsGroup (numbers (ns ++ n ∷ [])) groups (omega (arith, both), omega (arith, both, few))
+        All-cons IsGroup (numbers (n ∷ ns)) groups (omega arith, omega (arith, few))
         (All-tail IsGroup (numbers ns) groups h)
     go false e = All-cons IsGroup (numbers (n ∷ [])) (numbers ns ∷ groups) (omega arith, omega arith) h
 

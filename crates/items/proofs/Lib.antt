@@ -17,18 +17,26 @@ mod Equalities
 mod Logical
 mod Assignments
 mod Entries
+mod ObjectParts
+mod ObjectValues
+mod ObjectConditions
 mod EachValue
 mod Statements
 mod Conditionals
 mod Loops
+mod ObjectStatements
+mod ObjectLoops
 mod Groups
 mod Switches
 mod Routines
 mod Follows
 mod Fine
 mod FineValues
+mod FineObjects
+mod EachFine
 mod Within
 mod Samples
+mod ObjectSamples
 pub mod Trees
 pub mod Drafts
 pub mod Operands
@@ -37,6 +45,7 @@ pub mod Reductions
 pub mod Values
 pub mod Assigned
 pub mod Alternatives
+pub mod ObjectForms
 pub mod Tests
 pub mod Rounds
 pub mod SwitchCases

@@ -10,7 +10,7 @@ use Rattle.meaning.specs.World.{Situation, to, ◌>>=◌, give}
 use Rattle.meaning.specs.Meaning.{truth, is_true, evaluate}
 use Rattle.items.specs.Items.{agrees, branch_count, branch_items}
 use Rattle.items.proofs.Counts.{branch_length}
-use Rattle.items.proofs.Running.{Running, code, calls}
+use Rattle.items.proofs.Running.{Running, code, setting}
 use Rattle.items.proofs.Standing.{HasAt, split, long}
 use Rattle.items.proofs.Needs.{some_needed}
 use Rattle.items.proofs.Conditions.{truth_back}
@@ -24,10 +24,10 @@ module _ (now : Running) where
   -- the second operand decides
   second_branches : (b : Value) → ValueOk now b → (s : Situation) (n pc t q : ℕ) (words : List ℕ) (when : Bool)
       → HasAt (code now) pc (branch_items pc b when t) q → q ≤ t → length words + need_of b ≤ 48
-      → Leads now s n (stands now pc words s) ((evaluate (calls now) b >>= λ y. give (truth (is_true y))) s)
+      → Leads now s n (stands now pc words s) ((evaluate (setting now) b >>= λ y. give (truth (is_true y))) s)
       (goes_by now when t q words)
   second_branches b ok s n pc t q words when has before le =
-      on now (evaluate (calls now) b) (λ y. give (truth (is_true y))) (ok.branch s n pc t q words when has before le)
+      on now (evaluate (setting now) b) (λ y. give (truth (is_true y))) (ok.branch s n pc t q words when has before le)
       (λ y last _.
       decided now (truth (is_true y)) when (agrees (is_true y) when) t q q words
       (ap (λ c. agrees c when) (truth_back (is_true y))) refl)
@@ -42,7 +42,7 @@ module _ (now : Running) where
       let h = split (code now) pc (branch_items pc a false skip) (branch_items m b when t) q na
       (branch_length a false pc skip) has in
       let e = long (code now) m (branch_items m b when t) q nb (branch_length b when m t) h.1 in
-      on now (evaluate (calls now) a) _
+      on now (evaluate (setting now) a) _
       (oka.branch s n pc skip m words false h.0
       (ahead when t (pc + na + nb) m (omega arith) (omega (arith, e, before))) (omega (arith, le)))
       (λ x s1 e1. go s1 m (is_true x) when h.1 e before)
@@ -60,7 +60,7 @@ module _ (now : Running) where
           → m + branch_count b when ≡ q → q ≤ t
           → Leads now s1 n (stands now (if agrees c false then (if when then m + branch_count b when else t) else m)
           words
-          s1) ((if c then (evaluate (calls now) b >>= λ y. give (truth (is_true y))) else give 0) s1)
+          s1) ((if c then (evaluate (setting now) b >>= λ y. give (truth (is_true y))) else give 0) s1)
           (goes_by now when t q words)
       go s1 m true when h e before = second_branches b okb s1 n m t q words when h before (omega (arith, le))
       go s1 m false when h e before = skipped when s1 (m + branch_count b when) e
@@ -75,7 +75,7 @@ module _ (now : Running) where
       let h = split (code now) pc (branch_items pc a true skip) (branch_items m b when t) q na
       (branch_length a true pc skip) has in
       let e = long (code now) m (branch_items m b when t) q nb (branch_length b when m t) h.1 in
-      on now (evaluate (calls now) a) _
+      on now (evaluate (setting now) a) _
       (oka.branch s n pc skip m words true h.0
       (ahead when t (pc + na + nb) m (omega arith) (omega (arith, e, before))) (omega (arith, le)))
       (λ x s1 e1. go s1 m (is_true x) when h.1 e before)
@@ -93,7 +93,7 @@ module _ (now : Running) where
           → m + branch_count b when ≡ q → q ≤ t
           → Leads now s1 n (stands now (if agrees c true then (if when then t else m + branch_count b when) else m)
           words
-          s1) ((if c then give 1 else (evaluate (calls now) b >>= λ y. give (truth (is_true y)))) s1)
+          s1) ((if c then give 1 else (evaluate (setting now) b >>= λ y. give (truth (is_true y)))) s1)
           (goes_by now when t q words)
       go s1 m true when h e before = skipped when s1 (m + branch_count b when) e
       go s1 m false when h e before = second_branches b okb s1 n m t q words when h before (omega (arith, le))

@@ -12,7 +12,6 @@ use Rattle.meaning.specs.World.{Situation, Comes, to, Part, bound, ◌>>=◌, gi
 use Rattle.meaning.specs.World as world
 use Rattle.meaning.specs.Meaning.{is_true, evaluate, Ending, goes_on, breaks, continues, returns, behind_body, round}
 use Rattle.meaning.specs.Meaning.{rounds, once, tested, behind_round, until, run}
-use Rattle.meaning.specs.Places.{number_in}
 use Rattle.items.specs.Items.{nowhere, agrees, branch_count, branch_items, once_count, once_items, test_count}
 use Rattle.items.specs.Items.{test_items, action_count, Exits, exits_to, action_items}
 use Rattle.items.specs.Items as items
@@ -20,7 +19,7 @@ use Rattle.items.specs.Stack.{stuck, after_part, act}
 use Rattle.items.proofs.Acts.{hand, spends}
 use Rattle.items.proofs.Counts.{branch_length}
 use Rattle.items.proofs.StatementCounts.{once_length, test_length, action_length}
-use Rattle.items.proofs.Running.{Does, ends_there, steps_on, Running, code, locals, calls}
+use Rattle.items.proofs.Running.{Does, ends_there, steps_on, Running, code, locals, setting}
 use Rattle.items.proofs.Standing.{HasAt, split}
 use Rattle.items.proofs.Leads.{Leads, on, given, here, stands, goes_by, at_place, begins_at}
 use Rattle.items.proofs.EachValue.{value_ok}
@@ -112,7 +111,7 @@ module _ (now : Running) where
         (λ last. goes_back x n back top end (rounds n test body behind) h le (λ later. rounds_do h le x n later))
 
   -- as many goings back as there are units
-  loop_does : {s : Situation} {n : ℕ} (x : Exits) (test : Part ℕ) (body : Part Ending) (behind : Part Bool)
+  pub loop_does : {s : Situation} {n : ℕ} (x : Exits) (test : Part ℕ) (body : Part Ending) (behind : Part Bool)
       (pc end : ℕ)
       → ((m : ℕ) (s : Situation)
       → Leads now s m (stands now pc [] s) (rounds m test body behind s) (ended_at now x end))
@@ -130,8 +129,8 @@ module _ (now : Running) where
       (branch_length v false pc (e + 1)) has in
       let ha = split (code now) m (action_items inside m a) _ q (action_count a) (action_length inside a m) h.1 in
       at_place now (ended_at now x) (e + 1) q ha.1.1
-      (loop_does x (evaluate (calls now) v) (run (calls now) (number_in p) full a) (give true) pc (e + 1)
-      (rounds_do (evaluate (calls now) v) (run (calls now) (number_in p) full a) (give true) pc m e e (e + 1)
+      (loop_does x (evaluate (setting now) v) (run (setting now) a) (give true) pc (e + 1)
+      (rounds_do (evaluate (setting now) v) (run (setting now) a) (give true) pc m e e (e + 1)
       (λ s1 n1. (value_ok now v).branch s1 n1 pc (e + 1) m [] false h.0 (omega arith) (omega (arith, fine.1)))
       (λ s1 n1. oka inside s1 n1 m e (omega arith, omega arith) ha.0)
       (λ s1 n1. given now {behind = λ wanted last. stands now (if wanted then e else e + 1) [] last} true)
@@ -140,9 +139,9 @@ module _ (now : Running) where
   -- `until`, which leads to the end where its word is true
   until_does : (v : Value) → IsWhole p (locals now) v → (s : Situation) (n pc t q : ℕ)
       → HasAt (code now) pc (branch_items pc v true t) q → q ≤ t
-      → Leads now s n (stands now pc [] s) (until (calls now) v s)
+      → Leads now s n (stands now pc [] s) (until (setting now) v s)
       (λ wanted last. stands now (if wanted then q else t) [] last)
-  until_does v fine s n pc t q has le = on now (evaluate (calls now) v) _
+  until_does v fine s n pc t q has le = on now (evaluate (setting now) v) _
       ((value_ok now v).branch s n pc t q [] true has le (omega (arith, fine.1))) (λ w last _. go (is_true w) last)
     where
       go : (b : Bool) (last : Situation) → Leads now last n (stands now (if agrees b true then t else q) [] last)
@@ -160,8 +159,8 @@ module _ (now : Running) where
       let hv = split (code now) m (branch_items m v true (e + 1)) _ q (branch_count v true)
       (branch_length v true m (e + 1)) h.1 in
       at_place now (ended_at now x) (e + 1) q hv.1.1
-      (loop_does x (give 1) (run (calls now) (number_in p) full a) (until (calls now) v) pc (e + 1)
-      (rounds_do (give 1) (run (calls now) (number_in p) full a) (until (calls now) v) pc pc m e (e + 1)
+      (loop_does x (give 1) (run (setting now) a) (until (setting now) v) pc (e + 1)
+      (rounds_do (give 1) (run (setting now) a) (until (setting now) v) pc pc m e (e + 1)
       (λ s1 n1. given now {behind = goes_by now false (e + 1) pc []} 1)
       (λ s1 n1. oka inside s1 n1 pc m (omega arith, omega arith) h.0)
       (λ s1 n1. until_does v fine s1 n1 m (e + 1) e hv.0 (omega arith))
@@ -170,26 +169,26 @@ module _ (now : Running) where
   -- the parts of a `for`
 
   once_does : (v : Option Value) → IsPart p (locals now) v → (s : Situation) (n pc q : ℕ)
-      → HasAt (code now) pc (once_items pc v) q → Leads now s n (stands now pc [] s) (once (calls now) v s)
+      → HasAt (code now) pc (once_items pc v) q → Leads now s n (stands now pc [] s) (once (setting now) v s)
       (λ _ last. stands now q [] last)
   once_does None fine s n pc q has =
       begins_at now q pc [] (sym has) (given now {behind = λ (_ : Unit {0}) last. stands now q [] last} tt)
-  once_does (Some v) fine s n pc q has = on now (evaluate (calls now) v) _
+  once_does (Some v) fine s n pc q has = on now (evaluate (setting now) v) _
       ((value_ok now v).value s n pc q [] nowhere has (omega (arith, fine.1)))
       (λ w last _. given now {behind = λ (_ : Unit {0}) last. stands now q [] last} tt)
 
   test_does : (v : Option Value) → IsPart p (locals now) v → (s : Situation) (n pc t q : ℕ)
       → HasAt (code now) pc (test_items pc v t) q → q ≤ t
-      → Leads now s n (stands now pc [] s) (tested (calls now) v s) (goes_by now false t q [])
+      → Leads now s n (stands now pc [] s) (tested (setting now) v s) (goes_by now false t q [])
   test_does None fine s n pc t q has le =
       begins_at now q pc [] (sym has) (given now {behind = goes_by now false t q []} 1)
   test_does (Some v) fine s n pc t q has le =
       (value_ok now v).branch s n pc t q [] false has le (omega (arith, fine.1))
 
   behind_does : (v : Option Value) → IsPart p (locals now) v → (s : Situation) (n pc t q : ℕ)
-      → HasAt (code now) pc (once_items pc v) q → Leads now s n (stands now pc [] s) (behind_round (calls now) v s)
+      → HasAt (code now) pc (once_items pc v) q → Leads now s n (stands now pc [] s) (behind_round (setting now) v s)
       (λ wanted last. stands now (if wanted then q else t) [] last)
-  behind_does v fine s n pc t q has = on now (once (calls now) v) _ (once_does v fine s n pc q has)
+  behind_does v fine s n pc t q has = on now (once (setting now) v) _ (once_does v fine s n pc q has)
       (λ _ last _. given now {behind = λ wanted last. stands now (if wanted then q else t) [] last} true)
 
   pub for_does : (before test behind : Option Value) (a : Action) → IsPart p (locals now) before
@@ -206,11 +205,11 @@ module _ (now : Running) where
       (test_length test top (e + 1)) h.1 in
       let ha = split (code now) m (action_items inside m a) _ q (action_count a) (action_length inside a m) ht.1 in
       let hb = split (code now) c (once_items c behind) _ q (once_count behind) (once_length behind c) ha.1 in
-      let each = run (calls now) (number_in p) full a in
-      let first = tested (calls now) test in
-      let last = behind_round (calls now) behind in
+      let each = run (setting now) a in
+      let first = tested (setting now) test in
+      let last = behind_round (setting now) behind in
       at_place now (ended_at now x) (e + 1) q hb.1.1
-      (on now (once (calls now) before) _ (once_does before fine_before s n pc top h.0)
+      (on now (once (setting now) before) _ (once_does before fine_before s n pc top h.0)
       (λ _ s1 _. loop_does x first each last top (e + 1)
       (rounds_do first each last top m c e (e + 1)
       (λ s2 n2. test_does test fine_test s2 n2 top (e + 1) m ht.0 (omega arith))

@@ -20,7 +20,7 @@ use Rattle.items.specs.Stack.{with_operand, delivered, gives, enter, act}
 use Rattle.items.specs.Stack as stack
 use Rattle.items.proofs.Counts.{branch_length, operands_length, alone_length}
 use Rattle.items.proofs.Acts.{keeps_give, keeps_operate}
-use Rattle.items.proofs.Running.{Does, steps_on, Running, code, calls}
+use Rattle.items.proofs.Running.{Does, steps_on, Running, code, setting}
 use Rattle.items.proofs.Standing.{HasAt, split}
 use Rattle.items.proofs.Needs.{some_needed}
 use Rattle.items.proofs.Conditions.{truth_back, not_not, zero_agrees}
@@ -37,10 +37,10 @@ module _ (now : Running) where
       (dest : Destination) → HasAt (code now) pc (if_pushed (alone v) (value_items pc v push) []) m
       → slice_get (code now) m ≡ Some (items.apply_prefix op (alone v) dest)
       → length words + operands 0 (need_of v ∷ []) ≤ 48
-      → Leads now s n (stands now pc words s) (evaluate (calls now) (source.prefixed op v) s)
+      → Leads now s n (stands now pc words s) (evaluate (setting now) (source.prefixed op v) s)
       (lands now dest (m + 1) words)
   prefix_piece op v ok s n pc m words dest has h le =
-      on now (evaluate (calls now) v) _ (operand_does now v none ok s n pc m words has (omega (arith, le)))
+      on now (evaluate (setting now) v) _ (operand_does now v none ok s n pc m words has (omega (arith, le)))
       (λ x s1 e1.
       one now m words dest (items.apply_prefix op (alone v) dest) (give (with_prefix op x)) (onto (alone v) x words) h
       (with_held (alone v) x s1 words (λ y rest. delivered dest (with_prefix op y) (here now (m + 1) rest s1))
@@ -63,11 +63,11 @@ module _ (now : Running) where
   call_piece : (rr : ℕ) (vs : Values) → ListOk now vs → (s : Situation) (n pc m : ℕ) (words : List ℕ)
       (dest : Destination) → HasAt (code now) pc (operands_items pc vs) m → slice_get (code now) m
       ≡ Some (items.call rr (operands_of vs) dest) → length words + operands 0 (needs_of vs) ≤ 48
-      → Leads now s n (stands now pc words s) (evaluate (calls now) (source.call rr vs) s)
+      → Leads now s n (stands now pc words s) (evaluate (setting now) (source.call rr vs) s)
       (lands now dest (m + 1) words)
   call_piece rr vs ok s n pc m words dest has h le =
       let some = some_needed 0 (needs_of vs) in
-      on now (evaluate_all (calls now) vs) _ (ok.all s n (length words) 0 pc m words has (omega arith) le)
+      on now (evaluate_all (setting now) vs) _ (ok.all s n (length words) 0 pc m words has (omega arith) le)
       (λ xs s1 e1.
       let before = onto_all (operands_of vs) xs words in
       record {
@@ -147,7 +147,7 @@ module _ (now : Running) where
   prefixed_ok prefixes.Not v ok =
       let turned : Branches now (source.prefixed prefixes.Not v) (λ at when t. branch_items at v (not when) t) =
       λ s n pc t q words when has before le.
-      on now (evaluate (calls now) v) _ (ok.branch s n pc t q words (not when) has before (omega (arith, le)))
+      on now (evaluate (setting now) v) _ (ok.branch s n pc t q words (not when) has before (omega (arith, le)))
       (λ x s1 e1.
       decided now (truth (x == 0)) when (agrees (is_true x) (not when)) t q q words
       (ap (λ b. agrees b when) (truth_back (x == 0)) ∙ ap (λ w. agrees (x == 0) w) (sym (not_not when))
@@ -170,8 +170,8 @@ module _ (now : Running) where
       ≡ if_pushed (left_of a b) (value_items at a push) []
       ++ (if_pushed (alone b) (value_items (at + operand_count a (left_of a b)) b push) [] ++ items.operate op
       (left_of a b) (alone b) push ∷ branch_true pushed when t ∷ []))
-      → ((s : Situation) → (evaluate (calls now) a >>= λ x. (evaluate (calls now) b >>= λ y. operate op x y)) s
-      ≡ evaluate (calls now) (source.binary op a b) s) → ValueOk now (source.binary op a b)
+      → ((s : Situation) → (evaluate (setting now) a >>= λ x. (evaluate (setting now) b >>= λ y. operate op x y)) s
+      ≡ evaluate (setting now) (source.binary op a b) s) → ValueOk now (source.binary op a b)
   operation_ok op a b oka okb ev eb means = record {
     value = λ s n pc q words dest has le.
         let m = pc + operand_count a (left_of a b) + operand_count b (alone b) in

@@ -17,7 +17,7 @@ use Rattle.items.specs.Stack.{Next, return_to, act}
 use Rattle.items.proofs.Counts.{alone_length}
 use Rattle.items.proofs.StatementCounts.{prints_length, action_length, actions_length, cases_length}
 use Rattle.items.proofs.Acts.{keeps_put}
-use Rattle.items.proofs.Running.{ends_there, steps_on, Running, code, locals, calls}
+use Rattle.items.proofs.Running.{ends_there, steps_on, Running, code, locals, setting}
 use Rattle.items.proofs.Standing.{HasAt, split, long, all_at}
 use Rattle.items.proofs.Leads.{Leads, on, given, here, stands, begins_at}
 use Rattle.items.proofs.Steps.{puts, jumps}
@@ -27,6 +27,8 @@ use Rattle.items.proofs.Statements.{ended_at, goes_at, follows_on, returns_by, a
 use Rattle.items.proofs.Statements.{read_does, end_of_line}
 use Rattle.items.proofs.Conditionals.{IsAhead, ActionOk, if_does, else_does}
 use Rattle.items.proofs.Loops.{while_does, do_does, for_does}
+use Rattle.items.proofs.ObjectStatements.{give_does, move_does, remove_does}
+use Rattle.items.proofs.ObjectLoops.{each_object_does, each_where_does, each_in_does}
 use Rattle.items.proofs.Chosen.{with_it}
 use Rattle.items.proofs.Switches.{CasesOk, case_does, switch_does}
 
@@ -42,12 +44,12 @@ module _ (now : Running) where
         (puts now pc [] (items.print_text bytes) (put (map shown bytes)) [] has.0 refl
         (keeps_put full (map shown bytes))) (λ _ s1 _. end_of_line now x (pc + 1) q has.1)
     action_does (source.print is) fine x s n pc q ahead has =
-        on now (print_all (calls now) is) _ (prints_do now x is fine s n pc q has)
+        on now (print_all (setting now) is) _ (prints_do now x is fine s n pc q has)
         (λ _ s1 _. goes_at now x q q refl)
     action_does (source.print_return is) fine x s n pc q ahead has =
         let m = pc + prints_count is in
         let h = split (code now) pc (prints_items pc is) _ q (prints_count is) (prints_length is pc) has in
-        on now (print_all (calls now) is) _ (prints_do now x is fine s n pc m h.0)
+        on now (print_all (setting now) is) _ (prints_do now x is fine s n pc m h.0)
         (λ _ s1 _. end_of_line now x m q h.1)
     action_does source.new_line fine x s n pc q ahead has =
         on now put_line _ (line_does now x pc has.0) (λ _ s1 _. goes_at now x (pc + 1) q has.1)
@@ -76,10 +78,20 @@ module _ (now : Running) where
     action_does (source.read_line t w) fine x s n pc q ahead has =
         on now (read_next (number_in p) full t w) _ (read_does now x t w pc has.0)
         (λ _ s1 _. goes_at now x (pc + 1) q has.1)
+    action_does (source.give_to v changes) fine x s n pc q ahead has =
+        give_does now v changes fine.0 x s n pc q ahead has
+    action_does (source.move_to v w) fine x s n pc q ahead has = move_does now v w fine.2 x s n pc q ahead has
+    action_does (source.remove_from v) fine x s n pc q ahead has = remove_does now v fine x s n pc q ahead has
+    action_does (source.each_object y a) fine x s n pc q ahead has =
+        each_object_does now y a (action_does a fine.1) x s n pc q ahead has
+    action_does (source.each_where y v a) fine x s n pc q ahead has =
+        each_where_does now y v a fine.1 (action_does a fine.2) x s n pc q ahead has
+    action_does (source.each_in y v a) fine x s n pc q ahead has =
+        each_in_does now y v a fine.1 (action_does a fine.2) x s n pc q ahead has
     action_does (source.return_value v) fine x s n pc q ahead has =
         let m = pc + operand_count v (alone v) in
         let h = split (code now) pc (alone_items pc v) _ q (operand_count v (alone v)) (alone_length v pc) has in
-        on now (evaluate (calls now) v) _ (alone_does now x v fine s n pc m h.0)
+        on now (evaluate (setting now) v) _ (alone_does now x v fine s n pc m h.0)
         (λ w s1 e1. returns_by now x m q (alone v) w h.1.0 (operand_held now v none s s1 w e1))
     action_does source.quit fine x s n pc q ahead has =
         record {
@@ -87,12 +99,12 @@ module _ (now : Running) where
               (ends_there p full _);
         }
     action_does (source.effect v) fine x s n pc q ahead has =
-        on now (evaluate (calls now) v) _ ((value_ok now v).value s n pc q [] nowhere has (omega (arith, fine.1)))
+        on now (evaluate (setting now) v) _ ((value_ok now v).value s n pc q [] nowhere has (omega (arith, fine.1)))
         (λ w s1 _. goes_at now x q q refl)
 
     pub actions_do : (xs : Actions) → AreActions p (locals now) xs → (x : Exits) (s : Situation) (n pc q : ℕ)
         → IsAhead now q x → HasAt (code now) pc (actions_items x pc xs) q
-        → Leads now s n (stands now pc [] s) (run_all (calls now) (number_in p) full xs s)
+        → Leads now s n (stands now pc [] s) (run_all (setting now) xs s)
         (ended_at now x q)
     actions_do stop fine x s n pc q ahead has = goes_at now x pc q has
     actions_do (next a rest) fine x s n pc q ahead has =
@@ -104,7 +116,7 @@ module _ (now : Running) where
         let first = ahead.0 in
         let second = ahead.1 in
         let inner : IsAhead now m x = (omega (arith, first, behind), omega (arith, second, behind)) in
-        follows_on now x m q (run (calls now) (number_in p) full a) (run_all (calls now) (number_in p) full rest)
+        follows_on now x m q (run (setting now) a) (run_all (setting now) rest)
         (action_does a fine.0 x s n pc m inner h.0)
         (λ last. actions_do rest fine.1 x last n m q ahead h.1)
 
@@ -113,8 +125,8 @@ module _ (now : Running) where
     cases_do (source.default_case xs) fine x v s n pc end q is ahead has =
         with_it now v pc (actions_do xs fine x s n pc q ahead has)
     cases_do (source.case gs xs rest) fine x v s n pc end q is ahead has =
-        case_does now x v gs (actions_count xs) (cases_count rest) (run_all (calls now) (number_in p) full xs)
-        (run_cases (calls now) (number_in p) full v rest) (λ place. actions_items x place xs)
+        case_does now x v gs (actions_count xs) (cases_count rest) (run_all (setting now) xs)
+        (run_cases (setting now) v rest) (λ place. actions_items x place xs)
         (λ place. cases_items x place rest end) s n pc end q (λ at. actions_length x xs at)
         (λ at. cases_length x rest at end) is ahead has
         (λ at after inner h. actions_do xs fine.0 x s n at after inner h)
@@ -147,13 +159,13 @@ module _ (now : Running) where
 
   pub routine_does : AreActions p (locals now) (routine_at p.routines routine).body → (s : Situation) (n : ℕ)
       → Leads now s n (stands now 0 [] s)
-      ((run_all (calls now) (number_in p) full (routine_at p.routines routine).body >>= λ e. give (word_of e)) s) hands
+      ((run_all (setting now) (routine_at p.routines routine).body >>= λ e. give (word_of e)) s) hands
   routine_does fine s n =
       let body = (routine_at p.routines routine).body in
       let count = actions_count body in
       let x = exits_to count count in
       let h = split (code now) 0 (actions_items x 0 body) (return_true ∷ []) (length (code now)) count
       (actions_length x body 0) (all_at (code now) []) in
-      on now (run_all (calls now) (number_in p) full body) (λ e. give (word_of e))
+      on now (run_all (setting now) body) (λ e. give (word_of e))
       (actions_do body fine x s n 0 (0 + count) (omega arith, omega arith) h.0)
       (λ e s1 _. finishes (0 + count) count (omega arith) h.1.0 e)

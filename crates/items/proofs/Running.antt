@@ -4,7 +4,8 @@ use Rattle.std.specs.Prelude.{if◌then◌else◌}
 use Rattle.std.proofs.lemmas.Bool.{le-leb}
 use Rattle.meaning.specs.Resolved.{ProgramOf}
 use Rattle.meaning.specs.World.{Outcome, Situation, to}
-use Rattle.meaning.specs.Meaning.{Calls, routine_at, call_in}
+use Rattle.meaning.specs.Meaning.{Setting, routine_at, call_in}
+use Rattle.meaning.specs.Meaning as meaning
 use Rattle.items.specs.Items.{Item, routine_items}
 use Rattle.items.specs.Stack.{Caller, State, Next, goes, ends, stuck, within, enter, return_to, step, from, exec}
 use Rattle.items.proofs.Acts.{hand, Lower}
@@ -55,5 +56,5 @@ module _ (now : Running) where
   abbrev pub locals : ℕ
   locals = (routine_at p.routines routine).locals
 
-  abbrev pub calls : Calls
-  calls = call_in p full depth
+  abbrev pub setting : Setting
+  setting = meaning.setting p full (call_in p full depth)

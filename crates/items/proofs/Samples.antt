@@ -237,7 +237,7 @@ grouped : action_items outside 0
     ∷ items.case less (1 ∷ []) true 3
     ∷ items.case greater (5 ∷ []) false 5
     ∷ items.case same (7 ∷ []) true 5
-    ∷ items.case same (10 ∷ 9 ∷ 8 ∷ []) false 7
+    ∷ items.case same (8 ∷ 9 ∷ 10 ∷ []) false 7
     ∷ step steps.Increment y nowhere
     ∷ jump 8
     ∷ items.call 7 [] nowhere

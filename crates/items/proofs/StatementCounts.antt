@@ -4,18 +4,23 @@ use Rattle.std.proofs.Common.{refl, arith, length-append}
 use Rattle.std.specs.Prelude.{◌==◌, if◌then◌else◌}
 use Rattle.meaning.specs.Resolved.{Value, Printed, Action, Actions, CasesOf, stop, next}
 use Rattle.meaning.specs.Resolved as source
+use Rattle.expressions.specs.declared.tree.Relative.TheVariants as relatives
+use Rattle.meaning.specs.declared.resolved.Variable.{Variable}
+use Rattle.items.specs.Items.{Operand, variable, push, left_of, if_pushed, value_items, each_items, children_items}
+use Rattle.items.specs.Items.{relative_items}
 use Rattle.items.specs.Items.{nowhere, alone, branch_count, branch_items, printed_count, prints_count, action_count}
 use Rattle.items.specs.Items.{actions_count, cases_count, once_count, test_count, tests_count, group_count, groups_of}
 use Rattle.items.specs.Items.{operand_count, over_count, alone_items, printed_items, prints_items, once_items}
 use Rattle.items.specs.Items.{test_items, Group, group_items, last_items, tests_items, over_items, Exits, exits_to}
 use Rattle.items.specs.Items.{action_items, actions_items, cases_items, for_items, case_items}
 use Rattle.items.specs.Items as items
-use Rattle.items.proofs.Counts.{joined, value_length, branch_length, alone_length}
+use Rattle.items.proofs.Counts.{joined, if_length, value_length, branch_length, alone_length}
 
 pub printed_length : (i : Printed) (at : ℕ) → length (printed_items at i) ≡ printed_count i
 printed_length (source.text bytes) at = refl
 printed_length (source.character_of v) at = joined (alone_items at v) _ _ 1 (alone_length v at) refl
 printed_length (source.number_of v) at = joined (alone_items at v) _ _ 1 (alone_length v at) refl
+printed_length (source.name_of v) at = joined (alone_items at v) _ _ 1 (alone_length v at) refl
 
 pub prints_length : (is : List Printed) (at : ℕ) → length (prints_items at is) ≡ prints_count is
 prints_length [] at = refl
@@ -94,6 +99,32 @@ case_length at gs body later end run rest eb el =
       length-append o (rest behind),
     )
 
+each_length : (at : ℕ) (y : Variable) (body : ℕ) (run : Exits → ℕ → List items.Item)
+    → ((inside : Exits) (place : ℕ) → length (run inside place) ≡ body)
+    → length (each_items at y body run) ≡ 1 + body + 2
+each_length at y body run e =
+    let inside = exits_to (at + 1 + body) (at + 1 + body + 2) in
+    omega (
+      arith,
+      e inside (at + 1),
+      length-append (run inside (at + 1)) (items.next_object y (at + 1 + body + 2) ∷ items.back (at + 1) ∷ []),
+    )
+
+children_length : (at : ℕ) (y : Variable) (o : Operand) (body : ℕ) (run : Exits → ℕ → List items.Item)
+    → ((inside : Exits) (place : ℕ) → length (run inside place) ≡ body)
+    → length (children_items at y o body run) ≡ 3 + body + 4
+children_length at y o body run e =
+    let end = at + 3 + body + 4 in
+    let inside = exits_to (at + 3 + body) end in
+    let rest = relative_items relatives.Sibling (variable y) y end ++ items.back (at + 3) ∷ [] in
+    omega (
+      arith,
+      e inside (at + 3),
+      length-append (relative_items relatives.Child o y end) (run inside (at + 3) ++ rest),
+      length-append (run inside (at + 3)) rest,
+      length-append (relative_items relatives.Sibling (variable y) y end) (items.back (at + 3) ∷ []),
+    )
+
 mutual
   pub action_length : (x : Exits) (a : Action) (at : ℕ) → length (action_items x at a) ≡ action_count a
   action_length x source.empty at = refl
@@ -162,6 +193,39 @@ mutual
   action_length x source.break_out at = refl
   action_length x source.continue_on at = refl
   action_length x (source.read_line t p) at = refl
+  action_length x (source.give_to v changes) at = joined (alone_items at v) _ _ 1 (alone_length v at) refl
+  action_length x (source.move_to v w) at =
+      let place = at + operand_count v (left_of v w) in
+      let last = items.move_object (left_of v w) (alone w) ∷ [] in
+      omega (
+        arith,
+        if_length (left_of v w) _ _ (value_length v push at),
+        if_length (alone w) _ _ (value_length w push place),
+        length-append (if_pushed (left_of v w) (value_items at v push) [])
+            (if_pushed (alone w) (value_items place w push) [] ++ last),
+        length-append (if_pushed (alone w) (value_items place w push) []) last,
+      )
+  action_length x (source.remove_from v) at = joined (alone_items at v) _ _ 1 (alone_length v at) refl
+  action_length x (source.each_object y a) at =
+      each_length at y (action_count a) (λ inside place. action_items inside place a)
+      (λ inside place. action_length inside a place)
+  action_length x (source.each_where y v a) at =
+      each_length at y (branch_count v false + action_count a) (λ inside place.
+      branch_items place v false (place + branch_count v false + action_count a)
+      ++ action_items inside (place + branch_count v false) a)
+      (λ inside place. joined _ _ _ _ (branch_length v false place (place + branch_count v false + action_count a))
+      (action_length inside a (place + branch_count v false)))
+  action_length x (source.each_in y v a) at =
+      let place = at + operand_count v (alone v) in
+      let kids = children_length place y (alone v) (action_count a) (λ inside p. action_items inside p a)
+      (λ inside p. action_length inside a p) in
+      omega (
+        arith,
+        kids,
+        alone_length v at,
+        length-append (alone_items at v)
+            (children_items place y (alone v) (action_count a) (λ inside p. action_items inside p a)),
+      )
   action_length x (source.return_value v) at = joined (alone_items at v) _ _ 1 (alone_length v at) refl
   action_length x source.quit at = refl
   action_length x (source.effect v) at = value_length v nowhere at

@@ -1,5 +1,5 @@
 -- What a statement does where it neither branches nor goes back.
-use Rattle.std.proofs.Common.{◌≡◌, ℕ, ◌+◌, List, [], ◌∷◌, Some, refl, sym, ap, ◌∙◌, arith}
+use Rattle.std.proofs.Common.{◌≡◌, ℕ, ◌+◌, List, [], ◌∷◌, ◌++◌, Some, refl, sym, ap, ◌∙◌, arith}
 use Rattle.std.specs.Prelude.{slice_get, map}
 use Rattle.std.specs.List.{All}
 use Rattle.std.proofs.lemmas.List.Elements.{All-head, All-tail}
@@ -12,14 +12,15 @@ use Rattle.meaning.specs.Meaning.{put_character, put_line, evaluate, Ending, goe
 use Rattle.meaning.specs.Meaning.{print_one, print_all, follow}
 use Rattle.meaning.specs.Reading.{read_next}
 use Rattle.meaning.specs.Places.{number_in}
-use Rattle.items.specs.Items.{Operand, number, alone, operand_count, printed_count, alone_items, printed_items}
+use Rattle.items.specs.Items.{Item, Operand, number, alone, operand_count, printed_count, alone_items, printed_items}
 use Rattle.items.specs.Items.{prints_items, return_true, Exits}
 use Rattle.items.specs.Items as items
-use Rattle.items.specs.Stack.{Next, prints, return_to, act}
+use Rattle.items.specs.Stack.{State, Next, with_operand, prints, return_to, act, put_name}
 use Rattle.items.proofs.Counts.{alone_length}
 use Rattle.items.proofs.StatementCounts.{printed_length}
-use Rattle.items.proofs.Acts.{keeps_put, keeps_put_character, keeps_read_next}
-use Rattle.items.proofs.Running.{steps_on, Running, code, locals, calls}
+use Rattle.items.proofs.Acts.{Keeps, keeps_put, keeps_put_character, keeps_read_next}
+use Rattle.items.proofs.ObjectParts.{keeps_name}
+use Rattle.items.proofs.Running.{steps_on, Running, code, locals, setting}
 use Rattle.items.proofs.Standing.{HasAt, split}
 use Rattle.items.proofs.Held.{Held, onto, with_held}
 use Rattle.items.proofs.Leads.{Leads, on, given, here, stands, at_place, begins_at}
@@ -70,45 +71,51 @@ module _ (now : Running) (x : Exits) where
 
   -- an operand that stands alone
   pub alone_does : (v : Value) → IsWhole p (locals now) v → (s : Situation) (n pc q : ℕ)
-      → HasAt (code now) pc (alone_items pc v) q → Leads now s n (stands now pc [] s) (evaluate (calls now) v s)
+      → HasAt (code now) pc (alone_items pc v) q → Leads now s n (stands now pc [] s) (evaluate (setting now) v s)
       (λ a last. stands now q (onto (alone v) a []) last)
   alone_does v fine s n pc q has = operand_does now v none (value_ok now v) s n pc q [] has (omega (arith, fine.1))
 
+  -- an item that takes an operand which stands alone, and does a part of the meaning that has no word
+  pub taken_does : (v : Value) → IsWhole p (locals now) v → (i : Operand → Item) (f : ℕ → Part (Unit {0}))
+      → ((o : Operand) (s : State) → act p full (Some (i o)) s
+      ≡ with_operand o s.situation s.stack (λ w rest. prints (f w) rest s))
+      → ((w : ℕ) → Keeps full (f w)) → (s : Situation) (n pc q : ℕ)
+      → HasAt (code now) pc (alone_items pc v ++ i (alone v) ∷ []) q
+      → Leads now s n (stands now pc [] s) ((evaluate (setting now) v >>= f) s) (printed_at q)
+  taken_does v fine i f acts keeps s n pc q has =
+      let m = pc + operand_count v (alone v) in
+      let h = split (code now) pc (alone_items pc v) _ q (operand_count v (alone v)) (alone_length v pc) has in
+      at_place now printed_at (m + 1) q h.1.1
+      (on now (evaluate (setting now) v) f (alone_does v fine s n pc m h.0) (λ w s1 e1.
+      puts now m [] (i (alone v)) (f w) (onto (alone v) w []) h.1.0
+      (acts (alone v) (here now m (onto (alone v) w []) s1)
+      ∙ with_held (alone v) w s1 [] (λ z rest. prints (f z) rest (here now m (onto (alone v) w []) s1))
+      (operand_held now v none s s1 w e1)) (keeps w)))
+
   printed_does : (i : Printed) → IsPrinted p (locals now) i → (s : Situation) (n pc q : ℕ)
       → HasAt (code now) pc (printed_items pc i) q
-      → Leads now s n (stands now pc [] s) (print_one (calls now) i s) (printed_at q)
+      → Leads now s n (stands now pc [] s) (print_one (setting now) i s) (printed_at q)
   printed_does (source.text bytes) fine s n pc q has =
       at_place now printed_at (pc + 1) q has.1
       (puts now pc [] (items.print_text bytes) (put (map shown bytes)) [] has.0 refl
       (keeps_put full (map shown bytes)))
   printed_does (source.character_of v) fine s n pc q has =
-      let m = pc + operand_count v (alone v) in
-      let h = split (code now) pc (alone_items pc v) _ q (operand_count v (alone v)) (alone_length v pc) has in
-      at_place now printed_at (m + 1) q h.1.1
-      (on now (evaluate (calls now) v) put_character (alone_does v fine s n pc m h.0) (λ c s1 e1.
-      puts now m [] (items.print_character (alone v)) (put_character c) (onto (alone v) c []) h.1.0
-      (with_held (alone v) c s1 [] (λ w rest. prints (put_character w) rest (here now m (onto (alone v) c []) s1))
-      (operand_held now v none s s1 c e1)) (keeps_put_character full c)))
+      taken_does v fine items.print_character put_character (λ o s. refl) (keeps_put_character full) s n pc q has
   printed_does (source.number_of v) fine s n pc q has =
-      let m = pc + operand_count v (alone v) in
-      let h = split (code now) pc (alone_items pc v) _ q (operand_count v (alone v)) (alone_length v pc) has in
-      at_place now printed_at (m + 1) q h.1.1
-      (on now (evaluate (calls now) v) (λ x. put (signed_text x)) (alone_does v fine s n pc m h.0) (λ x s1 e1.
-      puts now m [] (items.print_number (alone v)) (put (signed_text x)) (onto (alone v) x []) h.1.0
-      (with_held (alone v) x s1 []
-      (λ w rest. prints (put (signed_text w)) rest (here now m (onto (alone v) x []) s1))
-      (operand_held now v none s s1 x e1))
-      (keeps_put full (signed_text x))))
+      taken_does v fine items.print_number (λ w. put (signed_text w)) (λ o s. refl)
+      (λ w. keeps_put full (signed_text w)) s n pc q has
+  printed_does (source.name_of v) fine s n pc q has =
+      taken_does v fine items.print_name (put_name p) (λ o s. refl) (keeps_name p full) s n pc q has
 
   pub prints_do : (is : List Printed) → All (IsPrinted p (locals now)) is → (s : Situation) (n pc q : ℕ)
       → HasAt (code now) pc (prints_items pc is) q
-      → Leads now s n (stands now pc [] s) (print_all (calls now) is s) (printed_at q)
+      → Leads now s n (stands now pc [] s) (print_all (setting now) is s) (printed_at q)
   prints_do [] fine s n pc q has = begins_at now q pc [] (sym has) (given now {behind = printed_at q} tt)
   prints_do (i ∷ is) fine s n pc q has =
       let m = pc + printed_count i in
       let h = split (code now) pc (printed_items pc i) (prints_items m is) q (printed_count i)
       (printed_length i pc) has in
-      on now (print_one (calls now) i) (λ _. print_all (calls now) is)
+      on now (print_one (setting now) i) (λ _. print_all (setting now) is)
       (printed_does i (All-head (IsPrinted p (locals now)) i is fine) s n pc m h.0)
       (λ _ s1 _. prints_do is (All-tail (IsPrinted p (locals now)) i is fine) s1 n m q h.1)
 

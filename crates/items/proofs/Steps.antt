@@ -3,8 +3,8 @@ use Rattle.std.proofs.Common.{◌≡◌, ℕ, ◌+◌, ◌<◌, ◌≤◌, List,
 use Rattle.std.proofs.Common.{◌∙◌, subst}
 use Rattle.std.specs.Prelude.{not, if◌then◌else◌, slice_get}
 use Rattle.std.proofs.lemmas.Bool.{lt-ltb}
-use Rattle.meaning.specs.World.{Outcome, Situation, Comes, to, over, Part, give, with_value}
-use Rattle.meaning.specs.Meaning.{is_true}
+use Rattle.meaning.specs.World.{Outcome, Situation, Comes, to, over, Part, ◌>>=◌, give, with_value}
+use Rattle.meaning.specs.Meaning.{truth, is_true}
 use Rattle.items.specs.Items.{Item, Operand, pushed, number, Destination, push, into, nowhere, Test, is_zero}
 use Rattle.items.specs.Items.{branch_true, agrees, moved}
 use Rattle.items.specs.Items as items
@@ -13,9 +13,9 @@ use Rattle.items.specs.Stack as stack
 use Rattle.items.proofs.Acts.{hand, Lower, Kept, Keeps, keeps_give}
 use Rattle.items.proofs.Running.{Does, ends_there, steps_on, Running, code}
 use Rattle.items.proofs.Standing.{HasAt}
-use Rattle.items.proofs.Conditions.{zero_agrees}
+use Rattle.items.proofs.Conditions.{zero_agrees, truth_back}
 use Rattle.items.proofs.Held.{AllHeld, onto_all, with_all_held}
-use Rattle.items.proofs.Leads.{Leads, given, then_to, here, stands, lands, goes_by, delivers, at_place, begins_at}
+use Rattle.items.proofs.Leads.{Leads, on, given, then_to, here, stands, lands, goes_by, delivers, at_place, begins_at}
 
 module _ (now : Running) where
   open now use {p, full}
@@ -154,3 +154,40 @@ module _ (now : Running) where
       }
   jumps_after {c = c} nowhere m t words h lt l =
       then_to now c l (λ v last _. jumps m t words h lt (given now {behind = lands now nowhere t words} v))
+
+  -- one item that tells whether a condition holds, and leads ahead where it does, or where it does not
+  pub decides : {s : Situation} {n : ℕ} (m t q : ℕ) (before words : List ℕ) (i : Item) (f : Part Bool) (w : Bool)
+      → slice_get (code now) m ≡ Some i
+      → act p full (Some i) (here now m before s) ≡ stack.decides f w t words (here now m before s)
+      → Keeps full f → m < t → m + 1 ≡ q
+      → Leads now s n (stands now m before s) (f s) (λ so last. stands now (if agrees so w then t else q) words last)
+  decides {s = s} m t q before words i f w h e keeps lt is =
+      record {
+        does = λ k _ hd. steps_on p full (here now m before s) _ _ (ap (λ x. act p full x (here now m before s)) h ∙ e)
+            (reach k (f s) hd (keeps s));
+      }
+    where
+      goes_there : (b : Bool) (last : Situation) → stack.branch b t words (here now m before last)
+          ≡ stands now (if b then t else q) words last
+      goes_there true last = leads_on m t words last lt
+      goes_there false last = ap (λ x. stands now x words last) is
+
+      reach : (k : Bool → Situation → Outcome) (c : Comes Bool)
+          → ((so : Bool) (last : Situation) → c ≡ to so last → Lower full s last
+          → Does p full (stands now (if agrees so w then t else q) words last) (k so last)) → Kept full s c
+          → Does p full (after_part c (λ so last. stack.branch (agrees so w) t words (here now m before last)))
+          (hand c k)
+      reach k (to so last) hd low =
+          subst (λ x. Does p full x (k so last)) (sym (goes_there (agrees so w) last)) (hd so last refl low)
+      reach k (over outcome) hd low = ends_there p full outcome
+
+  -- and a branch by the word of the condition, 1 or 0
+  pub tells : {s : Situation} {n : ℕ} (m t q : ℕ) (before words : List ℕ) (i : Item) (f : Part Bool)
+      (turned : Bool → Bool) (w when : Bool) → slice_get (code now) m ≡ Some i
+      → act p full (Some i) (here now m before s) ≡ stack.decides f w t words (here now m before s)
+      → Keeps full f → m < t → m + 1 ≡ q → ((so : Bool) → agrees (turned so) when ≡ agrees so w)
+      → Leads now s n (stands now m before s) ((f >>= λ so. give (truth (turned so))) s) (goes_by now when t q words)
+  tells m t q before words i f turned w when h e keeps lt is asks =
+      on now f _ (decides m t q before words i f w h e keeps lt is) (λ so last _.
+      decided (truth (turned so)) when (agrees so w) t q q words
+      (ap (λ b. agrees b when) (truth_back (turned so)) ∙ asks so) refl)

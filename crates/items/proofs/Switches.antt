@@ -11,7 +11,6 @@ use Rattle.meaning.specs.Accepted.{IsWhole}
 use Rattle.meaning.specs.World.{Situation, Comes, to, Part}
 use Rattle.meaning.specs.Meaning.{evaluate, Ending, goes_on, breaks, continues, returns, holds_for, behind_case}
 use Rattle.meaning.specs.Meaning.{run_cases}
-use Rattle.meaning.specs.Places.{number_in}
 use Rattle.items.specs.Items.{Item, Group, numbers, range, groups_of, group_count, group_items, last_items, tests_count}
 use Rattle.items.specs.Items.{tests_items, over_count, over_items}
 use Rattle.items.specs.Items.{case_items, cases_count, cases_items, agrees, alone, alone_items, operand_count, same}
@@ -20,7 +19,7 @@ use Rattle.items.specs.Items as items
 use Rattle.items.specs.Stack.{Next, goes, chooses}
 use Rattle.items.proofs.Counts.{alone_length}
 use Rattle.items.proofs.StatementCounts.{tests_length, over_length, cases_length}
-use Rattle.items.proofs.Running.{Running, code, locals, calls}
+use Rattle.items.proofs.Running.{Running, code, locals, setting}
 use Rattle.items.proofs.Standing.{HasAt, split, long}
 use Rattle.items.proofs.Held.{onto, with_held}
 use Rattle.items.proofs.Leads.{Leads, on, given, then_to, here, stands}
@@ -188,7 +187,7 @@ module _ (now : Running) where
   abbrev pub CasesOk : CasesOf → Type 0
   CasesOk cs = (x : Exits) (v : ℕ) (s : Situation) (n pc end q : ℕ) → q ≡ end → IsAhead now q x
       → HasAt (code now) pc (cases_items x pc cs end) q
-      → Leads now s n (goes (has_word now v pc s)) (run_cases (calls now) (number_in p) full v cs s) (ended_at now x q)
+      → Leads now s n (goes (has_word now v pc s)) (run_cases (setting now) v cs s) (ended_at now x q)
 
   pub switch_does : (v : Value) (cs : CasesOf) → IsWhole p (locals now) v → CasesOk cs
       → ActionOk now (source.switch_on v cs)
@@ -199,11 +198,11 @@ module _ (now : Running) where
       let h = split (code now) pc (alone_items pc v) _ q (operand_count v (alone v)) (alone_length v pc) has in
       let all = long (code now) (m + 1) (cases_items inner (m + 1) cs e) q (cases_count cs)
       (cases_length inner cs (m + 1) e) h.1.1 in
-      on now (evaluate (calls now) v) _ (alone_does now x v fine s n pc m h.0) (λ w s1 e1.
+      on now (evaluate (setting now) v) _ (alone_does now x v fine s n pc m h.0) (λ w s1 e1.
       chooses_word now w m (onto (alone v) w []) (items.choose (alone v)) h.1.0
       (with_held (alone v) w s1 [] (λ a rest. chooses a rest (here now m (onto (alone v) w []) s1))
       (operand_held now v none s s1 w e1))
-      (on now (run_cases (calls now) (number_in p) full w cs) _
+      (on now (run_cases (setting now) w cs) _
       (ok inner w s1 n (m + 1) e q (sym all) (omega (arith, all), ahead.1) h.1.1)
       (λ ending s2 _. leaves e all ending s2)))
     where

@@ -6,8 +6,10 @@ use Rattle.std.specs.Option.{option_map}
 use Rattle.std.specs.Global.{Vec, Box}
 use Rattle.expressions.specs.declared.tree.Binary.{Binary}
 use Rattle.expressions.specs.declared.tree.Comparison.{Comparison}
+use Rattle.expressions.specs.declared.tree.Containment.{Containment}
 use Rattle.expressions.specs.declared.tree.Equality.{Equality}
 use Rattle.expressions.specs.declared.tree.Prefix.{Prefix}
+use Rattle.expressions.specs.declared.tree.Relative.{Relative}
 use Rattle.expressions.specs.declared.tree.Step.{Step}
 use Rattle.expressions.specs.declared.tree.Width.{Width}
 use Rattle.meaning.specs.declared.resolved.Span.{Span}
@@ -20,7 +22,9 @@ use Rattle.meaning.specs.declared.resolved.Action as code_action
 use Rattle.meaning.specs.declared.resolved.Action.TheVariants as s
 use Rattle.meaning.specs.declared.resolved.Action.TheFolds.{fold-roll-Action}
 use Rattle.meaning.specs.Resolved.{Value, number, read, call, prefixed, step_before, step_after, binary, compare}
-use Rattle.meaning.specs.Resolved.{equal, entry, assign_entry}
+use Rattle.meaning.specs.Resolved.{equal, entry, assign_entry, assign_property_word, give_to, move_to, remove_from}
+use Rattle.meaning.specs.Resolved.{each_object, each_where, each_in, relative, contained, has, provides, property}
+use Rattle.meaning.specs.Resolved.{property_size, property_word, assign_property}
 use Rattle.meaning.specs.Resolved.{assign, more, Action, block, text_alone, print, print_return, if_then, if_else}
 use Rattle.meaning.specs.Resolved.{while_do, do_until, for_loop, switch_on, return_value, effect, values_of}
 use Rattle.meaning.specs.Resolved.{actions_of, cases_of, chained, value_of, value_layer, printed_of, case_of, other_of}
@@ -31,97 +35,148 @@ use Rattle.items.specs.Items as items
 use Rattle.items.specs.Writing.{link_of, change_links}
 
 pub number_is : (e : code_value.Value) (n : ℕ) → e ≡ v.Number n → value_of e ≡ number n
-number_is e n is = rw is (ap value_of (sym (v.rolls-Number n)) ∙ fold-roll-Value Value value_layer _)
+number_is e n is = ap value_of is ∙ ap value_of (sym (v.rolls-Number n)) ∙ fold-roll-Value Value value_layer _
 
 pub read_is : (e : code_value.Value) (x : Variable) → e ≡ v.Read x → value_of e ≡ read x
-read_is e x is = rw is (ap value_of (sym (v.rolls-Read x)) ∙ fold-roll-Value Value value_layer _)
+read_is e x is = ap value_of is ∙ ap value_of (sym (v.rolls-Read x)) ∙ fold-roll-Value Value value_layer _
 
 pub call_is : (e : code_value.Value) (r : ℕ) (es : Vec code_value.Value) → e ≡ v.Call r es → value_of e
     ≡ call r (values_of (map value_of es.items))
-call_is e r es is = rw is (ap value_of (sym (v.rolls-Call r es)) ∙ fold-roll-Value Value value_layer _)
+call_is e r es is = ap value_of is ∙ ap value_of (sym (v.rolls-Call r es)) ∙ fold-roll-Value Value value_layer _
 
 pub prefixed_is : (e : code_value.Value) (op : Prefix) (b : Box code_value.Value) → e ≡ v.Prefixed op b → value_of e
     ≡ prefixed op (value_of b.value)
-prefixed_is e op b is = rw is (ap value_of (sym (v.rolls-Prefixed op b)) ∙ fold-roll-Value Value value_layer _)
+prefixed_is e op b is = ap value_of is ∙ ap value_of (sym (v.rolls-Prefixed op b)) ∙ fold-roll-Value Value value_layer _
 
 pub step_before_is : (e : code_value.Value) (op : Step) (x : Variable) → e ≡ v.StepBefore op x
     → value_of e ≡ step_before op x
 step_before_is e op x is =
-    rw is (ap value_of (sym (v.rolls-StepBefore op x)) ∙ fold-roll-Value Value value_layer _)
+    ap value_of is ∙ ap value_of (sym (v.rolls-StepBefore op x)) ∙ fold-roll-Value Value value_layer _
 
 pub step_after_is : (e : code_value.Value) (x : Variable) (op : Step) → e ≡ v.StepAfter x op
     → value_of e ≡ step_after x op
-step_after_is e x op is = rw is (ap value_of (sym (v.rolls-StepAfter x op)) ∙ fold-roll-Value Value value_layer _)
+step_after_is e x op is =
+    ap value_of is ∙ ap value_of (sym (v.rolls-StepAfter x op)) ∙ fold-roll-Value Value value_layer _
 
 pub chain_is : (e : code_value.Value) (a : Box code_value.Value) (op : Binary) (b : Box code_value.Value)
     (ls : Vec (Binary × code_value.Value)) → e ≡ v.Chain a op b ls
     → value_of e ≡ chained (binary op (value_of a.value) (value_of b.value)) (map link_of ls.items)
-chain_is e a op b ls is = rw is (ap value_of (sym (v.rolls-Chain a op b ls)) ∙ fold-roll-Value Value value_layer _)
+chain_is e a op b ls is =
+    ap value_of is ∙ ap value_of (sym (v.rolls-Chain a op b ls)) ∙ fold-roll-Value Value value_layer _
 
 pub compare_is : (e : code_value.Value) (a : Box code_value.Value) (op : Comparison) (b : Box code_value.Value)
     → e ≡ v.Compare a op b
     → value_of e ≡ compare op (value_of a.value) (value_of b.value)
-compare_is e a op b is = rw is (ap value_of (sym (v.rolls-Compare a op b)) ∙ fold-roll-Value Value value_layer _)
+compare_is e a op b is =
+    ap value_of is ∙ ap value_of (sym (v.rolls-Compare a op b)) ∙ fold-roll-Value Value value_layer _
 
 pub equal_is : (e : code_value.Value) (a : Box code_value.Value) (op : Equality) (b : Box code_value.Value)
     (es : Vec code_value.Value) → e
     ≡ v.Equal a op b es
     → value_of e ≡ equal op (value_of a.value) (more (value_of b.value) (values_of (map value_of es.items)))
-equal_is e a op b es is = rw is (ap value_of (sym (v.rolls-Equal a op b es)) ∙ fold-roll-Value Value value_layer _)
+equal_is e a op b es is =
+    ap value_of is ∙ ap value_of (sym (v.rolls-Equal a op b es)) ∙ fold-roll-Value Value value_layer _
 
 pub assign_is : (e : code_value.Value) (x : Variable) (b : Box code_value.Value) → e ≡ v.Assign x b → value_of e
     ≡ assign x (value_of b.value)
-assign_is e x b is = rw is (ap value_of (sym (v.rolls-Assign x b)) ∙ fold-roll-Value Value value_layer _)
+assign_is e x b is = ap value_of is ∙ ap value_of (sym (v.rolls-Assign x b)) ∙ fold-roll-Value Value value_layer _
 
 pub entry_is : (e : code_value.Value) (width : Width) (a : ℕ) (b : Box code_value.Value) → e ≡ v.Entry width a b
     → value_of e ≡ entry width a (value_of b.value)
 entry_is e width a b is =
-    rw is (ap value_of (sym (v.rolls-Entry width a b)) ∙ fold-roll-Value Value value_layer _)
+    ap value_of is ∙ ap value_of (sym (v.rolls-Entry width a b)) ∙ fold-roll-Value Value value_layer _
 
 pub assign_entry_is : (e : code_value.Value) (width : Width) (a : ℕ) (b c : Box code_value.Value)
     → e ≡ v.AssignEntry width a b c → value_of e ≡ assign_entry width a (value_of b.value) (value_of c.value)
 assign_entry_is e width a b c is =
-    rw is (ap value_of (sym (v.rolls-AssignEntry width a b c)) ∙ fold-roll-Value Value value_layer _)
+    ap value_of is ∙ ap value_of (sym (v.rolls-AssignEntry width a b c)) ∙ fold-roll-Value Value value_layer _
+
+pub relative_is : (e : code_value.Value) (r : Relative) (b : Box code_value.Value) → e ≡ v.Relative r b
+    → value_of e ≡ relative r (value_of b.value)
+relative_is e r b is = ap value_of is ∙ ap value_of (sym (v.rolls-Relative r b)) ∙ fold-roll-Value Value value_layer _
+
+pub contained_is : (e : code_value.Value) (a : Box code_value.Value) (op : Containment) (b : Box code_value.Value)
+    → e ≡ v.Contained a op b
+    → value_of e ≡ contained op (value_of a.value) (value_of b.value)
+contained_is e a op b is =
+    ap value_of is ∙ ap value_of (sym (v.rolls-Contained a op b)) ∙ fold-roll-Value Value value_layer _
+
+pub has_is : (e : code_value.Value) (positive : Bool) (b : Box code_value.Value) (a : ℕ) → e ≡ v.Has positive b a
+    → value_of e ≡ has positive (value_of b.value) a
+has_is e positive b a is =
+    ap value_of is ∙ ap value_of (sym (v.rolls-Has positive b a)) ∙ fold-roll-Value Value value_layer _
+
+pub provides_is : (e : code_value.Value) (b : Box code_value.Value) (p : ℕ) → e ≡ v.Provides b p
+    → value_of e ≡ provides (value_of b.value) p
+provides_is e b p is = ap value_of is ∙ ap value_of (sym (v.rolls-Provides b p)) ∙ fold-roll-Value Value value_layer _
+
+pub property_is : (e : code_value.Value) (b : Box code_value.Value) (p : ℕ) → e ≡ v.Property b p
+    → value_of e ≡ property (value_of b.value) p
+property_is e b p is = ap value_of is ∙ ap value_of (sym (v.rolls-Property b p)) ∙ fold-roll-Value Value value_layer _
+
+pub property_size_is : (e : code_value.Value) (b : Box code_value.Value) (p : ℕ) → e ≡ v.PropertySize b p
+    → value_of e ≡ property_size (value_of b.value) p
+property_size_is e b p is =
+    ap value_of is ∙ ap value_of (sym (v.rolls-PropertySize b p)) ∙ fold-roll-Value Value value_layer _
+
+pub property_word_is : (e : code_value.Value) (b : Box code_value.Value) (p : ℕ) (i : Box code_value.Value)
+    → e ≡ v.PropertyWord b p i
+    → value_of e ≡ property_word (value_of b.value) p (value_of i.value)
+property_word_is e b p i is =
+    ap value_of is ∙ ap value_of (sym (v.rolls-PropertyWord b p i)) ∙ fold-roll-Value Value value_layer _
+
+pub assign_property_is : (e : code_value.Value) (b : Box code_value.Value) (p : ℕ) (d : Box code_value.Value)
+    → e ≡ v.AssignProperty b p d
+    → value_of e ≡ assign_property (value_of b.value) p (value_of d.value)
+assign_property_is e b p d is =
+    ap value_of is ∙ ap value_of (sym (v.rolls-AssignProperty b p d)) ∙ fold-roll-Value Value value_layer _
+
+pub assign_property_word_is : (e : code_value.Value) (a : Box code_value.Value) (p : ℕ) (b c : Box code_value.Value)
+    → e ≡ v.AssignPropertyWord a p b c
+    → value_of e ≡ assign_property_word (value_of a.value) p (value_of b.value) (value_of c.value)
+assign_property_word_is e a p b c is =
+    ap value_of is ∙ ap value_of (sym (v.rolls-AssignPropertyWord a p b c)) ∙ fold-roll-Value Value value_layer _
 
 pub block_is : (t : code_action.Action) (xs : Vec code_action.Action) → t ≡ s.Block xs → action_of t
     ≡ block (actions_of (map action_of xs.items))
-block_is t xs is = rw is (ap action_of (sym (s.rolls-Block xs)) ∙ fold-roll-Action Action action_layer _)
+block_is t xs is = ap action_of is ∙ ap action_of (sym (s.rolls-Block xs)) ∙ fold-roll-Action Action action_layer _
 
 pub text_is : (t : code_action.Action) (text : _) → t ≡ s.Text text → action_of t ≡ text_alone text.now
-text_is t text is = rw is (ap action_of (sym (s.rolls-Text text)) ∙ fold-roll-Action Action action_layer _)
+text_is t text is = ap action_of is ∙ ap action_of (sym (s.rolls-Text text)) ∙ fold-roll-Action Action action_layer _
 
 pub print_is : (t : code_action.Action) (is : Vec code_printed.Printed) → t ≡ s.Print is → action_of t
     ≡ print (map printed_of is.items)
 print_is t items is =
-    rw is (ap action_of (sym (s.rolls-Print items)) ∙ fold-roll-Action Action action_layer _)
+    ap action_of is ∙ ap action_of (sym (s.rolls-Print items)) ∙ fold-roll-Action Action action_layer _
 
 pub print_return_is : (t : code_action.Action) (is : Vec code_printed.Printed) → t ≡ s.PrintReturn is → action_of t
     ≡ print_return (map printed_of is.items)
 print_return_is t items is =
-    rw is (ap action_of (sym (s.rolls-PrintReturn items)) ∙ fold-roll-Action Action action_layer _)
+    ap action_of is ∙ ap action_of (sym (s.rolls-PrintReturn items)) ∙ fold-roll-Action Action action_layer _
 
 pub if_is : (t : code_action.Action) (e : code_value.Value) (x : Box code_action.Action) → t ≡ s.If e x → action_of t
     ≡ if_then (value_of e) (action_of x.value)
-if_is t e x is = rw is (ap action_of (sym (s.rolls-If e x)) ∙ fold-roll-Action Action action_layer _)
+if_is t e x is = ap action_of is ∙ ap action_of (sym (s.rolls-If e x)) ∙ fold-roll-Action Action action_layer _
 
 pub if_else_is : (t : code_action.Action) (e : code_value.Value) (x y : Box code_action.Action) → t ≡ s.IfElse e x y
     → action_of t ≡ if_else (value_of e) (action_of x.value) (action_of y.value)
 if_else_is t e x y is =
-    rw is (ap action_of (sym (s.rolls-IfElse e x y)) ∙ fold-roll-Action Action action_layer _)
+    ap action_of is ∙ ap action_of (sym (s.rolls-IfElse e x y)) ∙ fold-roll-Action Action action_layer _
 
 pub while_is : (t : code_action.Action) (e : code_value.Value) (x : Box code_action.Action) → t ≡ s.While e x
     → action_of t
     ≡ while_do (value_of e) (action_of x.value)
-while_is t e x is = rw is (ap action_of (sym (s.rolls-While e x)) ∙ fold-roll-Action Action action_layer _)
+while_is t e x is = ap action_of is ∙ ap action_of (sym (s.rolls-While e x)) ∙ fold-roll-Action Action action_layer _
 
 pub do_is : (t : code_action.Action) (x : Box code_action.Action) (e : code_value.Value) → t ≡ s.Do x e → action_of t
     ≡ do_until (action_of x.value) (value_of e)
-do_is t x e is = rw is (ap action_of (sym (s.rolls-Do x e)) ∙ fold-roll-Action Action action_layer _)
+do_is t x e is = ap action_of is ∙ ap action_of (sym (s.rolls-Do x e)) ∙ fold-roll-Action Action action_layer _
 
 pub for_is : (t : code_action.Action) (a b c : Option code_value.Value) (x : Box code_action.Action)
     → t ≡ s.For a b c x
     → action_of t ≡ for_loop (option_map value_of a) (option_map value_of b) (option_map value_of c) (action_of x.value)
-for_is t a b c x is = rw is (ap action_of (sym (s.rolls-For a b c x)) ∙ fold-roll-Action Action action_layer _)
+for_is t a b c x is =
+    ap action_of is ∙ ap action_of (sym (s.rolls-For a b c x)) ∙ fold-roll-Action Action action_layer _
 
 made_switch : (e : code_value.Value) (cases : Vec (Vec Span × Vec code_action.Action))
     (other : Option (Vec code_action.Action))
@@ -143,10 +198,38 @@ switch_is t e cases other is = rw is (made_switch e cases other)
 
 pub return_is : (t : code_action.Action) (e : code_value.Value) → t ≡ s.ReturnValue e
     → action_of t ≡ return_value (value_of e)
-return_is t e is = rw is (ap action_of (sym (s.rolls-ReturnValue e)) ∙ fold-roll-Action Action action_layer _)
+return_is t e is = ap action_of is ∙ ap action_of (sym (s.rolls-ReturnValue e)) ∙ fold-roll-Action Action action_layer _
 
 pub effect_is : (t : code_action.Action) (e : code_value.Value) → t ≡ s.Effect e → action_of t ≡ effect (value_of e)
-effect_is t e is = rw is (ap action_of (sym (s.rolls-Effect e)) ∙ fold-roll-Action Action action_layer _)
+effect_is t e is = ap action_of is ∙ ap action_of (sym (s.rolls-Effect e)) ∙ fold-roll-Action Action action_layer _
+
+pub give_is : (t : code_action.Action) (e : code_value.Value) (changes : _) → t ≡ s.Give e changes
+    → action_of t ≡ give_to (value_of e) changes.items
+give_is t e changes is =
+    ap action_of is ∙ ap action_of (sym (s.rolls-Give e changes)) ∙ fold-roll-Action Action action_layer _
+
+pub move_is : (t : code_action.Action) (e d : code_value.Value) → t ≡ s.Move e d
+    → action_of t ≡ move_to (value_of e) (value_of d)
+move_is t e d is = ap action_of is ∙ ap action_of (sym (s.rolls-Move e d)) ∙ fold-roll-Action Action action_layer _
+
+pub remove_is : (t : code_action.Action) (e : code_value.Value) → t ≡ s.Remove e
+    → action_of t ≡ remove_from (value_of e)
+remove_is t e is = ap action_of is ∙ ap action_of (sym (s.rolls-Remove e)) ∙ fold-roll-Action Action action_layer _
+
+pub each_is : (t : code_action.Action) (x : Variable) (a : Box code_action.Action) → t ≡ s.EachObject x a
+    → action_of t ≡ each_object x (action_of a.value)
+each_is t x a is =
+    ap action_of is ∙ ap action_of (sym (s.rolls-EachObject x a)) ∙ fold-roll-Action Action action_layer _
+
+pub each_where_is : (t : code_action.Action) (x : Variable) (e : code_value.Value) (a : Box code_action.Action)
+    → t ≡ s.EachWhere x e a → action_of t ≡ each_where x (value_of e) (action_of a.value)
+each_where_is t x e a is =
+    ap action_of is ∙ ap action_of (sym (s.rolls-EachWhere x e a)) ∙ fold-roll-Action Action action_layer _
+
+pub each_in_is : (t : code_action.Action) (x : Variable) (e : code_value.Value) (a : Box code_action.Action)
+    → t ≡ s.EachIn x e a → action_of t ≡ each_in x (value_of e) (action_of a.value)
+each_in_is t x e a is =
+    ap action_of is ∙ ap action_of (sym (s.rolls-EachIn x e a)) ∙ fold-roll-Action Action action_layer _
 
 pub few_counted : (xs : List code_value.Value) → count_of (values_of (map value_of xs)) ≡ length xs
 few_counted [] = refl

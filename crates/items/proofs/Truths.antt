@@ -14,7 +14,7 @@ use Rattle.meaning.specs.Meaning.{truth, is_true, equated, compared, evaluate, e
 use Rattle.items.specs.Items.{Item, number, Destination, push, into, nowhere, agrees, truth_items}
 use Rattle.items.specs.Items as items
 use Rattle.items.proofs.Acts.{came}
-use Rattle.items.proofs.Running.{Running, code, calls}
+use Rattle.items.proofs.Running.{Running, code, setting}
 use Rattle.items.proofs.Standing.{HasAt, split, long}
 use Rattle.items.proofs.Conditions.{truth_truth}
 use Rattle.items.proofs.Leads.{Leads, given, then_to, stands, lands, goes_by, at_place, begins_at}
@@ -85,46 +85,46 @@ module _ (now : Running) where
 
   -- a condition is 1 or 0
   abbrev IsTruth : Value → Type 0
-  IsTruth v = (s last : Situation) (x : ℕ) → evaluate (calls now) v s ≡ to x last → truth (is_true x) ≡ x
+  IsTruth v = (s last : Situation) (x : ℕ) → evaluate (setting now) v s ≡ to x last → truth (is_true x) ≡ x
 
   pub not_condition : (v : Value) → IsTruth (source.prefixed prefixes.Not v)
-  not_condition v s last x e = let c = came (evaluate (calls now) v s) _ x last e in let is : truth (c.first == 0)
+  not_condition v s last x e = let c = came (evaluate (setting now) v s) _ x last e in let is : truth (c.first == 0)
       ≡ x = cc in truth_truth (c.first == 0) x is
 
   pub compare_condition : (op : Comparison) (a b : Value) → IsTruth (source.compare op a b)
   compare_condition op a b s last x e =
-      let c = came (evaluate (calls now) a s) _ x last e in
-      let k = came (evaluate (calls now) b c.between) (λ y. give (truth (compared op c.first y))) x last c.then_is in
+      let c = came (evaluate (setting now) a s) _ x last e in
+      let k = came (evaluate (setting now) b c.between) (λ y. give (truth (compared op c.first y))) x last c.then_is in
       let is : truth (compared op c.first k.first) ≡ x = cc in truth_truth (compared op c.first k.first) x is
 
   pub equal_condition : (op : Equality) (a : Value) (bs : Values) → IsTruth (source.equal op a bs)
   equal_condition op a bs s last x e =
-      let c = came (evaluate (calls now) a s) _ x last e in
-      let k = came (evaluate_all (calls now) bs c.between)
+      let c = came (evaluate (setting now) a s) _ x last e in
+      let k = came (evaluate_all (setting now) bs c.between)
       (λ ys. give (truth (equated op c.first ys))) x last c.then_is in
       let is : truth (equated op c.first k.first) ≡ x = cc in truth_truth (equated op c.first k.first) x is
 
   second_condition : (b : Value) (s last : Situation) (x : ℕ)
-      → (evaluate (calls now) b >>= λ y. give (truth (is_true y))) s ≡ to x last → truth (is_true x) ≡ x
-  second_condition b s last x e = let c = came (evaluate (calls now) b s) (λ y. give (truth (is_true y))) x last e in
+      → (evaluate (setting now) b >>= λ y. give (truth (is_true y))) s ≡ to x last → truth (is_true x) ≡ x
+  second_condition b s last x e = let c = came (evaluate (setting now) b s) (λ y. give (truth (is_true y))) x last e in
       let is : truth (is_true c.first) ≡ x = cc in truth_truth (is_true c.first) x is
 
   pub and_condition : (a b : Value) → IsTruth (source.binary binaries.AndAlso a b)
-  and_condition a b s last x e = let c = came (evaluate (calls now) a s) _ x last e in
+  and_condition a b s last x e = let c = came (evaluate (setting now) a s) _ x last e in
       go (is_true c.first) c.between c.then_is
     where
       go : (t : Bool) (s1 : Situation)
-          → (if t then (evaluate (calls now) b >>= λ y. give (truth (is_true y))) else give 0) s1
+          → (if t then (evaluate (setting now) b >>= λ y. give (truth (is_true y))) else give 0) s1
           ≡ to x last → truth (is_true x) ≡ x
       go true s1 e = second_condition b s1 last x e
       go false s1 e = let is : 0 ≡ x = cc in truth_truth false x is
 
   pub or_condition : (a b : Value) → IsTruth (source.binary binaries.OrElse a b)
-  or_condition a b s last x e = let c = came (evaluate (calls now) a s) _ x last e in
+  or_condition a b s last x e = let c = came (evaluate (setting now) a s) _ x last e in
       go (is_true c.first) c.between c.then_is
     where
       go : (t : Bool) (s1 : Situation)
-          → (if t then give 1 else (evaluate (calls now) b >>= λ y. give (truth (is_true y)))) s1
+          → (if t then give 1 else (evaluate (setting now) b >>= λ y. give (truth (is_true y)))) s1
           ≡ to x last → truth (is_true x) ≡ x
       go true s1 e = let is : 1 ≡ x = cc in truth_truth true x is
       go false s1 e = second_condition b s1 last x e
@@ -132,7 +132,7 @@ module _ (now : Running) where
   -- the items of a branch by this value do so
   abbrev pub Branches : Value → (ℕ → Bool → ℕ → List Item) → Type 0
   Branches v f = (s : Situation) (n pc t q : ℕ) (words : List ℕ) (when : Bool) → HasAt (code now) pc (f pc when t) q
-      → q ≤ t → length words + need_of v ≤ 48 → Leads now s n (stands now pc words s) (evaluate (calls now) v s)
+      → q ≤ t → length words + need_of v ≤ 48 → Leads now s n (stands now pc words s) (evaluate (setting now) v s)
       (goes_by now when t q words)
 
   -- a condition, from what branches by it
@@ -140,8 +140,8 @@ module _ (now : Running) where
       → IsTruth v → Branches v f → 1 ≤ need_of v
       → (s : Situation) (n pc q : ℕ) (words : List ℕ) (dest : Destination)
       → HasAt (code now) pc (truth_items pc count dest (λ t. f pc true t)) q → length words + need_of v ≤ 48
-      → Leads now s n (stands now pc words s) (evaluate (calls now) v s) (lands now dest q words)
+      → Leads now s n (stands now pc words s) (evaluate (setting now) v s) (lands now dest q words)
   condition v count f len is hb some s n pc q words dest has le =
-      truth_does (evaluate (calls now) v s) count dest (λ t. f pc true t) pc q words (len pc) has
+      truth_does (evaluate (setting now) v s) count dest (λ t. f pc true t) pc q words (len pc) has
       (omega (arith, le, some)) (λ x last e. is s last x e)
       (λ t e h before. hb s n pc t e words true h before le)

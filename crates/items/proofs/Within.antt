@@ -1,24 +1,30 @@
 -- What the items of a routine name is there.
 use Rattle.std.proofs.Common.{◌≡◌, ℕ, ◌+◌, ◌<◌, List, [], ◌∷◌, length, Option, Some, None, Bool, true}
 use Rattle.std.proofs.Common.{false, refl, arith, length-append}
-use Rattle.std.specs.Prelude.{◌==◌}
+use Rattle.std.specs.Prelude.{◌==◌, ◌++◌}
 use Rattle.std.specs.List.{All}
 use Rattle.std.proofs.lemmas.List.Elements.{All-head, All-tail}
-use Rattle.meaning.specs.Resolved.{Value, none, Printed, Action, Actions, stop, next, CasesOf}
+use Rattle.expressions.specs.declared.tree.Relative.{Relative}
+use Rattle.expressions.specs.declared.tree.Relative.TheVariants as relatives
+use Rattle.meaning.specs.declared.resolved.Variable.{Variable}
+use Rattle.meaning.specs.Resolved.{Value, none, more, Printed, Action, Actions, stop, next, CasesOf}
 use Rattle.meaning.specs.Resolved as source
-use Rattle.meaning.specs.Accepted.{IsValue, IsPart, IsPrinted, IsAction, AreActions, AreCases}
+use Rattle.meaning.specs.Accepted.{IsVariable, IsValue, IsPart, IsPrinted, IsAction, AreActions, AreCases}
 use Rattle.items.specs.Items.{nowhere, alone, operand_count, branch_count, branch_items, printed_count, prints_count}
 use Rattle.items.specs.Items.{action_count, actions_count, alone_items, printed_items, prints_items, return_true}
 use Rattle.items.specs.Items.{Exits, exits_to, action_items, actions_items, routine_items}
 use Rattle.items.specs.Items.{once_count, once_items, test_count, test_items, Test, less, greater, same, Group, numbers}
 use Rattle.items.specs.Items.{range, groups_of, group_count, group_items, last_items, tests_count, tests_items}
 use Rattle.items.specs.Items.{over_count, over_items, cases_count, cases_items}
+use Rattle.items.specs.Items.{Item, Operand, pushed, variable, each_items, children_items, relative_items}
 use Rattle.items.specs.Items as items
-use Rattle.items.specs.Laws.{IsTested, IsItem, ItemsAreWithin}
+use Rattle.items.specs.Laws.{IsTested, IsItem, IsOperand, ItemsAreWithin}
 use Rattle.items.proofs.StatementCounts.{actions_length}
 use Rattle.items.proofs.Fine.{Bounds, Fine, either_fine, first, joined, last, last_two, nothing, operand_fine}
+use Rattle.items.proofs.Fine.{true_fine}
 use Rattle.items.proofs.Groups.{IsGroup, are_groups}
-use Rattle.items.proofs.FineValues.{operand_pushed, value_fine}
+use Rattle.items.proofs.FineValues.{operand_pushed, two_operands}
+use Rattle.items.proofs.EachFine.{value_fine}
 
 module _ (here : Bounds) where
   open here use {p, locals, count}
@@ -34,6 +40,8 @@ module _ (here : Bounds) where
       last here (alone_items at v) _ (alone_fine v h.0 at (omega (arith, lt)))
       (operand_fine here v none h.0)
   printed_fine (source.number_of v) h at lt = last here (alone_items at v) _ (alone_fine v h.0 at (omega (arith, lt)))
+      (operand_fine here v none h.0)
+  printed_fine (source.name_of v) h at lt = last here (alone_items at v) _ (alone_fine v h.0 at (omega (arith, lt)))
       (operand_fine here v none h.0)
 
   prints_fine : (is : List Printed) → All (IsPrinted p locals) is → (at : ℕ) → at + prints_count is < count
@@ -97,6 +105,38 @@ module _ (here : Bounds) where
   abbrev AreThere : Exits → Type 0
   AreThere x = (x.breaks < count) × (x.continues < count)
 
+  -- a loop over objects, whose body has so many items
+
+  each_fine : (at : ℕ) (y : Variable) (body : ℕ) (run : Exits → ℕ → List Item) → IsVariable p locals y
+      → at + (1 + body + 2) < count → ((inside : Exits) → AreThere inside → Fine here (run inside (at + 1)))
+      → Fine here (each_items at y body run)
+  each_fine at y body run hy lt hr =
+      let inside = exits_to (at + 1 + body) (at + 1 + body + 2) in
+      first here _ _ (hy, omega (arith, lt))
+      (last_two here (run inside (at + 1)) _ _ (hr inside (omega (arith, lt), omega (arith, lt)))
+      (hy, omega (arith, lt)) (omega (arith, lt)))
+
+  relative_fine : (r : Relative) (o : Operand) (y : Variable) (end : ℕ) → IsOperand p locals o
+      → IsVariable p locals y → end < count → Fine here (relative_items r o y end)
+  relative_fine r o y end ho hy le =
+      first here _ _ (ho, tt) (first here _ _ hy
+      (first here _ _ (true_fine here pushed false end tt le) (nothing here)))
+
+  children_fine : (at : ℕ) (y : Variable) (o : Operand) (body : ℕ) (run : Exits → ℕ → List Item)
+      → IsVariable p locals y → IsOperand p locals o → at + (3 + body + 4) < count
+      → ((inside : Exits) → AreThere inside → Fine here (run inside (at + 3)))
+      → Fine here (children_items at y o body run)
+  children_fine at y o body run hy ho lt hr =
+      let end = at + 3 + body + 4 in
+      let inside = exits_to (at + 3 + body) end in
+      let sibling = relative_items relatives.Sibling (variable y) y end in
+      joined here (relative_items relatives.Child o y end) _
+      (relative_fine relatives.Child o y end ho hy (omega (arith, lt)))
+      (joined here (run inside (at + 3)) (sibling ++ items.back (at + 3) ∷ [])
+      (hr inside (omega (arith, lt), omega (arith, lt)))
+      (last here sibling _ (relative_fine relatives.Sibling (variable y) y end hy hy (omega (arith, lt)))
+      (omega (arith, lt))))
+
   mutual
     action_fine : (x : Exits) (a : Action) → AreThere x → IsAction p locals a → (at : ℕ) → at + action_count a < count
         → Fine here (action_items x at a)
@@ -156,6 +196,30 @@ module _ (here : Bounds) where
     action_fine x source.break_out there h at lt = first here _ _ there.0 (nothing here)
     action_fine x source.continue_on there h at lt = first here _ _ there.1 (nothing here)
     action_fine x (source.read_line t q) there h at lt = first here _ _ h (nothing here)
+    action_fine x (source.give_to v changes) there h at lt =
+        last here (alone_items at v) _ (alone_fine v h.0.0 at (omega (arith, lt))) (operand_fine here v none h.0.0, h.1)
+    action_fine x (source.move_to v w) there h at lt =
+        two_operands here v w (value_fine here v h.0) (value_fine here w h.1) at _ (omega (arith, lt))
+        (first here _ _ (operand_fine here v (more w none) h.0, operand_fine here w none h.1) (nothing here))
+    action_fine x (source.remove_from v) there h at lt =
+        last here (alone_items at v) _ (alone_fine v h.0 at (omega (arith, lt))) (operand_fine here v none h.0)
+    action_fine x (source.each_object y a) there h at lt =
+        each_fine at y (action_count a) (λ inside place. action_items inside place a) h.0 lt
+        (λ inside l. action_fine inside a l h.1 (at + 1) (omega (arith, lt)))
+    action_fine x (source.each_where y v a) there h at lt =
+        let n = branch_count v false in
+        each_fine at y (n + action_count a) (λ inside place.
+        branch_items place v false (place + n + action_count a) ++ action_items inside (place + n) a) h.0 lt
+        (λ inside l.
+        joined here (branch_items (at + 1) v false (at + 1 + n + action_count a)) _
+        ((value_fine here v h.1.0).branch (at + 1) false _ (omega (arith, lt)) (omega (arith, lt)))
+        (action_fine inside a l h.2 (at + 1 + n) (omega (arith, lt))))
+    action_fine x (source.each_in y v a) there h at lt =
+        let place = at + operand_count v (alone v) in
+        joined here (alone_items at v) _ (alone_fine v h.1.0 at (omega (arith, lt)))
+        (children_fine place y (alone v) (action_count a) (λ inside place. action_items inside place a) h.0
+        (operand_fine here v none h.1.0) (omega (arith, lt))
+        (λ inside l. action_fine inside a l h.2 (place + 3) (omega (arith, lt))))
     action_fine x (source.return_value v) there h at lt =
         last here (alone_items at v) _ (alone_fine v h.0 at (omega (arith, lt)))
         (operand_fine here v none h.0)

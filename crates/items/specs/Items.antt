@@ -6,10 +6,14 @@ use Rattle.expressions.specs.declared.tree.Binary.{Binary}
 use Rattle.expressions.specs.declared.tree.Binary.TheVariants as binaries
 use Rattle.expressions.specs.declared.tree.Comparison.{Comparison}
 use Rattle.expressions.specs.declared.tree.Comparison.TheVariants as comparisons
+use Rattle.expressions.specs.declared.tree.Containment.{Containment}
+use Rattle.expressions.specs.declared.tree.Containment.TheVariants as containments
 use Rattle.expressions.specs.declared.tree.Equality.{Equality}
 use Rattle.expressions.specs.declared.tree.Equality.TheVariants as equalities
 use Rattle.expressions.specs.declared.tree.Prefix.{Prefix}
 use Rattle.expressions.specs.declared.tree.Prefix.TheVariants as prefixes
+use Rattle.expressions.specs.declared.tree.Relative.{Relative}
+use Rattle.expressions.specs.declared.tree.Relative.TheVariants as relatives
 use Rattle.expressions.specs.declared.tree.Step.{Step}
 use Rattle.expressions.specs.declared.tree.Width.{Width}
 use Rattle.meaning.specs.declared.resolved.Variable.{Variable}
@@ -57,6 +61,21 @@ pub data Item : Type 0 where
   assign_entry : Width → ℕ → Operand → Operand → Destination → Item
   -- the topmost word goes to a variable, and stays
   keep : Variable → Item
+  -- of an object: its parent, its first child or its sibling
+  relative : Relative → Operand → Destination → Item
+  -- the word of the property of this number, and how many bytes it has
+  property : Operand → ℕ → Destination → Item
+  property_size : Operand → ℕ → Destination → Item
+  -- a word of the property, at an index: object and index
+  property_word : ℕ → Operand → Operand → Destination → Item
+  -- a word is assigned to the property, and goes on: object and word; and to a word of it: object, index and word
+  assign_property : ℕ → Operand → Operand → Destination → Item
+  assign_property_word : ℕ → Operand → Operand → Operand → Destination → Item
+  -- an object gets attributes, or is without them, in order
+  give : Operand → List (Bool × ℕ) → Item
+  -- the first object goes into the second
+  move_object : Operand → Operand → Item
+  remove_object : Operand → Item
   -- `==` of more than three: from left and right to left and flag; from left, flag and right to left and flag; and to
   -- the flag alone
   first_equal : Item
@@ -66,12 +85,23 @@ pub data Item : Type 0 where
   print_text : List ℕ → Item
   print_character : Operand → Item
   print_number : Operand → Item
+  -- the short name of an object
+  print_name : Operand → Item
   new_line : Item
   -- the next line goes to the arrays of these numbers
   read_line : ℕ → ℕ → Item
   quit : Item
   -- forward, where the test holds, or where it does not
   branch : Test → List Operand → Bool → ℕ → Item
+  -- forward, where the parent of an object is another word, or where it is not
+  is_in : Operand → Operand → Bool → ℕ → Item
+  -- forward, where an object has the attribute of this number, or provides the property, or where it does not
+  has : Operand → ℕ → Bool → ℕ → Item
+  provides : Operand → ℕ → Bool → ℕ → Item
+  -- object 1 goes to a variable, or forward, where there is no object
+  first_object : Variable → ℕ → Item
+  -- a variable gets the object after the one that it has, or forward, where it has none or the last
+  next_object : Variable → ℕ → Item
   -- the word of a `switch`, which its cases test
   choose : Operand → Item
   -- forward, where the test holds of that word and these numbers, or where it does not
@@ -112,6 +142,15 @@ abbrev mutual
   changes x (source.assign y v) = is_same x y || changes x v
   changes x (source.entry width a i) = changes x i
   changes x (source.assign_entry width a i v) = changes x i || changes x v
+  changes x (source.relative r v) = changes x v
+  changes x (source.contained op a b) = changes x a || changes x b
+  changes x (source.has positive v a) = changes x v
+  changes x (source.provides v p) = changes x v
+  changes x (source.property v p) = changes x v
+  changes x (source.property_size v p) = changes x v
+  changes x (source.property_word v p i) = changes x v || changes x i
+  changes x (source.assign_property v p w) = changes x v || changes x w
+  changes x (source.assign_property_word v p i w) = changes x v || (changes x i || changes x w)
 
   -- evaluation of one of several may
   pub change : Variable → Values → Bool
@@ -137,6 +176,10 @@ alone v = operand_of v none
 -- the operand for the left one of two values
 abbrev pub left_of : Value → Value → Operand
 left_of a b = operand_of a (more b none)
+
+-- the operand for the first one of three values
+abbrev pub first_of : Value → Value → Value → Operand
+first_of a b c = operand_of a (more b (more c none))
 
 -- the first where an operand is pushed, the second where it stands in place
 abbrev pub if_pushed : {A : Type 0} → Operand → A → A → A
@@ -164,6 +207,11 @@ comparison_when comparisons.GreaterOrEqual when = not when
 abbrev pub equality_when : Equality → Bool → Bool
 equality_when equalities.Equal when = when
 equality_when equalities.NotEqual when = not when
+
+-- whether an object is to stand in another, for `in` or `notin` that is to hold, or is not
+abbrev pub containment_when : Containment → Bool → Bool
+containment_when containments.In when = when
+containment_when containments.NotIn when = not when
 
 -- a branch where a word is true, or where it is not
 abbrev pub branch_true : Operand → Bool → ℕ → Item
@@ -231,6 +279,21 @@ abbrev mutual
   value_count (source.entry width a i) d = if_pushed (alone i) (value_count i push) 0 + 1
   value_count (source.assign_entry width a i v) d =
       if_pushed (left_of i v) (value_count i push) 0 + if_pushed (alone v) (value_count v push) 0 + 1
+  value_count (source.relative r v) d = if_pushed (alone v) (value_count v push) 0 + 1
+  value_count (source.contained op a b) d =
+      if_pushed (left_of a b) (value_count a push) 0 + if_pushed (alone b) (value_count b push) 0 + 1
+      + truth_count d
+  value_count (source.has positive v a) d = if_pushed (alone v) (value_count v push) 0 + 1 + truth_count d
+  value_count (source.provides v p) d = if_pushed (alone v) (value_count v push) 0 + 1 + truth_count d
+  value_count (source.property v p) d = if_pushed (alone v) (value_count v push) 0 + 1
+  value_count (source.property_size v p) d = if_pushed (alone v) (value_count v push) 0 + 1
+  value_count (source.property_word v p i) d =
+      if_pushed (left_of v i) (value_count v push) 0 + if_pushed (alone i) (value_count i push) 0 + 1
+  value_count (source.assign_property v p w) d =
+      if_pushed (left_of v w) (value_count v push) 0 + if_pushed (alone w) (value_count w push) 0 + 1
+  value_count (source.assign_property_word v p i w) d =
+      if_pushed (first_of v i w) (value_count v push) 0 + if_pushed (left_of i w) (value_count i push) 0
+      + if_pushed (alone w) (value_count w push) 0 + 1
 
   -- what pushes the operands of a list
   pub operands_count : Values → ℕ
@@ -259,6 +322,20 @@ abbrev mutual
   branch_count (source.entry width a i) when = if_pushed (alone i) (value_count i push) 0 + 1 + 1
   branch_count (source.assign_entry width a i v) when =
       if_pushed (left_of i v) (value_count i push) 0 + if_pushed (alone v) (value_count v push) 0 + 1 + 1
+  branch_count (source.relative r v) when = if_pushed (alone v) (value_count v push) 0 + 1 + 1
+  branch_count (source.contained op a b) when =
+      if_pushed (left_of a b) (value_count a push) 0 + if_pushed (alone b) (value_count b push) 0 + 1
+  branch_count (source.has positive v a) when = if_pushed (alone v) (value_count v push) 0 + 1
+  branch_count (source.provides v p) when = if_pushed (alone v) (value_count v push) 0 + 1
+  branch_count (source.property v p) when = if_pushed (alone v) (value_count v push) 0 + 1 + 1
+  branch_count (source.property_size v p) when = if_pushed (alone v) (value_count v push) 0 + 1 + 1
+  branch_count (source.property_word v p i) when =
+      if_pushed (left_of v i) (value_count v push) 0 + if_pushed (alone i) (value_count i push) 0 + 1 + 1
+  branch_count (source.assign_property v p w) when =
+      if_pushed (left_of v w) (value_count v push) 0 + if_pushed (alone w) (value_count w push) 0 + 1 + 1
+  branch_count (source.assign_property_word v p i w) when =
+      if_pushed (first_of v i w) (value_count v push) 0 + if_pushed (left_of i w) (value_count i push) 0
+      + if_pushed (alone w) (value_count w push) 0 + 1 + 1
 
   -- `==` of more than three, where the left side is pushed, and a branch by its flag
   pub many_count : Values → ℕ
@@ -360,6 +437,35 @@ abbrev mutual
       if_pushed (left_of i v) (value_items at i push) []
       ++ (if_pushed (alone v) (value_items (at + operand_count i (left_of i v)) v push) []
       ++ assign_entry width a (left_of i v) (alone v) d ∷ [])
+  value_items at (source.relative r v) d = if_pushed (alone v) (value_items at v push) [] ++ relative r (alone v) d ∷ []
+  value_items at (source.contained op a b) d =
+      truth_items at (operand_count a (left_of a b) + operand_count b (alone b) + 1) d (λ target.
+      if_pushed (left_of a b) (value_items at a push) []
+      ++ (if_pushed (alone b) (value_items (at + operand_count a (left_of a b)) b push) []
+      ++ is_in (left_of a b) (alone b) (containment_when op true) target ∷ []))
+  value_items at (source.has positive v a) d =
+      truth_items at (operand_count v (alone v) + 1) d (λ target.
+      if_pushed (alone v) (value_items at v push) [] ++ has (alone v) a (agrees positive true) target ∷ [])
+  value_items at (source.provides v p) d =
+      truth_items at (operand_count v (alone v) + 1) d (λ target.
+      if_pushed (alone v) (value_items at v push) [] ++ provides (alone v) p true target ∷ [])
+  value_items at (source.property v p) d = if_pushed (alone v) (value_items at v push) [] ++ property (alone v) p d ∷ []
+  value_items at (source.property_size v p) d =
+      if_pushed (alone v) (value_items at v push) [] ++ property_size (alone v) p d ∷ []
+  value_items at (source.property_word v p i) d =
+      if_pushed (left_of v i) (value_items at v push) []
+      ++ (if_pushed (alone i) (value_items (at + operand_count v (left_of v i)) i push) []
+      ++ property_word p (left_of v i) (alone i) d ∷ [])
+  value_items at (source.assign_property v p w) d =
+      if_pushed (left_of v w) (value_items at v push) []
+      ++ (if_pushed (alone w) (value_items (at + operand_count v (left_of v w)) w push) []
+      ++ assign_property p (left_of v w) (alone w) d ∷ [])
+  value_items at (source.assign_property_word v p i w) d =
+      if_pushed (first_of v i w) (value_items at v push) []
+      ++ (if_pushed (left_of i w) (value_items (at + operand_count v (first_of v i w)) i push) []
+      ++ (if_pushed (alone w)
+      (value_items (at + operand_count v (first_of v i w) + operand_count i (left_of i w)) w push) []
+      ++ assign_property_word p (first_of v i w) (left_of i w) (alone w) d ∷ []))
 
   -- what pushes the operands of a list
   pub operands_items : ℕ → Values → List Item
@@ -412,6 +518,37 @@ abbrev mutual
       if_pushed (left_of i v) (value_items at i push) []
       ++ (if_pushed (alone v) (value_items (at + operand_count i (left_of i v)) v push) []
       ++ assign_entry width a (left_of i v) (alone v) push ∷ branch_true pushed when target ∷ [])
+  branch_items at (source.relative r v) when target =
+      if_pushed (alone v) (value_items at v push) []
+      ++ relative r (alone v) push ∷ branch_true pushed when target ∷ []
+  branch_items at (source.contained op a b) when target =
+      if_pushed (left_of a b) (value_items at a push) []
+      ++ (if_pushed (alone b) (value_items (at + operand_count a (left_of a b)) b push) []
+      ++ is_in (left_of a b) (alone b) (containment_when op when) target ∷ [])
+  branch_items at (source.has positive v a) when target =
+      if_pushed (alone v) (value_items at v push) [] ++ has (alone v) a (agrees positive when) target ∷ []
+  branch_items at (source.provides v p) when target =
+      if_pushed (alone v) (value_items at v push) [] ++ provides (alone v) p when target ∷ []
+  branch_items at (source.property v p) when target =
+      if_pushed (alone v) (value_items at v push) []
+      ++ property (alone v) p push ∷ branch_true pushed when target ∷ []
+  branch_items at (source.property_size v p) when target =
+      if_pushed (alone v) (value_items at v push) []
+      ++ property_size (alone v) p push ∷ branch_true pushed when target ∷ []
+  branch_items at (source.property_word v p i) when target =
+      if_pushed (left_of v i) (value_items at v push) []
+      ++ (if_pushed (alone i) (value_items (at + operand_count v (left_of v i)) i push) []
+      ++ property_word p (left_of v i) (alone i) push ∷ branch_true pushed when target ∷ [])
+  branch_items at (source.assign_property v p w) when target =
+      if_pushed (left_of v w) (value_items at v push) []
+      ++ (if_pushed (alone w) (value_items (at + operand_count v (left_of v w)) w push) []
+      ++ assign_property p (left_of v w) (alone w) push ∷ branch_true pushed when target ∷ [])
+  branch_items at (source.assign_property_word v p i w) when target =
+      if_pushed (first_of v i w) (value_items at v push) []
+      ++ (if_pushed (left_of i w) (value_items (at + operand_count v (first_of v i w)) i push) []
+      ++ (if_pushed (alone w)
+      (value_items (at + operand_count v (first_of v i w) + operand_count i (left_of i w)) w push) []
+      ++ assign_property_word p (first_of v i w) (left_of i w) (alone w) push ∷ branch_true pushed when target ∷ []))
 
   -- `==` of more than three, where the left side is pushed
   pub many_items : ℕ → Equality → Values → Bool → ℕ → List Item
@@ -433,6 +570,7 @@ abbrev pub printed_count : Printed → ℕ
 printed_count (source.text bytes) = 1
 printed_count (source.character_of v) = operand_count v (alone v) + 1
 printed_count (source.number_of v) = operand_count v (alone v) + 1
+printed_count (source.name_of v) = operand_count v (alone v) + 1
 
 -- all that a statement prints
 abbrev pub prints_count : List Printed → ℕ
@@ -469,7 +607,7 @@ pub data Group : Type 0 where
 -- a number before groups: a group of numbers takes it, where it has fewer than three
 abbrev pub with_number : ℕ → List Group → List Group
 with_number n (numbers ns ∷ groups) =
-    if nat_lt (length ns) 3 then numbers (ns ++ n ∷ []) ∷ groups else numbers (n ∷ []) ∷ numbers ns ∷ groups
+    if nat_lt (length ns) 3 then numbers (n ∷ ns) ∷ groups else numbers (n ∷ []) ∷ numbers ns ∷ groups
 with_number n groups = numbers (n ∷ []) ∷ groups
 
 abbrev pub groups_of : List RangeOf → List Group
@@ -531,6 +669,12 @@ abbrev mutual
   action_count (source.switch_on v cs) = operand_count v (alone v) + 1 + cases_count cs
   action_count source.break_out = 1
   action_count (source.read_line t p) = 1
+  action_count (source.give_to v changes) = operand_count v (alone v) + 1
+  action_count (source.move_to v w) = operand_count v (left_of v w) + operand_count w (alone w) + 1
+  action_count (source.remove_from v) = operand_count v (alone v) + 1
+  action_count (source.each_object x a) = 1 + action_count a + 2
+  action_count (source.each_where x v a) = 1 + (branch_count v false + action_count a) + 2
+  action_count (source.each_in x v a) = operand_count v (alone v) + 3 + action_count a + 4
   action_count source.continue_on = 1
   action_count (source.return_value v) = operand_count v (alone v) + 1
   action_count source.quit = 1
@@ -557,6 +701,7 @@ abbrev pub printed_items : ℕ → Printed → List Item
 printed_items at (source.text bytes) = print_text bytes ∷ []
 printed_items at (source.character_of v) = alone_items at v ++ print_character (alone v) ∷ []
 printed_items at (source.number_of v) = alone_items at v ++ print_number (alone v) ∷ []
+printed_items at (source.name_of v) = alone_items at v ++ print_name (alone v) ∷ []
 
 -- all that a statement prints, from left to right
 abbrev pub prints_items : ℕ → List Printed → List Item
@@ -590,6 +735,25 @@ case_items at groups body later end run rest =
     tests_items at groups (at + tests_count groups) (at + tests_count groups + body + over_count later)
     ++ (run (at + tests_count groups)
     ++ (over_items later end ++ rest (at + tests_count groups + body + over_count later)))
+
+-- `objectloop` over all objects: object 1, the body, the object after it, and back to the body, which has so many items
+abbrev pub each_items : ℕ → Variable → ℕ → (Exits → ℕ → List Item) → List Item
+each_items at x body run =
+    first_object x (at + 1 + body + 2)
+    ∷ run (exits_to (at + 1 + body) (at + 1 + body + 2)) (at + 1)
+    ++ next_object x (at + 1 + body + 2) ∷ back (at + 1) ∷ []
+
+-- a variable gets a relative of an object, or forward, where there is none
+abbrev pub relative_items : Relative → Operand → Variable → ℕ → List Item
+relative_items r o x end = relative r o push ∷ keep x ∷ branch_true pushed false end ∷ []
+
+-- `objectloop` over children, from the first one on: the body, the sibling of the object that the variable then has, and
+-- back to the body, which has so many items
+abbrev pub children_items : ℕ → Variable → Operand → ℕ → (Exits → ℕ → List Item) → List Item
+children_items at x o body run =
+    relative_items relatives.Child o x (at + 3 + body + 4)
+    ++ (run (exits_to (at + 3 + body) (at + 3 + body + 4)) (at + 3)
+    ++ (relative_items relatives.Sibling (variable x) x (at + 3 + body + 4) ++ back (at + 3) ∷ []))
 
 abbrev mutual
   -- a statement
@@ -630,6 +794,22 @@ abbrev mutual
   action_items x at source.break_out = jump x.breaks ∷ []
   action_items x at (source.read_line t p) = read_line t p ∷ []
   action_items x at source.continue_on = jump x.continues ∷ []
+  action_items x at (source.give_to v changes) = alone_items at v ++ give (alone v) changes ∷ []
+  action_items x at (source.move_to v w) =
+      if_pushed (left_of v w) (value_items at v push) []
+      ++ (if_pushed (alone w) (value_items (at + operand_count v (left_of v w)) w push) []
+      ++ move_object (left_of v w) (alone w) ∷ [])
+  action_items x at (source.remove_from v) = alone_items at v ++ remove_object (alone v) ∷ []
+  action_items x at (source.each_object y a) =
+      each_items at y (action_count a) (λ inside place. action_items inside place a)
+  action_items x at (source.each_where y v a) =
+      each_items at y (branch_count v false + action_count a) (λ inside place.
+      branch_items place v false (place + branch_count v false + action_count a)
+      ++ action_items inside (place + branch_count v false) a)
+  action_items x at (source.each_in y v a) =
+      alone_items at v
+      ++ children_items (at + operand_count v (alone v)) y (alone v) (action_count a)
+      (λ inside place. action_items inside place a)
   action_items x at (source.return_value v) = alone_items at v ++ return (alone v) ∷ []
   action_items x at source.quit = quit ∷ []
   action_items x at (source.effect v) = value_items at v nowhere

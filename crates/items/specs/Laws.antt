@@ -1,14 +1,16 @@
 -- The laws of items that functions of `laws` carry as their contracts.
-use Rattle.std.specs.Prelude.{◌≡◌, ◌≢◌, ◌+◌, ◌<◌, ◌≤◌, ℕ, List, length, Some}
+use Rattle.std.specs.Prelude.{◌≡◌, ◌≢◌, ◌+◌, ◌<◌, ◌≤◌, ℕ, Bool, List, length, Some}
 use Rattle.std.specs.List.{All}
 use Rattle.expressions.specs.declared.tree.Binary.TheVariants as binaries
 use Rattle.expressions.specs.declared.tree.Prefix.TheVariants as prefixes
 use Rattle.meaning.specs.Resolved.{RoutineOf, ProgramOf}
-use Rattle.meaning.specs.Accepted.{IsVariable, IsRoutine, IsAccepted}
+use Rattle.meaning.specs.Accepted.{IsVariable, IsRoutine, IsAccepted, IsProperty}
 use Rattle.meaning.specs.Meaning.{routine_at, meaning}
 use Rattle.items.specs.Items.{Operand, variable, Destination, into, Test, is_zero, less, greater, same, Item, move}
 use Rattle.items.specs.Items.{apply_prefix, operate, step, entry, assign_entry, keep, print_character, print_number}
-use Rattle.items.specs.Items.{branch, read_line, choose, case, jump, back, call, return, routine_items}
+use Rattle.items.specs.Items.{branch, read_line, choose, case, jump, back, call, return, routine_items, print_name, relative}
+use Rattle.items.specs.Items.{property, property_size, property_word, assign_property, assign_property_word, give, has}
+use Rattle.items.specs.Items.{move_object, remove_object, is_in, provides, first_object, next_object}
 use Rattle.items.specs.Stack.{from, exec, start}
 
 -- in so many items the run comes to what the program means
@@ -50,11 +52,27 @@ module _ (p : ProgramOf) (locals : ℕ) where
   IsItem count (step op x d) = IsVariable p locals x × IsDestination d
   IsItem count (entry width a o d) = (a < length p.arrays) × IsOperand o × IsDestination d
   IsItem count (assign_entry width a o q d) = (a < length p.arrays) × IsOperand o × IsOperand q × IsDestination d
+  IsItem count (relative r o d) = IsOperand o × IsDestination d
+  IsItem count (property o n d) = IsProperty n × IsOperand o × IsDestination d
+  IsItem count (property_size o n d) = IsProperty n × IsOperand o × IsDestination d
+  IsItem count (property_word n o q d) = IsProperty n × IsOperand o × IsOperand q × IsDestination d
+  IsItem count (assign_property n o q d) = IsProperty n × IsOperand o × IsOperand q × IsDestination d
+  IsItem count (assign_property_word n o i q d) =
+      IsProperty n × IsOperand o × IsOperand i × IsOperand q × IsDestination d
+  IsItem count (give o changes) = IsOperand o × All (λ (c : Bool × ℕ). c.1 < 48) changes
+  IsItem count (move_object o q) = IsOperand o × IsOperand q
+  IsItem count (remove_object o) = IsOperand o
   IsItem count (keep x) = IsVariable p locals x
   IsItem count (print_character o) = IsOperand o
   IsItem count (print_number o) = IsOperand o
+  IsItem count (print_name o) = IsOperand o
   IsItem count (branch test os when target) = All IsOperand os × IsTested test (length os) × (target < count)
   IsItem count (read_line a b) = (a < length p.arrays) × (b < length p.arrays) × (a ≢ b)
+  IsItem count (is_in o q when target) = IsOperand o × IsOperand q × (target < count)
+  IsItem count (has o a when target) = (a < 48) × IsOperand o × (target < count)
+  IsItem count (provides o n when target) = IsProperty n × IsOperand o × (target < count)
+  IsItem count (first_object x target) = IsVariable p locals x × (target < count)
+  IsItem count (next_object x target) = IsVariable p locals x × (target < count)
   IsItem count (choose o) = IsOperand o
   IsItem count (case test ns when target) = IsTested test (1 + length ns) × (1 ≤ length ns) × (target < count)
   IsItem count (jump target) = target < count

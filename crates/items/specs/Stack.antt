@@ -1,16 +1,22 @@
 -- The machine of items: a place in a routine, a stack of words, and the world of the source.
-use Rattle.std.specs.Prelude.{◌||◌, ◌+◌, ◌==◌, ℕ, zero, suc, nat_le, nat_lt, Bool, true, false, if◌then◌else◌, List}
+use Rattle.std.specs.Prelude.{◌||◌, ◌&&◌, ◌+◌, ◌-◌, ◌==◌, ℕ, zero, suc, nat_le, nat_lt, Bool, true, false, if◌then◌else◌, List}
 use Rattle.std.specs.Prelude.{[]}
-use Rattle.std.specs.Prelude.{◌∷◌, length, map, Option, Some, None, slice_get}
+use Rattle.std.specs.Prelude.{◌∷◌, length, map, Option, Some, None, slice_get, slice_index, slice_set, is_some}
 use Rattle.std.specs.List.{list_any}
 use Rattle.zcore.specs.Arithmetic.{signed_less, signed_text}
 use Rattle.zcore.specs.declared.place.Place.TheVariants as places
 use Rattle.zcore.specs.declared.place.Limit.TheVariants as limits
+use Rattle.expressions.specs.declared.tree.Relative.{Relative}
+use Rattle.expressions.specs.declared.tree.Relative.TheVariants as relatives
 use Rattle.expressions.specs.declared.tree.Width.{Width}
 use Rattle.meaning.specs.declared.resolved.Variable.{Variable}
 use Rattle.meaning.specs.Resolved.{ProgramOf}
 use Rattle.meaning.specs.World.{Outcome, World, Situation, Comes, to, over, Part, ended, put, shown, spend, value_in}
-use Rattle.meaning.specs.World.{with_value, give, ◌>>=◌, read_entry, write_entry}
+use Rattle.meaning.specs.World.{with_value, give, ◌>>=◌, read_entry, write_entry, read_variable, write_variable}
+use Rattle.meaning.specs.World.{relative_of, has_attribute, words_provided, test_provided, test_single, test_word}
+use Rattle.meaning.specs.World.{single_word, size_of, write_words, remove_object, move_object}
+use Rattle.meaning.specs.World as world
+use Rattle.meaning.specs.Objects.{object_at}
 use Rattle.meaning.specs.Meaning.{truth, is_true, with_prefix, stepped, put_character, put_line, locals_of}
 use Rattle.meaning.specs.Meaning.{routine_at}
 use Rattle.meaning.specs.Meaning.{first_world}
@@ -88,7 +94,7 @@ after s stack situation =
 abbrev pub gives : Part ℕ → Destination → List ℕ → State → Next
 gives f d stack s = after_part (f s.situation) (λ v situation. delivered d v (after s stack situation))
 
--- a part prints, or reads a line
+-- a part prints, reads a line, or changes objects
 abbrev pub prints : Part (Unit {0}) → List ℕ → State → Next
 prints f stack s = after_part (f s.situation) (λ _ situation. goes (after s stack situation))
 
@@ -158,6 +164,119 @@ go_back target s =
     (λ _ situation. goes (record s { place = target; chosen = None; situation = situation }))
     else stuck
 
+-- Objects: what items do with them, each with its tests first
+
+module _ (p : ProgramOf) where
+  abbrev test_object : ℕ → Part (Unit {0})
+  test_object o = world.test_object (length p.objects) o
+
+  abbrev pub relative_to : Relative → ℕ → Part ℕ
+  relative_to r o = do
+    _ ← test_object o
+    relative_of r o
+
+  -- whether an object stands in another
+  abbrev pub stands_in : ℕ → ℕ → Part Bool
+  stands_in o x = do
+    _ ← test_object o
+    parent ← relative_of relatives.Parent o
+    give (parent == x)
+
+  abbrev pub tested_attribute : ℕ → ℕ → Part Bool
+  tested_attribute o a = do
+    _ ← test_object o
+    has_attribute o a
+
+  -- whether an object provides a property
+  abbrev pub is_provided : ℕ → ℕ → Part Bool
+  is_provided o q = do
+    _ ← test_object o
+    words ← words_provided o q
+    give (is_some words)
+
+  abbrev pub property_of : ℕ → ℕ → Part ℕ
+  property_of o q = do
+    _ ← test_object o
+    words ← words_provided o q
+    single_word (slice_index p.defaults (q - 1)) words
+
+  abbrev pub property_bytes : ℕ → ℕ → Part ℕ
+  property_bytes o q = do
+    _ ← test_object o
+    words ← words_provided o q
+    give (size_of words)
+
+  abbrev pub word_of_property : ℕ → ℕ → ℕ → Part ℕ
+  word_of_property q o i = do
+    _ ← test_object o
+    provided ← words_provided o q
+    words ← test_provided provided
+    _ ← test_word i words
+    give (slice_index words i)
+
+  -- a word is assigned, and stands for the assignment
+  abbrev pub assigned_property : ℕ → ℕ → ℕ → Part ℕ
+  assigned_property q o x = do
+    _ ← test_object o
+    provided ← words_provided o q
+    words ← test_provided provided
+    _ ← test_single words
+    _ ← write_words o q (x ∷ [])
+    give x
+
+  abbrev pub assigned_property_word : ℕ → ℕ → ℕ → ℕ → Part ℕ
+  assigned_property_word q o i x = do
+    _ ← test_object o
+    provided ← words_provided o q
+    words ← test_provided provided
+    _ ← test_word i words
+    _ ← write_words o q (slice_set words i x)
+    give x
+
+  abbrev pub put_name : ℕ → Part (Unit {0})
+  put_name o = do
+    _ ← test_object o
+    put (map shown (object_at p.objects o).name)
+
+  abbrev pub gives_attributes : ℕ → List (Bool × ℕ) → Part (Unit {0})
+  gives_attributes o changes = do
+    _ ← test_object o
+    meaning.give_all o changes
+
+  abbrev pub moves_object : ℕ → ℕ → Part (Unit {0})
+  moves_object o x = do
+    _ ← test_object o
+    _ ← test_object x
+    move_object o x
+
+  abbrev pub removes_object : ℕ → Part (Unit {0})
+  removes_object o = do
+    _ ← test_object o
+    remove_object o
+
+  -- a variable gets object 1; whether there is one
+  abbrev pub begins_objects : Variable → Part Bool
+  begins_objects x =
+      if length p.objects == 0 then give false
+      else (do
+        _ ← write_variable x 1
+        give true)
+
+  -- a variable gets the object after the one that it has; whether there is one
+  abbrev pub steps_object : Variable → Part Bool
+  steps_object x = do
+    o ← read_variable x
+    if nat_le 1 o && nat_lt o (length p.objects) then (do
+      _ ← write_variable x (o + 1)
+      give true)
+        else give false
+
+-- a part tells whether a condition holds; to the target where it does, or where it does not
+abbrev pub decides : Part Bool → Bool → ℕ → List ℕ → State → Next
+decides f when target stack s =
+    after_part (f s.situation) (λ so situation.
+    branch (agrees so when) target stack (record s { situation = situation }))
+
 -- Calls
 
 -- A call of a routine: where 1,000 calls are open the run ends; else it costs a unit.
@@ -211,6 +330,29 @@ act p full (Some (items.entry width a o d)) s =
 act p full (Some (items.assign_entry width a o q d)) s =
     with_operand q s.situation s.stack
     (λ v rest. with_operand o s.situation rest (λ i stack. gives (assigned_entry width a i v) d stack s))
+act p full (Some (items.relative r o d)) s =
+    with_operand o s.situation s.stack (λ v stack. gives (relative_to p r v) d stack s)
+act p full (Some (items.property o q d)) s =
+    with_operand o s.situation s.stack (λ v stack. gives (property_of p v q) d stack s)
+act p full (Some (items.property_size o q d)) s =
+    with_operand o s.situation s.stack (λ v stack. gives (property_bytes p v q) d stack s)
+act p full (Some (items.property_word q a b d)) s =
+    with_operand b s.situation s.stack
+    (λ i rest. with_operand a s.situation rest (λ o stack. gives (word_of_property p q o i) d stack s))
+act p full (Some (items.assign_property q a b d)) s =
+    with_operand b s.situation s.stack
+    (λ v rest. with_operand a s.situation rest (λ o stack. gives (assigned_property p q o v) d stack s))
+act p full (Some (items.assign_property_word q a b c d)) s =
+    with_operand c s.situation s.stack
+    (λ v rest. with_operand b s.situation rest (λ i left. with_operand a s.situation left
+    (λ o stack. gives (assigned_property_word p q o i v) d stack s)))
+act p full (Some (items.give o changes)) s =
+    with_operand o s.situation s.stack (λ v stack. prints (gives_attributes p v changes) stack s)
+act p full (Some (items.move_object a b)) s =
+    with_operand b s.situation s.stack
+    (λ v rest. with_operand a s.situation rest (λ o stack. prints (moves_object p o v) stack s))
+act p full (Some (items.remove_object o)) s =
+    with_operand o s.situation s.stack (λ v stack. prints (removes_object p v) stack s)
 act p full (Some (items.keep x)) s = keep x s.stack s
 act p full (Some items.first_equal) s = first_equal s.stack s
 act p full (Some items.also_equal) s = also_equal s.stack s
@@ -220,11 +362,22 @@ act p full (Some (items.print_character o)) s =
     with_operand o s.situation s.stack (λ v stack. prints (put_character v) stack s)
 act p full (Some (items.print_number o)) s =
     with_operand o s.situation s.stack (λ v stack. prints (put (signed_text v)) stack s)
+act p full (Some (items.print_name o)) s =
+    with_operand o s.situation s.stack (λ v stack. prints (put_name p v) stack s)
 act p full (Some items.new_line) s = prints put_line s.stack s
 act p full (Some (items.read_line t q)) s = prints (read_next (number_in p) full t q) s.stack s
 act p full (Some items.quit) s = ends (ended places.Quit s.situation.world)
 act p full (Some (items.branch test os when target)) s =
     with_operands os s.situation s.stack (λ vs stack. branch (agrees (holds test vs) when) target stack s)
+act p full (Some (items.is_in a b when target)) s =
+    with_operand b s.situation s.stack
+    (λ v rest. with_operand a s.situation rest (λ o stack. decides (stands_in p o v) when target stack s))
+act p full (Some (items.has o a when target)) s =
+    with_operand o s.situation s.stack (λ v stack. decides (tested_attribute p v a) when target stack s)
+act p full (Some (items.provides o q when target)) s =
+    with_operand o s.situation s.stack (λ v stack. decides (is_provided p v q) when target stack s)
+act p full (Some (items.first_object x target)) s = decides (begins_objects p x) false target s.stack s
+act p full (Some (items.next_object x target)) s = decides (steps_object p x) false target s.stack s
 act p full (Some (items.choose o)) s = with_operand o s.situation s.stack (λ v stack. chooses v stack s)
 act p full (Some (items.case test ns when target)) s = test_case s.chosen test ns when target s
 act p full (Some (items.jump target)) s = jump_forward target s

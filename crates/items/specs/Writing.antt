@@ -6,6 +6,7 @@ use Rattle.expressions.specs.declared.tree.Binary.TheVariants as binaries
 use Rattle.meaning.specs.declared.resolved.Variable.{Variable}
 use Rattle.meaning.specs.declared.resolved.Value as code_value
 use Rattle.expressions.specs.declared.tree.Comparison.{Comparison}
+use Rattle.expressions.specs.declared.tree.Containment.{Containment}
 use Rattle.expressions.specs.declared.tree.Equality.{Equality}
 use Rattle.expressions.specs.declared.tree.Width.{Width}
 use Rattle.meaning.specs.declared.resolved.Printed as code_printed
@@ -35,6 +36,11 @@ written_in draft = items_of draft.items.items
 -- an item whose target is told by how many items there are from there on, where there are n in all
 abbrev pub numbered : ℕ → Item → Item
 numbered n (items.branch test os when left) = items.branch test os when (n - left)
+numbered n (items.is_in o q when left) = items.is_in o q when (n - left)
+numbered n (items.has o a when left) = items.has o a when (n - left)
+numbered n (items.provides o p when left) = items.provides o p when (n - left)
+numbered n (items.first_object x left) = items.first_object x (n - left)
+numbered n (items.next_object x left) = items.next_object x (n - left)
 numbered n (items.case test ns when left) = items.case test ns when (n - left)
 numbered n (items.jump left) = items.jump (n - left)
 numbered n (items.back left) = items.back (n - left)
@@ -159,6 +165,26 @@ abbrev pub ReducesAssignedEntry : List Item → List Item → Wanted → Width �
 ReducesAssignedEntry old new wanted width a o v = (i : Value) → o ≡ left_of i v
     → Leaves old new (wanted_items wanted (source.assign_entry width a i v)) (pushes o i)
 
+-- `in` and `notin`: those that push the object
+abbrev pub ReducesContained : List Item → List Item → Wanted → Containment → Operand → Value → Type 0
+ReducesContained old new wanted op o b = (v : Value) → o ≡ left_of v b
+    → Leaves old new (wanted_items wanted (source.contained op v b)) (pushes o v)
+
+-- a word of a property: those that push the object
+abbrev pub ReducesPropertyWord : List Item → List Item → Wanted → ℕ → Operand → Value → Type 0
+ReducesPropertyWord old new wanted p o i = (v : Value) → o ≡ left_of v i
+    → Leaves old new (wanted_items wanted (source.property_word v p i)) (pushes o v)
+
+-- an assignment to a property: those that push the object
+abbrev pub ReducesAssignedProperty : List Item → List Item → Wanted → ℕ → Operand → Value → Type 0
+ReducesAssignedProperty old new wanted p o w = (v : Value) → o ≡ left_of v w
+    → Leaves old new (wanted_items wanted (source.assign_property v p w)) (pushes o v)
+
+-- an assignment to a word of a property: those that push object and index
+abbrev pub ReducesAssignedWord : List Item → List Item → Wanted → ℕ → Operand → Operand → Value → Type 0
+ReducesAssignedWord old new wanted p o q w = (v i : Value) → o ≡ items.first_of v i w → q ≡ left_of i w
+    → Leaves old new (wanted_items wanted (source.assign_property_word v p i w)) (both_push o v q i)
+
 -- `==` and `~=`: those that push the left side and the first right side
 abbrev pub ReducesEquality : List Item → List Item → Wanted → Equality → Operand → Operand → Values → Type 0
 ReducesEquality old new wanted op oa ob bs =
@@ -238,6 +264,27 @@ abbrev pub WritesAssignedEntry : Draft → Draft → Wanted → Width → ℕ �
 WritesAssignedEntry old new wanted width a o v =
     ReducesAssignedEntry (written_in old) (written_in new) wanted width a (as_operand o) (value_of v)
 
+-- `in` or `notin` with the word at its right
+abbrev pub WritesContained : Draft → Draft → Wanted → Containment → code_operand.Operand → code_value.Value → Type 0
+WritesContained old new wanted op o b =
+    ReducesContained (written_in old) (written_in new) wanted op (as_operand o) (value_of b)
+
+-- a word of a property, with the index
+abbrev pub WritesPropertyWord : Draft → Draft → Wanted → ℕ → code_operand.Operand → code_value.Value → Type 0
+WritesPropertyWord old new wanted p o i =
+    ReducesPropertyWord (written_in old) (written_in new) wanted p (as_operand o) (value_of i)
+
+-- an assignment to a property, with the value
+abbrev pub WritesAssignedProperty : Draft → Draft → Wanted → ℕ → code_operand.Operand → code_value.Value → Type 0
+WritesAssignedProperty old new wanted p o w =
+    ReducesAssignedProperty (written_in old) (written_in new) wanted p (as_operand o) (value_of w)
+
+-- an assignment to a word of a property, with the value
+abbrev pub WritesAssignedWord : Draft → Draft → Wanted → ℕ → code_operand.Operand → code_operand.Operand
+    → code_value.Value → Type 0
+WritesAssignedWord old new wanted p o q w =
+    ReducesAssignedWord (written_in old) (written_in new) wanted p (as_operand o) (as_operand q) (value_of w)
+
 -- `==` or `~=` with the right sides behind the first
 abbrev pub WritesEquality : Draft → Draft → Wanted → Equality → code_operand.Operand → code_operand.Operand
     → List code_value.Value → Type 0
@@ -293,6 +340,12 @@ ordered draft = in_order (length (written_in draft)) (written_in draft)
 abbrev pub LeadsBack : Draft → Draft → ℕ → Type 0
 LeadsBack old new number =
     written_in new ≡ slice_set (written_in old) number (items.back (length (written_in old)))
+
+-- the way to the next object and back, whose target is not yet told; where the body before it leads
+abbrev pub PutsNext : Draft → Draft → Variable → code_exits.Exits → Type 0
+PutsNext old new x exits =
+    (written_in new ≡ written_in old ++ items.back 0 ∷ items.next_object x (length (written_in old)) ∷ [])
+    × (exits.breaks ≡ length (written_in old)) × (exits.continues ≡ length (written_in new))
 
 -- the operand for the left side of `==` or `~=`
 abbrev pub left_side : code_value.Value → code_value.Value → List code_value.Value → Operand

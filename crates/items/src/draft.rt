@@ -78,6 +78,21 @@ fn numbered(item: Item<'_>, count: usize) -> Item<'_>
         Item::Case(test, numbers, when, left) => {
             Item::Case(test, numbers, when, count.saturating_sub(left))
         }
+        Item::IsIn(object, parent, when, left) => {
+            Item::IsIn(object, parent, when, count.saturating_sub(left))
+        }
+        Item::Has(object, attribute, when, left) => {
+            Item::Has(object, attribute, when, count.saturating_sub(left))
+        }
+        Item::Provides(object, property, when, left) => {
+            Item::Provides(object, property, when, count.saturating_sub(left))
+        }
+        Item::FirstObject(variable, left) => {
+            Item::FirstObject(variable, count.saturating_sub(left))
+        }
+        Item::NextObject(variable, left) => {
+            Item::NextObject(variable, count.saturating_sub(left))
+        }
         Item::Jump(left) => Item::Jump(count.saturating_sub(left)),
         Item::Back(left) => Item::Back(count.saturating_sub(left)),
         other => other,

@@ -28,7 +28,7 @@ fn add_number(alloc: Global, groups: &mut Vec<Group>, number: u16) -> Result<(),
     match groups.pop() {
         Some(Group::Numbers(mut numbers)) => {
             if numbers.len() < MOST_NUMBERS {
-                numbers.push(number)?;
+                numbers.insert(0, number)?;
                 groups.push(Group::Numbers(numbers))?;
             } else {
                 groups.push(Group::Numbers(numbers))?;

@@ -66,6 +66,21 @@ fn changes(variable: Variable, value: &Value) -> bool
         Value::AssignEntry(_, _, index, value) => {
             changes(variable, index) || changes(variable, value)
         }
+        Value::Relative(_, object) => changes(variable, object),
+        Value::Contained(left, _, right) => changes(variable, left) || changes(variable, right),
+        Value::Has(_, object, _) => changes(variable, object),
+        Value::Provides(object, _) => changes(variable, object),
+        Value::Property(object, _) => changes(variable, object),
+        Value::PropertySize(object, _) => changes(variable, object),
+        Value::PropertyWord(object, _, index) => {
+            changes(variable, object) || changes(variable, index)
+        }
+        Value::AssignProperty(object, _, value) => {
+            changes(variable, object) || changes(variable, value)
+        }
+        Value::AssignPropertyWord(object, _, index, value) => {
+            changes(variable, object) || changes(variable, index) || changes(variable, value)
+        }
     }
 }
 
@@ -95,23 +110,31 @@ fn links_change(variable: Variable, links: &[(Binary, Value)]) -> bool
 }
 
 /// The operand for an expression after which none is evaluated.
-#[tactic(auto, using(crate::proofs::Trees::chain_pushed))]
 pub fn alone(value: &Value) -> Operand
     ensures { as_operand result ≡ items.alone (value_of value.now) }
 {
     match value {
         Value::Number(number) => Operand::Number(*number),
         Value::Read(variable) => Operand::Variable(*variable),
+        Value::Chain(..) => Operand::Pushed,
         Value::Call(..)
         | Value::Prefixed(..)
         | Value::StepBefore(..)
         | Value::StepAfter(..)
-        | Value::Chain(..)
         | Value::Compare(..)
         | Value::Equal(..)
         | Value::Assign(..)
         | Value::Entry(..)
-        | Value::AssignEntry(..) => Operand::Pushed,
+        | Value::AssignEntry(..)
+        | Value::Relative(..)
+        | Value::Contained(..)
+        | Value::Has(..)
+        | Value::Provides(..)
+        | Value::Property(..)
+        | Value::PropertySize(..)
+        | Value::PropertyWord(..)
+        | Value::AssignProperty(..)
+        | Value::AssignPropertyWord(..) => Operand::Pushed,
     }
 }
 
@@ -157,6 +180,24 @@ pub fn left_of(left: &Value, right: &Value) -> Operand
     ensures { as_operand result ≡ items.left_of (value_of left.now) (value_of right.now) }
 {
     before_more(left, right, &[])
+}
+
+/// The operand for the first one of three expressions.
+pub fn first_of(first: &Value, second: &Value, third: &Value) -> Operand
+    ensures { as_operand result ≡ items.first_of (value_of first.now) (value_of second.now) (value_of third.now) }
+{
+    match alone(first) {
+        Operand::Pushed => Operand::Pushed,
+        Operand::Number(number) => Operand::Number(number),
+        Operand::Variable(variable) => {
+            let by_second = changes(variable, second);
+            if by_second || changes(variable, third) {
+                Operand::Pushed
+            } else {
+                Operand::Variable(variable)
+            }
+        }
+    }
 }
 
 /// How many right sides one instruction compares with.

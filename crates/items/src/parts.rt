@@ -12,7 +12,7 @@ ghost use Rattle.items.specs.Writing.{WritesMoved};
 use crate::draft::{Draft, put, put_branch, written};
 use crate::item::{Destination, Item, Operand, Test};
 use crate::wanted::Wanted;
-use expressions::{Binary, Comparison, Equality, Step};
+use expressions::{Binary, Comparison, Containment, Equality, Step};
 use meaning::Variable;
 use std::alloc::AllocError;
 
@@ -200,6 +200,23 @@ pub fn comparison_when(comparison: Comparison, when: bool) -> bool
         Comparison::Less | Comparison::Greater => when,
         Comparison::LessOrEqual | Comparison::GreaterOrEqual => !when,
     }
+}
+
+/// Whether an object is to stand in another.
+pub fn containment_when(containment: Containment, when: bool) -> bool
+    ensures { result ≡ items.containment_when containment when }
+{
+    match containment {
+        Containment::In => when,
+        Containment::NotIn => !when,
+    }
+}
+
+/// Whether an object is to have an attribute.
+pub fn has_when(positive: bool, when: bool) -> bool
+    ensures { result ≡ items.agrees positive when }
+{
+    if positive { when } else { !when }
 }
 
 /// Whether a word is to equal one of the others.

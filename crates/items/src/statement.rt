@@ -1,21 +1,25 @@
 //! Statements as items.
 
-ghost use Rattle.std.specs.Prelude.{[], ◌∷◌, map, OnOk};
+ghost use Rattle.std.specs.Prelude.{◌-◌, [], ◌∷◌, map, IfOk, OnOk};
 ghost use Rattle.std.specs.Option.{option_map};
 ghost use Rattle.meaning.specs.Resolved.{block, if_then, while_do, do_until, for_loop, switch_on, return_value, value_of};
+ghost use Rattle.meaning.specs.Resolved.{give_to, move_to, remove_from, each_object, each_where, each_in};
 ghost use Rattle.meaning.specs.Resolved.{printed_of, action_of, actions_of, case_of, cases_of, other_of};
-ghost use Rattle.items.specs.Items.{new_line, return_true, printed_items};
+ghost use Rattle.items.specs.Code.{as_operand};
+ghost use Rattle.items.specs.Items.{new_line, return_true, printed_items, relative_items};
 ghost use Rattle.items.specs.Writing.{Writes, WritesAction, WritesPrinted, WritesTaken, WritesCases, LeavesCases};
+ghost use Rattle.items.specs.Writing.{PutsNext};
 
 use crate::cases::{put_over, put_tests};
-use crate::draft::{Draft, lead_back, put, written};
+use crate::draft::{Draft, lead_back, put, put_branch, written};
 use crate::exits::Exits;
 use crate::heading::{put_once, put_test};
 use crate::item::{Destination, Item, Operand};
-use crate::operand::alone;
+use crate::operand::{alone, left_of};
 use crate::value::{put_operand, put_value};
 use crate::wanted::Wanted;
-use meaning::{Action, Printed, Span, Value};
+use expressions::Relative;
+use meaning::{Action, Printed, Span, Value, Variable};
 use std::alloc::AllocError;
 
 /// The items of statements, one after another.
@@ -73,6 +77,12 @@ fn put_statement<'a>(
         Action::Continue => put(draft, Item::Jump(exits.continues))?,
         Action::ReturnValue(value) => put_return(draft, value)?,
         Action::Read(text, parse) => put(draft, Item::Read(*text, *parse))?,
+        Action::Give(object, changes) => put_give(draft, object, changes)?,
+        Action::Move(object, into) => put_move(draft, object, into)?,
+        Action::Remove(object) => put_remove(draft, object)?,
+        Action::EachObject(variable, body) => put_each(draft, body, *variable)?,
+        Action::EachWhere(variable, test, body) => put_each_where(draft, body, *variable, test)?,
+        Action::EachIn(variable, parent, body) => put_each_in(draft, body, *variable, parent)?,
         Action::Quit => put(draft, Item::Quit)?,
         Action::Effect(value) => {
             put_value(draft, value, Wanted::Word(Destination::Nowhere))?;
@@ -159,6 +169,75 @@ fn put_for<'a>(
     Ok(())
 }
 
+/// `objectloop` over all objects.
+#[cycle(statements)]
+fn put_each<'a>(
+    draft: &mut Draft<'a>,
+    body: &Action<'a>,
+    variable: Variable,
+) -> Result<(), AllocError>
+    ensures { OnOk result ((x : _) → WritesAction draft.old draft.new x (each_object variable (action_of body.now))) }
+{
+    let end = written(draft);
+    let inside = put_next(draft, variable)?;
+    put_statement(draft, inside, body)?;
+    lead_back(draft, end);
+    put(draft, Item::FirstObject(variable, end))?;
+    Ok(())
+}
+
+/// `objectloop` over the objects for which a condition holds.
+#[cycle(statements)]
+fn put_each_where<'a>(
+    draft: &mut Draft<'a>,
+    body: &Action<'a>,
+    variable: Variable,
+    test: &Value,
+) -> Result<(), AllocError>
+    ensures { OnOk result ((x : _) → WritesAction draft.old draft.new x
+        (each_where variable (value_of test.now) (action_of body.now))) }
+{
+    let end = written(draft);
+    let inside = put_next(draft, variable)?;
+    put_statement(draft, inside, body)?;
+    put_value(draft, test, Wanted::Branch(false, inside.continues))?;
+    lead_back(draft, end);
+    put(draft, Item::FirstObject(variable, end))?;
+    Ok(())
+}
+
+/// `objectloop` over the children of an object.
+#[cycle(statements)]
+fn put_each_in<'a>(
+    draft: &mut Draft<'a>,
+    body: &Action<'a>,
+    variable: Variable,
+    parent: &Value,
+) -> Result<(), AllocError>
+    ensures { OnOk result ((x : _) → WritesAction draft.old draft.new x
+        (each_in variable (value_of parent.now) (action_of body.now))) }
+{
+    let end = written(draft);
+    put(draft, Item::Back(0))?;
+    put_kin(
+        draft,
+        Relative::Sibling,
+        Operand::Variable(variable),
+        variable,
+        end,
+    )?;
+    let inside = Exits {
+        breaks: end,
+        continues: written(draft),
+    };
+    put_statement(draft, inside, body)?;
+    lead_back(draft, end);
+    let operand = alone(parent);
+    put_kin(draft, Relative::Child, operand, variable, end)?;
+    put_operand(draft, parent, operand)?;
+    Ok(())
+}
+
 /// `switch`: its word is chosen, and its cases follow.
 #[cycle(statements)]
 fn put_switch<'a>(
@@ -232,6 +311,69 @@ fn put_case<'a>(
     Ok(())
 }
 
+/// Behind a round of an `objectloop` over all objects: the next object, and back. Where the body leads.
+fn put_next(draft: &mut Draft<'_>, variable: Variable) -> Result<Exits, AllocError>
+    ensures { IfOk result (λ exits. PutsNext draft.old draft.new variable exits) }
+{
+    let end = written(draft);
+    put(draft, Item::Back(0))?;
+    put(draft, Item::NextObject(variable, end))?;
+    Ok(Exits {
+        breaks: end,
+        continues: written(draft),
+    })
+}
+
+/// A variable gets a relative of an object, or the loop ends, of which the end leaves so many items.
+fn put_kin(
+    draft: &mut Draft<'_>,
+    relation: Relative,
+    object: Operand,
+    variable: Variable,
+    end: usize,
+) -> Result<(), AllocError>
+    ensures { OnOk result (Writes draft.old draft.new (λ n at. relative_items relation (as_operand object) variable (n - end))) }
+{
+    put_branch(draft, Operand::Pushed, false, end)?;
+    put(draft, Item::Keep(variable))?;
+    put(draft, Item::Relative(relation, object, Destination::Push))?;
+    Ok(())
+}
+
+/// `give`: the object, and then its attributes.
+fn put_give(
+    draft: &mut Draft<'_>,
+    object: &Value,
+    changes: &[(bool, usize)],
+) -> Result<(), AllocError>
+    ensures { OnOk result ((x : _) → WritesAction draft.old draft.new x (give_to (value_of object.now) changes.now)) }
+{
+    let operand = alone(object);
+    let mut given = Vec::new(draft.alloc);
+    given.extend_from_slice(changes)?;
+    put_after(draft, object, operand, Item::Give(operand, given))?;
+    Ok(())
+}
+
+/// `move`: both objects, and then the first goes into the second.
+fn put_move(draft: &mut Draft<'_>, object: &Value, into: &Value) -> Result<(), AllocError>
+    ensures { OnOk result ((x : _) → WritesAction draft.old draft.new x (move_to (value_of object.now) (value_of into.now))) }
+{
+    let left = left_of(object, into);
+    let right = alone(into);
+    put_after(draft, into, right, Item::MoveObject(left, right))?;
+    put_operand(draft, object, left)?;
+    Ok(())
+}
+
+fn put_remove(draft: &mut Draft<'_>, object: &Value) -> Result<(), AllocError>
+    ensures { OnOk result ((x : _) → WritesAction draft.old draft.new x (remove_from (value_of object.now))) }
+{
+    let operand = alone(object);
+    put_after(draft, object, operand, Item::RemoveObject(operand))?;
+    Ok(())
+}
+
 #[tactic(auto, using(crate::proofs::Actions::return_more))]
 fn put_return(draft: &mut Draft<'_>, value: &Value) -> Result<(), AllocError>
     ensures { OnOk result ((x : _) → WritesAction draft.old draft.new x (return_value (value_of value.now))) }
@@ -278,6 +420,10 @@ fn put_printed<'a>(draft: &mut Draft<'a>, item: &Printed<'a>) -> Result<(), Allo
         Printed::Number(value) => {
             let operand = alone(value);
             put_after(draft, value, operand, Item::PrintNumber(operand))?;
+        }
+        Printed::Name(value) => {
+            let operand = alone(value);
+            put_after(draft, value, operand, Item::PrintName(operand))?;
         }
     }
     Ok(())

@@ -1,20 +1,23 @@
 //! Expressions as items.
 
 ghost use Rattle.std.specs.Prelude.{IfOk, OnOk};
-ghost use Rattle.meaning.specs.Resolved.{call, prefixed, assign, entry, value_of};
+ghost use Rattle.meaning.specs.Resolved.{call, prefixed, assign, entry, relative, has, provides, property, property_size};
+ghost use Rattle.meaning.specs.Resolved.{value_of};
 ghost use Rattle.items.specs.Writing.{values_in, WritesValue, WritesOperand, WritesOperands, WritesFolded};
 ghost use Rattle.items.specs.Writing.{WritesLink, WritesLinks, WritesComparison, WritesEquality, WritesFirst};
-ghost use Rattle.items.specs.Writing.{WritesAssignedEntry};
+ghost use Rattle.items.specs.Writing.{WritesAssignedEntry, WritesContained, WritesPropertyWord, WritesAssignedProperty};
+ghost use Rattle.items.specs.Writing.{WritesAssignedWord};
 
 use crate::draft::{Draft, put, put_branch, written};
 use crate::item::{Destination, Item, Operand, Test};
-use crate::operand::{alone, are_few, before, left_of, push_operands, side_operands};
+use crate::operand::{alone, are_few, before, first_of, left_of, push_operands, side_operands};
 use crate::parts::{
-    comparison_test, comparison_when, equality_when, first_of_and, first_of_or, is_logical,
-    put_number, put_read, put_step_after, put_step_before, put_truth, put_word,
+    comparison_test, comparison_when, containment_when, equality_when, first_of_and, first_of_or,
+    has_when, is_logical, put_number, put_read, put_step_after, put_step_before, put_truth,
+    put_word,
 };
 use crate::wanted::Wanted;
-use expressions::{Binary, Comparison, Equality, Prefix, Width};
+use expressions::{Binary, Comparison, Containment, Equality, Prefix, Relative, Width};
 use meaning::{Value, Variable};
 use std::alloc::AllocError;
 
@@ -55,6 +58,37 @@ pub fn put_value<'a>(draft: &mut Draft<'a>, value: &Value, wanted: Wanted) -> Re
             let left = left_of(index, value);
             put_assigned_entry(draft, value, *width, *array, left, wanted)?;
             put_operand(draft, index, left)?;
+        }
+        Value::Relative(relative, object) => put_relative(draft, object, *relative, wanted)?,
+        Value::Contained(object, containment, parent) => {
+            let left = left_of(object, parent);
+            put_contained(draft, parent, *containment, left, wanted)?;
+            put_operand(draft, object, left)?;
+        }
+        Value::Has(positive, object, attribute) => {
+            put_has(draft, object, *positive, *attribute, wanted)?;
+        }
+        Value::Provides(object, property) => put_provides(draft, object, *property, wanted)?,
+        Value::Property(object, property) => put_property(draft, object, *property, wanted)?,
+        Value::PropertySize(object, property) => {
+            put_property_size(draft, object, *property, wanted)?;
+        }
+        Value::PropertyWord(object, property, index) => {
+            let left = left_of(object, index);
+            put_property_word(draft, index, *property, left, wanted)?;
+            put_operand(draft, object, left)?;
+        }
+        Value::AssignProperty(object, property, value) => {
+            let left = left_of(object, value);
+            put_assigned_property(draft, value, *property, left, wanted)?;
+            put_operand(draft, object, left)?;
+        }
+        Value::AssignPropertyWord(object, property, index, value) => {
+            let first = first_of(object, index, value);
+            let second = left_of(index, value);
+            put_assigned_word(draft, value, *property, (first, second), wanted)?;
+            put_operand(draft, index, second)?;
+            put_operand(draft, object, first)?;
         }
     }
     Ok(())
@@ -192,6 +226,175 @@ fn put_assigned_entry<'a>(
     put(
         draft,
         Item::AssignEntry(width, array, index, operand, destination),
+    )?;
+    put_operand(draft, value, operand)?;
+    Ok(())
+}
+
+/// The parent, the first child or the sibling of an object.
+#[cycle(values)]
+fn put_relative<'a>(
+    draft: &mut Draft<'a>,
+    object: &Value,
+    relation: Relative,
+    wanted: Wanted,
+) -> Result<(), AllocError>
+    ensures { OnOk result (WritesValue draft.old draft.new wanted (relative relation (value_of object.now))) }
+{
+    let destination = put_word(draft, wanted)?;
+    let operand = alone(object);
+    put(draft, Item::Relative(relation, operand, destination))?;
+    put_operand(draft, object, operand)?;
+    Ok(())
+}
+
+/// `in` or `notin` and the word at its right, where the operand for the object is known.
+#[cycle(values)]
+fn put_contained<'a>(
+    draft: &mut Draft<'a>,
+    parent: &Value,
+    containment: Containment,
+    object: Operand,
+    wanted: Wanted,
+) -> Result<(), AllocError>
+    ensures { OnOk result (WritesContained draft.old draft.new wanted containment object parent.now) }
+{
+    let (when, target) = put_truth(draft, wanted)?;
+    let operand = alone(parent);
+    let when = containment_when(containment, when);
+    put(draft, Item::IsIn(object, operand, when, target))?;
+    put_operand(draft, parent, operand)?;
+    Ok(())
+}
+
+/// Whether an object has an attribute.
+#[cycle(values)]
+fn put_has<'a>(
+    draft: &mut Draft<'a>,
+    object: &Value,
+    positive: bool,
+    attribute: usize,
+    wanted: Wanted,
+) -> Result<(), AllocError>
+    ensures { OnOk result (WritesValue draft.old draft.new wanted (has positive (value_of object.now) attribute)) }
+{
+    let (when, target) = put_truth(draft, wanted)?;
+    let operand = alone(object);
+    let when = has_when(positive, when);
+    put(draft, Item::Has(operand, attribute, when, target))?;
+    put_operand(draft, object, operand)?;
+    Ok(())
+}
+
+/// Whether an object provides a property.
+#[cycle(values)]
+fn put_provides<'a>(
+    draft: &mut Draft<'a>,
+    object: &Value,
+    property: usize,
+    wanted: Wanted,
+) -> Result<(), AllocError>
+    ensures { OnOk result (WritesValue draft.old draft.new wanted (provides (value_of object.now) property)) }
+{
+    let (when, target) = put_truth(draft, wanted)?;
+    let operand = alone(object);
+    put(draft, Item::Provides(operand, property, when, target))?;
+    put_operand(draft, object, operand)?;
+    Ok(())
+}
+
+/// The word of a property.
+#[cycle(values)]
+fn put_property<'a>(
+    draft: &mut Draft<'a>,
+    object: &Value,
+    number: usize,
+    wanted: Wanted,
+) -> Result<(), AllocError>
+    ensures { OnOk result (WritesValue draft.old draft.new wanted (property (value_of object.now) number)) }
+{
+    let destination = put_word(draft, wanted)?;
+    let operand = alone(object);
+    put(draft, Item::Property(operand, number, destination))?;
+    put_operand(draft, object, operand)?;
+    Ok(())
+}
+
+/// How many bytes a property has.
+#[cycle(values)]
+fn put_property_size<'a>(
+    draft: &mut Draft<'a>,
+    object: &Value,
+    number: usize,
+    wanted: Wanted,
+) -> Result<(), AllocError>
+    ensures { OnOk result (WritesValue draft.old draft.new wanted (property_size (value_of object.now) number)) }
+{
+    let destination = put_word(draft, wanted)?;
+    let operand = alone(object);
+    put(draft, Item::PropertySize(operand, number, destination))?;
+    put_operand(draft, object, operand)?;
+    Ok(())
+}
+
+/// A word of a property, where the operand for the object is known.
+#[cycle(values)]
+fn put_property_word<'a>(
+    draft: &mut Draft<'a>,
+    index: &Value,
+    number: usize,
+    object: Operand,
+    wanted: Wanted,
+) -> Result<(), AllocError>
+    ensures { OnOk result (WritesPropertyWord draft.old draft.new wanted number object index.now) }
+{
+    let destination = put_word(draft, wanted)?;
+    let operand = alone(index);
+    put(
+        draft,
+        Item::PropertyWord(number, object, operand, destination),
+    )?;
+    put_operand(draft, index, operand)?;
+    Ok(())
+}
+
+/// A property that is assigned, where the operand for the object is known.
+#[cycle(values)]
+fn put_assigned_property<'a>(
+    draft: &mut Draft<'a>,
+    value: &Value,
+    number: usize,
+    object: Operand,
+    wanted: Wanted,
+) -> Result<(), AllocError>
+    ensures { OnOk result (WritesAssignedProperty draft.old draft.new wanted number object value.now) }
+{
+    let destination = put_word(draft, wanted)?;
+    let operand = alone(value);
+    put(
+        draft,
+        Item::AssignProperty(number, object, operand, destination),
+    )?;
+    put_operand(draft, value, operand)?;
+    Ok(())
+}
+
+/// A word of a property that is assigned, where the operands for the object and the index are known.
+#[cycle(values)]
+fn put_assigned_word<'a>(
+    draft: &mut Draft<'a>,
+    value: &Value,
+    number: usize,
+    places: (Operand, Operand),
+    wanted: Wanted,
+) -> Result<(), AllocError>
+    ensures { OnOk result (WritesAssignedWord draft.old draft.new wanted number places.0 places.1 value.now) }
+{
+    let destination = put_word(draft, wanted)?;
+    let operand = alone(value);
+    put(
+        draft,
+        Item::AssignPropertyWord(number, places.0, places.1, operand, destination),
     )?;
     put_operand(draft, value, operand)?;
     Ok(())

@@ -18,6 +18,8 @@ abbrev with_routine : List Action → List Action → ProgramOf
 with_routine xs ys = record {
   globals = 0 ∷ [];
   arrays = replicate 4 0 ∷ [];
+  defaults = [];
+  objects = [];
   keys = [];
   routines = record { locals = 2; body = actions_of xs } ∷ record { locals = 0; body = actions_of ys } ∷ [];
   main = 1;

@@ -1,6 +1,13 @@
 pub mod Cutting
 pub mod Routines
 pub mod Mapped
+pub mod Folding
+pub mod Numbers
+pub mod ObjectLists
+pub mod Rising
+pub mod Forests
+pub mod FirstForest
 mod LoopSamples
 mod ReadSamples
 mod CallSamples
+mod ObjectSamples

@@ -19,6 +19,8 @@ abbrev with_i : List Action → ProgramOf
 with_i xs = record {
   globals = 0 ∷ [];
   arrays = [];
+  defaults = [];
+  objects = [];
   keys = [];
   routines = record { locals = 0; body = actions_of xs } ∷ [];
   main = 0;

@@ -10,6 +10,7 @@ use Rattle.zcore.specs.Words.{packed}
 use Rattle.zcore.specs.declared.place.Place.TheVariants as places
 use Rattle.expressions.specs.declared.tree.Step.TheVariants as steps
 use Rattle.meaning.specs.declared.resolved.Variable.TheVariants as variables
+use Rattle.meaning.specs.Objects.{first_objects}
 use Rattle.meaning.specs.Resolved.{Action, ProgramOf, number, read, step_after, text, number_of}
 use Rattle.meaning.specs.Resolved.{actions_of, block, print, while_do, read_line, effect}
 use Rattle.meaning.specs.World.{Situation, Comes, to}
@@ -26,6 +27,8 @@ abbrev with_arrays : ℕ → ℕ → List Action → ProgramOf
 with_arrays letters most xs = record {
   globals = 0 ∷ [];
   arrays = arrays_for letters most;
+  defaults = [];
+  objects = [];
   keys = 0x64D028A594A5 ∷ [];
   routines = record { locals = 0; body = actions_of xs } ∷ [];
   main = 0;
@@ -34,7 +37,7 @@ with_arrays letters most xs = record {
 abbrev stands : List (List ℕ) → ℕ → List (List ℕ) → List ℕ → List (List ℕ) → Situation
 stands arrays fuel lines words texts = record {
   locals = [];
-  world = record { globals = 0 ∷ []; arrays = arrays; fuel = fuel; lines = lines; text = words; texts = texts };
+  world = record { globals = 0 ∷ []; arrays = arrays; objects = first_objects []; fuel = fuel; lines = lines; text = words; texts = texts };
 }
 
 -- `read t p`, where a unit of fuel is left, the turn has printed `>`, and another line is to come

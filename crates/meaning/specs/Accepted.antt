@@ -1,14 +1,19 @@
 -- What the resolved tree of an accepted program satisfies: variables, arrays, routines and arguments are within their
 -- limits, no expression needs more than 48 temporaries, no `break` or `continue` stands outside, and the keys of words
 -- ascend.
-use Rattle.std.specs.Prelude.{◌≡◌, ◌≢◌, ◌+◌, ◌^◌, ◌<◌, ◌≤◌, ℕ, true, List, [], ◌∷◌, length, Option, Some, None}
+use Rattle.std.specs.Prelude.{◌≡◌, ◌≢◌, ◌+◌, ◌^◌, ◌<◌, ◌≤◌, ℕ, Bool, true, List, [], ◌∷◌, length, Option, Some, None}
 use Rattle.std.specs.List.{All}
 use Rattle.std.specs.List.Sorted.{IsStrictlyIncreasing}
 use Rattle.meaning.specs.declared.resolved.Variable.{Variable}
 use Rattle.meaning.specs.declared.resolved.Variable.TheVariants as variables
 use Rattle.meaning.specs.Operands.{operands}
 use Rattle.meaning.specs.Resolved.{Value, Values, number, read, call, prefixed, step_before, step_after, binary}
-use Rattle.meaning.specs.Resolved.{compare, equal, assign, entry, assign_entry, none, more, Printed, text}
+use Rattle.meaning.specs.Resolved.{compare, equal, assign, entry, assign_entry, relative, contained, has, provides}
+use Rattle.meaning.specs.Resolved.{property, property_size, property_word, assign_property, assign_property_word}
+use Rattle.meaning.specs.Resolved.{name_of, give_to, move_to, remove_from, each_object, each_where, each_in}
+use Rattle.meaning.specs.Resolved.{none, more, Printed, text}
+use Rattle.meaning.specs.Objects.{ObjectOf, object_at}
+use Rattle.meaning.specs.Places.{name_words}
 use Rattle.meaning.specs.Resolved.{character_of, number_of, Action, Actions, CasesOf, empty, block, text_alone, print}
 use Rattle.meaning.specs.Resolved.{print_return, new_line, if_then, if_else, while_do, do_until, for_loop, switch_on}
 use Rattle.meaning.specs.Resolved.{break_out, continue_on, read_line, return_value, quit, effect, stop, next, no_case}
@@ -36,10 +41,23 @@ abbrev mutual
   need_of (assign x v) = operands 0 (need_of v ∷ [])
   need_of (entry width a i) = operands 0 (need_of i ∷ [])
   need_of (assign_entry width a i v) = operands 0 (need_of i ∷ need_of v ∷ [])
+  need_of (relative r v) = operands 0 (need_of v ∷ [])
+  need_of (contained op a b) = operands 0 (need_of a ∷ need_of b ∷ [])
+  need_of (has positive v a) = operands 0 (need_of v ∷ [])
+  need_of (provides v p) = operands 0 (need_of v ∷ [])
+  need_of (property v p) = operands 0 (need_of v ∷ [])
+  need_of (property_size v p) = operands 0 (need_of v ∷ [])
+  need_of (property_word v p i) = operands 0 (need_of v ∷ need_of i ∷ [])
+  need_of (assign_property v p w) = operands 0 (need_of v ∷ need_of w ∷ [])
+  need_of (assign_property_word v p i w) = operands 0 (need_of v ∷ need_of i ∷ need_of w ∷ [])
 
   pub needs_of : Values → List ℕ
   needs_of none = []
   needs_of (more v vs) = need_of v ∷ needs_of vs
+
+-- properties are numbered from 1 to 63
+abbrev pub IsProperty : ℕ → Type 0
+IsProperty n = (1 ≤ n) × (n ≤ 63)
 
 -- in a routine with so many locals of this program
 module _ (p : ProgramOf) (locals : ℕ) where
@@ -62,6 +80,15 @@ module _ (p : ProgramOf) (locals : ℕ) where
     IsValue (assign x v) = IsVariable x × IsValue v
     IsValue (entry width a i) = (a < length p.arrays) × IsValue i
     IsValue (assign_entry width a i v) = (a < length p.arrays) × IsValue i × IsValue v
+    IsValue (relative r v) = IsValue v
+    IsValue (contained op a b) = IsValue a × IsValue b
+    IsValue (has positive v a) = (a < 48) × IsValue v
+    IsValue (provides v n) = IsProperty n × IsValue v
+    IsValue (property v n) = IsProperty n × IsValue v
+    IsValue (property_size v n) = IsProperty n × IsValue v
+    IsValue (property_word v n i) = IsProperty n × IsValue v × IsValue i
+    IsValue (assign_property v n w) = IsProperty n × IsValue v × IsValue w
+    IsValue (assign_property_word v n i w) = IsProperty n × IsValue v × IsValue i × IsValue w
 
     pub AreValues : Values → Type 0
     AreValues none = Unit {0}
@@ -80,6 +107,7 @@ module _ (p : ProgramOf) (locals : ℕ) where
   IsPrinted (text bytes) = Unit {0}
   IsPrinted (character_of v) = IsWhole v
   IsPrinted (number_of v) = IsWhole v
+  IsPrinted (name_of v) = IsWhole v
 
   abbrev mutual
     pub IsAction : Action → Type 0
@@ -98,6 +126,12 @@ module _ (p : ProgramOf) (locals : ℕ) where
     IsAction break_out = Unit {0}
     IsAction continue_on = Unit {0}
     IsAction (read_line a b) = (a < length p.arrays) × (b < length p.arrays) × (a ≢ b)
+    IsAction (give_to v changes) = IsWhole v × All (λ (c : Bool × ℕ). c.1 < 48) changes
+    IsAction (move_to v w) = IsValue v × IsValue w × (operands 0 (need_of v ∷ need_of w ∷ []) ≤ 48)
+    IsAction (remove_from v) = IsWhole v
+    IsAction (each_object x a) = IsVariable x × IsAction a
+    IsAction (each_where x v a) = IsVariable x × IsWhole v × IsAction a
+    IsAction (each_in x v a) = IsVariable x × IsWhole v × IsAction a
     IsAction (return_value v) = IsWhole v
     IsAction quit = Unit {0}
     IsAction (effect v) = IsWhole v
@@ -121,6 +155,9 @@ abbrev mutual
   StandsIn around (do_until a v) = StandsIn in_loop a
   StandsIn around (for_loop x y z a) = StandsIn in_loop a
   StandsIn around (switch_on v cs) = CasesStandIn (in_switch around) cs
+  StandsIn around (each_object x a) = StandsIn in_loop a
+  StandsIn around (each_where x v a) = StandsIn in_loop a
+  StandsIn around (each_in x v a) = StandsIn in_loop a
   StandsIn around break_out = around.can_break ≡ true
   StandsIn around continue_on = around.can_continue ≡ true
   StandsIn around _ = Unit {0}
@@ -140,9 +177,20 @@ IsRoutine p r = (r.locals ≤ 15) × AreActions p r.locals r.body × AllStandIn 
 abbrev pub IsArray : List ℕ → Type 0
 IsArray bytes = length bytes ≤ 32000
 
+-- an object's parent stands earlier; its name, attributes and properties are within their limits
+pub record IsObject (o : ObjectOf) (earlier : ℕ) : Type 0 where
+  pub parent : o.parent ≤ earlier
+  pub name : name_words o.name ≤ 255
+  pub attributes : All (λ a. a < 48) o.attributes
+  pub numbers : All (λ (x : ℕ × List ℕ). IsProperty x.0) o.properties
+  pub words : All (λ (x : ℕ × List ℕ). (1 ≤ length x.1) × (length x.1 ≤ 32) × All (λ w. w < 65536) x.1) o.properties
+
 pub record IsAccepted (p : ProgramOf) : Type 0 where
   pub globals : length p.globals ≤ 232
   pub arrays : All IsArray p.arrays
+  pub defaults : (length p.defaults ≡ 63) × All (λ w. w < 65536) p.defaults
+  pub few : length p.objects ≤ 2000
+  pub objects : (k : ℕ) → k < length p.objects → IsObject (object_at p.objects (k + 1)) k
   pub routines : All (IsRoutine p) p.routines
   pub main : p.main < length p.routines
   pub alone : (routine_at p.routines p.main).locals ≡ 0

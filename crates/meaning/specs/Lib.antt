@@ -1,3 +1,5 @@
+pub mod Objects
+pub mod Forests
 pub mod Resolved
 pub mod World
 pub mod Reading

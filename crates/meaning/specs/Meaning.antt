@@ -2,7 +2,7 @@
 -- arguments and print items are evaluated from left to right; then an operation's tests are made; then it is done.
 use Rattle.std.specs.Prelude.{◌||◌, ◌&&◌, ◌+◌, ◌-◌, ◌*◌, ◌%◌, ◌==◌, not, ℕ, zero, suc, nat_le, nat_lt, bit_and}
 use Rattle.std.specs.Prelude.{bit_or, Bool, true, false, if◌then◌else◌, List, [], ◌∷◌, ◌++◌, map, take, Option, Some}
-use Rattle.std.specs.Prelude.{None, replicate}
+use Rattle.std.specs.Prelude.{None, replicate, is_some, length, slice_index, slice_set}
 use Rattle.std.specs.List.{list_any}
 use Rattle.zcore.specs.Arithmetic.{quotient, remainder, signed_less, signed_text}
 use Rattle.zcore.specs.Parts.{transcribed}
@@ -11,6 +11,9 @@ use Rattle.zcore.specs.declared.place.Limit.TheVariants as limits
 use Rattle.meaning.specs.declared.cause.Cause.TheVariants as causes
 use Rattle.expressions.specs.declared.tree.Binary.{Binary}
 use Rattle.expressions.specs.declared.tree.Binary.TheVariants as op
+use Rattle.expressions.specs.declared.tree.Containment.{Containment}
+use Rattle.expressions.specs.declared.tree.Containment.TheVariants as containment
+use Rattle.expressions.specs.declared.tree.Relative.TheVariants as relatives
 use Rattle.expressions.specs.declared.tree.Comparison.{Comparison}
 use Rattle.expressions.specs.declared.tree.Comparison.TheVariants as comparison
 use Rattle.expressions.specs.declared.tree.Equality.{Equality}
@@ -20,13 +23,20 @@ use Rattle.expressions.specs.declared.tree.Prefix.TheVariants as prefix
 use Rattle.expressions.specs.declared.tree.Step.{Step}
 use Rattle.expressions.specs.declared.tree.Step.TheVariants as steps
 use Rattle.meaning.specs.Resolved.{Value, Values, number, read, call, prefixed, step_before, step_after, binary}
-use Rattle.meaning.specs.Resolved.{compare, equal, assign, entry, assign_entry, none, more, Printed, text}
+use Rattle.meaning.specs.Resolved.{compare, equal, assign, entry, assign_entry, relative, contained, has, provides}
+use Rattle.meaning.specs.Resolved.{property, property_size, property_word, assign_property, assign_property_word}
+use Rattle.meaning.specs.Resolved.{name_of, give_to, move_to, remove_from, each_object, each_where, each_in}
+use Rattle.meaning.specs.Resolved.{none, more, Printed, text}
+use Rattle.meaning.specs.declared.resolved.Variable.{Variable}
+use Rattle.meaning.specs.Objects.{ObjectOf, object_at, first_objects}
 use Rattle.meaning.specs.Resolved.{character_of, number_of, RangeOf, one, between, Action, Actions, CasesOf, empty, block}
 use Rattle.meaning.specs.Resolved.{text_alone, print, print_return, new_line, if_then, if_else, while_do, do_until}
 use Rattle.meaning.specs.Resolved.{for_loop, switch_on, break_out, continue_on, read_line, return_value, quit, effect, stop, next}
 use Rattle.meaning.specs.Resolved.{no_case, default_case, case, RoutineOf, ProgramOf}
 use Rattle.meaning.specs.World.{Outcome, World, Situation, Comes, to, over, Part, bound, ◌>>=◌, give, ended, put}
 use Rattle.meaning.specs.World.{shown, fault, spend, units, read_variable, write_variable, read_entry, write_entry}
+use Rattle.meaning.specs.World.{relative_of, has_attribute, give_attribute, words_provided, test_provided, test_single}
+use Rattle.meaning.specs.World.{test_word, single_word, size_of, write_words, remove_object, move_object}
 use Rattle.meaning.specs.World as world
 use Rattle.meaning.specs.Reading.{read_next}
 use Rattle.meaning.specs.Places.{number_in}
@@ -84,9 +94,20 @@ is_character c = c == 0 || c == 13 || (nat_le 32 c && nat_le c 126)
 abbrev pub put_character : ℕ → Part (Unit {0})
 put_character c = if is_character c then put (transcribed c) else fault causes.NotACharacter
 
--- what a call of a routine on its arguments comes to
-abbrev pub Calls : Type 0
-Calls = ℕ → List ℕ → Part ℕ
+-- What a running program asks of its source: what a call of a routine on its arguments comes to, the numbers of keys, the
+-- fuel of a turn, the objects as they are defined, and the defaults of properties.
+pub record Setting : Type 0 where
+  pub call : ℕ → List ℕ → Part ℕ
+  pub number : ℕ → ℕ
+  pub full : ℕ
+  pub objects : List ObjectOf
+  pub defaults : List ℕ
+
+abbrev pub test_object : Setting → ℕ → Part (Unit {0})
+test_object here o = world.test_object (length here.objects) o
+
+abbrev pub default_of : Setting → ℕ → ℕ
+default_of here p = slice_index here.defaults (p - 1)
 
 -- Expressions
 
@@ -102,55 +123,116 @@ early op.Remainder x second both = both
 early op.And x second both = both
 early op.Or x second both = both
 
+abbrev pub contains : Containment → Bool → Bool
+contains containment.In stands = stands
+contains containment.NotIn stands = not stands
+
 abbrev mutual
-  pub evaluate : Calls → Value → Part ℕ
-  evaluate calls (number n) = give n
-  evaluate calls (read x) = read_variable x
-  evaluate calls (call r vs) = do
-    arguments ← evaluate_all calls vs
-    calls r arguments
-  evaluate calls (prefixed op v) = do
-    x ← evaluate calls v
+  pub evaluate : Setting → Value → Part ℕ
+  evaluate here (number n) = give n
+  evaluate here (read x) = read_variable x
+  evaluate here (call r vs) = do
+    arguments ← evaluate_all here vs
+    here.call r arguments
+  evaluate here (prefixed op v) = do
+    x ← evaluate here v
     give (with_prefix op x)
-  evaluate calls (step_before op variable) = do
+  evaluate here (step_before op variable) = do
     x ← read_variable variable
     _ ← write_variable variable (stepped op x)
     give (stepped op x)
-  evaluate calls (step_after variable op) = do
+  evaluate here (step_after variable op) = do
     x ← read_variable variable
     _ ← write_variable variable (stepped op x)
     give x
-  evaluate calls (binary op a b) = do
-    x ← evaluate calls a
-    early op x (evaluate calls b) (do
-      y ← evaluate calls b
+  evaluate here (binary op a b) = do
+    x ← evaluate here a
+    early op x (evaluate here b) (do
+      y ← evaluate here b
       operate op x y)
-  evaluate calls (compare op a b) = do
-    x ← evaluate calls a
-    y ← evaluate calls b
+  evaluate here (compare op a b) = do
+    x ← evaluate here a
+    y ← evaluate here b
     give (truth (compared op x y))
-  evaluate calls (equal op a bs) = do
-    x ← evaluate calls a
-    ys ← evaluate_all calls bs
+  evaluate here (equal op a bs) = do
+    x ← evaluate here a
+    ys ← evaluate_all here bs
     give (truth (equated op x ys))
-  evaluate calls (assign variable v) = do
-    x ← evaluate calls v
+  evaluate here (assign variable v) = do
+    x ← evaluate here v
     _ ← write_variable variable x
     give x
-  evaluate calls (entry width a v) = do
-    i ← evaluate calls v
+  evaluate here (entry width a v) = do
+    i ← evaluate here v
     read_entry width a i
-  evaluate calls (assign_entry width a v w) = do
-    i ← evaluate calls v
-    x ← evaluate calls w
+  evaluate here (assign_entry width a v w) = do
+    i ← evaluate here v
+    x ← evaluate here w
     _ ← write_entry width a i x
     give x
+  evaluate here (relative r v) = do
+    o ← evaluate here v
+    _ ← test_object here o
+    relative_of r o
+  evaluate here (contained op a b) = do
+    o ← evaluate here a
+    x ← evaluate here b
+    _ ← test_object here o
+    parent ← relative_of relatives.Parent o
+    give (truth (contains op (parent == x)))
+  evaluate here (has positive v a) = do
+    o ← evaluate here v
+    _ ← test_object here o
+    it_has ← has_attribute o a
+    give (truth (if positive then it_has else not it_has))
+  evaluate here (provides v p) = do
+    o ← evaluate here v
+    _ ← test_object here o
+    words ← words_provided o p
+    give (truth (is_some words))
+  evaluate here (property v p) = do
+    o ← evaluate here v
+    _ ← test_object here o
+    words ← words_provided o p
+    single_word (default_of here p) words
+  evaluate here (property_size v p) = do
+    o ← evaluate here v
+    _ ← test_object here o
+    words ← words_provided o p
+    give (size_of words)
+  evaluate here (property_word v p w) = do
+    o ← evaluate here v
+    i ← evaluate here w
+    _ ← test_object here o
+    provided ← words_provided o p
+    words ← test_provided provided
+    _ ← test_word i words
+    give (slice_index words i)
+  evaluate here (assign_property v p w) = do
+    o ← evaluate here v
+    x ← evaluate here w
+    _ ← test_object here o
+    provided ← words_provided o p
+    words ← test_provided provided
+    _ ← test_single words
+    _ ← write_words o p (x ∷ [])
+    give x
+  evaluate here (assign_property_word v p w z) = do
+    o ← evaluate here v
+    i ← evaluate here w
+    x ← evaluate here z
+    _ ← test_object here o
+    provided ← words_provided o p
+    words ← test_provided provided
+    _ ← test_word i words
+    _ ← write_words o p (slice_set words i x)
+    give x
 
-  pub evaluate_all : Calls → Values → Part (List ℕ)
-  evaluate_all calls none = give []
-  evaluate_all calls (more v vs) = do
-    x ← evaluate calls v
-    xs ← evaluate_all calls vs
+  pub evaluate_all : Setting → Values → Part (List ℕ)
+  evaluate_all here none = give []
+  evaluate_all here (more v vs) = do
+    x ← evaluate here v
+    xs ← evaluate_all here vs
     give (x ∷ xs)
 
 -- Statements
@@ -163,20 +245,24 @@ pub data Ending : Type 0 where
   continues : Ending
   returns : ℕ → Ending
 
-abbrev pub print_one : Calls → Printed → Part (Unit {0})
-print_one calls (text bytes) = put (map shown bytes)
-print_one calls (character_of v) = do
-  c ← evaluate calls v
+abbrev pub print_one : Setting → Printed → Part (Unit {0})
+print_one here (text bytes) = put (map shown bytes)
+print_one here (character_of v) = do
+  c ← evaluate here v
   put_character c
-print_one calls (number_of v) = do
-  x ← evaluate calls v
+print_one here (number_of v) = do
+  x ← evaluate here v
   put (signed_text x)
+print_one here (name_of v) = do
+  o ← evaluate here v
+  _ ← test_object here o
+  put (map shown (object_at here.objects o).name)
 
-abbrev pub print_all : Calls → List Printed → Part (Unit {0})
-print_all calls [] = give tt
-print_all calls (i ∷ is) = do
-  _ ← print_one calls i
-  print_all calls is
+abbrev pub print_all : Setting → List Printed → Part (Unit {0})
+print_all here [] = give tt
+print_all here (i ∷ is) = do
+  _ ← print_one here i
+  print_all here is
 
 abbrev pub put_line : Part (Unit {0})
 put_line = put (10 ∷ [])
@@ -217,25 +303,25 @@ rounds (suc n) test body behind = round test body behind (do
 -- the parts of a `for`: what is done before the first round; the test, which is true where there is none; and what is
 -- done behind each round, which always goes back
 
-abbrev pub once : Calls → Option Value → Part (Unit {0})
-once calls None = give tt
-once calls (Some v) = do
-  _ ← evaluate calls v
+abbrev pub once : Setting → Option Value → Part (Unit {0})
+once here None = give tt
+once here (Some v) = do
+  _ ← evaluate here v
   give tt
 
-abbrev pub tested : Calls → Option Value → Part ℕ
-tested calls None = give 1
-tested calls (Some v) = evaluate calls v
+abbrev pub tested : Setting → Option Value → Part ℕ
+tested here None = give 1
+tested here (Some v) = evaluate here v
 
-abbrev pub behind_round : Calls → Option Value → Part Bool
-behind_round calls v = do
-  _ ← once calls v
+abbrev pub behind_round : Setting → Option Value → Part Bool
+behind_round here v = do
+  _ ← once here v
   give true
 
 -- `until` stands behind the body, and goes back where its word is false
-abbrev pub until : Calls → Value → Part Bool
-until calls v = do
-  x ← evaluate calls v
+abbrev pub until : Setting → Value → Part Bool
+until here v = do
+  x ← evaluate here v
   give (not (is_true x))
 
 -- whether a case holds for a word; both ends of a range are read signed, and belong to it
@@ -250,69 +336,133 @@ behind_case breaks = goes_on
 behind_case continues = continues
 behind_case (returns word) = returns word
 
+-- attributes are set or cleared in order
+abbrev pub give_all : ℕ → List (Bool × ℕ) → Part (Unit {0})
+give_all o [] = give tt
+give_all o (x ∷ xs) = do
+  _ ← give_attribute o x.1 x.0
+  give_all o xs
+
+-- a variable gets an object; whether there is one
+abbrev pub next_object : Variable → Part ℕ → Part Bool
+next_object x found = do
+  o ← found
+  _ ← write_variable x o
+  give (not (o == 0))
+
+-- behind a round, the sibling of the object that the variable then has
+abbrev pub sibling_next : Setting → Variable → Part Bool
+sibling_next here x = do
+  o ← read_variable x
+  _ ← test_object here o
+  next_object x (relative_of relatives.Sibling o)
+
+-- behind a round, the object after the one that the variable then has, where that is one with another after it
+abbrev pub count_next : Setting → Variable → Part Bool
+count_next here x = do
+  o ← read_variable x
+  if nat_le 1 o && nat_lt o (length here.objects) then (do
+    _ ← write_variable x (o + 1)
+    give true)
+      else give false
+
+-- a round for each object, from 1 on; without objects nothing is done
+abbrev pub each_of : Setting → Variable → Part Ending → Part Ending
+each_of here x body =
+    if length here.objects == 0 then give goes_on
+    else (do
+      _ ← write_variable x 1
+      λ s. rounds (units here.full s.world) (give 1) body (count_next here x) s)
+
 abbrev mutual
-  -- `numbers` gives the numbers of keys, `full` is the fuel of a turn
-  pub run : Calls → (ℕ → ℕ) → ℕ → Action → Part Ending
-  run calls numbers full empty = give goes_on
-  run calls numbers full (block xs) = run_all calls numbers full xs
-  run calls numbers full (text_alone bytes) = do
+  pub run : Setting → Action → Part Ending
+  run here empty = give goes_on
+  run here (block xs) = run_all here xs
+  run here (text_alone bytes) = do
     _ ← put (map shown bytes)
     _ ← put_line
     give (returns 1)
-  run calls numbers full (print is) = do
-    _ ← print_all calls is
+  run here (print is) = do
+    _ ← print_all here is
     give goes_on
-  run calls numbers full (print_return is) = do
-    _ ← print_all calls is
+  run here (print_return is) = do
+    _ ← print_all here is
     _ ← put_line
     give (returns 1)
-  run calls numbers full new_line = do
+  run here new_line = do
     _ ← put_line
     give goes_on
-  run calls numbers full (if_then v a) = do
-    x ← evaluate calls v
-    if is_true x then run calls numbers full a else give goes_on
-  run calls numbers full (if_else v a b) = do
-    x ← evaluate calls v
-    if is_true x then run calls numbers full a else run calls numbers full b
+  run here (if_then v a) = do
+    x ← evaluate here v
+    if is_true x then run here a else give goes_on
+  run here (if_else v a b) = do
+    x ← evaluate here v
+    if is_true x then run here a else run here b
   -- nothing stands behind the body
-  run calls numbers full (while_do v a) = λ s.
-      rounds (units full s.world) (evaluate calls v) (run calls numbers full a) (give true) s
+  run here (while_do v a) = λ s.
+      rounds (units here.full s.world) (evaluate here v) (run here a) (give true) s
   -- the first round is not tested
-  run calls numbers full (do_until a v) = λ s.
-      rounds (units full s.world) (give 1) (run calls numbers full a) (until calls v) s
-  run calls numbers full (for_loop x y z a) = do
-    _ ← once calls x
-    λ s. rounds (units full s.world) (tested calls y) (run calls numbers full a) (behind_round calls z) s
-  run calls numbers full (switch_on v cs) = do
-    x ← evaluate calls v
-    ending ← run_cases calls numbers full x cs
+  run here (do_until a v) = λ s.
+      rounds (units here.full s.world) (give 1) (run here a) (until here v) s
+  run here (for_loop x y z a) = do
+    _ ← once here x
+    λ s. rounds (units here.full s.world) (tested here y) (run here a) (behind_round here z) s
+  run here (switch_on v cs) = do
+    x ← evaluate here v
+    ending ← run_cases here x cs
     give (behind_case ending)
-  run calls numbers full break_out = give breaks
-  run calls numbers full continue_on = give continues
-  run calls numbers full (read_line t p) = do
-    _ ← read_next numbers full t p
+  run here break_out = give breaks
+  run here continue_on = give continues
+  run here (read_line t p) = do
+    _ ← read_next here.number here.full t p
     give goes_on
-  run calls numbers full (return_value v) = do
-    x ← evaluate calls v
+  run here (give_to v changes) = do
+    o ← evaluate here v
+    _ ← test_object here o
+    _ ← give_all o changes
+    give goes_on
+  run here (move_to v w) = do
+    o ← evaluate here v
+    into ← evaluate here w
+    _ ← test_object here o
+    _ ← test_object here into
+    _ ← move_object o into
+    give goes_on
+  run here (remove_from v) = do
+    o ← evaluate here v
+    _ ← test_object here o
+    _ ← remove_object o
+    give goes_on
+  run here (each_object x a) = each_of here x (run here a)
+  run here (each_where x v a) = each_of here x (do
+    word ← evaluate here v
+    if is_true word then run here a else give goes_on)
+  run here (each_in x v a) = do
+    o ← evaluate here v
+    _ ← test_object here o
+    is_one ← next_object x (relative_of relatives.Child o)
+    if is_one then (λ s. rounds (units here.full s.world) (give 1) (run here a) (sibling_next here x) s)
+        else give goes_on
+  run here (return_value v) = do
+    x ← evaluate here v
     give (returns x)
-  run calls numbers full quit = world.ends places.Quit
-  run calls numbers full (effect v) = do
-    _ ← evaluate calls v
+  run here quit = world.ends places.Quit
+  run here (effect v) = do
+    _ ← evaluate here v
     give goes_on
 
-  pub run_all : Calls → (ℕ → ℕ) → ℕ → Actions → Part Ending
-  run_all calls numbers full stop = give goes_on
-  run_all calls numbers full (next a rest) = do
-    ending ← run calls numbers full a
-    follow ending (run_all calls numbers full rest)
+  pub run_all : Setting → Actions → Part Ending
+  run_all here stop = give goes_on
+  run_all here (next a rest) = do
+    ending ← run here a
+    follow ending (run_all here rest)
 
   -- the first case that holds runs alone, else `default`
-  pub run_cases : Calls → (ℕ → ℕ) → ℕ → ℕ → CasesOf → Part Ending
-  run_cases calls numbers full x no_case = give goes_on
-  run_cases calls numbers full x (default_case xs) = run_all calls numbers full xs
-  run_cases calls numbers full x (case gs xs rest) =
-      if list_any (holds_for x) gs then run_all calls numbers full xs else run_cases calls numbers full x rest
+  pub run_cases : Setting → ℕ → CasesOf → Part Ending
+  run_cases here x no_case = give goes_on
+  run_cases here x (default_case xs) = run_all here xs
+  run_cases here x (case gs xs rest) =
+      if list_any (holds_for x) gs then run_all here xs else run_cases here x rest
 
 -- Calls
 
@@ -341,19 +491,37 @@ abbrev pub to_caller : List ℕ → Comes Ending → Comes ℕ
 to_caller locals (to ending s) = to (word_of ending) (record { locals = locals; world = s.world })
 to_caller locals (over outcome) = over outcome
 
+-- a program whose calls come to this, with so much fuel for each turn
+abbrev pub setting : ProgramOf → ℕ → (ℕ → List ℕ → Part ℕ) → Setting
+setting p full calls = record {
+  call = calls;
+  number = number_in p;
+  full = full;
+  objects = p.objects;
+  defaults = p.defaults;
+}
+
 -- A call where so many more calls may be open; it costs a unit.
-abbrev pub call_in : ProgramOf → ℕ → ℕ → Calls
+abbrev pub call_in : ProgramOf → ℕ → ℕ → ℕ → List ℕ → Part ℕ
 call_in p full zero r arguments = world.ends (places.Limit limits.Calls)
 call_in p full (suc more_calls) r arguments = do
   _ ← spend
-  λ s. to_caller s.locals (run_all (call_in p full more_calls) (number_in p) full (routine_at p.routines r).body
+  λ s. to_caller s.locals (run_all (setting p full (call_in p full more_calls)) (routine_at p.routines r).body
       (record { locals = locals_of (routine_at p.routines r).locals arguments; world = s.world }))
 
 -- Runs
 
 abbrev pub first_world : ProgramOf → ℕ → List (List ℕ) → World
 first_world p full lines =
-    record { globals = p.globals; arrays = p.arrays; fuel = full; lines = lines; text = []; texts = [] }
+    record {
+      globals = p.globals;
+      arrays = p.arrays;
+      objects = first_objects p.objects;
+      fuel = full;
+      lines = lines;
+      text = [];
+      texts = [];
+    }
 
 -- when the call of Main returns, the story quits
 abbrev pub quits : Comes ℕ → Outcome

@@ -3,11 +3,18 @@
 --     header; table of 96 abbreviations; empty text, which all of them name; 240 words of globals; arrays;
 --     63 words of property defaults; objects; property tables; dictionary, with which static memory begins; and the code
 --     that begins the story, with which high memory begins.
-use Rattle.std.specs.Prelude.{◌+◌, ◌*◌, ◌%◌, ℕ, length}
+use Rattle.std.specs.Prelude.{◌+◌, ◌*◌, ◌/◌, ◌%◌, ◌==◌, ℕ, nat_lt, if◌then◌else◌, List, [], ◌∷◌, length, map}
 use Rattle.std.specs.List.{concat}
 use Rattle.tables.specs.Dictionary.{key_number}
+use Rattle.zcore.specs.Text.{encoded}
+use Rattle.meaning.specs.Objects.{ObjectOf}
 use Rattle.meaning.specs.Resolved.{ProgramOf}
 use Rattle.meaning.specs.declared.places.Places.{Places}
+
+-- Nothing bounds how much a source lists, so sums of sizes are folded: up to 65,535 a size is itself; what a greater one
+-- becomes is as well above 65,535, and has the same remainder by 65,536.
+unfoldable pub folded : ℕ → ℕ
+folded n = if nat_lt n 65536 then n else 65536 + n % 65536
 
 -- How much there is of each part
 
@@ -29,12 +36,39 @@ arrays_size p = length (concat p.arrays)
 abbrev pub default_count : ℕ
 default_count = 63
 
--- a program has no objects
 abbrev pub object_count : ProgramOf → ℕ
-object_count p = 0
+object_count p = length p.objects
+
+-- the character of the machine for a byte of a text: `^` is a new line, 13, and `~` a double quote
+abbrev pub machine_character : ℕ → ℕ
+machine_character byte =
+    if byte == 94 then 13
+    else (if byte == 126 then 34
+    else byte)
+
+-- the words of a short name; an empty one has none
+abbrev pub name_words : List ℕ → ℕ
+name_words [] = 0
+name_words (c ∷ cs) = length (encoded (map machine_character (c ∷ cs))) / 2
+
+abbrev pub total : List ℕ → ℕ
+total [] = 0
+total (n ∷ ns) = n + total ns
+
+-- a size byte, and another one before a property of more than one word
+abbrev pub property_size : ℕ × List ℕ → ℕ
+property_size x = (if length x.1 == 1 then 1 else 2) + 2 * length x.1
+
+-- the number of the name's words, the name, the properties, and a byte behind them
+abbrev pub table_size : ObjectOf → ℕ
+table_size o = 1 + 2 * name_words o.name + total (map property_size o.properties) + 1
+
+-- the entries of objects, and their property tables
+abbrev pub objects_size : List ObjectOf → ℕ
+objects_size os = 14 * length os + total (map table_size os)
 
 abbrev pub properties_size : ProgramOf → ℕ
-properties_size p = 0
+properties_size p = total (map table_size p.objects)
 
 abbrev pub key_count : ProgramOf → ℕ
 key_count p = length p.keys

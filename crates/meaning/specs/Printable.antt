@@ -2,6 +2,8 @@
 use Rattle.std.specs.List.{All}
 use Rattle.lexer.specs.Printable.{IsPrintable}
 use Rattle.meaning.specs.Resolved.{Printed, text, character_of, number_of, Action, Actions, CasesOf, empty, block}
+use Rattle.meaning.specs.Objects.{ObjectOf}
+use Rattle.meaning.specs.Resolved.{name_of, give_to, move_to, remove_from, each_object, each_where, each_in}
 use Rattle.meaning.specs.Resolved.{text_alone, print, print_return, new_line, if_then, if_else, while_do, do_until}
 use Rattle.meaning.specs.Resolved.{for_loop, switch_on, break_out, continue_on, read_line, return_value, quit}
 use Rattle.meaning.specs.Resolved.{effect, stop, next, no_case, default_case, case, RoutineOf, ProgramOf}
@@ -10,6 +12,7 @@ abbrev pub IsPrintableItem : Printed → Type 0
 IsPrintableItem (text bytes) = All IsPrintable bytes
 IsPrintableItem (character_of v) = Unit {0}
 IsPrintableItem (number_of v) = Unit {0}
+IsPrintableItem (name_of v) = Unit {0}
 
 abbrev mutual
   pub IsPrintableAction : Action → Type 0
@@ -28,6 +31,12 @@ abbrev mutual
   IsPrintableAction break_out = Unit {0}
   IsPrintableAction continue_on = Unit {0}
   IsPrintableAction (read_line t p) = Unit {0}
+  IsPrintableAction (give_to v changes) = Unit {0}
+  IsPrintableAction (move_to v w) = Unit {0}
+  IsPrintableAction (remove_from v) = Unit {0}
+  IsPrintableAction (each_object x a) = IsPrintableAction a
+  IsPrintableAction (each_where x v a) = IsPrintableAction a
+  IsPrintableAction (each_in x v a) = IsPrintableAction a
   IsPrintableAction (return_value v) = Unit {0}
   IsPrintableAction quit = Unit {0}
   IsPrintableAction (effect v) = Unit {0}
@@ -45,4 +54,4 @@ abbrev pub IsPrintableRoutine : RoutineOf → Type 0
 IsPrintableRoutine r = ArePrintableActions r.body
 
 abbrev pub HasPrintableTexts : ProgramOf → Type 0
-HasPrintableTexts p = All IsPrintableRoutine p.routines
+HasPrintableTexts p = All IsPrintableRoutine p.routines × All (λ (o : ObjectOf). All IsPrintable o.name) p.objects

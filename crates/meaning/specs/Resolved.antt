@@ -1,15 +1,18 @@
 -- Statements and expressions whose names are resolved, without where they lie in memory.
-use Rattle.std.specs.Prelude.{◌≡◌, ℕ, List, [], ◌∷◌, length, map, take, drop, Option, Some, None}
+use Rattle.std.specs.Prelude.{◌≡◌, ℕ, Bool, List, [], ◌∷◌, length, map, take, drop, Option, Some, None}
 use Rattle.std.specs.Global.{Vec}
 use Rattle.std.specs.List.{concat}
 use Rattle.std.specs.Option.{option_map}
 use Rattle.expressions.specs.declared.tree.Binary.{Binary}
 use Rattle.expressions.specs.declared.tree.Comparison.{Comparison}
 use Rattle.expressions.specs.declared.tree.Equality.{Equality}
+use Rattle.expressions.specs.declared.tree.Containment.{Containment}
 use Rattle.expressions.specs.declared.tree.Prefix.{Prefix}
+use Rattle.expressions.specs.declared.tree.Relative.{Relative}
 use Rattle.expressions.specs.declared.tree.Step.{Step}
 use Rattle.expressions.specs.declared.tree.Width.{Width}
 use Rattle.expressions.specs.Tree.{NameTree, name_tree}
+use Rattle.meaning.specs.Objects.{ObjectOf}
 use Rattle.meaning.specs.declared.resolved.Span.{Span}
 use Rattle.meaning.specs.declared.resolved.Span.TheVariants as spans
 use Rattle.meaning.specs.declared.resolved.Variable.{Variable}
@@ -19,6 +22,7 @@ use Rattle.meaning.specs.declared.resolved.Printed as code_printed
 use Rattle.meaning.specs.declared.resolved.Printed.TheVariants as items
 use Rattle.meaning.specs.declared.resolved.Action as code_action
 use Rattle.meaning.specs.declared.resolved.Action.TheOpen.{Action-F}
+use Rattle.meaning.specs.declared.checked.CheckedObject.{CheckedObject}
 use Rattle.meaning.specs.declared.checked.CheckedRoutine.{CheckedRoutine}
 
 mutual
@@ -36,6 +40,18 @@ mutual
     -- an entry of the array of a number, at an index; and what is assigned to it
     entry : Width → ℕ → Value → Value
     assign_entry : Width → ℕ → Value → Value → Value
+    -- of an object: its parent, its first child or its sibling; whether its parent is another word, or is not
+    relative : Relative → Value → Value
+    contained : Containment → Value → Value → Value
+    -- whether it has the attribute of a number, or has it not; whether it provides a property
+    has : Bool → Value → ℕ → Value
+    provides : Value → ℕ → Value
+    -- the word of a property, and how many bytes it has; one of its words, at an index; and what is assigned to these
+    property : Value → ℕ → Value
+    property_size : Value → ℕ → Value
+    property_word : Value → ℕ → Value → Value
+    assign_property : Value → ℕ → Value → Value
+    assign_property_word : Value → ℕ → Value → Value → Value
 
   pub data Values : Type 0 where
     none : Values
@@ -45,6 +61,7 @@ pub data Printed : Type 0 where
   text : List ℕ → Printed
   character_of : Value → Printed
   number_of : Value → Printed
+  name_of : Value → Printed
 
 -- what a case of a `switch` holds for: a word, or those from one to another, which are read signed
 pub data RangeOf : Type 0 where
@@ -70,6 +87,14 @@ mutual
     continue_on : Action
     -- the next line, to the arrays of these numbers
     read_line : ℕ → ℕ → Action
+    -- attributes that are set, and those that are cleared, in order
+    give_to : Value → List (Bool × ℕ) → Action
+    move_to : Value → Value → Action
+    remove_from : Value → Action
+    -- for each object; for each for which a condition holds; and for each child of one
+    each_object : Variable → Action → Action
+    each_where : Variable → Value → Action → Action
+    each_in : Variable → Value → Action → Action
     return_value : Value → Action
     quit : Action
     effect : Value → Action
@@ -94,6 +119,9 @@ pub record RoutineOf : Type 0 where
 pub record ProgramOf : Type 0 where
   pub globals : List ℕ
   pub arrays : List (List ℕ)
+  -- the defaults of properties, from that of property 1 on
+  pub defaults : List ℕ
+  pub objects : List ObjectOf
   pub keys : List ℕ
   pub routines : List RoutineOf
   pub main : ℕ
@@ -121,6 +149,15 @@ value_layer (Value-F.Equal a op b vs) = equal op a.value (more b.value (values_o
 value_layer (Value-F.Assign x v) = assign x v.value
 value_layer (Value-F.Entry width a i) = entry width a i.value
 value_layer (Value-F.AssignEntry width a i v) = assign_entry width a i.value v.value
+value_layer (Value-F.Relative r v) = relative r v.value
+value_layer (Value-F.Contained a op b) = contained op a.value b.value
+value_layer (Value-F.Has positive v a) = has positive v.value a
+value_layer (Value-F.Provides v p) = provides v.value p
+value_layer (Value-F.Property v p) = property v.value p
+value_layer (Value-F.PropertySize v p) = property_size v.value p
+value_layer (Value-F.PropertyWord v p i) = property_word v.value p i.value
+value_layer (Value-F.AssignProperty v p w) = assign_property v.value p w.value
+value_layer (Value-F.AssignPropertyWord v p i w) = assign_property_word v.value p i.value w.value
 
 abbrev pub value_of : code_value.Value → Value
 value_of = code_value.fold-Value Value value_layer
@@ -129,6 +166,7 @@ abbrev pub printed_of : code_printed.Printed → Printed
 printed_of (items.Text s) = text s.now
 printed_of (items.Character v) = character_of (value_of v)
 printed_of (items.Number v) = number_of (value_of v)
+printed_of (items.Name v) = name_of (value_of v)
 
 abbrev pub actions_of : List Action → Actions
 actions_of [] = stop
@@ -164,6 +202,12 @@ action_layer (Action-F.Switch v cases other) = switch_on (value_of v)
 action_layer Action-F.Break = break_out
 action_layer Action-F.Continue = continue_on
 action_layer (Action-F.Read t p) = read_line t p
+action_layer (Action-F.Give v changes) = give_to (value_of v) changes.items
+action_layer (Action-F.Move v w) = move_to (value_of v) (value_of w)
+action_layer (Action-F.Remove v) = remove_from (value_of v)
+action_layer (Action-F.EachObject x a) = each_object x a.value
+action_layer (Action-F.EachWhere x v a) = each_where x (value_of v) a.value
+action_layer (Action-F.EachIn x v a) = each_in x (value_of v) a.value
 action_layer (Action-F.ReturnValue v) = return_value (value_of v)
 action_layer Action-F.Quit = quit
 action_layer (Action-F.Effect v) = effect (value_of v)
@@ -189,6 +233,17 @@ title_of r = (name_tree r.name, r.weight)
 abbrev pub AreArrays : List ℕ → List ℕ → Type 0
 AreArrays sizes bytes = (arrays : List (List ℕ)) × (sizes ≡ map length arrays) × (bytes ≡ concat arrays)
 
+abbrev pub property_of : ℕ × Vec ℕ → ℕ × List ℕ
+property_of x = (x.0, x.1.items)
+
+abbrev pub object_of : CheckedObject → ObjectOf
+object_of o = record {
+  parent = o.parent;
+  name = o.name.now;
+  attributes = o.attributes.items;
+  properties = map property_of o.properties.items;
+}
+
 -- pieces of these sizes, which stand one behind another
 abbrev pub cut : List ℕ → List ℕ → List (List ℕ)
 cut [] bytes = []
@@ -199,6 +254,8 @@ cut (n ∷ ns) bytes = take n bytes ∷ cut ns (drop n bytes)
 pub record CheckedProgram : Type 0 where
   pub globals : List ℕ
   pub arrays : List (List ℕ)
+  pub defaults : List ℕ
+  pub objects : List CheckedObject
   pub keys : List ℕ
   pub routines : List CheckedRoutine
   pub main : ℕ
@@ -209,6 +266,8 @@ abbrev pub program_of : CheckedProgram → ProgramOf
 program_of c = record {
   globals = c.globals;
   arrays = c.arrays;
+  defaults = c.defaults;
+  objects = map object_of c.objects;
   keys = c.keys;
   routines = map routine_of c.routines;
   main = c.main;

@@ -1,16 +1,20 @@
 -- What a running source changes, and the acts that change it.
 use Rattle.std.specs.Prelude.{◌+◌, ◌*◌, ◌/◌, ◌%◌, ◌==◌, ◌&&◌, ℕ, zero, suc, nat_le, nat_lt, Bool, if◌then◌else◌, List}
-use Rattle.std.specs.Prelude.{[], ◌∷◌, ◌++◌, codes, length, take, slice_index, slice_index_or, slice_set}
+use Rattle.std.specs.Prelude.{[], ◌∷◌, ◌++◌, codes, length, take, slice_index, slice_index_or, slice_set, Option, Some}
+use Rattle.std.specs.Prelude.{None}
 use Rattle.zcore.specs.Bytes.{word_at}
 use Rattle.zcore.specs.Parts.{with_word}
 use Rattle.zcore.specs.declared.place.Place.{Place}
 use Rattle.zcore.specs.declared.place.Place.TheVariants as places
 use Rattle.zcore.specs.declared.place.Limit.TheVariants as limits
 use Rattle.zcore.specs.Turn.{notice}
+use Rattle.expressions.specs.declared.tree.Relative.{Relative}
 use Rattle.expressions.specs.declared.tree.Width.{Width}
 use Rattle.expressions.specs.declared.tree.Width.TheVariants as widths
 use Rattle.meaning.specs.declared.cause.Cause.{Cause}
 use Rattle.meaning.specs.declared.cause.Cause.TheVariants as causes
+use Rattle.meaning.specs.Objects.{Objects, Tree, Climbed, clear, inside, spent, climb, relative_in, removed, moved}
+use Rattle.meaning.specs.Objects.{with_attribute, with_words}
 use Rattle.meaning.specs.declared.resolved.Variable.{Variable}
 use Rattle.meaning.specs.declared.resolved.Variable.TheVariants as variables
 
@@ -24,6 +28,7 @@ pub record World : Type 0 where
   pub globals : List ℕ
   -- the bytes of each array
   pub arrays : List (List ℕ)
+  pub objects : Objects
   -- the units that the turn may still spend
   pub fuel : ℕ
   -- the lines that are still to come
@@ -165,3 +170,76 @@ write_entry width a i value s =
     if is_index width (array_at s.world.arrays a) i
     then to tt (with_array a (with_entry width (array_at s.world.arrays a) i value) s)
     else fault causes.IndexOutOfRange s
+
+-- Objects
+
+-- an object is a number from 1 to the number of objects
+abbrev pub is_object : ℕ → ℕ → Bool
+is_object count o = nat_le 1 o && nat_le o count
+
+-- the test that a word is one of so many objects
+abbrev pub test_object : ℕ → ℕ → Part (Unit {0})
+test_object count o = if is_object count o then give tt else fault causes.NotAnObject
+
+abbrev pub with_objects : Objects → Situation → Situation
+with_objects objects s = record s { world = record (s.world) { objects = objects } }
+
+abbrev pub relative_of : Relative → ℕ → Part ℕ
+relative_of relative o s = to (relative_in relative o s.world.objects.tree) s
+
+-- Attributes
+
+abbrev pub has_attribute : ℕ → ℕ → Part Bool
+has_attribute o a s = to (s.world.objects.attributes o a) s
+
+abbrev pub give_attribute : ℕ → ℕ → Bool → Part (Unit {0})
+give_attribute o a has s = to tt (with_objects (with_attribute o a has s.world.objects) s)
+
+-- Properties
+
+-- the words of a property, where the object provides it
+abbrev pub words_provided : ℕ → ℕ → Part (Option (List ℕ))
+words_provided o p s = to (s.world.objects.properties o p) s
+
+abbrev pub test_provided : Option (List ℕ) → Part (List ℕ)
+test_provided None = fault causes.NoSuchProperty
+test_provided (Some words) = give words
+
+abbrev pub test_single : List ℕ → Part (Unit {0})
+test_single words = if length words == 1 then give tt else fault causes.PropertyOfManyWords
+
+-- the index of a word of a property is signed, as that of an array is
+abbrev pub test_word : ℕ → List ℕ → Part (Unit {0})
+test_word i words = if nat_lt i 32768 && nat_lt i (length words) then give tt else fault causes.IndexOutOfRange
+
+-- the word of a property that has one; of one that the object does not provide, the default
+abbrev pub single_word : ℕ → Option (List ℕ) → Part ℕ
+single_word default None = give default
+single_word default (Some words) = do
+  _ ← test_single words
+  give (slice_index words 0)
+
+abbrev pub size_of : Option (List ℕ) → ℕ
+size_of None = 0
+size_of (Some words) = 2 * length words
+
+abbrev pub write_words : ℕ → ℕ → List ℕ → Part (Unit {0})
+write_words o p words s = to tt (with_objects (with_words o p words s.world.objects) s)
+
+-- Moves
+
+abbrev pub with_tree : Tree → Situation → Situation
+with_tree tree s = with_objects (record (s.world.objects) { tree = tree }) s
+
+abbrev pub remove_object : ℕ → Part (Unit {0})
+remove_object o s = to tt (with_tree (removed o s.world.objects.tree) s)
+
+-- what the test of a move comes to
+abbrev pub move_by : ℕ → ℕ → Climbed → Part (Unit {0})
+move_by o into (clear fuel) s = to tt (with_tree (moved o into s.world.objects.tree)
+    (record s { world = record (s.world) { fuel = fuel } }))
+move_by o into inside s = fault causes.ObjectInsideItself s
+move_by o into spent s = over (ended (places.Limit limits.Fuel) (record (s.world) { fuel = 0 }))
+
+abbrev pub move_object : ℕ → ℕ → Part (Unit {0})
+move_object o into s = move_by o into (climb s.world.objects.tree.parent o into s.world.fuel) s

@@ -26,11 +26,29 @@ pub struct CheckedRoutine<'a> {
     pub weight: u128,
 }
 
+/// An object of an accepted program.
+#[derive(Drop)]
+pub struct CheckedObject<'a> {
+    /// The number of its parent, 0 for none.
+    pub parent: u16,
+
+    /// The bytes between the quotes of its short name.
+    pub name: &'a [u8],
+
+    /// The numbers of its attributes, from 0.
+    pub attributes: Vec<u8>,
+
+    /// The number of each property, from 1, and its words.
+    pub properties: Vec<(u8, Vec<u16>)>,
+}
+
 /// A program that breaks no rule of the language.
 #[derive(Drop)]
 pub struct Checked<'a> {
     globals: Vec<u16>,
     arrays: Arrays,
+    defaults: Vec<u16>,
+    objects: Vec<CheckedObject<'a>>,
     keys: Vec<u64>,
     routines: Vec<CheckedRoutine<'a>>,
     main: usize,
@@ -43,7 +61,7 @@ impl<'a> Model for Checked<'a> {
 
     ghost coded = { Prim.hlevel (codes, (statement.the_row static_lft).coded) };
 
-    ghost view = { λ c. record { globals = c.globals.items; arrays = cut c.arrays.sizes.items c.arrays.bytes.items; keys = c.keys.items; routines = c.routines.items; main = c.main; weight = c.weight; end_line = c.end_line } };
+    ghost view = { λ c. record { globals = c.globals.items; arrays = cut c.arrays.sizes.items c.arrays.bytes.items; defaults = c.defaults.items; objects = c.objects.items; keys = c.keys.items; routines = c.routines.items; main = c.main; weight = c.weight; end_line = c.end_line } };
 
     ghost invariant = { λ c. AreArrays c.arrays.sizes.items c.arrays.bytes.items × (length c.keys.items ≤ 2 ^ 59) };
 }
@@ -54,6 +72,8 @@ impl<'a> Checked<'a> {
     pub fn new(
         globals: Vec<u16>,
         arrays: Arrays,
+        defaults: Vec<u16>,
+        objects: Vec<CheckedObject<'a>>,
         keys: Vec<u64>,
         routines: Vec<CheckedRoutine<'a>>,
         main: usize,
@@ -62,11 +82,13 @@ impl<'a> Checked<'a> {
     ) -> Self
         requires arrays { AreArrays arrays.sizes.items arrays.bytes.items }
         requires few { length keys.items ≤ 2 ^ 59 }
-        ensures { result ≡ record { globals = globals.items; arrays = cut arrays.sizes.items arrays.bytes.items; keys = keys.items; routines = routines.entry.items; main = main; weight = weight; end_line = end_line } }
+        ensures { result ≡ record { globals = globals.items; arrays = cut arrays.sizes.items arrays.bytes.items; defaults = defaults.items; objects = objects.entry.items; keys = keys.items; routines = routines.entry.items; main = main; weight = weight; end_line = end_line } }
     {
         Checked {
             globals,
             arrays,
+            defaults,
+            objects,
             keys,
             routines,
             main,
@@ -94,6 +116,20 @@ impl<'a> Checked<'a> {
         ensures { result.now ≡ map length self.now.arrays }
     {
         &self.arrays.sizes
+    }
+
+    /// The defaults of the properties, from that of property 1 on.
+    pub fn defaults(&self) -> &[u16]
+        ensures { result.now ≡ self.now.defaults }
+    {
+        &self.defaults
+    }
+
+    /// The objects in order of definition. The first has the number 1.
+    pub fn objects(&self) -> &[CheckedObject<'a>]
+        ensures { result.now ≡ self.now.objects }
+    {
+        &self.objects
     }
 
     /// The keys of the dictionary words, each once and ascending.

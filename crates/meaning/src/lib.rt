@@ -8,11 +8,13 @@ mod checked;
 mod places;
 mod resolved;
 mod sizes;
+mod table_sizes;
 
 pub use around::{Around, IN_LOOP, OUTSIDE, in_switch};
 pub use arrays::Arrays;
 pub use cause::Cause;
-pub use checked::{Checked, CheckedRoutine};
-pub use places::{Places, dictionary_behind, part_places};
+pub use checked::{Checked, CheckedObject, CheckedRoutine};
+pub use places::{Places, dictionary_behind, objects_size, part_places, tables_size};
 pub use resolved::{Action, Printed, Span, Value, Variable};
 pub use sizes::test_sizes;
+pub use table_sizes::{machine_character, name_words};

@@ -1,10 +1,12 @@
 //! Where the parts of a story stand.
 
-ghost use Rattle.std.specs.Prelude.{◌≡◌, ◌+◌, ◌<◌, ◌^◌};
-ghost use Rattle.meaning.specs.Resolved.{program_of};
-ghost use Rattle.meaning.specs.Places.{places_of};
+ghost use Rattle.std.specs.Prelude.{◌≡◌, ◌+◌, ◌*◌, ◌<◌, ◌≤◌, ◌^◌, ℕ, map};
+ghost use Rattle.meaning.specs.Resolved.{program_of, object_of};
+ghost use Rattle.meaning.specs.Places.{folded, places_of, routines_place};
+ghost use Rattle.meaning.specs.Places as spec;
 
-use crate::checked::Checked;
+use crate::checked::{Checked, CheckedObject};
+use crate::table_sizes::{folded, table_size};
 
 /// The bytes of the header.
 const HEADER: usize = 64;
@@ -20,6 +22,9 @@ const GLOBALS: usize = 240;
 
 /// The words of property defaults.
 const DEFAULTS: usize = 63;
+
+/// The bytes of an object's entry.
+const OBJECT: usize = 14;
 
 /// The bytes of a dictionary without entries: three separators and how many they are, the length of an entry, and the
 /// number of entries.
@@ -48,25 +53,48 @@ pub struct Places {
     pub routines: usize,
 }
 
-/// Where the dictionary stands, behind so many bytes of arrays.
-pub fn dictionary_behind(arrays: usize) -> usize
-    requires { arrays < 2 ^ 63 }
-    ensures { result ≡ 864 + arrays }
+/// The bytes of the entries of objects and of their property tables, folded.
+pub fn objects_size(objects: &[CheckedObject<'_>]) -> usize
+    ensures size { result ≡ folded (spec.objects_size (map object_of objects.now)) }
+    ensures few { result < 131072 }
 {
-    HEADER + 2 * ABBREVIATIONS + EMPTY_TEXT + 2 * GLOBALS + arrays + 2 * DEFAULTS
+    let mut size = 0;
+    for object in objects {
+        size = folded((size + OBJECT + table_size(object)) as u128);
+    }
+    size
+}
+
+/// Where the dictionary stands, behind so many bytes of arrays and of objects, folded.
+pub fn dictionary_behind(arrays: usize, objects: usize) -> usize
+    ensures place { result ≡ folded (864 + arrays + objects) }
+    ensures few { result < 131072 }
+{
+    let fixed = HEADER + 2 * ABBREVIATIONS + EMPTY_TEXT + 2 * GLOBALS + 2 * DEFAULTS;
+    folded(fixed as u128 + arrays as u128 + objects as u128)
+}
+
+/// The bytes of all that stands before the routines, folded.
+pub fn tables_size(checked: &Checked<'_>) -> usize
+    ensures { result ≡ folded (routines_place (program_of checked.now)) }
+{
+    let objects = objects_size(checked.objects());
+    let dictionary = dictionary_behind(checked.array_bytes().len(), objects);
+    folded((dictionary + EMPTY_DICTIONARY + ENTRY * checked.keys().len() + START) as u128)
 }
 
 /// Where the parts of the story of a program stand.
 pub fn part_places(checked: &Checked<'_>) -> Places
+    requires { routines_place (program_of checked.now) ≤ 65535 }
     ensures { result ≡ places_of (program_of checked.now) }
 {
     let globals = HEADER + 2 * ABBREVIATIONS + EMPTY_TEXT;
-    let defaults = globals + 2 * GLOBALS + checked.array_bytes().len();
-    let dictionary = dictionary_behind(checked.array_bytes().len());
+    let arrays = checked.array_bytes().len();
+    let dictionary = dictionary_behind(arrays, objects_size(checked.objects()));
     let start = dictionary + EMPTY_DICTIONARY + ENTRY * checked.keys().len();
     Places {
         globals,
-        defaults,
+        defaults: globals + 2 * GLOBALS + arrays,
         dictionary,
         start,
         routines: start + START,

@@ -1,6 +1,6 @@
 //! Statements and expressions whose names are resolved.
 
-use expressions::{Binary, Comparison, Equality, Prefix, Step, Width};
+use expressions::{Binary, Comparison, Containment, Equality, Prefix, Relative, Step, Width};
 
 /// A variable.
 #[derive(Clone, Copy, Debug, PartialEq, Eq)]
@@ -34,6 +34,33 @@ pub enum Value {
 
     /// An assignment to such an entry: the index, and then the value.
     AssignEntry(Width, usize, Box<Value>, Box<Value>),
+
+    /// The parent, the first child or the sibling of an object.
+    Relative(Relative, Box<Value>),
+
+    /// Whether an object's parent is another word, or is not.
+    Contained(Box<Value>, Containment, Box<Value>),
+
+    /// Whether an object has the attribute of a number, or, where the truth value is false, has it not.
+    Has(bool, Box<Value>, usize),
+
+    /// Whether an object provides the property of a number.
+    Provides(Box<Value>, usize),
+
+    /// The word of an object's property, by the property's number.
+    Property(Box<Value>, usize),
+
+    /// How many bytes the property has.
+    PropertySize(Box<Value>, usize),
+
+    /// A word of the property, at an index.
+    PropertyWord(Box<Value>, usize, Box<Value>),
+
+    /// An assignment to the word of a property.
+    AssignProperty(Box<Value>, usize, Box<Value>),
+
+    /// An assignment to a word of a property: the index, and then the value.
+    AssignPropertyWord(Box<Value>, usize, Box<Value>, Box<Value>),
 }
 
 /// What `print` prints. Texts are the bytes between their quotes.
@@ -42,6 +69,9 @@ pub enum Printed<'a> {
     Text(&'a [u8]),
     Character(Value),
     Number(Value),
+
+    /// The short name of an object.
+    Name(Value),
 }
 
 /// What a case of a `switch` holds for.
@@ -78,6 +108,23 @@ pub enum Action<'a> {
 
     /// `read`: the numbers of the array for the letters of the line, and of that for its words.
     Read(usize, usize),
+
+    /// `give`: the object, and the numbers of attributes, which are set, or cleared where the truth value is false.
+    Give(Value, Vec<(bool, usize)>),
+
+    /// `move` the first object into the second.
+    Move(Value, Value),
+
+    Remove(Value),
+
+    /// `objectloop` over all objects.
+    EachObject(Variable, Box<Action<'a>>),
+
+    /// `objectloop` over the objects for which a condition holds.
+    EachWhere(Variable, Value, Box<Action<'a>>),
+
+    /// `objectloop` over the children of an object.
+    EachIn(Variable, Value, Box<Action<'a>>),
 
     /// `return` alone and `rtrue` return 1, `rfalse` returns 0.
     ReturnValue(Value),

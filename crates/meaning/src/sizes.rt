@@ -1,11 +1,13 @@
 //! Which programs are too large.
 
-ghost use Rattle.std.specs.Prelude.{◌≡◌};
+ghost use Rattle.std.specs.Prelude.{◌≡◌, nat_lt};
+ghost use Rattle.meaning.specs.Places.{routines_place};
+ghost use Rattle.meaning.specs.Resolved.{program_of};
 ghost use Rattle.meaning.specs.Sizes.{fault_of, size_fault};
 ghost use Rattle.meaning.specs.Sizes as spec;
 
 use crate::checked::{Checked, CheckedRoutine};
-use crate::places::part_places;
+use crate::places::tables_size;
 use lexer::{Position, ROUTINE_TOO_LARGE, STORY_TOO_LARGE, SourceFault, TABLES_TOO_LARGE};
 use zcore::Version;
 
@@ -16,6 +18,13 @@ fn greatest_weight(version: Version) -> u128
         Version::V5 => 190_000,
         Version::V8 => 450_000,
     }
+}
+
+// Whether the parts before the routines pass the last address that a word names.
+fn are_tables_large(checked: &Checked<'_>) -> bool
+    ensures { result ≡ nat_lt 65535 (routines_place (program_of checked.now)) }
+{
+    tables_size(checked) > 65_535
 }
 
 // The position of the name of the first routine that weighs too much.
@@ -40,7 +49,7 @@ fn first_heavy(routines: &[CheckedRoutine<'_>]) -> Option<Position>
 pub fn test_sizes(checked: &Checked<'_>, version: Version) -> Result<(), SourceFault>
     ensures { fault_of result ≡ size_fault checked.now version }
 {
-    if part_places(checked).routines > 65_535 {
+    if are_tables_large(checked) {
         return Err(SourceFault {
             number: TABLES_TOO_LARGE,
             line: 0,

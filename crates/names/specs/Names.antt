@@ -1,12 +1,12 @@
 -- What names stand for. Case is ignored; all names of a file share one space, and a local hides a name of the file in
 -- its whole routine.
-use Rattle.std.specs.Prelude.{◌&&◌, ◌+◌, ◌<◌, ℕ, zero, suc, nat_eq, nat_le, Bool, true, false, if◌then◌else◌, List}
+use Rattle.std.specs.Prelude.{◌&&◌, ◌+◌, ◌%◌, ◌<◌, ℕ, zero, suc, nat_eq, nat_le, Bool, true, false, if◌then◌else◌, List}
 use Rattle.std.specs.Prelude.{[], ◌∷◌, ◌++◌, codes, length, Option, Some, None, is_some}
 use Rattle.std.specs.Cmp.Lexicographic.{pointwise}
 use Rattle.expressions.specs.Tree as trees
 use Rattle.expressions.specs.Tree.{NameTree, ExpressionTree}
 use Rattle.statements.specs.Tree.{LiteralTree, number_value, word_value, named_value}
-use Rattle.syntax.specs.Tree.{DirectiveTree, global, constant, array, routine}
+use Rattle.syntax.specs.Tree.{DirectiveTree, global, constant, array, attribute, property, object, routine}
 use Rattle.names.specs.declared.binding.Binding.{Binding}
 use Rattle.names.specs.declared.binding.Binding.TheVariants as bindings
 use Rattle.names.specs.declared.counts.Counts.{Counts}
@@ -35,29 +35,41 @@ name_of (trees.named n) = Some n
 name_of (trees.call n es) = None
 name_of (trees.index n width e) = None
 name_of (trees.parenthesised e) = name_of e
+name_of (trees.relative_of r e) = None
+name_of (trees.property e n) = None
+name_of (trees.property_length e n) = None
+name_of (trees.property_entry e n i) = None
 name_of (trees.prefixed op e) = None
 name_of (trees.step_before op p e) = None
 name_of (trees.step_after e op p) = None
 name_of (trees.binary op a b) = None
 name_of (trees.compare op a b) = None
 name_of (trees.equal op a bs) = None
+name_of (trees.contained op a b) = None
+name_of (trees.tested test e n) = None
 name_of (trees.assign a p b) = None
 
--- an expression is an entry of an array, parentheses apart
-abbrev pub is_entry : ExpressionTree → Bool
-is_entry (trees.constant n) = false
-is_entry (trees.word s) = false
-is_entry (trees.named n) = false
-is_entry (trees.call n es) = false
-is_entry (trees.index n width e) = true
-is_entry (trees.parenthesised e) = is_entry e
-is_entry (trees.prefixed op e) = false
-is_entry (trees.step_before op p e) = false
-is_entry (trees.step_after e op p) = false
-is_entry (trees.binary op a b) = false
-is_entry (trees.compare op a b) = false
-is_entry (trees.equal op a bs) = false
-is_entry (trees.assign a p b) = false
+-- an expression is an entry of an array, a property or a word of a property, parentheses apart
+abbrev pub is_place : ExpressionTree → Bool
+is_place (trees.constant n) = false
+is_place (trees.word s) = false
+is_place (trees.named n) = false
+is_place (trees.call n es) = false
+is_place (trees.index n width e) = true
+is_place (trees.parenthesised e) = is_place e
+is_place (trees.relative_of r e) = false
+is_place (trees.property e n) = true
+is_place (trees.property_length e n) = false
+is_place (trees.property_entry e n i) = true
+is_place (trees.prefixed op e) = false
+is_place (trees.step_before op p e) = false
+is_place (trees.step_after e op p) = false
+is_place (trees.binary op a b) = false
+is_place (trees.compare op a b) = false
+is_place (trees.equal op a bs) = false
+is_place (trees.contained op a b) = false
+is_place (trees.tested test e n) = false
+is_place (trees.assign a p b) = false
 
 abbrev pub same_key : List ℕ → List ℕ → Bool
 same_key = pointwise nat_eq
@@ -80,16 +92,18 @@ with_name table name binding =
 
 -- the property `name` is there from the start
 abbrev pub first_table : Table
-first_table = (key_of (codes "name"), bindings.Property) ∷ []
+first_table = (key_of (codes "name"), bindings.Property 1) ∷ []
 
--- what a name stands for, where it is a constant
+-- what a name stands for, where it is a constant or an object, which is its number
 abbrev pub constant_known : Option Binding → Option Known
 constant_known None = None
 constant_known (Some (bindings.Constant known)) = Some known
 constant_known (Some (bindings.Global g)) = None
 constant_known (Some (bindings.Array a kind)) = None
 constant_known (Some (bindings.Routine r locals)) = None
-constant_known (Some bindings.Property) = None
+constant_known (Some (bindings.Attribute a)) = None
+constant_known (Some (bindings.Property p)) = None
+constant_known (Some (bindings.Object o)) = Some (knowns.Number (o % 65536))
 constant_known (Some (bindings.Local l)) = None
 
 -- what a literal is, among these names
@@ -106,34 +120,87 @@ pub record File : Type 0 where
 abbrev pub literal_value : File → LiteralTree → ℕ
 literal_value file v = value_of_known file.number (or_zero (literal_known file.table v))
 
--- what is defined before the first directive
+-- In a constant's value a constant stands earlier, but an object may stand anywhere in the file.
+
+abbrev pub is_object : Option Binding → Bool
+is_object None = false
+is_object (Some (bindings.Constant known)) = false
+is_object (Some (bindings.Global g)) = false
+is_object (Some (bindings.Array a kind)) = false
+is_object (Some (bindings.Routine r locals)) = false
+is_object (Some (bindings.Attribute a)) = false
+is_object (Some (bindings.Property p)) = false
+is_object (Some (bindings.Object o)) = true
+is_object (Some (bindings.Local l)) = false
+
+-- what a name of a constant's value stands for: `before` there, `anywhere` in the file
+abbrev pub object_first : Option Binding → Option Binding → Option Binding
+object_first before anywhere = if is_object anywhere then anywhere else before
+
+-- what a constant's value is: `whole` has the objects of the file, `table` the names before it
+abbrev pub earlier_known : Table → Table → LiteralTree → Option Known
+earlier_known whole table (number_value n) = Some (knowns.Number n)
+earlier_known whole table (word_value s) = Some (knowns.Key (key_of_word s))
+earlier_known whole table (named_value n) =
+    constant_known (object_first (in_table table (key_of n.text)) (in_table whole (key_of n.text)))
+
+-- what is defined before the first directive; properties are counted without `name`
 abbrev pub no_counts : Counts
-no_counts = record { globals = 0; arrays = 0; routines = 0 }
+no_counts = record { globals = 0; arrays = 0; attributes = 0; properties = 0; objects = 0; routines = 0 }
 
 -- fewer of each kind
-abbrev pub AreFewer : ℕ → Counts → Type 0
-AreFewer n counts = (counts.globals < n) × (counts.arrays < n) × (counts.routines < n)
+pub record AreFewer (n : ℕ) (counts : Counts) : Type 0 where
+  pub globals : counts.globals < n
+  pub arrays : counts.arrays < n
+  pub attributes : counts.attributes < n
+  pub properties : counts.properties < n
+  pub objects : counts.objects < n
+  pub routines : counts.routines < n
 
 -- how many definitions there are after a directive
 abbrev pub counts_after : Counts → DirectiveTree → Counts
 counts_after counts (global n v) = record counts { globals = counts.globals + 1 }
 counts_after counts (constant n v) = counts
 counts_after counts (array a) = record counts { arrays = counts.arrays + 1 }
+counts_after counts (attribute n) = record counts { attributes = counts.attributes + 1 }
+counts_after counts (property n v) = record counts { properties = counts.properties + 1 }
+counts_after counts (object o) = record counts { objects = counts.objects + 1 }
 counts_after counts (routine r) = record counts { routines = counts.routines + 1 }
 
--- the names of a file after a directive, where so much was defined before; a name in a constant's value stands earlier
-abbrev pub with_directive : Table → Counts → DirectiveTree → Table
-with_directive table counts (global n v) = with_name table n (bindings.Global counts.globals)
-with_directive table counts (constant n v) = with_name table n (bindings.Constant (or_zero (literal_known table v)))
-with_directive table counts (array a) = with_name table a.name (bindings.Array counts.arrays a.kind)
-with_directive table counts (routine r) = with_name table r.name (bindings.Routine counts.routines (length r.locals))
+-- what the name of a directive stands for, where `whole` has the objects of the file, and these names and so much are
+-- defined before it
+abbrev pub binding_of : Table → Table → Counts → DirectiveTree → Binding
+binding_of whole table counts (global n v) = bindings.Global counts.globals
+binding_of whole table counts (constant n v) = bindings.Constant (or_zero (earlier_known whole table v))
+binding_of whole table counts (array a) = bindings.Array counts.arrays a.kind
+binding_of whole table counts (attribute n) = bindings.Attribute counts.attributes
+binding_of whole table counts (property n v) = bindings.Property (counts.properties + 2)
+binding_of whole table counts (object o) = bindings.Object (counts.objects + 1)
+binding_of whole table counts (routine r) = bindings.Routine counts.routines (length r.locals)
 
-abbrev pub table_from : Table → Counts → List DirectiveTree → Table
-table_from table counts [] = table
-table_from table counts (d ∷ ds) = table_from (with_directive table counts d) (counts_after counts d) ds
+-- the name that a directive defines
+abbrev pub defined_name : DirectiveTree → NameTree
+defined_name (global n v) = n
+defined_name (constant n v) = n
+defined_name (array a) = a.name
+defined_name (attribute n) = n
+defined_name (property n v) = n
+defined_name (object o) = o.name
+defined_name (routine r) = r.name
 
+-- the names of a file after a directive
+abbrev pub with_directive : Table → Table → Counts → DirectiveTree → Table
+with_directive whole table counts d = with_name table (defined_name d) (binding_of whole table counts d)
+
+abbrev pub table_from : Table → Table → Counts → List DirectiveTree → Table
+table_from whole table counts [] = table
+table_from whole table counts (d ∷ ds) =
+    table_from whole (with_directive whole table counts d) (counts_after counts d) ds
+
+-- The names of a file are gathered twice: objects have their numbers after the first time, and what constants are rests
+-- on these.
 unfoldable pub table_of : List DirectiveTree → Table
-table_of directives = table_from first_table no_counts directives
+table_of directives = table_from (table_from [] first_table no_counts directives) first_table no_counts directives
 
 -- Names in a routine
 

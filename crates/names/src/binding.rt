@@ -18,8 +18,15 @@ pub enum Binding {
     /// A routine, numbered from 0 in order of definition, and how many locals it has.
     Routine(usize, usize),
 
-    /// A property. The property `name` is there from the start.
-    Property,
+    /// An attribute, numbered from 0 in order of definition.
+    Attribute(usize),
+
+    /// A property. The property `name` is there from the start and has the number 1; those of the file are numbered from 2
+    /// in order of definition.
+    Property(usize),
+
+    /// An object, numbered from 1 in order of definition.
+    Object(usize),
 
     /// A local of the routine, numbered from 0.
     Local(usize),

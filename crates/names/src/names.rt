@@ -1,6 +1,7 @@
 //! The names of a file, in order of definition.
 
 ghost use Rattle.std.specs.Prelude.{◌≡◌, ◌^◌, IfOk, OnOk, map};
+ghost use Rattle.expressions.specs.Tree.{name_tree};
 ghost use Rattle.statements.specs.Tree.{literal_tree};
 ghost use Rattle.syntax.specs.Tree.{directive_tree};
 ghost use Rattle.names.specs.Keys as keys;
@@ -14,7 +15,7 @@ use crate::table::{Table, define, find};
 use crate::words::key_of_word;
 use indexmap::IndexMap;
 use std::alloc::{AllocError, Global};
-use syntax::{Directive, Literal};
+use syntax::{Directive, Literal, Name};
 
 /// The names of a file before one of its directives.
 #[derive(Drop)]
@@ -25,7 +26,7 @@ pub struct Names {
     pub counts: Counts,
 }
 
-/// What a name stands for, where it is a constant.
+/// What a name stands for, where it is a constant or an object, which is its number.
 pub fn constant_known(found: Option<Binding>) -> Option<Known>
     ensures { result ≡ spec.constant_known found }
 {
@@ -35,12 +36,14 @@ pub fn constant_known(found: Option<Binding>) -> Option<Known>
         Some(Binding::Global(_)) => None,
         Some(Binding::Array(_, _)) => None,
         Some(Binding::Routine(_, _)) => None,
-        Some(Binding::Property) => None,
+        Some(Binding::Attribute(_)) => None,
+        Some(Binding::Property(_)) => None,
+        Some(Binding::Object(object)) => Some(Known::Number((object % 65_536) as u16)),
         Some(Binding::Local(_)) => None,
     }
 }
 
-/// What a literal is, where a name in it is a constant of a table.
+/// What a literal is, where a name in it is a constant or an object of a table.
 pub fn literal_known(table: &Table, value: &Literal<'_>) -> Option<Known>
     ensures { result ≡ spec.literal_known table.now.entries (literal_tree value.now) }
 {
@@ -51,6 +54,29 @@ pub fn literal_known(table: &Table, value: &Literal<'_>) -> Option<Known>
     }
 }
 
+// What a name of a constant's value stands for: a constant stands before it, an object anywhere in the file.
+fn object_first(before: Option<Binding>, anywhere: Option<Binding>) -> Option<Binding>
+    ensures { result ≡ spec.object_first before anywhere }
+{
+    match anywhere {
+        Some(Binding::Object(object)) => Some(Binding::Object(object)),
+        _ => before,
+    }
+}
+
+// What a constant's value is, where `whole` has the objects of the file and `table` the names before it.
+fn earlier_known(whole: &Table, table: &Table, value: &Literal<'_>) -> Option<Known>
+    ensures { result ≡ spec.earlier_known whole.now.entries table.now.entries (literal_tree value.now) }
+{
+    match value {
+        Literal::Number(number) => Some(Known::Number(*number)),
+        Literal::Word(word) => Some(Known::Key(key_of_word(word))),
+        Literal::Named(name) => {
+            constant_known(object_first(find(table, name.text), find(whole, name.text)))
+        }
+    }
+}
+
 /// What is known, or 0 where nothing is.
 pub fn or_zero(found: Option<Known>) -> Known
     ensures { result ≡ keys.or_zero found }
@@ -58,6 +84,21 @@ pub fn or_zero(found: Option<Known>) -> Known
     match found {
         None => Known::Number(0),
         Some(known) => known,
+    }
+}
+
+// The name that a directive defines.
+fn defined_name<'a>(directive: &Directive<'a>) -> Name<'a>
+    ensures { name_tree result ≡ spec.defined_name (directive_tree directive.now) }
+{
+    match directive {
+        Directive::Global(name, _) => *name,
+        Directive::Constant(name, _) => *name,
+        Directive::Array(array) => array.name,
+        Directive::Attribute(name) => *name,
+        Directive::Property(name, _) => *name,
+        Directive::Object(object) => object.name,
+        Directive::Routine(routine) => routine.name,
     }
 }
 
@@ -72,61 +113,76 @@ impl Names {
         ensures counts { IfOk result (λ n. n.counts ≡ spec.no_counts) }
     {
         let mut table = IndexMap::new(alloc);
-        table.insert(key_of(b"name"), Binding::Property)?;
+        table.insert(key_of(b"name"), Binding::Property(1))?;
         Ok(Names {
             table,
             counts: Counts::none(),
         })
     }
 
-    /// Gives the name of a directive its meaning.
+    // What the name of a directive stands for.
+    fn binding_of(&self, whole: &Table, directive: &Directive<'_>) -> Binding
+        requires few { spec.AreFewer (2 ^ 63) self.now.counts }
+        ensures { result ≡ spec.binding_of whole.now.entries self.now.table.entries self.now.counts (directive_tree directive.now) }
+    {
+        match directive {
+            Directive::Global(_, _) => Binding::Global(self.counts.globals),
+            Directive::Constant(_, value) => {
+                Binding::Constant(or_zero(earlier_known(whole, &self.table, value)))
+            }
+            Directive::Array(array) => Binding::Array(self.counts.arrays, array.kind),
+            Directive::Attribute(_) => Binding::Attribute(self.counts.attributes),
+            Directive::Property(_, _) => Binding::Property(self.counts.properties + 2),
+            Directive::Object(_) => Binding::Object(self.counts.objects + 1),
+            Directive::Routine(routine) => {
+                Binding::Routine(self.counts.routines, routine.locals.len())
+            }
+        }
+    }
+
+    /// Gives the name of a directive its meaning, where `whole` has the objects of the file.
     ///
     /// # Errors
     ///
     /// `AllocError` where memory is refused.
-    pub fn add(&mut self, directive: &Directive<'_>) -> Result<(), AllocError>
+    pub fn add(&mut self, whole: &Table, directive: &Directive<'_>) -> Result<(), AllocError>
         requires few { spec.AreFewer (2 ^ 63) self.old.counts }
-        ensures table { OnOk result (self.new.table.entries ≡ spec.with_directive self.old.table.entries self.old.counts (directive_tree directive.now)) }
+        ensures table { OnOk result (self.new.table.entries ≡ spec.with_directive whole.now.entries self.old.table.entries self.old.counts (directive_tree directive.now)) }
         ensures counts { OnOk result (self.new.counts ≡ spec.counts_after self.old.counts (directive_tree directive.now)) }
     {
-        match directive {
-            Directive::Global(name, _) => {
-                define(&mut self.table, *name, Binding::Global(self.counts.globals))?;
-                self.counts.globals += 1;
-                Ok(())
-            }
-            Directive::Constant(name, value) => {
-                let known = or_zero(literal_known(&self.table, value));
-                define(&mut self.table, *name, Binding::Constant(known))
-            }
-            Directive::Array(array) => {
-                let binding = Binding::Array(self.counts.arrays, array.kind);
-                define(&mut self.table, array.name, binding)?;
-                self.counts.arrays += 1;
-                Ok(())
-            }
-            Directive::Routine(routine) => {
-                let binding = Binding::Routine(self.counts.routines, routine.locals.len());
-                define(&mut self.table, routine.name, binding)?;
-                self.counts.routines += 1;
-                Ok(())
-            }
-        }
+        let binding = self.binding_of(whole, directive);
+        define(&mut self.table, defined_name(directive), binding)?;
+        self.counts.add(directive);
+        Ok(())
     }
 }
 
-/// The names of a whole file.
+// The names of a file, where `whole` has its objects.
+#[tactic(auto, using(crate::proofs::Counting::counts_fit, crate::proofs::Counting::fewer))]
+fn tabulate_with(
+    alloc: Global,
+    whole: &Table,
+    directives: &[Directive<'_>],
+) -> Result<Table, AllocError>
+    ensures { IfOk result (λ t. t.entries ≡ spec.table_from whole.now.entries spec.first_table spec.no_counts (map directive_tree directives.now)) }
+{
+    let mut names = Names::new(alloc)?;
+    for directive in directives {
+        names.add(whole, directive)?;
+    }
+    Ok(names.table)
+}
+
+/// The names of a whole file: first as they stand where no later object is known, and then with its objects.
 ///
 /// # Errors
 ///
 /// `AllocError` where memory is refused.
-#[tactic(auto, using(crate::proofs::Counting::counts_fit, crate::proofs::Counting::fewer))]
+#[tactic(auto, unfolding(crate::specs::Names::table_of))]
 pub fn tabulate(alloc: Global, directives: &[Directive<'_>]) -> Result<Table, AllocError>
     ensures { IfOk result (λ t. t.entries ≡ spec.table_of (map directive_tree directives.now)) }
 {
-    let mut names = Names::new(alloc)?;
-    for directive in directives {
-        names.add(directive)?;
-    }
-    Ok(names.table)
+    let none = IndexMap::new(alloc);
+    let whole = tabulate_with(alloc, &none, directives)?;
+    tabulate_with(alloc, &whole, directives)
 }

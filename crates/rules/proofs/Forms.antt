@@ -1,7 +1,8 @@
 -- Lists of trees and chains: what they break and what they resolve to, part by part.
-use Rattle.std.proofs.Common.{◌≡◌, ℕ, List, [], ◌∷◌, ◌++◌, append_assoc, length, Bool, true, false, cond}
+use Rattle.std.proofs.Common.{◌≡◌, ℕ, zero, suc, ◌+◌, ◌<◌, ◌≤◌, List, [], ◌∷◌, ◌++◌, append_assoc, length, take, drop}
+use Rattle.std.proofs.Common.{slice_index_or, Bool, true, false, cond}
 use Rattle.std.proofs.Common.{Option, Some, None, refl, sym, ap, ◌∙◌, subst, arith}
-use Rattle.std.specs.Prelude.{map}
+use Rattle.std.specs.Prelude.{map, Result, Ok, Err, IfOk}
 use Rattle.std.specs.Global.{Vec}
 use Rattle.std.specs.List.{flat_map}
 use Rattle.expressions.specs.declared.tree.Binary.{Binary}
@@ -9,34 +10,39 @@ use Rattle.expressions.specs.declared.tree.Expression.{Expression}
 use Rattle.expressions.specs.declared.tree.Width.{Width}
 use Rattle.lexer.specs.declared.token.Position.{Position}
 use Rattle.expressions.specs.Tree as trees
-use Rattle.expressions.specs.Tree.{NameTree, ExpressionTree, expression_tree, trees_of, chained, link}
+use Rattle.expressions.specs.declared.tree.Name.{Name}
+use Rattle.expressions.specs.Tree.{NameTree, name_tree, ExpressionTree, expression_tree, trees_of, chained, link}
+use Rattle.expressions.specs.Tree.{propertied}
 use Rattle.statements.specs.declared.tree.Statement.{Statement}
 use Rattle.statements.specs.declared.tree.PrintItem.{PrintItem}
 use Rattle.statements.specs.declared.tree.Range.{Range}
-use Rattle.statements.specs.Tree.{StatementTree, item_tree, statement_tree, range_tree, case_tree}
+use Rattle.statements.specs.Tree.{StatementTree, flag_tree, item_tree, statement_tree, range_tree, case_tree}
 use Rattle.meaning.proofs.Mapped.{mapped_twice}
 use Rattle.statements.specs.Tree as written
 use Rattle.meaning.specs.declared.around.Around.{Around}
 use Rattle.names.specs.declared.binding.Binding.{Binding}
 use Rattle.names.specs.declared.breach.Breach.{Breach}
 use Rattle.names.specs.Noted.{noted}
-use Rattle.names.specs.Names.{name_of, is_entry, Seen}
+use Rattle.names.specs.Names.{name_of, is_place, Seen}
 use Rattle.meaning.specs.Resolved as values
+use Rattle.meaning.specs.declared.resolved.Value as code_value
 use Rattle.meaning.specs.declared.resolved.Action as code_action
 use Rattle.meaning.specs.declared.resolved.Span.{Span}
 use Rattle.meaning.specs.Resolved.{Value, RangeOf, Printed, Action, Actions, values_of, range_of, actions_of, action_of}
-use Rattle.meaning.specs.Resolved.{case_of}
+use Rattle.meaning.specs.Resolved.{value_of, case_of}
 use Rattle.rules.specs.Expressions.{breaches, all_breaches, resolve, resolve_all, count, call_breaches}
 use Rattle.rules.specs.Expressions.{routine_of_binding, value_of_binding, array_name_breaches, array_of_binding}
 use Rattle.rules.specs.Expressions.{target_breaches, assigned_breaches, assigned}
 use Rattle.meaning.specs.declared.resolved.Variable.TheVariants as variables
 use Rattle.names.specs.Breaches.{at}
-use Rattle.rules.specs.Statements.{range_breaches, resolve_range, item_breaches, resolve_item, statements_breaches}
+use Rattle.rules.specs.Statements.{range_breaches, resolve_range, flag_breaches, resolve_flag, item_breaches}
+use Rattle.rules.specs.Statements.{resolve_item, statements_breaches}
 use Rattle.rules.specs.Statements.{cases_breaches, resolve_statement, resolve_statements, resolve_cases}
 use Rattle.meaning.specs.Around.{in_switch}
 use Rattle.rules.specs.Walk.{own_breaches, resolved, link_breaches, resolved_link, IsWalked, IsResolved}
 use Rattle.rules.specs.Walk.{AreResolved, IsAssigned, AreLinks, AreItems, AreActions, own_item_breaches}
-use Rattle.rules.specs.Walk.{resolved_item}
+use Rattle.rules.specs.Walk.{resolved_item, own_property_breaches, resolved_property, properties_of, AreProperties}
+use Rattle.rules.specs.Walk.{own_flag_breaches, resolved_flag, AreFlags}
 use Rattle.rules.specs.Walk.{own_statement_breaches, resolved_statement, own_range_breaches, resolved_range}
 use Rattle.rules.specs.Walk.{IsWhole, IsAction, AreRanges, IsCase, AreCases, IsOther, own_case_breaches}
 use Rattle.rules.specs.Walk.{resolved_case}
@@ -60,11 +66,53 @@ pub chain_assigned : (op : Binary) (a b : Value) (ls : List (Binary × Value)) (
 chain_assigned op a b [] v = refl
 chain_assigned op a b (l ∷ ls) v = chain_assigned l.0 (values.binary op a b) l.1 ls v
 
--- and is no entry
-pub chain_entry : (op : Binary) (a b : ExpressionTree) (ls : List (Binary × ExpressionTree))
-    → is_entry (chained (trees.binary op a b) ls) ≡ false
-chain_entry op a b [] = refl
-chain_entry op a b (l ∷ ls) = chain_entry l.0 (trees.binary op a b) l.1 ls
+-- and is no place
+pub chain_place : (op : Binary) (a b : ExpressionTree) (ls : List (Binary × ExpressionTree))
+    → is_place (chained (trees.binary op a b) ls) ≡ false
+chain_place op a b [] = refl
+chain_place op a b (l ∷ ls) = chain_place l.0 (trees.binary op a b) l.1 ls
+
+-- properties, one behind another, have no name and are a place
+
+pub properties_name : (e : ExpressionTree) (n : NameTree) (ns : List Name)
+    → name_of (propertied (trees.property e n) ns) ≡ None
+properties_name e n [] = refl
+properties_name e n (m ∷ ns) = properties_name (trees.property e n) (name_tree m) ns
+
+pub properties_place : (e : ExpressionTree) (n : NameTree) (ns : List Name)
+    → is_place (propertied (trees.property e n) ns) ≡ true
+properties_place e n [] = refl
+properties_place e n (m ∷ ns) = properties_place (trees.property e n) (name_tree m) ns
+
+-- what is left of a list and what is done of it, mapped
+module _ {A R : Type 0} (g : A → R) where
+  map_from : (xs : List A) (i : ℕ) (x : A) → i < length xs
+      → map g (drop i xs) ≡ g (slice_index_or xs i x) ∷ map g (drop (suc i) xs)
+  map_from [] i x h = absurd (omega arith)
+  map_from (y ∷ xs) zero x h = refl
+  map_from (y ∷ xs) (suc i) x h = map_from xs i x (omega arith)
+
+  pub map_there : (xs : List A) (i : ℕ) (d : A) → i < length xs
+      → map g (drop i xs) ≡ g (slice_index_or xs i d) ∷ map g (drop (i + 1) xs)
+  map_there xs i d lt = let j : i + 1 ≡ suc i = omega arith in rw j (map_from xs i d lt)
+
+  pub map_end : (xs : List A) (i : ℕ) → length xs ≤ i → map g (drop i xs) ≡ []
+  map_end [] zero h = refl
+  map_end [] (suc i) h = refl
+  map_end (x ∷ xs) zero h = absurd (omega arith)
+  map_end (x ∷ xs) (suc i) h = map_end xs i (omega arith)
+
+  take_from : (xs : List A) (i : ℕ) (d : A) → i < length xs
+      → map g (take (suc i) xs) ≡ map g (take i xs) ++ g (slice_index_or xs i d) ∷ []
+  take_from [] i d h = absurd (omega arith)
+  take_from (y ∷ xs) zero d h = refl
+  take_from (y ∷ xs) (suc i) d h = ap (λ r. g y ∷ r) (take_from xs i d (omega arith))
+
+  -- what was found, with one more
+  pub more_there : (rs : List R) (r : R) (xs : List A) (i : ℕ) (d : A) → i < length xs → rs ≡ map g (take i xs)
+      → r ≡ g (slice_index_or xs i d) → rs ++ r ∷ [] ≡ map g (take (i + 1) xs)
+  more_there rs r xs i d lt so_far is =
+      let j : i + 1 ≡ suc i = omega arith in rw (j, take_from xs i d lt, so_far, is) refl
 
 module _ (seen : Seen) where
   -- what a name resolves to, in parentheses or not
@@ -77,12 +125,18 @@ module _ (seen : Seen) where
   named_resolves (trees.call m es) n h = absurd cc
   named_resolves (trees.index m w e) n h = absurd cc
   named_resolves (trees.parenthesised e) n h = named_resolves e n h
+  named_resolves (trees.relative_of r e) n h = absurd cc
+  named_resolves (trees.property e m) n h = absurd cc
+  named_resolves (trees.property_length e m) n h = absurd cc
+  named_resolves (trees.property_entry e m i) n h = absurd cc
   named_resolves (trees.prefixed op e) n h = absurd cc
   named_resolves (trees.step_before op p e) n h = absurd cc
   named_resolves (trees.step_after e op p) n h = absurd cc
   named_resolves (trees.binary op a b) n h = absurd cc
   named_resolves (trees.compare op a b) n h = absurd cc
   named_resolves (trees.equal op a bs) n h = absurd cc
+  named_resolves (trees.contained op a b) n h = absurd cc
+  named_resolves (trees.tested test e m) n h = absurd cc
   named_resolves (trees.assign a p b) n h = absurd cc
 
   pub all_break : (es : List Expression) → all_breaches seen.look (trees_of (map expression_tree es))
@@ -109,6 +163,23 @@ module _ (seen : Seen) where
   chain_resolve e [] = refl
   chain_resolve e (l ∷ ls) = chain_resolve (trees.binary l.0 e (expression_tree l.1)) ls
 
+  properties_break : (m : Option Breach) (e : ExpressionTree) (ns : List Name)
+      → noted m (breaches seen.look (propertied e ns))
+      ≡ noted (noted m (breaches seen.look e)) (flat_map (own_property_breaches seen) ns)
+  properties_break m e [] = sym (noted_none (noted m (breaches seen.look e)))
+  properties_break m e (n ∷ ns) =
+      properties_break m (trees.property e (name_tree n)) ns
+      ∙ ap (λ q. noted q (flat_map (own_property_breaches seen) ns))
+      (noted_append m (breaches seen.look e) (own_property_breaches seen n))
+      ∙ sym
+      (noted_append (noted m (breaches seen.look e)) (own_property_breaches seen n)
+      (flat_map (own_property_breaches seen) ns))
+
+  properties_resolve : (e : ExpressionTree) (ns : List Name)
+      → resolve seen (propertied e ns) ≡ properties_of (resolve seen e) (map (resolved_property seen) ns)
+  properties_resolve e [] = refl
+  properties_resolve e (n ∷ ns) = properties_resolve (trees.property e (name_tree n)) ns
+
   pub statements_break : (around : Around) (ss : List Statement)
       → statements_breaches seen.look around (written.trees_of (map statement_tree ss))
       ≡ flat_map (own_statement_breaches seen around) ss
@@ -120,6 +191,20 @@ module _ (seen : Seen) where
       ≡ actions_of (map (resolved_statement seen) ss)
   statements_resolve [] = refl
   statements_resolve (s ∷ ss) = ap (λ r. values.next (resolved_statement seen s) r) (statements_resolve ss)
+
+  flags_break : (xs : List (Bool × Name)) → flat_map (flag_breaches seen.look) (map flag_tree xs)
+      ≡ flat_map (own_flag_breaches seen) xs
+  flags_break [] = refl
+  flags_break (x ∷ xs) = ap (λ b. own_flag_breaches seen x ++ b) (flags_break xs)
+
+  pub flags_walked : (xs : List (Bool × Name)) (found : List (Bool × ℕ)) {m n : Option Breach}
+      → AreFlags seen xs m n found
+      → IsWalked (flat_map (flag_breaches seen.look) (map flag_tree xs)) m n found
+      (map (resolve_flag seen) (map flag_tree xs))
+  flags_walked xs found {m = m} w = record {
+    value = w.value ∙ sym (mapped_twice flag_tree (resolve_flag seen) (resolved_flag seen) (λ x. refl) xs);
+    breaches = w.breaches ∙ ap (λ b. noted m b) (sym (flags_break xs));
+  }
 
   pub items_break : (xs : List PrintItem) → flat_map (item_breaches seen.look) (map item_tree xs)
       ≡ flat_map (own_item_breaches seen) xs
@@ -150,6 +235,18 @@ module _ (seen : Seen) where
     breaches = z.breaches ∙ ap (λ q. noted q (flat_map (link_breaches seen) ls)) w.breaches
         ∙ sym (chain_break m e ls);
   }
+
+  pub properties_walked : {E : Type 0} (e : ExpressionTree) (ns : List Name) (v : Value)
+      (r : Result code_value.Value E) (o : Option Breach) {m n : Option Breach} → IsResolved seen e m n v
+      → IfOk r (λ w. AreProperties seen ns v n o (value_of w))
+      → IfOk r (λ w. IsResolved seen (propertied e ns) m o (value_of w))
+  properties_walked e ns v (Ok w) o {m = m} x y = record {
+    value = y.value ∙ ap (λ a. properties_of a (map (resolved_property seen) ns)) x.value
+        ∙ sym (properties_resolve e ns);
+    breaches = y.breaches ∙ ap (λ q. noted q (flat_map (own_property_breaches seen) ns)) x.breaches
+        ∙ sym (properties_break m e ns);
+  }
+  properties_walked e ns v (Err fault) o x y = tt
 
   pub call_walked : (name : NameTree) (number given : ℕ) (found : Option Binding) (es : List Expression)
       (vs : List Value) {m o p : Option Breach}
@@ -187,7 +284,7 @@ module _ (seen : Seen) where
   name_assigned operator e name found v {m = m} is f n b = record {
     value = n ∙ ap (value_of_binding seen.number) f ∙ sym (named_resolves e name is);
     breaches = b ∙ ap (λ y. noted m (target_breaches name.position operator y)) f
-        ∙ ap (λ (y : Option NameTree). noted m (assigned_breaches seen.look operator y (is_entry e) (breaches seen.look e)))
+        ∙ ap (λ (y : Option NameTree). noted m (assigned_breaches seen.look operator y (is_place e) (breaches seen.look e)))
         (sym is);
   }
 
@@ -198,7 +295,7 @@ module _ (seen : Seen) where
   no_name_breaks operator false inside m o q a b = noted_two m o q inside (at operator 26) a b
 
   pub part_assigned : (operator : Position) (e : ExpressionTree) (c : Bool) (v : Value) {m o q : Option Breach}
-      → name_of e ≡ None → c ≡ is_entry e → IsResolved seen e m o v → q ≡ noted o (cond c [] (at operator 26))
+      → name_of e ≡ None → c ≡ is_place e → IsResolved seen e m o v → q ≡ noted o (cond c [] (at operator 26))
       → IsAssigned seen operator e m q v
   part_assigned operator e c v {m = m} {o = o} {q = q} none one w b = record {
     value = w.value;

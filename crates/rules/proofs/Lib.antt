@@ -3,3 +3,4 @@ pub mod Walks
 pub mod Needs
 pub mod Forms
 pub mod ReadNames
+mod Samples

@@ -1,14 +1,15 @@
 -- What operands and chains need.
 use Rattle.std.proofs.Common.{◌≡◌, ℕ, zero, suc, ◌+◌, ◌-◌, ◌<◌, ◌≤◌, max, Bool, true, false, nat_le, nat_lt, not}
 use Rattle.std.proofs.Common.{◌&&◌, List, [], ◌∷◌, ◌++◌, length, drop, slice_index_or, Option, Some, None, refl, sym, ap}
-use Rattle.std.proofs.Common.{◌∙◌, arith}
+use Rattle.std.proofs.Common.{◌∙◌, subst, arith}
 use Rattle.std.specs.Prelude.{map}
 use Rattle.std.proofs.lemmas.Bool.Decides.{nat_tests}
 use Rattle.expressions.specs.declared.tree.Binary.{Binary}
 use Rattle.expressions.specs.declared.tree.Expression.{Expression}
+use Rattle.expressions.specs.declared.tree.Name.{Name}
 use Rattle.expressions.specs.Tree as trees
-use Rattle.expressions.specs.Tree.{NameTree, ExpressionTree, expression_tree, trees_of, chained, link}
-use Rattle.names.specs.Names.{name_of}
+use Rattle.expressions.specs.Tree.{NameTree, name_tree, ExpressionTree, expression_tree, trees_of, chained, propertied}
+use Rattle.expressions.specs.Tree.{link}
 use Rattle.rules.specs.Temporaries.{need, needs, greatest, left_needs, part_fits, room_behind}
 use Rattle.meaning.specs.Operands.{operands}
 use Rattle.rules.specs.Statements.{heading_need}
@@ -24,13 +25,19 @@ need_one (trees.named n) = omega arith
 need_one (trees.call n es) = operands_one 0 (needs es)
 need_one (trees.index n width e) = operands_one 0 (need e ∷ [])
 need_one (trees.parenthesised e) = need_one e
+need_one (trees.relative_of r e) = operands_one 0 (need e ∷ [])
+need_one (trees.property e n) = operands_one 0 (need e ∷ [])
+need_one (trees.property_length e n) = operands_one 0 (need e ∷ [])
+need_one (trees.property_entry e n i) = operands_one 0 (need e ∷ need i ∷ [])
 need_one (trees.prefixed op e) = operands_one 0 (need e ∷ [])
 need_one (trees.step_before op p e) = operands_one 0 (need e ∷ [])
 need_one (trees.step_after e op p) = operands_one 0 (need e ∷ [])
 need_one (trees.binary op a b) = operands_one 0 (need a ∷ need b ∷ [])
 need_one (trees.compare op a b) = operands_one 0 (need a ∷ need b ∷ [])
 need_one (trees.equal op a bs) = operands_one 0 (need a ∷ needs bs)
-need_one (trees.assign a p b) = operands_one 0 (left_needs (name_of a) (need a) ++ need b ∷ [])
+need_one (trees.contained op a b) = operands_one 0 (need a ∷ need b ∷ [])
+need_one (trees.tested test e n) = operands_one 0 (need e ∷ [])
+need_one (trees.assign a p b) = operands_one 0 (left_needs a (need a) ++ need b ∷ [])
 
 abbrev pub link_need : Binary × Expression → ℕ
 link_need l = need (expression_tree l.1)
@@ -176,11 +183,90 @@ equal_bad a b r ns one h = grind (arith, nat_tests)
 pub fits_not : (b : Bool) (n : ℕ) → b ≡ nat_le n 48 → nat_lt 48 n ≡ not b
 fits_not b n h = grind (arith, nat_tests)
 
+-- properties, one behind another
+
+pub properties_need : (e : ExpressionTree) (ns : List Name) → need (propertied e ns) ≡ need e
+properties_need e [] = refl
+properties_need e (n ∷ ns) = properties_need (trees.property e (name_tree n)) ns ∙ one_need e
+
+-- the left side of an assignment
+
+pub chain_left : (op : Binary) (a b : ExpressionTree) (ls : List (Binary × ExpressionTree)) (own : ℕ)
+    → left_needs (chained (trees.binary op a b) ls) own ≡ own ∷ []
+chain_left op a b [] own = refl
+chain_left op a b (l ∷ ls) own = chain_left l.0 (trees.binary op a b) l.1 ls own
+
+pub properties_left : (e : ExpressionTree) (n : NameTree) (ns : List Name) (own : ℕ)
+    → left_needs (propertied (trees.property e n) ns) own ≡ own ∷ []
+properties_left e n [] own = refl
+properties_left e n (m ∷ ns) own = properties_left (trees.property e n) (name_tree m) ns own
+
+-- where it is an operand or two, these need as much as it does as an expression
+whole_left : (a : ExpressionTree) (own : ℕ) → own ≡ need a → 1 ≤ length (left_needs a own)
+    → operands 0 (left_needs a own) ≡ need a
+whole_left (trees.constant n) own is some = omega (arith, is)
+whole_left (trees.word s) own is some = omega (arith, is)
+whole_left (trees.named n) own is some = absurd (omega (arith, some))
+whole_left (trees.call n es) own is some = omega (arith, is, need_one (trees.call n es))
+whole_left (trees.index n width e) own is some = omega (arith, is, need_one (trees.index n width e))
+whole_left (trees.parenthesised e) own is some = whole_left e own is some
+whole_left (trees.relative_of r e) own is some = omega (arith, is, need_one (trees.relative_of r e))
+whole_left (trees.property e n) own is some = omega (arith, is, need_one (trees.property e n))
+whole_left (trees.property_length e n) own is some = omega (arith, is, need_one (trees.property_length e n))
+whole_left (trees.property_entry e n i) own is some = refl
+whole_left (trees.prefixed op e) own is some = omega (arith, is, need_one (trees.prefixed op e))
+whole_left (trees.step_before op p e) own is some = omega (arith, is, need_one (trees.step_before op p e))
+whole_left (trees.step_after e op p) own is some = omega (arith, is, need_one (trees.step_after e op p))
+whole_left (trees.binary op a b) own is some = omega (arith, is, need_one (trees.binary op a b))
+whole_left (trees.compare op a b) own is some = omega (arith, is, need_one (trees.compare op a b))
+whole_left (trees.equal op a bs) own is some = omega (arith, is, need_one (trees.equal op a bs))
+whole_left (trees.contained op a b) own is some = omega (arith, is, need_one (trees.contained op a b))
+whole_left (trees.tested test e n) own is some = omega (arith, is, need_one (trees.tested test e n))
+whole_left (trees.assign a p b) own is some = omega (arith, is, need_one (trees.assign a p b))
+
+-- operands, and one more
+operands_more : (before : ℕ) (ns : List ℕ) (n : ℕ) → 1 ≤ n
+    → operands before (ns ++ n ∷ []) ≡ max (operands before ns) (before + length ns + n)
+operands_more before [] n one = omega arith
+operands_more before (m ∷ ns) n one = omega (arith, operands_more (before + 1) ns n one)
+
+none_next : (ns : List ℕ) (n room : ℕ) → 1 ≤ n → length ns ≡ 0
+    → nat_le n room ≡ nat_le (operands 0 (ns ++ n ∷ [])) room
+none_next [] n room one none = grind (arith, nat_tests)
+none_next (m ∷ ns) n room one none = absurd (omega (arith, none))
+
+some_next : (own long n all room : ℕ) → 1 ≤ n → all ≡ max own (0 + long + n) → nat_le own room ≡ true
+    → nat_le n (room - long) ≡ nat_le all room
+some_next own long n all room one is good = grind (arith, nat_tests)
+
+some_bad : (own long n all room : ℕ) → all ≡ max own (0 + long + n) → nat_le own room ≡ false
+    → false ≡ nat_le all room
+some_bad own long n all room is bad = grind (arith, nat_tests)
+
+abbrev AssignmentFits : ExpressionTree → ℕ → ℕ → Bool
+AssignmentFits a n room = nat_le (operands 0 (left_needs a (need a) ++ n ∷ [])) room
+
+all_of : (a : ExpressionTree) (n : ℕ) → 1 ≤ n → 1 ≤ length (left_needs a (need a))
+    → operands 0 (left_needs a (need a) ++ n ∷ []) ≡ max (need a) (0 + length (left_needs a (need a)) + n)
+all_of a n one some = operands_more 0 (left_needs a (need a)) n one
+    ∙ ap (λ w. max w (0 + length (left_needs a (need a)) + n)) (whole_left a (need a) refl some)
+
 -- a name that is assigned is no operand
-pub named_fits : (r : Bool) (left : Option NameTree) (n : NameTree) (own b room : ℕ) → left ≡ Some n → 1 ≤ b
-    → r ≡ nat_le b room → r ≡ nat_le (operands 0 (left_needs left own ++ b ∷ [])) room
-named_fits r left n own b room is one h = let e : max (0 + b) 1 ≡ b = omega arith in
-    rw is (h ∙ ap (λ m. nat_le m room) (sym e))
+pub left_none : (a : ExpressionTree) (n room long : ℕ) → 1 ≤ n → long ≡ length (left_needs a (need a)) → long ≡ 0
+    → nat_le n room ≡ AssignmentFits a n room
+left_none a n room long one is none = none_next (left_needs a (need a)) n room one (sym is ∙ none)
+
+pub left_next : (a : ExpressionTree) (n room long : ℕ) → 1 ≤ n → long ≡ length (left_needs a (need a)) → 1 ≤ long
+    → nat_le (need a) room ≡ true → nat_le n (room - long) ≡ AssignmentFits a n room
+left_next a n room long one is some good = rw is
+    (some_next (need a) (length (left_needs a (need a))) n (operands 0 (left_needs a (need a) ++ n ∷ [])) room one
+    (all_of a n one (subst (λ l. 1 ≤ l) is some)) good)
+
+pub left_bad : (a : ExpressionTree) (n room long : ℕ) → 1 ≤ n → long ≡ length (left_needs a (need a)) → 1 ≤ long
+    → nat_le (need a) room ≡ false → false ≡ AssignmentFits a n room
+left_bad a n room long one is some bad =
+    some_bad (need a) (length (left_needs a (need a))) n (operands 0 (left_needs a (need a) ++ n ∷ [])) room
+    (all_of a n one (subst (λ l. 1 ≤ l) is some)) bad
 
 -- the parts of a `for` that are there are operands of one form
 

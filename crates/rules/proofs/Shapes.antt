@@ -1,20 +1,23 @@
 -- Which tree an expression or a statement of the code stands for, by its variant.
-use Rattle.std.proofs.Common.{◌≡◌, ℕ, List, Option, Bor, sym, ap, ◌∙◌}
+use Rattle.std.proofs.Common.{◌≡◌, ℕ, Bool, List, Option, Bor, sym, ap, ◌∙◌}
 use Rattle.std.specs.Prelude.{map}
 use Rattle.std.specs.Global.{Vec, Box}
 use Rattle.lexer.specs.declared.token.Position.{Position}
 use Rattle.expressions.specs.declared.tree.Name.{Name}
 use Rattle.expressions.specs.declared.tree.Binary.{Binary}
 use Rattle.expressions.specs.declared.tree.Comparison.{Comparison}
+use Rattle.expressions.specs.declared.tree.Containment.{Containment}
 use Rattle.expressions.specs.declared.tree.Equality.{Equality}
+use Rattle.expressions.specs.declared.tree.ObjectTest.{ObjectTest}
 use Rattle.expressions.specs.declared.tree.Prefix.{Prefix}
+use Rattle.expressions.specs.declared.tree.Relative.{Relative}
 use Rattle.expressions.specs.declared.tree.Step.{Step}
 use Rattle.expressions.specs.declared.tree.Width.{Width}
 use Rattle.expressions.specs.declared.tree.Expression.{Expression}
 use Rattle.expressions.specs.declared.tree.Expression.TheVariants as from
 use Rattle.expressions.specs.declared.tree.Expression.TheFolds.{fold-roll-Expression}
 use Rattle.expressions.specs.Tree as trees
-use Rattle.expressions.specs.Tree.{ExpressionTree, expression_tree, name_tree, trees_of, link, layer}
+use Rattle.expressions.specs.Tree.{ExpressionTree, expression_tree, name_tree, trees_of, propertied, link, layer}
 use Rattle.statements.specs.declared.tree.Heading.{Heading}
 use Rattle.statements.specs.declared.tree.PrintItem.{PrintItem}
 use Rattle.statements.specs.declared.tree.Range.{Range}
@@ -22,7 +25,8 @@ use Rattle.statements.specs.declared.tree.Statement.{Statement}
 use Rattle.statements.specs.declared.tree.Statement.TheVariants as said
 use Rattle.statements.specs.declared.tree.Statement.TheFolds.{fold-roll-Statement}
 use Rattle.statements.specs.Tree as written
-use Rattle.statements.specs.Tree.{StatementTree, statement_tree, item_tree, heading_tree, case_tree, other_tree}
+use Rattle.statements.specs.Tree.{StatementTree, statement_tree, flag_tree, item_tree, heading_tree, case_tree}
+use Rattle.statements.specs.Tree.{other_tree}
 use Rattle.statements.proofs.Shapes.{is_switch}
 
 -- Expressions
@@ -50,6 +54,27 @@ is_index e n w i same = ap expression_tree (same ∙ sym (from.rolls-Index n w i
 pub is_parenthesised : (e : Expression) (i : Box Expression) → e ≡ from.Parenthesised i
     → expression_tree e ≡ trees.parenthesised (expression_tree i.value)
 is_parenthesised e i same = ap expression_tree (same ∙ sym (from.rolls-Parenthesised i))
+    ∙ fold-roll-Expression ExpressionTree layer _
+
+pub is_relative_of : (e : Expression) (r : Relative) (i : Box Expression) → e ≡ from.RelativeOf r i
+    → expression_tree e ≡ trees.relative_of r (expression_tree i.value)
+is_relative_of e r i same = ap expression_tree (same ∙ sym (from.rolls-RelativeOf r i))
+    ∙ fold-roll-Expression ExpressionTree layer _
+
+pub is_property : (e : Expression) (o : Box Expression) (n : Name) (ns : Vec Name) → e ≡ from.Property o n ns
+    → expression_tree e ≡ propertied (trees.property (expression_tree o.value) (name_tree n)) ns.items
+is_property e o n ns same = ap expression_tree (same ∙ sym (from.rolls-Property o n ns))
+    ∙ fold-roll-Expression ExpressionTree layer _
+
+pub is_property_length : (e : Expression) (o : Box Expression) (n : Name) → e ≡ from.PropertyLength o n
+    → expression_tree e ≡ trees.property_length (expression_tree o.value) (name_tree n)
+is_property_length e o n same = ap expression_tree (same ∙ sym (from.rolls-PropertyLength o n))
+    ∙ fold-roll-Expression ExpressionTree layer _
+
+pub is_property_entry : (e : Expression) (o : Box Expression) (n : Name) (i : Box Expression)
+    → e ≡ from.PropertyEntry o n i → expression_tree e
+    ≡ trees.property_entry (expression_tree o.value) (name_tree n) (expression_tree i.value)
+is_property_entry e o n i same = ap expression_tree (same ∙ sym (from.rolls-PropertyEntry o n i))
     ∙ fold-roll-Expression ExpressionTree layer _
 
 pub is_prefixed : (e : Expression) (op : Prefix) (i : Box Expression) → e ≡ from.Prefixed op i
@@ -85,6 +110,17 @@ pub is_equal : (e : Expression) (a : Box Expression) (op : Equality) (b : Box Ex
     ≡ trees.equal op (expression_tree a.value)
     (trees.more (expression_tree b.value) (trees_of (map expression_tree es.items)))
 is_equal e a op b es same = ap expression_tree (same ∙ sym (from.rolls-Equal a op b es))
+    ∙ fold-roll-Expression ExpressionTree layer _
+
+pub is_contained : (e : Expression) (a : Box Expression) (op : Containment) (b : Box Expression)
+    → e ≡ from.Contained a op b → expression_tree e
+    ≡ trees.contained op (expression_tree a.value) (expression_tree b.value)
+is_contained e a op b same = ap expression_tree (same ∙ sym (from.rolls-Contained a op b))
+    ∙ fold-roll-Expression ExpressionTree layer _
+
+pub is_tested : (e : Expression) (o : Box Expression) (test : ObjectTest) (n : Name) → e ≡ from.Tested o test n
+    → expression_tree e ≡ trees.tested test (expression_tree o.value) (name_tree n)
+is_tested e o test n same = ap expression_tree (same ∙ sym (from.rolls-Tested o test n))
     ∙ fold-roll-Expression ExpressionTree layer _
 
 pub is_assign : (e : Expression) (a : Box Expression) (p : Position) (b : Box Expression) → e ≡ from.Assign a p b
@@ -188,6 +224,38 @@ is_quit_statement s same = ap statement_tree (same ∙ sym said.rolls-Quit)
 pub is_read_statement : (s : Statement) (a b : Name) → s ≡ said.Read a b
     → statement_tree s ≡ written.read_line (name_tree a) (name_tree b)
 is_read_statement s a b same = ap statement_tree (same ∙ sym (said.rolls-Read a b))
+    ∙ fold-roll-Statement StatementTree written.layer _
+
+pub is_give_statement : (s : Statement) (p : Position) (e : Box Expression) (xs : Vec (Bool × Name))
+    → s ≡ said.Give p e xs → statement_tree s ≡ written.give p (expression_tree e.value) (map flag_tree xs.items)
+is_give_statement s p e xs same = ap statement_tree (same ∙ sym (said.rolls-Give p e xs))
+    ∙ fold-roll-Statement StatementTree written.layer _
+
+pub is_move_statement : (s : Statement) (p : Position) (a b : Box Expression) → s ≡ said.Move p a b
+    → statement_tree s ≡ written.move p (expression_tree a.value) (expression_tree b.value)
+is_move_statement s p a b same = ap statement_tree (same ∙ sym (said.rolls-Move p a b))
+    ∙ fold-roll-Statement StatementTree written.layer _
+
+pub is_remove_statement : (s : Statement) (p : Position) (e : Box Expression) → s ≡ said.Remove p e
+    → statement_tree s ≡ written.remove p (expression_tree e.value)
+is_remove_statement s p e same = ap statement_tree (same ∙ sym (said.rolls-Remove p e))
+    ∙ fold-roll-Statement StatementTree written.layer _
+
+pub is_each_statement : (s : Statement) (n : Name) (x : Box Statement) → s ≡ said.Each n x
+    → statement_tree s ≡ written.each (name_tree n) (statement_tree x.value)
+is_each_statement s n x same = ap statement_tree (same ∙ sym (said.rolls-Each n x))
+    ∙ fold-roll-Statement StatementTree written.layer _
+
+pub is_each_in_statement : (s : Statement) (p : Position) (n : Name) (e : Box Expression) (x : Box Statement)
+    → s ≡ said.EachIn p n e x
+    → statement_tree s ≡ written.each_in p (name_tree n) (expression_tree e.value) (statement_tree x.value)
+is_each_in_statement s p n e x same = ap statement_tree (same ∙ sym (said.rolls-EachIn p n e x))
+    ∙ fold-roll-Statement StatementTree written.layer _
+
+pub is_each_where_statement : (s : Statement) (p : Position) (n : Name) (e : Box Expression) (x : Box Statement)
+    → s ≡ said.EachWhere p n e x
+    → statement_tree s ≡ written.each_where p (name_tree n) (expression_tree e.value) (statement_tree x.value)
+is_each_where_statement s p n e x same = ap statement_tree (same ∙ sym (said.rolls-EachWhere p n e x))
     ∙ fold-roll-Statement StatementTree written.layer _
 
 pub is_effect_statement : (s : Statement) (p : Position) (e : Box Expression) → s ≡ said.Effect p e

@@ -1,14 +1,17 @@
 -- Walks, part by part, and what the code's trees stand for.
-use Rattle.std.proofs.Common.{◌≡◌, ℕ, List, [], ◌++◌, Option, Some, None, Bor, refl, sym, ap, ◌∙◌}
+use Rattle.std.proofs.Common.{◌≡◌, ℕ, Bool, List, [], ◌++◌, Option, Some, None, Bor, refl, sym, ap, ◌∙◌}
 use Rattle.std.specs.Prelude.{map, Result, Ok, Err, IfOk}
 use Rattle.std.specs.Global.{Vec, Box}
 use Rattle.std.specs.Option.{option_map}
 use Rattle.expressions.specs.declared.tree.Binary.{Binary}
 use Rattle.expressions.specs.declared.tree.Comparison.{Comparison}
+use Rattle.expressions.specs.declared.tree.Containment.{Containment}
 use Rattle.expressions.specs.declared.tree.Equality.{Equality}
 use Rattle.expressions.specs.declared.tree.Prefix.{Prefix}
+use Rattle.expressions.specs.declared.tree.Relative.{Relative}
 use Rattle.expressions.specs.declared.tree.Step.{Step}
 use Rattle.expressions.specs.declared.tree.Width.{Width}
+use Rattle.names.specs.declared.binding.Binding.{Binding}
 use Rattle.names.specs.declared.breach.Breach.{Breach}
 use Rattle.meaning.specs.declared.resolved.Span.{Span}
 use Rattle.meaning.specs.declared.resolved.Variable.{Variable}
@@ -36,6 +39,15 @@ pub walked : {A : Type 0} {bs : List Breach} {m n : Option Breach} {x y : A} →
     → IsWalked bs m n x y
 walked v b = record { value = v; breaches = b }
 
+-- a name, by what it stands for
+pub named_part : {A : Type 0} (f : Option Binding → A) (rules : Option Binding → List Breach)
+    (found there : Option Binding) (x : A) {m n : Option Breach} → found ≡ there → x ≡ f found → n ≡ noted m (rules found)
+    → IsWalked (rules there) m n x (f there)
+named_part f rules found there x {m = m} same v b = record {
+  value = v ∙ ap f same;
+  breaches = b ∙ ap (λ y. noted m (rules y)) same;
+}
+
 -- one part
 pub one : {A B : Type 0} (f : A → B) {bs : List Breach} {m n : Option Breach} {x y : A} → IsWalked bs m n x y
     → IsWalked bs m n (f x) (f y)
@@ -60,6 +72,11 @@ pub before : {A B E : Type 0} (f : A → B) (r : Result A E) (bs cs : List Breac
     → n ≡ noted m bs → IfOk r (λ x. IsWalked cs n o (f x) y) → IfOk r (λ x. IsWalked (bs ++ cs) m o (f x) y)
 before f (Ok x) bs cs m n o y h w = record { value = w.value; breaches = noted_two m n o bs cs h w.breaches }
 before f (Err e) bs cs m n o y h w = tt
+
+-- rules of a part that resolves to nothing, and then a part
+pub behind : {A : Type 0} (bs cs : List Breach) (m n o : Option Breach) {x y : A} → n ≡ noted m bs
+    → IsWalked cs n o x y → IsWalked (bs ++ cs) m o x y
+behind bs cs m n o h w = record { value = w.value; breaches = noted_two m n o bs cs h w.breaches }
 
 -- What is made of parts
 
@@ -106,6 +123,66 @@ made_entry w a i = ap value_of (sym (made.rolls-Entry w a i)) ∙ fold-roll-Valu
 pub made_assign_entry : (w : Width) (a : ℕ) (i v : Box code_value.Value)
     → value_of (made.AssignEntry w a i v) ≡ values.assign_entry w a (value_of i.value) (value_of v.value)
 made_assign_entry w a i v = ap value_of (sym (made.rolls-AssignEntry w a i v)) ∙ fold-roll-Value Value value_layer _
+
+pub made_relative : (r : Relative) (v : Box code_value.Value)
+    → value_of (made.Relative r v) ≡ values.relative r (value_of v.value)
+made_relative r v = ap value_of (sym (made.rolls-Relative r v)) ∙ fold-roll-Value Value value_layer _
+
+pub made_contained : (a : Box code_value.Value) (op : Containment) (b : Box code_value.Value)
+    → value_of (made.Contained a op b) ≡ values.contained op (value_of a.value) (value_of b.value)
+made_contained a op b = ap value_of (sym (made.rolls-Contained a op b)) ∙ fold-roll-Value Value value_layer _
+
+pub made_has : (positive : Bool) (v : Box code_value.Value) (a : ℕ)
+    → value_of (made.Has positive v a) ≡ values.has positive (value_of v.value) a
+made_has positive v a = ap value_of (sym (made.rolls-Has positive v a)) ∙ fold-roll-Value Value value_layer _
+
+pub made_provides : (v : Box code_value.Value) (n : ℕ)
+    → value_of (made.Provides v n) ≡ values.provides (value_of v.value) n
+made_provides v n = ap value_of (sym (made.rolls-Provides v n)) ∙ fold-roll-Value Value value_layer _
+
+pub made_property : (v : Box code_value.Value) (n : ℕ)
+    → value_of (made.Property v n) ≡ values.property (value_of v.value) n
+made_property v n = ap value_of (sym (made.rolls-Property v n)) ∙ fold-roll-Value Value value_layer _
+
+pub made_property_size : (v : Box code_value.Value) (n : ℕ)
+    → value_of (made.PropertySize v n) ≡ values.property_size (value_of v.value) n
+made_property_size v n = ap value_of (sym (made.rolls-PropertySize v n)) ∙ fold-roll-Value Value value_layer _
+
+pub made_property_word : (v : Box code_value.Value) (n : ℕ) (i : Box code_value.Value)
+    → value_of (made.PropertyWord v n i) ≡ values.property_word (value_of v.value) n (value_of i.value)
+made_property_word v n i = ap value_of (sym (made.rolls-PropertyWord v n i)) ∙ fold-roll-Value Value value_layer _
+
+pub made_assign_property : (v : Box code_value.Value) (n : ℕ) (w : Box code_value.Value)
+    → value_of (made.AssignProperty v n w) ≡ values.assign_property (value_of v.value) n (value_of w.value)
+made_assign_property v n w = ap value_of (sym (made.rolls-AssignProperty v n w)) ∙ fold-roll-Value Value value_layer _
+
+pub made_assign_property_word : (v : Box code_value.Value) (n : ℕ) (i w : Box code_value.Value)
+    → value_of (made.AssignPropertyWord v n i w)
+    ≡ values.assign_property_word (value_of v.value) n (value_of i.value) (value_of w.value)
+made_assign_property_word v n i w = ap value_of (sym (made.rolls-AssignPropertyWord v n i w))
+    ∙ fold-roll-Value Value value_layer _
+
+pub made_give : (v : code_value.Value) (changes : Vec (Bool × ℕ))
+    → action_of (done.Give v changes) ≡ values.give_to (value_of v) changes.items
+made_give v changes = ap action_of (sym (done.rolls-Give v changes)) ∙ fold-roll-Action Action action_layer _
+
+pub made_move : (v w : code_value.Value) → action_of (done.Move v w) ≡ values.move_to (value_of v) (value_of w)
+made_move v w = ap action_of (sym (done.rolls-Move v w)) ∙ fold-roll-Action Action action_layer _
+
+pub made_remove : (v : code_value.Value) → action_of (done.Remove v) ≡ values.remove_from (value_of v)
+made_remove v = ap action_of (sym (done.rolls-Remove v)) ∙ fold-roll-Action Action action_layer _
+
+pub made_each_object : (x : Variable) (a : Box code_action.Action)
+    → action_of (done.EachObject x a) ≡ values.each_object x (action_of a.value)
+made_each_object x a = ap action_of (sym (done.rolls-EachObject x a)) ∙ fold-roll-Action Action action_layer _
+
+pub made_each_where : (x : Variable) (v : code_value.Value) (a : Box code_action.Action)
+    → action_of (done.EachWhere x v a) ≡ values.each_where x (value_of v) (action_of a.value)
+made_each_where x v a = ap action_of (sym (done.rolls-EachWhere x v a)) ∙ fold-roll-Action Action action_layer _
+
+pub made_each_in : (x : Variable) (v : code_value.Value) (a : Box code_action.Action)
+    → action_of (done.EachIn x v a) ≡ values.each_in x (value_of v) (action_of a.value)
+made_each_in x v a = ap action_of (sym (done.rolls-EachIn x v a)) ∙ fold-roll-Action Action action_layer _
 
 pub made_block : (all : Vec code_action.Action) → action_of (done.Block all)
     ≡ values.block (values.actions_of (map action_of all.items))

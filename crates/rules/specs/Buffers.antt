@@ -22,7 +22,9 @@ buffer_breaches p (Some (bindings.Constant n)) = at p 23
 buffer_breaches p (Some (bindings.Global g)) = at p 23
 buffer_breaches p (Some (bindings.Array a kind)) = if is_of_bytes kind then [] else at p 23
 buffer_breaches p (Some (bindings.Routine r locals)) = at p 23
-buffer_breaches p (Some bindings.Property) = at p 23
+buffer_breaches p (Some (bindings.Attribute a)) = at p 23
+buffer_breaches p (Some (bindings.Property n)) = at p 23
+buffer_breaches p (Some (bindings.Object o)) = at p 23
 buffer_breaches p (Some (bindings.Local l)) = at p 23
 
 -- a name stands for the array of a number
@@ -32,7 +34,9 @@ is_array number (Some (bindings.Constant n)) = false
 is_array number (Some (bindings.Global g)) = false
 is_array number (Some (bindings.Array a kind)) = number == a
 is_array number (Some (bindings.Routine r locals)) = false
-is_array number (Some bindings.Property) = false
+is_array number (Some (bindings.Attribute a)) = false
+is_array number (Some (bindings.Property n)) = false
+is_array number (Some (bindings.Object o)) = false
 is_array number (Some (bindings.Local l)) = false
 
 -- E23 at the second name, where both are one array
@@ -42,7 +46,9 @@ same_breaches p (Some (bindings.Constant n)) second = []
 same_breaches p (Some (bindings.Global g)) second = []
 same_breaches p (Some (bindings.Array a kind)) second = if is_array a second then at p 23 else []
 same_breaches p (Some (bindings.Routine r locals)) second = []
-same_breaches p (Some bindings.Property) second = []
+same_breaches p (Some (bindings.Attribute a)) second = []
+same_breaches p (Some (bindings.Property n)) second = []
+same_breaches p (Some (bindings.Object o)) second = []
 same_breaches p (Some (bindings.Local l)) second = []
 
 -- `look` tells what a name stands for

@@ -9,14 +9,16 @@ use Rattle.names.specs.Breaches.{at}
 use Rattle.names.specs.Names.{Table, File, key_of, in_table, literal_value}
 
 -- a name in what a global or an entry of an array begins with, or in what begins a case, by what it stands for there: it
--- is a constant
+-- is a constant or an object
 abbrev pub constant_breaches : Position → Option Binding → List Breach
 constant_breaches p None = at p 20
 constant_breaches p (Some (bindings.Constant n)) = []
 constant_breaches p (Some (bindings.Global g)) = at p 23
 constant_breaches p (Some (bindings.Array a kind)) = at p 23
 constant_breaches p (Some (bindings.Routine r locals)) = at p 23
-constant_breaches p (Some bindings.Property) = at p 23
+constant_breaches p (Some (bindings.Attribute a)) = at p 23
+constant_breaches p (Some (bindings.Property n)) = at p 23
+constant_breaches p (Some (bindings.Object o)) = []
 constant_breaches p (Some (bindings.Local l)) = at p 23
 
 abbrev pub literal_breaches : Table → LiteralTree → List Breach
@@ -37,14 +39,16 @@ initial_value file (Some v) = literal_value file v
 -- The value of a constant
 
 -- a name in a constant's value that is no constant there, by what it stands for in the file: a later constant is
--- unknown
+-- unknown, a later object is a value
 abbrev pub later_breaches : Position → Option Binding → List Breach
 later_breaches p None = at p 20
 later_breaches p (Some (bindings.Constant n)) = at p 20
 later_breaches p (Some (bindings.Global g)) = at p 23
 later_breaches p (Some (bindings.Array a kind)) = at p 23
 later_breaches p (Some (bindings.Routine r locals)) = at p 23
-later_breaches p (Some bindings.Property) = at p 23
+later_breaches p (Some (bindings.Attribute a)) = at p 23
+later_breaches p (Some (bindings.Property n)) = at p 23
+later_breaches p (Some (bindings.Object o)) = []
 later_breaches p (Some (bindings.Local l)) = at p 23
 
 -- a name in a constant's value: `before` is what it stands for there, `anywhere` what it stands for in the file
@@ -54,7 +58,9 @@ earlier_breaches p (Some (bindings.Constant n)) anywhere = []
 earlier_breaches p (Some (bindings.Global g)) anywhere = later_breaches p anywhere
 earlier_breaches p (Some (bindings.Array a kind)) anywhere = later_breaches p anywhere
 earlier_breaches p (Some (bindings.Routine r locals)) anywhere = later_breaches p anywhere
-earlier_breaches p (Some bindings.Property) anywhere = later_breaches p anywhere
+earlier_breaches p (Some (bindings.Attribute a)) anywhere = later_breaches p anywhere
+earlier_breaches p (Some (bindings.Property n)) anywhere = later_breaches p anywhere
+earlier_breaches p (Some (bindings.Object o)) anywhere = []
 earlier_breaches p (Some (bindings.Local l)) anywhere = later_breaches p anywhere
 
 -- `table` has the names before it, `whole` those of the file

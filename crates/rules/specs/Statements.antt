@@ -4,12 +4,15 @@ use Rattle.std.specs.Prelude.{None}
 use Rattle.std.specs.List.{flat_map}
 use Rattle.std.specs.Option.{option_map}
 use Rattle.lexer.specs.declared.token.Position.{Position}
-use Rattle.expressions.specs.Tree.{ExpressionTree}
+use Rattle.expressions.specs.Tree.{NameTree, ExpressionTree}
 use Rattle.statements.specs.Tree as trees
-use Rattle.statements.specs.Tree.{LiteralTree, RangeTree, PrintItemTree, StatementTree, StatementTrees, CaseTrees}
+use Rattle.statements.specs.Tree.{LiteralTree, RangeTree, FlagTree, PrintItemTree, StatementTree, StatementTrees}
+use Rattle.statements.specs.Tree.{CaseTrees}
 use Rattle.meaning.specs.declared.around.Around.{Around}
 use Rattle.meaning.specs.Around.{in_loop, in_switch}
+use Rattle.meaning.specs.declared.resolved.Variable.{Variable}
 use Rattle.names.specs.declared.binding.Binding.{Binding}
+use Rattle.names.specs.declared.binding.Binding.TheVariants as bindings
 use Rattle.names.specs.declared.breach.Breach.{Breach}
 use Rattle.names.specs.Breaches.{at}
 use Rattle.rules.specs.Literals.{constant_breaches}
@@ -21,8 +24,10 @@ use Rattle.meaning.specs.Operands.{operands}
 use Rattle.meaning.specs.Resolved.{RangeOf, one, between, Printed, text, character_of, number_of, Action, Actions, CasesOf, empty}
 use Rattle.meaning.specs.Resolved.{block, text_alone, print, print_return, new_line, if_then, if_else, while_do}
 use Rattle.meaning.specs.Resolved.{do_until, for_loop, switch_on, break_out, continue_on, read_line, return_value, quit, effect}
-use Rattle.meaning.specs.Resolved.{stop, next, no_case, default_case, case, number}
-use Rattle.rules.specs.Expressions.{breaches, array_of_binding, resolve}
+use Rattle.meaning.specs.Resolved.{stop, next, no_case, default_case, case, number, name_of, give_to, move_to}
+use Rattle.meaning.specs.Resolved.{remove_from, each_object, each_in, each_where}
+use Rattle.rules.specs.Expressions.{breaches, attribute_breaches, array_of_binding, attribute_of_binding}
+use Rattle.rules.specs.Expressions.{variable_of_binding, resolve}
 
 -- `break` may stand in a loop or a `switch`, `continue` in a loop; in the body of a routine neither may
 
@@ -33,6 +38,22 @@ part_needs (Some e) = need e ∷ []
 
 abbrev pub heading_need : Option ExpressionTree → Option ExpressionTree → Option ExpressionTree → ℕ
 heading_need a b c = operands 0 (part_needs a ++ (part_needs b ++ part_needs c))
+
+-- what the operands of a `move` need, as those of one form
+abbrev pub move_need : ExpressionTree → ExpressionTree → ℕ
+move_need a b = operands 0 (need a ∷ need b ∷ [])
+
+-- the variable of an `objectloop`: E20 where it is unknown, E23 where it is no variable
+abbrev pub loop_breaches : Position → Option Binding → List Breach
+loop_breaches p None = at p 20
+loop_breaches p (Some (bindings.Constant n)) = at p 23
+loop_breaches p (Some (bindings.Global g)) = []
+loop_breaches p (Some (bindings.Array a kind)) = at p 23
+loop_breaches p (Some (bindings.Routine r locals)) = at p 23
+loop_breaches p (Some (bindings.Attribute a)) = at p 23
+loop_breaches p (Some (bindings.Property n)) = at p 23
+loop_breaches p (Some (bindings.Object o)) = at p 23
+loop_breaches p (Some (bindings.Local l)) = []
 
 -- `break` or `continue` where it may not stand
 abbrev pub outside_breaches : Bool → Position → List Breach
@@ -70,7 +91,16 @@ module _ (look : List ℕ → Option Binding) where
   abbrev pub item_breaches : PrintItemTree → List Breach
   item_breaches (trees.text_item s) = []
   item_breaches (trees.character_item p e) = whole_breaches p e
+  item_breaches (trees.object_item p e) = whole_breaches p e
   item_breaches (trees.number_item p e) = whole_breaches p e
+
+  -- an attribute of a `give`
+  abbrev pub flag_breaches : FlagTree → List Breach
+  flag_breaches x = attribute_breaches x.1.position (look x.1.text)
+
+  -- the operands of a `move` that begins at p
+  abbrev pub move_breaches : Position → ExpressionTree → ExpressionTree → List Breach
+  move_breaches p a b = (if nat_lt 48 (move_need a b) then at p 29 else []) ++ (breaches look a ++ breaches look b)
 
   -- of a statement that stands in what is around it
   abbrev mutual
@@ -96,6 +126,14 @@ module _ (look : List ℕ → Option Binding) where
     statement_breaches around trees.return_false = []
     statement_breaches around trees.quit = []
     statement_breaches around (trees.read_line n m) = read_breaches look n m
+    statement_breaches around (trees.give p e xs) = whole_breaches p e ++ flat_map flag_breaches xs
+    statement_breaches around (trees.move p a b) = move_breaches p a b
+    statement_breaches around (trees.remove p e) = whole_breaches p e
+    statement_breaches around (trees.each n x) = loop_breaches n.position (look n.text) ++ statement_breaches in_loop x
+    statement_breaches around (trees.each_in p n e x) = loop_breaches n.position (look n.text)
+        ++ (whole_breaches p e ++ statement_breaches in_loop x)
+    statement_breaches around (trees.each_where p n c x) = loop_breaches n.position (look n.text)
+        ++ (whole_breaches p c ++ statement_breaches in_loop x)
     statement_breaches around (trees.effect p e) = whole_breaches p e
 
     pub statements_breaches : Around → StatementTrees → List Breach
@@ -125,7 +163,15 @@ module _ (seen : Seen) where
   abbrev pub resolve_item : PrintItemTree → Printed
   resolve_item (trees.text_item s) = text s
   resolve_item (trees.character_item p e) = character_of (resolve seen e)
+  resolve_item (trees.object_item p e) = name_of (resolve seen e)
   resolve_item (trees.number_item p e) = number_of (resolve seen e)
+
+  -- an attribute of a `give`, and whether it is set
+  abbrev pub resolve_flag : FlagTree → Bool × ℕ
+  resolve_flag x = (x.0, attribute_of_binding (seen.look x.1.text))
+
+  abbrev pub loop_variable : NameTree → Variable
+  loop_variable n = variable_of_binding (seen.look n.text)
 
   abbrev mutual
     pub resolve_statement : StatementTree → Action
@@ -151,6 +197,12 @@ module _ (seen : Seen) where
     resolve_statement trees.quit = quit
     resolve_statement (trees.read_line n m) = read_line (array_of_binding (seen.look n.text))
         (array_of_binding (seen.look m.text))
+    resolve_statement (trees.give p e xs) = give_to (resolve seen e) (map resolve_flag xs)
+    resolve_statement (trees.move p a b) = move_to (resolve seen a) (resolve seen b)
+    resolve_statement (trees.remove p e) = remove_from (resolve seen e)
+    resolve_statement (trees.each n x) = each_object (loop_variable n) (resolve_statement x)
+    resolve_statement (trees.each_in p n e x) = each_in (loop_variable n) (resolve seen e) (resolve_statement x)
+    resolve_statement (trees.each_where p n c x) = each_where (loop_variable n) (resolve seen c) (resolve_statement x)
     resolve_statement (trees.effect p e) = effect (resolve seen e)
 
     pub resolve_statements : StatementTrees → Actions

@@ -1,27 +1,30 @@
 -- Words of proofs: what a walk over a part of a tree finds, and what it notes.
-use Rattle.std.specs.Prelude.{◌≡◌, List, [], ◌++◌, Option, Some, None, map}
+use Rattle.std.specs.Prelude.{◌≡◌, ℕ, Bool, List, [], ◌∷◌, ◌++◌, Option, Some, None, map}
 use Rattle.std.specs.Global.{Vec}
 use Rattle.std.specs.List.{flat_map}
 use Rattle.std.specs.Option.{option_map}
 use Rattle.lexer.specs.declared.token.Position.{Position}
 use Rattle.expressions.specs.declared.tree.Binary.{Binary}
 use Rattle.expressions.specs.declared.tree.Expression.{Expression}
-use Rattle.expressions.specs.Tree.{ExpressionTree, expression_tree}
+use Rattle.expressions.specs.declared.tree.Name.{Name}
+use Rattle.expressions.specs.Tree.{ExpressionTree, expression_tree, name_tree}
 use Rattle.statements.specs.declared.tree.PrintItem.{PrintItem}
 use Rattle.statements.specs.declared.tree.Range.{Range}
 use Rattle.statements.specs.declared.tree.Statement.{Statement}
 use Rattle.statements.specs.Tree.{HeadingTree, RangeTree, PrintItemTree, StatementTree, CaseTree, trees_of, range_tree}
-use Rattle.statements.specs.Tree.{item_tree, statement_tree, case_tree}
+use Rattle.statements.specs.Tree.{flag_tree, item_tree, statement_tree, case_tree}
 use Rattle.meaning.specs.declared.around.Around.{Around}
 use Rattle.names.specs.declared.breach.Breach.{Breach}
 use Rattle.meaning.specs.declared.resolved.Variable.{Variable}
 use Rattle.meaning.specs.declared.resolved.Value as code_value
-use Rattle.names.specs.Names.{name_of, is_entry, Seen}
+use Rattle.names.specs.Names.{name_of, is_place, Seen}
 use Rattle.names.specs.Noted.{noted}
-use Rattle.meaning.specs.Resolved.{Value, RangeOf, Printed, Action, Actions, value_of}
-use Rattle.rules.specs.Expressions.{breaches, left_breaches, assigned_breaches, target, resolve}
+use Rattle.meaning.specs.Resolved.{Value, RangeOf, Printed, Action, Actions, value_of, property}
+use Rattle.rules.specs.Expressions.{breaches, property_breaches, left_breaches, assigned_breaches, target}
+use Rattle.rules.specs.Expressions.{property_of_binding, resolve}
 use Rattle.rules.specs.Statements.{whole_breaches, part_breaches, heading_breaches, range_breaches, resolve_range}
-use Rattle.rules.specs.Statements.{item_breaches, resolve_item, statement_breaches, statements_breaches}
+use Rattle.rules.specs.Statements.{flag_breaches, resolve_flag, item_breaches, resolve_item, statement_breaches}
+use Rattle.rules.specs.Statements.{statements_breaches}
 use Rattle.rules.specs.Statements.{resolve_statement, resolve_statements}
 
 -- what is found is what is meant, and the broken rules are noted over what was noted before
@@ -36,6 +39,11 @@ value_link l = (l.0, value_of l.1)
 abbrev pub parts_of : Option code_value.Value × Option code_value.Value × Option code_value.Value
     → Option Value × Option Value × Option Value
 parts_of x = (option_map value_of x.0, option_map value_of x.1, option_map value_of x.2)
+
+-- properties of these numbers, each of the value of the one before it
+abbrev pub properties_of : Value → List ℕ → Value
+properties_of v [] = v
+properties_of v (n ∷ ns) = properties_of (property v n) ns
 
 -- in a routine that sees so much of the file
 module _ (seen : Seen) where
@@ -52,6 +60,18 @@ module _ (seen : Seen) where
 
   abbrev pub resolved_link : Binary × Expression → Binary × Value
   resolved_link l = (l.0, resolve seen (expression_tree l.1))
+
+  abbrev pub own_property_breaches : Name → List Breach
+  own_property_breaches n = property_breaches n.position (seen.look (name_tree n).text)
+
+  abbrev pub resolved_property : Name → ℕ
+  resolved_property n = property_of_binding (seen.look (name_tree n).text)
+
+  abbrev pub own_flag_breaches : Bool × Name → List Breach
+  own_flag_breaches x = flag_breaches seen.look (flag_tree x)
+
+  abbrev pub resolved_flag : Bool × Name → Bool × ℕ
+  resolved_flag x = resolve_flag seen (flag_tree x)
 
   abbrev pub own_item_breaches : PrintItem → List Breach
   own_item_breaches x = item_breaches seen.look (item_tree x)
@@ -103,6 +123,11 @@ module _ (seen : Seen) where
   abbrev pub AreLinks : List (Binary × Expression) → Option Breach → Option Breach → List (Binary × Value) → Type 0
   AreLinks ls before after vs = IsWalked (flat_map link_breaches ls) before after vs (map resolved_link ls)
 
+  -- properties, behind what resolves to a value
+  abbrev pub AreProperties : List Name → Value → Option Breach → Option Breach → Value → Type 0
+  AreProperties ns first before after v =
+      IsWalked (flat_map own_property_breaches ns) before after v (properties_of first (map resolved_property ns))
+
   -- what is stepped by an operator there
   abbrev pub IsTarget : Position → ExpressionTree → Option Breach → Option Breach → Variable → Type 0
   IsTarget operator e before after x =
@@ -111,7 +136,7 @@ module _ (seen : Seen) where
   -- the left side of an assignment there
   abbrev pub IsAssigned : Position → ExpressionTree → Option Breach → Option Breach → Value → Type 0
   IsAssigned operator e before after v =
-      IsWalked (assigned_breaches seen.look operator (name_of e) (is_entry e) (breaches seen.look e)) before after v
+      IsWalked (assigned_breaches seen.look operator (name_of e) (is_place e) (breaches seen.look e)) before after v
       (resolve seen e)
 
   -- a whole expression of what begins there
@@ -148,6 +173,14 @@ module _ (seen : Seen) where
 
   abbrev pub AreRanges : List Range → Option Breach → Option Breach → List RangeOf → Type 0
   AreRanges gs before after rs = IsWalked (flat_map own_range_breaches gs) before after rs (map resolved_range gs)
+
+  -- the attributes of a `give`
+
+  abbrev pub IsFlag : Bool × Name → Option Breach → Option Breach → Bool × ℕ → Type 0
+  IsFlag x before after found = IsWalked (own_flag_breaches x) before after found (resolved_flag x)
+
+  abbrev pub AreFlags : List (Bool × Name) → Option Breach → Option Breach → List (Bool × ℕ) → Type 0
+  AreFlags xs before after found = IsWalked (flat_map own_flag_breaches xs) before after found (map resolved_flag xs)
 
   abbrev pub IsItem : PrintItemTree → Option Breach → Option Breach → Printed → Type 0
   IsItem x before after i = IsWalked (item_breaches seen.look x) before after i (resolve_item seen x)

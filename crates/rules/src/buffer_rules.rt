@@ -41,7 +41,9 @@ fn buffer_rules(position: Position, found: Option<Binding>, least: &mut Option<B
         Some(Binding::Constant(_)) => note(least, WRONG_KIND, position),
         Some(Binding::Global(_)) => note(least, WRONG_KIND, position),
         Some(Binding::Routine(_, _)) => note(least, WRONG_KIND, position),
-        Some(Binding::Property) => note(least, WRONG_KIND, position),
+        Some(Binding::Attribute(_)) => note(least, WRONG_KIND, position),
+        Some(Binding::Property(_)) => note(least, WRONG_KIND, position),
+        Some(Binding::Object(_)) => note(least, WRONG_KIND, position),
         Some(Binding::Local(_)) => note(least, WRONG_KIND, position),
     }
 }
@@ -55,7 +57,9 @@ fn is_array(number: usize, found: Option<Binding>) -> bool
         Some(Binding::Constant(_)) => false,
         Some(Binding::Global(_)) => false,
         Some(Binding::Routine(_, _)) => false,
-        Some(Binding::Property) => false,
+        Some(Binding::Attribute(_)) => false,
+        Some(Binding::Property(_)) => false,
+        Some(Binding::Object(_)) => false,
         Some(Binding::Local(_)) => false,
     }
 }
@@ -80,7 +84,9 @@ fn same_array(
         Some(Binding::Constant(_)) => {}
         Some(Binding::Global(_)) => {}
         Some(Binding::Routine(_, _)) => {}
-        Some(Binding::Property) => {}
+        Some(Binding::Attribute(_)) => {}
+        Some(Binding::Property(_)) => {}
+        Some(Binding::Object(_)) => {}
         Some(Binding::Local(_)) => {}
     }
 }
@@ -95,7 +101,9 @@ fn array_number(found: Option<Binding>) -> usize
         Some(Binding::Constant(_)) => 0,
         Some(Binding::Global(_)) => 0,
         Some(Binding::Routine(_, _)) => 0,
-        Some(Binding::Property) => 0,
+        Some(Binding::Attribute(_)) => 0,
+        Some(Binding::Property(_)) => 0,
+        Some(Binding::Object(_)) => 0,
         Some(Binding::Local(_)) => 0,
     }
 }

@@ -3,165 +3,24 @@
 ghost use Rattle.std.specs.Prelude.{◌≡◌, ◌++◌, [], if◌then◌else◌, IfOk, map};
 ghost use Rattle.std.specs.Option.{option_map};
 ghost use Rattle.expressions.specs.Tree as trees;
-ghost use Rattle.expressions.specs.Tree.{expression_tree, name_tree, trees_of, link};
+ghost use Rattle.expressions.specs.Tree.{expression_tree, name_tree, trees_of, propertied, link};
 ghost use Rattle.names.specs.Breaches.{at};
 ghost use Rattle.names.specs.Noted.{noted};
-ghost use Rattle.names.specs.Scope.{number_at, seen_in};
+ghost use Rattle.names.specs.Scope.{seen_in};
 ghost use Rattle.meaning.specs.Resolved.{value_of};
-ghost use Rattle.rules.specs.Expressions.{value_breaches, argument_breaches, call_breaches, array_name_breaches, target_breaches, value_of_binding, variable_of_binding, routine_of_binding, array_of_binding, assigned};
+ghost use Rattle.rules.specs.Expressions.{tested_breaches, tested_for, assigned};
 ghost use Rattle.names.specs.Names as names;
-ghost use Rattle.rules.specs.Walk.{IsResolved, AreResolved, AreLinks, IsTarget, IsAssigned, value_link};
+ghost use Rattle.rules.specs.Walk.{IsResolved, AreResolved, AreLinks, AreProperties, IsTarget, IsAssigned, value_link};
 
-use expressions::{Binary, Comparison, Equality, Expression, Name, Prefix, Step, Width};
-use lexer::{NOT_ASSIGNABLE, Position, TOO_MANY, TOO_MANY_ARGUMENTS, UNKNOWN_NAME, WRONG_KIND};
+use crate::name_rules::{array, attribute, named, property, routine, target_of, value};
+use expressions::{
+    Binary, Comparison, Containment, Equality, Expression, Name, ObjectTest, Prefix, Relative,
+    Step, Width,
+};
+use lexer::{NOT_ASSIGNABLE, Position};
 use meaning::{Value, Variable};
-use names::{Binding, Breach, Numbers, Scope, key_of_word, note};
+use names::{Binding, Breach, Scope, key_of_word, note};
 use std::alloc::{AllocError, Global};
-
-// What a name is as a value; any number will do where it is none.
-fn named(numbers: &Numbers, found: Option<Binding>) -> Value
-    ensures { value_of result ≡ value_of_binding (number_at numbers.now) found }
-{
-    match found {
-        None => Value::Number(0),
-        Some(Binding::Constant(known)) => Value::Number(numbers.value(known)),
-        Some(Binding::Global(number)) => Value::Read(Variable::Global(number)),
-        Some(Binding::Array(_, _)) => Value::Number(0),
-        Some(Binding::Routine(_, _)) => Value::Number(0),
-        Some(Binding::Property) => Value::Number(0),
-        Some(Binding::Local(number)) => Value::Read(Variable::Local(number)),
-    }
-}
-
-#[tactic(auto, using(names::proofs::Noted::noted_none))]
-fn value_rules(position: Position, found: Option<Binding>, least: &mut Option<Breach>)
-    ensures { least.new ≡ noted least.old (value_breaches position found) }
-{
-    match found {
-        None => note(least, UNKNOWN_NAME, position),
-        Some(Binding::Constant(_)) => {}
-        Some(Binding::Global(_)) => {}
-        Some(Binding::Array(_, _)) => note(least, WRONG_KIND, position),
-        Some(Binding::Routine(_, _)) => note(least, WRONG_KIND, position),
-        Some(Binding::Property) => note(least, WRONG_KIND, position),
-        Some(Binding::Local(_)) => {}
-    }
-}
-
-// A name as a value.
-fn value(
-    numbers: &Numbers,
-    name: Name<'_>,
-    found: Option<Binding>,
-    least: &mut Option<Breach>,
-) -> Value
-    ensures value { value_of result ≡ value_of_binding (number_at numbers.now) found }
-    ensures breaches { least.new ≡ noted least.old (value_breaches name.entry.position found) }
-{
-    value_rules(name.position, found, least);
-    named(numbers, found)
-}
-
-#[tactic(auto, using(names::proofs::Noted::noted_none, names::proofs::Noted::noted_append))]
-fn arguments(position: Position, given: usize, locals: usize, least: &mut Option<Breach>)
-    ensures { least.new ≡ noted least.old (argument_breaches position given locals) }
-{
-    if given > 7 {
-        note(least, TOO_MANY, position);
-    }
-    if given > locals {
-        note(least, TOO_MANY_ARGUMENTS, position);
-    }
-}
-
-// A name of another kind than is called or indexed; any number will do for it.
-#[tactic(auto, using(names::proofs::Noted::noted_none))]
-fn wrong_kind(position: Position, least: &mut Option<Breach>) -> usize
-    ensures value { result ≡ 0 }
-    ensures breaches { least.new ≡ noted least.old (at position 23) }
-{
-    note(least, WRONG_KIND, position);
-    0
-}
-
-// A name that is called with so many arguments.
-#[tactic(auto, using(names::proofs::Noted::noted_none))]
-fn routine(
-    name: Name<'_>,
-    given: usize,
-    found: Option<Binding>,
-    least: &mut Option<Breach>,
-) -> usize
-    ensures value { result ≡ routine_of_binding found }
-    ensures breaches { least.new ≡ noted least.old (call_breaches name.entry.position given found) }
-{
-    match found {
-        None => {
-            note(least, UNKNOWN_NAME, name.position);
-            0
-        }
-        Some(Binding::Routine(number, locals)) => {
-            arguments(name.position, given, locals, least);
-            number
-        }
-        Some(Binding::Constant(_)) => wrong_kind(name.position, least),
-        Some(Binding::Global(_)) => wrong_kind(name.position, least),
-        Some(Binding::Array(_, _)) => wrong_kind(name.position, least),
-        Some(Binding::Property) => wrong_kind(name.position, least),
-        Some(Binding::Local(_)) => wrong_kind(name.position, least),
-    }
-}
-
-// A name before `->` or `-->`.
-#[tactic(auto, using(names::proofs::Noted::noted_none))]
-fn array(name: Name<'_>, found: Option<Binding>, least: &mut Option<Breach>) -> usize
-    ensures value { result ≡ array_of_binding found }
-    ensures breaches { least.new ≡ noted least.old (array_name_breaches name.entry.position found) }
-{
-    match found {
-        None => {
-            note(least, UNKNOWN_NAME, name.position);
-            0
-        }
-        Some(Binding::Array(number, _)) => number,
-        Some(Binding::Constant(_)) => wrong_kind(name.position, least),
-        Some(Binding::Global(_)) => wrong_kind(name.position, least),
-        Some(Binding::Routine(_, _)) => wrong_kind(name.position, least),
-        Some(Binding::Property) => wrong_kind(name.position, least),
-        Some(Binding::Local(_)) => wrong_kind(name.position, least),
-    }
-}
-
-#[tactic(auto, using(names::proofs::Noted::noted_append))]
-fn no_target(position: Position, operator: Position, least: &mut Option<Breach>)
-    ensures { least.new ≡ noted least.old (at position 23 ++ at operator 26) }
-{
-    note(least, WRONG_KIND, position);
-    note(least, NOT_ASSIGNABLE, operator);
-}
-
-// A name that is assigned to or stepped.
-#[tactic(auto, using(names::proofs::Noted::noted_none, names::proofs::Noted::noted_append))]
-fn target_of(
-    name: Name<'_>,
-    operator: Position,
-    found: Option<Binding>,
-    least: &mut Option<Breach>,
-) -> Variable
-    ensures value { result ≡ variable_of_binding found }
-    ensures breaches { least.new ≡ noted least.old (target_breaches name.entry.position operator found) }
-{
-    match found {
-        None => note(least, UNKNOWN_NAME, name.position),
-        Some(Binding::Constant(_)) => note(least, NOT_ASSIGNABLE, operator),
-        Some(Binding::Array(_, _)) => no_target(name.position, operator, least),
-        Some(Binding::Routine(_, _)) => no_target(name.position, operator, least),
-        Some(Binding::Property) => no_target(name.position, operator, least),
-        Some(Binding::Global(number)) => return Variable::Global(number),
-        Some(Binding::Local(number)) => return Variable::Local(number),
-    }
-    Variable::Local(0)
-}
 
 /// The name that an expression is, parentheses apart.
 pub fn name_of<'a>(e: &Expression<'a>) -> Option<Name<'a>>
@@ -174,43 +33,55 @@ pub fn name_of<'a>(e: &Expression<'a>) -> Option<Name<'a>>
         Expression::Word(_) => None,
         Expression::Call(_, _) => None,
         Expression::Index(_, _, _) => None,
+        Expression::RelativeOf(_, _) => None,
+        Expression::Property(_, _, _) => None,
+        Expression::PropertyLength(_, _) => None,
+        Expression::PropertyEntry(_, _, _) => None,
         Expression::Prefixed(_, _) => None,
         Expression::StepBefore(_, _, _) => None,
         Expression::StepAfter(_, _, _) => None,
         Expression::Chain(_, _, _, _) => None,
         Expression::Compare(_, _, _) => None,
         Expression::Equal(_, _, _, _) => None,
+        Expression::Contained(_, _, _) => None,
+        Expression::Tested(_, _, _) => None,
         Expression::Assign(_, _, _) => None,
     }
 }
 
-// Whether an expression is an entry of an array, parentheses apart.
-fn is_entry(e: &Expression<'_>) -> bool
-    ensures { result ≡ names.is_entry (expression_tree e.now) }
+// Whether an expression is an entry of an array, a property or a word of a property, parentheses apart.
+fn is_place(e: &Expression<'_>) -> bool
+    ensures { result ≡ names.is_place (expression_tree e.now) }
 {
     match e {
         Expression::Index(_, _, _) => true,
-        Expression::Parenthesised(inside) => is_entry(inside),
+        Expression::Property(_, _, _) => true,
+        Expression::PropertyEntry(_, _, _) => true,
+        Expression::Parenthesised(inside) => is_place(inside),
         Expression::Named(_) => false,
         Expression::Constant(_) => false,
         Expression::Word(_) => false,
         Expression::Call(_, _) => false,
+        Expression::RelativeOf(_, _) => false,
+        Expression::PropertyLength(_, _) => false,
         Expression::Prefixed(_, _) => false,
         Expression::StepBefore(_, _, _) => false,
         Expression::StepAfter(_, _, _) => false,
         Expression::Chain(_, _, _, _) => false,
         Expression::Compare(_, _, _) => false,
         Expression::Equal(_, _, _, _) => false,
+        Expression::Contained(_, _, _) => false,
+        Expression::Tested(_, _, _) => false,
         Expression::Assign(_, _, _) => false,
     }
 }
 
-// What is assigned to and is no name, by whether it is an entry.
+// What is assigned to and is no name, by whether it may be assigned to.
 #[tactic(auto, using(names::proofs::Noted::noted_none))]
-fn not_entry(entry: bool, operator: Position, least: &mut Option<Breach>)
-    ensures { least.new ≡ noted least.old (if entry then [] else at operator 26) }
+fn not_place(place: bool, operator: Position, least: &mut Option<Breach>)
+    ensures { least.new ≡ noted least.old (if place then [] else at operator 26) }
 {
-    if !entry {
+    if !place {
         note(least, NOT_ASSIGNABLE, operator);
     }
 }
@@ -222,6 +93,10 @@ fn assignment(left: Value, right: Box<Value>) -> Value
     match left {
         Value::Read(variable) => Value::Assign(variable, right),
         Value::Entry(width, array, index) => Value::AssignEntry(width, array, index, right),
+        Value::Property(object, number) => Value::AssignProperty(object, number, right),
+        Value::PropertyWord(object, number, index) => {
+            Value::AssignPropertyWord(object, number, index, right)
+        }
         Value::Number(_) => Value::Assign(Variable::Local(0), right),
         Value::Call(_, _) => Value::Assign(Variable::Local(0), right),
         Value::Prefixed(_, _) => Value::Assign(Variable::Local(0), right),
@@ -232,7 +107,51 @@ fn assignment(left: Value, right: Box<Value>) -> Value
         Value::Equal(_, _, _, _) => Value::Assign(Variable::Local(0), right),
         Value::Assign(_, _) => Value::Assign(Variable::Local(0), right),
         Value::AssignEntry(_, _, _, _) => Value::Assign(Variable::Local(0), right),
+        Value::Relative(_, _) => Value::Assign(Variable::Local(0), right),
+        Value::Contained(_, _, _) => Value::Assign(Variable::Local(0), right),
+        Value::Has(_, _, _) => Value::Assign(Variable::Local(0), right),
+        Value::Provides(_, _) => Value::Assign(Variable::Local(0), right),
+        Value::PropertySize(_, _) => Value::Assign(Variable::Local(0), right),
+        Value::AssignProperty(_, _, _) => Value::Assign(Variable::Local(0), right),
+        Value::AssignPropertyWord(_, _, _, _) => Value::Assign(Variable::Local(0), right),
     }
+}
+
+// What an object is tested for, by a name there that stands for this.
+#[tactic(auto, using(names::proofs::Noted::noted_none))]
+fn tested_value(
+    object: Box<Value>,
+    test: ObjectTest,
+    name: Name<'_>,
+    found: Option<Binding>,
+    least: &mut Option<Breach>,
+) -> Value
+    ensures value { value_of result ≡ tested_for test (value_of object.value) found }
+    ensures breaches { least.new ≡ noted least.old (tested_breaches test name.entry.position found) }
+{
+    match test {
+        ObjectTest::Has => Value::Has(true, object, attribute(name, found, least)),
+        ObjectTest::HasNot => Value::Has(false, object, attribute(name, found, least)),
+        ObjectTest::Provides => Value::Provides(object, property(name, found, least)),
+    }
+}
+
+// The properties behind what resolved to a value.
+fn further_properties(
+    alloc: Global,
+    scope: &Scope<'_>,
+    first: Value,
+    others: &[Name<'_>],
+    least: &mut Option<Breach>,
+) -> Result<Value, AllocError>
+    ensures { IfOk result (λ v. AreProperties (seen_in scope.now) others.now (value_of first) least.old least.new (value_of v)) }
+{
+    let mut found = first;
+    for name in others {
+        let number = property(*name, scope.look(name.text), least);
+        found = Value::Property(Box::new(alloc, found)?, number);
+    }
+    Ok(found)
 }
 
 /// Resolves the names of an expression, and notes the rules that it breaks.
@@ -261,6 +180,18 @@ pub fn expression(
             index(alloc, scope, operand, *name, *width, least)
         }
         Expression::Parenthesised(inside) => expression(alloc, scope, inside, least),
+        Expression::RelativeOf(relative, object) => {
+            relative_of(alloc, scope, object, *relative, least)
+        }
+        Expression::Property(object, name, others) => {
+            properties(alloc, scope, object, *name, others, least)
+        }
+        Expression::PropertyLength(object, name) => {
+            property_length(alloc, scope, object, *name, least)
+        }
+        Expression::PropertyEntry(object, name, index) => {
+            property_entry(alloc, scope, object, *name, index, least)
+        }
         Expression::Prefixed(prefix, operand) => prefixed(alloc, scope, operand, *prefix, least),
         Expression::StepBefore(step, position, operand) => {
             step_before(alloc, scope, operand, *step, *position, least)
@@ -277,6 +208,10 @@ pub fn expression(
         Expression::Equal(left, equality, right, others) => {
             equal(alloc, scope, others, left, *equality, right, least)
         }
+        Expression::Contained(left, containment, right) => {
+            contained(alloc, scope, left, *containment, right, least)
+        }
+        Expression::Tested(object, test, name) => tested(alloc, scope, object, *test, *name, least),
         Expression::Assign(left, position, right) => {
             assign(alloc, scope, left, *position, right, least)
         }
@@ -392,6 +327,78 @@ fn index(
         return Err(AllocError);
     };
     Ok(Value::Entry(width, number, operand))
+}
+
+#[cycle(expression)]
+fn relative_of(
+    alloc: Global,
+    scope: &Scope<'_>,
+    object: &Expression<'_>,
+    relative: Relative,
+    least: &mut Option<Breach>,
+) -> Result<Value, AllocError>
+    ensures { IfOk result (λ v. IsResolved (seen_in scope.now) (trees.relative_of relative (expression_tree object.now)) least.old least.new (value_of v)) }
+{
+    let Ok(object) = boxed(alloc, scope, object, least) else {
+        return Err(AllocError);
+    };
+    Ok(Value::Relative(relative, object))
+}
+
+#[cycle(expression)]
+fn properties(
+    alloc: Global,
+    scope: &Scope<'_>,
+    object: &Expression<'_>,
+    name: Name<'_>,
+    others: &[Name<'_>],
+    least: &mut Option<Breach>,
+) -> Result<Value, AllocError>
+    ensures { IfOk result (λ v. IsResolved (seen_in scope.now) (propertied (trees.property (expression_tree object.now) (name_tree name.entry)) others.now) least.old least.new (value_of v)) }
+{
+    let Ok(object) = boxed(alloc, scope, object, least) else {
+        return Err(AllocError);
+    };
+    let number = property(name, scope.look(name.text), least);
+    further_properties(alloc, scope, Value::Property(object, number), others, least)
+}
+
+#[cycle(expression)]
+fn property_length(
+    alloc: Global,
+    scope: &Scope<'_>,
+    object: &Expression<'_>,
+    name: Name<'_>,
+    least: &mut Option<Breach>,
+) -> Result<Value, AllocError>
+    ensures { IfOk result (λ v. IsResolved (seen_in scope.now) (trees.property_length (expression_tree object.now) (name_tree name.entry)) least.old least.new (value_of v)) }
+{
+    let Ok(object) = boxed(alloc, scope, object, least) else {
+        return Err(AllocError);
+    };
+    let number = property(name, scope.look(name.text), least);
+    Ok(Value::PropertySize(object, number))
+}
+
+#[cycle(expression)]
+fn property_entry(
+    alloc: Global,
+    scope: &Scope<'_>,
+    object: &Expression<'_>,
+    name: Name<'_>,
+    index: &Expression<'_>,
+    least: &mut Option<Breach>,
+) -> Result<Value, AllocError>
+    ensures { IfOk result (λ v. IsResolved (seen_in scope.now) (trees.property_entry (expression_tree object.now) (name_tree name.entry) (expression_tree index.now)) least.old least.new (value_of v)) }
+{
+    let Ok(object) = boxed(alloc, scope, object, least) else {
+        return Err(AllocError);
+    };
+    let number = property(name, scope.look(name.text), least);
+    let Ok(index) = boxed(alloc, scope, index, least) else {
+        return Err(AllocError);
+    };
+    Ok(Value::PropertyWord(object, number, index))
 }
 
 #[cycle(expression)]
@@ -512,6 +519,43 @@ fn equal(
     Ok(Value::Equal(left, equality, right, others))
 }
 
+#[cycle(expression)]
+fn contained(
+    alloc: Global,
+    scope: &Scope<'_>,
+    left: &Expression<'_>,
+    containment: Containment,
+    right: &Expression<'_>,
+    least: &mut Option<Breach>,
+) -> Result<Value, AllocError>
+    ensures { IfOk result (λ v. IsResolved (seen_in scope.now) (trees.contained containment (expression_tree left.now) (expression_tree right.now)) least.old least.new (value_of v)) }
+{
+    let Ok(left) = boxed(alloc, scope, left, least) else {
+        return Err(AllocError);
+    };
+    let Ok(right) = boxed(alloc, scope, right, least) else {
+        return Err(AllocError);
+    };
+    Ok(Value::Contained(left, containment, right))
+}
+
+#[cycle(expression)]
+fn tested(
+    alloc: Global,
+    scope: &Scope<'_>,
+    object: &Expression<'_>,
+    test: ObjectTest,
+    name: Name<'_>,
+    least: &mut Option<Breach>,
+) -> Result<Value, AllocError>
+    ensures { IfOk result (λ v. IsResolved (seen_in scope.now) (trees.tested test (expression_tree object.now) (name_tree name.entry)) least.old least.new (value_of v)) }
+{
+    let Ok(object) = boxed(alloc, scope, object, least) else {
+        return Err(AllocError);
+    };
+    Ok(tested_value(object, test, name, scope.look(name.text), least))
+}
+
 // The left side of an assignment, whose operator stands at this position.
 #[cycle(expression)]
 fn left_side(
@@ -531,7 +575,7 @@ fn left_side(
         }
         None => {
             let left = expression(alloc, scope, e, least)?;
-            not_entry(is_entry(e), operator, least);
+            not_place(is_place(e), operator, least);
             Ok(left)
         }
     }

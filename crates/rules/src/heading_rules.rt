@@ -1,6 +1,6 @@
 //! The parts of a `for`: the rules that they can break, and what they resolve to.
 
-ghost use Rattle.std.specs.Prelude.{◌≡◌, IfOk, nat_le, nat_lt, if◌then◌else◌, []};
+ghost use Rattle.std.specs.Prelude.{◌≡◌, ◌&&◌, IfOk, nat_le, nat_lt, if◌then◌else◌, []};
 ghost use Rattle.std.specs.Option.{option_map};
 ghost use Rattle.statements.specs.Tree.{part_tree, heading_tree};
 ghost use Rattle.names.specs.Breaches.{at};
@@ -40,8 +40,13 @@ fn left_behind(part: &Option<Box<Expression<'_>>>, room: u8) -> u8
     }
 }
 
+fn all_three(first: bool, second: bool, third: bool) -> bool
+    ensures { result ≡ (first && (second && third)) }
+{
+    first && second && third
+}
+
 // Whether the parts, as operands of one form, need at most 48 temporaries.
-#[tactic(auto, using(crate::proofs::Needs::parts_fit))]
 fn all_fit(heading: &Heading<'_>) -> bool
     ensures { result ≡ nat_le (spec.heading_need (heading_tree heading.now).before (heading_tree heading.now).test (heading_tree heading.now).behind) 48 }
 {
@@ -50,7 +55,7 @@ fn all_fit(heading: &Heading<'_>) -> bool
     let first_fits = fits_in(&heading.before, 48);
     let second_fits = fits_in(&heading.test, second);
     let third_fits = fits_in(&heading.behind, third);
-    first_fits && second_fits && third_fits
+    all_three(first_fits, second_fits, third_fits)
 }
 
 #[tactic(auto, using(names::proofs::Noted::noted_none, crate::proofs::Needs::fits_not))]

@@ -13,7 +13,7 @@ use names::{Binding, Breach, File, Known, Table, find, literal_known, note, or_z
 use syntax::Literal;
 
 /// A name in what a global or an entry of an array begins with, or in what begins a case, and what it stands for there: it
-/// is a constant.
+/// is a constant or an object.
 #[tactic(auto, using(names::proofs::Noted::noted_none))]
 pub fn constant_name(position: Position, found: Option<Binding>, least: &mut Option<Breach>)
     ensures { least.new ≡ noted least.old (spec.constant_breaches position found) }
@@ -24,7 +24,9 @@ pub fn constant_name(position: Position, found: Option<Binding>, least: &mut Opt
         Some(Binding::Global(_)) => note(least, WRONG_KIND, position),
         Some(Binding::Array(_, _)) => note(least, WRONG_KIND, position),
         Some(Binding::Routine(_, _)) => note(least, WRONG_KIND, position),
-        Some(Binding::Property) => note(least, WRONG_KIND, position),
+        Some(Binding::Attribute(_)) => note(least, WRONG_KIND, position),
+        Some(Binding::Property(_)) => note(least, WRONG_KIND, position),
+        Some(Binding::Object(_)) => {}
         Some(Binding::Local(_)) => note(least, WRONG_KIND, position),
     }
 }
@@ -72,7 +74,9 @@ fn later_name(position: Position, anywhere: Option<Binding>, least: &mut Option<
         Some(Binding::Global(_)) => note(least, WRONG_KIND, position),
         Some(Binding::Array(_, _)) => note(least, WRONG_KIND, position),
         Some(Binding::Routine(_, _)) => note(least, WRONG_KIND, position),
-        Some(Binding::Property) => note(least, WRONG_KIND, position),
+        Some(Binding::Attribute(_)) => note(least, WRONG_KIND, position),
+        Some(Binding::Property(_)) => note(least, WRONG_KIND, position),
+        Some(Binding::Object(_)) => {}
         Some(Binding::Local(_)) => note(least, WRONG_KIND, position),
     }
 }
@@ -93,7 +97,9 @@ fn earlier_name(
         Some(Binding::Global(_)) => later_name(position, anywhere, least),
         Some(Binding::Array(_, _)) => later_name(position, anywhere, least),
         Some(Binding::Routine(_, _)) => later_name(position, anywhere, least),
-        Some(Binding::Property) => later_name(position, anywhere, least),
+        Some(Binding::Attribute(_)) => later_name(position, anywhere, least),
+        Some(Binding::Property(_)) => later_name(position, anywhere, least),
+        Some(Binding::Object(_)) => {}
         Some(Binding::Local(_)) => later_name(position, anywhere, least),
     }
 }

@@ -1,24 +1,25 @@
 //! Statements: the rules that they can break, and what they resolve to.
 
 ghost use Rattle.std.specs.Prelude.{◌≡◌, IfOk, map, nat_lt, if◌then◌else◌, []};
-ghost use Rattle.expressions.specs.Tree.{expression_tree};
+ghost use Rattle.expressions.specs.Tree.{expression_tree, name_tree};
 ghost use Rattle.statements.specs.Tree as trees;
-ghost use Rattle.statements.specs.Tree.{item_tree, statement_tree, trees_of, heading_tree, case_tree, other_tree};
+ghost use Rattle.statements.specs.Tree.{flag_tree, item_tree, statement_tree, trees_of, heading_tree, case_tree, other_tree};
 ghost use Rattle.names.specs.Breaches.{at};
-ghost use Rattle.rules.specs.Statements.{outside_breaches};
+ghost use Rattle.rules.specs.Statements.{outside_breaches, move_need};
 ghost use Rattle.meaning.specs.Around.{in_switch};
 ghost use Rattle.names.specs.Noted.{noted};
 ghost use Rattle.names.specs.Scope.{seen_in};
 ghost use Rattle.rules.specs.Temporaries.{need};
 ghost use Rattle.meaning.specs.Resolved.{value_of, printed_of, action_of, case_of, other_of};
-ghost use Rattle.rules.specs.Walk.{IsWhole, IsItem, AreItems, IsAction, AreActions, IsCase, AreCases, IsOther};
+ghost use Rattle.rules.specs.Walk.{IsWhole, IsFlag, AreFlags, IsItem, AreItems, IsAction, AreActions, IsCase, AreCases, IsOther};
 
 use crate::buffer_rules::read;
 use crate::case_rules::ranges;
 use crate::expression_rules::expression;
 use crate::heading_rules::heading;
-use crate::temporaries::fits;
-use expressions::Expression;
+use crate::name_rules::{attribute, loop_variable};
+use crate::temporaries::{both_fit, fits};
+use expressions::{Expression, Name};
 use lexer::{BREAK_OUTSIDE, EXPRESSION_TOO_LARGE, Position};
 use meaning::{Action, Around, IN_LOOP, Printed, Span, Value, in_switch};
 use names::{Breach, Scope, note};
@@ -64,6 +65,12 @@ fn item<'a>(
                 return Err(AllocError);
             };
             Ok(Printed::Character(value))
+        }
+        PrintItem::Object(position, e) => {
+            let Ok(value) = whole(alloc, scope, *position, e, least) else {
+                return Err(AllocError);
+            };
+            Ok(Printed::Name(value))
         }
         PrintItem::Number(position, e) => {
             let Ok(value) = whole(alloc, scope, *position, e, least) else {
@@ -150,6 +157,102 @@ fn effect<'a>(
     Ok(Action::Effect(value))
 }
 
+// An attribute of a `give`, and whether it is set.
+fn flag(scope: &Scope<'_>, given: &(bool, Name<'_>), least: &mut Option<Breach>) -> (bool, usize)
+    ensures { IsFlag (seen_in scope.now) given.now least.old least.new result }
+{
+    let (sets, name) = *given;
+    let number = attribute(name, scope.look(name.text), least);
+    (sets, number)
+}
+
+// The attributes of a `give`.
+fn flags(
+    alloc: Global,
+    scope: &Scope<'_>,
+    given: &[(bool, Name<'_>)],
+    least: &mut Option<Breach>,
+) -> Result<Vec<(bool, usize)>, AllocError>
+    ensures { IfOk result (λ v. AreFlags (seen_in scope.now) given.now least.old least.new v.items) }
+{
+    let mut found = Vec::new(alloc);
+    for x in given {
+        let resolved = flag(scope, x, least);
+        found.push(resolved)?;
+    }
+    Ok(found)
+}
+
+fn give<'a>(
+    alloc: Global,
+    scope: &Scope<'_>,
+    position: Position,
+    e: &Expression<'_>,
+    given: &[(bool, Name<'_>)],
+    least: &mut Option<Breach>,
+) -> Result<Action<'a>, AllocError>
+    ensures { (around : _) → IfOk result (λ x. IsAction (seen_in scope.now) around (trees.give position (expression_tree e.now) (map flag_tree given.now)) least.old least.new (action_of x)) }
+{
+    let Ok(object) = whole(alloc, scope, position, e, least) else {
+        return Err(AllocError);
+    };
+    let Ok(changes) = flags(alloc, scope, given, least) else {
+        drop(object);
+        return Err(AllocError);
+    };
+    Ok(Action::Give(object, changes))
+}
+
+#[tactic(auto, using(names::proofs::Noted::noted_none, crate::proofs::Needs::fits_not))]
+fn move_temporaries(
+    position: Position,
+    object: &Expression<'_>,
+    parent: &Expression<'_>,
+    least: &mut Option<Breach>,
+)
+    ensures { least.new ≡ noted least.old (if nat_lt 48 (move_need (expression_tree object.now) (expression_tree parent.now)) then at position 29 else []) }
+{
+    if !both_fit(object, parent, 48) {
+        note(least, EXPRESSION_TOO_LARGE, position);
+    }
+}
+
+fn move_to<'a>(
+    alloc: Global,
+    scope: &Scope<'_>,
+    position: Position,
+    object: &Expression<'_>,
+    parent: &Expression<'_>,
+    least: &mut Option<Breach>,
+) -> Result<Action<'a>, AllocError>
+    ensures { (around : _) → IfOk result (λ x. IsAction (seen_in scope.now) around (trees.move position (expression_tree object.now) (expression_tree parent.now)) least.old least.new (action_of x)) }
+{
+    move_temporaries(position, object, parent, least);
+    let Ok(object) = expression(alloc, scope, object, least) else {
+        return Err(AllocError);
+    };
+    let Ok(parent) = expression(alloc, scope, parent, least) else {
+        drop(object);
+        return Err(AllocError);
+    };
+    Ok(Action::Move(object, parent))
+}
+
+fn remove<'a>(
+    alloc: Global,
+    scope: &Scope<'_>,
+    position: Position,
+    e: &Expression<'_>,
+    least: &mut Option<Breach>,
+) -> Result<Action<'a>, AllocError>
+    ensures { (around : _) → IfOk result (λ x. IsAction (seen_in scope.now) around (trees.remove position (expression_tree e.now)) least.old least.new (action_of x)) }
+{
+    let Ok(object) = whole(alloc, scope, position, e, least) else {
+        return Err(AllocError);
+    };
+    Ok(Action::Remove(object))
+}
+
 // `break` or `continue`, which may stand there or not.
 #[tactic(auto, using(names::proofs::Noted::noted_none))]
 fn outside(stands: bool, position: Position, least: &mut Option<Breach>)
@@ -160,17 +263,19 @@ fn outside(stands: bool, position: Position, least: &mut Option<Breach>)
     }
 }
 
-/// Resolves the names of a statement, and notes the rules that it breaks.
+/// Resolves the names of a statement, and notes the rules that it breaks. The tree is the first argument here and where a
+/// vector of statements is lent: there its lifetime has the place that it has in what the vector is lent to, else the
+/// prover compares the types of these vectors part by part.
 ///
 /// # Errors
 ///
 /// `AllocError` where memory is refused.
 #[cycle(statement)]
 pub fn statement<'a>(
+    s: &Statement<'a>,
     alloc: Global,
     scope: &Scope<'_>,
     around: Around,
-    s: &Statement<'a>,
     least: &mut Option<Breach>,
 ) -> Result<Action<'a>, AllocError>
     ensures { IfOk result (λ x. IsAction (seen_in scope.now) around (statement_tree s.now) least.old least.new (action_of x)) }
@@ -223,6 +328,18 @@ pub fn statement<'a>(
         Statement::ReturnFalse => Ok(Action::ReturnValue(Value::Number(0))),
         Statement::Quit => Ok(Action::Quit),
         Statement::Read(text, words) => Ok(read(scope, *text, *words, least)),
+        Statement::Give(position, e, given) => give(alloc, scope, *position, e, given, least),
+        Statement::Move(position, object, parent) => {
+            move_to(alloc, scope, *position, object, parent, least)
+        }
+        Statement::Remove(position, e) => remove(alloc, scope, *position, e, least),
+        Statement::Each(name, body) => each(alloc, scope, body, *name, least),
+        Statement::EachIn(position, name, parent, body) => {
+            each_in(alloc, scope, body, *position, *name, parent, least)
+        }
+        Statement::EachWhere(position, name, condition, body) => {
+            each_where(alloc, scope, body, *position, *name, condition, least)
+        }
         Statement::Effect(position, e) => effect(alloc, scope, *position, e, least),
     }
 }
@@ -238,7 +355,7 @@ fn boxed<'a>(
 ) -> Result<Box<Action<'a>>, AllocError>
     ensures { IfOk result (λ x. IsAction (seen_in scope.now) around (statement_tree s.now.value) least.old least.new (action_of x.value)) }
 {
-    let Ok(found) = statement(alloc, scope, around, s, least) else {
+    let Ok(found) = statement(s, alloc, scope, around, least) else {
         return Err(AllocError);
     };
     Ok(Box::new(alloc, found)?)
@@ -261,7 +378,7 @@ pub fn all_statements<'a>(
 {
     let mut found = Vec::new(alloc);
     for s in all {
-        let Ok(resolved) = statement(alloc, scope, around, s, least) else {
+        let Ok(resolved) = statement(s, alloc, scope, around, least) else {
             return Err(AllocError);
         };
         found.push(resolved)?;
@@ -399,13 +516,76 @@ fn for_loop<'a>(
     Ok(Action::For(before, test, behind, body))
 }
 
+#[cycle(statement)]
+fn each<'a>(
+    alloc: Global,
+    scope: &Scope<'_>,
+    body: &Box<Statement<'a>>,
+    name: Name<'_>,
+    least: &mut Option<Breach>,
+) -> Result<Action<'a>, AllocError>
+    ensures { (around : _) → IfOk result (λ x. IsAction (seen_in scope.now) around (trees.each (name_tree name.entry) (statement_tree body.now.value)) least.old least.new (action_of x)) }
+{
+    let variable = loop_variable(name, scope.look(name.text), least);
+    let Ok(body) = boxed(alloc, scope, IN_LOOP, body, least) else {
+        return Err(AllocError);
+    };
+    Ok(Action::EachObject(variable, body))
+}
+
+#[cycle(statement)]
+fn each_in<'a>(
+    alloc: Global,
+    scope: &Scope<'_>,
+    body: &Box<Statement<'a>>,
+    position: Position,
+    name: Name<'_>,
+    parent: &Expression<'_>,
+    least: &mut Option<Breach>,
+) -> Result<Action<'a>, AllocError>
+    ensures { (around : _) → IfOk result (λ x. IsAction (seen_in scope.now) around (trees.each_in position (name_tree name.entry) (expression_tree parent.now) (statement_tree body.now.value)) least.old least.new (action_of x)) }
+{
+    let variable = loop_variable(name, scope.look(name.text), least);
+    let Ok(parent) = whole(alloc, scope, position, parent, least) else {
+        return Err(AllocError);
+    };
+    let Ok(body) = boxed(alloc, scope, IN_LOOP, body, least) else {
+        drop(parent);
+        return Err(AllocError);
+    };
+    Ok(Action::EachIn(variable, parent, body))
+}
+
+#[cycle(statement)]
+fn each_where<'a>(
+    alloc: Global,
+    scope: &Scope<'_>,
+    body: &Box<Statement<'a>>,
+    position: Position,
+    name: Name<'_>,
+    condition: &Expression<'_>,
+    least: &mut Option<Breach>,
+) -> Result<Action<'a>, AllocError>
+    ensures { (around : _) → IfOk result (λ x. IsAction (seen_in scope.now) around (trees.each_where position (name_tree name.entry) (expression_tree condition.now) (statement_tree body.now.value)) least.old least.new (action_of x)) }
+{
+    let variable = loop_variable(name, scope.look(name.text), least);
+    let Ok(condition) = whole(alloc, scope, position, condition, least) else {
+        return Err(AllocError);
+    };
+    let Ok(body) = boxed(alloc, scope, IN_LOOP, body, least) else {
+        drop(condition);
+        return Err(AllocError);
+    };
+    Ok(Action::EachWhere(variable, condition, body))
+}
+
 // A case of a `switch`.
 #[cycle(statement)]
 fn one_case<'a>(
+    given: &(Vec<Range<'a>>, Vec<Statement<'a>>),
     alloc: Global,
     scope: &Scope<'_>,
     around: Around,
-    given: &(Vec<Range<'a>>, Vec<Statement<'a>>),
     least: &mut Option<Breach>,
 ) -> Result<(Vec<Span>, Vec<Action<'a>>), AllocError>
     ensures { IfOk result (λ x. IsCase (seen_in scope.now) around given.now least.old least.new (case_of x)) }
@@ -431,7 +611,7 @@ fn all_cases<'a>(
 {
     let mut found = Vec::new(alloc);
     for c in given {
-        let Ok(resolved) = one_case(alloc, scope, around, c, least) else {
+        let Ok(resolved) = one_case(c, alloc, scope, around, least) else {
             return Err(AllocError);
         };
         found.push(resolved)?;
@@ -442,10 +622,10 @@ fn all_cases<'a>(
 // The statements of `default`.
 #[cycle(statement)]
 fn otherwise<'a>(
+    other: &Option<Vec<Statement<'a>>>,
     alloc: Global,
     scope: &Scope<'_>,
     around: Around,
-    other: &Option<Vec<Statement<'a>>>,
     least: &mut Option<Breach>,
 ) -> Result<Option<Vec<Action<'a>>>, AllocError>
     ensures { IfOk result (λ x. IsOther (seen_in scope.now) around (other_tree other.now) least.old least.new (other_of x)) }
@@ -481,7 +661,7 @@ fn switch_on<'a>(
         drop(value);
         return Err(AllocError);
     };
-    let Ok(other) = otherwise(alloc, scope, inside, other, least) else {
+    let Ok(other) = otherwise(other, alloc, scope, inside, least) else {
         drop(value);
         drop(cases);
         return Err(AllocError);

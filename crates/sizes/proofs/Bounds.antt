@@ -4,9 +4,11 @@ use Rattle.std.specs.Prelude.{if◌then◌else◌, not}
 use Rattle.expressions.specs.declared.tree.Binary.{Binary}
 use Rattle.expressions.specs.declared.tree.Binary.TheVariants as binaries
 use Rattle.expressions.specs.declared.tree.Comparison.{Comparison}
+use Rattle.expressions.specs.declared.tree.Containment.{Containment}
 use Rattle.expressions.specs.declared.tree.Equality.{Equality}
 use Rattle.expressions.specs.declared.tree.Prefix.{Prefix}
 use Rattle.expressions.specs.declared.tree.Prefix.TheVariants as prefixes
+use Rattle.expressions.specs.declared.tree.Relative.{Relative}
 use Rattle.expressions.specs.declared.tree.Width.{Width}
 use Rattle.meaning.specs.Resolved.{Value, Values, none, more}
 use Rattle.meaning.specs.Resolved as source
@@ -17,6 +19,7 @@ use Rattle.items.specs.Items.{operands_of, alone, left_of, if_pushed, branch_tru
 use Rattle.items.specs.Items.{comparison_when, equality_when, value_count, operand_count, operands_count}
 use Rattle.items.specs.Items.{branch_count, many_count, moved, truth_items, after_items, kept_items, and_items}
 use Rattle.items.specs.Items.{or_items, value_items, operands_items, branch_items, many_items, also_items}
+use Rattle.items.specs.Items.{first_of, containment_when}
 use Rattle.items.specs.Items as items
 use Rattle.sizes.proofs.Most.{most_of, tokens, list_tokens, alternative_tokens, or_tokens, most_append, if_small}
 use Rattle.sizes.proofs.Most.{moved_small, after_small, kept_small, truth_small, either_small, operands_length}
@@ -31,7 +34,7 @@ record AreSmall (vs : Values) : Type 0 where
   all : (at : ℕ) → most_of (operands_items at vs) + 20 * count_of vs ≤ 32 * list_tokens vs
   also : (op : Equality) (when : Bool) (at t : ℕ) → most_of (also_items at op vs when t) ≤ 32 * or_tokens vs + 13
 
-two_small : (oa ob : Operand) (xa xb tail : List Item) (na nb : ℕ) → most_of xa + 20 ≤ na → most_of xb + 20 ≤ nb
+pub two_small : (oa ob : Operand) (xa xb tail : List Item) (na nb : ℕ) → most_of xa + 20 ≤ na → most_of xb + 20 ≤ nb
     → most_of (if_pushed oa xa [] ++ (if_pushed ob xb [] ++ tail)) + 40 ≤ na + nb + most_of tail
 two_small oa ob xa xb tail na nb ha hb =
     omega (
@@ -42,6 +45,15 @@ two_small oa ob xa xb tail na nb ha hb =
       most_append (if_pushed ob xb []) tail,
     )
 
+-- the items of one operand, and what is done with it
+alone_small : (v : Value) → Small v → (at : ℕ) (tail : List Item)
+    → most_of (if_pushed (alone v) (value_items at v push) [] ++ tail) + 20 ≤ 32 * tokens v + most_of tail
+alone_small v s at tail = omega (
+  arith,
+  if_small (alone v) _ _ (s.value push at),
+  most_append (if_pushed (alone v) (value_items at v push) []) tail,
+)
+
 prefixed_small : (op : Prefix) (v : Value) → Small v → Small (source.prefixed op v)
 prefixed_small prefixes.Not v s = record {
   value = λ d at. let h = truth_small at (branch_count v false) d (λ t. branch_items at v false t)
@@ -50,17 +62,9 @@ prefixed_small prefixes.Not v s = record {
   branch = λ when at t. omega (arith, s.branch (not when) at t);
 }
 prefixed_small op v s = record {
-  value = λ d at. omega (
-    arith,
-    if_small (alone v) _ _ (s.value push at),
-    most_append (if_pushed (alone v) (value_items at v push) []) (items.apply_prefix op (alone v) d ∷ []),
-  );
-  branch = λ when at t. omega (
-    arith,
-    if_small (alone v) _ _ (s.value push at),
-    most_append (if_pushed (alone v) (value_items at v push) [])
-        (items.apply_prefix op (alone v) push ∷ branch_true pushed when t ∷ []),
-  );
+  value = λ d at. omega (arith, alone_small v s at (items.apply_prefix op (alone v) d ∷ []));
+  branch = λ when at t. omega
+      (arith, alone_small v s at (items.apply_prefix op (alone v) push ∷ branch_true pushed when t ∷ []));
 }
 
 binary_small : (op : Binary) (a b : Value) → Small a → Small b → Small (source.binary op a b)
@@ -223,17 +227,9 @@ equal_small op a bs sa sbs first =
 
 entry_small : (width : Width) (a : ℕ) (i : Value) → Small i → Small (source.entry width a i)
 entry_small width a i s = record {
-  value = λ d at. omega (
-    arith,
-    if_small (alone i) _ _ (s.value push at),
-    most_append (if_pushed (alone i) (value_items at i push) []) (items.entry width a (alone i) d ∷ []),
-  );
-  branch = λ when at t. omega (
-    arith,
-    if_small (alone i) _ _ (s.value push at),
-    most_append (if_pushed (alone i) (value_items at i push) [])
-        (items.entry width a (alone i) push ∷ branch_true pushed when t ∷ []),
-  );
+  value = λ d at. omega (arith, alone_small i s at (items.entry width a (alone i) d ∷ []));
+  branch = λ when at t. omega
+      (arith, alone_small i s at (items.entry width a (alone i) push ∷ branch_true pushed when t ∷ []));
 }
 
 assign_entry_small : (width : Width) (a : ℕ) (i v : Value) → Small i → Small v
@@ -251,6 +247,136 @@ assign_entry_small width a i v si sv = record {
         (si.value push at) (sv.value push (at + operand_count i (left_of i v))),
   );
 }
+
+-- Objects
+
+relative_small : (r : Relative) (v : Value) → Small v → Small (source.relative r v)
+relative_small r v s = record {
+  value = λ d at. omega (arith, alone_small v s at (items.relative r (alone v) d ∷ []));
+  branch = λ when at t. omega
+      (arith, alone_small v s at (items.relative r (alone v) push ∷ branch_true pushed when t ∷ []));
+}
+
+contained_small : (op : Containment) (a b : Value) → Small a → Small b → Small (source.contained op a b)
+contained_small op a b sa sb =
+    let both : (when : Bool) (at t : ℕ)
+    → most_of (branch_items at (source.contained op a b) when t) + 10 ≤ 32 * tokens a + 32 * tokens b =
+    λ when at t. omega (
+      arith,
+      two_small (left_of a b) (alone b) _ _
+          (items.is_in (left_of a b) (alone b) (containment_when op when) t ∷ []) _ _ (sa.value push at)
+          (sb.value push (at + operand_count a (left_of a b))),
+    ) in
+    record {
+      value = λ d at. let h = truth_small at (operand_count a (left_of a b) + operand_count b (alone b) + 1) d
+          (λ t. branch_items at (source.contained op a b) true t) (32 * tokens a + 32 * tokens b - 10)
+          (λ t. omega (arith, both true at t)) in omega (arith, h, both true at 0);
+      branch = λ when at t. omega (arith, both when at t);
+    }
+
+has_small : (positive : Bool) (v : Value) (n : ℕ) → Small v → Small (source.has positive v n)
+has_small positive v n s =
+    let both : (when : Bool) (at t : ℕ)
+    → most_of (branch_items at (source.has positive v n) when t) ≤ 32 * tokens v + 6 =
+    λ when at t. omega (arith, alone_small v s at (items.has (alone v) n (agrees positive when) t ∷ [])) in
+    record {
+      value = λ d at. omega (
+        arith,
+        truth_small at (operand_count v (alone v) + 1) d (λ t. branch_items at (source.has positive v n) true t)
+            (32 * tokens v + 6) (λ t. both true at t),
+      );
+      branch = λ when at t. omega (arith, both when at t);
+    }
+
+provides_small : (v : Value) (p : ℕ) → Small v → Small (source.provides v p)
+provides_small v p s =
+    let both : (when : Bool) (at t : ℕ)
+    → most_of (branch_items at (source.provides v p) when t) ≤ 32 * tokens v + 10 =
+    λ when at t. omega (arith, alone_small v s at (items.provides (alone v) p when t ∷ [])) in
+    record {
+      value = λ d at. omega (
+        arith,
+        truth_small at (operand_count v (alone v) + 1) d (λ t. branch_items at (source.provides v p) true t)
+            (32 * tokens v + 10) (λ t. both true at t),
+      );
+      branch = λ when at t. omega (arith, both when at t);
+    }
+
+property_small : (v : Value) (p : ℕ) → Small v → Small (source.property v p)
+property_small v p s = record {
+  value = λ d at. omega (arith, alone_small v s at (items.property (alone v) p d ∷ []));
+  branch = λ when at t. omega
+      (arith, alone_small v s at (items.property (alone v) p push ∷ branch_true pushed when t ∷ []));
+}
+
+property_size_small : (v : Value) (p : ℕ) → Small v → Small (source.property_size v p)
+property_size_small v p s = record {
+  value = λ d at. omega (arith, alone_small v s at (items.property_size (alone v) p d ∷ []));
+  branch = λ when at t. omega
+      (arith, alone_small v s at (items.property_size (alone v) p push ∷ branch_true pushed when t ∷ []));
+}
+
+property_word_small : (v : Value) (p : ℕ) (i : Value) → Small v → Small i → Small (source.property_word v p i)
+property_word_small v p i sv si = record {
+  value = λ d at. omega (
+    arith,
+    two_small (left_of v i) (alone i) _ _ (items.property_word p (left_of v i) (alone i) d ∷ []) _ _
+        (sv.value push at) (si.value push (at + operand_count v (left_of v i))),
+  );
+  branch = λ when at t. omega (
+    arith,
+    two_small (left_of v i) (alone i) _ _
+        (items.property_word p (left_of v i) (alone i) push ∷ branch_true pushed when t ∷ []) _ _
+        (sv.value push at) (si.value push (at + operand_count v (left_of v i))),
+  );
+}
+
+assign_property_small : (v : Value) (p : ℕ) (w : Value) → Small v → Small w → Small (source.assign_property v p w)
+assign_property_small v p w sv sw = record {
+  value = λ d at. omega (
+    arith,
+    two_small (left_of v w) (alone w) _ _ (items.assign_property p (left_of v w) (alone w) d ∷ []) _ _
+        (sv.value push at) (sw.value push (at + operand_count v (left_of v w))),
+  );
+  branch = λ when at t. omega (
+    arith,
+    two_small (left_of v w) (alone w) _ _
+        (items.assign_property p (left_of v w) (alone w) push ∷ branch_true pushed when t ∷ []) _ _
+        (sv.value push at) (sw.value push (at + operand_count v (left_of v w))),
+  );
+}
+
+-- three operands
+assign_property_word_small : (v : Value) (p : ℕ) (i w : Value) → Small v → Small i → Small w
+    → Small (source.assign_property_word v p i w)
+assign_property_word_small v p i w sv si sw =
+    record {
+      value = λ d at. omega (arith, three at (last d ∷ []));
+      branch = λ when at t. omega
+          (arith, three at (last push ∷ branch_true pushed when t ∷ []));
+    }
+  where
+    last : Destination → Item
+    last d = items.assign_property_word p (first_of v i w) (left_of i w) (alone w) d
+
+    three : (at : ℕ) (tail : List Item) → most_of (if_pushed (first_of v i w) (value_items at v push) []
+        ++ (if_pushed (left_of i w) (value_items (at + operand_count v (first_of v i w)) i push) []
+        ++ (if_pushed (alone w)
+        (value_items (at + operand_count v (first_of v i w) + operand_count i (left_of i w)) w push) []
+        ++ tail))) + 60
+        ≤ 32 * tokens v + 32 * tokens i + 32 * tokens w + most_of tail
+    three at tail =
+        let o = first_of v i w in
+        let m = at + operand_count v o in
+        let others = if_pushed (left_of i w) (value_items m i push) []
+        ++ (if_pushed (alone w) (value_items (m + operand_count i (left_of i w)) w push) [] ++ tail) in
+        omega (
+          arith,
+          if_small o _ _ (sv.value push at),
+          most_append (if_pushed o (value_items at v push) []) others,
+          two_small (left_of i w) (alone w) _ _ tail _ _ (si.value push m)
+              (sw.value push (m + operand_count i (left_of i w))),
+        )
 
 mutual
   pub small : (v : Value) → Small v
@@ -298,6 +424,15 @@ mutual
   }
   small (source.entry width a i) = entry_small width a i (small i)
   small (source.assign_entry width a i v) = assign_entry_small width a i v (small i) (small v)
+  small (source.relative r v) = relative_small r v (small v)
+  small (source.contained op a b) = contained_small op a b (small a) (small b)
+  small (source.has positive v n) = has_small positive v n (small v)
+  small (source.provides v p) = provides_small v p (small v)
+  small (source.property v p) = property_small v p (small v)
+  small (source.property_size v p) = property_size_small v p (small v)
+  small (source.property_word v p i) = property_word_small v p i (small v) (small i)
+  small (source.assign_property v p w) = assign_property_small v p w (small v) (small w)
+  small (source.assign_property_word v p i w) = assign_property_word_small v p i w (small v) (small i) (small w)
 
   are_small : (vs : Values) → AreSmall vs
   are_small none = list_none

@@ -15,7 +15,8 @@ use Rattle.std.proofs.Common.{◌≡◌, ℕ, ◌+◌, ◌*◌, ◌≤◌, List,
 use Rattle.std.specs.Prelude.{if◌then◌else◌, ◌+◌, ◌*◌, ℕ, List, [], ◌∷◌, length}
 
 -- An operand has 2 bytes, or 1 and an instruction `pull`; a label has 4 bytes at most, a fault inline 4, and the tests
--- of an index 10. A case compares its word with three numbers at most; `read` tests the first bytes of two arrays.
+-- of an index or an object 10. A case compares its word with three numbers at most; `read` tests the first bytes of two
+-- arrays.
 abbrev pub most : Item → ℕ
 most (items.move o d) = 5
 most (items.apply_prefix op o d) = 6
@@ -23,11 +24,25 @@ most (items.operate op a b d) = 16
 most (items.step op x d) = 5
 most (items.entry width a o d) = 24
 most (items.assign_entry width a o q d) = 33
+most (items.relative r o d) = 23
+most (items.property o q d) = 43
+most (items.property_size o q d) = 26
+most (items.property_word q o i d) = 62
+most (items.assign_property q o w d) = 55
+most (items.assign_property_word q o i w d) = 71
+most (items.give o changes) = 17 + 5 * length changes
+most (items.move_object o p) = 66
+most (items.remove_object o) = 21
 most (items.keep x) = 3
 most items.first_equal = 19
 most items.also_equal = 25
 most items.drop_below = 3
 most (items.branch test os when target) = 6 + 4 * length os
+most (items.is_in o p when target) = 30
+most (items.has o n when target) = 26
+most (items.provides o q when target) = 30
+most (items.first_object x target) = 3
+most (items.next_object x target) = 15
 most (items.choose o) = 5
 most (items.case test ns when target) = 13
 most (items.jump target) = 3
@@ -36,6 +51,7 @@ most (items.call r os d) = 9 + 4 * length os
 most (items.return o) = 4
 most (items.print_character o) = 24
 most (items.print_number o) = 4
+most (items.print_name o) = 21
 most items.new_line = 1
 most (items.read_line t q) = 53
 most items.quit = 1
@@ -45,7 +61,7 @@ abbrev pub most_of : List Item → ℕ
 most_of [] = 0
 most_of (i ∷ is) = most i + most_of is
 
--- the tokens of an expression, without parentheses and commas
+-- the tokens of an expression, without commas and the parentheses around an expression
 abbrev mutual
   pub tokens : Value → ℕ
   tokens (source.number n) = 1
@@ -60,6 +76,15 @@ abbrev mutual
   tokens (source.assign x v) = 2 + tokens v
   tokens (source.entry width a i) = 2 + tokens i
   tokens (source.assign_entry width a i v) = 2 + tokens i + (1 + tokens v)
+  tokens (source.relative r v) = 3 + tokens v
+  tokens (source.contained op a b) = tokens a + 1 + tokens b
+  tokens (source.has positive v n) = tokens v + 2
+  tokens (source.provides v p) = tokens v + 2
+  tokens (source.property v p) = tokens v + 2
+  tokens (source.property_size v p) = tokens v + 2
+  tokens (source.property_word v p i) = tokens v + 3 + tokens i
+  tokens (source.assign_property v p w) = tokens v + 2 + (1 + tokens w)
+  tokens (source.assign_property_word v p i w) = tokens v + 3 + tokens i + (1 + tokens w)
 
   pub list_tokens : Values → ℕ
   list_tokens none = 0

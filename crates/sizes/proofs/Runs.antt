@@ -231,6 +231,8 @@ abbrev reads : List ℕ → source.ProgramOf
 reads letters = record {
   globals = [];
   arrays = letters ∷ (1 ∷ replicate 5 0) ∷ [];
+  defaults = replicate 63 0;
+  objects = [];
   keys = number_of_key (word_key (codes "go")) ∷ [];
   routines =
       record { locals = 0; body = source.stop }

@@ -9,10 +9,8 @@ use Rattle.zcore.specs.declared.instruction.Operand.TheVariants.{Large, Small, V
 use Rattle.zcore.specs.declared.instruction.Operation.{Operation}
 use Rattle.zcore.specs.declared.instruction.Operation.TheVariants as operations
 use Rattle.zcore.specs.Operations.{count_of, number_of, has_more_types}
-use Rattle.zcore.specs.Instruction.{Instruction, opcode_bytes, operand_bytes, result_bytes, bytes_of}
-use Rattle.forms.specs.declared.layout.Form.TheVariants as form
-use Rattle.forms.specs.declared.layout.Form.{Form}
-use Rattle.forms.specs.Layout.{first, form_for, size_with, offset_over, part_size, lefts}
+use Rattle.zcore.specs.Instruction.{Instruction, operand_bytes, result_bytes, bytes_of}
+use Rattle.forms.specs.Layout.{first, form_for, offset_over, part_size, lefts}
 use Rattle.expressions.specs.declared.tree.Binary.{Binary}
 use Rattle.expressions.specs.declared.tree.Binary.TheVariants as binaries
 use Rattle.expressions.specs.declared.tree.Prefix.{Prefix}
@@ -24,6 +22,7 @@ use Rattle.expressions.specs.declared.tree.Width.TheVariants as widths
 use Rattle.meaning.specs.declared.resolved.Variable as source
 use Rattle.meaning.specs.Meaning.{is_character}
 use Rattle.items.specs.Items.{Item, Destination, Test}
+use Rattle.meaning.specs.declared.cause.Cause.TheVariants as causes
 use Rattle.items.specs.Items as items
 use Rattle.code.specs.Instructions as spec
 use Rattle.code.specs.Instructions.{plain, giving, in_place, constant, pushed_count, named_from, operands, takes}
@@ -35,36 +34,31 @@ use Rattle.code.specs.Instructions.{branching, pull, is_entry, entries_in, load_
 use Rattle.code.specs.Instructions.{tested_index, at_index, entry_code, assigned_takes, assigned_word, passed_on}
 use Rattle.code.specs.Instructions.{assign_entry_code, chosen_variable, choose_code, most_compared, compared}
 use Rattle.code.specs.Instructions.{case_code, first_byte, tested_first, letters_in, words_in, line_code, read_code}
+use Rattle.code.specs.Instructions.{objects_of, relative_code, is_in_code, has_code, provides_code, give_code}
+use Rattle.code.specs.Instructions.{remove_code, print_name_code, property_code, property_size_code, property_word_code}
+use Rattle.code.specs.Instructions.{assign_property_code, assign_property_word_code, move_object_code}
+use Rattle.code.specs.Instructions.{first_object_code, next_object_code}
+use Rattle.code.specs.Addresses.{Sizes}
 use Rattle.code.specs.Bytes.{bytes_of_all, no_addresses, part_of, parts_of, code_size}
 use Rattle.sizes.proofs.Most.{most, most_of}
-use Rattle.code.proofs.Lengths.{all_length, one_length, labelled_length, beside}
-use Rattle.sizes.proofs.SizesOfInstructions.{opcode_few, opcode_most, operand_count, parts_length, few_bytes}
+use Rattle.code.proofs.Lengths.{all_length, one_length, labelled_length}
+use Rattle.sizes.proofs.SizesOfInstructions.{opcode_most, operand_count, parts_length, few_bytes}
 use Rattle.sizes.proofs.SizesOfInstructions.{constant_few, operand_few, one_count, two_count, three_count, taken_few}
+use Rattle.sizes.proofs.SizesOfOperands.{giving_few, plain_few, store_few, fail_size, either_all, pulled_into_few}
+use Rattle.sizes.proofs.SizesOfOperands.{word_in_few, passed_few, FewAt, between_few, at_few, label_few, beside_few}
+use Rattle.sizes.proofs.SizesOfObjects.{relative_few, remove_few, name_few, give_few, is_in_few, has_few}
+use Rattle.sizes.proofs.SizesOfObjects.{provides_few, property_few, property_size_few, property_word_few}
+use Rattle.sizes.proofs.SizesOfObjects.{assign_property_few, assign_property_word_few, move_object_few}
+use Rattle.sizes.proofs.SizesOfObjects.{first_object_few, next_object_few}
 use Rattle.sizes.proofs.SizesOfTexts.{text_few}
 
 -- Items
-
-giving_few : (op : Operation) (a b : Operand) (d : Destination) → has_more_types op ≡ false
-    → length (operand_bytes a) ≤ 2 → length (operand_bytes b) ≤ 2
-    → length (bytes_of (giving op (a ∷ b ∷ []) (result_in d))) ≤ 3 + length (operand_bytes a) + length
-    (operand_bytes b)
-giving_few op a b d e h k = omega (arith, few_bytes (giving op (a ∷ b ∷ []) (result_in d)) e, two_count a b)
 
 arithmetic_few : (op : Operation) (x y : items.Operand) (d : Destination) → has_more_types op ≡ false
     → length (bytes_of_all (arithmetic op x y d)) ≤ 11
 arithmetic_few op x y d e =
     let i = giving op (operands (x ∷ y ∷ [])) (result_in d) in
     omega (arith, all_length (takes (x ∷ y ∷ [])) (i ∷ []), one_length i, few_bytes i e, taken_few (x ∷ y ∷ []))
-
-fail_size : (n : ℕ) → length (bytes_of_all (fail n)) ≡ 4
-unfolding bytes_of
-fail_size n = refl
-
-either_all : (b : Bool) (xs ys : List Instruction) (n : ℕ) → length (bytes_of_all xs) ≤ n
-    → length (bytes_of_all ys) ≤ n
-    → length (bytes_of_all (if b then xs else ys)) ≤ n
-either_all true xs ys n h k = h
-either_all false xs ys n h k = k
 
 divided_few : (op : Operation) (x y : items.Operand) (d : Destination) → has_more_types op ≡ false
     → length (bytes_of_all (divided no_addresses op x y d)) ≤ 16
@@ -73,7 +67,7 @@ divided_few op x items.pushed d e =
     let i = giving op (in_place x ∷ Variable 248 ∷ []) (result_in d) in
     omega (
       arith,
-      giving_few op (in_place x) (Variable 248) d e (operand_few x) (omega arith),
+      giving_few op (in_place x) (Variable 248) (result_in d) e,
       operand_few x,
       one_length i,
     )
@@ -82,7 +76,7 @@ divided_few op x (items.number n) d e =
     either_all (n == 0) (fail 0) (i ∷ []) 16 (omega (arith, fail_size 0))
     (omega (
       arith,
-      giving_few op (in_place x) (constant n) d e (operand_few x) (constant_few (nat_lt n 256) n),
+      giving_few op (in_place x) (constant n) (result_in d) e,
       operand_few x,
       constant_few (nat_lt n 256) n,
       one_length i,
@@ -91,7 +85,7 @@ divided_few op x (items.variable v) d e =
     let i = giving op (in_place x ∷ in_place (items.variable v) ∷ []) (result_in d) in
     omega (
       arith,
-      giving_few op (in_place x) (in_place (items.variable v)) d e (operand_few x) (omega arith),
+      giving_few op (in_place x) (in_place (items.variable v)) (result_in d) e,
       operand_few x,
       one_length i,
     )
@@ -113,7 +107,7 @@ prefix_few prefixes.Minus o d =
     let i = giving operations.Sub (Small 0 ∷ in_place o ∷ []) (result_in d) in
     omega (
       arith,
-      giving_few operations.Sub (Small 0) (in_place o) d refl (omega arith) (operand_few o),
+      giving_few operations.Sub (Small 0) (in_place o) (result_in d) refl,
       operand_few o,
       one_length i,
     )
@@ -121,15 +115,6 @@ prefix_few prefixes.Complement o d =
     let i = giving operations.Not (in_place o ∷ []) (result_in d) in
     omega (arith, few_bytes i refl, one_count (in_place o), operand_few o, one_length i)
 prefix_few prefixes.Not o d = omega arith
-
--- one operand
-plain_few : (op : Operation) (o : Operand) → has_more_types op ≡ false
-    → length (bytes_of (plain op (o ∷ []))) ≤ 2 + length (operand_bytes o)
-plain_few op o e = omega (arith, few_bytes (plain op (o ∷ [])) e, one_count o)
-
-store_few : (v : ℕ) (o : Operand) → length (operand_bytes o) ≤ 2
-    → length (bytes_of (plain operations.Store (Small v ∷ o ∷ []))) ≤ 5
-store_few v o h = omega (arith, few_bytes (plain operations.Store (Small v ∷ o ∷ [])) refl, two_count (Small v) o)
 
 move_few : (o : items.Operand) (d : Destination) → length (bytes_of (move_code o d)) ≤ 5
 move_few o items.push = omega (arith, plain_few operations.Push (in_place o) refl, operand_few o)
@@ -167,74 +152,25 @@ character_few (items.variable x) = omega arith
 
 -- Arrays
 
-tests_few : (b : Bool) (low end v : ℕ) → length (bytes_of_all (
-    branching operations.JumpIfLess (Variable v ∷ Small low ∷ []) true (if b then 6 else 8)
-    ∷ branching operations.JumpIfLess (Variable v ∷ (if b then Small end else Large end) ∷ []) true 6
-    ∷ fail 0)) ≤ 14
-unfolding bytes_of
-tests_few true low end v = omega arith
-tests_few false low end v = omega arith
-
-tested_index_few : (count v : ℕ) → length (bytes_of_all (tested_index no_addresses count v)) ≤ 14
-tested_index_few count v = tests_few (nat_lt count 256) 0 count v
-
--- what is done at an index has at most so many bytes
-abbrev FewAt : (Operand → List Instruction) → ℕ → Type 0
-FewAt act n = (i : Operand) → length (operand_bytes i) ≤ 2 → length (bytes_of_all (act i)) ≤ n
-
-behind_few : (count v : ℕ) (act : Operand → List Instruction) (n : ℕ) → FewAt act n
-    → length (bytes_of_all (tested_index no_addresses count v ++ act (Variable v))) ≤ 14 + n
-behind_few count v act n h = omega (
-  arith,
-  all_length (tested_index no_addresses count v) (act (Variable v)),
-  tested_index_few count v,
-  h (Variable v) (omega arith),
-)
-
-pulled_few : (v : ℕ) → length (bytes_of_all (pull v ∷ [])) ≤ 3
-unfolding bytes_of
-pulled_few v = omega arith
-
-at_few : (count : ℕ) (o : items.Operand) (act : Operand → List Instruction) (n : ℕ) → FewAt act n
-    → length (bytes_of_all (at_index no_addresses count o act)) ≤ 17 + n
-at_few count items.pushed act n h =
-    let v = spec.temporary 0 in
-    omega (
-      arith,
-      all_length (pull v ∷ []) (tested_index no_addresses count v ++ act (Variable v)),
-      pulled_few v,
-      behind_few count v act n h,
-    )
-at_few count (items.number i) act n h =
-    either_all (is_entry count i) (act (constant i)) (fail 0) (17 + n)
-    (omega (arith, h (constant i) (constant_few (nat_lt i 256) i))) (omega (arith, fail_size 0))
-at_few count (items.variable x) act n h = omega (arith, behind_few count (spec.number_of x) act n h)
-
 load_few : (width : Width) (place : ℕ) (d : Destination)
     → FewAt (λ i. giving (load_operation width) (Large place ∷ i ∷ []) (result_in d) ∷ []) 7
 load_few widths.Byte place d i h = omega (
   arith,
   one_length (giving operations.LoadByte (Large place ∷ i ∷ []) (result_in d)),
-  giving_few operations.LoadByte (Large place) i d refl (omega arith) h,
+  giving_few operations.LoadByte (Large place) i (result_in d) refl,
+  h,
 )
 load_few widths.Word place d i h = omega (
   arith,
   one_length (giving operations.LoadWord (Large place ∷ i ∷ []) (result_in d)),
-  giving_few operations.LoadWord (Large place) i d refl (omega arith) h,
+  giving_few operations.LoadWord (Large place) i (result_in d) refl,
+  h,
 )
 
 entry_few : (width : Width) (size place : ℕ) (o : items.Operand) (d : Destination)
     → length (bytes_of_all (entry_code no_addresses width size place o d)) ≤ 24
-entry_few width size place o d = at_few (entries_in width size) o
+entry_few width size place o d = at_few causes.IndexOutOfRange 0 (entries_in width size) o
     (λ i. giving (load_operation width) (Large place ∷ i ∷ []) (result_in d) ∷ []) 7 (load_few width place d)
-
-passed_few : (d : Destination) (word : Operand) → length (operand_bytes word) ≤ 2
-    → length (bytes_of_all (passed_on d word)) ≤ 5
-passed_few items.push word h = omega
-    (arith, one_length (spec.push word), plain_few operations.Push word refl, h)
-passed_few (items.into x) word h = omega
-    (arith, one_length (spec.store (spec.number_of x) word), store_few (spec.number_of x) word h)
-passed_few items.nowhere word h = omega arith
 
 no_more_types : (width : Width) → has_more_types (store_operation width) ≡ false
 no_more_types widths.Byte = refl
@@ -255,16 +191,6 @@ stored_few width place word d w i h =
       h,
     )
 
-assigned_few : (q : items.Operand) → length (operand_bytes (assigned_word q)) ≤ 2
-assigned_few items.pushed = omega arith
-assigned_few (items.number n) = constant_few (nat_lt n 256) n
-assigned_few (items.variable x) = omega arith
-
-assigned_takes_few : (q : items.Operand) → length (bytes_of_all (assigned_takes q)) ≤ 3
-assigned_takes_few items.pushed = pulled_few (spec.temporary 1)
-assigned_takes_few (items.number n) = omega arith
-assigned_takes_few (items.variable x) = omega arith
-
 assign_few : (width : Width) (size place : ℕ) (o q : items.Operand) (d : Destination)
     → length (bytes_of_all (assign_entry_code no_addresses width size place o q d)) ≤ 33
 assign_few width size place o q d =
@@ -274,14 +200,14 @@ assign_few width size place o q d =
     omega (
       arith,
       all_length (assigned_takes q) (at_index no_addresses count o act),
-      assigned_takes_few q,
-      at_few count o act 13 (stored_few width place word d (assigned_few q)),
+      pulled_into_few 1 q,
+      at_few causes.IndexOutOfRange 0 count o act 13 (stored_few width place word d (word_in_few 1 q)),
     )
 
 -- Lines
 
 tested_first_few : (most : ℕ) → length (bytes_of_all (tested_first no_addresses most)) ≤ 14
-tested_first_few most = tests_few (nat_lt (most + 1) 256) 1 (most + 1) (spec.temporary 0)
+tested_first_few most = between_few causes.BufferTooSmall 1 (most + 1) (spec.temporary 0)
 
 first_few : (place most : ℕ) → length (bytes_of_all (first_byte place ∷ tested_first no_addresses most)) ≤ 20
 first_few place most =
@@ -349,31 +275,11 @@ call_few r os d =
       result_few d,
     )
 
-label_few : (f : Form) → size_with f ≤ 4
-label_few form.One = omega arith
-label_few form.Two = omega arith
-label_few form.Far = omega arith
-
 test_more : (test : Test) → has_more_types (test_operation test) ≡ false
 test_more items.is_zero = refl
 test_more items.less = refl
 test_more items.greater = refl
 test_more items.same = refl
-
-beside_few : (test : Test) (os : List Operand) → beside (test_operation test) os ≤ 2 + operand_count os
-beside_few test os =
-    let op = test_operation test in
-    let code = opcode_bytes (count_of op) (number_of op) (has_more_types op) os in
-    let given = flat_map operand_bytes os in
-    let e : length code ≡ length (opcode_bytes (count_of op) (number_of op) false os) =
-    ap (λ b. length (opcode_bytes (count_of op) (number_of op) b os)) (test_more test) in
-    omega (
-      arith,
-      e,
-      opcode_few (count_of op) (number_of op) os,
-      length-append code given,
-      length-append (code ++ given) [],
-    )
 
 tested_few : (test : Test) (os : List items.Operand) (when : Bool) (n : ℕ)
     → operand_count (operands os) + length (bytes_of_all (takes os)) ≤ n
@@ -383,7 +289,7 @@ tested_few test os when n h =
       arith,
       all_length (takes os) (labelled (test_operation test) (operands os) when 2),
       labelled_length (test_operation test) (operands os) when 2,
-      beside_few test (operands os),
+      beside_few (test_operation test) (operands os) (test_more test),
       h,
     )
 
@@ -408,7 +314,7 @@ shortest_few items.same (o ∷ []) when = tested_few items.less (o ∷ items.num
 shortest_few items.same (o ∷ p ∷ os) when =
     tested_few items.same (o ∷ p ∷ os) when (4 * length (o ∷ p ∷ os)) (taken_few (o ∷ p ∷ os))
 
-branch_few : (sizes : List ℕ) (test : Test) (os : List items.Operand) (when : Bool) (target n : ℕ) (rest : List ℕ)
+branch_few : (sizes : Sizes) (test : Test) (os : List items.Operand) (when : Bool) (target n : ℕ) (rest : List ℕ)
     → part_size n (part_of sizes (items.branch test os when target)) rest ≤ 6 + 4 * length os
 branch_few sizes test os when target n rest =
     let given = take most_tested os in
@@ -444,7 +350,7 @@ compared_few ns =
     let given = take most_compared ns in
     omega (arith, constants_few given, length-take most_compared ns)
 
-case_few : (sizes : List ℕ) (test : Test) (ns : List ℕ) (when : Bool) (target n : ℕ) (rest : List ℕ)
+case_few : (sizes : Sizes) (test : Test) (ns : List ℕ) (when : Bool) (target n : ℕ) (rest : List ℕ)
     → part_size n (part_of sizes (items.case test ns when target)) rest ≤ 13
 case_few sizes test ns when target n rest =
     let op = test_operation test in
@@ -452,7 +358,7 @@ case_few sizes test ns when target n rest =
     omega (
       arith,
       labelled_length op (compared ns) when 2,
-      beside_few test (compared ns),
+      beside_few op (compared ns) (test_more test),
       compared_few ns,
       length-append (bytes_of_all (case_code test ns when 2)) [],
       label_few (form_for offset),
@@ -462,8 +368,11 @@ case_few sizes test ns when target n rest =
 no_text : (is : List Instruction) → length (bytes_of_all is ++ []) ≡ length (bytes_of_all is)
 no_text is = ap length (append-nil (bytes_of_all is))
 
--- where arrays have these sizes
-module _ (sizes : List ℕ) where
+-- of a program of these sizes
+module _ (sizes : Sizes) where
+  abbrev count : ℕ
+  count = objects_of sizes
+
   pub part_few : (i : Item) (n : ℕ) (rest : List ℕ) → part_size n (part_of sizes i) rest ≤ most i
   unfolding bytes_of
   part_few (items.move o d) n rest = omega
@@ -473,19 +382,73 @@ module _ (sizes : List ℕ) where
       omega (arith, no_text (binary_code no_addresses op x y d), binary_few op x y d)
   part_few (items.step op x d) n rest = omega (arith, no_text (step_code op x d), step_few op x d)
   part_few (items.entry width number o d) n rest =
-      let size = slice_index sizes number % 65536 in
+      let size = slice_index sizes.arrays number % 65536 in
       omega (
         arith,
         no_text (entry_code no_addresses width size (slice_index no_addresses.arrays number) o d),
         entry_few width size (slice_index no_addresses.arrays number) o d,
       )
   part_few (items.assign_entry width number o q d) n rest =
-      let size = slice_index sizes number % 65536 in
+      let size = slice_index sizes.arrays number % 65536 in
       omega (
         arith,
         no_text (assign_entry_code no_addresses width size (slice_index no_addresses.arrays number) o q d),
         assign_few width size (slice_index no_addresses.arrays number) o q d,
       )
+  part_few (items.relative r o d) n rest =
+      omega (arith, no_text (relative_code no_addresses count r o d), relative_few count r o d)
+  part_few (items.property o q d) n rest =
+      omega (arith, no_text (property_code no_addresses count o (q % 256) d), property_few count o (q % 256) d)
+  part_few (items.property_size o q d) n rest = omega (
+    arith,
+    no_text (property_size_code no_addresses count o (q % 256) d),
+    property_size_few count o (q % 256) d,
+  )
+  part_few (items.property_word q o i d) n rest = omega (
+    arith,
+    no_text (property_word_code no_addresses count (q % 256) o i d),
+    property_word_few count (q % 256) o i d,
+  )
+  part_few (items.assign_property q o w d) n rest = omega (
+    arith,
+    no_text (assign_property_code no_addresses count (q % 256) o w d),
+    assign_property_few count (q % 256) o w d,
+  )
+  part_few (items.assign_property_word q o i w d) n rest = omega (
+    arith,
+    no_text (assign_property_word_code no_addresses count (q % 256) o i w d),
+    assign_property_word_few count (q % 256) o i w d,
+  )
+  part_few (items.give o changes) n rest =
+      omega (arith, no_text (give_code no_addresses count o changes), give_few count o changes)
+  part_few (items.move_object o p) n rest =
+      omega (arith, no_text (move_object_code no_addresses count o p), move_object_few count o p)
+  part_few (items.remove_object o) n rest =
+      omega (arith, no_text (remove_code no_addresses count o), remove_few count o)
+  part_few (items.print_name o) n rest =
+      omega (arith, no_text (print_name_code no_addresses count o), name_few count o)
+  part_few (items.is_in o p when target) n rest = omega (
+    arith,
+    no_text (is_in_code no_addresses count o p when 2),
+    is_in_few count o p when,
+    label_few (form_for (offset_over (target - (n + 1)) rest)),
+  )
+  part_few (items.has o a when target) n rest = omega (
+    arith,
+    no_text (has_code no_addresses count o (a % 256) when 2),
+    has_few count o (a % 256) when,
+    label_few (form_for (offset_over (target - (n + 1)) rest)),
+  )
+  part_few (items.provides o q when target) n rest = omega (
+    arith,
+    no_text (provides_code no_addresses count o (q % 256) when 2),
+    provides_few count o (q % 256) when,
+    label_few (form_for (offset_over (target - (n + 1)) rest)),
+  )
+  part_few (items.first_object x target) n rest =
+      omega (arith, no_text (first_object_code count x 2), first_object_few count x 2)
+  part_few (items.next_object x target) n rest =
+      omega (arith, no_text (next_object_code count x 2), next_object_few count x 2)
   part_few (items.keep x) n rest = omega arith
   part_few items.first_equal n rest = omega arith
   part_few items.also_equal n rest = omega arith
@@ -497,8 +460,8 @@ module _ (sizes : List ℕ) where
       omega (arith, no_text (i ∷ []), one_length i, plain_few operations.PrintNumber (in_place o) refl, operand_few o)
   part_few items.new_line n rest = omega arith
   part_few (items.read_line t q) n rest =
-      let text_size = slice_index sizes t % 65536 in
-      let parse_size = slice_index sizes q % 65536 in
+      let text_size = slice_index sizes.arrays t % 65536 in
+      let parse_size = slice_index sizes.arrays q % 65536 in
       let text = slice_index no_addresses.arrays t in
       let parse = slice_index no_addresses.arrays q in
       omega (

@@ -18,6 +18,7 @@ use Rattle.checker.specs.Programs.{routine_trees, title, IsCheckedOf}
 use Rattle.meaning.specs.Places.{routines_place}
 use Rattle.meaning.specs.Resolved.{RoutineOf, ProgramOf, CheckedProgram, program_of, routine_of, title_of}
 use Rattle.meaning.specs.Sizes.{greatest_weight, first_heavy, heavy_fault, size_fault, fault}
+use Rattle.code.specs.Addresses.{Sizes}
 use Rattle.code.specs.HeldProgram.{sizes_of}
 use Rattle.code.specs.Sizes.{routine_size, routines_size}
 use Rattle.sizes.specs.Laws.{SmallSourcesHaveSmallCode}
@@ -63,12 +64,15 @@ tests c version e =
 
 -- the routines of a checked program
 
-module _ (file : File) (sizes : List ℕ) where
+module _ (file : File) (sizes : Sizes) where
   resolved_trees : (ds : List DirectiveTree) → routines_of file ds ≡ map (resolve_routine file) (routine_trees ds)
   resolved_trees [] = refl
   resolved_trees (trees.global n v ∷ ds) = resolved_trees ds
   resolved_trees (trees.constant n v ∷ ds) = resolved_trees ds
   resolved_trees (trees.array a ∷ ds) = resolved_trees ds
+  resolved_trees (trees.attribute n ∷ ds) = resolved_trees ds
+  resolved_trees (trees.property n v ∷ ds) = resolved_trees ds
+  resolved_trees (trees.object o ∷ ds) = resolved_trees ds
   resolved_trees (trees.routine r ∷ ds) = ap (λ rs. resolve_routine file r ∷ rs) (resolved_trees ds)
 
   one_small : (c : CheckedRoutine) (r : RoutineTree) → routine_of c ≡ resolve_routine file r → title_of c ≡ title r

@@ -1,33 +1,39 @@
 -- The code of an expression is shorter than its tree weighs.
-use Rattle.std.proofs.Common.{◌≤◌, ◌+◌, ◌*◌, ℕ, List, Option, Some, None, Bool, arith}
+use Rattle.std.proofs.Common.{◌≡◌, ◌≤◌, ◌+◌, ◌*◌, ℕ, List, [], ◌++◌, Option, Some, None, Bool, refl, arith}
 use Rattle.lexer.specs.declared.token.Position.{Position}
 use Rattle.lexer.specs.Token.{Lexeme}
 use Rattle.expressions.specs.declared.tree.Binary.{Binary}
 use Rattle.expressions.specs.declared.tree.Equality.{Equality}
 use Rattle.expressions.specs.declared.tree.Comparison.{Comparison}
+use Rattle.expressions.specs.declared.tree.Containment.{Containment}
+use Rattle.expressions.specs.declared.tree.ObjectTest.{ObjectTest}
+use Rattle.expressions.specs.declared.tree.ObjectTest.TheVariants as tests
 use Rattle.expressions.specs.declared.tree.Prefix.{Prefix}
+use Rattle.expressions.specs.declared.tree.Relative.{Relative}
 use Rattle.expressions.specs.declared.tree.Step.{Step}
 use Rattle.expressions.specs.declared.tree.Width.{Width}
 use Rattle.expressions.specs.Tree.{NameTree, ExpressionTree, ExpressionTrees}
 use Rattle.expressions.specs.Tree as trees
 use Rattle.expressions.specs.Grammar.{IsE, e_plain, e_assign, IsE1, e1_plain, e1_logical, IsN1, n1_plain, n1_not}
-use Rattle.expressions.specs.Grammar.{IsE2, e2_plain, e2_compare, e2_equal, IsChoice, choice_last, choice_or, IsE3}
-use Rattle.expressions.specs.Grammar.{e3_plain, e3_add, IsE4, e4_plain, e4_scale, IsN4, n4_plain, n4_complement}
-use Rattle.expressions.specs.Grammar.{IsE5, e5_plain, e5_index, IsU, u_plain, u_minus, u_before, u_after, IsP}
-use Rattle.expressions.specs.Grammar.{p_number, p_character, p_word, p_true, p_false, p_nothing, p_name, p_call}
-use Rattle.expressions.specs.Grammar.{p_call_with, p_parenthesised, IsArguments, arguments_last, arguments_comma}
+use Rattle.expressions.specs.Grammar.{IsE2, e2_plain, e2_compare, e2_equal, e2_contained, e2_tested, IsChoice}
+use Rattle.expressions.specs.Grammar.{choice_last, choice_or, IsE3, e3_plain, e3_add, IsE4, e4_plain, e4_scale, IsN4}
+use Rattle.expressions.specs.Grammar.{n4_plain, n4_complement, IsE5, e5_plain, e5_index, e5_entry, IsU, u_plain}
+use Rattle.expressions.specs.Grammar.{u_minus, u_before, u_after, u_length, IsP, p_property, p_number, p_character}
+use Rattle.expressions.specs.Grammar.{p_word, p_true, p_false, p_nothing, p_name, p_call, p_call_with, p_relative}
+use Rattle.expressions.specs.Grammar.{p_parenthesised, IsArguments, arguments_last, arguments_comma}
 use Rattle.syntax.specs.Weight.{expression_weight, expression_weights}
 use Rattle.names.specs.declared.binding.Binding.{Binding}
 use Rattle.names.specs.declared.binding.Binding.TheVariants as bindings
 use Rattle.names.specs.Names.{Seen}
 use Rattle.meaning.specs.Accepted.{count_of}
-use Rattle.rules.specs.Expressions.{value_of_binding, assigned, resolve, resolve_all}
+use Rattle.rules.specs.Expressions.{value_of_binding, tested_for, assigned, resolve, resolve_all}
 use Rattle.meaning.specs.Resolved.{Value}
 use Rattle.meaning.specs.Resolved as source
-use Rattle.items.specs.Items.{Destination, push, alone, value_items, branch_items, alone_items}
+use Rattle.items.specs.Items.{Item, Destination, push, alone, left_of, if_pushed, operand_count, value_items}
+use Rattle.items.specs.Items.{branch_items, alone_items}
 use Rattle.sizes.proofs.Most.{most_of, tokens, list_tokens, alternative_tokens, or_tokens, if_small}
 use Rattle.sizes.proofs.Most.{alternatives_are}
-use Rattle.sizes.proofs.Bounds.{small}
+use Rattle.sizes.proofs.Bounds.{small, two_small}
 
 -- what a name stands for
 binding_few : (numbers : ℕ → ℕ) (b : Option Binding) → tokens (value_of_binding numbers b) ≤ 1
@@ -37,7 +43,9 @@ binding_few numbers (Some (bindings.Global g)) = omega arith
 binding_few numbers (Some (bindings.Array a kind)) = omega arith
 binding_few numbers (Some (bindings.Local l)) = omega arith
 binding_few numbers (Some (bindings.Routine r n)) = omega arith
-binding_few numbers (Some bindings.Property) = omega arith
+binding_few numbers (Some (bindings.Attribute a)) = omega arith
+binding_few numbers (Some (bindings.Property n)) = omega arith
+binding_few numbers (Some (bindings.Object o)) = omega arith
 
 some_tokens : (v : Value) → 1 ≤ tokens v
 some_tokens (source.number n) = omega arith
@@ -52,6 +60,15 @@ some_tokens (source.equal op a bs) = omega (arith, alternatives_are bs)
 some_tokens (source.assign x v) = omega arith
 some_tokens (source.entry width a i) = omega arith
 some_tokens (source.assign_entry width a i v) = omega arith
+some_tokens (source.relative r v) = omega arith
+some_tokens (source.contained op a b) = omega arith
+some_tokens (source.has positive v n) = omega arith
+some_tokens (source.provides v p) = omega arith
+some_tokens (source.property v p) = omega arith
+some_tokens (source.property_size v p) = omega arith
+some_tokens (source.property_word v p i) = omega arith
+some_tokens (source.assign_property v p w) = omega arith
+some_tokens (source.assign_property_word v p i w) = omega arith
 
 -- an assignment, by its left side
 assigned_tokens : (w v : Value) → tokens (assigned w v) ≤ tokens w + (1 + tokens v)
@@ -67,6 +84,22 @@ assigned_tokens (source.compare op a b) v = omega (arith, some_tokens a)
 assigned_tokens (source.equal op a bs) v = omega (arith, some_tokens a)
 assigned_tokens (source.assign x w) v = omega arith
 assigned_tokens (source.assign_entry width a i w) v = omega arith
+assigned_tokens (source.relative r w) v = omega arith
+assigned_tokens (source.contained op a b) v = omega (arith, some_tokens a)
+assigned_tokens (source.has positive w n) v = omega arith
+assigned_tokens (source.provides w p) v = omega arith
+assigned_tokens (source.property w p) v = omega arith
+assigned_tokens (source.property_size w p) v = omega arith
+assigned_tokens (source.property_word w p i) v = omega arith
+assigned_tokens (source.assign_property w p x) v = omega arith
+assigned_tokens (source.assign_property_word w p i x) v = omega arith
+
+-- what an object is tested for
+tested_tokens : (test : ObjectTest) (v : Value) (found : Option Binding)
+    → tokens (tested_for test v found) ≡ tokens v + 2
+tested_tokens tests.Has v found = refl
+tested_tokens tests.HasNot v found = refl
+tested_tokens tests.Provides v found = refl
 
 -- in a routine that sees so much of the file
 module _ (seen : Seen) where
@@ -114,6 +147,18 @@ module _ (seen : Seen) where
   index_fits : {n : NameTree} {width : Width} {e : ExpressionTree} → Fits e → Fits (trees.index n width e)
   index_fits a = record { weighs = omega (arith, a.weighs) }
 
+  relative_fits : {r : Relative} {e : ExpressionTree} → Fits e → Fits (trees.relative_of r e)
+  relative_fits a = record { weighs = omega (arith, a.weighs) }
+
+  property_fits : {e : ExpressionTree} {n : NameTree} → Fits e → Fits (trees.property e n)
+  property_fits a = record { weighs = omega (arith, a.weighs) }
+
+  length_fits : {e : ExpressionTree} {n : NameTree} → Fits e → Fits (trees.property_length e n)
+  length_fits a = record { weighs = omega (arith, a.weighs) }
+
+  entry_fits : {e i : ExpressionTree} {n : NameTree} → Fits e → Fits i → Fits (trees.property_entry e n i)
+  entry_fits a b = record { weighs = omega (arith, a.weighs, b.weighs) }
+
   parenthesised_fits : {e : ExpressionTree} → Fits e → Fits (trees.parenthesised e)
   parenthesised_fits a = record { weighs = omega (arith, a.weighs) }
 
@@ -129,12 +174,18 @@ module _ (seen : Seen) where
   some_weight (trees.call n (trees.more e es)) = omega arith
   some_weight (trees.index n width e) = omega arith
   some_weight (trees.parenthesised e) = omega arith
+  some_weight (trees.relative_of r e) = omega arith
+  some_weight (trees.property e n) = omega arith
+  some_weight (trees.property_length e n) = omega arith
+  some_weight (trees.property_entry e n i) = omega arith
   some_weight (trees.prefixed op e) = omega arith
   some_weight (trees.step_before op p e) = omega arith
   some_weight (trees.step_after e op p) = omega arith
   some_weight (trees.binary op a b) = omega arith
   some_weight (trees.compare op a b) = omega arith
   some_weight (trees.equal op a bs) = let h = some_weight a in omega (arith, h)
+  some_weight (trees.contained op a b) = omega arith
+  some_weight (trees.tested test e n) = omega arith
   some_weight (trees.assign a p b) = omega arith
 
   step_before_fits : {op : Step} {p : Position} {e : ExpressionTree} → Fits e → Fits (trees.step_before op p e)
@@ -149,6 +200,13 @@ module _ (seen : Seen) where
   compare_fits : {op : Comparison} {a b : ExpressionTree} → Fits a → Fits b → Fits (trees.compare op a b)
   compare_fits f g = record { weighs = omega (arith, f.weighs, g.weighs) }
 
+  contained_fits : {op : Containment} {a b : ExpressionTree} → Fits a → Fits b → Fits (trees.contained op a b)
+  contained_fits f g = record { weighs = omega (arith, f.weighs, g.weighs) }
+
+  tested_fits : {test : ObjectTest} {e : ExpressionTree} {n : NameTree} → Fits e → Fits (trees.tested test e n)
+  tested_fits {test} {e} {n} f =
+      record { weighs = omega (arith, f.weighs, tested_tokens test (resolve seen e) (seen.look n.text)) }
+
   equal_fits : {op : Equality} {a : ExpressionTree} {bs : ExpressionTrees} → Fits a → Sides bs
       → Fits (trees.equal op a bs)
   equal_fits f g = record { weighs = omega (arith, f.weighs, g.first) }
@@ -162,7 +220,7 @@ module _ (seen : Seen) where
     fits_E (e_plain a) = fits_E1 a
     fits_E (e_assign a b) = assign_fits (fits_E1 a) (fits_E b)
 
-    fits_E1 : {ts r : List Lexeme} {e : ExpressionTree} → IsE1 ts e r → Fits e
+    pub fits_E1 : {ts r : List Lexeme} {e : ExpressionTree} → IsE1 ts e r → Fits e
     fits_E1 (e1_plain a) = fits_N1 a
     fits_E1 (e1_logical a o b) = binary_fits (fits_E1 a) (fits_N1 b)
 
@@ -174,12 +232,14 @@ module _ (seen : Seen) where
     fits_E2 (e2_plain a) = fits_E3 a
     fits_E2 (e2_compare a o b) = compare_fits (fits_E3 a) (fits_E3 b)
     fits_E2 (e2_equal a o b) = equal_fits (fits_E3 a) (fits_Choice b)
+    fits_E2 (e2_contained a o b) = contained_fits (fits_E3 a) (fits_E3 b)
+    fits_E2 (e2_tested a o) = tested_fits (fits_E3 a)
 
     fits_Choice : {ts r : List Lexeme} {es : ExpressionTrees} → IsChoice ts es r → Sides es
     fits_Choice (choice_last a) = sides_fit (fits_E3 a) none_fit
     fits_Choice (choice_or a b) = sides_fit (fits_E3 a) (fits_Choice b).all
 
-    fits_E3 : {ts r : List Lexeme} {e : ExpressionTree} → IsE3 ts e r → Fits e
+    pub fits_E3 : {ts r : List Lexeme} {e : ExpressionTree} → IsE3 ts e r → Fits e
     fits_E3 (e3_plain a) = fits_E4 a
     fits_E3 (e3_add a o b) = binary_fits (fits_E3 a) (fits_E4 b)
 
@@ -194,14 +254,17 @@ module _ (seen : Seen) where
     fits_E5 : {ts r : List Lexeme} {e : ExpressionTree} → IsE5 ts e r → Fits e
     fits_E5 (e5_plain a) = fits_U a
     fits_E5 (e5_index o a) = index_fits (fits_U a)
+    fits_E5 (e5_entry a b) = entry_fits (fits_P a) (fits_U b)
 
     fits_U : {ts r : List Lexeme} {e : ExpressionTree} → IsU ts e r → Fits e
     fits_U (u_plain a) = fits_P a
     fits_U (u_minus a) = prefixed_fits (fits_U a)
     fits_U (u_before o a) = step_before_fits (fits_P a)
     fits_U (u_after a o) = step_after_fits (fits_P a)
+    fits_U (u_length a) = length_fits (fits_P a)
 
     fits_P : {ts r : List Lexeme} {e : ExpressionTree} → IsP ts e r → Fits e
+    fits_P (p_property a) = property_fits (fits_P a)
     fits_P p_number = number_fits
     fits_P p_character = number_fits
     fits_P p_word = word_fits
@@ -211,6 +274,7 @@ module _ (seen : Seen) where
     fits_P p_name = name_fits
     fits_P p_call = call_fits none_fit
     fits_P (p_call_with a) = call_fits (fits_Arguments a)
+    fits_P (p_relative o a) = relative_fits (fits_E a)
     fits_P (p_parenthesised a) = parenthesised_fits (fits_E a)
 
     fits_Arguments : {ts r : List Lexeme} {es : ExpressionTrees} → IsArguments ts es r → AllFit es
@@ -231,3 +295,16 @@ module _ (seen : Seen) where
       → most_of (alone_items at (resolve seen e)) + 20 ≤ expression_weight e
   few_alone e f at = if_small (alone (resolve seen e)) (value_items at (resolve seen e) push) (expression_weight e)
       (few_value e f push at)
+
+  -- two operands, and what is done with them
+  pub few_two : (a b : ExpressionTree) → Fits a → Fits b → (at : ℕ) (tail : List Item)
+      → most_of (if_pushed (left_of (resolve seen a) (resolve seen b)) (value_items at (resolve seen a) push) []
+      ++ (if_pushed (alone (resolve seen b)) (value_items
+      (at + operand_count (resolve seen a) (left_of (resolve seen a) (resolve seen b))) (resolve seen b) push) []
+      ++ tail)) + 40
+      ≤ expression_weight a + expression_weight b + most_of tail
+  few_two a b f g at tail =
+      let v = resolve seen a in
+      let w = resolve seen b in
+      two_small (left_of v w) (alone w) _ _ tail _ _ (few_value a f push at)
+      (few_value b g push (at + operand_count v (left_of v w)))

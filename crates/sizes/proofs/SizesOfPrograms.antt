@@ -6,40 +6,28 @@ use Rattle.lexer.specs.declared.token.Position.{Position}
 use Rattle.lexer.specs.declared.token.Sign.TheVariants as s
 use Rattle.lexer.specs.Token.{Lexeme, name, sign}
 use Rattle.expressions.specs.Tree.{NameTree}
-use Rattle.statements.specs.Tree.{LiteralTree, StatementTrees}
-use Rattle.statements.specs.Grammar.{IsK, k_number, k_negative, k_character, k_word, k_true, k_false, k_nothing}
-use Rattle.statements.specs.Grammar.{k_name, IsSs}
-use Rattle.syntax.specs.Tree.{ValueTree, RoutineTree, DirectiveTree, ProgramTree}
-use Rattle.syntax.specs.Grammar.{weight_of, IsNames, v_value, IsValues, values_stop, values_next, IsDirective}
-use Rattle.syntax.specs.Grammar.{d_global, d_global_value, d_constant, d_array, d_routine}
-use Rattle.syntax.specs.Grammar.{IsDirectives, directives_stop, directives_next, IsProgram, program}
+use Rattle.statements.specs.Tree.{StatementTrees}
+use Rattle.statements.specs.Grammar.{IsSs}
+use Rattle.syntax.specs.Tree.{RoutineTree, DirectiveTree, ProgramTree}
+use Rattle.syntax.specs.Grammar.{weight_of, IsNames, IsDirective, d_global, d_global_value, d_constant, d_array}
+use Rattle.syntax.specs.Grammar.{d_attribute, d_property, d_property_value, d_object, d_routine, IsDirectives}
+use Rattle.syntax.specs.Grammar.{directives_stop, directives_next, IsProgram, program}
 use Rattle.syntax.proofs.Spelled.{weight_Ss, spelled_Names, weighs}
 use Rattle.names.specs.Names.{File, seen_from}
 use Rattle.checker.specs.Programs.{resolve_routine, routines_of, routine_trees}
 use Rattle.rules.specs.Statements.{resolve_statements}
 use Rattle.items.specs.Items.{return_true, actions_count, exits_to, actions_items}
+use Rattle.code.specs.Addresses.{Sizes}
 use Rattle.code.specs.Sizes.{routine_size, routines_size}
 use Rattle.sizes.specs.Laws.{IsShort, CodeIsShort}
 use Rattle.sizes.proofs.Most.{most_append}
 use Rattle.sizes.proofs.Sizes.{code_few}
+use Rattle.sizes.proofs.SizesOfDirectives.{value_weight, values_weight, head_weight, properties_weight}
+use Rattle.sizes.proofs.SizesOfDirectives.{attributes_weight}
 use Rattle.sizes.proofs.SizesOfTrees.{fits_Ss}
 
-value_weight : {ts r : List Lexeme} {k : LiteralTree} → IsK ts k r → weight_of r ≤ weight_of ts
-value_weight k_number = omega arith
-value_weight k_negative = omega arith
-value_weight k_character = omega arith
-value_weight k_word = omega arith
-value_weight k_true = omega arith
-value_weight k_false = omega arith
-value_weight k_nothing = omega arith
-value_weight k_name = omega arith
-
-values_weight : {ts r : List Lexeme} {vs : List ValueTree} → IsValues ts vs r → weight_of r ≤ weight_of ts
-values_weight values_stop = omega arith
-values_weight (values_next (v_value k) vs) = omega (arith, value_weight k, values_weight vs)
-
--- names and words stand for what a file tells, and arrays have these sizes
-module _ (file : File) (sizes : List ℕ) where
+-- names and words stand for what a file tells, and the program has these sizes
+module _ (file : File) (sizes : Sizes) where
   abbrev pub IsRoutineShort : RoutineTree → Type 0
   IsRoutineShort r = routine_size sizes (resolve_routine file r) + 7 ≤ r.weight
 
@@ -85,6 +73,13 @@ module _ (file : File) (sizes : List ℕ) where
   first_short (d_global_value k) b = record { each = b.each; all = omega (arith, b.all, value_weight k) }
   first_short (d_constant k) b = record { each = b.each; all = omega (arith, b.all, value_weight k) }
   first_short (d_array t vs n) b = record { each = b.each; all = omega (arith, b.all, values_weight vs) }
+  first_short d_attribute b = record { each = b.each; all = omega (arith, b.all) }
+  first_short d_property b = record { each = b.each; all = omega (arith, b.all) }
+  first_short (d_property_value k) b = record { each = b.each; all = omega (arith, b.all, value_weight k) }
+  first_short (d_object h xs ns) b = record {
+    each = b.each;
+    all = omega (arith, b.all, head_weight h, properties_weight xs, attributes_weight ns);
+  }
   first_short {ds = ds} (d_routine {p = p} {q = q} {n = n} ns xs) b =
       let f = routine_short {p = p} {q = q} {n = n} ns xs in
       record {

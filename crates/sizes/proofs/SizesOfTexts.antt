@@ -11,6 +11,7 @@ use Rattle.zcore.specs.Words.{packed, missing, padded}
 use Rattle.zcore.specs.Text.{encoded}
 use Rattle.items.specs.Items.{Item, Destination, Test}
 use Rattle.items.specs.Items as items
+use Rattle.code.specs.Addresses.{Sizes}
 use Rattle.code.specs.Bytes.{character_of, least_size}
 
 -- Texts
@@ -79,7 +80,7 @@ filter_few p (x ∷ xs) = go (p x) (filter_few p xs)
     go true h = omega (arith, h)
     go false h = omega (arith, h)
 
-pub text_few : (sizes bytes : List ℕ) → least_size sizes (items.print_text bytes) ≤ 3 * length bytes + 3
+pub text_few : (sizes : Sizes) (bytes : List ℕ) → least_size sizes (items.print_text bytes) ≤ 3 * length bytes + 3
 unfolding bytes_of
 text_few sizes bytes = omega (
   arith,

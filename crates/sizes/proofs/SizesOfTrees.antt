@@ -6,31 +6,37 @@ use Rattle.std.specs.Option.{option_map}
 use Rattle.std.proofs.lemmas.List.{length-map}
 use Rattle.lexer.specs.declared.token.Position.{Position}
 use Rattle.lexer.specs.Token.{Lexeme}
+use Rattle.expressions.specs.declared.tree.Relative.TheVariants as relatives
 use Rattle.expressions.specs.Tree.{NameTree, ExpressionTree}
-use Rattle.statements.specs.Tree.{RangeTree, PrintItemTree, StatementTree, StatementTrees, CaseTrees}
+use Rattle.statements.specs.Tree.{RangeTree, FlagTree, PrintItemTree, StatementTree, StatementTrees, CaseTrees}
+use Rattle.statements.specs.Tree.{LoopTree, loop_over}
 use Rattle.statements.specs.Tree as statements
-use Rattle.statements.specs.Grammar.{IsItem, item_text, item_character, item_number, IsItems, items_last, items_comma}
-use Rattle.statements.specs.Grammar.{IsRanges, ranges_last, ranges_comma, IsOptional, optional_none, optional_some}
-use Rattle.statements.specs.Grammar.{IsS, s_empty, s_block, s_text, s_print, s_print_ret, s_new_line, s_if, s_if_else}
-use Rattle.statements.specs.Grammar.{s_while, s_do, s_for, s_switch, s_break, s_continue, s_return, s_return_value}
-use Rattle.statements.specs.Grammar.{s_rtrue, s_rfalse, s_quit, s_read, s_effect, IsSs, ss_stop, ss_next, IsCases}
-use Rattle.statements.specs.Grammar.{cases_none, cases_default, cases_next}
-use Rattle.syntax.specs.Weight.{item_weight, item_weights, range_weights, optional_weight, statement_weight}
-use Rattle.syntax.specs.Weight.{statement_weights, case_weights}
+use Rattle.statements.specs.Grammar.{IsItem, item_text, item_character, item_object, item_number, IsItems, items_last}
+use Rattle.statements.specs.Grammar.{items_comma, IsRanges, ranges_last, ranges_comma, IsOptional, optional_none}
+use Rattle.statements.specs.Grammar.{optional_some, IsLoop, loop_all, loop_in, loop_where, IsS, s_empty, s_block}
+use Rattle.statements.specs.Grammar.{s_text, s_print, s_print_ret, s_new_line, s_if, s_if_else, s_while, s_do, s_for}
+use Rattle.statements.specs.Grammar.{s_objectloop, s_switch, s_break, s_continue, s_return, s_return_value, s_rtrue}
+use Rattle.statements.specs.Grammar.{s_rfalse, s_quit, s_read, s_give, s_move, s_remove, s_effect, IsSs, ss_stop}
+use Rattle.statements.specs.Grammar.{ss_next, IsCases, cases_none, cases_default, cases_next}
+use Rattle.syntax.specs.Weight.{expression_weight, item_weight, item_weights, range_weights, optional_weight}
+use Rattle.syntax.specs.Weight.{statement_weight, statement_weights, case_weights}
 use Rattle.names.specs.Names.{Seen}
 use Rattle.rules.specs.Expressions.{resolve}
+use Rattle.meaning.specs.declared.resolved.Variable.{Variable}
 use Rattle.meaning.specs.Resolved.{RangeOf}
 use Rattle.meaning.specs.Resolved as resolved
-use Rattle.rules.specs.Statements.{resolve_range, resolve_item, resolve_statement, resolve_statements, resolve_cases}
+use Rattle.rules.specs.Statements.{resolve_range, resolve_item, resolve_flag, loop_variable, resolve_statement}
+use Rattle.rules.specs.Statements.{resolve_statements, resolve_cases}
 use Rattle.items.specs.Items.{Item, Destination, push, nowhere, operand_count, branch_count, alone, if_pushed}
 use Rattle.items.specs.Items.{value_items, branch_items, alone_items, printed_count, printed_items, prints_items}
 use Rattle.items.specs.Items.{once_count, test_count, once_items, test_items, Group, numbers, range, with_number}
 use Rattle.items.specs.Items.{groups_of, group_count, group_items, tests_count, tests_items, over_count, over_items}
 use Rattle.items.specs.Items.{action_count, actions_count, cases_count, Exits, exits_to, action_items, actions_items}
-use Rattle.items.specs.Items.{cases_items}
+use Rattle.items.specs.Items.{cases_items, Operand, left_of, each_items, relative_items, children_items}
 use Rattle.items.specs.Items as items
 use Rattle.sizes.proofs.Most.{most_of, most_append}
-use Rattle.sizes.proofs.SizesOfExpressions.{Fits, fits_E, few_value, few_branch, few_alone}
+use Rattle.sizes.proofs.SizesOfExpressions.{Fits, fits_E, fits_E1, fits_E3, few_value, few_branch, few_alone}
+use Rattle.sizes.proofs.SizesOfExpressions.{few_two}
 
 -- The tests of a case: at most two for each of its ranges
 
@@ -39,7 +45,7 @@ with_number_few n [] = omega arith
 with_number_few n (range low high ∷ gs) = omega arith
 with_number_few n (numbers ns ∷ gs) = go (nat_lt (length ns) 3)
   where
-    go : (b : Bool) → length (if b then numbers (ns ++ n ∷ []) ∷ gs else numbers (n ∷ []) ∷ numbers ns ∷ gs)
+    go : (b : Bool) → length (if b then numbers (n ∷ ns) ∷ gs else numbers (n ∷ []) ∷ numbers ns ∷ gs)
         ≤ 1 + length (numbers ns ∷ gs)
     go true = omega arith
     go false = omega arith
@@ -69,6 +75,34 @@ over_few later end = go (later == 0)
     go : (b : Bool) → most_of (if b then [] else items.jump end ∷ []) ≤ 3
     go true = omega arith
     go false = omega arith
+
+-- The loops over objects, whose body has at most so many bytes
+
+each_few : (at : ℕ) (x : Variable) (body n : ℕ) (run : Exits → ℕ → List Item) → ((e : Exits) (m : ℕ)
+    → most_of (run e m) ≤ n)
+    → most_of (each_items at x body run) ≤ n + 21
+each_few at x body n run few =
+    let end = at + 1 + body + 2 in
+    let inside = exits_to (at + 1 + body) end in
+    omega (
+      arith,
+      most_append (run inside (at + 1)) (items.next_object x end ∷ items.back (at + 1) ∷ []),
+      few inside (at + 1),
+    )
+
+children_few : (at : ℕ) (x : Variable) (o : Operand) (body n : ℕ) (run : Exits → ℕ → List Item) → ((e : Exits) (m : ℕ)
+    → most_of (run e m) ≤ n)
+    → most_of (children_items at x o body run) ≤ n + 75
+children_few at x o body n run few =
+    let end = at + 3 + body + 4 in
+    let inside = exits_to (at + 3 + body) end in
+    let rest = relative_items relatives.Sibling (items.variable x) x end ++ items.back (at + 3) ∷ [] in
+    omega (
+      arith,
+      most_append (relative_items relatives.Child o x end) (run inside (at + 3) ++ rest),
+      most_append (run inside (at + 3)) rest,
+      few inside (at + 3),
+    )
 
 ranges_weigh : (gs : List RangeTree) → 64 * length gs ≤ range_weights gs
 ranges_weigh [] = omega arith
@@ -101,6 +135,14 @@ module _ (seen : Seen) where
         within = λ at. omega (
           arith,
           most_append (alone_items at (resolve seen e)) (items.print_number (alone (resolve seen e)) ∷ []),
+          few_alone seen e (fits_E seen a) at,
+        );
+      }
+  fits_Item (item_object {e = e} a) =
+      record {
+        within = λ at. omega (
+          arith,
+          most_append (alone_items at (resolve seen e)) (items.print_name (alone (resolve seen e)) ∷ []),
           few_alone seen e (fits_E seen a) at,
         );
       }
@@ -321,6 +363,100 @@ module _ (seen : Seen) where
             );
       }
 
+  give_fits : {p : Position} {c : ExpressionTree} {xs : List FlagTree} → Fits seen c
+      → StatementFits (statements.give p c xs)
+  give_fits {c = c} {xs = xs} f =
+      let v = resolve seen c in
+      record {
+        within = λ e at. omega (
+          arith,
+          most_append (alone_items at v) (items.give (alone v) (map (resolve_flag seen) xs) ∷ []),
+          length-map xs (resolve_flag seen),
+          few_alone seen c f at,
+        );
+      }
+
+  move_fits : {p : Position} {a b : ExpressionTree} → Fits seen a → Fits seen b
+      → StatementFits (statements.move p a b)
+  move_fits {a = a} {b = b} f g =
+      let v = resolve seen a in
+      let w = resolve seen b in
+      record {
+        within = λ e at. omega
+            (arith, few_two seen a b f g at (items.move_object (left_of v w) (alone w) ∷ []));
+      }
+
+  remove_fits : {p : Position} {c : ExpressionTree} → Fits seen c → StatementFits (statements.remove p c)
+  remove_fits {c = c} f = record {
+    within =
+        λ e at. omega (
+          arith,
+          most_append (alone_items at (resolve seen c)) (items.remove_object (alone (resolve seen c)) ∷ []),
+          few_alone seen c f at,
+        );
+  }
+
+  each_fits : {n : NameTree} {x : StatementTree} → StatementFits x → StatementFits (statements.each n x)
+  each_fits {n} {x} g =
+      let a = resolve_statement seen x in
+      record {
+        within = λ e at. omega (
+          arith,
+          each_few at (loop_variable seen n) (action_count a) (statement_weight x)
+              (λ inside place. action_items inside place a) (λ inside place. g.within inside place),
+        );
+      }
+
+  each_in_fits : {p : Position} {n : NameTree} {c : ExpressionTree} {x : StatementTree} → Fits seen c
+      → StatementFits x
+      → StatementFits (statements.each_in p n c x)
+  each_in_fits {n = n} {c = c} {x = x} f g =
+      let v = resolve seen c in
+      let a = resolve_statement seen x in
+      let y = loop_variable seen n in
+      let run = λ (inside : Exits) (place : ℕ). action_items inside place a in
+      record {
+        within = λ e at.
+            let m = at + operand_count v (alone v) in
+            omega (
+              arith,
+              most_append (alone_items at v) (children_items m y (alone v) (action_count a) run),
+              few_alone seen c f at,
+              children_few m y (alone v) (action_count a) (statement_weight x) run
+                  (λ inside place. g.within inside place),
+            );
+      }
+
+  each_where_fits : {p : Position} {n : NameTree} {c : ExpressionTree} {x : StatementTree} → Fits seen c
+      → StatementFits x
+      → StatementFits (statements.each_where p n c x)
+  each_where_fits {n = n} {c = c} {x = x} f g =
+      let v = resolve seen c in
+      let a = resolve_statement seen x in
+      let run = λ (inside : Exits) (place : ℕ).
+      branch_items place v false (place + branch_count v false + action_count a)
+      ++ action_items inside (place + branch_count v false) a in
+      record {
+        within = λ e at. omega (
+          arith,
+          each_few at (loop_variable seen n) (branch_count v false + action_count a)
+              (expression_weight c + statement_weight x) run (λ inside place. omega (
+                arith,
+                most_append (branch_items place v false (place + branch_count v false + action_count a))
+                    (action_items inside (place + branch_count v false) a),
+                few_branch seen c f false place (place + branch_count v false + action_count a),
+                g.within inside (place + branch_count v false),
+              )),
+        );
+      }
+
+  loop_fits : {ts r : List Lexeme} {l : LoopTree} {x : StatementTree} (p : Position) → IsLoop ts l r
+      → StatementFits x
+      → StatementFits (loop_over p l x)
+  loop_fits p loop_all g = each_fits g
+  loop_fits p (loop_in a) g = each_in_fits (fits_E3 seen a) g
+  loop_fits p (loop_where a t) g = each_where_fits (fits_E1 seen a) g
+
   break_fits : {p : Position} → StatementFits (statements.break_at p)
   break_fits = record { within = λ e at. omega arith }
 
@@ -397,6 +533,7 @@ module _ (seen : Seen) where
     fits_S (s_while c a) = while_fits (fits_E seen c) (fits_S a)
     fits_S (s_do a c) = do_fits (fits_S a) (fits_E seen c)
     fits_S (s_for a f b c g x) = for_fits (fits_Optional a) (fits_Optional b) (fits_Optional c) (fits_S x)
+    fits_S (s_objectloop l x) = loop_fits _ l (fits_S x)
     fits_S (s_switch e a) = switch_fits (fits_E seen e) (fits_Cases a)
     fits_S s_break = break_fits
     fits_S s_continue = continue_fits
@@ -406,6 +543,9 @@ module _ (seen : Seen) where
     fits_S s_rfalse = return_false_fits
     fits_S s_quit = quit_fits
     fits_S s_read = read_fits
+    fits_S (s_give e xs) = give_fits (fits_E seen e)
+    fits_S (s_move a b) = move_fits (fits_E seen a) (fits_E seen b)
+    fits_S (s_remove e) = remove_fits (fits_E seen e)
     fits_S (s_effect c f) = effect_fits (fits_E seen c)
 
     pub fits_Ss : {ts r : List Lexeme} {xs : StatementTrees} → IsSs ts xs r → BodyFits xs

@@ -1,20 +1,23 @@
 -- Sizes of items and routines, computed, and a program whose weight bounds them.
-use Rattle.std.proofs.Common.{◌≡◌, ◌+◌, ℕ, true, List, [], ◌∷◌, refl}
+use Rattle.std.proofs.Common.{◌≡◌, ◌+◌, ℕ, true, false, List, [], ◌∷◌, refl}
 use Rattle.std.specs.Prelude.{codes}
 use Rattle.lexer.specs.declared.token.Position.{Position}
 use Rattle.lexer.specs.declared.token.Sign.TheVariants as s
 use Rattle.lexer.specs.declared.token.Word.TheVariants as w
 use Rattle.lexer.specs.Token.{Lexeme, name, number, text, dictionary_word, reserved, sign, end}
 use Rattle.expressions.specs.declared.tree.Binary.TheVariants as binaries
+use Rattle.expressions.specs.declared.tree.Relative.TheVariants as relatives
 use Rattle.expressions.specs.declared.tree.Width.TheVariants as widths
+use Rattle.expressions.specs.Tree.{ExpressionTree}
 use Rattle.expressions.specs.Tree as trees
 use Rattle.expressions.specs.Grammar.{IsE, e_plain, e1_plain, n1_plain, e2_plain, e3_plain, e4_plain, e4_scale}
-use Rattle.expressions.specs.Grammar.{n4_plain, e5_plain, u_plain, p_number, p_word}
-use Rattle.statements.specs.Grammar.{items_last, items_comma, item_text, item_number, s_print, s_read, ss_stop}
-use Rattle.statements.specs.Grammar.{ss_next}
+use Rattle.expressions.specs.Grammar.{n4_plain, e5_plain, IsU, u_plain, p_property, p_name, p_number, p_word}
+use Rattle.statements.specs.Grammar.{loop_in, items_last, items_comma, item_text, item_number, s_print, s_objectloop}
+use Rattle.statements.specs.Grammar.{s_read, s_move, ss_stop, ss_next}
 use Rattle.syntax.specs.declared.tree.ArrayKind.TheVariants as kinds
 use Rattle.syntax.specs.Tree.{ProgramTree}
-use Rattle.syntax.specs.Grammar.{names_stop, d_routine, directives_stop, directives_next, IsProgram, program}
+use Rattle.syntax.specs.Grammar.{names_stop, names_next, d_routine, directives_stop, directives_next, IsProgram}
+use Rattle.syntax.specs.Grammar.{program}
 use Rattle.names.specs.declared.binding.Binding.TheVariants as bindings
 use Rattle.names.specs.Names.{key_of, first_table, File, look_up}
 use Rattle.checker.specs.Programs.{routines_of}
@@ -26,12 +29,13 @@ use Rattle.zcore.specs.Alphabets.{spelling_of}
 use Rattle.zcore.specs.Words.{packed}
 use Rattle.zcore.specs.Text.{encoded}
 use Rattle.items.specs.Items as items
+use Rattle.code.specs.Addresses.{Sizes}
 use Rattle.code.specs.Bytes.{least_size}
 use Rattle.code.specs.Sizes.{routine_size, routines_size}
 
--- arrays of 10 bytes, of 600 and of 1,100
-abbrev sizes : List ℕ
-sizes = 10 ∷ 600 ∷ 1100 ∷ []
+-- arrays of 10 bytes, of 600 and of 1,100, and 300 objects
+abbrev sizes : Sizes
+sizes = record { arrays = 10 ∷ 600 ∷ 1100 ∷ []; objects = 300 }
 
 abbrev x : Variable
 x = variables.Local 0
@@ -82,6 +86,36 @@ accesses_have = refl
 lines_have : least_size sizes (items.read_line 0 1) ∷ least_size sizes (items.read_line 1 2) ∷ [] ≡ 49 ∷ 53 ∷ []
 unfolding bytes_of
 lines_have = refl
+
+-- The longest items on objects: their operands are tested against a large constant. A branch has its shortest form.
+
+-- of one operand: `get_child` with its branch; a property of one word; a branch by an attribute
+tested_objects_have : least_size sizes (items.relative relatives.Child items.pushed items.push)
+    ∷ least_size sizes (items.property items.pushed 2 items.push)
+    ∷ least_size sizes (items.property_size items.pushed 2 items.push)
+    ∷ least_size sizes (items.give items.pushed ((true, 3) ∷ (false, 4) ∷ []))
+    ∷ least_size sizes (items.has items.pushed 3 true 5)
+    ∷ least_size sizes (items.provides items.pushed 3 true 5)
+    ∷ []
+    ≡ 21 ∷ 39 ∷ 24 ∷ 23 ∷ 21 ∷ 24 ∷ []
+unfolding bytes_of
+tested_objects_have = refl
+
+-- of two and of three: a branch by the parent; an object into another; a word of a property, large as index and as word
+two_operands_have : least_size sizes (items.is_in items.pushed items.pushed true 5)
+    ∷ least_size sizes (items.move_object items.pushed items.pushed)
+    ∷ least_size sizes (items.property_word 2 items.pushed (items.number 300) items.push)
+    ∷ least_size sizes (items.assign_property 2 items.pushed (items.number 300) (items.into x))
+    ∷ least_size sizes (items.assign_property_word 2 items.pushed (items.number 300) (items.number 300) (items.into x))
+    ∷ []
+    ≡ 24 ∷ 60 ∷ 57 ∷ 50 ∷ 63 ∷ []
+unfolding bytes_of
+two_operands_have = refl
+
+-- store; two tests, a jump and a step
+loops_have : least_size sizes (items.first_object x 5) ∷ least_size sizes (items.next_object x 5) ∷ [] ≡ 3 ∷ 15 ∷ []
+unfolding bytes_of
+loops_have = refl
 
 -- store 255 300; je with 255 and three large constants
 switches_have : least_size sizes (items.choose (items.number 300))
@@ -145,9 +179,13 @@ reading_tokens = sign s.OpenBracket (p 0) ∷ name (codes "Main") (p 1) ∷ sign
     (p 3) ∷ name (codes "t") (p 4) ∷ name (codes "q") (p 5) ∷ sign s.Semicolon (p 6) ∷ reserved w.Print
     (p 7) ∷ dictionary_word (codes "go") (p 8) ∷ after_go
 
+-- an expression without operators
+abbrev whole : {ts r : List Lexeme} {e : ExpressionTree} → IsU ts e r → IsE ts e r
+whole u = e_plain (e1_plain (n1_plain (e2_plain (e3_plain (e4_plain (n4_plain (e5_plain u)))))))
+
 -- 'go', and the tokens after it
 abbrev go : IsE (dictionary_word (codes "go") (p 8) ∷ after_go) (trees.word (codes "go")) after_go
-go = e_plain (e1_plain (n1_plain (e2_plain (e3_plain (e4_plain (n4_plain (e5_plain (u_plain p_word))))))))
+go = whole (u_plain p_word)
 
 abbrev reading : (t : ProgramTree) × IsProgram reading_tokens t
 reading = (
@@ -171,3 +209,35 @@ with_arrays = record {
 reading_has : routines_size sizes (routines_of with_arrays reading.0.directives) ≡ 1 + (53 + 4 + 1) + 7
 unfolding bytes_of look_up key_of
 reading_has = refl
+
+-- [ Main x; objectloop (x in x) move x to x.name; ];
+
+abbrev after_name : List Lexeme
+after_name = sign s.Semicolon (p 16) ∷ sign s.CloseBracket (p 17) ∷ sign s.Semicolon (p 18) ∷ end (p 19) ∷ []
+
+abbrev moving : List Lexeme
+moving = reserved w.Move (p 10) ∷ name (codes "x") (p 11) ∷ reserved w.To (p 12) ∷ name (codes "x") (p 13) ∷ sign s.Dot
+    (p 14) ∷ name (codes "name") (p 15) ∷ after_name
+
+abbrev looping_tokens : List Lexeme
+looping_tokens = sign s.OpenBracket (p 0) ∷ name (codes "Main") (p 1) ∷ name (codes "x") (p 2) ∷ sign s.Semicolon
+    (p 3) ∷ reserved w.Objectloop (p 4) ∷ sign s.OpenParenthesis (p 5) ∷ name (codes "x") (p 6) ∷ reserved w.In
+    (p 7) ∷ name (codes "x") (p 8) ∷ sign s.CloseParenthesis (p 9) ∷ moving
+
+abbrev looping : (t : ProgramTree) × IsProgram looping_tokens t
+looping = (
+  _,
+  program (directives_next (d_routine (names_next names_stop) (ss_next (s_objectloop
+      (loop_in (e3_plain (e4_plain (n4_plain (e5_plain (u_plain p_name)))))) (s_move (whole (u_plain p_name))
+      (whole (u_plain (p_property p_name))))) ss_stop)) directives_stop),
+)
+
+looping_weighs : looping.0.weight ≡ 608
+looping_weighs = refl
+
+-- the child of 18 bytes goes to the variable by 3 and a test of 4; a property of 36, and a move of 57; the sibling
+-- likewise, with a test of 3, and back by 3; and 1 at the end
+looping_has : routines_size sizes (routines_of nameless looping.0.directives)
+    ≡ 1 + ((18 + 3 + 4) + (36 + 57) + (18 + 3 + 3) + 3 + 1) + 7
+unfolding bytes_of look_up key_of
+looping_has = refl

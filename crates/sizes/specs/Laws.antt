@@ -1,5 +1,5 @@
 -- The laws of the size of code that functions of `laws` carry as their contracts.
-use Rattle.std.specs.Prelude.{◌≡◌, ◌+◌, ◌≤◌, ℕ, List, None}
+use Rattle.std.specs.Prelude.{◌≡◌, ◌+◌, ◌≤◌, List, None}
 use Rattle.std.specs.List.{All}
 use Rattle.lexer.specs.Token.{Lexeme}
 use Rattle.syntax.specs.Tree.{RoutineTree, ProgramTree}
@@ -9,21 +9,22 @@ use Rattle.names.specs.Names.{File}
 use Rattle.checker.specs.Programs.{resolve_routine, routines_of, routine_trees, IsCheckedOf}
 use Rattle.meaning.specs.Resolved.{RoutineOf, CheckedProgram, program_of}
 use Rattle.meaning.specs.Sizes.{greatest_weight, size_fault}
+use Rattle.code.specs.Addresses.{Sizes}
 use Rattle.code.specs.HeldProgram.{sizes_of}
 use Rattle.code.specs.Sizes.{routine_size, routines_size}
 
--- where names and words stand for what a file tells, and arrays have these sizes: the code of each routine, and that of
--- all of them, is no longer than the source weighs
-pub record IsShort (p : ProgramTree) (file : File) (sizes : List ℕ) : Type 0 where
+-- where names and words stand for what a file tells, and a program has these sizes: the code of each routine, and that
+-- of all of them, is no longer than the source weighs
+pub record IsShort (p : ProgramTree) (file : File) (sizes : Sizes) : Type 0 where
   pub each : All (λ (r : RoutineTree). routine_size sizes (resolve_routine file r) + 7 ≤ r.weight)
       (routine_trees p.directives)
   pub all : routines_size sizes (routines_of file p.directives) ≤ p.weight
 
--- the code of the program that some tokens are is short, whatever its names and words stand for, and however large its arrays
--- are
+-- the code of the program that some tokens are is short, whatever its names and words stand for, however large its
+-- arrays are, and however many objects it has
 abbrev pub CodeIsShort : Type 0
 CodeIsShort = (tokens : List Lexeme) (p : ProgramTree) → IsProgram tokens p → (file : File)
-    → (sizes : List ℕ) → IsShort p file sizes
+    → (sizes : Sizes) → IsShort p file sizes
 
 -- the code of a checked program is within the limits of a source's weight: 32,000 for a routine, and the version's
 -- for all

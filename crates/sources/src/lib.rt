@@ -3,12 +3,13 @@
 
 use rows::{RowError, Setting, Shown, put_written};
 use std::alloc::Global;
-use tools::{compile_and_run, status};
+use tools::{Version, compile_and_run, status};
 
-/// A source, and how its story is played.
+/// A source, for which version it is compiled, and how its story is played.
 #[derive(Drop)]
 pub struct Row {
     source: Vec<u8>,
+    version: Version,
     setting: Setting,
     alloc: Global,
 }
@@ -18,6 +19,7 @@ impl Row {
     pub fn new(alloc: Global) -> Row {
         Row {
             source: Vec::new(alloc),
+            version: Version::V5,
             setting: Setting::new(alloc),
             alloc,
         }
@@ -27,7 +29,7 @@ impl Row {
     ///
     /// # Errors
     ///
-    /// Those of [`Setting::take`].
+    /// [`RowError::Number`] where the version is another than 5 and 8, and those of [`Setting::take`].
     pub fn take(&mut self, line: &str) -> Result<(), RowError> {
         let (word, text) = line.split_once(' ').unwrap_or((line, ""));
         match word {
@@ -37,6 +39,10 @@ impl Row {
                     self.source.push(b'\n')?;
                 }
                 put_written(&mut self.source, self.alloc, text)
+            }
+            "version" => {
+                self.version = version(text)?;
+                Ok(())
             }
             _ => self.setting.take(word, text),
         }
@@ -57,6 +63,7 @@ impl Row {
         let answer = compile_and_run(
             self.alloc,
             &self.source,
+            self.version,
             self.setting.fuel,
             self.setting.keep,
             &mut self.setting.reader(),
@@ -74,5 +81,14 @@ impl Row {
             Err(fault) => shown.display_line(&fault),
         }
         shown.text("\n");
+    }
+}
+
+/// The version that a text names.
+fn version(text: &str) -> Result<Version, RowError> {
+    match text {
+        "5" => Ok(Version::V5),
+        "8" => Ok(Version::V8),
+        _ => Err(RowError::Number),
     }
 }

@@ -1,5 +1,5 @@
--- What is read behind `if`, the words of loops and `switch`, by the case that the code is in: as reading a part, and a function of what
--- that gives.
+-- What is read behind `if`, the words of loops and `switch`, by the case that the code is in: as reading a part, and a
+-- function of what that gives.
 use Rattle.std.proofs.Common.{◌≡◌, ℕ, ◌+◌, true, List, [], ◌∷◌, Option, Some, Result, Ok, refl, sym, ap, ◌∙◌}
 use Rattle.lexer.specs.declared.token.Position.{Position}
 use Rattle.lexer.specs.declared.token.Sign.{Sign}
@@ -12,10 +12,10 @@ use Rattle.expressions.specs.Parse.{◌>>=◌, Parse, head, tail, is_word, expec
 use Rattle.expressions.proofs.Nested.{nested_whole}
 use Rattle.expressions.proofs.Tokens.{expect_ok}
 use Rattle.statements.specs.Tree.{HeadingTree, StatementTree, CaseTree, cases_of, if_else, while_do, do_until, for_loop}
-use Rattle.statements.specs.Tree.{switch_on}
+use Rattle.statements.specs.Tree.{switch_on, LoopTree, loop_over}
 use Rattle.statements.specs.Grammar.{else_follows}
 use Rattle.statements.specs.Parse.{ended, enclosed_condition, enclosed_heading, choice, repetition, entered, until}
-use Rattle.statements.specs.Parse.{iteration, cases, switch_of, otherwise, selection}
+use Rattle.statements.specs.Parse.{iteration, enclosed_loop, traversal, cases, switch_of, otherwise, selection}
 
 pub condition_read : (d k : ℕ) (ts us : List Lexeme) → d ≡ k + 1 → expect s.OpenParenthesis ts ≡ Ok us
     → enclosed_condition d ts
@@ -45,6 +45,11 @@ module _ (d : ℕ) (inside : Parse StatementTree) (p : Position) (ts : List Lexe
       → iteration d inside p ts ≡ (inside m >>= λ x. Ok (for_loop p h.before h.test h.behind x.0, x.1))
   unfolding iteration
   iteration_body h m read = rw read refl
+
+  pub traversal_body : (l : LoopTree) (m : List Lexeme) → enclosed_loop d ts ≡ Ok (l, m)
+      → traversal d inside p ts ≡ (inside m >>= λ x. Ok (loop_over p l x.0, x.1))
+  unfolding traversal
+  traversal_body l m read = rw read refl
 
 pub selection_other : (d : ℕ) (braces bodies : Parse (List StatementTree)) (p : Position) (ts m us r : List Lexeme)
     (e : ExpressionTree) (cs : List CaseTree) → enclosed_condition d ts ≡ Ok (e, m) → expect s.OpenBrace m ≡ Ok us

@@ -30,14 +30,21 @@ use Rattle.statements.specs.Grammar.{ss_stop, ss_next, IsCases, cases_none, case
 use Rattle.statements.specs.Grammar.{items_nesting, optional_nesting, statement_nesting, inside_nesting}
 use Rattle.statements.specs.Grammar.{cases_nesting, body_nesting}
 use Rattle.statements.specs.Nesting.{begins_statement, begins_in_case}
-use Rattle.statements.specs.Parse.{as_long, repeated, begins_value, ranges, named, ended, line_read, cast, value, item, items}
+use Rattle.statements.specs.Parse.{as_long, repeated, begins_value, ranges, named, ended, line_read, cast, value, item}
+use Rattle.statements.specs.Parse.{items}
 use Rattle.statements.specs.Parse.{printed, enclosed_condition, optional, optional_effect, heading, heading_in}
 use Rattle.statements.specs.Parse.{enclosed_heading, returned, alone, choice, repetition, entered, until, iteration}
 use Rattle.statements.specs.Parse.{one_case, cases, otherwise, selection, braced, statement_over, inside, braces}
 use Rattle.statements.specs.Parse.{bodies, statement, statements}
-use Rattle.statements.proofs.Follow.{short_Item, short_S, short_Ss, no_cast}
+use Rattle.statements.specs.Tree.{FlagTree, object_item, give, move, remove, LoopTree, loop_over}
+use Rattle.statements.specs.Grammar.{item_object, IsFlag, flag_given, flag_taken, IsFlags, flags_none, flags_next}
+use Rattle.statements.specs.Grammar.{IsGiven, given_first, s_give, s_move, s_remove, s_objectloop}
+use Rattle.statements.specs.Parse.{flag, flags, begins_flag, given, moved, removed, looped, looped_in, enclosed_loop}
+use Rattle.statements.specs.Parse.{traversal}
+use Rattle.statements.proofs.Follow.{short_Item, short_S, short_Ss, no_cast, no_object_cast, short_Flag}
 use Rattle.statements.proofs.KnownValues.{short_Ranges, ranges_read, begins_Ranges, case_Ranges}
 use Rattle.statements.proofs.Labels.{case_S}
+use Rattle.statements.proofs.LoopHeads.{at_Loop, nests_over}
 
 -- ---- what `print` prints
 
@@ -53,6 +60,14 @@ unfolding item value cast expect
 step_character {n} zero p q o ts r a = record { within = λ h. absurd (omega arith); beyond = λ h. refl }
 step_character (suc d) p q o ts r a = weaken (then _ a refl)
 
+step_object : {n : ℕ} {e : ExpressionTree} (d : ℕ) (p q o : Position) (ts r : List Lexeme)
+    → Limited (expression (nested d) ts) d n e r
+    → Limited (item d (sign s.OpenParenthesis p ∷ reserved w.Object q ∷ sign s.CloseParenthesis o ∷ ts)) d (max 1 n)
+    (object_item (position_of (head ts)) e) r
+unfolding item value cast expect
+step_object {n} zero p q o ts r a = record { within = λ h. absurd (omega arith); beyond = λ h. refl }
+step_object (suc d) p q o ts r a = weaken (then _ a refl)
+
 item_of : (d : ℕ) (ts : List Lexeme) → begins_expression (head ts) ≡ true → item d ts ≡ value d ts
 unfolding item
 item_of d [] e = absurd cc
@@ -61,10 +76,11 @@ item_of d (t ∷ ts) e = refl
 
 step_number : {n : ℕ} {e : ExpressionTree} (d : ℕ) (ts r : List Lexeme) → begins_expression (head ts) ≡ true
     → (is_sign s.OpenParenthesis (head ts) && is_word w.Char (head (tail ts))) ≡ false
+    → (is_sign s.OpenParenthesis (head ts) && is_word w.Object (head (tail ts))) ≡ false
     → Limited (expression (nested d) ts) d n e r → Limited (item d ts) d n (number_item (position_of (head ts)) e) r
 unfolding value
-step_number d ts r b c a = same (item_of d ts b)
-    (same {S = expression (nested d) ts >>= λ x. Ok (number_item (position_of (head ts)) x.0, x.1)} (rw c refl)
+step_number d ts r b c o a = same (item_of d ts b)
+    (same {S = expression (nested d) ts >>= λ x. Ok (number_item (position_of (head ts)) x.0, x.1)} (rw (c, o) refl)
     (then _ a refl))
 
 step_text_item : (d : ℕ) (bytes : List ℕ) (p : Position) (r : List Lexeme)
@@ -77,7 +93,9 @@ pub at_Item : {ts r : List Lexeme} {i : PrintItemTree} → IsItem ts i r → (d 
 at_Item (item_text {r = r} {p = p} {bytes = bytes}) d st = step_text_item d bytes p r
 at_Item (item_character {m = m} {r = r} {t = t} {p = p} {q = q} {o = o} a) d st = step_character d p q o (t ∷ m) r
     (at_E a d st)
-at_Item {ts} {r} (item_number a) d st = step_number d ts r (first_E a) (no_cast a) (at_E a d st)
+at_Item (item_object {m = m} {r = r} {t = t} {p = p} {q = q} {o = o} a) d st = step_object d p q o (t ∷ m) r
+    (at_E a d st)
+at_Item {ts} {r} (item_number a) d st = step_number d ts r (first_E a) (no_cast a) (no_object_cast a) (at_E a d st)
 
 listed_Items : {ts r : List Lexeme} {is : List PrintItemTree} {q : Position} → IsItems ts is (sign s.Semicolon q ∷ r)
     → (d : ℕ) → Listed (is_sign s.Comma) (item d) d (items_nesting is) ts is (sign s.Semicolon q ∷ r)
@@ -138,6 +156,12 @@ in_heading : {n : ℕ} {h : HeadingTree} {r : List Lexeme} (ts : List Lexeme) (d
     → ((k : ℕ) → Limited (heading k ts) k n h r) → Limited (heading_in d ts) d (suc n) h r
 in_heading ts zero h = record { within = λ le. absurd (omega arith); beyond = λ lt. refl }
 in_heading ts (suc d) h =
+    record { within = λ le. (h d).within (omega arith); beyond = λ lt. (h d).beyond (omega arith) }
+
+in_loop : {n : ℕ} {l : LoopTree} {r : List Lexeme} (ts : List Lexeme) (d : ℕ)
+    → ((k : ℕ) → Limited (looped k ts) k n l r) → Limited (looped_in d ts) d (suc n) l r
+in_loop ts zero h = record { within = λ le. absurd (omega arith); beyond = λ lt. refl }
+in_loop ts (suc d) h =
     record { within = λ le. (h d).within (omega arith); beyond = λ lt. (h d).beyond (omega arith) }
 
 -- the cases of a tree as a list, and the statements of its `default`; how deep these are nested with their brace
@@ -300,6 +324,17 @@ module _ (d : ℕ) where
   unfolding statement statement_over iteration
   step_for p ts t a = bound _ t (then _ a refl)
 
+  step_enclosed_loop : {n : ℕ} {l : LoopTree} {r : List Lexeme} (q : Position) (m : List Lexeme)
+      → Limited (looped_in d m) d n l r → Limited (enclosed_loop d (sign s.OpenParenthesis q ∷ m)) d n l r
+  unfolding enclosed_loop expect
+  step_enclosed_loop q m a = a
+
+  step_objectloop : {n j : ℕ} {l : LoopTree} {x : StatementTree} {k r : List Lexeme} (p : Position) (ts : List Lexeme)
+      → Limited (enclosed_loop d ts) d n l k → Limited (inside d k) d j x r
+      → Limited (statement d (reserved w.Objectloop p ∷ ts)) d (max n j) (loop_over p l x) r
+  unfolding statement statement_over traversal
+  step_objectloop p ts t a = bound _ t (then _ a refl)
+
   step_entered : {n : ℕ} {x : StatementTree} {r : List Lexeme} (ts : List Lexeme) → begins_statement (head ts) ≡ true
       → Limited (inside d ts) d n x r → Limited (entered (inside d) ts) d n x r
   unfolding entered
@@ -348,6 +383,26 @@ module _ (d : ℕ) where
   step_switch {e = e} p i q cs ts r t a b = bound _ t
       (bound _ a (then _ b (ap (λ c. Ok (switch_on p e c, r)) (cases_back cs))))
 
+  step_give : {n l : ℕ} {e : ExpressionTree} {xs : List FlagTree} {k : List Lexeme} (p q : Position)
+      (m r : List Lexeme) → Limited (expression (nested d) m) d n e k
+      → Limited (flags k) d l xs (sign s.Semicolon q ∷ r)
+      → Limited (statement d (reserved w.Give p ∷ m)) d (max n l) (give p e xs) r
+  unfolding statement statement_over given
+  step_give {e = e} {xs = xs} p q m r a b = bound _ a (then _ b (step_ended (give p e xs) q r))
+
+  step_move : {n l : ℕ} {x y : ExpressionTree} (p o q : Position) (m k r : List Lexeme)
+      → Limited (expression (nested d) m) d n x (reserved w.To o ∷ k)
+      → Limited (expression (nested d) k) d l y (sign s.Semicolon q ∷ r)
+      → Limited (statement d (reserved w.Move p ∷ m)) d (max n l) (move p x y) r
+  unfolding statement statement_over moved expect_word
+  step_move {x = x} {y = y} p o q m k r a b = bound _ a (then _ b (step_ended (move p x y) q r))
+
+  step_remove : {n : ℕ} {e : ExpressionTree} (p q : Position) (m r : List Lexeme)
+      → Limited (expression (nested d) m) d n e (sign s.Semicolon q ∷ r)
+      → Limited (statement d (reserved w.Remove p ∷ m)) d n (remove p e) r
+  unfolding statement statement_over removed
+  step_remove {e = e} p q m r a = then _ a (step_ended (remove p e) q r)
+
   -- what begins an expression begins no other statement
   statement_of : (ts : List Lexeme) → begins_expression (head ts) ≡ true → statement d ts ≡ alone d ts
   unfolding statement statement_over
@@ -359,6 +414,9 @@ module _ (d : ℕ) where
   statement_of (reserved w.True p ∷ ts) e = refl
   statement_of (reserved w.False p ∷ ts) e = refl
   statement_of (reserved w.Nothing p ∷ ts) e = refl
+  statement_of (reserved w.Parent p ∷ ts) e = refl
+  statement_of (reserved w.Child p ∷ ts) e = refl
+  statement_of (reserved w.Sibling p ∷ ts) e = refl
   statement_of (sign s.OpenParenthesis p ∷ ts) e = refl
   statement_of (sign s.Minus p ∷ ts) e = refl
   statement_of (sign s.Tilde p ∷ ts) e = refl
@@ -386,6 +444,9 @@ expression_statement (dictionary_word f p) e = refl
 expression_statement (reserved w.True p) e = refl
 expression_statement (reserved w.False p) e = refl
 expression_statement (reserved w.Nothing p) e = refl
+expression_statement (reserved w.Parent p) e = refl
+expression_statement (reserved w.Child p) e = refl
+expression_statement (reserved w.Sibling p) e = refl
 expression_statement (sign s.OpenParenthesis p) e = refl
 expression_statement (sign s.Minus p) e = refl
 expression_statement (sign s.Tilde p) e = refl
@@ -407,6 +468,7 @@ first_S (s_if_else c a b) = refl
 first_S (s_while c a) = refl
 first_S (s_do a c) = refl
 first_S (s_for a f b c g x) = refl
+first_S (s_objectloop a x) = refl
 first_S (s_switch e a) = refl
 first_S s_break = refl
 first_S s_continue = refl
@@ -416,6 +478,9 @@ first_S s_rtrue = refl
 first_S s_rfalse = refl
 first_S s_quit = refl
 first_S s_read = refl
+first_S (s_give c a) = refl
+first_S (s_move a b) = refl
+first_S (s_remove c) = refl
 first_S {ts} (s_effect c f) = expression_statement (head ts) (first_E c)
 
 -- ---- items, as long as one begins
@@ -466,6 +531,35 @@ case_ends cases_none = refl
 case_ends (cases_default a) = refl
 case_ends {ts} (cases_next g a b) = rw (case_Ranges g) (not_both (begins_statement (head ts)))
 
+-- ---- attributes of `give`
+
+flag_read : {ts r : List Lexeme} {x : FlagTree} → IsFlag ts x r → flag ts ≡ Ok (x, r)
+unfolding flag named
+flag_read flag_given = refl
+flag_read flag_taken = refl
+
+first_Flag : {ts r : List Lexeme} {x : FlagTree} → IsFlag ts x r → begins_flag (head ts) ≡ true
+first_Flag flag_given = refl
+first_Flag flag_taken = refl
+
+at_Flags : {ts r : List Lexeme} {xs : List FlagTree} {q : Position} → IsFlags ts xs (sign s.Semicolon q ∷ r)
+    → (d n : ℕ) → length ts ≤ n → Limited (repeated begins_flag flag n ts) d 0 xs (sign s.Semicolon q ∷ r)
+at_Flags {r = r} {q = q} flags_none d n le = repeated_stop begins_flag flag d n (sign s.Semicolon q ∷ r) refl
+at_Flags (flags_next a b) d zero le = absurd (omega (arith, short_Flag a))
+at_Flags {ts} (flags_next a b) d (suc n) le = up (repeated_next begins_flag flag d n ts (first_Flag a)
+    (at_once {d = d} (flag_read a)) (at_Flags b d n (omega (arith, short_Flag a)))) (omega arith)
+
+at_Given : {ts r : List Lexeme} {xs : List FlagTree} {q : Position} → IsGiven ts xs (sign s.Semicolon q ∷ r)
+    → (d : ℕ) → Limited (flags ts) d 0 xs (sign s.Semicolon q ∷ r)
+unfolding flags
+at_Given (given_first {m = m} a b) d = up
+    (bound _ (at_once {d = d} (flag_read a)) (then _ (at_Flags b d (length m) (omega arith)) refl)) (omega arith)
+
+-- an expression ends where they begin
+stops_Given : {ts r : List Lexeme} {xs : List FlagTree} → IsGiven ts xs r → Stops 1 ts
+stops_Given (given_first flag_given b) = omega arith
+stops_Given (given_first flag_taken b) = omega arith
+
 -- ---- the parts of a `for`
 
 expression_colon : (t : Lexeme) → begins_expression t ≡ true → is_sign s.Colon t ≡ false
@@ -480,7 +574,8 @@ at_Optional : {ts r : List Lexeme} {e : Option ExpressionTree} (z : Sign)
     → ((t : Lexeme) → begins_expression t ≡ true → is_sign z t ≡ false) → IsOptional ts e r → (d : ℕ)
     → is_sign z (head r) ≡ true → Stops 1 r → Limited (optional d z ts) d (optional_nesting e) e r
 at_Optional {ts} z differs optional_none d e st = step_optional_none d z ts e
-at_Optional {ts} z differs (optional_some a) d e st = step_optional_some d z ts (differs (head ts) (first_E a)) (at_E a d st)
+at_Optional {ts} z differs (optional_some a) d e st = step_optional_some d z ts (differs (head ts) (first_E a))
+    (at_E a d st)
 
 at_Heading : {m k l n : List Lexeme} {a b c : Option ExpressionTree} {i j o : Position}
     → IsOptional m a (sign s.Colon i ∷ k) → effect_or_none a ≡ true → IsOptional k b (sign s.Colon j ∷ l)
@@ -535,6 +630,10 @@ mutual
       (step_for d p (sign s.OpenParenthesis q ∷ m)
       (step_enclosed d q m (in_heading m d (λ i. at_Heading a f b c g i))) (in_statement n d (λ i. at_S x i)))
       (omega arith)
+  at_S (s_objectloop {m = m} {k = k} {p = p} {q = q} {l = l} {x = x} a b) d = up
+      (step_objectloop d p (sign s.OpenParenthesis q ∷ m)
+      (step_enclosed_loop d q m (in_loop m d (λ i. at_Loop a i))) (in_statement k d (λ i. at_S b i)))
+      (omega (arith, nests_over p l x))
   at_S (s_switch {m = m} {k = k} {r = r} {p = p} {q = q} {o = o} {i = i} {j = j} {e = e} {cs = cs} a b) d =
       let c = at_cases b d (length k) (omega arith) in
       up
@@ -550,6 +649,11 @@ mutual
   at_S (s_rfalse {r = r} {p = p} {q = q}) d = step_rfalse d p q r
   at_S (s_quit {r = r} {p = p} {q = q}) d = step_quit d p q r
   at_S (s_read {r = r} {p = p} {q = q} {o = o} {j = j} {a = a} {b = b}) d = step_read d p q o j a b r
+  at_S (s_give {m = m} {r = r} {p = p} {q = q} c a) d = up
+      (step_give d p q m r (at_E c d (stops_Given a)) (at_Given a d)) (omega arith)
+  at_S (s_move {m = m} {k = k} {r = r} {p = p} {q = q} {o = o} a b) d = step_move d p o q m k r
+      (at_E a d (omega arith)) (at_E b d (omega arith))
+  at_S (s_remove {m = m} {r = r} {p = p} {q = q} c) d = step_remove d p q m r (at_E c d (omega arith))
   at_S {ts} (s_effect {r = r} {q = q} c f) d = same (statement_of d ts (first_E c))
       (step_alone d q ts r f (at_E c d (omega arith)))
 

@@ -1,6 +1,6 @@
 -- One nesting further in.
-use Rattle.std.proofs.Common.{◌≡◌, ℕ, zero, suc, ◌+◌, ◌-◌, ◌<◌, true, false, List, [], ◌∷◌, length, Result, Ok, Err, refl, ap}
-use Rattle.std.proofs.Common.{arith}
+use Rattle.std.proofs.Common.{◌≡◌, ℕ, zero, suc, ◌+◌, ◌-◌, ◌<◌, true, false, List, [], ◌∷◌, length, Result, Ok, Err}
+use Rattle.std.proofs.Common.{refl, ap, arith}
 use Rattle.std.specs.Prelude.{map}
 use Rattle.lexer.specs.declared.token.Token.{Token}
 use Rattle.lexer.specs.Token.{Lexeme, lexemes}
@@ -10,7 +10,7 @@ use Rattle.expressions.specs.Parse.{head}
 use Rattle.statements.specs.declared.tree.Statement.{Statement}
 use Rattle.statements.specs.Tree.{statement_tree}
 use Rattle.statements.specs.Nesting.{begins_statement, begins_in_case}
-use Rattle.statements.specs.Parse.{opened, heading_in, heading, as_long, repeated, inside, braces}
+use Rattle.statements.specs.Parse.{opened, heading_in, heading, looped_in, looped, as_long, repeated, inside, braces}
 use Rattle.statements.specs.Parse.{bodies, statement, statements}
 use Rattle.statements.proofs.Loops.{joined, joined_none}
 
@@ -29,6 +29,14 @@ heading_zero (suc d) ts e = absurd (omega arith)
 pub heading_more : (d k : ℕ) (ts : List Lexeme) → d ≡ k + 1 → heading_in d ts ≡ heading k ts
 heading_more zero k ts e = absurd (omega arith)
 heading_more (suc d) k ts e = let same : d ≡ k = omega arith in ap (λ j. heading j ts) same
+
+pub looped_zero : (d : ℕ) (ts : List Lexeme) → d ≡ 0 → looped_in d ts ≡ Err Deep
+looped_zero zero ts e = refl
+looped_zero (suc d) ts e = absurd (omega arith)
+
+pub looped_more : (d k : ℕ) (ts : List Lexeme) → d ≡ k + 1 → looped_in d ts ≡ looped k ts
+looped_more zero k ts e = absurd (omega arith)
+looped_more (suc d) k ts e = let same : d ≡ k = omega arith in ap (λ j. looped j ts) same
 
 pub inside_zero : (d : ℕ) (ts : List Lexeme) → d ≡ 0 → inside d ts ≡ Err Deep
 unfolding inside

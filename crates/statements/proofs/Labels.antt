@@ -7,20 +7,26 @@ use Rattle.lexer.specs.Token.{Lexeme, number, reserved, sign}
 use Rattle.expressions.specs.declared.tree.Binary.{Binary}
 use Rattle.expressions.specs.declared.tree.Comparison.{Comparison}
 use Rattle.expressions.specs.declared.tree.Equality.{Equality}
+use Rattle.expressions.specs.declared.tree.Containment.{Containment}
+use Rattle.expressions.specs.declared.tree.ObjectTest.{ObjectTest}
+use Rattle.expressions.specs.declared.tree.Relative.{Relative}
 use Rattle.expressions.specs.declared.tree.Step.{Step}
 use Rattle.expressions.specs.declared.tree.Width.{Width}
-use Rattle.expressions.specs.Operators.{logical, comparing, equating, adding, scaling, stepping, indexing}
+use Rattle.expressions.specs.Operators.{logical, comparing, equating, containing, testing, adding, scaling, stepping}
+use Rattle.expressions.specs.Operators.{relating, indexing}
 use Rattle.expressions.specs.Tree.{ExpressionTree}
 use Rattle.expressions.specs.Grammar.{IsE, e_plain, e_assign, IsE1, e1_plain, e1_logical, IsN1, n1_plain, n1_not}
-use Rattle.expressions.specs.Grammar.{IsE2, e2_plain, e2_compare, e2_equal, IsE3, e3_plain, e3_add, IsE4, e4_plain}
-use Rattle.expressions.specs.Grammar.{e4_scale, IsN4, n4_plain, n4_complement, IsE5, e5_plain, e5_index, IsU, u_plain}
-use Rattle.expressions.specs.Grammar.{u_minus, u_before, u_after, IsP, p_number, p_character, p_word, p_true, p_false}
-use Rattle.expressions.specs.Grammar.{p_nothing, p_name, p_call, p_call_with, p_parenthesised}
+use Rattle.expressions.specs.Grammar.{IsE2, e2_plain, e2_compare, e2_equal, e2_contained, e2_tested, IsE3, e3_plain}
+use Rattle.expressions.specs.Grammar.{e3_add, IsE4, e4_plain, e4_scale, IsN4, n4_plain, n4_complement, IsE5, e5_plain}
+use Rattle.expressions.specs.Grammar.{e5_index, e5_entry, IsU, u_plain, u_minus, u_before, u_after, u_length, IsP}
+use Rattle.expressions.specs.Grammar.{p_property, p_number, p_character, p_word, p_true, p_false, p_nothing, p_name}
+use Rattle.expressions.specs.Grammar.{p_call, p_call_with, p_relative, p_parenthesised}
 use Rattle.expressions.specs.Parse.{head}
 use Rattle.statements.specs.Tree.{StatementTree}
 use Rattle.statements.specs.Grammar.{IsS, s_empty, s_block, s_text, s_print, s_print_ret, s_new_line, s_if, s_if_else}
 use Rattle.statements.specs.Grammar.{s_while, s_do, s_for, s_switch, s_break, s_continue, s_return, s_return_value}
-use Rattle.statements.specs.Grammar.{s_rtrue, s_rfalse, s_quit, s_read, s_effect}
+use Rattle.statements.specs.Grammar.{s_rtrue, s_rfalse, s_quit, s_read, s_give, s_move, s_remove, s_effect}
+use Rattle.statements.specs.Grammar.{s_objectloop}
 use Rattle.statements.specs.Nesting.{goes_on_in_case, begins_case}
 
 -- ---- operators
@@ -42,6 +48,18 @@ no_equating (sign s.Comma p) op e = absurd cc
 no_equating (sign s.Colon p) op e = absurd cc
 no_equating (reserved w.To p) op e = absurd cc
 no_equating _ op e = refl
+
+no_containing : (t : Lexeme) (op : Containment) → containing t ≡ Some op → goes_on_in_case t ≡ false
+no_containing (sign s.Comma p) op e = absurd cc
+no_containing (sign s.Colon p) op e = absurd cc
+no_containing (reserved w.To p) op e = absurd cc
+no_containing _ op e = refl
+
+no_testing : (t : Lexeme) (test : ObjectTest) → testing t ≡ Some test → goes_on_in_case t ≡ false
+no_testing (sign s.Comma p) test e = absurd cc
+no_testing (sign s.Colon p) test e = absurd cc
+no_testing (reserved w.To p) test e = absurd cc
+no_testing _ test e = refl
 
 no_adding : (t : Lexeme) (op : Binary) → adding t ≡ Some op → goes_on_in_case t ≡ false
 no_adding (sign s.Comma p) op e = absurd cc
@@ -81,9 +99,18 @@ behind_step (sign s.Increment p) op ts e = refl
 behind_step (sign s.Decrement p) op ts e = refl
 behind_step _ op ts e = absurd cc
 
+behind_relating : (t : Lexeme) (which : Relative) (ts : List Lexeme) → relating t ≡ Some which
+    → begins_case (t ∷ ts) ≡ false
+unfolding begins_case
+behind_relating (reserved w.Parent p) which ts e = refl
+behind_relating (reserved w.Child p) which ts e = refl
+behind_relating (reserved w.Sibling p) which ts e = refl
+behind_relating _ which ts e = absurd cc
+
 case_P : {ts r : List Lexeme} {e : ExpressionTree} → IsP ts e r → goes_on_in_case (head r) ≡ false
     → begins_case ts ≡ false
 unfolding begins_case
+case_P (p_property a) h = case_P a refl
 case_P p_number h = h
 case_P p_character h = h
 case_P p_word h = h
@@ -93,6 +120,8 @@ case_P p_nothing h = h
 case_P p_name h = h
 case_P p_call h = refl
 case_P (p_call_with a) h = refl
+case_P (p_relative {m = m} {p = p} {t = t} {which = which} o a) h = behind_relating t which
+    (sign s.OpenParenthesis p ∷ m) o
 case_P (p_parenthesised a) h = refl
 
 case_U : {ts r : List Lexeme} {e : ExpressionTree} → IsU ts e r → goes_on_in_case (head r) ≡ false
@@ -101,12 +130,14 @@ case_U (u_plain a) h = case_P a h
 case_U (u_minus {m = m} {p = p} a) h = behind_minus p m (case_U a h)
 case_U (u_before {m = m} {t = t} {op = op} o a) h = behind_step t op m o
 case_U (u_after {t = t} {op = op} a o) h = case_P a (no_stepping t op o)
+case_U (u_length a) h = case_P a refl
 
 case_E5 : {ts r : List Lexeme} {e : ExpressionTree} → IsE5 ts e r → goes_on_in_case (head r) ≡ false
     → begins_case ts ≡ false
 unfolding begins_case
 case_E5 (e5_plain a) h = case_U a h
 case_E5 (e5_index {t = t} {width = width} o a) h = no_indexing t width o
+case_E5 (e5_entry a b) h = case_P a refl
 
 case_N4 : {ts r : List Lexeme} {e : ExpressionTree} → IsN4 ts e r → goes_on_in_case (head r) ≡ false
     → begins_case ts ≡ false
@@ -129,6 +160,8 @@ case_E2 : {ts r : List Lexeme} {e : ExpressionTree} → IsE2 ts e r → goes_on_
 case_E2 (e2_plain a) h = case_E3 a h
 case_E2 (e2_compare {t = t} {op = op} a o b) h = case_E3 a (no_comparing t op o)
 case_E2 (e2_equal {t = t} {op = op} a o b) h = case_E3 a (no_equating t op o)
+case_E2 (e2_contained {t = t} {op = op} a o b) h = case_E3 a (no_containing t op o)
+case_E2 (e2_tested {t = t} {test = test} a o) h = case_E3 a (no_testing t test o)
 
 case_N1 : {ts r : List Lexeme} {e : ExpressionTree} → IsN1 ts e r → goes_on_in_case (head r) ≡ false
     → begins_case ts ≡ false
@@ -161,6 +194,7 @@ case_S (s_if_else c a b) = refl
 case_S (s_while c a) = refl
 case_S (s_do a c) = refl
 case_S (s_for a f b c g x) = refl
+case_S (s_objectloop a x) = refl
 case_S (s_switch e a) = refl
 case_S s_break = refl
 case_S s_continue = refl
@@ -170,4 +204,7 @@ case_S s_rtrue = refl
 case_S s_rfalse = refl
 case_S s_quit = refl
 case_S s_read = refl
+case_S (s_give c a) = refl
+case_S (s_move a b) = refl
+case_S (s_remove c) = refl
 case_S (s_effect c f) = case_E c refl

@@ -3,9 +3,10 @@ pub mod NamesRead
 pub mod Inside
 pub mod Cases
 pub mod Loops
-pub mod Effect
+pub mod Roots
 pub mod KnownValues
 pub mod Labels
+pub mod LoopHeads
 pub mod Sound
 pub mod Follow
 pub mod Complete

@@ -22,7 +22,7 @@ use Rattle.statements.specs.Tree.{HeadingTree, PrintItemTree, text_item, charact
 use Rattle.statements.specs.Tree.{CaseTree, trees_of, cases_of, empty, block, text_alone, print, print_return, new_line}
 use Rattle.statements.specs.Tree.{if_then, if_else, while_do, do_until, for_loop, switch_on, break_at, continue_at}
 use Rattle.statements.specs.Tree.{return_alone, return_value, return_true, return_false, quit, read_line, effect}
-use Rattle.statements.specs.Tree.{default_case}
+use Rattle.statements.specs.Tree.{default_case, object_item, give, move, remove, loop_over}
 use Rattle.statements.specs.Grammar.{has_effect, else_follows, effect_or_none, IsRanges, IsOptional, optional_none}
 use Rattle.statements.specs.Grammar.{optional_some, IsItem, item_text, item_character, item_number, IsItems}
 use Rattle.statements.specs.Grammar.{items_last, items_comma, IsS, s_empty, s_block, s_text, s_print, s_print_ret}
@@ -31,6 +31,8 @@ use Rattle.statements.specs.Grammar.{s_return, s_return_value, s_rtrue, s_rfalse
 use Rattle.statements.specs.Grammar.{ss_stop, ss_next, IsCases, cases_none, cases_default, cases_next, item_nesting}
 use Rattle.statements.specs.Grammar.{items_nesting, optional_nesting, statement_nesting, inside_nesting}
 use Rattle.statements.specs.Grammar.{cases_nesting, body_nesting}
+use Rattle.statements.specs.Grammar.{item_object, IsFlag, flag_given, flag_taken, IsFlags, flags_none, flags_next}
+use Rattle.statements.specs.Grammar.{IsGiven, given_first, s_give, s_move, s_remove, s_objectloop}
 use Rattle.statements.specs.Nesting.{begins_statement, begins_in_case, DeepItem, deep_item_parenthesis}
 use Rattle.statements.specs.Nesting.{deep_item_character, deep_item_number, DeepItems, deep_items_first}
 use Rattle.statements.specs.Nesting.{deep_items_next, DeepHeading, deep_heading_before, deep_heading_test}
@@ -44,12 +46,17 @@ use Rattle.statements.specs.Nesting.{deep_inside_begins, deep_inside_first, deep
 use Rattle.statements.specs.Nesting.{deep_cases_first, deep_cases_next, deep_cases_default, DeepInCase}
 use Rattle.statements.specs.Nesting.{deep_in_case_begins, deep_in_case_first, deep_in_case_next, DeepSs}
 use Rattle.statements.specs.Nesting.{deep_ss_first, deep_ss_next}
+use Rattle.statements.specs.Nesting.{deep_item_object_parenthesis, deep_item_object, deep_s_give, deep_s_move}
+use Rattle.statements.specs.Nesting.{deep_s_move_to, deep_s_remove, deep_s_objectloop, deep_s_objectloop_head}
+use Rattle.statements.specs.Nesting.{deep_s_objectloop_body}
+use Rattle.statements.specs.Parse.{flag, flags, begins_flag, given, moved, removed, traversal}
 use Rattle.statements.specs.Parse.{as_long, repeated, begins_value, ended, line_read, cast, value, item, items}
 use Rattle.statements.specs.Parse.{printed, enclosed_condition, optional, optional_effect, heading, heading_in}
 use Rattle.statements.specs.Parse.{enclosed_heading, returned, alone, choice, repetition, entered, until, iteration}
 use Rattle.statements.specs.Parse.{one_case, cases, otherwise, selection, braced, statement_over, inside}
 use Rattle.statements.specs.Parse.{braces, bodies, statement, statements}
 use Rattle.statements.proofs.KnownValues.{ranges_judged}
+use Rattle.statements.proofs.LoopHeads.{DeepLoop, nests_over, enclosed_loop_judged}
 use Rattle.statements.proofs.NamesRead.{named_judged}
 
 -- one nesting further in: at its first token, or behind that
@@ -122,7 +129,7 @@ from_character p q o (t ∷ m) e r h = item_character h
 character_judged : (d : ℕ) (p q : Position) (m : List Lexeme)
     → Judged (λ i r. IsItem (sign s.OpenParenthesis p ∷ reserved w.Char q ∷ m) i r × (item_nesting i ≤ d))
     (DeepItem (suc d) (sign s.OpenParenthesis p ∷ reserved w.Char q ∷ m))
-    (cast d (sign s.OpenParenthesis p ∷ reserved w.Char q ∷ m))
+    (cast d character_item (sign s.OpenParenthesis p ∷ reserved w.Char q ∷ m))
 unfolding cast
 character_judged zero p q m = judged_deep deep_item_parenthesis
 character_judged (suc d) p q m =
@@ -140,6 +147,33 @@ character_judged (suc d) p q m =
     (deep_item_character x)))
     (λ e. absurd (expect_not_deep s.CloseParenthesis m e))
 
+from_object : (p q o : Position) (ts : List Lexeme) (e : ExpressionTree) (r : List Lexeme) → IsE ts e r
+    → IsItem (sign s.OpenParenthesis p ∷ reserved w.Object q ∷ sign s.CloseParenthesis o ∷ ts)
+    (object_item (position_of (head ts)) e) r
+from_object p q o [] e r h = absurd (omega (arith, short_E h))
+from_object p q o (t ∷ m) e r h = item_object h
+
+object_judged : (d : ℕ) (p q : Position) (m : List Lexeme)
+    → Judged (λ i r. IsItem (sign s.OpenParenthesis p ∷ reserved w.Object q ∷ m) i r × (item_nesting i ≤ d))
+    (DeepItem (suc d) (sign s.OpenParenthesis p ∷ reserved w.Object q ∷ m))
+    (cast d object_item (sign s.OpenParenthesis p ∷ reserved w.Object q ∷ m))
+unfolding cast
+object_judged zero p q m = judged_deep deep_item_object_parenthesis
+object_judged (suc d) p q m =
+    judged_after (expect s.CloseParenthesis m) _
+    (λ r e.
+    let o = position_of (head m) in
+    let at = expect_ok s.CloseParenthesis m r e in
+    judged_then _ (judged_E (suc d) r)
+    (λ a u h. judged_read _ u (
+      subst (λ v. IsItem (sign s.OpenParenthesis p ∷ reserved w.Object q ∷ v)
+          (object_item (position_of (head r)) a) u) (sym at) (from_object p q o r a u h.0),
+      omega (arith, h.1),
+    ))
+    (λ x. subst (λ v. DeepItem (suc (suc d)) (sign s.OpenParenthesis p ∷ reserved w.Object q ∷ v)) (sym at)
+    (deep_item_object x)))
+    (λ e. absurd (expect_not_deep s.CloseParenthesis m e))
+
 value_judged : (d : ℕ) (ts : List Lexeme) → Judged (λ i r. IsItem ts i r × (item_nesting i ≤ d))
     (DeepItem (suc d) ts) (value d ts)
 unfolding value
@@ -149,10 +183,17 @@ value_judged d ts =
     let b = both (is_sign s.OpenParenthesis (head ts)) (is_word w.Char (head (tail ts))) e in
     let at = at_sign s.OpenParenthesis ts b.0 ∙ ap (λ u. sign s.OpenParenthesis (position_of (head ts)) ∷ u)
     (at_word w.Char (tail ts) b.1) in
-    subst (λ us. Judged (λ i r. IsItem us i r × (item_nesting i ≤ d)) (DeepItem (suc d) us) (cast d us))
+    subst (λ us. Judged (λ i r. IsItem us i r × (item_nesting i ≤ d)) (DeepItem (suc d) us) (cast d character_item us))
     (sym at) (character_judged d (position_of (head ts)) (position_of (head (tail ts))) (tail (tail ts))))
+    (λ c. judged_by (is_sign s.OpenParenthesis (head ts) && is_word w.Object (head (tail ts))) _ _
+    (λ e.
+    let b = both (is_sign s.OpenParenthesis (head ts)) (is_word w.Object (head (tail ts))) e in
+    let at = at_sign s.OpenParenthesis ts b.0 ∙ ap (λ u. sign s.OpenParenthesis (position_of (head ts)) ∷ u)
+    (at_word w.Object (tail ts) b.1) in
+    subst (λ us. Judged (λ i r. IsItem us i r × (item_nesting i ≤ d)) (DeepItem (suc d) us) (cast d object_item us))
+    (sym at) (object_judged d (position_of (head ts)) (position_of (head (tail ts))) (tail (tail ts))))
     (λ e. judged_then _ (judged_E d ts) (λ a r h. judged_read _ r (from_number ts a r h.0, h.1))
-    (λ x. deep_item_number x))
+    (λ x. deep_item_number x)))
 
 item_judged : (d : ℕ) (ts : List Lexeme) → Judged (λ i r. IsItem ts i r × (item_nesting i ≤ d)) (DeepItem (suc d) ts)
     (item d ts)
@@ -214,6 +255,72 @@ read_judged d p ts =
     (subst (λ us. IsS (reserved w.Read p ∷ us) (read_line a b) r) (sym at) s_read, omega arith)))
     (λ x. absurd x))
     (λ x. absurd x)
+
+flag_judged : (ts : List Lexeme) → Judged (IsFlag ts) ⊥ (flag ts)
+unfolding flag
+flag_judged ts =
+    judged_by (is_sign s.Tilde (head ts)) _ _
+    (λ e. judged_then _ (named_judged (tail ts))
+    (λ n r h.
+    let at = at_sign s.Tilde ts e ∙ ap (λ us. sign s.Tilde (position_of (head ts)) ∷ us) h in
+    judged_read (false, n) r (subst (λ us. IsFlag us (false, n) r) (sym at) flag_taken))
+    (λ x. x))
+    (λ e. judged_then _ (named_judged ts)
+    (λ n r h. judged_read (true, n) r (subst (λ us. IsFlag us (true, n) r) (sym h) flag_given))
+    (λ x. x))
+
+more_flags_judged : (n : ℕ) (ts : List Lexeme) → Judged (IsFlags ts) ⊥ (repeated begins_flag flag n ts)
+more_flags_judged n ts =
+    repeated_judged begins_flag flag IsFlag IsFlags (λ us. ⊥) (λ us. ⊥)
+    (λ r. flags_none)
+    (λ us x m xs r q l. flags_next q l)
+    (λ us e x. x)
+    (λ us x m q z. z)
+    flag_judged n ts
+
+flags_judged : (ts : List Lexeme) → Judged (IsGiven ts) ⊥ (flags ts)
+unfolding flags
+flags_judged ts =
+    judged_then _ (flag_judged ts)
+    (λ x m h. judged_then _ (more_flags_judged (length m) m) (λ xs r g. judged_read (x ∷ xs) r (given_first h g))
+    (λ z. z))
+    (λ z. z)
+
+given_judged : (d : ℕ) (p : Position) (ts : List Lexeme)
+    → Judged (λ x r. IsS (reserved w.Give p ∷ ts) x r × (statement_nesting x ≤ d))
+    (DeepS (suc d) (reserved w.Give p ∷ ts)) (given d p ts)
+unfolding given
+given_judged d p ts =
+    judged_then _ (judged_E d ts)
+    (λ e m h. judged_then _ (flags_judged m)
+    (λ xs r g. ended_judged (give p e xs) r (λ q u x. (s_give h.0 (subst (λ v. IsGiven m xs v) x g), h.1)))
+    (λ z. absurd z))
+    (λ x. deep_s_give x)
+
+moved_judged : (d : ℕ) (p : Position) (ts : List Lexeme)
+    → Judged (λ x r. IsS (reserved w.Move p ∷ ts) x r × (statement_nesting x ≤ d))
+    (DeepS (suc d) (reserved w.Move p ∷ ts)) (moved d p ts)
+unfolding moved
+moved_judged d p ts =
+    judged_then _ (judged_E d ts)
+    (λ a u h. judged_after (expect_word w.To u) _
+    (λ m e.
+    let object = subst (λ v. IsE ts a v) (expect_word_ok w.To u m e) h.0 in
+    judged_then _ (judged_E d m)
+    (λ b r g. ended_judged (move p a b) r
+    (λ q v x. (s_move object (subst (λ y. IsE m b y) x g.0), omega (arith, h.1, g.1))))
+    (λ x. deep_s_move_to object x))
+    (λ e. absurd (expect_word_not_deep w.To u e)))
+    (λ x. deep_s_move x)
+
+removed_judged : (d : ℕ) (p : Position) (ts : List Lexeme)
+    → Judged (λ x r. IsS (reserved w.Remove p ∷ ts) x r × (statement_nesting x ≤ d))
+    (DeepS (suc d) (reserved w.Remove p ∷ ts)) (removed d p ts)
+unfolding removed
+removed_judged d p ts =
+    judged_then _ (judged_E d ts)
+    (λ e r h. ended_judged (remove p e) r (λ q u x. (s_remove (subst (λ v. IsE ts e v) x h.0), h.1)))
+    (λ x. deep_s_remove x)
 
 alone_judged : (d : ℕ) (ts : List Lexeme) → Judged (λ x r. IsS ts x r × (statement_nesting x ≤ d)) (DeepS (suc d) ts)
     (alone d ts)
@@ -328,6 +435,13 @@ enclosed_judged d ts =
     })
     (λ x. record { opens = position_of (head ts); from = m; at = expect_ok s.OpenParenthesis ts m e; deep = x }))
     (λ e. absurd (expect_not_deep s.OpenParenthesis ts e))
+
+-- ---- what an `objectloop` goes over
+
+loop_deep : (p q : Position) (n : ℕ) (ts : List Lexeme) → DeepLoop n ts
+    → DeepS (suc n) (reserved w.Objectloop p ∷ sign s.OpenParenthesis q ∷ ts)
+loop_deep p q n ts h = subst (λ us. DeepS (suc n) (reserved w.Objectloop p ∷ sign s.OpenParenthesis q ∷ us)) (sym h.at)
+    (deep_s_objectloop_head h.deep)
 
 -- ---- conditions
 
@@ -454,6 +568,26 @@ module _ (d : ℕ) (inner : Inner d) where
       (λ h. subst (λ us. DeepS (suc d) (reserved w.For p ∷ us)) (sym h.at)
       (deeper (λ n. DeepHeading n h.from) (λ n. DeepS n (reserved w.For p ∷ sign s.OpenParenthesis h.opens ∷ h.from))
       d deep_s_for (λ n x. deep_s_for_parts x) h.deep))
+
+  traversal_judged : (p : Position) (ts : List Lexeme)
+      → Judged (λ x r. IsS (reserved w.Objectloop p ∷ ts) x r × (statement_nesting x ≤ d))
+      (DeepS (suc d) (reserved w.Objectloop p ∷ ts)) (traversal d (inside d) p ts)
+  unfolding traversal
+  traversal_judged p ts =
+      judged_then _ (enclosed_loop_judged d ts)
+      (λ l r q. judged_then _ (inner.in_statement r)
+      (λ x u g. judged_read (loop_over p l x) u (
+        subst (λ us. IsS (reserved w.Objectloop p ∷ us) (loop_over p l x) u) (sym q.at)
+            (s_objectloop q.derives g.0),
+        omega (arith, q.within, g.1, nests_over p l x),
+      ))
+      (λ z. subst (λ us. DeepS (suc d) (reserved w.Objectloop p ∷ us)) (sym q.at)
+      (deeper (λ n. DeepS n r) (λ n. DeepS n (reserved w.Objectloop p ∷ sign s.OpenParenthesis q.opens ∷ q.from)) d
+      deep_s_objectloop (λ n x. deep_s_objectloop_body q.derives x) z)))
+      (λ h. subst (λ us. DeepS (suc d) (reserved w.Objectloop p ∷ us)) (sym h.at)
+      (deeper (λ n. DeepLoop n h.from)
+      (λ n. DeepS n (reserved w.Objectloop p ∷ sign s.OpenParenthesis h.opens ∷ h.from)) d
+      deep_s_objectloop (λ n x. loop_deep p h.opens n h.from x) h.deep))
 
   -- ---- cases
 
@@ -617,6 +751,7 @@ module _ (d : ℕ) (inner : Inner d) where
   over_judged (reserved w.While p ∷ ts) = repetition_judged p ts
   over_judged (reserved w.Do p ∷ ts) = until_judged p ts
   over_judged (reserved w.For p ∷ ts) = iteration_judged p ts
+  over_judged (reserved w.Objectloop p ∷ ts) = traversal_judged p ts
   over_judged (reserved w.Switch p ∷ ts) = selection_judged p ts
   over_judged (reserved w.Break p ∷ ts) = ended_judged (break_at p) ts
       (λ q r e. (subst (λ u. IsS (reserved w.Break p ∷ u) (break_at p) r) (sym e) s_break, omega arith))
@@ -630,6 +765,9 @@ module _ (d : ℕ) (inner : Inner d) where
   over_judged (reserved w.Quit p ∷ ts) = ended_judged quit ts
       (λ q r e. (subst (λ u. IsS (reserved w.Quit p ∷ u) quit r) (sym e) s_quit, omega arith))
   over_judged (reserved w.Read p ∷ ts) = read_judged d p ts
+  over_judged (reserved w.Give p ∷ ts) = given_judged d p ts
+  over_judged (reserved w.Move p ∷ ts) = moved_judged d p ts
+  over_judged (reserved w.Remove p ∷ ts) = removed_judged d p ts
   over_judged ts = alone_judged d ts
 
   -- the statement that begins is too deep, or something in it is

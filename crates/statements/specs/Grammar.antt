@@ -6,9 +6,13 @@ use Rattle.lexer.specs.declared.token.Position.{Position}
 use Rattle.lexer.specs.declared.token.Sign.TheVariants as s
 use Rattle.lexer.specs.declared.token.Word.TheVariants as w
 use Rattle.lexer.specs.Token.{Lexeme, name, number, text, character, dictionary_word, reserved, sign, position_of}
-use Rattle.expressions.specs.Tree.{ExpressionTree, call, parenthesised, step_before, step_after, assign}
-use Rattle.expressions.specs.Grammar.{IsE, nesting}
+use Rattle.expressions.specs.declared.tree.Containment.TheVariants as containment
+use Rattle.expressions.specs.Tree.{ExpressionTree, named, call, parenthesised, step_before, step_after, contained}
+use Rattle.expressions.specs.Tree.{assign}
+use Rattle.expressions.specs.Grammar.{IsE, IsE1, IsE3, nesting}
 use Rattle.statements.specs.Tree.{LiteralTree, number_value, word_value, named_value, RangeTree, PrintItemTree}
+use Rattle.statements.specs.Tree.{FlagTree, object_item, give, move, remove, each, each_in, each_where}
+use Rattle.statements.specs.Tree.{LoopTree, over_all, over_in, over_where, loop_over}
 use Rattle.statements.specs.Tree.{text_item, character_item, number_item, StatementTree, StatementTrees, CaseTrees}
 use Rattle.statements.specs.Tree.{empty, block, text_alone, print, print_return, new_line, if_then, if_else, while_do}
 use Rattle.statements.specs.Tree.{do_until, for_loop, switch_on, break_at, continue_at, return_alone, return_value}
@@ -64,12 +68,30 @@ abbrev pub effect_or_none : Option ExpressionTree → Bool
 effect_or_none None = true
 effect_or_none (Some e) = has_effect e
 
--- Item = text | "(" "char" ")" E | E
+-- a name, or a name and `in`: where an `objectloop` has such an expression in its parentheses, it is no condition
+abbrev pub tells_objects : ExpressionTree → Bool
+tells_objects (named n) = true
+tells_objects (contained containment.In (named n) e) = true
+tells_objects _ = false
+
+-- Loop = name | name "in" E3 | E1, where the third begins with a name and is neither of the first two
+pub data IsLoop : List Lexeme → LoopTree → List Lexeme → Type 0 where
+  loop_all : {r : List Lexeme} {p : Position} {n : List ℕ}
+      → IsLoop (name n p ∷ r) (over_all (record { text = n; position = p })) r
+  loop_in : {m r : List Lexeme} {p q : Position} {n : List ℕ} {e : ExpressionTree} → IsE3 m e r
+      → IsLoop (name n p ∷ reserved w.In q ∷ m) (over_in (record { text = n; position = p }) e) r
+  loop_where : {m r : List Lexeme} {p : Position} {n : List ℕ} {e : ExpressionTree} → IsE1 (name n p ∷ m) e r
+      → tells_objects e ≡ false → IsLoop (name n p ∷ m) (over_where (record { text = n; position = p }) e) r
+
+-- Item = text | "(" "char" ")" E | "(" "object" ")" E | E
 pub data IsItem : List Lexeme → PrintItemTree → List Lexeme → Type 0 where
   item_text : {r : List Lexeme} {p : Position} {bytes : List ℕ} → IsItem (text bytes p ∷ r) (text_item bytes) r
   item_character : {m r : List Lexeme} {t : Lexeme} {p q o : Position} {e : ExpressionTree} → IsE (t ∷ m) e r
       → IsItem (sign s.OpenParenthesis p ∷ reserved w.Char q ∷ sign s.CloseParenthesis o ∷ t ∷ m)
       (character_item (position_of t) e) r
+  item_object : {m r : List Lexeme} {t : Lexeme} {p q o : Position} {e : ExpressionTree} → IsE (t ∷ m) e r
+      → IsItem (sign s.OpenParenthesis p ∷ reserved w.Object q ∷ sign s.CloseParenthesis o ∷ t ∷ m)
+      (object_item (position_of t) e) r
   item_number : {m r : List Lexeme} {t : Lexeme} {e : ExpressionTree} → IsE (t ∷ m) e r
       → IsItem (t ∷ m) (number_item (position_of t) e) r
 
@@ -79,12 +101,31 @@ pub data IsItems : List Lexeme → List PrintItemTree → List Lexeme → Type 0
   items_comma : {ts m r : List Lexeme} {p : Position} {i : PrintItemTree} {is : List PrintItemTree}
       → IsItem ts i (sign s.Comma p ∷ m) → IsItems m is r → IsItems ts (i ∷ is) r
 
+-- ["~"] name
+pub data IsFlag : List Lexeme → FlagTree → List Lexeme → Type 0 where
+  flag_given : {r : List Lexeme} {p : Position} {n : List ℕ}
+      → IsFlag (name n p ∷ r) (true, record { text = n; position = p }) r
+  flag_taken : {r : List Lexeme} {p q : Position} {n : List ℕ}
+      → IsFlag (sign s.Tilde q ∷ name n p ∷ r) (false, record { text = n; position = p }) r
+
+-- {["~"] name}
+pub data IsFlags : List Lexeme → List FlagTree → List Lexeme → Type 0 where
+  flags_none : {r : List Lexeme} → IsFlags r [] r
+  flags_next : {ts m r : List Lexeme} {x : FlagTree} {xs : List FlagTree} → IsFlag ts x m → IsFlags m xs r
+      → IsFlags ts (x ∷ xs) r
+
+-- (["~"] name)+
+pub data IsGiven : List Lexeme → List FlagTree → List Lexeme → Type 0 where
+  given_first : {ts m r : List Lexeme} {x : FlagTree} {xs : List FlagTree} → IsFlag ts x m → IsFlags m xs r
+      → IsGiven ts (x ∷ xs) r
+
 mutual
   -- S = ";" | "{" {S} "}" | text ";" | ("print" | "print_ret") Item {"," Item} ";" | "new_line" ";"
   -- | "if" "(" E ")" S ["else" S] | "while" "(" E ")" S | "do" S "until" "(" E ")" ";"
-  -- | "for" "(" [X] ":" [E] ":" [X] ")" S | "switch" "(" E ")" "{" {Case} ["default" ":" {S}] "}"
+  -- | "for" "(" [X] ":" [E] ":" [X] ")" S | "objectloop" "(" Loop ")" S
+  -- | "switch" "(" E ")" "{" {Case} ["default" ":" {S}] "}"
   -- | "break" ";" | "continue" ";" | "return" [E] ";" | "rtrue" ";" | "rfalse" ";" | "quit" ";"
-  -- | "read" name name ";" | X ";"
+  -- | "give" E (["~"] name)+ ";" | "move" E "to" E ";" | "remove" E ";" | "read" name name ";" | X ";"
   pub data IsS : List Lexeme → StatementTree → List Lexeme → Type 0 where
     s_empty : {r : List Lexeme} {p : Position} → IsS (sign s.Semicolon p ∷ r) empty r
     s_block : {m r : List Lexeme} {p q : Position} {xs : StatementTrees} → IsSs m xs (sign s.CloseBrace q ∷ r)
@@ -112,6 +153,9 @@ mutual
         → IsOptional m a (sign s.Colon i ∷ k) → effect_or_none a ≡ true → IsOptional k b (sign s.Colon j ∷ l)
         → IsOptional l c (sign s.CloseParenthesis o ∷ n) → effect_or_none c ≡ true → IsS n x r
         → IsS (reserved w.For p ∷ sign s.OpenParenthesis q ∷ m) (for_loop p a b c x) r
+    s_objectloop : {m k r : List Lexeme} {p q o : Position} {l : LoopTree} {x : StatementTree}
+        → IsLoop m l (sign s.CloseParenthesis o ∷ k) → IsS k x r
+        → IsS (reserved w.Objectloop p ∷ sign s.OpenParenthesis q ∷ m) (loop_over p l x) r
     s_switch : {m k r : List Lexeme} {p q o i j : Position} {e : ExpressionTree} {cs : CaseTrees}
         → IsE m e (sign s.CloseParenthesis o ∷ sign s.OpenBrace i ∷ k) → IsCases k cs (sign s.CloseBrace j ∷ r)
         → IsS (reserved w.Switch p ∷ sign s.OpenParenthesis q ∷ m) (switch_on p e cs) r
@@ -127,6 +171,12 @@ mutual
     s_read : {r : List Lexeme} {p q o j : Position} {a b : List ℕ}
         → IsS (reserved w.Read p ∷ name a q ∷ name b o ∷ sign s.Semicolon j ∷ r)
         (read_line (record { text = a; position = q }) (record { text = b; position = o })) r
+    s_give : {m k r : List Lexeme} {p q : Position} {e : ExpressionTree} {xs : List FlagTree} → IsE m e k
+        → IsGiven k xs (sign s.Semicolon q ∷ r) → IsS (reserved w.Give p ∷ m) (give p e xs) r
+    s_move : {m k r : List Lexeme} {p q o : Position} {a b : ExpressionTree} → IsE m a (reserved w.To o ∷ k)
+        → IsE k b (sign s.Semicolon q ∷ r) → IsS (reserved w.Move p ∷ m) (move p a b) r
+    s_remove : {m r : List Lexeme} {p q : Position} {e : ExpressionTree} → IsE m e (sign s.Semicolon q ∷ r)
+        → IsS (reserved w.Remove p ∷ m) (remove p e) r
     s_effect : {m r : List Lexeme} {t : Lexeme} {q : Position} {e : ExpressionTree}
         → IsE (t ∷ m) e (sign s.Semicolon q ∷ r) → has_effect e ≡ true → IsS (t ∷ m) (effect (position_of t) e) r
 
@@ -145,12 +195,13 @@ mutual
         → IsRanges ts gs (sign s.Colon p ∷ m) → IsSs m xs k → IsCases k cs r → IsCases ts (case gs xs cs) r
 
 -- How deep a tree is nested: a brace, a statement inside a statement, and the parenthesis of a condition, of the parts
--- of a `for` or of `(char)` count beside the nesting of expressions. A statement directly in a routine does not count.
--- A case stands where the brace of its `switch` leads.
+-- of a `for`, of what an `objectloop` goes over, of `(char)` and of `(object)` count beside the nesting of expressions.
+-- A statement directly in a routine does not count. A case stands where the brace of its `switch` leads.
 
 abbrev pub item_nesting : PrintItemTree → ℕ
 item_nesting (text_item s) = 0
 item_nesting (character_item p e) = max 1 (nesting e)
+item_nesting (object_item p e) = max 1 (nesting e)
 item_nesting (number_item p e) = nesting e
 
 abbrev pub items_nesting : List PrintItemTree → ℕ
@@ -184,6 +235,12 @@ abbrev mutual
   statement_nesting return_false = 0
   statement_nesting quit = 0
   statement_nesting (read_line a b) = 0
+  statement_nesting (give p e xs) = nesting e
+  statement_nesting (move p a b) = max (nesting a) (nesting b)
+  statement_nesting (remove p e) = nesting e
+  statement_nesting (each n x) = suc (statement_nesting x)
+  statement_nesting (each_in p n e x) = suc (max (nesting e) (statement_nesting x))
+  statement_nesting (each_where p n e x) = suc (max (nesting e) (statement_nesting x))
   statement_nesting (effect p e) = nesting e
 
   -- of statements inside a statement

@@ -2,9 +2,10 @@
 -- each place at which a part can stand in an alternative of the grammar.
 --
 -- DeepS n ts: a statement that begins at ts can be read as far as a token that stands n nestings deep in it. What
--- lies before that token in its parts is complete. A brace and the parenthesis of a condition, of the parts of a `for`
--- or of `(char)` stand one deeper than what holds them, and so does the first token of a statement inside a statement.
--- What begins a case is no statement, and stands no deeper than its brace.
+-- lies before that token in its parts is complete. A brace and the parenthesis of a condition, of the parts of a `for`,
+-- of what an `objectloop` goes over, of `(char)` and of `(object)` stand one deeper than what holds them, and so does
+-- the first token of a statement inside a statement. What begins a case is no statement, and stands no deeper than its
+-- brace.
 use Rattle.std.specs.Prelude.{◌≡◌, ◌&&◌, ◌||◌, not, Bool, true, false, ℕ, suc, List, ◌∷◌, Option}
 use Rattle.lexer.specs.declared.token.Position.{Position}
 use Rattle.lexer.specs.declared.token.Sign.TheVariants as s
@@ -13,10 +14,10 @@ use Rattle.lexer.specs.declared.token.Word.TheVariants as w
 use Rattle.lexer.specs.Token.{Lexeme, name, number, text, character, dictionary_word, reserved, sign}
 use Rattle.expressions.specs.Tree.{ExpressionTree}
 use Rattle.expressions.specs.Grammar.{IsE}
-use Rattle.expressions.specs.Nesting.{begins_expression, DeepE}
+use Rattle.expressions.specs.Nesting.{begins_expression, DeepE, DeepE1}
 use Rattle.expressions.specs.Parse.{head, tail}
-use Rattle.statements.specs.Tree.{RangeTree, PrintItemTree, StatementTree, StatementTrees}
-use Rattle.statements.specs.Grammar.{IsRanges, IsOptional, effect_or_none, IsItem, IsS, IsSs}
+use Rattle.statements.specs.Tree.{RangeTree, LoopTree, PrintItemTree, StatementTree, StatementTrees}
+use Rattle.statements.specs.Grammar.{IsRanges, IsOptional, effect_or_none, IsLoop, IsItem, IsS, IsSs}
 
 -- the words with which a statement can begin
 abbrev pub word_opens : Word → Bool
@@ -27,6 +28,7 @@ word_opens w.If = true
 word_opens w.While = true
 word_opens w.Do = true
 word_opens w.For = true
+word_opens w.Objectloop = true
 word_opens w.Switch = true
 word_opens w.Break = true
 word_opens w.Continue = true
@@ -35,6 +37,9 @@ word_opens w.Rtrue = true
 word_opens w.Rfalse = true
 word_opens w.Quit = true
 word_opens w.Read = true
+word_opens w.Give = true
+word_opens w.Move = true
+word_opens w.Remove = true
 word_opens _ = false
 
 -- the tokens with which a statement can begin that is no expression alone
@@ -75,12 +80,16 @@ begins_case ts = case_begins (head ts) (head (tail ts)) (head (tail (tail ts)))
 abbrev pub begins_in_case : List Lexeme → Bool
 begins_in_case ts = begins_statement (head ts) && not (begins_case ts)
 
--- Item = text | "(" "char" ")" E | E
+-- Item = text | "(" "char" ")" E | "(" "object" ")" E | E
 pub data DeepItem : ℕ → List Lexeme → Type 0 where
   deep_item_parenthesis : {m : List Lexeme} {p q : Position}
       → DeepItem 1 (sign s.OpenParenthesis p ∷ reserved w.Char q ∷ m)
   deep_item_character : {n : ℕ} {m : List Lexeme} {p q o : Position} → DeepE n m
       → DeepItem n (sign s.OpenParenthesis p ∷ reserved w.Char q ∷ sign s.CloseParenthesis o ∷ m)
+  deep_item_object_parenthesis : {m : List Lexeme} {p q : Position}
+      → DeepItem 1 (sign s.OpenParenthesis p ∷ reserved w.Object q ∷ m)
+  deep_item_object : {n : ℕ} {m : List Lexeme} {p q o : Position} → DeepE n m
+      → DeepItem n (sign s.OpenParenthesis p ∷ reserved w.Object q ∷ sign s.CloseParenthesis o ∷ m)
   deep_item_number : {n : ℕ} {ts : List Lexeme} → DeepE n ts → DeepItem n ts
 
 -- Item {"," Item}
@@ -101,7 +110,9 @@ pub data DeepHeading : ℕ → List Lexeme → Type 0 where
 mutual
   -- S = .. | "{" {S} "}" | ("print" | "print_ret") Item {"," Item} ";" | "if" "(" E ")" S ["else" S]
   --   | "while" "(" E ")" S | "do" S "until" "(" E ")" ";" | "for" "(" [X] ":" [E] ":" [X] ")" S
-  --   | "switch" "(" E ")" "{" {Case} ["default" ":" {S}] "}" | "return" [E] ";" | X ";"
+  --   | "objectloop" "(" Loop ")" S
+  --   | "switch" "(" E ")" "{" {Case} ["default" ":" {S}] "}" | "return" [E] ";"
+  --   | "give" E (["~"] name)+ ";" | "move" E "to" E ";" | "remove" E ";" | X ";"
   pub data DeepS : ℕ → List Lexeme → Type 0 where
     deep_s_brace : {m : List Lexeme} {p : Position} → DeepS 1 (sign s.OpenBrace p ∷ m)
     deep_s_block : {n : ℕ} {m : List Lexeme} {p : Position} → DeepInside n m → DeepS (suc n) (sign s.OpenBrace p ∷ m)
@@ -137,6 +148,13 @@ mutual
         → IsOptional m a (sign s.Colon i ∷ k) → effect_or_none a ≡ true → IsOptional k b (sign s.Colon j ∷ l)
         → IsOptional l c (sign s.CloseParenthesis z ∷ o) → effect_or_none c ≡ true → DeepS n o
         → DeepS (suc n) (reserved w.For p ∷ sign s.OpenParenthesis q ∷ m)
+    deep_s_objectloop : {m : List Lexeme} {p q : Position}
+        → DeepS 1 (reserved w.Objectloop p ∷ sign s.OpenParenthesis q ∷ m)
+    deep_s_objectloop_head : {n : ℕ} {m : List Lexeme} {p q o : Position} {x : List ℕ} → DeepE1 n (name x o ∷ m)
+        → DeepS (suc n) (reserved w.Objectloop p ∷ sign s.OpenParenthesis q ∷ name x o ∷ m)
+    deep_s_objectloop_body : {n : ℕ} {m k : List Lexeme} {p q o : Position} {l : LoopTree}
+        → IsLoop m l (sign s.CloseParenthesis o ∷ k) → DeepS n k
+        → DeepS (suc n) (reserved w.Objectloop p ∷ sign s.OpenParenthesis q ∷ m)
     deep_s_switch : {m : List Lexeme} {p q : Position} → DeepS 1 (reserved w.Switch p ∷ sign s.OpenParenthesis q ∷ m)
     deep_s_switch_value : {n : ℕ} {m : List Lexeme} {p q : Position} → DeepE n m
         → DeepS (suc n) (reserved w.Switch p ∷ sign s.OpenParenthesis q ∷ m)
@@ -147,6 +165,11 @@ mutual
         → IsE m e (sign s.CloseParenthesis o ∷ sign s.OpenBrace i ∷ k) → DeepCases n k
         → DeepS (suc n) (reserved w.Switch p ∷ sign s.OpenParenthesis q ∷ m)
     deep_s_return : {n : ℕ} {m : List Lexeme} {p : Position} → DeepE n m → DeepS n (reserved w.Return p ∷ m)
+    deep_s_give : {n : ℕ} {m : List Lexeme} {p : Position} → DeepE n m → DeepS n (reserved w.Give p ∷ m)
+    deep_s_move : {n : ℕ} {m : List Lexeme} {p : Position} → DeepE n m → DeepS n (reserved w.Move p ∷ m)
+    deep_s_move_to : {n : ℕ} {m k : List Lexeme} {p o : Position} {a : ExpressionTree}
+        → IsE m a (reserved w.To o ∷ k) → DeepE n k → DeepS n (reserved w.Move p ∷ m)
+    deep_s_remove : {n : ℕ} {m : List Lexeme} {p : Position} → DeepE n m → DeepS n (reserved w.Remove p ∷ m)
     deep_s_effect : {n : ℕ} {ts : List Lexeme} → DeepE n ts → DeepS n ts
 
   -- {S} in a block: the first token of each statement stands one deeper

@@ -9,14 +9,18 @@ use Rattle.lexer.specs.declared.token.Word.TheVariants as w
 use Rattle.lexer.specs.Token.{Lexeme, name, number, text, character, dictionary_word, reserved, sign, position_of}
 use Rattle.expressions.specs.declared.error.Fault.{Fault}
 use Rattle.expressions.specs.declared.error.Fault.TheVariants.{Grammar, Deep}
-use Rattle.expressions.specs.Tree.{NameTree, ExpressionTree}
+use Rattle.expressions.specs.declared.tree.Containment.TheVariants as containment
+use Rattle.expressions.specs.Tree.{NameTree, ExpressionTree, contained}
+use Rattle.expressions.specs.Tree as expressions
 use Rattle.expressions.specs.Parse.{Parse, ◌>>=◌, head, tail, is_sign, is_word, expect, expect_word, list, whole}
-use Rattle.expressions.specs.Parse.{nested, expression}
+use Rattle.expressions.specs.Parse.{nested, condition, expression}
 use Rattle.statements.specs.Tree.{LiteralTree, number_value, word_value, named_value, RangeTree, HeadingTree}
 use Rattle.statements.specs.Tree.{PrintItemTree, text_item, character_item, number_item, StatementTree, CaseTree}
 use Rattle.statements.specs.Tree.{trees_of, cases_of, empty, block, text_alone, print, print_return, new_line, if_then}
 use Rattle.statements.specs.Tree.{if_else, while_do, do_until, for_loop, switch_on, break_at, continue_at}
 use Rattle.statements.specs.Tree.{return_alone, return_value, return_true, return_false, quit, read_line, effect}
+use Rattle.statements.specs.Tree.{FlagTree, object_item, give, move, remove, LoopTree, over_all, over_in, over_where}
+use Rattle.statements.specs.Tree.{loop_over}
 use Rattle.statements.specs.Grammar.{has_effect, effect_or_none, else_follows}
 use Rattle.statements.specs.Nesting.{begins_statement, begins_in_case}
 
@@ -40,6 +44,48 @@ named_on _ ts = Err Grammar
 -- the name that comes next
 unfoldable pub named : Parse NameTree
 named ts = named_on (head ts) (tail ts)
+
+-- ---- attributes of `give`
+
+abbrev pub begins_flag : Lexeme → Bool
+begins_flag (name _ _) = true
+begins_flag (sign s.Tilde _) = true
+begins_flag _ = false
+
+unfoldable pub flag : Parse FlagTree
+flag ts =
+    if is_sign s.Tilde (head ts) then (named (tail ts) >>= λ x. Ok ((false, x.0), x.1))
+    else (named ts >>= λ x. Ok ((true, x.0), x.1))
+
+unfoldable pub flags : Parse (List FlagTree)
+flags ts = flag ts >>= λ x. repeated begins_flag flag (length x.1) x.1 >>= λ y. Ok (x.0 ∷ y.0, y.1)
+
+-- ---- what an `objectloop` goes over
+
+-- the name that an expression is alone
+abbrev pub name_alone : ExpressionTree → Option NameTree
+name_alone (expressions.named n) = Some n
+name_alone _ = None
+
+-- the name before `in`
+abbrev pub member : ExpressionTree → Option NameTree
+member (contained containment.In a e) = name_alone a
+member _ = None
+
+-- what stands behind an `in`
+abbrev pub holder : ExpressionTree → Option ExpressionTree
+holder (contained op a e) = Some e
+holder _ = None
+
+abbrev pub loop_on : NameTree → ExpressionTree → Option NameTree → Option NameTree → Option ExpressionTree → LoopTree
+loop_on x e (Some n) m h = over_all n
+loop_on x e None (Some m) (Some h) = over_in m h
+loop_on x e None _ _ = over_where x e
+
+-- an expression in the parentheses of an `objectloop` tells over what it goes; the variable of a condition is its first
+-- token
+abbrev pub loop_of : NameTree → ExpressionTree → LoopTree
+loop_of x e = loop_on x e (name_alone e) (member e) (holder e)
 
 -- ---- values that are known before a story runs
 
@@ -110,15 +156,16 @@ switch_of p e cs other ts = expect s.CloseBrace ts >>= λ r. Ok (switch_on p e (
 
 -- where d nestings more may be opened
 module _ (d : ℕ) where
-  -- `(char)` and a value
-  unfoldable pub cast : Parse PrintItemTree
-  cast ts = opened d
+  -- `(char)` or `(object)`, and a value
+  unfoldable pub cast : (Position → ExpressionTree → PrintItemTree) → Parse PrintItemTree
+  cast make ts = opened d
       (expect s.CloseParenthesis (tail (tail ts)) >>= λ r. expression (nested d) r
-      >>= λ x. Ok (character_item (position_of (head r)) x.0, x.1))
+      >>= λ x. Ok (make (position_of (head r)) x.0, x.1))
 
   unfoldable pub value : Parse PrintItemTree
   value ts =
-      if is_sign s.OpenParenthesis (head ts) && is_word w.Char (head (tail ts)) then cast ts
+      if is_sign s.OpenParenthesis (head ts) && is_word w.Char (head (tail ts)) then cast character_item ts
+      else if is_sign s.OpenParenthesis (head ts) && is_word w.Object (head (tail ts)) then cast object_item ts
       else (expression (nested d) ts >>= λ x. Ok (number_item (position_of (head ts)) x.0, x.1))
 
   abbrev pub item_on : Lexeme → Parse PrintItemTree
@@ -163,10 +210,31 @@ module _ (d : ℕ) where
     r ← expect s.CloseParenthesis c.1
     Ok (record { before = a.0; test = b.0; behind = c.0 }, r)
 
+  -- what an `objectloop` goes over, with the parenthesis behind it
+  unfoldable pub looped : Parse LoopTree
+  looped ts = do
+    n ← named ts
+    x ← condition (nested d) ts
+    r ← expect s.CloseParenthesis x.1
+    Ok (loop_of n.0 x.0, r)
+
   unfoldable pub returned : Position → Parse StatementTree
   returned p ts =
       if is_sign s.Semicolon (head ts) then Ok (return_alone, tail ts)
       else (expression (nested d) ts >>= λ x. ended (return_value p x.0) x.1)
+
+  unfoldable pub given : Position → Parse StatementTree
+  given p ts = expression (nested d) ts >>= λ e. flags e.1 >>= λ xs. ended (give p e.0 xs.0) xs.1
+
+  unfoldable pub moved : Position → Parse StatementTree
+  moved p ts = do
+    a ← expression (nested d) ts
+    r ← expect_word w.To a.1
+    b ← expression (nested d) r
+    ended (move p a.0 b.0) b.1
+
+  unfoldable pub removed : Position → Parse StatementTree
+  removed p ts = expression (nested d) ts >>= λ e. ended (remove p e.0) e.1
 
   -- an expression, which must have an effect
   unfoldable pub alone : Parse StatementTree
@@ -189,6 +257,9 @@ module _ (d : ℕ) where
   plain_on (reserved w.Rfalse p) ts = ended return_false (tail ts)
   plain_on (reserved w.Quit p) ts = ended quit (tail ts)
   plain_on (reserved w.Read p) ts = line_read (tail ts)
+  plain_on (reserved w.Give p) ts = given p (tail ts)
+  plain_on (reserved w.Move p) ts = moved p (tail ts)
+  plain_on (reserved w.Remove p) ts = removed p (tail ts)
   plain_on _ ts = alone ts
 
 -- those parts in parentheses, where d nestings more may be opened
@@ -198,6 +269,14 @@ heading_in (suc d) ts = heading d ts
 
 unfoldable pub enclosed_heading : ℕ → Parse HeadingTree
 enclosed_heading d ts = expect s.OpenParenthesis ts >>= λ r. heading_in d r
+
+-- the same of what an `objectloop` goes over
+abbrev pub looped_in : ℕ → Parse LoopTree
+looped_in zero ts = Err Deep
+looped_in (suc d) ts = looped d ts
+
+unfoldable pub enclosed_loop : ℕ → Parse LoopTree
+enclosed_loop d ts = expect s.OpenParenthesis ts >>= λ r. looped_in d r
 
 -- the statement behind `do`, over a statement one nesting further in
 unfoldable pub entered : Parse StatementTree → Parse StatementTree
@@ -258,6 +337,12 @@ module _ (d : ℕ) where
       x ← inside h.1
       Ok (for_loop p h.0.before h.0.test h.0.behind x.0, x.1)
 
+    unfoldable pub traversal : Position → Parse StatementTree
+    traversal p ts = do
+      l ← enclosed_loop d ts
+      x ← inside l.1
+      Ok (loop_over p l.0 x.0, x.1)
+
   -- over the statements of a block or of `default`, and those of a case
   module _ (braces bodies : Parse (List StatementTree)) where
     unfoldable pub selection : Position → Parse StatementTree
@@ -276,6 +361,7 @@ module _ (d : ℕ) where
     statement_on (reserved w.While p) ts = repetition inside p (tail ts)
     statement_on (reserved w.Do p) ts = until inside p (tail ts)
     statement_on (reserved w.For p) ts = iteration inside p (tail ts)
+    statement_on (reserved w.Objectloop p) ts = traversal inside p (tail ts)
     statement_on (reserved w.Switch p) ts = selection braces bodies p (tail ts)
     statement_on t ts = plain_on d t ts
 

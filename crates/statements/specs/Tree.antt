@@ -1,14 +1,17 @@
 -- Trees of statements, without where they lie in memory.
-use Rattle.std.specs.Prelude.{ℕ, List, [], ◌∷◌, map, Option, Some, None}
+use Rattle.std.specs.Prelude.{Bool, ℕ, List, [], ◌∷◌, map, Option, Some, None}
 use Rattle.std.specs.Global.{Vec, Box}
 use Rattle.std.specs.Option.{option_map}
 use Rattle.lexer.specs.declared.token.Position.{Position}
 use Rattle.expressions.specs.declared.tree.Expression.{Expression}
+use Rattle.expressions.specs.declared.tree.Name.{Name}
 use Rattle.expressions.specs.Tree.{NameTree, name_tree, ExpressionTree, expression_tree}
 use Rattle.statements.specs.declared.tree.Literal.{Literal}
 use Rattle.statements.specs.declared.tree.Literal.TheVariants as values
 use Rattle.statements.specs.declared.tree.Range.{Range}
 use Rattle.statements.specs.declared.tree.Heading.{Heading}
+use Rattle.statements.specs.declared.tree.Loop.{Loop}
+use Rattle.statements.specs.declared.tree.Loop.TheVariants as loops
 use Rattle.statements.specs.declared.tree.PrintItem.{PrintItem}
 use Rattle.statements.specs.declared.tree.PrintItem.TheVariants as items
 use Rattle.statements.specs.declared.tree.Statement.{Statement, fold-Statement}
@@ -29,9 +32,21 @@ pub record HeadingTree : Type 0 where
   pub test : Option ExpressionTree
   pub behind : Option ExpressionTree
 
+-- what stands in the parentheses of an `objectloop`: its variable alone, over all objects; its variable, and the object
+-- whose children it goes over; its variable, and a condition that begins with it
+pub data LoopTree : Type 0 where
+  over_all : NameTree → LoopTree
+  over_in : NameTree → ExpressionTree → LoopTree
+  over_where : NameTree → ExpressionTree → LoopTree
+
+-- an attribute, and whether it is given or taken
+abbrev pub FlagTree : Type 0
+FlagTree = Bool × NameTree
+
 pub data PrintItemTree : Type 0 where
   text_item : List ℕ → PrintItemTree
   character_item : Position → ExpressionTree → PrintItemTree
+  object_item : Position → ExpressionTree → PrintItemTree
   number_item : Position → ExpressionTree → PrintItemTree
 
 mutual
@@ -59,6 +74,14 @@ mutual
     quit : StatementTree
     -- a line is read: the array of its text, and that of its words
     read_line : NameTree → NameTree → StatementTree
+    give : Position → ExpressionTree → List FlagTree → StatementTree
+    -- an object, and its new parent
+    move : Position → ExpressionTree → ExpressionTree → StatementTree
+    remove : Position → ExpressionTree → StatementTree
+    -- over all objects; over those in one; over those for which a condition holds
+    each : NameTree → StatementTree → StatementTree
+    each_in : Position → NameTree → ExpressionTree → StatementTree → StatementTree
+    each_where : Position → NameTree → ExpressionTree → StatementTree → StatementTree
     effect : Position → ExpressionTree → StatementTree
 
   pub data StatementTrees : Type 0 where
@@ -70,6 +93,12 @@ mutual
     no_case : CaseTrees
     default_case : StatementTrees → CaseTrees
     case : List RangeTree → StatementTrees → CaseTrees → CaseTrees
+
+-- an `objectloop` with that in its parentheses
+abbrev pub loop_over : Position → LoopTree → StatementTree → StatementTree
+loop_over p (over_all n) x = each n x
+loop_over p (over_in n e) x = each_in p n e x
+loop_over p (over_where n e) x = each_where p n e x
 
 -- The tree of a statement of the code
 
@@ -91,9 +120,18 @@ part_tree e = option_map (λ x. expression_tree x.value) e
 abbrev pub heading_tree : Heading → HeadingTree
 heading_tree h = record { before = part_tree h.before; test = part_tree h.test; behind = part_tree h.behind }
 
+abbrev pub loop_tree : Loop → LoopTree
+loop_tree (loops.All n) = over_all (name_tree n)
+loop_tree (loops.In n e) = over_in (name_tree n) (expression_tree e.value)
+loop_tree (loops.Where n e) = over_where (name_tree n) (expression_tree e.value)
+
+abbrev pub flag_tree : Bool × Name → FlagTree
+flag_tree x = (x.0, name_tree x.1)
+
 abbrev pub item_tree : PrintItem → PrintItemTree
 item_tree (items.Text s) = text_item s.now
 item_tree (items.Character p e) = character_item p (expression_tree e.value)
+item_tree (items.Object p e) = object_item p (expression_tree e.value)
 item_tree (items.Number p e) = number_item p (expression_tree e.value)
 
 abbrev pub trees_of : List StatementTree → StatementTrees
@@ -129,6 +167,12 @@ layer Statement-F.ReturnTrue = return_true
 layer Statement-F.ReturnFalse = return_false
 layer Statement-F.Quit = quit
 layer (Statement-F.Read a b) = read_line (name_tree a) (name_tree b)
+layer (Statement-F.Give p e xs) = give p (expression_tree e.value) (map flag_tree xs.items)
+layer (Statement-F.Move p a b) = move p (expression_tree a.value) (expression_tree b.value)
+layer (Statement-F.Remove p e) = remove p (expression_tree e.value)
+layer (Statement-F.Each n x) = each (name_tree n) x.value
+layer (Statement-F.EachIn p n e x) = each_in p (name_tree n) (expression_tree e.value) x.value
+layer (Statement-F.EachWhere p n e x) = each_where p (name_tree n) (expression_tree e.value) x.value
 layer (Statement-F.Effect p e) = effect p (expression_tree e.value)
 
 abbrev pub statement_tree : Statement → StatementTree

@@ -3,6 +3,7 @@
 ghost use Rattle.std.specs.Prelude.{◌≡◌, map};
 ghost use Rattle.lexer.specs.Token.{lexeme, lexemes};
 ghost use Rattle.expressions.specs.Parse.{Gives};
+ghost use Rattle.statements.specs.Tree as tree;
 ghost use Rattle.statements.specs.Tree.{item_tree};
 ghost use Rattle.statements.specs.Parse as spec;
 
@@ -18,12 +19,29 @@ fn character<'t, 'a>(
     depth: usize,
     tokens: &'t [Token<'a>],
 ) -> Result<(PrintItem<'a>, &'t [Token<'a>]), ParseError>
-    ensures { Gives (λ x. (item_tree x.0, lexemes x.1.now)) result (spec.cast depth (lexemes tokens.now)) }
+    ensures { Gives (λ x. (item_tree x.0, lexemes x.1.now)) result (spec.cast depth tree.character_item (lexemes tokens.now)) }
 {
     open(depth, tokens)?;
     let begin = expect(Sign::CloseParenthesis, skip(skip(tokens)))?;
     match expression(alloc, depth, begin) {
         Ok((value, rest)) => Ok((PrintItem::Character(position(begin), value), rest)),
+        Err(e) => Err(e),
+    }
+}
+
+// The same of `(object)`.
+#[tactic(auto, unfolding(crate::specs::Parse::cast), using(crate::proofs::Inside::opened_zero, crate::proofs::Inside::opened_more))]
+fn object<'t, 'a>(
+    alloc: Global,
+    depth: usize,
+    tokens: &'t [Token<'a>],
+) -> Result<(PrintItem<'a>, &'t [Token<'a>]), ParseError>
+    ensures { Gives (λ x. (item_tree x.0, lexemes x.1.now)) result (spec.cast depth tree.object_item (lexemes tokens.now)) }
+{
+    open(depth, tokens)?;
+    let begin = expect(Sign::CloseParenthesis, skip(skip(tokens)))?;
+    match expression(alloc, depth, begin) {
+        Ok((value, rest)) => Ok((PrintItem::Object(position(begin), value), rest)),
         Err(e) => Err(e),
     }
 }
@@ -43,6 +61,9 @@ fn item<'t, 'a>(
     if is_sign(first, Sign::OpenParenthesis) && is_word(peek(skip(tokens)), Word::Char) {
         return character(alloc, depth, tokens);
     }
+    if is_sign(first, Sign::OpenParenthesis) && is_word(peek(skip(tokens)), Word::Object) {
+        return object(alloc, depth, tokens);
+    }
     match expression(alloc, depth, tokens) {
         Ok((value, rest)) => Ok((PrintItem::Number(first.position, value), rest)),
         Err(e) => Err(e),
@@ -53,7 +74,7 @@ fn item<'t, 'a>(
 ///
 /// # Errors
 ///
-/// Those of `expression`; and `Fault::Deep` at the parenthesis of `(char)` where no nesting is left.
+/// Those of `expression`; and `Fault::Deep` at the parenthesis of `(char)` or `(object)` where no nesting is left.
 #[tactic(auto, unfolding(crate::specs::Parse::items, expressions::specs::Parse::list), using(crate::proofs::Loops::further_out, crate::proofs::Loops::further_done, crate::proofs::Loops::further_more, crate::proofs::Loops::further_fails))]
 pub fn items<'t, 'a>(
     alloc: Global,

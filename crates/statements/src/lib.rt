@@ -5,6 +5,7 @@ mod headings;
 mod items;
 mod names;
 mod nested;
+mod objectloop;
 mod parts;
 mod simple;
 mod tree;

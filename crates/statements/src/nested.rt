@@ -9,6 +9,7 @@ ghost use Rattle.statements.specs.Tree.{statement_tree, case_tree, other_tree};
 ghost use Rattle.statements.specs.Parse as spec;
 
 use crate::headings::enclosed_heading;
+use crate::objectloop::enclosed_loop;
 use crate::parts;
 use crate::simple::{enclosed_condition, plain};
 use crate::tree::{Range, Statement};
@@ -32,6 +33,7 @@ fn word_opens(word: Word) -> bool
             | Word::While
             | Word::Do
             | Word::For
+            | Word::Objectloop
             | Word::Switch
             | Word::Break
             | Word::Continue
@@ -40,6 +42,9 @@ fn word_opens(word: Word) -> bool
             | Word::Rfalse
             | Word::Quit
             | Word::Read
+            | Word::Give
+            | Word::Move
+            | Word::Remove
     )
 }
 
@@ -91,19 +96,22 @@ fn same<'t, 'a>(tokens: &'t [Token<'a>]) -> &'t [Token<'a>]
 /// ```text
 /// S = ";" | "{" {S} "}" | text ";" | ("print" | "print_ret") Item {"," Item} ";" | "new_line" ";"
 ///   | "if" "(" E ")" S ["else" S] | "while" "(" E ")" S | "do" S "until" "(" E ")" ";"
-///   | "for" "(" [X] ":" [E] ":" [X] ")" S | "switch" "(" E ")" "{" {Case} ["default" ":" {S}] "}"
+///   | "for" "(" [X] ":" [E] ":" [X] ")" S | "objectloop" "(" Loop ")" S
+///   | "switch" "(" E ")" "{" {Case} ["default" ":" {S}] "}"
 ///   | "break" ";" | "continue" ";" | "return" [E] ";" | "rtrue" ";" | "rfalse" ";" | "quit" ";"
-///   | "read" name name ";" | X ";"
-/// Item = text | "(" "char" ")" E | E
+///   | "give" E (["~"] name)+ ";" | "move" E "to" E ";" | "remove" E ";" | "read" name name ";" | X ";"
+/// Loop = name | name "in" E3 | E1
+/// Item = text | "(" "char" ")" E | "(" "object" ")" E | E
 /// Case = Range {"," Range} ":" {S}
 /// Range = K ["to" K]
 /// K = ["-"] number | char | word | name | "true" | "false" | "nothing"
 /// ```
 ///
-/// where E is an expression and X one with an effect: an assignment, a step or a call, in parentheses or not. An `else`
-/// belongs to the nearest `if`. In a `switch` a K followed by `,`, `to` or `:` begins a case. Braces, the parentheses of a
-/// condition, of the parts of a `for` and of `(char)`, and a statement inside a statement are nestings, as are those of
-/// expressions.
+/// where E is an expression and X one with an effect: an assignment, a step or a call, in parentheses or not. E3 is one
+/// without comparisons, E1 one without an assignment at its root; as a `Loop` it begins with a name, and is none of the
+/// first two forms. An `else` belongs to the nearest `if`. In a `switch` a K followed by `,`, `to` or `:` begins a case.
+/// Braces, the parentheses of a condition, of the parts of a `for`, of a `Loop`, of `(char)` and `(object)`, and a
+/// statement inside a statement are nestings, as are those of expressions.
 ///
 /// # Errors
 ///
@@ -263,6 +271,22 @@ fn iteration<'t, 'a>(
     parts::for_loop(alloc, position, heading, body)
 }
 
+// What follows `objectloop`, which stands at `position`.
+#[cycle(statement)]
+#[tactic(auto, unfolding(crate::specs::Parse::traversal))]
+fn traversal<'t, 'a>(
+    alloc: Global,
+    depth: usize,
+    position: Position,
+    tokens: &'t [Token<'a>],
+) -> Result<(Box<Statement<'a>>, &'t [Token<'a>]), ParseError>
+    ensures { Gives (λ x. (statement_tree x.0.value, lexemes x.1.now)) result (spec.traversal depth (spec.inside depth) position (lexemes tokens.now)) }
+{
+    let (over, rest) = enclosed_loop(alloc, depth, tokens)?;
+    let body = further_in(alloc, depth, rest);
+    parts::loop_over(alloc, position, over, body)
+}
+
 // The statements of a case, up to the next case. The brace of its `switch` is a nesting, and so is each statement.
 #[cycle(statement)]
 #[tactic(auto, using(crate::proofs::Inside::bodies_zero, crate::proofs::Loops::as_long_out, crate::proofs::Loops::as_long_done, crate::proofs::Loops::as_long_more, crate::proofs::Loops::as_long_fails, crate::proofs::Loops::joined_none))]
@@ -384,6 +408,7 @@ fn statement<'t, 'a>(
         Kind::Reserved(Word::While) => repetition(alloc, depth, first.position, rest),
         Kind::Reserved(Word::Do) => until(alloc, depth, first.position, rest),
         Kind::Reserved(Word::For) => iteration(alloc, depth, first.position, rest),
+        Kind::Reserved(Word::Objectloop) => traversal(alloc, depth, first.position, rest),
         Kind::Reserved(Word::Switch) => selection(alloc, depth, first.position, rest),
         _ => plain(alloc, depth, tokens),
     }

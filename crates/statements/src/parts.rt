@@ -7,11 +7,11 @@ ghost use Rattle.lexer.specs.Token.{Lexeme, lexemes};
 ghost use Rattle.expressions.specs.Tree.{expression_tree};
 ghost use Rattle.expressions.specs.Parse.{Gives, GoesOn, ReadOne};
 ghost use Rattle.statements.specs.Tree as tree;
-ghost use Rattle.statements.specs.Tree.{StatementTree, statement_tree, case_tree, other_tree, heading_tree};
+ghost use Rattle.statements.specs.Tree.{StatementTree, statement_tree, case_tree, other_tree, heading_tree, loop_tree};
 ghost use Rattle.statements.specs.Parse as spec;
 
 use crate::simple::ended;
-use crate::tree::{Heading, Range, Statement};
+use crate::tree::{Heading, Loop, Range, Statement};
 use expressions::{Expression, ParseError, expect};
 use lexer::{Position, Sign, Token};
 use std::alloc::Global;
@@ -137,6 +137,35 @@ pub fn for_loop<'t, 'a>(
 {
     match body {
         Ok((body, rest)) => in_box(alloc, Statement::For(position, heading, body), rest),
+        Err(e) => Err(e),
+    }
+}
+
+// `objectloop`, behind the statement inside it.
+fn object_loop<'a>(position: Position, over: Loop<'a>, body: Box<Statement<'a>>) -> Statement<'a>
+    ensures { statement_tree result ≡ tree.loop_over position (loop_tree over.entry) (statement_tree body.entry.value) }
+{
+    match over {
+        Loop::All(variable) => Statement::Each(variable, body),
+        Loop::In(variable, holder) => Statement::EachIn(position, variable, holder, body),
+        Loop::Where(variable, condition) => {
+            Statement::EachWhere(position, variable, condition, body)
+        }
+    }
+}
+
+/// `objectloop`.
+#[tactic(auto, using(expressions::proofs::GoesOn::part_fails, expressions::proofs::GoesOn::part_made))]
+pub fn loop_over<'t, 'a>(
+    alloc: Global,
+    position: Position,
+    over: Loop<'a>,
+    body: Result<(Box<Statement<'a>>, &'t [Token<'a>]), ParseError>,
+) -> Result<(Box<Statement<'a>>, &'t [Token<'a>]), ParseError>
+    ensures { GoesOn {A = StatementTree × List Lexeme} {B = StatementTree × List Lexeme} (λ x. (statement_tree x.0.value, lexemes x.1.now)) body.entry (λ x. (statement_tree x.0.value, lexemes x.1.now)) result (λ x. Ok (tree.loop_over position (loop_tree over.entry) x.0, x.1)) }
+{
+    match body {
+        Ok((body, rest)) => in_box(alloc, object_loop(position, over, body), rest),
         Err(e) => Err(e),
     }
 }

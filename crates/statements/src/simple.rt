@@ -12,12 +12,12 @@ ghost use Rattle.statements.specs.Tree.{statement_tree};
 ghost use Rattle.statements.specs.Parse as spec;
 
 use crate::items::items;
-use crate::names::named;
+use crate::names::{flags, named};
 use crate::parts::in_box;
 use crate::tree::Statement;
 use expressions::{
-    Expression, Fault, ParseError, expect, expression, fault_at, is_sign, open, peek, position,
-    skip,
+    Expression, Fault, ParseError, expect, expect_word, expression, fault_at, is_sign, open, peek,
+    position, skip,
 };
 use lexer::{Kind, Position, Sign, Token, Word};
 use std::alloc::Global;
@@ -158,6 +158,69 @@ fn read<'t, 'a>(
     ended(alloc, Statement::Read(text, words), rest)
 }
 
+/// What follows `give`, which stands at `position`.
+///
+/// # Errors
+///
+/// Those of `expression` and of `flags`, and `Fault::Grammar` where the `;` is missing.
+#[tactic(auto, unfolding(crate::specs::Parse::given))]
+fn given<'t, 'a>(
+    alloc: Global,
+    depth: usize,
+    position: Position,
+    tokens: &'t [Token<'a>],
+) -> Result<(Box<Statement<'a>>, &'t [Token<'a>]), ParseError>
+    ensures { Gives (λ x. (statement_tree x.0.value, lexemes x.1.now)) result (spec.given depth position (lexemes tokens.now)) }
+{
+    let (object, rest) = expression(alloc, depth, tokens)?;
+    match flags(alloc, rest) {
+        Ok((found, rest)) => ended(alloc, Statement::Give(position, object, found), rest),
+        Err(e) => Err(e),
+    }
+}
+
+/// What follows `move`, which stands at `position`.
+///
+/// # Errors
+///
+/// Those of `expression`, and `Fault::Grammar` where `to` or the `;` is missing.
+#[tactic(auto, unfolding(crate::specs::Parse::moved))]
+fn moved<'t, 'a>(
+    alloc: Global,
+    depth: usize,
+    position: Position,
+    tokens: &'t [Token<'a>],
+) -> Result<(Box<Statement<'a>>, &'t [Token<'a>]), ParseError>
+    ensures { Gives (λ x. (statement_tree x.0.value, lexemes x.1.now)) result (spec.moved depth position (lexemes tokens.now)) }
+{
+    let (object, rest) = expression(alloc, depth, tokens)?;
+    let rest = expect_word(Word::To, rest)?;
+    match expression(alloc, depth, rest) {
+        Ok((parent, rest)) => ended(alloc, Statement::Move(position, object, parent), rest),
+        Err(e) => Err(e),
+    }
+}
+
+/// What follows `remove`, which stands at `position`.
+///
+/// # Errors
+///
+/// Those of `expression`, and `Fault::Grammar` where the `;` is missing.
+#[tactic(auto, unfolding(crate::specs::Parse::removed))]
+fn removed<'t, 'a>(
+    alloc: Global,
+    depth: usize,
+    position: Position,
+    tokens: &'t [Token<'a>],
+) -> Result<(Box<Statement<'a>>, &'t [Token<'a>]), ParseError>
+    ensures { Gives (λ x. (statement_tree x.0.value, lexemes x.1.now)) result (spec.removed depth position (lexemes tokens.now)) }
+{
+    match expression(alloc, depth, tokens) {
+        Ok((object, rest)) => ended(alloc, Statement::Remove(position, object), rest),
+        Err(e) => Err(e),
+    }
+}
+
 /// Whether the expression can stand alone: parentheses apart, it is an assignment, a step or a call.
 pub fn has_effect(e: &Expression<'_>) -> bool
     ensures { result ≡ grammar.has_effect (expression_tree e.now) }
@@ -172,10 +235,16 @@ pub fn has_effect(e: &Expression<'_>) -> bool
         Expression::Word(_) => false,
         Expression::Named(_) => false,
         Expression::Index(_, _, _) => false,
+        Expression::RelativeOf(_, _) => false,
+        Expression::Property(_, _, _) => false,
+        Expression::PropertyLength(_, _) => false,
+        Expression::PropertyEntry(_, _, _) => false,
         Expression::Prefixed(_, _) => false,
         Expression::Chain(_, _, _, _) => false,
         Expression::Compare(_, _, _) => false,
         Expression::Equal(_, _, _, _) => false,
+        Expression::Contained(_, _, _) => false,
+        Expression::Tested(_, _, _) => false,
     }
 }
 
@@ -231,6 +300,9 @@ pub fn plain<'t, 'a>(
         Kind::Reserved(Word::Rfalse) => ended(alloc, Statement::ReturnFalse, rest),
         Kind::Reserved(Word::Quit) => ended(alloc, Statement::Quit, rest),
         Kind::Reserved(Word::Read) => read(alloc, rest),
+        Kind::Reserved(Word::Give) => given(alloc, depth, first.position, rest),
+        Kind::Reserved(Word::Move) => moved(alloc, depth, first.position, rest),
+        Kind::Reserved(Word::Remove) => removed(alloc, depth, first.position, rest),
         _ => alone(alloc, depth, tokens),
     }
 }

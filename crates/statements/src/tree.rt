@@ -32,6 +32,19 @@ pub struct Heading<'a> {
     pub behind: Option<Box<Expression<'a>>>,
 }
 
+/// What stands in the parentheses of an `objectloop`, which begins with its variable.
+#[derive(Drop)]
+pub enum Loop<'a> {
+    /// The variable alone: over all objects.
+    All(Name<'a>),
+
+    /// The variable, and the object whose children the loop goes over.
+    In(Name<'a>, Box<Expression<'a>>),
+
+    /// The variable, and the condition that begins with it.
+    Where(Name<'a>, Box<Expression<'a>>),
+}
+
 /// What `print` prints.
 #[derive(Drop)]
 pub enum PrintItem<'a> {
@@ -40,6 +53,9 @@ pub enum PrintItem<'a> {
 
     /// `(char)` and a value, with the position of the value's first token.
     Character(Position, Box<Expression<'a>>),
+
+    /// `(object)` and a value, with the position of the value's first token.
+    Object(Position, Box<Expression<'a>>),
 
     /// A value, printed as a signed number, with the position of its first token.
     Number(Position, Box<Expression<'a>>),
@@ -85,6 +101,23 @@ pub enum Statement<'a> {
 
     /// `read`: a line is read into the array of its text and the array of its words.
     Read(Name<'a>, Name<'a>),
+
+    /// `give`: an object, and attributes that it is given (true) or that are taken from it.
+    Give(Position, Box<Expression<'a>>, Vec<(bool, Name<'a>)>),
+
+    /// `move`: an object, and its new parent.
+    Move(Position, Box<Expression<'a>>, Box<Expression<'a>>),
+
+    Remove(Position, Box<Expression<'a>>),
+
+    /// `objectloop` over all objects: its variable, and what is done in each round.
+    Each(Name<'a>, Box<Statement<'a>>),
+
+    /// `objectloop` over the objects that stand in one: its variable, that object, and what is done in each round.
+    EachIn(Position, Name<'a>, Box<Expression<'a>>, Box<Statement<'a>>),
+
+    /// `objectloop` over all objects for which a condition holds, which begins with the name of its variable.
+    EachWhere(Position, Name<'a>, Box<Expression<'a>>, Box<Statement<'a>>),
 
     /// An assignment, a step or a call.
     Effect(Position, Box<Expression<'a>>),

@@ -126,8 +126,9 @@ module _ (accepted_programs : AcceptedPrograms) (printable_tokens : PrintableTok
   pub fits : Fits version (program_of c)
   fits = record {
     accepted = accepted;
+    printable = printable;
     placed = placed;
-    within = stories_are_short version (program_of c) placed small.all;
+    within = stories_are_short version (program_of c) accepted placed small.all;
   }
 
   pub compiled : StoriesHold → CodePlays → (bytes : List ℕ) → All (λ b. b < 256) bytes

@@ -21,7 +21,9 @@ use Rattle.items.specs.Items.{routine_items}
 use Rattle.meaning.specs.World.{words_of}
 use Rattle.meaning.specs.declared.cause.Cause.{Cause}
 use Rattle.meaning.specs.declared.cause.Cause.TheVariants as causes
-use Rattle.code.specs.Addresses.{Addresses, number_of}
+use Rattle.region.specs.Laws.{HoldsRows}
+use Rattle.region.specs.Rows.{rows_of, rows_bytes}
+use Rattle.code.specs.Addresses.{Addresses, Sizes, number_of}
 use Rattle.code.specs.Bytes.{code_size}
 use Rattle.code.specs.HeldProgram.{HoldsProgram, HoldsRoutine, HoldsText, fault_line, start_code, sizes_of}
 use Rattle.code.specs.HeldProgram.{offset_in}
@@ -31,7 +33,8 @@ use Rattle.story.specs.Layout.{greatest_word, low_bytes, routine_bytes, story_of
 use Rattle.story.specs.Laws.{IsShort, StoriesHold}
 use Rattle.story.proofs.Parts.{whole, HasPartAt, holds_first, parts_rise, parts_stand, addresses_count}
 use Rattle.story.proofs.Lengths.{routine_length, sizes_are}
-use Rattle.story.proofs.Low.{global_stands, arrays_hold, high_stands, start_stands}
+use Rattle.story.proofs.Low.{global_stands, arrays_hold, objects_hold, high_stands, start_stands}
+use Rattle.story.proofs.ObjectTables.{rows_sized}
 use Rattle.story.proofs.Reading.{Says, behind_header, says, header_read, laid_length, laid_out, laid_read, laid_keys}
 
 -- Packed addresses
@@ -113,7 +116,7 @@ text_long k within = subst (λ (ns : List ℕ). 0 < slice_index ns k) (sym text_
     go (suc (suc (suc (suc (suc (suc (suc zero))))))) h = omega arith
     go (suc (suc (suc (suc (suc (suc (suc (suc k)))))))) h = absurd (omega (arith, h))
 
-module _ (sizes : List ℕ) (a : Addresses) where
+module _ (sizes : Sizes) (a : Addresses) where
   abbrev pub parts_of : List RoutineOf → List (List ℕ)
   parts_of rs = map (routine_bytes sizes a) rs ++ fault_texts
 
@@ -285,7 +288,7 @@ module _ (version : Version) (p : ProgramOf) (story : List ℕ)
         short = small;
       }
 
-module _ (version : Version) (p : ProgramOf) where
+module _ (version : Version) (p : ProgramOf) (accepted : IsAccepted p) where
   abbrev a : Addresses
   a = addresses_in (scale_of version) p
 
@@ -301,16 +304,28 @@ module _ (version : Version) (p : ProgramOf) where
   body_stands : drop 64 story ≡ low_bytes p main ++ high
   body_stands = behind_header version p (low_bytes p main ++ high)
 
+  words : length p.defaults ≡ 63
+  words = accepted.defaults.0
+
   said : Says version p story
   said = says version p (low_bytes p main ++ high)
 
   long : routines_place p ≤ length story
-  long = omega (arith, laid_length version p main (parts_in version p))
+  long = omega (arith, laid_length version p main (parts_in version p) words)
 
-  holds : IsAccepted p → routines_place p ≤ greatest_word → All (IsShort (sizes_of p)) p.routines
+  -- the object table, between the arrays and static memory
+  objects : HoldsRows story p.objects p.defaults
+  objects = record {
+    stand = subst (λ at. Holds story at (rows_bytes (rows_of p.objects) p.defaults at)) (sym said.defaults)
+        (objects_hold story p high main words body_stands);
+    above = omega (arith, said.defaults);
+    below = omega (arith, said.defaults, said.static_base, rows_sized p.objects);
+  }
+
+  holds : routines_place p ≤ greatest_word → All (IsShort (sizes_of p)) p.routines
       → length story ≤ 65535 * scale_of version → All (λ b. b < 256) story → HoldsProgram story a p
-  holds accepted placed small short bytes =
-      let high_is : drop (routines_place p) story ≡ high = high_stands story p high main body_stands in
+  holds placed small short bytes =
+      let high_is : drop (routines_place p) story ≡ high = high_stands story p high main words body_stands in
       record {
         byte_each = bytes;
         routines = λ r within. routine_lies version p story said long short high_is r within
@@ -321,18 +336,19 @@ module _ (version : Version) (p : ProgramOf) where
             (text_lies version p story said long short high_is (number_of cause) (fault_line (words_of cause))
             (few_causes cause) (text_of cause));
         start = subst (λ at. Holds story at (start_code main)) (sym said.first_instruction)
-            (holds_first (start_place p) story (start_code main) high (start_stands story p high main body_stands));
+            (holds_first (start_place p) story (start_code main) high (start_stands story p high main words body_stands));
         start_above = omega (arith, said.first_instruction, said.static_base);
         globals_above = omega (arith, said.globals);
         globals_below = omega (arith, said.globals, said.static_base);
         static_below = omega (arith, said.static_base, long);
         globals = λ g within. ap (λ at. word_at story (at + 2 * g)) said.globals
-            ∙ global_stands story p high main body_stands g within (omega (arith, accepted.globals));
+            ∙ global_stands story p high main words body_stands g within (omega (arith, accepted.globals));
         first_array = arrays_place;
-        arrays = arrays_hold story p high main body_stands;
+        arrays = arrays_hold story p high main words body_stands;
         arrays_each = array_found arrays_place p.arrays;
         arrays_above = omega (arith, said.globals);
-        arrays_below = omega (arith, said.static_base);
+        objects_above = omega (arith, said.defaults);
+        objects = objects;
         dictionary_above = omega (arith, said.dictionary, said.static_base);
         dictionary_there = said.dictionary;
         keys = subst (λ at. ReadsKeys story at p.keys) (sym said.dictionary)

@@ -16,8 +16,8 @@ use Rattle.meaning.specs.Resolved.{ProgramOf}
 use Rattle.code.specs.Addresses.{Addresses}
 use Rattle.code.specs.HeldProgram.{start_code}
 use Rattle.code.specs.Written.{CodeOf}
-use Rattle.story.specs.Layout.{word, abbreviation_bytes, global_bytes, dictionary_bytes, low_bytes, aligned}
-use Rattle.story.specs.Layout.{parts_from, header_of}
+use Rattle.story.specs.Layout.{word, abbreviation_bytes, global_bytes, object_bytes, dictionary_bytes, low_bytes}
+use Rattle.story.specs.Layout.{aligned, parts_from, header_of}
 use Rattle.story.specs.Written.{bytes_in, code_part}
 use Rattle.story.proofs.Parts.{aligned_above}
 
@@ -99,10 +99,10 @@ all_joined a x c d e f g b b1 b2 b3 b4 b5 b6 b7 e1 e2 e3 e4 e5 e6 e7 =
 
 pub low_joined : (p : ProgramOf) (main : ℕ) (b b1 b2 b3 b4 b5 b6 b7 : List ℕ) → b1 ≡ b ++ abbreviation_bytes
     → b2 ≡ b1 ++ word 38053 → b3 ≡ b2 ++ global_bytes p.globals → b4 ≡ b3 ++ concat p.arrays
-    → b5 ≡ b4 ++ replicate 126 0 → b6 ≡ b5 ++ dictionary_bytes p.keys → b7 ≡ b6 ++ start_code main
+    → b5 ≡ b4 ++ object_bytes p → b6 ≡ b5 ++ dictionary_bytes p.keys → b7 ≡ b6 ++ start_code main
     → b7 ≡ b ++ low_bytes p main
 low_joined p main b b1 b2 b3 b4 b5 b6 b7 e1 e2 e3 e4 e5 e6 e7 =
-    all_joined abbreviation_bytes (encoded []) (global_bytes p.globals) (concat p.arrays) (replicate 126 0)
+    all_joined abbreviation_bytes (encoded []) (global_bytes p.globals) (concat p.arrays) (object_bytes p)
     (dictionary_bytes p.keys) (start_code main) b b1 b2 b3 b4 b5 b6 b7
     e1 (e2 ∙ ap (λ z. b1 ++ z) empty_text) e3 e4 e5 e6 e7
 

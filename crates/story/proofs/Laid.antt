@@ -14,7 +14,7 @@ use Rattle.meaning.specs.Resolved.{RoutineOf, ProgramOf}
 use Rattle.meaning.specs.Meaning.{routine_at}
 use Rattle.meaning.specs.Accepted.{IsRoutine}
 use Rattle.meaning.specs.Places.{arrays_place, routines_place, places_of}
-use Rattle.code.specs.Addresses.{Addresses}
+use Rattle.code.specs.Addresses.{Addresses, Sizes}
 use Rattle.code.specs.HeldProgram.{sizes_of}
 use Rattle.code.specs.Sizes.{routine_size}
 use Rattle.code.specs.Written.{CodeOf}
@@ -28,8 +28,8 @@ use Rattle.story.proofs.Lengths.{sizes_are}
 
 -- Codes
 
--- where arrays have these sizes
-module _ (sizes : List ℕ) where
+-- of a program of these sizes
+module _ (sizes : Sizes) where
   pub code_next : (rs : List RoutineOf) (i : ℕ) → i < length rs
       → take (i + 1) (map (code_of sizes) rs) ≡ take i (map (code_of sizes) rs) ++ code_of sizes (routine_at rs i) ∷ []
   code_next [] i h = absurd (omega arith)
@@ -175,10 +175,10 @@ abbrev high_parts : Addresses → ProgramOf → List (List ℕ)
 high_parts a p = map (routine_bytes (sizes_of p) a) p.routines ++ fault_texts
 
 -- how long the bytes behind the header are
-body_length : (version : Version) (p : ProgramOf)
+body_length : (version : Version) (p : ProgramOf) → length p.defaults ≡ 63
     → 64 + length (body_of version p) ≡ end_from (scale_of version) (routines_place p)
     (map (routine_size (sizes_of p)) p.routines ++ map length fault_texts)
-body_length version p =
+body_length version p words =
     let a : Addresses = addresses_in (scale_of version) p in
     let low : List ℕ = low_bytes p (slice_index a.routines p.main) in
     let high : List ℕ = parts_from (scale_of version) (routines_place p) (high_parts a p) in
@@ -187,7 +187,7 @@ body_length version p =
     ≡ routines_place p + length high =
     ap (end_from (scale_of version) (routines_place p)) (sym (sizes_are (sizes_of p) a p.routines))
     ∙ end_is version (routines_place p) (high_parts a p) in
-    omega (arith, end, low_length p (slice_index a.routines p.main), length-append low high)
+    omega (arith, end, low_length p (slice_index a.routines p.main) words, length-append low high)
 
 pub body_within : (version : Version) (p : ProgramOf) (body : List ℕ) → Fits version p → body ≡ body_of version p
     → 64 + length body ≤ 65535 * scale_of version
@@ -204,7 +204,12 @@ pub packed_within : (version : Version) (p : ProgramOf) (codes : List CodeOf) (t
     → end_from (scale_of version) (routines_place p) sizes ≤ 65535 * scale_of version
 packed_within version p codes texts sizes fits e t es =
     let end = ap (end_from (scale_of version) (routines_place p)) (es ∙ all_sizes p codes texts e t) in
-    omega (arith, end, body_length version p, body_within version p (body_of version p) fits refl)
+    omega (
+      arith,
+      end,
+      body_length version p fits.accepted.defaults.0,
+      body_within version p (body_of version p) fits refl,
+    )
 
 -- The addresses of a story
 
@@ -243,16 +248,16 @@ codes_counted p codes e = ap length e ∙ codes_count (sizes_of p) p.routines
 -- from what is put one behind another, with addresses that are the story's
 pub body_laid : (version : Version) (p : ProgramOf) (codes : List CodeOf) (a : Addresses)
     (texts : List (List ℕ)) (b b1 b2 b3 : List ℕ) (main : ℕ)
-    → codes ≡ codes_in p → texts ≡ fault_texts → a ≡ addresses_in (scale_of version) p
+    → length p.defaults ≡ 63 → codes ≡ codes_in p → texts ≡ fault_texts → a ≡ addresses_in (scale_of version) p
     → main ≡ slice_index a.routines p.main
     → b ≡ [] → b1 ≡ b ++ low_bytes p main
     → ((parts : List (List ℕ)) → b2 ++ parts_from (scale_of version) (64 + length b2) parts ≡ b1
     ++ parts_from (scale_of version) (64 + length b1) (map (code_part a) codes ++ parts))
     → b3 ≡ b2 ++ parts_from (scale_of version) (64 + length b2) texts
     → b3 ≡ body_of version p
-body_laid version p codes a texts b b1 b2 b3 main e t at em e0 e1 e2 e3 =
+body_laid version p codes a texts b b1 b2 b3 main words e t at em e0 e1 e2 e3 =
     let low : b1 ≡ low_bytes p main = e1 ∙ ap (λ z. z ++ low_bytes p main) e0 in
-    let begin : 64 + length b1 ≡ routines_place p = omega (arith, ap length low, low_length p main) in
+    let begin : 64 + length b1 ≡ routines_place p = omega (arith, ap length low, low_length p main words) in
     let parts : map (code_part a) codes ++ texts ≡ high_parts a p =
     ap (λ cs. map (code_part a) cs ++ texts) e ∙ parts_are (sizes_of p) a p.routines texts
     ∙ ap (λ ts. map (routine_bytes (sizes_of p) a) p.routines ++ ts) t in
@@ -265,7 +270,7 @@ body_laid version p codes a texts b b1 b2 b3 main e t at em e0 e1 e2 e3 =
 
 -- arrays that stand before the routines stand at addresses that are words
 pub arrays_within : (p : ProgramOf) (at : ℕ) (sizes : List ℕ) → routines_place p ≤ greatest_word → at ≡ arrays_place
-    → sizes ≡ sizes_of p → at + sum sizes ≤ greatest_word
+    → sizes ≡ map length p.arrays → at + sum sizes ≤ greatest_word
 arrays_within p at sizes placed here e = omega (arith, placed, here, ap sum e, sum_of_sizes p.arrays)
   where
     sum_of_sizes : (arrays : List (List ℕ)) → sum (map length arrays) ≡ length (concat arrays)

@@ -1,16 +1,16 @@
 -- How long code is, wherever it stands.
-use Rattle.std.proofs.Common.{◌≡◌, ℕ, List, [], ◌∷◌, ◌++◌, length, refl, ap, ◌∙◌, arith}
+use Rattle.std.proofs.Common.{◌≡◌, List, [], ◌∷◌, ◌++◌, length, refl, ap, ◌∙◌, arith}
 use Rattle.std.specs.Prelude.{map}
 use Rattle.meaning.specs.Resolved.{RoutineOf}
 use Rattle.items.specs.Items.{routine_items}
-use Rattle.code.specs.Addresses.{Addresses}
+use Rattle.code.specs.Addresses.{Addresses, Sizes}
 use Rattle.code.specs.Bytes.{code_size, code_bytes}
 use Rattle.code.specs.Sizes.{routine_size}
 use Rattle.code.proofs.Places.{code_length}
 use Rattle.story.specs.Layout.{fault_texts, routine_bytes}
 
--- where arrays have these sizes
-module _ (sizes : List ℕ) (a : Addresses) where
+-- of a program of these sizes
+module _ (sizes : Sizes) (a : Addresses) where
   pub routine_length : (r : RoutineOf) → length (routine_bytes sizes a r) ≡ routine_size sizes r
   routine_length r =
       let e : length (code_bytes sizes a (routine_items r)) ≡ code_size sizes (routine_items r) =

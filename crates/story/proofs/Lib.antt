@@ -1,5 +1,7 @@
 mod Parts
 mod Entries
+mod ObjectTables
+mod ObjectRows
 mod Low
 mod Lengths
 mod Samples

@@ -12,11 +12,14 @@ use Rattle.zcore.specs.Text.{Holds, encoded}
 use Rattle.zcore.specs.Words.{packed}
 use Rattle.meaning.specs.declared.places.Places.{Places}
 use Rattle.meaning.specs.Places.{arrays_place, defaults_place, dictionary_place, start_place, routines_place}
+use Rattle.meaning.specs.Places.{objects_size}
 use Rattle.meaning.specs.Resolved.{ProgramOf}
 use Rattle.code.specs.HeldProgram.{start_code}
-use Rattle.story.specs.Layout.{word, abbreviation_bytes, global_bytes, dictionary_bytes, low_bytes, header_of}
+use Rattle.story.specs.Layout.{word, abbreviation_bytes, global_bytes, object_bytes, dictionary_bytes, low_bytes}
+use Rattle.story.specs.Layout.{header_of}
 use Rattle.story.proofs.Parts.{behind_at, holds_first}
 use Rattle.story.proofs.Entries.{dictionary_length}
+use Rattle.story.proofs.ObjectTables.{objects_length}
 
 -- Words
 
@@ -76,18 +79,17 @@ start_length : (main : ℕ) → length (start_code main) ≡ 4
 unfolding bytes_of
 start_length main = refl
 
-pub low_length : (p : ProgramOf) (main : ℕ)
-    → length (low_bytes p main) ≡ 811 + length (concat p.arrays) + 9 * length p.keys
-low_length p main =
+pub low_length : (p : ProgramOf) (main : ℕ) → length p.defaults ≡ 63 → 64 + length (low_bytes p main) ≡ routines_place p
+low_length p main words =
     let globals : List ℕ = global_bytes p.globals in
     let arrays : List ℕ = concat p.arrays in
-    let filling : List ℕ = replicate 126 0 in
+    let objects : List ℕ = object_bytes p in
     let a = length-append first_bytes globals in
     let b = length-append (first_bytes ++ globals) arrays in
-    let c = length-append (first_bytes ++ globals ++ arrays) filling in
+    let c = length-append (first_bytes ++ globals ++ arrays) objects in
     let dictionary : List ℕ = dictionary_bytes p.keys in
-    let d = length-append (first_bytes ++ globals ++ arrays ++ filling) dictionary in
-    let e = length-append (first_bytes ++ globals ++ arrays ++ filling ++ dictionary) (start_code main) in
+    let d = length-append (first_bytes ++ globals ++ arrays ++ objects) dictionary in
+    let e = length-append (first_bytes ++ globals ++ arrays ++ objects ++ dictionary) (start_code main) in
     omega (
       arith,
       a,
@@ -97,7 +99,7 @@ low_length p main =
       e,
       first_length,
       globals_length p.globals,
-      length-replicate {A = ℕ} 126 0,
+      objects_length p words,
       dictionary_length p.keys,
       start_length main,
     )
@@ -111,15 +113,15 @@ regrouped a b c d e f g =
     ∙ append_assoc a b (c ++ (d ++ (e ++ (f ++ g))))
 
 module _ (story : List ℕ) (p : ProgramOf) (high : List ℕ) (main : ℕ)
-    (stands : drop 64 story ≡ low_bytes p main ++ high) where
+    (words : length p.defaults ≡ 63) (stands : drop 64 story ≡ low_bytes p main ++ high) where
   abbrev behind_dictionary : List ℕ
   behind_dictionary = start_code main ++ high
 
-  abbrev behind_defaults : List ℕ
-  behind_defaults = dictionary_bytes p.keys ++ behind_dictionary
+  abbrev behind_objects : List ℕ
+  behind_objects = dictionary_bytes p.keys ++ behind_dictionary
 
   abbrev behind_arrays : List ℕ
-  behind_arrays = replicate 126 0 ++ behind_defaults
+  behind_arrays = object_bytes p ++ behind_objects
 
   abbrev behind_globals : List ℕ
   behind_globals = concat p.arrays ++ behind_arrays
@@ -127,7 +129,7 @@ module _ (story : List ℕ) (p : ProgramOf) (high : List ℕ) (main : ℕ)
   globals_stand : drop 258 story ≡ global_bytes p.globals ++ behind_globals
   globals_stand =
       behind_at 64 194 story first_bytes (global_bytes p.globals ++ behind_globals)
-      (stands ∙ regrouped first_bytes (global_bytes p.globals) (concat p.arrays) (replicate 126 0)
+      (stands ∙ regrouped first_bytes (global_bytes p.globals) (concat p.arrays) (object_bytes p)
       (dictionary_bytes p.keys) (start_code main) high)
       first_length
 
@@ -139,15 +141,19 @@ module _ (story : List ℕ) (p : ProgramOf) (high : List ℕ) (main : ℕ)
   pub arrays_hold : Holds story arrays_place (concat p.arrays)
   arrays_hold = holds_first arrays_place story (concat p.arrays) behind_arrays arrays_stand
 
-  defaults_stand : drop (defaults_place p) story ≡ behind_arrays
-  defaults_stand =
+  objects_stand : drop (defaults_place p) story ≡ behind_arrays
+  objects_stand =
       behind_at arrays_place (length (concat p.arrays)) story (concat p.arrays) behind_arrays arrays_stand refl
 
-  pub dictionary_stands : drop (dictionary_place p) story ≡ behind_defaults
+  -- the objects, behind the arrays
+  pub objects_hold : Holds story (defaults_place p) (object_bytes p)
+  objects_hold = holds_first (defaults_place p) story (object_bytes p) behind_objects objects_stand
+
+  pub dictionary_stands : drop (dictionary_place p) story ≡ behind_objects
   dictionary_stands =
-      let place : defaults_place p + 126 ≡ dictionary_place p = omega arith in
-      subst (λ at. drop at story ≡ behind_defaults) place (behind_at (defaults_place p) 126 story (replicate 126 0)
-      behind_defaults defaults_stand (length-replicate {A = ℕ} 126 0))
+      let place : defaults_place p + (126 + objects_size p.objects) ≡ dictionary_place p = omega arith in
+      subst (λ at. drop at story ≡ behind_objects) place (behind_at (defaults_place p) (126 + objects_size p.objects)
+      story (object_bytes p) behind_objects objects_stand (objects_length p words))
 
   pub start_stands : drop (start_place p) story ≡ behind_dictionary
   start_stands =

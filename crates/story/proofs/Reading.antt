@@ -161,22 +161,22 @@ module _ (version : Version) (p : ProgramOf) (main : ℕ) (parts : List (List �
   abbrev pub laid_out : List ℕ
   laid_out = header_of version (places_of p) body ++ body
 
-  pub laid_length : length laid_out ≡ routines_place p + length high
-  laid_length =
-      omega (arith, whole_length version p body, length-append (low_bytes p main) high, low_length p main)
+  pub laid_length : length p.defaults ≡ 63 → length laid_out ≡ routines_place p + length high
+  laid_length words =
+      omega (arith, whole_length version p body, length-append (low_bytes p main) high, low_length p main words)
 
-  pub laid_multiple : whole version (length laid_out)
-  laid_multiple = subst (whole version) (sym laid_length) (parts_end version (routines_place p) parts)
+  pub laid_multiple : length p.defaults ≡ 63 → whole version (length laid_out)
+  laid_multiple words = subst (whole version) (sym (laid_length words)) (parts_end version (routines_place p) parts)
 
   pub laid_read : routines_place p ≤ greatest_word → IsAccepted p → Reads laid_out (Ok (header_read version p))
   laid_read placed accepted =
-      is_read version p laid_out (start_code main ++ high) (says version p body) laid_multiple placed
-      (omega (arith, laid_length)) accepted.keys accepted.ascending
-      (dictionary_stands laid_out p high main (behind_header version p body))
+      is_read version p laid_out (start_code main ++ high) (says version p body)
+      (laid_multiple accepted.defaults.0) placed (omega (arith, laid_length accepted.defaults.0)) accepted.keys accepted.ascending
+      (dictionary_stands laid_out p high main accepted.defaults.0 (behind_header version p body))
 
   -- the keys of the program
   pub laid_keys : routines_place p ≤ greatest_word → IsAccepted p → ReadsKeys laid_out (dictionary_place p) p.keys
   laid_keys placed accepted =
-      are_keys_read version p laid_out (start_code main ++ high) (says version p body) laid_multiple placed
-      (omega (arith, laid_length)) accepted.keys accepted.ascending
-      (dictionary_stands laid_out p high main (behind_header version p body))
+      are_keys_read version p laid_out (start_code main ++ high) (says version p body)
+      (laid_multiple accepted.defaults.0) placed (omega (arith, laid_length accepted.defaults.0)) accepted.keys accepted.ascending
+      (dictionary_stands laid_out p high main accepted.defaults.0 (behind_header version p body))

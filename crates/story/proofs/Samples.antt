@@ -56,11 +56,16 @@ texts : fault_texts
 unfolding encoded packed spelling_of
 texts = refl
 
+abbrev no_defaults : List ℕ
+no_defaults = replicate 63 0
+
 -- `[ Main; ];`: one routine that does nothing, of 2 bytes: no locals, rtrue
 abbrev nothing : ProgramOf
 nothing = record {
   globals = [];
   arrays = [];
+  defaults = no_defaults;
+  objects = [];
   keys = [];
   routines = record { locals = 0; body = stop } ∷ [];
   main = 0;
@@ -138,6 +143,8 @@ abbrev division : ProgramOf
 division = record {
   globals = 7 ∷ 1000 ∷ [];
   arrays = [];
+  defaults = no_defaults;
+  objects = [];
   keys = [];
   routines = record {
     locals = 0;
@@ -183,6 +190,8 @@ abbrev calling : ProgramOf
 calling = record {
   globals = [];
   arrays = [];
+  defaults = no_defaults;
+  objects = [];
   keys = [];
   routines = record { locals = 0; body = next (effect (calls 1 (more (number 3) none))) stop }
       ∷ record {
@@ -224,6 +233,8 @@ abbrev arrays : ProgramOf
 arrays = record {
   globals = [];
   arrays = (0 ∷ 1 ∷ 0 ∷ 2 ∷ 1 ∷ 44 ∷ []) ∷ (2 ∷ 97 ∷ 98 ∷ []) ∷ (0 ∷ 2 ∷ 0 ∷ 5 ∷ 0 ∷ 6 ∷ []) ∷ [];
+  defaults = no_defaults;
+  objects = [];
   keys = [];
   routines = record {
     locals = 0;
@@ -265,11 +276,52 @@ arrays_meant : (meaning arrays 1000000 []).texts ≡ codes "30025" ∷ []
 unfolding meaning signed_text decimal
 arrays_meant = refl
 
+-- an object within another:
+--     Property weight 10; Object rock "rock" with weight 5;
+--     Object -> lamp "Lamp" with name 7, weight 7 1000; [ Main; ];
+-- where `name` is property 1 and `weight` 2, and the lamp has attributes 9 and 47
+abbrev objects : ProgramOf
+objects = record {
+  globals = [];
+  arrays = [];
+  defaults = 0 ∷ 10 ∷ replicate 61 0;
+  objects =
+      record { parent = 0; name = codes "rock"; attributes = []; properties = (2, 5 ∷ []) ∷ [] }
+      ∷ record {
+        parent = 1;
+        name = codes "Lamp";
+        attributes = 9 ∷ 47 ∷ [];
+        properties = (2, 7 ∷ 1000 ∷ []) ∷ (1, 7 ∷ []) ∷ [];
+      } ∷ [];
+  keys = [];
+  routines = record { locals = 0; body = stop } ∷ [];
+  main = 0;
+}
+
+-- the defaults at 738; the entries at 864 and 878, with parent, sibling, child and property table; the tables at 892,
+-- where the name `rock` has two words, and at 901, where `Lamp` has two; and the dictionary, which begins at 916
+objects_laid_out : take 185 (drop 738 (story_of V5 objects))
+    ≡ (0 ∷ 0 ∷ 0 ∷ 10 ∷ []) ++ replicate 122 0
+    ++ (0 ∷ 0 ∷ 0 ∷ 0 ∷ 0 ∷ 0 ∷ 0 ∷ 0 ∷ 0 ∷ 0 ∷ 0 ∷ 2 ∷ 3 ∷ 124 ∷ [])
+    ++ (0 ∷ 64 ∷ 0 ∷ 0 ∷ 0 ∷ 1 ∷ 0 ∷ 1 ∷ 0 ∷ 0 ∷ 0 ∷ 0 ∷ 3 ∷ 133 ∷ [])
+    ++ (2 ∷ 94 ∷ 136 ∷ 192 ∷ 165 ∷ 66 ∷ 0 ∷ 5 ∷ 0 ∷ [])
+    ++ (2 ∷ 18 ∷ 38 ∷ 202 ∷ 165 ∷ 130 ∷ 132 ∷ 0 ∷ 7 ∷ 3 ∷ 232 ∷ 65 ∷ 0 ∷ 7 ∷ 0 ∷ [])
+    ++ (3 ∷ 46 ∷ 44 ∷ 34 ∷ 9 ∷ 0 ∷ 0 ∷ [])
+unfolding story_of bytes_of encoded packed spelling_of
+objects_laid_out = refl
+
+-- the code that begins at 923, the dictionary at 916, the defaults at 738
+objects_header : take 12 (drop 4 (story_of V5 objects)) ≡ 3 ∷ 155 ∷ 3 ∷ 155 ∷ 3 ∷ 148 ∷ 2 ∷ 226 ∷ 1 ∷ 2 ∷ 3 ∷ 148 ∷ []
+unfolding story_of bytes_of encoded packed spelling_of
+objects_header = refl
+
 -- `[ Main; print 'take', 'box'; ];`, of which `box` has the smaller key
 abbrev words : ProgramOf
 words = record {
   globals = [];
   arrays = [];
+  defaults = no_defaults;
+  objects = [];
   keys = 0x1E9D14A594A5 ∷ 0x64D028A594A5 ∷ [];
   routines = record {
     locals = 0;

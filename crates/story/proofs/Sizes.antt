@@ -9,6 +9,7 @@ use Rattle.meaning.specs.Resolved.{RoutineOf, ProgramOf}
 use Rattle.meaning.specs.Accepted.{IsAccepted}
 use Rattle.meaning.specs.Places.{routines_place}
 use Rattle.meaning.specs.Sizes.{greatest_weight}
+use Rattle.code.specs.Addresses.{Sizes}
 use Rattle.code.specs.HeldProgram.{sizes_of}
 use Rattle.code.specs.Sizes.{routine_size, routines_size}
 use Rattle.story.specs.Layout.{addresses_in, fault_texts, greatest_word, parts_from, story_of}
@@ -19,7 +20,7 @@ use Rattle.story.proofs.Reading.{laid_length}
 use Rattle.story.proofs.Holding.{parts_of, text_lengths}
 
 -- room for routines and then for the texts of faults
-room_is : (sizes : List ℕ) (rs : List RoutineOf)
+room_is : (sizes : Sizes) (rs : List RoutineOf)
     → room_for (map (routine_size sizes) rs ++ map length fault_texts) ≡ routines_size sizes rs + 273
 room_is sizes [] = ap room_for text_lengths
 room_is sizes (r ∷ rs) =
@@ -34,10 +35,11 @@ fits V8 place weight placed light = omega (arith, placed, light)
 
 pub stories_are_short : StoriesAreShort
 unfolding story_of
-stories_are_short version p placed light =
+stories_are_short version p accepted placed light =
     let a = addresses_in (scale_of version) p in
     let sizes = sizes_of p in
-    let long = laid_length version p (slice_index a.routines p.main) (parts_of sizes a p.routines) in
+    let long = laid_length version p (slice_index a.routines p.main) (parts_of sizes a p.routines)
+    accepted.defaults.0 in
     let parts : length (parts_from (scale_of version) (routines_place p) (parts_of sizes a p.routines))
     ≤ room_for (map length (parts_of sizes a p.routines)) =
     parts_short version (routines_place p) (parts_of sizes a p.routines) in
@@ -52,7 +54,7 @@ stories_are_short version p placed light =
     )
 
 -- routines that weigh at most 32,000 have code that jumps reach
-pub all_short : (sizes : List ℕ) (rs : List RoutineOf)
+pub all_short : (sizes : Sizes) (rs : List RoutineOf)
     → All (λ (r : RoutineOf). routine_size sizes r + 7 ≤ 32000) rs → All (IsShort sizes) rs
 all_short sizes rs small k d within =
     let h : routine_size sizes (slice_index_or rs k d) + 7 ≤ 32000 = small k d within in
@@ -68,6 +70,6 @@ is_story version p accepted placed small light bytes =
       accepted = accepted;
       short = all_short (sizes_of p) p.routines small;
       placed = placed;
-      within = stories_are_short version p placed light;
+      within = stories_are_short version p accepted placed light;
       bytes = bytes;
     }

@@ -1,5 +1,5 @@
 -- The laws of stories that functions of `laws` carry as their contracts.
-use Rattle.std.specs.Prelude.{◌<◌, ◌≤◌, ℕ, List, length, Ok}
+use Rattle.std.specs.Prelude.{◌<◌, ◌≤◌, length, Ok}
 use Rattle.std.specs.List.{All}
 use Rattle.zcore.specs.declared.header.Version.{Version}
 use Rattle.zcore.specs.declared.header.Header.{Header}
@@ -9,13 +9,14 @@ use Rattle.meaning.specs.Accepted.{IsAccepted}
 use Rattle.meaning.specs.Sizes.{greatest_weight}
 use Rattle.meaning.specs.Places.{routines_place}
 use Rattle.items.specs.Items.{routine_items}
+use Rattle.code.specs.Addresses.{Sizes}
 use Rattle.code.specs.Bytes.{code_size}
 use Rattle.code.specs.Sizes.{routines_size}
 use Rattle.code.specs.HeldProgram.{sizes_of, HoldsProgram}
 use Rattle.story.specs.Layout.{addresses_in, greatest_word, greatest_length, story_of}
 
--- the code of a routine can be reached by jumps, where arrays have these sizes
-abbrev pub IsShort : List ℕ → RoutineOf → Type 0
+-- the code of a routine of a program of these sizes can be reached by jumps
+abbrev pub IsShort : Sizes → RoutineOf → Type 0
 IsShort sizes r = code_size sizes (routine_items r) ≤ 32000
 
 -- a story whose addresses and packed addresses are words, and whose bytes are bytes
@@ -33,10 +34,10 @@ StoriesHold =
     → ((header : Header) × Reads (story_of version p) (Ok header))
     × HoldsProgram (story_of version p) (addresses_in (scale_of version) p) p
 
--- the packed addresses of a story are words where the addresses of all that stands before its routines are, and its code
--- weighs no more than a source may
+-- the packed addresses of an accepted program's story are words where the addresses of all that stands before its
+-- routines are, and its code weighs no more than a source may
 abbrev pub StoriesAreShort : Type 0
 StoriesAreShort =
-    (version : Version) (p : ProgramOf) → routines_place p ≤ greatest_word
+    (version : Version) (p : ProgramOf) → IsAccepted p → routines_place p ≤ greatest_word
     → routines_size (sizes_of p) p.routines ≤ greatest_weight version
     → length (story_of version p) ≤ greatest_length version

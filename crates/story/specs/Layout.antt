@@ -12,11 +12,12 @@ use Rattle.zcore.specs.Text.{encoded}
 use Rattle.tables.specs.Dictionary as tables
 use Rattle.meaning.specs.declared.places.Places.{Places}
 use Rattle.meaning.specs.Places.{header_size, abbreviation_count, abbreviations_place, empty_text_place, global_count}
-use Rattle.meaning.specs.Places.{arrays_place, default_count, routines_place, places_of}
+use Rattle.meaning.specs.Places.{arrays_place, defaults_place, routines_place, places_of}
 use Rattle.meaning.specs.Resolved.{RoutineOf, ProgramOf}
 use Rattle.meaning.specs.World.{words_of}
 use Rattle.items.specs.Items.{routine_items}
-use Rattle.code.specs.Addresses.{Addresses, all_causes}
+use Rattle.region.specs.Rows.{rows_of, rows_bytes}
+use Rattle.code.specs.Addresses.{Addresses, Sizes, all_causes}
 use Rattle.code.specs.Bytes.{code_bytes}
 use Rattle.code.specs.Sizes.{routine_size}
 use Rattle.code.specs.HeldProgram.{start_code, fault_line, sizes_of}
@@ -53,10 +54,14 @@ entries_bytes keys = flat_map tables.entry_bytes (map key_bytes keys)
 abbrev pub dictionary_bytes : List ℕ → List ℕ
 dictionary_bytes keys = tables.dictionary_bytes (map key_bytes keys)
 
+-- property defaults, the entries of objects, and their property tables (12.2 to 12.4)
+abbrev pub object_bytes : ProgramOf → List ℕ
+object_bytes p = rows_bytes (rows_of p.objects) p.defaults (defaults_place p)
+
 -- the arrays stand one behind another
 abbrev pub low_bytes : ProgramOf → ℕ → List ℕ
 low_bytes p main =
-    abbreviation_bytes ++ encoded [] ++ global_bytes p.globals ++ concat p.arrays ++ replicate (2 * default_count) 0
+    abbreviation_bytes ++ encoded [] ++ global_bytes p.globals ++ concat p.arrays ++ object_bytes p
     ++ dictionary_bytes p.keys ++ start_code main
 
 -- Parts at packed addresses
@@ -80,8 +85,8 @@ parts_from scale at (part ∷ parts) =
 abbrev pub fault_texts : List (List ℕ)
 fault_texts = map (λ cause. encoded (fault_line (words_of cause))) all_causes
 
--- a byte with the number of locals, and the code (5.2), where arrays have these sizes
-abbrev pub routine_bytes : List ℕ → Addresses → RoutineOf → List ℕ
+-- a byte with the number of locals, and the code (5.2), of a program of these sizes
+abbrev pub routine_bytes : Sizes → Addresses → RoutineOf → List ℕ
 routine_bytes sizes a r = r.locals ∷ code_bytes sizes a (routine_items r)
 
 abbrev pub packed_addresses : ℕ → ProgramOf → List ℕ
@@ -91,7 +96,7 @@ packed_addresses scale p =
 
 -- an array may stand at every address
 abbrev pub array_addresses : ProgramOf → List ℕ
-array_addresses p = addresses_from 1 arrays_place (sizes_of p)
+array_addresses p = addresses_from 1 arrays_place (map length p.arrays)
 
 abbrev pub addresses_in : ℕ → ProgramOf → Addresses
 addresses_in scale p = record {

@@ -1,13 +1,15 @@
 -- What the values of the code stand for.
-use Rattle.std.specs.Prelude.{◌+◌, ◌/◌, ◌≤◌, ◌<◌, ℕ, List, [], ◌∷◌, length, map}
+use Rattle.std.specs.Prelude.{◌≡◌, ◌+◌, ◌/◌, ◌≤◌, ◌<◌, ℕ, List, [], ◌∷◌, length, map}
 use Rattle.std.specs.Global.{Vec}
 use Rattle.zcore.specs.declared.header.Version.{Version}
 use Rattle.meaning.specs.declared.places.Places.{Places}
 use Rattle.meaning.specs.Places.{routines_place}
 use Rattle.meaning.specs.Resolved.{RoutineOf, ProgramOf}
 use Rattle.meaning.specs.Accepted.{IsAccepted}
+use Rattle.meaning.specs.Printable.{HasPrintableTexts}
 use Rattle.items.specs.Items.{routine_items}
-use Rattle.code.specs.Addresses.{Addresses}
+use Rattle.region.specs.Laws.{AreProper}
+use Rattle.code.specs.Addresses.{Addresses, Sizes}
 use Rattle.code.specs.Bytes.{code_size, code_bytes}
 use Rattle.code.specs.Written.{CodeOf}
 use Rattle.story.specs.Layout.{aligned, addresses_from, greatest_word, greatest_length, story_of}
@@ -15,8 +17,16 @@ use Rattle.story.specs.Layout.{aligned, addresses_from, greatest_word, greatest_
 -- a program that a story of this version can hold
 pub record Fits (version : Version) (p : ProgramOf) : Type 0 where
   pub accepted : IsAccepted p
+  pub printable : HasPrintableTexts p
   pub placed : routines_place p ≤ greatest_word
   pub within : length (story_of version p) ≤ greatest_length version
+
+-- a program whose objects a story can hold
+pub record ObjectsFit (p : ProgramOf) : Type 0 where
+  pub few : length p.objects ≤ 2000
+  pub proper : AreProper p.objects
+  pub defaults : length p.defaults ≡ 63
+  pub placed : routines_place p ≤ greatest_word
 
 -- the places that a header tells
 pub record AreWords (at : Places) : Type 0 where
@@ -26,7 +36,7 @@ pub record AreWords (at : Places) : Type 0 where
   pub start : at.start < 65536
 
 -- the code of a routine, ready to be written
-abbrev pub code_of : List ℕ → RoutineOf → CodeOf
+abbrev pub code_of : Sizes → RoutineOf → CodeOf
 code_of sizes r = record { locals = r.locals; sizes = sizes; items = routine_items r }
 
 -- the number of its locals is a byte

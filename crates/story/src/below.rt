@@ -6,11 +6,13 @@ ghost use Rattle.code.specs.HeldProgram.{start_code};
 ghost use Rattle.meaning.specs.Places as places;
 ghost use Rattle.meaning.specs.Places.{global_count};
 ghost use Rattle.meaning.specs.Resolved.{program_of};
+ghost use Rattle.story.specs.Written.{ObjectsFit};
 ghost use Rattle.story.specs.Layout.{dictionary_bytes, entries_bytes, global_bytes, greatest_word, key_bytes, low_bytes};
 
+use crate::objects::put_objects;
 use crate::words::{put_word, put_words, put_zeros};
 use meaning::{Checked, part_places};
-use std::alloc::AllocError;
+use std::alloc::{AllocError, Global};
 
 /// The table has as many words.
 const ABBREVIATIONS: usize = 96;
@@ -23,9 +25,6 @@ const NO_CHARACTERS: u16 = 0x94A5;
 
 /// Words of globals (section 6.2).
 const GLOBALS: usize = 240;
-
-/// Bytes of property defaults, of which there are 63 words (section 12.2).
-const DEFAULTS: usize = 126;
 
 /// `call_1n` with a large constant (section 14).
 const CALL: u8 = 0x8F;
@@ -85,14 +84,21 @@ fn put_start(bytes: &mut Vec<u8>, main: u16) -> Result<(), AllocError>
 
 /// Where the arrays stand: behind the globals.
 pub fn arrays_place(checked: &Checked<'_>) -> usize
+    requires { places.routines_place (program_of checked.now) ≤ greatest_word }
     ensures { result ≡ places.arrays_place }
 {
     part_places(checked).globals + 2 * GLOBALS
 }
 
 /// All that stands between the header and the routines.
-pub fn put_low(bytes: &mut Vec<u8>, checked: &Checked<'_>, main: u16) -> Result<(), AllocError>
+pub fn put_low(
+    alloc: Global,
+    bytes: &mut Vec<u8>,
+    checked: &Checked<'_>,
+    main: u16,
+) -> Result<(), AllocError>
     requires globals { length checked.now.globals ≤ global_count }
+    requires objects { ObjectsFit (program_of checked.now) }
     requires keys { length checked.now.keys ≤ greatest_word }
     ensures { OnOk result (bytes.new.items ≡ bytes.old.items ++ low_bytes (program_of checked.now) main) }
 {
@@ -100,7 +106,7 @@ pub fn put_low(bytes: &mut Vec<u8>, checked: &Checked<'_>, main: u16) -> Result<
     put_word(bytes, NO_CHARACTERS)?;
     put_globals(bytes, checked.globals())?;
     bytes.extend_from_slice(checked.array_bytes())?;
-    put_zeros(bytes, DEFAULTS)?;
+    put_objects(alloc, bytes, checked)?;
     put_dictionary(bytes, checked.keys())?;
     put_start(bytes, main)?;
     Ok(())

@@ -5,10 +5,11 @@ mod below;
 mod header;
 mod high;
 mod laws;
+mod objects;
 mod packed;
 mod story;
 mod words;
 mod write;
 
 pub use laws::{stories_are_short, stories_hold};
-pub use story::{Story, compile};
+pub use story::{Story, compile, compile_for};

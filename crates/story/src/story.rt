@@ -57,17 +57,29 @@ impl Story {
     }
 }
 
-/// The story of a source, in version 5: its header is read, and on every fuel and all lines its turns print what the
+/// The story of a source, in version 5, as [`compile_for`] makes it.
+///
+/// # Errors
+///
+/// Those of [`compile_for`], with E31 where the source weighs more than a story of version 5 holds.
+pub fn compile(alloc: Global, source: &[u8]) -> Result<Story, SourceFault>
+    ensures { Compiles V5 source.now result }
+{
+    compile_for(alloc, source, Version::V5)
+}
+
+/// The story of a source, in a version: its header is read, and on every fuel and all lines its turns print what the
 /// source means.
 ///
 /// # Errors
 ///
 /// The fault by which the source is refused, that of the earliest part that finds one, with its line: E01 to E04 where
 /// the bytes are no tokens, E10 where the tokens are no program, E05 where the program is nested more than 100 deep,
-/// E20 to E29 where it breaks a rule, and E30 to E32 where it is too large; E30 and E31 with line 0. E99, with line 0,
+/// E20 to E29 where it breaks a rule, and E30 to E32 where it is too large; E30 and E31 with line 0, and E31 by the
+/// version. E99, with line 0,
 /// where a growth of memory was refused.
-pub fn compile(alloc: Global, source: &[u8]) -> Result<Story, SourceFault>
-    ensures { Compiles V5 source.now result }
+pub fn compile_for(alloc: Global, source: &[u8], version: Version) -> Result<Story, SourceFault>
+    ensures { Compiles version source.now result }
 {
     accepted_programs();
     printable_tokens();
@@ -80,7 +92,7 @@ pub fn compile(alloc: Global, source: &[u8]) -> Result<Story, SourceFault>
     let tokens = lex(alloc, source)?;
     let program = parse(alloc, &tokens)?;
     let checked = check(alloc, program)?;
-    test_sizes(&checked, Version::V5)?;
-    let bytes = write_story(alloc, &checked, Version::V5)?;
+    test_sizes(&checked, version)?;
+    let bytes = write_story(alloc, &checked, version)?;
     Ok(Story::of_bytes(bytes))
 }

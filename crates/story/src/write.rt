@@ -106,7 +106,7 @@ fn body_of(alloc: Global, version: Version, checked: &Checked<'_>) -> Result<Vec
     let arrays = array_addresses(alloc, arrays_place(checked), checked.array_sizes())?;
     let addresses = addresses_in(&packed, codes.len(), &arrays);
     let mut body = Vec::new(alloc);
-    put_low(&mut body, checked, packed[checked.main()])?;
+    put_low(alloc, &mut body, checked, packed[checked.main()])?;
     put_routines(&mut body, version, &codes, &addresses)?;
     put_texts(&mut body, version, &texts)?;
     Ok(body)

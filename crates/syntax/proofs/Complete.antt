@@ -8,74 +8,26 @@ use Rattle.lexer.specs.Token.{Lexeme, name, reserved, sign, end}
 use Rattle.expressions.specs.declared.error.Fault.{Fault}
 use Rattle.expressions.specs.declared.error.Fault.TheVariants.{Deep}
 use Rattle.expressions.specs.Tree.{NameTree}
-use Rattle.expressions.specs.Parse.{head, is_name, expect}
+use Rattle.expressions.specs.Parse.{head, expect}
 use Rattle.expressions.proofs.Limited.{Limited, then, at_once}
 use Rattle.statements.specs.Tree.{LiteralTree, StatementTrees}
 use Rattle.statements.specs.Nesting.{begins_statement}
-use Rattle.statements.specs.Parse.{as_long, repeated, named, known_value, begins_value, statements}
+use Rattle.statements.specs.Parse.{repeated, named, known_value, begins_value, statements}
 use Rattle.statements.proofs.Complete.{listed, listed_back, at_Ss, repeated_stop, repeated_next}
 use Rattle.statements.proofs.Follow.{short_Ss}
 use Rattle.statements.proofs.KnownValues.{known_read, short_K, begins_K}
 use Rattle.syntax.specs.declared.tree.ArrayKind.{ArrayKind}
-use Rattle.syntax.specs.Tree.{ValueTree, RoutineTree, DirectiveTree, global, constant, array, routine}
-use Rattle.syntax.specs.Tree.{ProgramTree}
-use Rattle.syntax.specs.Grammar.{weight_of, IsNames, names_stop, names_next, IsValue, v_value, IsValues, values_stop}
-use Rattle.syntax.specs.Grammar.{values_next, kind_of, IsDirective, d_global, d_global_value, d_constant, d_array}
-use Rattle.syntax.specs.Grammar.{d_routine, IsDirectives, directives_stop, directives_next, IsProgram}
-use Rattle.syntax.specs.Grammar.{program as program_is, directive_nesting, directives_nesting, program_nesting}
-use Rattle.syntax.specs.Parse.{names, placed, values, kind, array_behind, ended}
-use Rattle.syntax.specs.Parse.{global_behind, constant_behind, goes_on, routine_at, directive, directives, program}
-
--- ---- names
-
-turns_Names : {ts r : List Lexeme} {ns : List NameTree} → IsNames ts ns r → is_name (head r) ≡ false → (n : ℕ)
-    → length ts ≤ n → repeated is_name named n ts ≡ Ok (ns, r)
-unfolding repeated as_long named
-turns_Names names_stop e zero le = refl
-turns_Names names_stop e (suc n) le = rw e refl
-turns_Names (names_next a) e zero le = absurd (omega arith)
-turns_Names (names_next a) e (suc n) le = rw (turns_Names a e n (omega arith)) refl
-
-names_read : {r : List Lexeme} {ns : List NameTree} (ts : List Lexeme) → IsNames ts ns r → is_name (head r) ≡ false
-    → names ts ≡ Ok (ns, r)
-unfolding names
-names_read ts a e = turns_Names a e (length ts) (omega arith)
-
-short_Names : {ts r : List Lexeme} {ns : List NameTree} → IsNames ts ns r → length r ≤ length ts
-short_Names names_stop = omega arith
-short_Names (names_next a) = omega (arith, short_Names a)
-
--- ---- values of arrays
-
-begins_Value : {ts r : List Lexeme} {v : ValueTree} → IsValue ts v r → begins_value (head ts) ≡ true
-begins_Value (v_value a) = begins_K a
-
-placed_read : {ts r : List Lexeme} {v : ValueTree} → IsValue ts v r → placed ts ≡ Ok (v, r)
-unfolding placed
-placed_read (v_value a) = rw (known_read a) refl
-
-short_Value : {ts r : List Lexeme} {v : ValueTree} → IsValue ts v r → length r < length ts
-short_Value (v_value a) = short_K a
-
-short_Values : {ts r : List Lexeme} {vs : List ValueTree} → IsValues ts vs r → length r ≤ length ts
-short_Values values_stop = omega arith
-short_Values (values_next a b) = omega (arith, short_Value a, short_Values b)
-
-turns_Values : {ts r : List Lexeme} {vs : List ValueTree} → IsValues ts vs r → begins_value (head r) ≡ false
-    → (n : ℕ) → length ts ≤ n → repeated begins_value placed n ts ≡ Ok (vs, r)
-unfolding repeated as_long
-turns_Values values_stop e zero le = refl
-turns_Values values_stop e (suc n) le = rw e refl
-turns_Values (values_next a b) e zero le = absurd (omega (arith, short_Value a))
-turns_Values (values_next a b) e (suc n) le =
-    let rest = turns_Values b e n (omega (arith, short_Value a)) in
-    rw (begins_Value a, placed_read a, rest) refl
-
-values_read : {ts r : List Lexeme} {vs : List ValueTree} → IsValues ts vs r → 0 < length vs
-    → begins_value (head r) ≡ false → values ts ≡ Ok (vs, r)
-unfolding values
-values_read values_stop lt e = absurd (omega arith)
-values_read (values_next {m = m} a b) lt e = rw (placed_read a, turns_Values b e (length m) (omega arith)) refl
+use Rattle.syntax.specs.Tree.{ValueTree, ObjectTree, RoutineTree, DirectiveTree, global, constant, array, attribute}
+use Rattle.syntax.specs.Tree.{property, object, routine, ProgramTree}
+use Rattle.syntax.specs.Grammar.{weight_of, kind_of, IsDirective, d_global, d_global_value, d_constant, d_array}
+use Rattle.syntax.specs.Grammar.{d_attribute, d_property, d_property_value, d_object, d_routine, IsDirectives}
+use Rattle.syntax.specs.Grammar.{directives_stop, directives_next, IsProgram, program as program_is}
+use Rattle.syntax.specs.Grammar.{directive_nesting, directives_nesting, program_nesting}
+use Rattle.syntax.specs.Parse.{names, values, kind, array_behind, ended, global_behind, constant_behind}
+use Rattle.syntax.specs.Parse.{attribute_behind, property_behind, object_behind, worded, goes_on, routine_at, directive}
+use Rattle.syntax.specs.Parse.{directives, program}
+use Rattle.syntax.proofs.Lists.{names_read, short_Names, short_Values, values_read}
+use Rattle.syntax.proofs.ObjectsRead.{short_Head, short_Properties, short_Attributes, object_read}
 
 -- ---- directives
 
@@ -84,6 +36,10 @@ short_Directive d_global = omega arith
 short_Directive (d_global_value k) = omega (arith, short_K k)
 short_Directive (d_constant k) = omega (arith, short_K k)
 short_Directive (d_array o a lt) = omega (arith, short_Values a)
+short_Directive d_attribute = omega arith
+short_Directive d_property = omega arith
+short_Directive (d_property_value k) = omega (arith, short_K k)
+short_Directive (d_object h a b) = omega (arith, short_Head h, short_Properties a, short_Attributes b)
 short_Directive (d_routine n a) = omega (arith, short_Names n, short_Ss a)
 
 first_Directive : {ts r : List Lexeme} {x : DirectiveTree} → IsDirective ts x r → goes_on (head ts) ≡ true
@@ -91,6 +47,10 @@ first_Directive d_global = refl
 first_Directive (d_global_value k) = refl
 first_Directive (d_constant k) = refl
 first_Directive (d_array o a lt) = refl
+first_Directive d_attribute = refl
+first_Directive d_property = refl
+first_Directive (d_property_value k) = refl
+first_Directive (d_object h a b) = refl
 first_Directive (d_routine n a) = refl
 
 bracket_stops : (p : Position) → begins_statement (sign s.CloseBracket p) ≡ false
@@ -101,29 +61,53 @@ module _ (d : ℕ) where
   step_global : (p q o : Position) (n : List ℕ) (r : List Lexeme)
       → Limited (directive d (reserved w.Global p ∷ name n q ∷ sign s.Semicolon o ∷ r)) d 0
       (global (record { text = n; position = q }) None) r
-  unfolding directive global_behind named ended expect
+  unfolding directive worded global_behind named ended expect
   step_global p q o n r = at_once refl
 
   step_global_value : (p q o l : Position) (n : List ℕ) (k : LiteralTree) (m r : List Lexeme)
       → known_value m ≡ Ok (k, sign s.Semicolon l ∷ r)
       → Limited (directive d (reserved w.Global p ∷ name n q ∷ sign s.Assign o ∷ m)) d 0
       (global (record { text = n; position = q }) (Some k)) r
-  unfolding directive global_behind named ended expect
+  unfolding directive worded global_behind named ended expect
   step_global_value p q o l n k m r e = at_once (rw e refl)
 
   step_constant : (p q o l : Position) (n : List ℕ) (k : LiteralTree) (m r : List Lexeme)
       → known_value m ≡ Ok (k, sign s.Semicolon l ∷ r)
       → Limited (directive d (reserved w.Constant p ∷ name n q ∷ sign s.Assign o ∷ m)) d 0
       (constant (record { text = n; position = q }) k) r
-  unfolding directive constant_behind named ended expect
+  unfolding directive worded constant_behind named ended expect
   step_constant p q o l n k m r e = at_once (rw e refl)
 
   step_array : (p q l : Position) (t : Lexeme) (n : List ℕ) (a : ArrayKind) (vs : List ValueTree) (m r : List Lexeme)
       → kind_of t ≡ Some a → values m ≡ Ok (vs, sign s.Semicolon l ∷ r)
       → Limited (directive d (reserved w.Array p ∷ name n q ∷ t ∷ m)) d 0
       (array (record { name = record { text = n; position = q }; kind = a; values = vs })) r
-  unfolding directive array_behind named kind expect
+  unfolding directive worded array_behind named kind expect
   step_array p q l t n a vs m r o e = at_once (rw (o, e) refl)
+
+  step_attribute : (p q o : Position) (n : List ℕ) (r : List Lexeme)
+      → Limited (directive d (reserved w.Attribute p ∷ name n q ∷ sign s.Semicolon o ∷ r)) d 0
+      (attribute (record { text = n; position = q })) r
+  unfolding directive worded attribute_behind named ended expect
+  step_attribute p q o n r = at_once refl
+
+  step_property : (p q o : Position) (n : List ℕ) (r : List Lexeme)
+      → Limited (directive d (reserved w.Property p ∷ name n q ∷ sign s.Semicolon o ∷ r)) d 0
+      (property (record { text = n; position = q }) None) r
+  unfolding directive worded property_behind named ended expect
+  step_property p q o n r = at_once refl
+
+  step_property_value : (p q o : Position) (n : List ℕ) (k : LiteralTree) (m r : List Lexeme)
+      → begins_value (head m) ≡ true → known_value m ≡ Ok (k, sign s.Semicolon o ∷ r)
+      → Limited (directive d (reserved w.Property p ∷ name n q ∷ m)) d 0
+      (property (record { text = n; position = q }) (Some k)) r
+  unfolding directive worded property_behind named ended expect
+  step_property_value p q o n k m r b e = at_once (rw (b, e) refl)
+
+  step_object : (p : Position) (x : ObjectTree) (m r : List Lexeme) → object_behind m ≡ Ok (x, r)
+      → Limited (directive d (reserved w.Object p ∷ m)) d 0 (object x) r
+  unfolding directive worded
+  step_object p x m r e = at_once (rw e refl)
 
   step_routine : {j : ℕ} (p q o l i : Position) (n : List ℕ) (ns : List NameTree) (xs : StatementTrees)
       (m k r : List Lexeme) → names m ≡ Ok (ns, sign s.Semicolon o ∷ k)
@@ -163,6 +147,11 @@ module _ (d : ℕ) where
       n k m r (known_read a)
   at_Directive (d_array {m = m} {r = r} {p = p} {q = q} {o = o} {t = t} {n = n} {k = k} {vs = vs} e a lt) = step_array
       p q o t n k vs m r e (values_read a lt refl)
+  at_Directive (d_attribute {r = r} {p = p} {q = q} {o = o} {n = n}) = step_attribute p q o n r
+  at_Directive (d_property {r = r} {p = p} {q = q} {o = o} {n = n}) = step_property p q o n r
+  at_Directive (d_property_value {m = m} {r = r} {p = p} {q = q} {o = o} {n = n} {k = k} a) = step_property_value p q o
+      n k m r (begins_K a) (known_read a)
+  at_Directive (d_object {m = m} {r = r} {p = p} h a b) = step_object p _ m r (object_read h a b)
   at_Directive
       (d_routine {m = m} {k = k} {r = r} {p = p} {q = q} {o = o} {l = l} {j = j} {n = n} {ns = ns} {xs = xs} b a) =
       step_directive p (name n q ∷ m)

@@ -16,7 +16,7 @@ use Rattle.syntax.specs.Answers.{EndsWith}
 use Rattle.syntax.specs.Grammar.{weight_of}
 use Rattle.syntax.specs.Parse.{names}
 use Rattle.syntax.proofs.Spelled.{spelled_Names, spelled_Ss}
-use Rattle.syntax.proofs.Sound.{names_judged}
+use Rattle.syntax.proofs.Lists.{names_judged}
 
 count : (ts : List Token) → length (lexemes ts) ≡ length ts
 count [] = refl

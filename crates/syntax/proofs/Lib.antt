@@ -1,6 +1,9 @@
 pub mod NamesRead
+pub mod Arrows
 pub mod Weights
 pub mod Spelled
+pub mod Lists
+pub mod ObjectsRead
 pub mod Sound
 pub mod Ends
 pub mod Complete

@@ -14,8 +14,8 @@ use Rattle.expressions.specs.Errors.{source_fault}
 use Rattle.expressions.specs.Parse.{◌>>=◌, Fails}
 use Rattle.syntax.specs.declared.tree.Program.{Program}
 use Rattle.syntax.specs.Tree.{DirectiveTree, ProgramTree, program_tree}
-use Rattle.syntax.specs.Grammar.{weight_of, dictionary_words, IsDirectives, IsProgram, program as program_is, directives_nesting}
-use Rattle.syntax.specs.Grammar.{program_nesting}
+use Rattle.syntax.specs.Grammar.{weight_of, dictionary_words, IsDirectives, IsProgram, program as program_is}
+use Rattle.syntax.specs.Grammar.{directives_nesting, program_nesting}
 use Rattle.syntax.specs.Nesting.{DeepProgram}
 use Rattle.syntax.specs.Parse.{end_alone, whole, directives, program}
 use Rattle.syntax.proofs.Sound.{directives_judged}
@@ -34,7 +34,8 @@ finished : (d : ℕ) (ts : List Lexeme) (xs : List DirectiveTree) (r : List Lexe
     → IsProgram ts p × (program_nesting p ≤ d)
 finished d ts xs (end q ∷ []) p a le e =
     subst (λ x. IsProgram ts x × (program_nesting x ≤ d))
-    (done_is (record { directives = xs; end = q; weight = weight_of ts; words = dictionary_words ts }) p e) (program_is a, le)
+    (done_is (record { directives = xs; end = q; weight = weight_of ts; words = dictionary_words ts }) p e)
+    (program_is a, le)
 finished d ts xs _ p a le e = absurd cc
 
 not_deep : (ts : List Lexeme) (xs : List DirectiveTree) (o : Option Position) → whole ts xs o ≡ Err Deep → ⊥

@@ -1,20 +1,22 @@
 -- The definitions at worked examples.
-use Rattle.std.proofs.Common.{◌≡◌, ℕ, List, [], ◌∷◌, Some, refl, arith}
+use Rattle.std.proofs.Common.{◌≡◌, ℕ, false, List, [], ◌∷◌, Option, Some, None, refl, arith}
 use Rattle.std.specs.Prelude.{codes}
 use Rattle.std.proofs.lemmas.List.Elements.{All-head}
 use Rattle.lexer.specs.declared.token.Position.{Position}
 use Rattle.lexer.specs.declared.token.Sign.TheVariants as s
 use Rattle.lexer.specs.declared.token.Word.TheVariants as w
-use Rattle.lexer.specs.Token.{name, number, dictionary_word, reserved, sign}
+use Rattle.lexer.specs.Token.{name, number, text, dictionary_word, reserved, sign}
 use Rattle.lexer.specs.Printable.{IsPrintable}
 use Rattle.expressions.specs.Tree.{NameTree, named}
 use Rattle.statements.specs.Tree.{LiteralTree, number_value, word_value, named_value, text_item, number_item, block}
-use Rattle.statements.specs.Tree.{text_alone, print, read_line, stop, next}
+use Rattle.statements.specs.Tree.{text_alone, print, read_line, give, stop, next}
 use Rattle.syntax.specs.declared.tree.ArrayKind.TheVariants as kind
 use Rattle.statements.specs.Grammar.{k_number, k_negative, k_word, k_name}
-use Rattle.syntax.specs.Tree.{ValueTree, DirectiveTree, global, array, routine}
-use Rattle.syntax.specs.Grammar.{dictionary_words, v_value, values_stop, values_next, IsDirective}
-use Rattle.syntax.specs.Grammar.{d_global_value, d_array}
+use Rattle.syntax.specs.Tree.{ValueTree, TextTree, HeadTree, DirectiveTree, global, array, object, routine}
+use Rattle.syntax.specs.Grammar.{dictionary_words, names_stop, names_next, v_value, values_stop, values_next}
+use Rattle.syntax.specs.Grammar.{arrows_stop, arrows_next, IsShort, short_text, IsHead, head_arrows, prop_values}
+use Rattle.syntax.specs.Grammar.{props_last, props_comma, comma_none, comma_one, properties_with, attributes_has, IsDirective}
+use Rattle.syntax.specs.Grammar.{d_global_value, d_array, d_object}
 use Rattle.syntax.specs.Printable.{IsPrintableStatement}
 use Rattle.syntax.specs.Laws.{IsWeighed}
 
@@ -22,7 +24,7 @@ abbrev p : Position
 p = record { offset = 0; line = 1 }
 
 abbrev the : List ℕ → NameTree
-the text = record { text = text; position = p }
+the letters = record { text = letters; position = p }
 
 -- [ Main a; print "no", a; read t w; ];
 abbrev main : DirectiveTree
@@ -39,6 +41,16 @@ main = routine
 -- 15 tokens, and 2 bytes of a text
 main_weighed : IsWeighed main
 main_weighed = (0, omega arith, refl)
+
+-- [ F; give o ~a; ]; has 10 tokens, and its tree does not count the `~`
+taken_weighed : IsWeighed (routine
+    (record {
+      name = the (codes "F");
+      locals = [];
+      body = next (give p (named (the (codes "o"))) ((false, the (codes "a")) ∷ [])) stop;
+      weight = 320;
+    }))
+taken_weighed = (1, omega arith, refl)
 
 line_feed_does_not : IsPrintableStatement (block (next (text_alone (10 ∷ [])) stop)) → ⊥
 line_feed_does_not h = let printable = All-head IsPrintable 10 [] h.0 in omega (arith, printable.0)
@@ -65,6 +77,43 @@ word_first : IsDirective
     ∷ sign s.Semicolon p ∷ [])
     (global (the (codes "g")) (Some (word_value (codes "lamp")))) []
 word_first = d_global_value k_word
+
+-- object -> lamp "Lamp" with name 'lamp' 'light', size 5, has light; stands one deep, and its comma before `has` is no
+-- part of the list before it
+lamp_read : IsDirective
+    (reserved w.Object p ∷ sign s.Arrow p ∷ name (codes "lamp") p ∷ text (codes "Lamp") p ∷ reserved w.With p
+    ∷ name (codes "name") p ∷ dictionary_word (codes "lamp") p ∷ dictionary_word (codes "light") p ∷ sign s.Comma p
+    ∷ name (codes "size") p ∷ number 5 p ∷ sign s.Comma p ∷ reserved w.Has p ∷ name (codes "light") p
+    ∷ sign s.Semicolon p ∷ [])
+    (object (record {
+      arrows = p ∷ [];
+      name = the (codes "lamp");
+      short = Some (record { bytes = codes "Lamp"; position = p });
+      parent = None;
+      properties =
+          record {
+            name = the (codes "name");
+            values = placed (word_value (codes "lamp")) ∷ placed (word_value (codes "light")) ∷ [];
+          }
+          ∷ record { name = the (codes "size"); values = placed (number_value 5) ∷ [] } ∷ [];
+      attributes = the (codes "light") ∷ [];
+    })) []
+lamp_read = d_object (head_arrows (arrows_next arrows_stop) short_text)
+    (properties_with comma_none
+    (props_comma
+    (prop_values (values_next (v_value k_word) (values_next (v_value k_word) values_stop)) (omega arith))
+    (props_last (prop_values (values_next (v_value k_number) values_stop) (omega arith)))))
+    (attributes_has comma_one (names_next names_stop) (omega arith))
+
+-- object -> lamp box; is none: a parent is named only where no arrow stands
+no_short : {x : Option TextTree} → IsShort (name (codes "box") p ∷ sign s.Semicolon p ∷ []) x (sign s.Semicolon p ∷ [])
+    → ⊥
+no_short a = elim a [ ]
+
+no_parent_behind_arrows : (h : HeadTree)
+    → IsHead (sign s.Arrow p ∷ name (codes "lamp") p ∷ name (codes "box") p ∷ sign s.Semicolon p ∷ []) h
+    (sign s.Semicolon p ∷ []) → ⊥
+no_parent_behind_arrows h (head_arrows (arrows_next arrows_stop) b) = no_short b
 
 -- words are taken in order, each as often as it stands
 words_taken : dictionary_words

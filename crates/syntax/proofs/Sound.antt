@@ -1,61 +1,34 @@
 -- What is read derives in the grammar and is nested no deeper than was allowed; and where the fault is that a token
 -- stands too deep, one does.
-use Rattle.std.proofs.Common.{◌≡◌, ℕ, suc, ◌-◌, ◌<◌, ◌≤◌, List, [], ◌∷◌, length, Option, Some, None, refl, sym}
+use Rattle.std.proofs.Common.{◌≡◌, ℕ, suc, ◌-◌, ◌≤◌, List, [], ◌∷◌, length, Option, Some, None, refl, sym}
 use Rattle.std.proofs.Common.{ap, subst, ◌∙◌, arith}
 use Rattle.lexer.specs.declared.token.Position.{Position}
 use Rattle.lexer.specs.declared.token.Sign.TheVariants as s
+use Rattle.lexer.specs.declared.token.Word.{Word}
 use Rattle.lexer.specs.declared.token.Word.TheVariants as w
 use Rattle.lexer.specs.Token.{Lexeme, name, reserved, sign, position_of}
-use Rattle.expressions.specs.Parse.{head, tail, is_name, is_sign, expect}
+use Rattle.expressions.specs.Parse.{head, tail, is_sign, expect}
 use Rattle.expressions.proofs.Judged.{Judged, judged_read, judged_grammar, judged_then, judged_after, judged_by}
 use Rattle.expressions.proofs.Tokens.{at_sign, expect_ok, expect_not_deep}
 use Rattle.statements.specs.Tree.{trees_of}
 use Rattle.statements.specs.Grammar.{IsK, IsSs, body_nesting}
-use Rattle.statements.specs.Parse.{named, known_value, begins_value}
+use Rattle.statements.specs.Parse.{begins_value}
 use Rattle.statements.proofs.KnownValues.{known_judged}
 use Rattle.statements.proofs.NamesRead.{named_judged}
 use Rattle.statements.proofs.Sound.{repeated_judged, judged_Ss}
 use Rattle.syntax.specs.declared.tree.ArrayKind.{ArrayKind}
-use Rattle.syntax.specs.Tree.{DirectiveTree, global, constant, array, routine}
-use Rattle.syntax.specs.Grammar.{weight_of, IsNames, names_stop, names_next, IsValue, v_value, IsValues, values_stop}
-use Rattle.syntax.specs.Grammar.{values_next, kind_of, IsDirective, d_global, d_global_value}
-use Rattle.syntax.specs.Grammar.{d_constant, d_array, d_routine, IsDirectives, directives_stop, directives_next}
+use Rattle.syntax.specs.Tree.{DirectiveTree, global, constant, array, attribute, property, object, routine}
+use Rattle.syntax.specs.Grammar.{weight_of, IsNames, IsValues, kind_of, IsDirective, d_global, d_global_value}
+use Rattle.syntax.specs.Grammar.{d_constant, d_array, d_attribute, d_property, d_property_value, d_routine}
+use Rattle.syntax.specs.Grammar.{IsDirectives, directives_stop, directives_next}
 use Rattle.syntax.specs.Grammar.{directive_nesting, directives_nesting}
 use Rattle.syntax.specs.Nesting.{DeepDirective, deep_d_routine, DeepProgram, deep_program_first, deep_program_next}
-use Rattle.syntax.specs.Parse.{names, placed, values, kind_on, kind, array_behind, ended}
-use Rattle.syntax.specs.Parse.{global_behind, constant_behind, goes_on, routine_at, directive, directives}
-
--- ---- names: in them no token stands too deep
-
-pub names_judged : (ts : List Lexeme) → Judged (λ ns r. IsNames ts ns r) ⊥ (names ts)
-unfolding names
-names_judged ts =
-    repeated_judged is_name named (λ us n r. us ≡ name n.text n.position ∷ r) (λ us ns r. IsNames us ns r) (λ us. ⊥)
-    (λ us. ⊥)
-    (λ r. names_stop)
-    (λ us n m ns r q l. subst (λ v. IsNames v (n ∷ ns) r) (sym q) (names_next l))
-    (λ us e x. x)
-    (λ us n m q x. x)
-    named_judged (length ts) ts
+use Rattle.syntax.specs.Parse.{kind_on, kind, array_behind, ended, global_behind, constant_behind, attribute_behind}
+use Rattle.syntax.specs.Parse.{property_behind, worded, goes_on, routine_at, directive, directives}
+use Rattle.syntax.proofs.Lists.{names_judged, values_judged}
+use Rattle.syntax.proofs.ObjectsRead.{object_judged}
 
 -- ---- arrays
-
-placed_judged : (ts : List Lexeme) → Judged (λ v r. IsValue ts v r) ⊥ (placed ts)
-unfolding placed known_value
-placed_judged [] = judged_grammar
-placed_judged (t ∷ m) = judged_then _ (known_judged (t ∷ m)) (λ k r h. judged_read _ r (v_value h)) (λ x. x)
-
-values_judged : (ts : List Lexeme) → Judged (λ vs r. IsValues ts vs r × (0 < length vs)) ⊥ (values ts)
-unfolding values
-values_judged ts = judged_then _ (placed_judged ts)
-    (λ v r h. judged_then _
-    (repeated_judged begins_value placed IsValue IsValues (λ us. ⊥) (λ us. ⊥)
-    (λ u. values_stop)
-    (λ us a m vs u q l. values_next q l)
-    (λ us e x. x)
-    (λ us a m q x. x)
-    placed_judged (length r) r) (λ vs u l. judged_read (v ∷ vs) u (values_next h l, omega arith)) (λ x. x))
-    (λ x. x)
 
 kind_judged : (ts : List Lexeme) → Judged
     (λ k r. (ts ≡ head ts ∷ r) × (kind_of (head ts) ≡ Some k)) ⊥ (kind ts)
@@ -145,6 +118,43 @@ module _ (d : ℕ) where
       (λ x. absurd x))
       (λ x. absurd x)
 
+  attribute_judged : (p : Position) (ts : List Lexeme)
+      → Judged (λ x r. IsDirective (reserved w.Attribute p ∷ ts) x r × (directive_nesting x ≤ d))
+      (DeepDirective (suc d) (reserved w.Attribute p ∷ ts)) (attribute_behind ts)
+  unfolding attribute_behind
+  attribute_judged p ts =
+      judged_then _ (named_judged ts)
+      (λ n r q. ended_judged (attribute n) r
+      (λ l v x. (
+        subst (λ us. IsDirective (reserved w.Attribute p ∷ us) (attribute n) v)
+            (sym (q ∙ ap (λ u. name n.text n.position ∷ u) x)) d_attribute,
+        omega arith,
+      )))
+      (λ x. absurd x)
+
+  property_judged : (p : Position) (ts : List Lexeme)
+      → Judged (λ x r. IsDirective (reserved w.Property p ∷ ts) x r × (directive_nesting x ≤ d))
+      (DeepDirective (suc d) (reserved w.Property p ∷ ts)) (property_behind ts)
+  unfolding property_behind
+  property_judged p ts =
+      judged_then _ (named_judged ts)
+      (λ n r q. judged_by (begins_value (head r)) _ _
+      (λ e. judged_then _ (known_judged r)
+      (λ k u h. ended_judged (property n (Some k)) u
+      (λ l v x. (
+        subst (λ us. IsDirective (reserved w.Property p ∷ us) (property n (Some k)) v) (sym q)
+            (d_property_value (subst (λ y. IsK r k y) x h)),
+        omega arith,
+      )))
+      (λ x. absurd x))
+      (λ e. ended_judged (property n None) r
+      (λ l v x. (
+        subst (λ us. IsDirective (reserved w.Property p ∷ us) (property n None) v)
+            (sym (q ∙ ap (λ u. name n.text n.position ∷ u) x)) d_property,
+        omega arith,
+      ))))
+      (λ x. absurd x)
+
   routine_judged : (p : Position) (ts : List Lexeme)
       → Judged (λ x r. IsDirective (sign s.OpenBracket p ∷ ts) (routine x) r × (body_nesting x.body ≤ d))
       (DeepDirective (suc d) (sign s.OpenBracket p ∷ ts)) (routine_at d (sign s.OpenBracket p ∷ ts))
@@ -180,13 +190,23 @@ module _ (d : ℕ) where
       (λ x. absurd x))
       (λ x. absurd x)
 
+  worded_judged : (word : Word) (p : Position) (ts : List Lexeme)
+      → Judged (λ x r. IsDirective (reserved word p ∷ ts) x r × (directive_nesting x ≤ d))
+      (DeepDirective (suc d) (reserved word p ∷ ts)) (worded word (reserved word p ∷ ts))
+  unfolding worded
+  worded_judged w.Global p ts = global_judged p ts
+  worded_judged w.Constant p ts = constant_judged p ts
+  worded_judged w.Array p ts = judged_then _ (array_judged p ts) (λ x r h. judged_read (array x) r h) (λ x. x)
+  worded_judged w.Attribute p ts = attribute_judged p ts
+  worded_judged w.Property p ts = property_judged p ts
+  worded_judged w.Object p ts = judged_then _ (object_judged p ts)
+      (λ x r h. judged_read (object x) r (h, omega arith)) (λ x. absurd x)
+  worded_judged _ p ts = judged_grammar
+
   directive_judged : (ts : List Lexeme) → Judged (λ x r. IsDirective ts x r × (directive_nesting x ≤ d))
       (DeepDirective (suc d) ts) (directive d ts)
   unfolding directive
-  directive_judged (reserved w.Global p ∷ ts) = global_judged p ts
-  directive_judged (reserved w.Constant p ∷ ts) = constant_judged p ts
-  directive_judged (reserved w.Array p ∷ ts) = judged_then _ (array_judged p ts) (λ x r h. judged_read (array x) r h)
-      (λ x. x)
+  directive_judged (reserved word p ∷ ts) = worded_judged word p ts
   directive_judged (sign s.OpenBracket p ∷ ts) = judged_then _ (routine_judged p ts)
       (λ x r h. judged_read (routine x) r h) (λ x. x)
   directive_judged _ = judged_grammar

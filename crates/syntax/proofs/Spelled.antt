@@ -7,25 +7,34 @@ use Rattle.lexer.specs.declared.token.Word.TheVariants as w
 use Rattle.lexer.specs.Token.{Lexeme, name, number, text, character, dictionary_word, reserved, sign}
 use Rattle.expressions.specs.declared.tree.Binary.{Binary}
 use Rattle.expressions.specs.declared.tree.Comparison.{Comparison}
+use Rattle.expressions.specs.declared.tree.Containment.{Containment}
 use Rattle.expressions.specs.declared.tree.Equality.{Equality}
+use Rattle.expressions.specs.declared.tree.ObjectTest.{ObjectTest}
+use Rattle.expressions.specs.declared.tree.Relative.{Relative}
 use Rattle.expressions.specs.declared.tree.Step.{Step}
 use Rattle.expressions.specs.declared.tree.Width.{Width}
-use Rattle.expressions.specs.Operators.{logical, comparing, equating, adding, scaling, stepping, indexing}
+use Rattle.expressions.specs.Operators.{logical, comparing, equating, containing, testing, adding, scaling, stepping}
+use Rattle.expressions.specs.Operators.{indexing, relating}
 use Rattle.expressions.specs.Tree.{NameTree, ExpressionTree, ExpressionTrees, call}
 use Rattle.expressions.specs.Grammar.{IsE, e_plain, e_assign, IsE1, e1_plain, e1_logical, IsN1, n1_plain, n1_not}
-use Rattle.expressions.specs.Grammar.{IsE2, e2_plain, e2_compare, e2_equal, IsChoice, choice_last, choice_or, IsE3}
-use Rattle.expressions.specs.Grammar.{e3_plain, e3_add, IsE4, e4_plain, e4_scale, IsN4, n4_plain, n4_complement, IsE5}
-use Rattle.expressions.specs.Grammar.{e5_plain, e5_index, IsU, u_plain, u_minus, u_before, u_after, IsP, p_number}
-use Rattle.expressions.specs.Grammar.{p_character, p_word, p_true, p_false, p_nothing, p_name, p_call, p_call_with}
+use Rattle.expressions.specs.Grammar.{IsE2, e2_plain, e2_compare, e2_equal, e2_contained, e2_tested, IsChoice}
+use Rattle.expressions.specs.Grammar.{choice_last, choice_or, IsE3, e3_plain, e3_add, IsE4, e4_plain, e4_scale, IsN4}
+use Rattle.expressions.specs.Grammar.{n4_plain, n4_complement, IsE5, e5_plain, e5_index, e5_entry, IsU, u_plain}
+use Rattle.expressions.specs.Grammar.{u_minus, u_before, u_after, u_length, IsP, p_property, p_number, p_character}
+use Rattle.expressions.specs.Grammar.{p_word, p_true, p_false, p_nothing, p_name, p_call, p_call_with, p_relative}
 use Rattle.expressions.specs.Grammar.{p_parenthesised, IsArguments, arguments_last, arguments_comma}
-use Rattle.statements.specs.Tree.{LiteralTree, RangeTree, PrintItemTree, StatementTree, StatementTrees, CaseTrees}
+use Rattle.statements.specs.Tree.{LiteralTree, RangeTree, FlagTree, PrintItemTree, StatementTree, StatementTrees}
+use Rattle.statements.specs.Tree.{CaseTrees, LoopTree, over_all, over_in, over_where, loop_over}
 use Rattle.statements.specs.Grammar.{IsK, k_number, k_negative, k_character, k_word, k_true, k_false, k_nothing, k_name}
 use Rattle.statements.specs.Grammar.{IsRange, range_alone, range_to, IsRanges, ranges_last, ranges_comma, IsOptional}
-use Rattle.statements.specs.Grammar.{optional_none, optional_some, IsItem, item_text, item_character, item_number}
-use Rattle.statements.specs.Grammar.{IsItems, items_last, items_comma, IsS, s_empty, s_block, s_text, s_print}
-use Rattle.statements.specs.Grammar.{s_print_ret, s_new_line, s_if, s_if_else, s_while, s_do, s_for, s_switch, s_break}
-use Rattle.statements.specs.Grammar.{s_continue, s_return, s_return_value, s_rtrue, s_rfalse, s_quit, s_read, s_effect}
-use Rattle.statements.specs.Grammar.{IsSs, ss_stop, ss_next, IsCases, cases_none, cases_default, cases_next}
+use Rattle.statements.specs.Grammar.{optional_none, optional_some, IsLoop, loop_all, loop_in, loop_where, s_objectloop}
+use Rattle.statements.specs.Grammar.{IsItem, item_text, item_character, item_object}
+use Rattle.statements.specs.Grammar.{item_number, IsItems, items_last, items_comma, IsFlag, flag_given, flag_taken}
+use Rattle.statements.specs.Grammar.{IsFlags, flags_none, flags_next, IsGiven, given_first, IsS, s_empty, s_block}
+use Rattle.statements.specs.Grammar.{s_text, s_print, s_print_ret, s_new_line, s_if, s_if_else, s_while, s_do, s_for}
+use Rattle.statements.specs.Grammar.{s_switch, s_break, s_continue, s_return, s_return_value, s_rtrue, s_rfalse, s_quit}
+use Rattle.statements.specs.Grammar.{s_read, s_give, s_move, s_remove, s_effect, IsSs, ss_stop, ss_next, IsCases}
+use Rattle.statements.specs.Grammar.{cases_none, cases_default, cases_next}
 use Rattle.syntax.specs.Grammar.{token_weight, weight_of, IsNames, names_stop, names_next}
 use Rattle.syntax.specs.Weight.{expression_weight, expression_weights, item_weight, item_weights, range_weight}
 use Rattle.syntax.specs.Weight.{range_weights, optional_weight, statement_weight, statement_weights, case_weights}
@@ -137,7 +146,25 @@ indexing_weight : (t : Lexeme) (width : Width) → indexing t ≡ Some width →
 indexing_weight (sign s p) width e = refl
 indexing_weight _ width e = absurd cc
 
+containing_weight : (t : Lexeme) (op : Containment) → containing t ≡ Some op → token_weight t ≡ 32
+containing_weight (reserved word p) op e = refl
+containing_weight _ op e = absurd cc
+
+testing_weight : (t : Lexeme) (test : ObjectTest) → testing t ≡ Some test → token_weight t ≡ 32
+testing_weight (reserved word p) test e = refl
+testing_weight _ test e = absurd cc
+
+relating_weight : (t : Lexeme) (which : Relative) → relating t ≡ Some which → token_weight t ≡ 32
+relating_weight (reserved word p) which e = refl
+relating_weight _ which e = absurd cc
+
 -- ---- expressions
+
+-- a sign or word and a name, behind a part
+spelled_name : {w : ℕ} {ts r : List Lexeme} {p : Position} {n : List ℕ} (t : Lexeme) → token_weight t ≡ 32
+    → Spelled w ts (t ∷ name n p ∷ r) → Spelled (w + 64) ts r
+spelled_name {r = r} {p = p} {n = n} t h a = weighing
+    (joined a (behind t (behind (name n p) (spelled_none r)))) (omega (arith, h))
 
 call_weight : {ts r : List Lexeme} {es : ExpressionTrees} (n : NameTree) → IsArguments ts es r
     → expression_weight (call n es) ≡ 64 + expression_weights es
@@ -164,6 +191,9 @@ mutual
   spelled_E2 (e2_compare {t = t} {op = op} a o b) = weighing (joined (spelled_E3 a) (behind t (spelled_E3 b)))
       (omega (arith, comparing_weight t op o))
   spelled_E2 (e2_equal {t = t} {op = op} a o b) = joined (spelled_E3 a) (spelled_Choice t (equating_weight t op o) b)
+  spelled_E2 (e2_contained {t = t} {op = op} a o b) = weighing (joined (spelled_E3 a) (behind t (spelled_E3 b)))
+      (omega (arith, containing_weight t op o))
+  spelled_E2 (e2_tested {t = t} {test = test} a o) = spelled_name t (testing_weight t test o) (spelled_E3 a)
 
   -- with the operator or the `or` before the first value
   spelled_Choice : {ts r : List Lexeme} {es : ExpressionTrees} (t : Lexeme) → token_weight t ≡ 32 → IsChoice ts es r
@@ -190,6 +220,9 @@ mutual
   spelled_E5 (e5_plain a) = spelled_U a
   spelled_E5 (e5_index {p = p} {t = t} {n = n} {width = width} o a) = weighing
       (behind (name n p) (behind t (spelled_U a))) (omega (arith, indexing_weight t width o))
+  spelled_E5 (e5_entry {p = p} {q = q} {o = o} {n = n} a b) = weighing
+      (joined (spelled_P a)
+      (behind (sign s.DotAmpersand q) (behind (name n p) (behind (sign s.LongArrow o) (spelled_U b))))) (omega arith)
 
   spelled_U : {ts r : List Lexeme} {e : ExpressionTree} → IsU ts e r → Spelled (expression_weight e) ts r
   spelled_U (u_plain a) = spelled_P a
@@ -198,8 +231,10 @@ mutual
       (omega (arith, stepping_weight t op o))
   spelled_U (u_after {r = r} {t = t} {op = op} a o) = weighing (joined (spelled_P a) (behind t (spelled_none r)))
       (omega (arith, stepping_weight t op o))
+  spelled_U (u_length {q = q} a) = spelled_name (sign s.DotHash q) refl (spelled_P a)
 
   spelled_P : {ts r : List Lexeme} {e : ExpressionTree} → IsP ts e r → Spelled (expression_weight e) ts r
+  spelled_P (p_property {q = q} a) = spelled_name (sign s.Dot q) refl (spelled_P a)
   spelled_P (p_number {r = r} {p = p} {n = n}) = behind (number n p) (spelled_none r)
   spelled_P (p_character {r = r} {p = p} {c = c}) = behind (character c p) (spelled_none r)
   spelled_P (p_word {r = r} {p = p} {s = f}) = behind (dictionary_word f p) (spelled_none r)
@@ -214,6 +249,11 @@ mutual
       (joined (spelled_Arguments (sign s.OpenParenthesis q) refl a)
       (behind (sign s.CloseParenthesis o) (spelled_none r))))
       (omega (arith, call_weight (record { text = n; position = p }) a))
+  spelled_P (p_relative {r = r} {p = p} {o = o} {t = t} {which = which} h a) = weighing
+      (behind t
+      (behind (sign s.OpenParenthesis p)
+      (joined (spelled_E a) (behind (sign s.CloseParenthesis o) (spelled_none r)))))
+      (omega (arith, relating_weight t which h))
   spelled_P (p_parenthesised {r = r} {p = p} {o = o} a) = weighing
       (behind (sign s.OpenParenthesis p)
       (joined (spelled_E a) (behind (sign s.CloseParenthesis o) (spelled_none r)))) (omega arith)
@@ -225,7 +265,7 @@ mutual
   spelled_Arguments t h (arguments_comma {p = p} a b) = weighing
       (behind t (joined (spelled_E a) (spelled_Arguments (sign s.Comma p) refl b))) (omega (arith, h))
 
--- ---- statements
+-- ---- what `print` prints
 
 pub spelled_Item : {ts r : List Lexeme} {i : PrintItemTree} → IsItem ts i r → Spelled (item_weight i) ts r
 spelled_Item (item_text {r = r} {p = p} {bytes = bytes}) = weighing (behind (text bytes p) (spelled_none r))
@@ -233,6 +273,9 @@ spelled_Item (item_text {r = r} {p = p} {bytes = bytes}) = weighing (behind (tex
 spelled_Item (item_character {p = p} {q = q} {o = o} a) = weighing
     (behind (sign s.OpenParenthesis p)
     (behind (reserved w.Char q) (behind (sign s.CloseParenthesis o) (spelled_E a)))) (omega arith)
+spelled_Item (item_object {p = p} {q = q} {o = o} a) = weighing
+    (behind (sign s.OpenParenthesis p)
+    (behind (reserved w.Object q) (behind (sign s.CloseParenthesis o) (spelled_E a)))) (omega arith)
 spelled_Item (item_number a) = spelled_E a
 
 -- with the word or the comma before the first item
@@ -289,6 +332,56 @@ spelled_Optional : {ts r : List Lexeme} {e : Option ExpressionTree} → IsOption
 spelled_Optional {ts} optional_none = spelled_none ts
 spelled_Optional (optional_some a) = spelled_E a
 
+-- ---- what an `objectloop` goes over
+
+abbrev loop_weight : LoopTree → ℕ
+loop_weight (over_all n) = 32
+loop_weight (over_in n e) = 64 + expression_weight e
+loop_weight (over_where n e) = expression_weight e
+
+loop_weighs : (p : Position) (l : LoopTree) (x : StatementTree)
+    → statement_weight (loop_over p l x) ≡ 96 + loop_weight l + statement_weight x
+loop_weighs p (over_all n) x = refl
+loop_weighs p (over_in n e) x = omega arith
+loop_weighs p (over_where n e) x = refl
+
+loop_values : (p : Position) (l : LoopTree) (x : StatementTree)
+    → statement_values (loop_over p l x) ≡ statement_values x
+loop_values p (over_all n) x = refl
+loop_values p (over_in n e) x = refl
+loop_values p (over_where n e) x = refl
+
+pub spelled_Loop : {ts r : List Lexeme} {l : LoopTree} → IsLoop ts l r → Spelled (loop_weight l) ts r
+spelled_Loop (loop_all {r = r} {p = p} {n = n}) = behind (name n p) (spelled_none r)
+spelled_Loop (loop_in {p = p} {q = q} {n = n} a) = weighing
+    (behind (name n p) (behind (reserved w.In q) (spelled_E3 a))) (omega arith)
+spelled_Loop (loop_where a f) = spelled_E1 a
+
+-- ---- the attributes of `give`
+
+spelled_Flag : {ts r : List Lexeme} {x : FlagTree} → IsFlag ts x r → SpelledAbout 32 1 ts r
+spelled_Flag (flag_given {r = r} {p = p} {n = n}) = about (behind (name n p) (spelled_none r)) refl
+spelled_Flag (flag_taken {r = r} {p = p} {q = q} {n = n}) = record {
+  front = sign s.Tilde q ∷ name n p ∷ [];
+  at = refl;
+  signs = 1;
+  few = omega arith;
+  weight = refl;
+}
+
+spelled_Flags : {ts r : List Lexeme} {xs : List FlagTree} → IsFlags ts xs r
+    → SpelledAbout (32 * length xs) (length xs) ts r
+spelled_Flags {ts} flags_none = about (spelled_none ts) refl
+spelled_Flags (flags_next a b) = weighing_about (joined_about (spelled_Flag a) (spelled_Flags b)) (omega arith)
+    (omega arith)
+
+spelled_Given : {ts r : List Lexeme} {xs : List FlagTree} → IsGiven ts xs r
+    → SpelledAbout (32 * length xs) (length xs) ts r
+spelled_Given (given_first a b) = weighing_about (joined_about (spelled_Flag a) (spelled_Flags b)) (omega arith)
+    (omega arith)
+
+-- ---- statements
+
 -- two tokens
 pair_about : {w n : ℕ} (t u : Lexeme) (r : List Lexeme) → token_weight t + token_weight u ≡ w
     → SpelledAbout w n (t ∷ u ∷ r) r
@@ -302,7 +395,8 @@ mutual
       (behind_about (sign s.OpenBrace p)
       (joined_about (spelled_Ss a) (about {n = 0} (behind (sign s.CloseBrace q) (spelled_none r)) refl)))
       (omega arith) (omega arith)
-  spelled_S (s_text {r = r} {p = p} {q = q} {bytes = bytes}) = pair_about (text bytes p) (sign s.Semicolon q) r (omega arith)
+  spelled_S (s_text {r = r} {p = p} {q = q} {bytes = bytes}) = pair_about (text bytes p) (sign s.Semicolon q) r
+      (omega arith)
   spelled_S (s_print {r = r} {p = p} {q = q} a) = about
       (joined (spelled_Items (reserved w.Print p) refl a) (behind (sign s.Semicolon q) (spelled_none r)))
       (omega arith)
@@ -331,6 +425,12 @@ mutual
       (behind_about (sign s.Colon j)
       (joined_about (about {n = 0} (spelled_Optional c) refl)
       (behind_about (sign s.CloseParenthesis o) (spelled_S x))))))))) (omega arith) (omega arith)
+  spelled_S (s_objectloop {p = p} {q = q} {o = o} {l = l} {x = x} a b) = weighing_about
+      (behind_about (reserved w.Objectloop p)
+      (behind_about (sign s.OpenParenthesis q)
+      (joined_about (about {n = 0} (spelled_Loop a) refl)
+      (behind_about (sign s.CloseParenthesis o) (spelled_S b))))) (omega (arith, loop_weighs p l x))
+      (omega (arith, loop_values p l x))
   spelled_S (s_switch {r = r} {p = p} {q = q} {o = o} {i = i} {j = j} e a) = weighing_about
       (joined_about (opened (reserved w.Switch p) q o refl e)
       (behind_about (sign s.OpenBrace i)
@@ -348,6 +448,19 @@ mutual
   spelled_S (s_read {r = r} {p = p} {q = q} {o = o} {j = j} {a = a} {b = b}) = about
       (behind (reserved w.Read p)
       (behind (name a q) (behind (name b o) (behind (sign s.Semicolon j) (spelled_none r))))) refl
+  spelled_S (s_give {r = r} {p = p} {q = q} c a) = weighing_about
+      (behind_about (reserved w.Give p)
+      (joined_about (about {n = 0} (spelled_E c) refl)
+      (joined_about (spelled_Given a) (about {n = 0} (behind (sign s.Semicolon q) (spelled_none r)) refl))))
+      (omega arith) (omega arith)
+  spelled_S (s_move {r = r} {p = p} {q = q} {o = o} a b) = about
+      (behind (reserved w.Move p)
+      (joined (spelled_E a)
+      (behind (reserved w.To o) (joined (spelled_E b) (behind (sign s.Semicolon q) (spelled_none r))))))
+      (omega arith)
+  spelled_S (s_remove {r = r} {p = p} {q = q} c) = about
+      (behind (reserved w.Remove p) (joined (spelled_E c) (behind (sign s.Semicolon q) (spelled_none r))))
+      (omega arith)
   spelled_S (s_effect {r = r} {q = q} c f) = about
       (joined (spelled_E c) (behind (sign s.Semicolon q) (spelled_none r))) (omega arith)
 

@@ -4,8 +4,9 @@ use Rattle.std.specs.List.{All}
 use Rattle.std.proofs.lemmas.List.Elements.{All-nil, All-cons}
 use Rattle.lexer.specs.Token.{Lexeme}
 use Rattle.syntax.specs.Tree.{DirectiveTree, ProgramTree}
-use Rattle.syntax.specs.Grammar.{IsDirective, d_global, d_global_value, d_constant, d_array, d_routine, IsDirectives}
-use Rattle.syntax.specs.Grammar.{directives_stop, directives_next, IsProgram, program}
+use Rattle.syntax.specs.Grammar.{IsDirective, d_global, d_global_value, d_constant, d_array, d_attribute, d_property}
+use Rattle.syntax.specs.Grammar.{d_property_value, d_object, d_routine, IsDirectives, directives_stop}
+use Rattle.syntax.specs.Grammar.{directives_next, IsProgram, program}
 use Rattle.syntax.specs.Laws.{IsWeighed, WeighedRoutines}
 use Rattle.syntax.proofs.Spelled.{spelled_Names, weighs, spelled_Ss, weighs_about}
 
@@ -14,6 +15,10 @@ directive_weighed d_global = tt
 directive_weighed (d_global_value a) = tt
 directive_weighed (d_constant a) = tt
 directive_weighed (d_array o a lt) = tt
+directive_weighed d_attribute = tt
+directive_weighed d_property = tt
+directive_weighed (d_property_value a) = tt
+directive_weighed (d_object h a b) = tt
 directive_weighed (d_routine a b) = let body = spelled_Ss b in
     (body.signs, body.few, omega (arith, weighs (spelled_Names a), weighs_about body))
 

@@ -13,7 +13,7 @@ abbrev pub PrintableTrees : Type 0
 PrintableTrees = (ts : List Lexeme) (p : ProgramTree) → IsProgram ts p → All HasPrintableText ts → HasPrintableTexts p
 
 -- a routine weighs what its brackets, its name, its two semicolons, its locals and its statements weigh, and a `-`
--- before some values of ranges
+-- before some values of ranges and a `~` before some attributes of `give`
 abbrev pub IsWeighed : DirectiveTree → Type 0
 IsWeighed (routine r) = (signs : ℕ) × (signs ≤ statements_values r.body)
     × (r.weight ≡ 32 * (5 + length r.locals + signs) + statement_weights r.body)

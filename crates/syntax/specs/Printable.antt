@@ -1,10 +1,11 @@
 -- Programs whose texts print: each of their bytes is one of 32 to 126.
+use Rattle.std.specs.Prelude.{Option, Some, None}
 use Rattle.std.specs.List.{All}
 use Rattle.lexer.specs.Printable.{IsPrintable}
 use Rattle.statements.specs.Tree.{PrintItemTree, text_item, StatementTree, StatementTrees, CaseTrees, block}
 use Rattle.statements.specs.Tree.{text_alone, print, print_return, if_then, if_else, while_do, do_until, for_loop}
-use Rattle.statements.specs.Tree.{switch_on, stop, next, no_case, default_case, case}
-use Rattle.syntax.specs.Tree.{DirectiveTree, routine, ProgramTree}
+use Rattle.statements.specs.Tree.{switch_on, each, each_in, each_where, stop, next, no_case, default_case, case}
+use Rattle.syntax.specs.Tree.{TextTree, DirectiveTree, routine, object, ProgramTree}
 
 abbrev pub IsPrintableItem : PrintItemTree → Type 0
 IsPrintableItem (text_item bytes) = All IsPrintable bytes
@@ -22,6 +23,9 @@ abbrev mutual
   IsPrintableStatement (do_until p x c) = IsPrintableStatement x
   IsPrintableStatement (for_loop p a b c x) = IsPrintableStatement x
   IsPrintableStatement (switch_on p e cs) = ArePrintableCases cs
+  IsPrintableStatement (each n x) = IsPrintableStatement x
+  IsPrintableStatement (each_in p n e x) = IsPrintableStatement x
+  IsPrintableStatement (each_where p n e x) = IsPrintableStatement x
   IsPrintableStatement _ = Unit {0}
 
   pub ArePrintableStatements : StatementTrees → Type 0
@@ -33,8 +37,13 @@ abbrev mutual
   ArePrintableCases (default_case xs) = ArePrintableStatements xs
   ArePrintableCases (case gs xs cs) = ArePrintableStatements xs × ArePrintableCases cs
 
+abbrev pub IsPrintableName : Option TextTree → Type 0
+IsPrintableName None = Unit {0}
+IsPrintableName (Some s) = All IsPrintable s.bytes
+
 abbrev pub IsPrintableDirective : DirectiveTree → Type 0
 IsPrintableDirective (routine r) = ArePrintableStatements r.body
+IsPrintableDirective (object o) = IsPrintableName o.short
 IsPrintableDirective _ = Unit {0}
 
 abbrev pub HasPrintableTexts : ProgramTree → Type 0

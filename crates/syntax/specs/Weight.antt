@@ -1,15 +1,18 @@
 -- The weight of a tree: that of the tokens it was read from. Each token weighs 32, and each byte of a text 3 more. An
 -- argument, a value of a comparison, an item and a range count one token more, which stands before or after it. A `-`
--- before a value of a range is not in its tree, and does not count here: there is at most one for each such value.
+-- before a value of a range is not in its tree, and does not count here, nor does a `~` before an attribute of `give`:
+-- there is at most one for each such value or attribute.
 use Rattle.std.specs.Prelude.{◌+◌, ◌*◌, ℕ, List, [], ◌∷◌, length, Option, Some, None}
 use Rattle.expressions.specs.Tree.{ExpressionTree, ExpressionTrees, constant, word, named, call, index}
-use Rattle.expressions.specs.Tree.{parenthesised, prefixed, step_before, step_after, binary, compare, equal, assign}
-use Rattle.expressions.specs.Tree.{none, more}
-use Rattle.statements.specs.Tree.{LiteralTree, RangeTree, PrintItemTree, text_item, character_item, number_item}
-use Rattle.statements.specs.Tree.{StatementTree, StatementTrees, CaseTrees, empty, block, text_alone, print}
-use Rattle.statements.specs.Tree.{print_return, new_line, if_then, if_else, while_do, do_until, for_loop, switch_on}
+use Rattle.expressions.specs.Tree.{parenthesised, relative_of, property, property_length, property_entry, prefixed}
+use Rattle.expressions.specs.Tree.{step_before, step_after, binary, compare, equal, contained, tested, assign, none}
+use Rattle.expressions.specs.Tree.{more}
+use Rattle.statements.specs.Tree.{LiteralTree, RangeTree, PrintItemTree, text_item, character_item, object_item}
+use Rattle.statements.specs.Tree.{number_item, StatementTree, StatementTrees, CaseTrees, empty, block, text_alone}
+use Rattle.statements.specs.Tree.{print, print_return, new_line, if_then, if_else, while_do, do_until, for_loop, switch_on}
 use Rattle.statements.specs.Tree.{break_at, continue_at, return_alone, return_value, return_true, return_false, quit}
-use Rattle.statements.specs.Tree.{read_line, effect, stop, next, no_case, default_case, case}
+use Rattle.statements.specs.Tree.{read_line, give, move, remove, each, each_in, each_where, effect, stop, next, no_case}
+use Rattle.statements.specs.Tree.{default_case, case}
 
 abbrev mutual
   pub expression_weight : ExpressionTree → ℕ
@@ -20,12 +23,18 @@ abbrev mutual
   expression_weight (call n (more e es)) = 64 + (expression_weight e + 32 + expression_weights es)
   expression_weight (index n width e) = 64 + expression_weight e
   expression_weight (parenthesised e) = 64 + expression_weight e
+  expression_weight (relative_of which e) = 96 + expression_weight e
+  expression_weight (property e n) = expression_weight e + 64
+  expression_weight (property_length e n) = expression_weight e + 64
+  expression_weight (property_entry e n i) = expression_weight e + 96 + expression_weight i
   expression_weight (prefixed op e) = 32 + expression_weight e
   expression_weight (step_before op p e) = 32 + expression_weight e
   expression_weight (step_after e op p) = 32 + expression_weight e
   expression_weight (binary op a b) = expression_weight a + 32 + expression_weight b
   expression_weight (compare op a b) = expression_weight a + 32 + expression_weight b
   expression_weight (equal op a bs) = expression_weight a + expression_weights bs
+  expression_weight (contained op a b) = expression_weight a + 32 + expression_weight b
+  expression_weight (tested test e n) = expression_weight e + 64
   expression_weight (assign a p b) = expression_weight a + 32 + expression_weight b
 
   pub expression_weights : ExpressionTrees → ℕ
@@ -35,6 +44,7 @@ abbrev mutual
 abbrev pub item_weight : PrintItemTree → ℕ
 item_weight (text_item bytes) = 32 + 3 * length bytes
 item_weight (character_item p e) = 96 + expression_weight e
+item_weight (object_item p e) = 96 + expression_weight e
 item_weight (number_item p e) = expression_weight e
 
 abbrev pub item_weights : List PrintItemTree → ℕ
@@ -79,6 +89,12 @@ abbrev mutual
   statement_weight return_false = 64
   statement_weight quit = 64
   statement_weight (read_line a b) = 128
+  statement_weight (give p e xs) = 64 + expression_weight e + 32 * length xs
+  statement_weight (move p a b) = 96 + expression_weight a + expression_weight b
+  statement_weight (remove p e) = 64 + expression_weight e
+  statement_weight (each n x) = 128 + statement_weight x
+  statement_weight (each_in p n e x) = 160 + expression_weight e + statement_weight x
+  statement_weight (each_where p n e x) = 96 + expression_weight e + statement_weight x
   statement_weight (effect p e) = 32 + expression_weight e
 
   pub statement_weights : StatementTrees → ℕ
@@ -90,7 +106,7 @@ abbrev mutual
   case_weights (default_case xs) = 64 + statement_weights xs
   case_weights (case gs xs cs) = range_weights gs + statement_weights xs + case_weights cs
 
--- how many values the ranges of a tree have
+-- how many values the ranges of a tree have, and attributes its `give`s
 
 abbrev pub upper_values : Option LiteralTree → ℕ
 upper_values None = 0
@@ -109,6 +125,10 @@ abbrev mutual
   statement_values (do_until p x c) = statement_values x
   statement_values (for_loop p a b c x) = statement_values x
   statement_values (switch_on p e cs) = case_values cs
+  statement_values (give p e xs) = length xs
+  statement_values (each n x) = statement_values x
+  statement_values (each_in p n e x) = statement_values x
+  statement_values (each_where p n e x) = statement_values x
   statement_values _ = 0
 
   pub statements_values : StatementTrees → ℕ

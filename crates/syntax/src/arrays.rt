@@ -47,9 +47,13 @@ fn placed<'t, 'a>(tokens: &'t [Token<'a>]) -> Result<(ArrayValue<'a>, &'t [Token
     Ok((ArrayValue { position, value }, rest))
 }
 
-// Values, at least one.
+/// Values, at least one.
+///
+/// # Errors
+///
+/// `Fault::Grammar` at the first token: it begins no value; or behind `-`. `Memory` where a growth is refused.
 #[tactic(auto, unfolding(crate::specs::Parse::values), using(statements::proofs::Loops::repeated_out, statements::proofs::Loops::repeated_done, statements::proofs::Loops::repeated_more, statements::proofs::Loops::repeated_fails))]
-fn values<'t, 'a>(
+pub fn values<'t, 'a>(
     alloc: Global,
     tokens: &'t [Token<'a>],
 ) -> Result<(Vec<ArrayValue<'a>>, &'t [Token<'a>]), ParseError>

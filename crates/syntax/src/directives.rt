@@ -8,11 +8,12 @@ ghost use Rattle.syntax.specs.Parse as spec;
 
 use crate::arrays::array;
 use crate::names::names;
+use crate::objects::object;
 use crate::tree::{Directive, Routine};
 use crate::weight::weight_before;
 use expressions::{Fault, ParseError, expect, fault_at, is_sign, peek, skip};
 use lexer::{Kind, Sign, Token, Word};
-use statements::{known_value, named, statements};
+use statements::{begins_value, known_value, named, statements};
 use std::alloc::Global;
 
 // How many nestings may be opened in a statement of a routine.
@@ -55,6 +56,30 @@ fn constant<'t, 'a>(tokens: &'t [Token<'a>]) -> Result<(Directive<'a>, &'t [Toke
     ended(Directive::Constant(name, value), rest)
 }
 
+// What follows `attribute`.
+#[tactic(auto, unfolding(crate::specs::Parse::attribute_behind))]
+fn attribute<'t, 'a>(
+    tokens: &'t [Token<'a>],
+) -> Result<(Directive<'a>, &'t [Token<'a>]), ParseError>
+    ensures { Gives (λ x. (directive_tree x.0, lexemes x.1.now)) result (spec.attribute_behind (lexemes tokens.now)) }
+{
+    let (name, rest) = named(tokens)?;
+    ended(Directive::Attribute(name), rest)
+}
+
+// What follows `property`.
+#[tactic(auto, unfolding(crate::specs::Parse::property_behind))]
+fn property<'t, 'a>(tokens: &'t [Token<'a>]) -> Result<(Directive<'a>, &'t [Token<'a>]), ParseError>
+    ensures { Gives (λ x. (directive_tree x.0, lexemes x.1.now)) result (spec.property_behind (lexemes tokens.now)) }
+{
+    let (name, rest) = named(tokens)?;
+    if !begins_value(peek(rest)) {
+        return ended(Directive::Property(name, None), rest);
+    }
+    let (default, rest) = known_value(rest)?;
+    ended(Directive::Property(name, Some(default)), rest)
+}
+
 // A routine, from its bracket on.
 #[tactic(auto, unfolding(crate::specs::Parse::routine_at), using(crate::proofs::Ends::routine_ends))]
 fn routine<'t, 'a>(
@@ -79,6 +104,32 @@ fn routine<'t, 'a>(
     Ok((found, rest))
 }
 
+// The directive that begins with that word.
+#[tactic(auto, unfolding(crate::specs::Parse::worded))]
+fn worded<'t, 'a>(
+    alloc: Global,
+    word: Word,
+    tokens: &'t [Token<'a>],
+) -> Result<(Directive<'a>, &'t [Token<'a>]), ParseError>
+    ensures { Gives (λ x. (directive_tree x.0, lexemes x.1.now)) result (spec.worded word (lexemes tokens.now)) }
+{
+    match word {
+        Word::Global => global(skip(tokens)),
+        Word::Constant => constant(skip(tokens)),
+        Word::Array => {
+            let (found, rest) = array(alloc, skip(tokens))?;
+            Ok((Directive::Array(found), rest))
+        }
+        Word::Attribute => attribute(skip(tokens)),
+        Word::Property => property(skip(tokens)),
+        Word::Object => {
+            let (found, rest) = object(alloc, skip(tokens))?;
+            Ok((Directive::Object(found), rest))
+        }
+        _ => Err(fault_at(Fault::Grammar, tokens)),
+    }
+}
+
 // The directive that comes next.
 #[tactic(auto, unfolding(crate::specs::Parse::directive))]
 fn directive<'t, 'a>(
@@ -88,12 +139,7 @@ fn directive<'t, 'a>(
     ensures { Gives (λ x. (directive_tree x.0, lexemes x.1.now)) result (spec.directive 100 (lexemes tokens.now)) }
 {
     match peek(tokens).kind {
-        Kind::Reserved(Word::Global) => global(skip(tokens)),
-        Kind::Reserved(Word::Constant) => constant(skip(tokens)),
-        Kind::Reserved(Word::Array) => {
-            let (found, rest) = array(alloc, skip(tokens))?;
-            Ok((Directive::Array(found), rest))
-        }
+        Kind::Reserved(word) => worded(alloc, word, tokens),
         Kind::Sign(Sign::OpenBracket) => {
             let (found, rest) = routine(alloc, tokens)?;
             Ok((Directive::Routine(found), rest))

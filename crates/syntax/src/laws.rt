@@ -9,7 +9,7 @@ pub fn printable_trees()
 {}
 
 /// A routine weighs 32 for each of its brackets, its name, its two semicolons and its locals, and beside that what its
-/// statements weigh, and 32 for each `-` before a value of a range, which the tree does not show.
+/// statements weigh, and 32 for each `-` before a value of a range and each `~` before an attribute of `give`.
 pub fn weighed_routines()
     ensures { WeighedRoutines }
 {}

@@ -6,7 +6,7 @@ ghost use Rattle.expressions.specs.Tree.{name_tree};
 ghost use Rattle.expressions.specs.Parse.{Gives};
 ghost use Rattle.syntax.specs.Parse as spec;
 
-use expressions::{Name, ParseError, name_of, peek, skip};
+use expressions::{Fault, Name, ParseError, fault_at, name_of, peek, skip};
 use lexer::Token;
 use std::alloc::Global;
 
@@ -30,6 +30,25 @@ pub fn names<'t, 'a>(
         };
         found.push(name)?;
         rest = skip(rest);
+    }
+    Ok((found, rest))
+}
+
+/// Names, at least one.
+///
+/// # Errors
+///
+/// `Fault::Grammar` at the next token: it is no name; `Memory`: a growth is refused.
+#[tactic(auto, unfolding(crate::specs::Parse::some_names), using(crate::proofs::NamesRead::no_names, crate::proofs::NamesRead::names_found))]
+pub fn some_names<'t, 'a>(
+    alloc: Global,
+    tokens: &'t [Token<'a>],
+) -> Result<(Vec<Name<'a>>, &'t [Token<'a>]), ParseError>
+    ensures { Gives (λ x. (map name_tree x.0.items, lexemes x.1.now)) result (spec.some_names (lexemes tokens.now)) }
+{
+    let (found, rest) = names(alloc, tokens)?;
+    if found.is_empty() {
+        return Err(fault_at(Fault::Grammar, rest));
     }
     Ok((found, rest))
 }

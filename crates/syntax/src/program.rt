@@ -61,7 +61,11 @@ fn program<'a>(alloc: Global, tokens: &[Token<'a>]) -> Result<Program<'a>, Parse
 /// ```text
 /// Program = {Directive}
 /// Directive = "global" name ["=" K] ";" | "constant" name "=" K ";"
-///   | "array" name ("->" | "-->" | "string" | "table") K+ ";" | "[" name {name} ";" {S} "]" ";"
+///   | "array" name ("->" | "-->" | "string" | "table") K+ ";" | "attribute" name ";" | "property" name [K] ";"
+///   | "object" ({"->"} name [text] | name [text] name)
+///       [[","] "with" Prop {"," Prop}] [[","] "has" name+] ";"
+///   | "[" name {name} ";" {S} "]" ";"
+/// Prop = name K+
 /// K = ["-"] number | char | word | name | "true" | "false" | "nothing"
 /// ```
 ///

@@ -17,7 +17,7 @@ pub enum ArrayKind {
     Table,
 }
 
-/// A value in the definition of an array, and the position of its first token.
+/// A value in the definition of an array or of a property, and the position of its first token.
 #[derive(Clone, Copy)]
 pub struct ArrayValue<'a> {
     pub position: Position,
@@ -31,6 +31,40 @@ pub struct Array<'a> {
     pub name: Name<'a>,
     pub kind: ArrayKind,
     pub values: Vec<ArrayValue<'a>>,
+}
+
+/// A text of a definition: the bytes between its quotes, and its position.
+#[derive(Clone, Copy)]
+pub struct Text<'a> {
+    pub bytes: &'a [u8],
+    pub position: Position,
+}
+
+/// A property that an object provides: its name, and one value or more.
+#[derive(Drop)]
+pub struct Property<'a> {
+    pub name: Name<'a>,
+    pub values: Vec<ArrayValue<'a>>,
+}
+
+/// An object.
+#[derive(Drop)]
+pub struct Object<'a> {
+    /// Where each arrow stands that says how deep the object stands in those before it.
+    pub arrows: Vec<Position>,
+
+    pub name: Name<'a>,
+
+    /// The short name.
+    pub short: Option<Text<'a>>,
+
+    /// The object that it stands in. Where it is named there are no arrows.
+    pub parent: Option<Name<'a>>,
+
+    pub properties: Vec<Property<'a>>,
+
+    /// The names of its attributes.
+    pub attributes: Vec<Name<'a>>,
 }
 
 /// A routine: its name, its locals, and its statements.
@@ -54,6 +88,14 @@ pub enum Directive<'a> {
     Constant(Name<'a>, Literal<'a>),
 
     Array(Array<'a>),
+
+    /// A name for an attribute.
+    Attribute(Name<'a>),
+
+    /// A name for a property, and its default; 0 where none is given.
+    Property(Name<'a>, Option<Literal<'a>>),
+
+    Object(Object<'a>),
 
     Routine(Routine<'a>),
 }

@@ -1,7 +1,7 @@
 -- From a source to what is written: the source is compiled, its story opened, and the lines of a reader are played.
 use Rattle.std.specs.Prelude.{◌≡◌, ◌⊎◌, ℕ, List, [], ◌∷◌, Option, Result, Ok, Err}
 use Rattle.std.specs.Io.KnownBytes.{Keeps}
-use Rattle.zcore.specs.declared.header.Version.TheVariants.{V5}
+use Rattle.zcore.specs.declared.header.Version.{Version}
 use Rattle.zcore.specs.declared.place.Place.{Place}
 use Rattle.checker.specs.Programs.{resolve_program}
 use Rattle.meaning.specs.Resolved.{ProgramOf}
@@ -31,13 +31,13 @@ meant_by p fuel = record {
   place = λ lines. (meaning p fuel lines).place;
 }
 
--- The source has a story, and what a run of its lines wrote is what the source means on the lines that stand: the
--- transcript of the opening and the replies. The session is that of the story on these lines: its whole states are
--- those of the machine.
-pub record PlaysSource (source : List ℕ) (fuel : ℕ) (keep : Option ℕ) (io : Streams) (session : Session)
-    (result : Result Place RunFault) : Type 0 where
+-- The source has a story of the version, and what a run of its lines wrote is what the source means on the lines that
+-- stand: the transcript of the opening and the replies. The session is that of the story on these lines: its whole
+-- states are those of the machine.
+pub record PlaysSource (source : List ℕ) (version : Version) (fuel : ℕ) (keep : Option ℕ) (io : Streams)
+    (session : Session) (result : Result Place RunFault) : Type 0 where
   pub story : List ℕ
-  pub compiled : IsStoryOf V5 source story
+  pub compiled : IsStoryOf version source story
   pub ran : Ran (meant_by (resolve_program compiled.tree) fuel) keep io
       (λ s. IsSession story fuel keep s session) result
 
@@ -50,10 +50,11 @@ abbrev pub IsUntouched : Streams → Type 0
 IsUntouched io = Keeps io.unread_before io.unread_after × Keeps io.held_before io.held_after
 
 -- What compiling and playing come to. Where reading or writing failed, the session goes.
-abbrev pub Pairs : List ℕ → ℕ → Option ℕ → Streams → Result Session PairFault → Type 0
-Pairs source fuel keep io (Ok session) = (place : Place) × PlaysSource source fuel keep io session (Ok place)
-Pairs source fuel keep io (Err (faults.Source fault)) = Refuses V5 source fault × IsUntouched io
-Pairs source fuel keep io (Err (faults.Open fault)) =
-    ((story : List ℕ) × IsStoryOf V5 source story) × WantsMemory fault × IsUntouched io
-Pairs source fuel keep io (Err (faults.Run fault)) =
-    (session : Session) × PlaysSource source fuel keep io session (Err fault)
+abbrev pub Pairs : List ℕ → Version → ℕ → Option ℕ → Streams → Result Session PairFault → Type 0
+Pairs source version fuel keep io (Ok session) =
+    (place : Place) × PlaysSource source version fuel keep io session (Ok place)
+Pairs source version fuel keep io (Err (faults.Source fault)) = Refuses version source fault × IsUntouched io
+Pairs source version fuel keep io (Err (faults.Open fault)) =
+    ((story : List ℕ) × IsStoryOf version source story) × WantsMemory fault × IsUntouched io
+Pairs source version fuel keep io (Err (faults.Run fault)) =
+    (session : Session) × PlaysSource source version fuel keep io session (Err fault)

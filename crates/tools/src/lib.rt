@@ -7,3 +7,4 @@ pub use lexer::SourceFault;
 pub use machine::LoadFault;
 pub use pair::{PairFault, compile_and_run};
 pub use session::{OpenFault, Place, RunFault, Session, status};
+pub use zcore::Version;

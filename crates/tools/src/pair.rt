@@ -7,8 +7,9 @@ use lexer::SourceFault;
 use session::{OpenFault, RunFault, Session, run};
 use std::alloc::Global;
 use std::io::{Read, Write};
-use story::compile;
+use story::compile_for;
 use thiserror::Error;
+use zcore::Version;
 
 /// Why a source was not compiled, its story not opened, or its lines not played to the end.
 #[derive(Clone, Copy, Debug, PartialEq, Eq, Error)]
@@ -26,8 +27,8 @@ pub enum PairFault {
     Run(RunFault),
 }
 
-/// Compiles a source, opens its story with so many units of fuel for each turn, and plays the lines of a reader, as
-/// `run` does. At most `keep` turns can be taken back, or all where it is `None`.
+/// Compiles a source for a version, opens its story with so many units of fuel for each turn, and plays the lines of a
+/// reader, as `run` does. At most `keep` turns can be taken back, or all where it is `None`.
 ///
 /// What is written is the transcript that the source's meaning gives, run afresh on the lines that stand at each reply;
 /// and the session that is handed out has the whole states of the machine on these lines, after each undo and each redo
@@ -41,19 +42,20 @@ pub enum PairFault {
 pub fn compile_and_run<R: Read, W: Write>(
     alloc: Global,
     source: &[u8],
+    version: Version,
     fuel: u32,
     keep: Option<u32>,
     reader: &mut R,
     writer: &mut W,
 ) -> Result<Session, PairFault>
-    ensures { Pairs source.now fuel keep (record {
+    ensures { Pairs source.now version fuel keep (record {
       unread_before = R.remaining reader.old;
       unread_after = R.remaining reader.new;
       held_before = W.contents writer.old;
       held_after = W.contents writer.new;
     }) result }
 {
-    let story = match compile(alloc, source) {
+    let story = match compile_for(alloc, source, version) {
         Ok(story) => story,
         Err(fault) => return Err(PairFault::Source(fault)),
     };

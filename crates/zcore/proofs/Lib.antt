@@ -1,4 +1,5 @@
 pub mod Packing
+pub mod TextSizes
 pub mod Spelling
 pub mod Causes
 pub mod Fronts

@@ -99,6 +99,14 @@ pub(crate) fn spelling(c: u8) -> ZCharacters
     sign_spelling(c)
 }
 
+/// How many Z-characters spell a character.
+pub fn spelling_length(c: u8) -> usize
+    ensures length { result ≡ length (spec.spelling_of c) }
+    ensures few { result ≤ 4 }
+{
+    spelling(c).length
+}
+
 /// Adds the Z-characters of a character.
 fn put_spelled(characters: &mut Vec<u8>, c: u8) -> Result<(), AllocError>
     ensures { OnOk result (characters.new.items ≡ characters.old.items ++ spec.spelling_of c) }

@@ -14,6 +14,7 @@ mod reading;
 mod text;
 mod words;
 
+pub use alphabets::spelling_length;
 pub use fault::TextFault;
 pub use header::{Dictionary, Header, HeaderFault, Version};
 pub use instruction::{Branch, Operand, Operation};
@@ -22,3 +23,4 @@ pub use next::Next;
 pub use operations::{OpcodeRow, OperandCount};
 pub use place::{Fault, Limit, Place};
 pub use text::{decode_front, decode_text, encode_text, word_key};
+pub use words::words_for;

@@ -1,6 +1,8 @@
 //! Z-characters in words of two bytes: what a text is packed into, and where it is found in a story.
 
-ghost use Rattle.std.specs.Prelude.{◌≡◌, ◌<◌, ◌≤◌, ◌+◌, ◌*◌, ◌/◌, ◌^◌, ◌++◌, ◌∷◌, length, drop, MatchOption, IfOk, OnOk};
+ghost use Rattle.std.specs.Prelude.{◌≡◌, ◌<◌, ◌≤◌, ◌+◌, ◌*◌, ◌/◌, ◌^◌, ◌++◌, ◌∷◌, ℕ, List, length, drop, MatchOption, IfOk, OnOk};
+ghost use Rattle.zcore.specs.Alphabets.{spelled};
+ghost use Rattle.zcore.specs.Text.{encoded};
 ghost use Rattle.zcore.specs.Words as spec;
 ghost use Rattle.zcore.specs.Faults.{Gives};
 ghost use Rattle.zcore.specs.TextParts.{AreSmall, words_of, z_character_at};
@@ -70,6 +72,19 @@ pub(crate) fn pad(characters: &mut Vec<u8>) -> Result<(), AllocError>
         characters.push(5)?;
     }
     Ok(())
+}
+
+/// How many words the Z-text of a text with so many Z-characters has: at least one.
+pub fn words_for(characters: u128) -> u128
+    requires { characters < 2 ^ 127 }
+    ensures words { (text : List ℕ) → length (spelled text) ≡ characters → 2 * result ≡ length (encoded text) }
+    ensures few { result ≤ characters + 1 }
+{
+    if characters == 0 {
+        1
+    } else {
+        (characters + 2) / 3
+    }
 }
 
 /// The bytes of a story from an address on: none from its end on.

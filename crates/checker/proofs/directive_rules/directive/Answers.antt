@@ -1,22 +1,25 @@
 use Rattle.std.proofs.Common.{◌≡◌, refl, sym, ap, ◌∙◌}
 use Rattle.expressions.specs.Tree.{name_tree}
-use Rattle.syntax.specs.Tree.{DirectiveTree, global, constant, array, routine, directive_tree, optional_tree}
+use Rattle.syntax.specs.Tree.{DirectiveTree, global, constant, array, attribute, property, object, routine}
+use Rattle.syntax.specs.Tree.{directive_tree, optional_tree}
 use Rattle.statements.specs.Tree.{literal_tree}
-use Rattle.syntax.specs.Tree.{array_tree, routine_tree}
+use Rattle.syntax.specs.Tree.{array_tree, object_tree, routine_tree}
 use Rattle.names.specs.Noted.{noted}
 use Rattle.rules.specs.Literals.{named_breaches}
 use Rattle.checker.specs.Arrays.{array_breaches}
 use Rattle.checker.specs.Programs.{twice, routine_breaches, directive_breaches}
 use Rattle.names.specs.Scope.{file_in}
 use Rattle.names.proofs.Noted.{noted_two}
-use Rattle.checker.proofs.Directives.{added_global, added_constant, added_array, added_routine}
+use Rattle.checker.proofs.Directives.{added_global, added_constant, added_array, added_attribute}
+use Rattle.checker.proofs.Directives.{added_property, added_object, added_routine}
 use Rattle.checker.proofs.directive_rules.directive.Goals as goal
 
 pub returns-in_ok-push-in-Global-clause-added : goal.returns-in_ok-push-in-Global-clause-added
 returns-in_ok-push-in-Global-clause-added c =
     added_global (file_in c.args.file.now) (directive_tree c.args.directive.now) (name_tree c.in-Global.name)
     (optional_tree c.in-Global.value) c.args.found.now _ c.global.result
-    (ap directive_tree c.in-Global.is) c.in_ok-push-in-Global.ensures.items c.global.ensures.value refl refl
+    (ap directive_tree c.in-Global.is) c.in_ok-push-in-Global.ensures.items c.global.ensures.value
+    (record { arrays = refl; defaults = refl; objects = refl; routines = refl })
 
 pub returns-in_ok-push-in-Global-clause-breaches : goal.returns-in_ok-push-in-Global-clause-breaches
 returns-in_ok-push-in-Global-clause-breaches c =
@@ -49,7 +52,8 @@ returns-in_ok-push-in-Routine-clause-added c =
     added_routine (file_in c.args.file.now) (directive_tree c.args.directive.now) (routine_tree c.in-Routine.written)
     c.args.found.now _ c.in_ok-routine-in-Routine.field-0
     (ap directive_tree c.in-Routine.is) c.in_ok-push-in-Routine.ensures.items
-    c.in_ok-routine-in-Routine.ensures.value refl refl
+    c.in_ok-routine-in-Routine.ensures.value
+    (record { globals = refl; arrays = refl; defaults = refl; objects = refl })
 
 pub returns-in_ok-push-in-Routine-clause-breaches : goal.returns-in_ok-push-in-Routine-clause-breaches
 returns-in_ok-push-in-Routine-clause-breaches c =
@@ -66,7 +70,8 @@ returns-in_ok-push-in-Routine-clause-breaches c =
 pub returns-in_ok-array-in-Array-clause-added : goal.returns-in_ok-array-in-Array-clause-added
 returns-in_ok-array-in-Array-clause-added c =
     added_array (file_in c.args.file.now) (directive_tree c.args.directive.now) (array_tree c.in-Array.written)
-    c.args.found.now _ (ap directive_tree c.in-Array.is) c.in_ok-array-in-Array.ensures.added refl refl
+    c.args.found.now _ (ap directive_tree c.in-Array.is) c.in_ok-array-in-Array.ensures.added
+    (record { globals = refl; defaults = refl; objects = refl; routines = refl })
 
 pub returns-in_ok-array-in-Array-clause-breaches : goal.returns-in_ok-array-in-Array-clause-breaches
 returns-in_ok-array-in-Array-clause-breaches c =
@@ -76,6 +81,53 @@ returns-in_ok-array-in-Array-clause-breaches c =
     (twice c.args.names.now.table.entries (name_tree c.in-Array.written.name))
     (array_breaches c.args.file.now.table.entries (array_tree c.in-Array.written)) c.twice-in-Array.ensures
     c.in_ok-array-in-Array.ensures.breaches
+    ∙ ap (λ (d : DirectiveTree). noted c.args.least.now
+    (directive_breaches c.args.file.now.table.entries c.args.names.now.table.entries c.args.names.now.counts d))
+    (sym v)
+
+pub returns-in-Attribute-clause-added : goal.returns-in-Attribute-clause-added
+returns-in-Attribute-clause-added c =
+    added_attribute (file_in c.args.file.now) (directive_tree c.args.directive.now) (name_tree c.in-Attribute.name)
+    c.args.found.now (ap directive_tree c.in-Attribute.is)
+
+pub returns-in-Attribute-clause-breaches : goal.returns-in-Attribute-clause-breaches
+returns-in-Attribute-clause-breaches c =
+    let v : directive_tree c.args.directive.now ≡ attribute (name_tree c.in-Attribute.name) = ap directive_tree
+    c.in-Attribute.is in
+    c.attribute.ensures
+    ∙ ap (λ (d : DirectiveTree). noted c.args.least.now
+    (directive_breaches c.args.file.now.table.entries c.args.names.now.table.entries c.args.names.now.counts d))
+    (sym v)
+
+pub returns-in_ok-push-in-Property-clause-added : goal.returns-in_ok-push-in-Property-clause-added
+returns-in_ok-push-in-Property-clause-added c =
+    added_property (file_in c.args.file.now) (directive_tree c.args.directive.now) (name_tree c.in-Property.name)
+    (optional_tree c.in-Property.value) c.args.found.now _ c.property.result
+    (ap directive_tree c.in-Property.is) c.in_ok-push-in-Property.ensures.items c.property.ensures.value
+    (record { globals = refl; arrays = refl; objects = refl; routines = refl })
+
+pub returns-in_ok-push-in-Property-clause-breaches : goal.returns-in_ok-push-in-Property-clause-breaches
+returns-in_ok-push-in-Property-clause-breaches c =
+    let v : directive_tree c.args.directive.now ≡ property (name_tree c.in-Property.name)
+    (optional_tree c.in-Property.value) = ap directive_tree c.in-Property.is in
+    c.property.ensures.breaches
+    ∙ ap (λ (d : DirectiveTree). noted c.args.least.now
+    (directive_breaches c.args.file.now.table.entries c.args.names.now.table.entries c.args.names.now.counts d))
+    (sym v)
+
+pub returns-in_ok-push-in-Object-clause-added : goal.returns-in_ok-push-in-Object-clause-added
+returns-in_ok-push-in-Object-clause-added c =
+    added_object (file_in c.args.file.now) (directive_tree c.args.directive.now) (object_tree c.in-Object.written)
+    c.args.found.now _ c.in_ok-defined_object-in-Object.field-0
+    (ap directive_tree c.in-Object.is) c.in_ok-push-in-Object.ensures.items
+    c.in_ok-defined_object-in-Object.ensures.value
+    (record { globals = refl; arrays = refl; defaults = refl; routines = refl })
+
+pub returns-in_ok-push-in-Object-clause-breaches : goal.returns-in_ok-push-in-Object-clause-breaches
+returns-in_ok-push-in-Object-clause-breaches c =
+    let v : directive_tree c.args.directive.now ≡ object (object_tree c.in-Object.written) = ap directive_tree
+    c.in-Object.is in
+    c.in_ok-defined_object-in-Object.ensures.breaches
     ∙ ap (λ (d : DirectiveTree). noted c.args.least.now
     (directive_breaches c.args.file.now.table.entries c.args.names.now.table.entries c.args.names.now.counts d))
     (sym v)

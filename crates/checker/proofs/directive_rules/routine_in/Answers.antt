@@ -6,8 +6,8 @@ use Rattle.checker.proofs.directive_rules.routine_in.Goals as goal
 
 pub returns : goal.returns
 returns c =
-    let count : c.len.result ≡ length c.args.routine.now.locals.items = omega
-    (arith, c.len.ensures, c.args.routine.now.locals.ok.0) in
-    routine_walked (seen_in c.args.scope.now) c.args.routine.now c.deref.result.now c.len.result
+    let count : c.len-locals.result ≡ length c.args.routine.now.locals.items = omega
+    (arith, c.len-locals.ensures, c.args.routine.now.locals.ok.0) in
+    routine_walked (seen_in c.args.scope.now) c.args.routine.now c.body_of.result.now c.len-locals.result
     (map action_of c.in_ok-body.body.items) c.args.least.now c.all_statements.new.least
-    c.deref.ensures.value count c.in_ok-body.ensures
+    c.body_of.ensures count c.in_ok-body.ensures

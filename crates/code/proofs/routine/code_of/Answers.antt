@@ -3,14 +3,14 @@ use Rattle.forms.specs.declared.layout.Part.{Part}
 use Rattle.forms.specs.Layout.{lefts, uses}
 use Rattle.items.specs.Code.{items_of}
 use Rattle.code.specs.Bytes.{lefts_of, parts_of, code_size}
-use Rattle.code.specs.Written.{place_in}
+use Rattle.code.specs.Written.{place_in, sizes_in}
 use Rattle.code.proofs.Codes.{place_is, last_place}
 use Rattle.code.proofs.routine.code_of.Goals as goal
 
 pub invariant_of-result : goal.invariant_of-result
 invariant_of-result c =
     let xs = c.args.items.items in
-    let sizes = c.args.sizes.now in
+    let sizes = sizes_in c.args.sizes in
     let ys = c.deref.result.now in
     let same = ap items_of c.deref.ensures.value in
     let parts = ap (parts_of sizes) same in

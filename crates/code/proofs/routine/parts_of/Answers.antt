@@ -1,12 +1,13 @@
 use Rattle.std.proofs.Common.{length, ap, arith}
 use Rattle.items.specs.Code.{item_of, items_of}
+use Rattle.code.specs.Written.{sizes_in}
 use Rattle.code.proofs.Codes.{least_sum, lefts_low, part_next, items_length, parts_count, all_sum}
 use Rattle.code.proofs.routine.parts_of.Goals as goal
 
 pub returns-clause-fits : goal.returns-clause-fits
 returns-clause-fits c =
     let xs = c.args.items.now in
-    let sizes = c.args.sizes.now in
+    let sizes = sizes_in c.args.sizes.now in
     let low = lefts_low sizes 0 (items_of xs) in
     let sum = all_sum sizes (length c.loop-item.bytes.items) (least_sum sizes (items_of xs)) xs c.loop-item.item-index
     c.loop-item-test.false c.loop-item.invariant.1 in
@@ -29,7 +30,7 @@ returns-clause-fits c =
 pub loop-item-preserved : goal.loop-item-preserved
 loop-item-preserved c =
     let x = c.item-item.result in
-    part_next c.args.sizes.now c.loop-item.bytes.items c.put_item.new.bytes.items
+    part_next (sizes_in c.args.sizes.now) c.loop-item.bytes.items c.put_item.new.bytes.items
     c.loop-item.parts.items c.push.new.self.items
     c.args.items.now c.loop-item.item-index x (item_of x)
     c.saturating_sub-size.result c.target_of-target.result _ _ c.loop-item-test.true (ap item_of c.item-item.is)

@@ -1,12 +1,12 @@
 use Rattle.std.proofs.Common.{◌≡◌, ◌++◌, drop}
 use Rattle.items.specs.Code.{items_of}
 use Rattle.code.specs.Bytes.{place_of, items_bytes}
-use Rattle.code.specs.Written.{addresses_of}
+use Rattle.code.specs.Written.{addresses_of, sizes_in}
 use Rattle.code.proofs.routine.put_items.Given as goal
 
 abbrev pub invariant-loop-number : goal.invariant-loop-number
 invariant-loop-number l =
-    l.bytes.items ++ items_bytes l.sizes (addresses_of l.addresses) (place_of l.sizes (items_of l.items)) l.number
+    l.bytes.items ++ items_bytes (sizes_in l.sizes) (addresses_of l.addresses) (place_of (sizes_in l.sizes) (items_of l.items)) l.number
     (items_of (drop l.number l.items))
-    ≡ l.initial.bytes.items ++ items_bytes l.sizes (addresses_of l.addresses) (place_of l.sizes (items_of l.items)) 0
+    ≡ l.initial.bytes.items ++ items_bytes (sizes_in l.sizes) (addresses_of l.addresses) (place_of (sizes_in l.sizes) (items_of l.items)) 0
     (items_of l.items)

@@ -7,12 +7,16 @@ use Rattle.lexer.specs.Token.{lexemes}
 use Rattle.expressions.specs.Tree.{name_tree, expression_tree}
 use Rattle.expressions.specs.Parse.{tail, is_sign, is_word, nested, expression, sum}
 use Rattle.expressions.specs.Levels.{operator_of, operand_of}
-use Rattle.expressions.proofs.Cases.{expression_fails, expression_alone, comparison_fails, comparison_alone}
-use Rattle.expressions.proofs.Cases.{assigned_whole, after_name_called, assigned_deep, after_name_deep, enclosed_deep}
+use Rattle.expressions.proofs.Nested.{nested_whole}
+use Rattle.expressions.proofs.Cases.{expression_fails, expression_alone, comparison_fails, comparison_contains}
+use Rattle.expressions.proofs.Cases.{comparison_tests, indexed_alone, unindexed_prefixed, unindexed_fails}
+use Rattle.expressions.proofs.Cases.{unindexed_suffixed, unindexed_owned, entry_fails, entry_indexes, primary_owner}
+use Rattle.expressions.proofs.Cases.{enclosed_whole, word_valued, word_related, related_whole, assigned_whole}
+use Rattle.expressions.proofs.Cases.{within_deep}
+use Rattle.expressions.proofs.Cases.{after_name_called, after_name_deep}
 use Rattle.expressions.proofs.Cases.{negated_deep, complemented_deep, unary_deep, unary_step_deep, expression_assigns}
 use Rattle.expressions.proofs.Cases.{comparison_compares, comparison_equates, unary_steps, called_with, negated_not}
-use Rattle.expressions.proofs.Cases.{complemented_tilde, indexed_alone, indexed_entry, unary_minus, unary_step}
-use Rattle.expressions.proofs.Cases.{enclosed_whole}
+use Rattle.expressions.proofs.Cases.{complemented_tilde, indexed_entry, unary_minus, unary_step}
 use Rattle.expressions.proofs.Chain.{arguments_begin, arguments_more, values_more, level_single, level_fails}
 use Rattle.expressions.proofs.Chain.{values_begin, level_second_fails, level_begins, chain_fails, chain_more}
 use Rattle.expressions.proofs.Chain.{list_fails, further_fails, arguments_read, values_read}
@@ -116,20 +120,6 @@ complemented-returns t c = c.prefixed.ensures _ _ c.complemented-operand.ensures
     (complemented_tilde c.args.depth c.in_ok-inside.inside c.in_ok-inside.ensures.opened (lexemes c.args.tokens.now)
     (lexemes c.skip.result.now) (grind arith) c.skip.ensures)
 
-pub indexed-returns-in_default : goal.indexed-returns-in_default
-indexed-returns-in_default t c = rw
-    (indexed_alone c.args.depth (lexemes c.args.tokens.now) c.in_default.ensures) c.unary.ensures
-
-pub indexed-returns : goal.indexed-returns
-indexed-returns t c = c.index.ensures _ _ c.unary-index.ensures
-    (indexed_entry c.args.depth (lexemes c.args.tokens.now) (lexemes c.skip-2.result.now) _ _ c.in-Some.ensures
-    (c.skip-2.ensures ∙ ap tail c.skip.ensures))
-
-pub enclosed-returns : goal.enclosed-returns
-enclosed-returns t c = c.parenthesised.ensures _ _ c.expression-enclosed.ensures
-    (enclosed_whole c.args.depth c.in_ok-inside.inside c.in_ok-inside.ensures.opened
-    (tail (lexemes c.args.tokens.now)) (lexemes c.skip.result.now) c.skip.ensures)
-
 pub expression-returns : goal.expression-returns
 expression-returns t c = c.assign.ensures _ _ c.assigned-right.ensures
     (expression_assigns c.args.depth (lexemes c.args.tokens.now) (lexemes c.in_ok-left.rest.now)
@@ -152,7 +142,7 @@ unary-returns-in-Some t c = c.step_before.ensures _ _ c.primary-stepped.ensures
     c.position.ensures)
 
 pub unary-returns : goal.unary-returns
-unary-returns t c = c.stepped.ensures _ _ c.primary.ensures
+unary-returns t c = c.suffixed.ensures _ _ c.primary.ensures
     (unary_steps c.args.depth (lexemes c.args.tokens.now) (grind arith) (grind arith))
 
 pub values-returns-in_err-first : goal.values-returns-in_err-first
@@ -168,26 +158,12 @@ values-loop-turn-init t c =
     (values_begin (is_word w.Or) (sum (nested c.args.depth)) (lexemes c.args.tokens.now) c.in_ok-first.rest.now _
     c.in_ok-first.ensures)
 
-pub assigned-returns-in_err-inside : goal.assigned-returns-in_err-inside
-assigned-returns-in_err-inside t c =
-    let p = err_from_is_err_and c.from_residual.result c.from_residual.ensures.1 in
-    rw (p.1, p.2)
-    (assigned_deep c.in_err-inside.field-0.0 c.args.depth _ c.in_err-inside.ensures.refused
-    (lexemes c.args.tokens.now) (grind arith))
-
 pub after_name-returns-in_err-inside : goal.after_name-returns-in_err-inside
 after_name-returns-in_err-inside t c =
     let p = err_from_is_err_and c.from_residual.result c.from_residual.ensures.1 in
     rw (p.1, p.2)
     (after_name_deep c.in_err-inside.field-0.0 c.args.depth _ c.in_err-inside.ensures.refused
     (name_tree c.args.name) (lexemes c.args.tokens.now) (grind arith))
-
-pub enclosed-returns-in_err-inside : goal.enclosed-returns-in_err-inside
-enclosed-returns-in_err-inside t c =
-    let p = err_from_is_err_and c.from_residual.result c.from_residual.ensures.1 in
-    rw (p.1, p.2)
-    (enclosed_deep c.in_err-inside.field-0.0 c.args.depth _ c.in_err-inside.ensures.refused
-    (tail (lexemes c.args.tokens.now)))
 
 pub negated-returns-in_err-inside : goal.negated-returns-in_err-inside
 negated-returns-in_err-inside t c =
@@ -217,11 +193,6 @@ unary-returns-in_err-within t c =
     (unary_step_deep c.in_err-within.field-0.0 c.args.depth _ c.in_err-within.ensures.refused
     (lexemes c.args.tokens.now) c.in-Some.step (grind arith) (grind arith))
 
-pub assigned-returns : goal.assigned-returns
-assigned-returns t c = rw
-    (assigned_whole c.args.depth c.in_ok-inside.inside c.in_ok-inside.ensures.opened (lexemes c.args.tokens.now)
-    (grind arith)) c.expression.ensures
-
 pub after_name-returns : goal.after_name-returns
 after_name-returns t c = rw
     (after_name_called c.args.depth c.in_ok-inside.inside c.in_ok-inside.ensures.opened (name_tree c.args.name)
@@ -242,10 +213,6 @@ comparison-returns-in_err-left t c =
     let p = err_from_is_err_and c.from_residual.result c.from_residual.ensures.1 in
     rw (p.1, p.2)
     (comparison_fails c.args.depth c.in_err-left.field-0.0 (lexemes c.args.tokens.now) c.in_err-left.ensures)
-
-pub comparison-returns : goal.comparison-returns
-comparison-returns t c = comparison_alone c.args.depth (lexemes c.args.tokens.now) (lexemes c.in_ok-left.rest.now) _
-    c.in_ok-left.ensures (grind arith) (grind arith)
 
 pub chain-returns-in_err-first : goal.chain-returns-in_err-first
 chain-returns-in_err-first t c =
@@ -279,3 +246,93 @@ values-loop-turn-preserved t c =
     (lexemes c.loop-turn.rest.now) c.in_ok-value.value.value _ c.loop-turn-test.true (grind arith)
     (rw c.skip.ensures at c.in_ok-value.ensures))
     ∙ c.loop-turn.invariant)
+
+pub comparison-returns-in-Some-containing : goal.comparison-returns-in-Some-containing
+comparison-returns-in-Some-containing t c = c.contained.ensures _ _ c.chain-container.ensures
+    (comparison_contains c.args.depth (lexemes c.args.tokens.now) (lexemes c.in_ok-left.rest.now)
+    (lexemes c.skip-in-Some-containing.result.now) _ c.in-Some-containing.containment c.in_ok-left.ensures
+    (grind arith) (grind arith) (grind arith) c.skip-in-Some-containing.ensures)
+
+pub comparison-returns : goal.comparison-returns
+comparison-returns t c = rw
+    (comparison_tests c.args.depth (lexemes c.args.tokens.now) (lexemes c.in_ok-left.rest.now) _
+    c.in_ok-left.ensures (grind arith) (grind arith) (grind arith)) c.tested.ensures
+
+pub indexed-returns-in_default : goal.indexed-returns-in_default
+indexed-returns-in_default t c = rw
+    (indexed_alone c.args.depth (lexemes c.args.tokens.now) c.in_default.ensures) c.unindexed.ensures
+
+pub indexed-returns : goal.indexed-returns
+indexed-returns t c = c.index.ensures _ _ c.unary-index.ensures
+    (indexed_entry c.args.depth (lexemes c.args.tokens.now) (lexemes c.skip-2.result.now) _ _ c.in-Some.ensures
+    (c.skip-2.ensures ∙ ap tail c.skip.ensures))
+
+pub unindexed-returns-then-prefixes : goal.unindexed-returns-then-prefixes
+unindexed-returns-then-prefixes t c = rw
+    (unindexed_prefixed c.args.depth (lexemes c.args.tokens.now) (grind arith)) c.unary.ensures
+
+pub unindexed-returns-in_err-owner : goal.unindexed-returns-in_err-owner
+unindexed-returns-in_err-owner t c =
+    let p = err_from_is_err_and c.from_residual.result c.from_residual.ensures.1 in
+    rw (p.1, p.2)
+    (unindexed_fails c.args.depth c.in_err-owner.field-0.0 (lexemes c.args.tokens.now) (grind arith)
+    c.in_err-owner.ensures)
+
+pub unindexed-returns-then-not-is_sign : goal.unindexed-returns-then-not-is_sign
+unindexed-returns-then-not-is_sign t c = rw
+    (unindexed_suffixed c.args.depth (lexemes c.args.tokens.now) (lexemes c.in_ok-owner.rest.now) _ (grind arith)
+    c.in_ok-owner.ensures (grind arith)) c.suffix.ensures
+
+pub unindexed-returns : goal.unindexed-returns
+unindexed-returns t c = rw
+    (unindexed_owned c.args.depth (lexemes c.args.tokens.now) (lexemes c.in_ok-owner.rest.now)
+    (lexemes c.skip.result.now) _ (grind arith) c.in_ok-owner.ensures (grind arith) c.skip.ensures) c.entry.ensures
+
+pub entry-returns-in_err-name : goal.entry-returns-in_err-name
+entry-returns-in_err-name t c =
+    let p = err_from_is_err_and c.from_residual.result c.from_residual.ensures.1 in
+    rw (p.1, p.2)
+    (entry_fails c.args.depth c.in_err-name.field-0.0 (expression_tree c.args.owner.value)
+    (lexemes c.args.tokens.now) c.in_err-name.ensures)
+
+pub entry-returns : goal.entry-returns
+entry-returns t c = c.property_entry.ensures _ _ c.unary-index.ensures
+    (entry_indexes c.args.depth (expression_tree c.args.owner.value) (lexemes c.args.tokens.now)
+    (lexemes c.in_ok-name.rest.now) _ c.in_ok-name.ensures)
+
+pub primary-returns : goal.primary-returns
+primary-returns t c = c.with_properties.ensures _ _ c.atom.ensures
+    (primary_owner c.args.depth (lexemes c.args.tokens.now))
+
+pub enclosed-returns : goal.enclosed-returns
+enclosed-returns t c = c.parenthesised.ensures _ _ c.within-inside.ensures
+    (enclosed_whole c.args.depth (tail (lexemes c.args.tokens.now)) (lexemes c.skip.result.now) c.skip.ensures)
+
+pub reserved-returns-in_default : goal.reserved-returns-in_default
+reserved-returns-in_default t c = rw
+    (word_valued c.args.depth c.args.word (tail (lexemes c.args.tokens.now)) (grind arith)) c.word_constant.ensures
+
+pub reserved-returns : goal.reserved-returns
+reserved-returns t c = rw
+    (word_related c.args.depth c.args.word c.in-Some.relative (tail (lexemes c.args.tokens.now))
+    (lexemes c.skip.result.now) (grind arith) c.skip.ensures) c.related.ensures
+
+pub related-returns : goal.related-returns
+related-returns t c = c.relative_of.ensures _ _ c.within-inside.ensures
+    (related_whole c.args.depth c.args.relative (lexemes c.args.tokens.now) (lexemes c.skip.result.now)
+    (grind arith) c.skip.ensures)
+
+pub assigned-returns : goal.assigned-returns
+assigned-returns t c = rw (assigned_whole c.args.depth (lexemes c.args.tokens.now) (grind arith)) c.within.ensures
+
+pub within-returns-in_err-inside : goal.within-returns-in_err-inside
+within-returns-in_err-inside t c =
+    let p = err_from_is_err_and c.from_residual.result c.from_residual.ensures.1 in
+    rw (p.1, p.2)
+    (within_deep c.in_err-inside.field-0.0 c.args.depth _ c.in_err-inside.ensures.refused
+    (lexemes c.args.tokens.now))
+
+pub within-returns : goal.within-returns
+within-returns t c = rw
+    (nested_whole c.args.depth c.in_ok-inside.inside (lexemes c.args.tokens.now) c.in_ok-inside.ensures.opened)
+    c.expression.ensures

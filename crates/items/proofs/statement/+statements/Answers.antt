@@ -1,16 +1,20 @@
-use Rattle.std.proofs.Common.{◌≡◌, ℕ, ◌+◌, ◌-◌, ◌<◌, List, [], length, map, drop, refl, sym, subst, arith}
+use Rattle.std.proofs.Common.{◌≡◌, ℕ, ◌+◌, ◌-◌, ◌<◌, Bool, List, [], length, map, drop, refl, sym, subst, arith}
 use Rattle.meaning.specs.declared.resolved.Printed as code_printed
 use Rattle.meaning.specs.declared.resolved.Action as code_action
 use Rattle.std.specs.Global.{Vec}
 use Rattle.std.specs.Option.{option_map}
 use Rattle.meaning.specs.declared.resolved.Span.{Span}
 use Rattle.meaning.specs.Resolved.{Action, CasesOf, while_do, do_until, for_loop, switch_on, value_of, printed_of}
-use Rattle.meaning.specs.Resolved.{range_of, action_of, actions_of, case_of, cases_of, other_of}
+use Rattle.meaning.specs.Resolved.{range_of, action_of, actions_of, case_of, cases_of, other_of, give_to, each_object}
+use Rattle.meaning.specs.Resolved.{each_where, each_in}
 use Rattle.items.specs.Items.{action_items, actions_items, cases_items, prints_items, groups_of, tests_items}
+use Rattle.items.specs.Items.{action_count}
 use Rattle.items.specs.declared.exits.Exits.{Exits}
 use Rattle.items.specs.Writing.{written_in, Written, exits_of, LeavesCases}
 use Rattle.items.proofs.Trees.{text_is, print_return_is, if_else_is, while_is, do_is, for_is, switch_is, return_is}
-use Rattle.items.proofs.Rounds.{do_more, for_more}
+use Rattle.items.proofs.Trees.{give_is, move_is, remove_is, each_is, each_where_is, each_in_is}
+use Rattle.items.proofs.Rounds.{do_more, for_more, each_more, each_where_more, each_in_more}
+use Rattle.items.proofs.StatementCounts.{action_length}
 use Rattle.items.proofs.SwitchCases.{case_leaves, case_next, cases_all, switch_more}
 use Rattle.items.proofs.Actions.{if_more, else_more, while_more, text_more, print_return_more, action_next}
 use Rattle.items.proofs.statement.+statements.Goals as goal
@@ -181,3 +185,82 @@ put_statement-returns-in_ok-put_switch-in-Switch t c =
     (cases_of (map case_of l) (other_of x.other)))) in
     subst P (sym (switch_is _ _ _ _ x.is)) (subst Q c.deref-in-Switch.ensures.value
     c.in_ok-put_switch-in-Switch.ensures)
+
+-- Objects
+
+pub put_each-returns : goal.put_each-returns
+put_each-returns t c y =
+    let a = action_of c.args.body.now in
+    let next = c.in_ok-inside.ensures in
+    each_more _ _ _ _ _ c.args.variable (action_count a) (λ inside place. action_items inside place a)
+    c.in_ok-inside.inside c.written-end.result (λ e at. action_length e a at) c.written-end.ensures next.0 next.1
+    next.2 c.in_ok-put_statement.ensures c.lead_back.ensures c.in_ok-put.ensures
+
+pub put_each_where-returns : goal.put_each_where-returns
+put_each_where-returns t c =
+    let next = c.in_ok-inside.ensures in
+    each_where_more _ _ _ _ _ _ c.args.variable (value_of c.args.test.now) (action_of c.args.body.now)
+    c.in_ok-inside.inside c.written-end.result c.written-end.ensures next.0 next.1 next.2
+    c.in_ok-put_statement.ensures c.in_ok-put_value.ensures c.lead_back.ensures c.in_ok-put.ensures
+
+pub put_each_in-returns : goal.put_each_in-returns
+put_each_in-returns t c =
+    each_in_more _ _ _ _ _ _ _ c.args.variable _ (value_of c.args.parent.now) (action_of c.args.body.now) _
+    c.written-end.ensures c.in_ok-put.ensures c.in_ok-put_kin.ensures c.written.ensures c.in_ok-put_statement.ensures
+    c.lead_back.ensures c.alone-operand.ensures c.in_ok-put_kin-2.ensures c.in_ok-put_operand.ensures
+
+pub put_statement-returns-in_ok-put_give-in-Give : goal.put_statement-returns-in_ok-put_give-in-Give
+put_statement-returns-in_ok-put_give-in-Give t c =
+    let x = c.in-Give in
+    let P : Action → Type 0 = λ a. Written (written_in c.args.draft.now) (written_in c.put_give.new.draft)
+    (λ n at. action_items (exits_of n c.args.exits) at a) in
+    let Q : List (Bool × ℕ) → Type 0 = λ l. Written (written_in c.args.draft.now) (written_in c.put_give.new.draft)
+    (λ n at. action_items (exits_of n c.args.exits) at (give_to (value_of x.object) l)) in
+    subst P (sym (give_is _ _ _ x.is)) (subst Q c.deref-in-Give.ensures.value
+    (c.in_ok-put_give-in-Give.ensures c.args.exits))
+
+pub put_statement-returns-in_ok-put_move-in-Move : goal.put_statement-returns-in_ok-put_move-in-Move
+put_statement-returns-in_ok-put_move-in-Move t c =
+    let P : Action → Type 0 = λ a. Written (written_in c.args.draft.now) (written_in c.put_move.new.draft)
+    (λ n at. action_items (exits_of n c.args.exits) at a) in
+    subst P (sym (move_is _ _ _ c.in-Move.is)) (c.in_ok-put_move-in-Move.ensures c.args.exits)
+
+pub put_statement-returns-in_ok-put_remove-in-Remove : goal.put_statement-returns-in_ok-put_remove-in-Remove
+put_statement-returns-in_ok-put_remove-in-Remove t c =
+    let P : Action → Type 0 = λ a. Written (written_in c.args.draft.now) (written_in c.put_remove.new.draft)
+    (λ n at. action_items (exits_of n c.args.exits) at a) in
+    subst P (sym (remove_is _ _ c.in-Remove.is)) (c.in_ok-put_remove-in-Remove.ensures c.args.exits)
+
+pub put_statement-returns-in_ok-put_each-in-EachObject : goal.put_statement-returns-in_ok-put_each-in-EachObject
+put_statement-returns-in_ok-put_each-in-EachObject t c =
+    let x = c.in-EachObject in
+    let P : Action → Type 0 = λ a. Written (written_in c.args.draft.now) (written_in c.put_each.new.draft)
+    (λ n at. action_items (exits_of n c.args.exits) at a) in
+    let Q : code_action.Action → Type 0 =
+    λ s. Written (written_in c.args.draft.now) (written_in c.put_each.new.draft)
+    (λ n at. action_items (exits_of n c.args.exits) at (each_object x.variable (action_of s))) in
+    subst P (sym (each_is _ _ _ x.is)) (subst Q c.deref-in-EachObject.ensures
+    (c.in_ok-put_each-in-EachObject.ensures c.args.exits))
+
+pub put_statement-returns-in_ok-put_each_where-in-EachWhere :
+    goal.put_statement-returns-in_ok-put_each_where-in-EachWhere
+put_statement-returns-in_ok-put_each_where-in-EachWhere t c =
+    let x = c.in-EachWhere in
+    let P : Action → Type 0 = λ a. Written (written_in c.args.draft.now) (written_in c.put_each_where.new.draft)
+    (λ n at. action_items (exits_of n c.args.exits) at a) in
+    let Q : code_action.Action → Type 0 =
+    λ s. Written (written_in c.args.draft.now) (written_in c.put_each_where.new.draft)
+    (λ n at. action_items (exits_of n c.args.exits) at (each_where x.variable (value_of x.test) (action_of s))) in
+    subst P (sym (each_where_is _ _ _ _ x.is)) (subst Q c.deref-in-EachWhere.ensures
+    (c.in_ok-put_each_where-in-EachWhere.ensures c.args.exits))
+
+pub put_statement-returns-in_ok-put_each_in-in-EachIn : goal.put_statement-returns-in_ok-put_each_in-in-EachIn
+put_statement-returns-in_ok-put_each_in-in-EachIn t c =
+    let x = c.in-EachIn in
+    let P : Action → Type 0 = λ a. Written (written_in c.args.draft.now) (written_in c.put_each_in.new.draft)
+    (λ n at. action_items (exits_of n c.args.exits) at a) in
+    let Q : code_action.Action → Type 0 =
+    λ s. Written (written_in c.args.draft.now) (written_in c.put_each_in.new.draft)
+    (λ n at. action_items (exits_of n c.args.exits) at (each_in x.variable (value_of x.parent) (action_of s))) in
+    subst P (sym (each_in_is _ _ _ _ x.is)) (subst Q c.deref-in-EachIn.ensures
+    (c.in_ok-put_each_in-in-EachIn.ensures c.args.exits))

@@ -28,6 +28,15 @@ decreases-put_do l = 8 * goal.size-put_do l + 2
 abbrev pub decreases-put_for : goal.decreases-put_for
 decreases-put_for l = 8 * goal.size-put_for l + 2
 
+abbrev pub decreases-put_each : goal.decreases-put_each
+decreases-put_each l = 8 * goal.size-put_each l + 2
+
+abbrev pub decreases-put_each_where : goal.decreases-put_each_where
+decreases-put_each_where l = 8 * goal.size-put_each_where l + 2
+
+abbrev pub decreases-put_each_in : goal.decreases-put_each_in
+decreases-put_each_in l = 8 * goal.size-put_each_in l + 2
+
 abbrev pub decreases-put_statements : goal.decreases-put_statements
 decreases-put_statements l = 8 * goal.size-put_statements l + 1
 

@@ -4,8 +4,11 @@ use Rattle.std.proofs.Common.{refl}
 use Rattle.std.proofs.lemmas.List.{take_rest}
 use Rattle.expressions.specs.declared.tree.Binary.{Binary}
 use Rattle.meaning.specs.declared.resolved.Value as code_value
-use Rattle.meaning.specs.Resolved.{Value, value_of, values_of}
-use Rattle.items.specs.Items.{pushed, branch_true, left_of, operand_of, operands_of, operands_items}
+use Rattle.meaning.specs.Resolved.{Value, value_of, values_of, relative, contained, has, provides, property}
+use Rattle.meaning.specs.Resolved.{property_size, property_word, assign_property, call, prefixed, assign, entry}
+use Rattle.meaning.specs.Resolved.{compare, assign_entry}
+use Rattle.items.specs.Items.{pushed, branch_true, left_of, operand_of, operands_of, operands_items, agrees}
+use Rattle.items.specs.Items.{containment_when, first_of}
 use Rattle.items.specs.Items as items
 use Rattle.items.specs.Code.{as_operand, as_operands, as_destination}
 use Rattle.items.specs.declared.item.Destination as code
@@ -13,11 +16,17 @@ use Rattle.items.specs.declared.item.Operand as code_operand
 use Rattle.items.specs.declared.wanted.Wanted.{Wanted}
 use Rattle.items.specs.Writing.{written_in, link_of, folded_items, first_items, pushes, first_operand, second_operand}
 use Rattle.items.specs.Writing.{wanted_items, Written, ReducesWord, ReducesLink, ReducesLinks, ReducesEquality}
-use Rattle.items.proofs.Trees.{chain_is, equal_is, step_before_is}
+use Rattle.items.specs.Writing.{ReducesAssignedWord}
+use Rattle.items.proofs.Trees.{chain_is, equal_is, step_before_is, assign_property_word_is, number_is, read_is}
+use Rattle.items.proofs.Trees.{call_is, prefixed_is, step_after_is, compare_is, assign_is, entry_is, assign_entry_is}
+use Rattle.items.proofs.Trees.{relative_is, contained_is, has_is, provides_is, property_is, property_size_is}
+use Rattle.items.proofs.Trees.{property_word_is, assign_property_is}
 use Rattle.items.proofs.Values.{call_more, prefix_more, not_more_at, and_link_at, or_link_at}
 use Rattle.items.proofs.Values.{not_logical, operate_link, chain_more, compare_link, entry_more, assigned_entry_link}
 use Rattle.items.proofs.Assigned.{assign_nowhere, assign_pushed, assign_kept}
 use Rattle.items.proofs.Alternatives.{few_link, many_link, equal_more, operand_next, folded_next, link_next}
+use Rattle.items.proofs.ObjectForms.{one_word, one_condition, two_word, two_condition, assigned_word_link}
+use Rattle.items.proofs.ObjectForms.{assigned_word_more, box_more, pair_more}
 use Rattle.items.proofs.value.+values.Goals as goal
 
 pub put_assigned-returns-in_ok-put_value-in-Nowhere : goal.put_assigned-returns-in_ok-put_value-in-Nowhere
@@ -266,3 +275,237 @@ put_links-returns t c =
     (written_in c.loop-done.draft) c.args.wanted c.loop-done.wanted (map link_of (drop k xs)) in
     let none : length xs - c.loop-done.done ≡ 0 = omega (arith, c.loop-done-test.false) in
     subst P none c.loop-done.invariant
+
+-- What is said of objects
+
+pub put_relative-returns : goal.put_relative-returns
+put_relative-returns t c =
+    let r = c.args.relation in
+    one_word _ _ _ _ c.args.wanted _ _ (value_of c.args.object.now) (relative r (value_of c.args.object.now))
+    (items.relative r) (λ n p e. refl) (λ at e. refl) (λ at t when. refl) c.in_ok-destination.ensures
+    c.alone-operand.ensures c.in_ok-put.ensures c.in_ok-put_operand.ensures
+
+pub put_property-returns : goal.put_property-returns
+put_property-returns t c =
+    let number = c.args.number in
+    one_word _ _ _ _ c.args.wanted _ _ (value_of c.args.object.now) (property (value_of c.args.object.now) number)
+    (λ o d. items.property o number d) (λ n p e. refl) (λ at e. refl) (λ at t when. refl)
+    c.in_ok-destination.ensures c.alone-operand.ensures c.in_ok-put.ensures c.in_ok-put_operand.ensures
+
+pub put_property_size-returns : goal.put_property_size-returns
+put_property_size-returns t c =
+    let number = c.args.number in
+    one_word _ _ _ _ c.args.wanted _ _ (value_of c.args.object.now)
+    (property_size (value_of c.args.object.now) number) (λ o d. items.property_size o number d) (λ n p e. refl)
+    (λ at e. refl) (λ at t when. refl) c.in_ok-destination.ensures c.alone-operand.ensures c.in_ok-put.ensures
+    c.in_ok-put_operand.ensures
+
+pub put_has-returns : goal.put_has-returns
+put_has-returns t c =
+    let object = value_of c.args.object.now in
+    let positive = c.args.positive in
+    let attribute = c.args.attribute in
+    let target = c.in_ok-when.target in
+    let c1 = written_in c.put_truth.new.draft in
+    one_condition _ _ _ _ c.args.wanted c.in_ok-when.when target _ object (has positive object attribute)
+    (λ o b place. items.has o attribute (agrees positive b) place) (λ n place o b. refl) (λ at d. refl)
+    (λ at place b. refl) c.in_ok-when.ensures c.alone-operand.ensures
+    (c.in_ok-put.ensures
+    ∙ ap (λ b. c1 ++ items.has (as_operand c.alone-operand.result) attribute b target ∷ []) c.has_when-when.ensures)
+    c.in_ok-put_operand.ensures
+
+pub put_provides-returns : goal.put_provides-returns
+put_provides-returns t c =
+    let object = value_of c.args.object.now in
+    let number = c.args.property in
+    one_condition _ _ _ _ c.args.wanted c.in_ok-when.when c.in_ok-when.target _ object (provides object number)
+    (λ o b place. items.provides o number b place) (λ n place o b. refl) (λ at d. refl) (λ at place b. refl)
+    c.in_ok-when.ensures c.alone-operand.ensures c.in_ok-put.ensures c.in_ok-put_operand.ensures
+
+pub put_contained-returns : goal.put_contained-returns
+put_contained-returns t c =
+    let op = c.args.containment in
+    let parent = value_of c.args.parent.now in
+    let o = as_operand c.args.object in
+    let target = c.in_ok-when.target in
+    let c1 = written_in c.put_truth.new.draft in
+    two_condition _ _ _ _ c.args.wanted c.in_ok-when.when target o _ parent (λ v. contained op v parent)
+    (λ o q b place. items.is_in o q (containment_when op b) place) (λ n place o q b. refl) (λ v at d. refl)
+    (λ v at place b. refl) c.in_ok-when.ensures c.alone-operand.ensures
+    (c.in_ok-put.ensures
+    ∙ ap (λ b. c1 ++ items.is_in o (as_operand c.alone-operand.result) b target ∷ []) c.containment_when-when.ensures)
+    c.in_ok-put_operand.ensures
+
+pub put_property_word-returns : goal.put_property_word-returns
+put_property_word-returns t c =
+    let number = c.args.number in
+    let index = value_of c.args.index.now in
+    two_word _ _ _ _ c.args.wanted _ _ _ index (λ v. property_word v number index)
+    (λ o q d. items.property_word number o q d) (λ n o q e. refl) (λ v at e. refl) (λ v at t when. refl)
+    c.in_ok-destination.ensures c.alone-operand.ensures c.in_ok-put.ensures c.in_ok-put_operand.ensures
+
+pub put_assigned_property-returns : goal.put_assigned_property-returns
+put_assigned_property-returns t c =
+    let number = c.args.number in
+    let word = value_of c.args.value.now in
+    two_word _ _ _ _ c.args.wanted _ _ _ word (λ v. assign_property v number word)
+    (λ o q d. items.assign_property number o q d) (λ n o q e. refl) (λ v at e. refl) (λ v at t when. refl)
+    c.in_ok-destination.ensures c.alone-operand.ensures c.in_ok-put.ensures c.in_ok-put_operand.ensures
+
+pub put_assigned_word-returns : goal.put_assigned_word-returns
+put_assigned_word-returns t c =
+    assigned_word_link _ _ _ _ c.args.wanted _ c.args.number _ _ _ _ c.in_ok-destination.ensures
+    c.alone-operand.ensures c.in_ok-put.ensures c.in_ok-put_operand.ensures
+
+pub put_value-returns-in_ok-put_operand-in-AssignPropertyWord-2 :
+    goal.put_value-returns-in_ok-put_operand-in-AssignPropertyWord-2
+put_value-returns-in_ok-put_operand-in-AssignPropertyWord-2 t c =
+    let x = c.in-AssignPropertyWord in
+    let c0 = written_in c.args.draft.now in
+    let c1 = written_in c.put_assigned_word.new.draft in
+    let c2 = written_in c.put_operand-in-AssignPropertyWord.new.draft in
+    let c3 = written_in c.put_operand-in-AssignPropertyWord-2.new.draft in
+    let v = value_of x.object.value in
+    let i = value_of x.index.value in
+    let o = as_operand c.first_of-first.result in
+    let q = as_operand c.left_of-second.result in
+    let P : Value → Type 0 = λ a. Written c0 c3 (wanted_items c.args.wanted a) in
+    let Q : code_value.Value → Type 0 = λ e. ReducesAssignedWord c0 c1 c.args.wanted x.property o q (value_of e) in
+    let R : code_value.Value → Type 0 = λ e. Written c1 c2 (pushes q (value_of e)) in
+    let S : code_value.Value → Type 0 = λ e. Written c2 c3 (pushes o (value_of e)) in
+    let eo = c.first_of-first.ensures
+    ∙ ap (λ (e : code_value.Value). first_of (value_of e) (value_of c.deref-in-AssignPropertyWord-2.result.now)
+    (value_of c.deref-in-AssignPropertyWord-3.result.now)) c.deref-in-AssignPropertyWord.ensures
+    ∙ ap (λ (e : code_value.Value). first_of v (value_of e)
+    (value_of c.deref-in-AssignPropertyWord-3.result.now)) c.deref-in-AssignPropertyWord-2.ensures
+    ∙ ap (λ (e : code_value.Value). first_of v i (value_of e)) c.deref-in-AssignPropertyWord-3.ensures in
+    let eq = c.left_of-second.ensures
+    ∙ ap (λ (e : code_value.Value). left_of (value_of e) (value_of c.deref-in-AssignPropertyWord-5.result.now))
+    c.deref-in-AssignPropertyWord-4.ensures
+    ∙ ap (λ (e : code_value.Value). left_of i (value_of e)) c.deref-in-AssignPropertyWord-5.ensures in
+    subst P (sym (assign_property_word_is _ _ _ _ _ x.is))
+    (assigned_word_more c0 c1 c2 c3 c.args.wanted x.property o q v i (value_of x.value.value) eo eq
+    (subst Q c.deref-in-AssignPropertyWord-6.ensures c.in_ok-put_assigned_word-in-AssignPropertyWord.ensures)
+    (subst R c.deref-in-AssignPropertyWord-7.ensures c.in_ok-put_operand-in-AssignPropertyWord.ensures)
+    (subst S c.deref-in-AssignPropertyWord-8.ensures c.in_ok-put_operand-in-AssignPropertyWord-2.ensures))
+
+pub put_value-returns-in_ok-put_number-in-Number : goal.put_value-returns-in_ok-put_number-in-Number
+put_value-returns-in_ok-put_number-in-Number t c =
+    let P : Value → Type 0 = λ v. Written (written_in c.args.draft.now) (written_in c.put_number.new.draft)
+    (wanted_items c.args.wanted v) in
+    subst P (sym (number_is _ _ c.in-Number.is)) c.in_ok-put_number-in-Number.ensures
+
+pub put_value-returns-in_ok-put_read-in-Read : goal.put_value-returns-in_ok-put_read-in-Read
+put_value-returns-in_ok-put_read-in-Read t c =
+    let P : Value → Type 0 = λ v. Written (written_in c.args.draft.now) (written_in c.put_read.new.draft)
+    (wanted_items c.args.wanted v) in
+    subst P (sym (read_is _ _ c.in-Read.is)) c.in_ok-put_read-in-Read.ensures
+
+pub put_value-returns-in_ok-put_step_after-in-StepAfter : goal.put_value-returns-in_ok-put_step_after-in-StepAfter
+put_value-returns-in_ok-put_step_after-in-StepAfter t c =
+    let P : Value → Type 0 = λ v. Written (written_in c.args.draft.now) (written_in c.put_step_after.new.draft)
+    (wanted_items c.args.wanted v) in
+    subst P (sym (step_after_is _ _ _ c.in-StepAfter.is)) c.in_ok-put_step_after-in-StepAfter.ensures
+
+pub put_value-returns-in_ok-put_call-in-Call : goal.put_value-returns-in_ok-put_call-in-Call
+put_value-returns-in_ok-put_call-in-Call t c =
+    let x = c.in-Call in
+    let P : Value → Type 0 = λ v. Written (written_in c.args.draft.now) (written_in c.put_call.new.draft)
+    (wanted_items c.args.wanted v) in
+    let Q : List code_value.Value → Type 0 = λ l. Written (written_in c.args.draft.now)
+    (written_in c.put_call.new.draft) (wanted_items c.args.wanted (call x.routine (values_of (map value_of l)))) in
+    subst P (sym (call_is _ _ _ x.is)) (subst Q c.deref.ensures.value c.in_ok-put_call-in-Call.ensures)
+
+pub put_value-returns-in_ok-put_prefixed-in-Prefixed : goal.put_value-returns-in_ok-put_prefixed-in-Prefixed
+put_value-returns-in_ok-put_prefixed-in-Prefixed t c =
+    let x = c.in-Prefixed in
+    box_more _ _ c.args.wanted _ _ _ (λ v. prefixed x.prefix v) (prefixed_is _ _ _ x.is) c.deref-in-Prefixed.ensures
+    c.in_ok-put_prefixed-in-Prefixed.ensures
+
+pub put_value-returns-in_ok-put_assigned-in-Assign : goal.put_value-returns-in_ok-put_assigned-in-Assign
+put_value-returns-in_ok-put_assigned-in-Assign t c =
+    let x = c.in-Assign in
+    box_more _ _ c.args.wanted _ _ _ (λ v. assign x.variable v) (assign_is _ _ _ x.is) c.deref-in-Assign.ensures
+    c.in_ok-put_assigned-in-Assign.ensures
+
+pub put_value-returns-in_ok-put_entry-in-Entry : goal.put_value-returns-in_ok-put_entry-in-Entry
+put_value-returns-in_ok-put_entry-in-Entry t c =
+    let x = c.in-Entry in
+    box_more _ _ c.args.wanted _ _ _ (λ v. entry x.width x.array v) (entry_is _ _ _ _ x.is) c.deref-in-Entry.ensures
+    c.in_ok-put_entry-in-Entry.ensures
+
+pub put_value-returns-in_ok-put_relative-in-Relative : goal.put_value-returns-in_ok-put_relative-in-Relative
+put_value-returns-in_ok-put_relative-in-Relative t c =
+    let x = c.in-Relative in
+    box_more _ _ c.args.wanted _ _ _ (λ v. relative x.relative v) (relative_is _ _ _ x.is) c.deref-in-Relative.ensures
+    c.in_ok-put_relative-in-Relative.ensures
+
+pub put_value-returns-in_ok-put_has-in-Has : goal.put_value-returns-in_ok-put_has-in-Has
+put_value-returns-in_ok-put_has-in-Has t c =
+    let x = c.in-Has in
+    box_more _ _ c.args.wanted _ _ _ (λ v. has x.positive v x.attribute) (has_is _ _ _ _ x.is) c.deref-in-Has.ensures
+    c.in_ok-put_has-in-Has.ensures
+
+pub put_value-returns-in_ok-put_provides-in-Provides : goal.put_value-returns-in_ok-put_provides-in-Provides
+put_value-returns-in_ok-put_provides-in-Provides t c =
+    let x = c.in-Provides in
+    box_more _ _ c.args.wanted _ _ _ (λ v. provides v x.property) (provides_is _ _ _ x.is) c.deref-in-Provides.ensures
+    c.in_ok-put_provides-in-Provides.ensures
+
+pub put_value-returns-in_ok-put_property-in-Property : goal.put_value-returns-in_ok-put_property-in-Property
+put_value-returns-in_ok-put_property-in-Property t c =
+    let x = c.in-Property in
+    box_more _ _ c.args.wanted _ _ _ (λ v. property v x.property) (property_is _ _ _ x.is) c.deref-in-Property.ensures
+    c.in_ok-put_property-in-Property.ensures
+
+pub put_value-returns-in_ok-put_property_size-in-PropertySize :
+    goal.put_value-returns-in_ok-put_property_size-in-PropertySize
+put_value-returns-in_ok-put_property_size-in-PropertySize t c =
+    let x = c.in-PropertySize in
+    box_more _ _ c.args.wanted _ _ _ (λ v. property_size v x.property) (property_size_is _ _ _ x.is)
+    c.deref-in-PropertySize.ensures
+    c.in_ok-put_property_size-in-PropertySize.ensures
+
+pub put_value-returns-in_ok-put_operand-in-Compare : goal.put_value-returns-in_ok-put_operand-in-Compare
+put_value-returns-in_ok-put_operand-in-Compare t c =
+    let x = c.in-Compare in
+    pair_more _ _ _ c.args.wanted _ _ _ _ _ _ _ _ (λ v w. compare x.comparison v w) (compare_is _ _ _ _ x.is)
+    c.deref-in-Compare.ensures c.deref-in-Compare-2.ensures c.left_of-operand.ensures c.deref-in-Compare-3.ensures
+    c.in_ok-put_comparison-in-Compare.ensures c.deref-in-Compare-4.ensures c.in_ok-put_operand-in-Compare.ensures
+
+pub put_value-returns-in_ok-put_operand-in-AssignEntry : goal.put_value-returns-in_ok-put_operand-in-AssignEntry
+put_value-returns-in_ok-put_operand-in-AssignEntry t c =
+    let x = c.in-AssignEntry in
+    pair_more _ _ _ c.args.wanted _ _ _ _ _ _ _ _ (λ v w. assign_entry x.width x.array v w) (assign_entry_is _ _ _ _
+    _ x.is)
+    c.deref-in-AssignEntry.ensures c.deref-in-AssignEntry-2.ensures c.left_of-left-in-AssignEntry.ensures
+    c.deref-in-AssignEntry-3.ensures
+    c.in_ok-put_assigned_entry-in-AssignEntry.ensures c.deref-in-AssignEntry-4.ensures
+    c.in_ok-put_operand-in-AssignEntry.ensures
+
+pub put_value-returns-in_ok-put_operand-in-Contained : goal.put_value-returns-in_ok-put_operand-in-Contained
+put_value-returns-in_ok-put_operand-in-Contained t c =
+    let x = c.in-Contained in
+    pair_more _ _ _ c.args.wanted _ _ _ _ _ _ _ _ (λ v w. contained x.containment v w) (contained_is _ _ _ _ x.is)
+    c.deref-in-Contained.ensures c.deref-in-Contained-2.ensures c.left_of-left-in-Contained.ensures
+    c.deref-in-Contained-3.ensures
+    c.in_ok-put_contained-in-Contained.ensures c.deref-in-Contained-4.ensures c.in_ok-put_operand-in-Contained.ensures
+
+pub put_value-returns-in_ok-put_operand-in-PropertyWord : goal.put_value-returns-in_ok-put_operand-in-PropertyWord
+put_value-returns-in_ok-put_operand-in-PropertyWord t c =
+    let x = c.in-PropertyWord in
+    pair_more _ _ _ c.args.wanted _ _ _ _ _ _ _ _ (λ v w. property_word v x.property w) (property_word_is _ _ _ _ x.is)
+    c.deref-in-PropertyWord.ensures c.deref-in-PropertyWord-2.ensures c.left_of-left-in-PropertyWord.ensures
+    c.deref-in-PropertyWord-3.ensures
+    c.in_ok-put_property_word-in-PropertyWord.ensures c.deref-in-PropertyWord-4.ensures
+    c.in_ok-put_operand-in-PropertyWord.ensures
+
+pub put_value-returns-in_ok-put_operand-in-AssignProperty : goal.put_value-returns-in_ok-put_operand-in-AssignProperty
+put_value-returns-in_ok-put_operand-in-AssignProperty t c =
+    let x = c.in-AssignProperty in
+    pair_more _ _ _ c.args.wanted _ _ _ _ _ _ _ _ (λ v w. assign_property v x.property w) (assign_property_is _ _ _ _
+    x.is)
+    c.deref-in-AssignProperty.ensures c.deref-in-AssignProperty-2.ensures c.left_of-left-in-AssignProperty.ensures
+    c.deref-in-AssignProperty-3.ensures
+    c.in_ok-put_assigned_property-in-AssignProperty.ensures c.deref-in-AssignProperty-4.ensures
+    c.in_ok-put_operand-in-AssignProperty.ensures

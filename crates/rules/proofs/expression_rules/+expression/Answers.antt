@@ -1,26 +1,30 @@
-use Rattle.std.proofs.Common.{◌≡◌, Some, None, length, refl, sym, ap, ◌∙◌}
+use Rattle.std.proofs.Common.{◌≡◌, Option, Some, None, length, refl, sym, ap, ◌∙◌}
 use Rattle.std.specs.Prelude.{map}
 use Rattle.std.specs.Option.{option_map}
 use Rattle.expressions.specs.declared.tree.Binary.{Binary}
 use Rattle.expressions.specs.declared.tree.Expression.{Expression}
 use Rattle.expressions.specs.Tree as trees
 use Rattle.expressions.specs.Tree.{expression_tree, name_tree}
+use Rattle.names.specs.declared.binding.Binding.{Binding}
 use Rattle.names.specs.Names.{name_of}
 use Rattle.names.specs.Breaches.{at}
 use Rattle.names.specs.Noted.{noted}
 use Rattle.meaning.specs.Resolved as values
 use Rattle.meaning.specs.Resolved.{Value, value_of}
 use Rattle.names.specs.Scope.{number_at, look_in, seen_in}
-use Rattle.rules.specs.Expressions.{breaches, value_breaches, value_of_binding, assigned}
+use Rattle.rules.specs.Expressions.{breaches, value_breaches, property_breaches, tested_breaches, value_of_binding}
+use Rattle.rules.specs.Expressions.{property_of_binding, tested_for, assigned}
 use Rattle.rules.specs.Walk.{value_link, own_breaches, resolved, link_breaches, resolved_link}
 use Rattle.names.proofs.Noted.{noted_none, noted_two}
 use Rattle.names.proofs.Each.{each_next, each_end, value_next, value_end}
 use Rattle.rules.proofs.Shapes.{is_constant, is_word, is_named, is_call, is_index, is_parenthesised, is_prefixed}
-use Rattle.rules.proofs.Shapes.{is_step_before}
-use Rattle.rules.proofs.Shapes.{is_step_after, is_chain, is_compare, is_equal, is_assign}
-use Rattle.rules.proofs.Walks.{one, two, made_number, made_call, made_prefixed, made_step_before, made_step_after}
-use Rattle.rules.proofs.Walks.{made_chain, made_compare, made_equal, made_entry}
-use Rattle.rules.proofs.Forms.{all_walked, chain_walked, call_walked, index_walked, name_assigned, part_assigned}
+use Rattle.rules.proofs.Shapes.{is_relative_of, is_property, is_property_length, is_property_entry, is_step_before}
+use Rattle.rules.proofs.Shapes.{is_step_after, is_chain, is_compare, is_equal, is_contained, is_tested, is_assign}
+use Rattle.rules.proofs.Walks.{named_part, one, two, three, made_number, made_call, made_prefixed, made_step_before, made_step_after}
+use Rattle.rules.proofs.Walks.{made_chain, made_compare, made_equal, made_entry, made_relative, made_contained}
+use Rattle.rules.proofs.Walks.{made_property, made_property_size, made_property_word}
+use Rattle.rules.proofs.Forms.{all_walked, chain_walked, properties_walked, call_walked, index_walked, name_assigned}
+use Rattle.rules.proofs.Forms.{part_assigned}
 use Rattle.rules.proofs.expression_rules.+expression.Goals as goal
 
 pub all_expressions-loop-e-preserved : goal.all_expressions-loop-e-preserved
@@ -116,6 +120,49 @@ expression-returns-in-Parenthesised t c =
     let v = c.in-Parenthesised in
     rw (is_parenthesised c.args.e.now v.inside v.is, ← c.deref-in-Parenthesised.ensures) c.expression.ensures
 
+pub expression-returns-in-RelativeOf : goal.expression-returns-in-RelativeOf
+expression-returns-in-RelativeOf t c =
+    let v = c.in-RelativeOf in
+    rw (is_relative_of c.args.e.now v.relative v.object v.is, ← c.deref-in-RelativeOf.ensures) c.relative_of.ensures
+
+pub expression-returns-in-Property : goal.expression-returns-in-Property
+expression-returns-in-Property t c =
+    let v = c.in-Property in
+    rw (
+      is_property c.args.e.now v.object v.name v.others v.is,
+      ← c.deref-in-Property.ensures,
+      ← c.deref-in-Property-2.ensures.value,
+    ) c.properties.ensures
+
+pub expression-returns-in-PropertyLength : goal.expression-returns-in-PropertyLength
+expression-returns-in-PropertyLength t c =
+    let v = c.in-PropertyLength in
+    rw (is_property_length c.args.e.now v.object v.name v.is, ← c.deref-in-PropertyLength.ensures)
+    c.property_length.ensures
+
+pub expression-returns-in-PropertyEntry : goal.expression-returns-in-PropertyEntry
+expression-returns-in-PropertyEntry t c =
+    let v = c.in-PropertyEntry in
+    rw (
+      is_property_entry c.args.e.now v.object v.name v.index v.is,
+      ← c.deref-in-PropertyEntry.ensures,
+      ← c.deref-in-PropertyEntry-2.ensures,
+    ) c.property_entry.ensures
+
+pub expression-returns-in-Contained : goal.expression-returns-in-Contained
+expression-returns-in-Contained t c =
+    let v = c.in-Contained in
+    rw (
+      is_contained c.args.e.now v.left v.containment v.right v.is,
+      ← c.deref-in-Contained.ensures,
+      ← c.deref-in-Contained-2.ensures,
+    ) c.contained.ensures
+
+pub expression-returns-in-Tested : goal.expression-returns-in-Tested
+expression-returns-in-Tested t c =
+    let v = c.in-Tested in
+    rw (is_tested c.args.e.now v.object v.test v.name v.is, ← c.deref-in-Tested.ensures) c.tested.ensures
+
 pub expression-returns-in-Prefixed : goal.expression-returns-in-Prefixed
 expression-returns-in-Prefixed t c =
     let v = c.in-Prefixed in
@@ -163,6 +210,46 @@ expression-returns-in-Assign t c =
       ←
           c.deref-in-Assign-2.ensures,
     ) c.assign.ensures
+
+pub relative_of-returns : goal.relative_of-returns
+relative_of-returns t c = rw (made_relative c.args.relative c.in-Ok.object)
+    (one (values.relative c.args.relative) c.in-Ok.ensures)
+
+pub properties-returns : goal.properties-returns
+properties-returns t c =
+    let own : Value = value_of c.in-Ok.object.value in
+    properties_walked (seen_in c.args.scope.now)
+    (trees.property (expression_tree c.args.object.now) (name_tree c.args.name)) c.args.others.now
+    (values.property own c.property-number.result) c.further_properties.result _
+    (two values.property c.in-Ok.ensures
+    (named_part property_of_binding (property_breaches c.args.name.position) c.look.result _ c.property-number.result
+    c.look.ensures c.property-number.ensures.value c.property-number.ensures.breaches))
+    (rw (← made_property c.in-Ok.object c.property-number.result) c.further_properties.ensures)
+
+pub property_length-returns : goal.property_length-returns
+property_length-returns t c = rw (made_property_size c.in-Ok.object c.property-number.result)
+    (two values.property_size c.in-Ok.ensures
+    (named_part property_of_binding (property_breaches c.args.name.position) c.look.result _ c.property-number.result
+    c.look.ensures c.property-number.ensures.value c.property-number.ensures.breaches))
+
+pub property_entry-returns : goal.property_entry-returns
+property_entry-returns t c = rw (made_property_word c.in-Ok.object c.property-number.result c.in-Ok-boxed.index)
+    (three values.property_word c.in-Ok.ensures
+    (named_part property_of_binding (property_breaches c.args.name.position) c.look.result _ c.property-number.result
+    c.look.ensures c.property-number.ensures.value c.property-number.ensures.breaches)
+    c.in-Ok-boxed.ensures)
+
+pub contained-returns : goal.contained-returns
+contained-returns t c =
+    rw (made_contained c.in-Ok.left c.args.containment c.in-Ok-boxed.right)
+    (two (values.contained c.args.containment) c.in-Ok.ensures c.in-Ok-boxed.ensures)
+
+pub tested-returns : goal.tested-returns
+tested-returns t c =
+    rw c.tested_value.ensures.value
+    (two (tested_for c.args.test) c.in-Ok.ensures
+    (named_part (λ (found : Option Binding). found) (tested_breaches c.args.test c.args.name.position) c.look.result _
+    c.look.result c.look.ensures refl c.tested_value.ensures.breaches))
 
 pub prefixed-returns : goal.prefixed-returns
 prefixed-returns t c = rw (made_prefixed c.args.prefix c.in-Ok.operand)
@@ -241,8 +328,8 @@ pub left_side-returns-in_ok-left-in-None : goal.left_side-returns-in_ok-left-in-
 left_side-returns-in_ok-left-in-None t c =
     let is : name_of (expression_tree c.args.e.now) ≡ None = sym c.name_of.ensures
     ∙ ap (option_map name_tree) c.in-None.is in
-    part_assigned (seen_in c.args.scope.now) c.args.operator (expression_tree c.args.e.now) c.is_entry.result
-    (value_of c.in_ok-left-in-None.left) is c.is_entry.ensures c.in_ok-left-in-None.ensures c.not_entry.ensures
+    part_assigned (seen_in c.args.scope.now) c.args.operator (expression_tree c.args.e.now) c.is_place.result
+    (value_of c.in_ok-left-in-None.left) is c.is_place.ensures c.in_ok-left-in-None.ensures c.not_place.ensures
 
 pub assign-returns : goal.assign-returns
 assign-returns t c = rw c.assignment.ensures (two assigned c.in-Ok.ensures c.in-Ok-boxed.ensures)

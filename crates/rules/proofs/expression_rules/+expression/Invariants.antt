@@ -32,6 +32,24 @@ decreases-index l = 4 * goal.size-index l + 2
 abbrev pub decreases-call : goal.decreases-call
 decreases-call l = 4 * goal.size-call l + 2
 
+abbrev pub decreases-relative_of : goal.decreases-relative_of
+decreases-relative_of l = 4 * goal.size-relative_of l + 2
+
+abbrev pub decreases-properties : goal.decreases-properties
+decreases-properties l = 4 * goal.size-properties l + 2
+
+abbrev pub decreases-property_length : goal.decreases-property_length
+decreases-property_length l = 4 * goal.size-property_length l + 2
+
+abbrev pub decreases-property_entry : goal.decreases-property_entry
+decreases-property_entry l = 4 * max (size-Expression l.object.now) (size-Expression l.index.now) + 2
+
+abbrev pub decreases-contained : goal.decreases-contained
+decreases-contained l = 4 * max (size-Expression l.left.now) (size-Expression l.right.now) + 2
+
+abbrev pub decreases-tested : goal.decreases-tested
+decreases-tested l = 4 * goal.size-tested l + 2
+
 abbrev pub decreases-prefixed : goal.decreases-prefixed
 decreases-prefixed l = 4 * goal.size-prefixed l + 2
 

@@ -9,6 +9,8 @@ use Rattle.meaning.specs.declared.resolved.Value.TheVariants as made
 use Rattle.meaning.specs.Resolved as values
 use Rattle.meaning.specs.Resolved.{Value, Action, value_of, action_of, case_of, other_of}
 use Rattle.names.specs.Scope.{seen_in}
+use Rattle.rules.specs.Expressions.{variable_of_binding}
+use Rattle.rules.specs.Statements.{loop_breaches}
 use Rattle.rules.specs.Walk.{resolved_statement, own_statement_breaches, resolved_case, own_case_breaches}
 use Rattle.names.proofs.Each.{each_next, each_end, value_next, value_end}
 use Rattle.rules.proofs.Shapes.{is_empty_statement, is_text_statement, is_new_line_statement, is_quit_statement, is_read_statement}
@@ -16,10 +18,12 @@ use Rattle.rules.proofs.Shapes.{is_block_statement, is_print_statement, is_print
 use Rattle.rules.proofs.Shapes.{is_if_else_statement, is_while_statement, is_return_value_statement}
 use Rattle.rules.proofs.Shapes.{is_effect_statement, is_return_statement, is_return_true_statement}
 use Rattle.rules.proofs.Shapes.{is_return_false_statement, is_do_statement, is_for_statement, is_switch_statement}
-use Rattle.rules.proofs.Shapes.{is_break_statement, is_continue_statement}
-use Rattle.rules.proofs.Walks.{leaf, one, two, made_number, made_empty, made_text, made_new_line, made_quit}
+use Rattle.rules.proofs.Shapes.{is_break_statement, is_continue_statement, is_give_statement, is_move_statement}
+use Rattle.rules.proofs.Shapes.{is_remove_statement, is_each_statement, is_each_in_statement, is_each_where_statement}
+use Rattle.rules.proofs.Walks.{leaf, named_part, one, two, three, made_number, made_empty, made_text, made_new_line, made_quit}
 use Rattle.rules.proofs.Walks.{made_return_value, made_block, made_if_then, made_if_else, made_while_do, made_do}
-use Rattle.rules.proofs.Walks.{made_for, made_switch, made_break, made_continue}
+use Rattle.rules.proofs.Walks.{made_for, made_switch, made_break, made_continue, made_each_object, made_each_in}
+use Rattle.rules.proofs.Walks.{made_each_where}
 use Rattle.rules.proofs.Forms.{statements_walked, case_walked, other_walked, switch_walked}
 use Rattle.rules.proofs.statement_rules.+statement.Goals as goal
 
@@ -121,6 +125,65 @@ switch_on-returns t c around is = rw (made_switch c.in-Ok.value c.in-Ok-all_case
     (value_of c.in-Ok.value) c.args.cases.now (other_tree c.args.other.now)
     (map case_of c.in-Ok-all_cases.cases.items) (other_of c.in-Ok-otherwise.other) is c.in-Ok.ensures
     c.in-Ok-all_cases.ensures c.in-Ok-otherwise.ensures)
+
+pub each-returns : goal.each-returns
+each-returns t c around = rw (made_each_object c.loop_variable-variable.result c.in-Ok.body)
+    (two values.each_object
+    (named_part variable_of_binding (loop_breaches c.args.name.position) c.look.result _ c.loop_variable-variable.result
+    c.look.ensures c.loop_variable-variable.ensures.value c.loop_variable-variable.ensures.breaches)
+    c.in-Ok.ensures)
+
+pub each_in-returns : goal.each_in-returns
+each_in-returns t c around = rw (made_each_in c.loop_variable-variable.result c.in-Ok.parent c.in-Ok-boxed.body)
+    (three values.each_in
+    (named_part variable_of_binding (loop_breaches c.args.name.position) c.look.result _ c.loop_variable-variable.result
+    c.look.ensures c.loop_variable-variable.ensures.value c.loop_variable-variable.ensures.breaches)
+    c.in-Ok.ensures c.in-Ok-boxed.ensures)
+
+pub each_where-returns : goal.each_where-returns
+each_where-returns t c around =
+    rw (made_each_where c.loop_variable-variable.result c.in-Ok.condition c.in-Ok-boxed.body)
+    (three values.each_where
+    (named_part variable_of_binding (loop_breaches c.args.name.position) c.look.result _ c.loop_variable-variable.result
+    c.look.ensures c.loop_variable-variable.ensures.value c.loop_variable-variable.ensures.breaches)
+    c.in-Ok.ensures c.in-Ok-boxed.ensures)
+
+pub statement-returns-in-Give : goal.statement-returns-in-Give
+statement-returns-in-Give t c = let v = c.in-Give in
+    rw (
+      is_give_statement c.args.s.now v.position v.e v.given v.is,
+      ← c.deref-in-Give.ensures,
+      ← c.deref-in-Give-2.ensures.value,
+    ) (c.give.ensures c.args.around)
+
+pub statement-returns-in-Move : goal.statement-returns-in-Move
+statement-returns-in-Move t c = let v = c.in-Move in
+    rw (
+      is_move_statement c.args.s.now v.position v.object v.parent v.is,
+      ← c.deref-in-Move.ensures,
+      ← c.deref-in-Move-2.ensures,
+    ) (c.move_to.ensures c.args.around)
+
+pub statement-returns-in-Remove : goal.statement-returns-in-Remove
+statement-returns-in-Remove t c = let v = c.in-Remove in
+    rw (is_remove_statement c.args.s.now v.position v.e v.is, ← c.deref-in-Remove.ensures)
+    (c.remove.ensures c.args.around)
+
+pub statement-returns-in-Each : goal.statement-returns-in-Each
+statement-returns-in-Each t c = let v = c.in-Each in
+    rw (is_each_statement c.args.s.now v.name v.body v.is) (c.each.ensures c.args.around)
+
+pub statement-returns-in-EachIn : goal.statement-returns-in-EachIn
+statement-returns-in-EachIn t c = let v = c.in-EachIn in
+    rw (is_each_in_statement c.args.s.now v.position v.name v.parent v.body v.is, ← c.deref-in-EachIn.ensures)
+    (c.each_in.ensures c.args.around)
+
+pub statement-returns-in-EachWhere : goal.statement-returns-in-EachWhere
+statement-returns-in-EachWhere t c = let v = c.in-EachWhere in
+    rw (
+      is_each_where_statement c.args.s.now v.position v.name v.condition v.body v.is,
+      ← c.deref-in-EachWhere.ensures,
+    ) (c.each_where.ensures c.args.around)
 
 pub statement-returns-in-Do : goal.statement-returns-in-Do
 statement-returns-in-Do t c = let v = c.in-Do in

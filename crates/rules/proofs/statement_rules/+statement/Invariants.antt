@@ -36,6 +36,15 @@ decreases-do_until l = 8 * goal.size-do_until l + 2
 abbrev pub decreases-for_loop : goal.decreases-for_loop
 decreases-for_loop l = 8 * goal.size-for_loop l + 2
 
+abbrev pub decreases-each : goal.decreases-each
+decreases-each l = 8 * goal.size-each l + 2
+
+abbrev pub decreases-each_in : goal.decreases-each_in
+decreases-each_in l = 8 * goal.size-each_in l + 2
+
+abbrev pub decreases-each_where : goal.decreases-each_where
+decreases-each_where l = 8 * goal.size-each_where l + 2
+
 abbrev pub decreases-one_case : goal.decreases-one_case
 decreases-one_case l = 8 * goal.size-one_case l + 2
 

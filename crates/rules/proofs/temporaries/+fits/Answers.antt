@@ -1,26 +1,41 @@
-use Rattle.std.proofs.Common.{◌≡◌, ◌+◌, nat_le, Some, sym, ap, ◌∙◌}
-use Rattle.std.specs.Option.{option_map}
+use Rattle.std.proofs.Common.{◌≡◌, ◌+◌, nat_le, sym, ap, ◌∙◌, arith}
 use Rattle.expressions.specs.declared.tree.Expression.{Expression}
 use Rattle.expressions.specs.Tree as trees
 use Rattle.expressions.specs.Tree.{expression_tree, name_tree}
-use Rattle.names.specs.Names.{name_of}
 use Rattle.rules.specs.Temporaries.{need}
 use Rattle.rules.proofs.Shapes.{is_call, is_index, is_parenthesised, is_prefixed, is_step_before, is_step_after, is_chain}
-use Rattle.rules.proofs.Shapes.{is_compare, is_assign}
-use Rattle.rules.proofs.Needs.{need_one, one_need, both_next, both_bad, chain_next, chain_bad, named_fits}
+use Rattle.rules.proofs.Shapes.{is_compare, is_assign, is_relative_of, is_property, is_property_length, is_property_entry}
+use Rattle.rules.proofs.Shapes.{is_contained, is_tested}
+use Rattle.rules.proofs.Needs.{need_one, one_need, both_next, both_bad, chain_next, chain_bad, properties_need}
+use Rattle.rules.proofs.Needs.{left_none, left_next, left_bad, operands_next}
 use Rattle.rules.proofs.Needs.{operands_full, operands_bad}
 use Rattle.rules.proofs.temporaries.+fits.Goals as goal
 use Rattle.rules.proofs.temporaries.+fits.Goals.{operands_fit-then-left-eq0-via-then-left-eq0}
 use Rattle.rules.proofs.temporaries.+fits.Goals.{operands_fit-then-left-eq0-via-else-left-eq0+then-not-fits}
 
-pub assignment_fits-returns-in-Some : goal.assignment_fits-returns-in-Some
-assignment_fits-returns-in-Some t c =
-    let left = expression_tree c.args.left.now in
-    let right = expression_tree c.args.right.now in
-    let is : name_of left ≡ Some (name_tree c.in-Some.field-0) = sym c.name_of.ensures
-    ∙ ap (option_map name_tree) c.in-Some.is in
-    named_fits c.fits.result (name_of left) (name_tree c.in-Some.field-0) (need left) (need right) c.args.room is
-    (need_one right) c.fits.ensures
+pub assignment_fits-returns-then-before-eq0 : goal.assignment_fits-returns-then-before-eq0
+assignment_fits-returns-then-before-eq0 t c =
+    c.fits.ensures
+    ∙ left_none (expression_tree c.args.left.now) (need (expression_tree c.args.right.now)) c.args.room
+    c.left_operands-before.result (need_one (expression_tree c.args.right.now))
+    (c.left_operands-before.ensures (need (expression_tree c.args.left.now))) c.if-before-eq0.true
+
+pub assignment_fits-returns-then-fits : goal.assignment_fits-returns-then-fits
+assignment_fits-returns-then-fits t c =
+    c.fits-then-fits.ensures
+    ∙ ap (λ r. nat_le (need (expression_tree c.args.right.now)) r) c.saturating_sub.ensures
+    ∙ left_next (expression_tree c.args.left.now) (need (expression_tree c.args.right.now)) c.args.room
+    c.left_operands-before.result (need_one (expression_tree c.args.right.now))
+    (c.left_operands-before.ensures (need (expression_tree c.args.left.now))) (omega (arith, c.if-before-eq0.false))
+    (sym c.fits-else-before-eq0.ensures ∙ c.if-fits.true)
+
+pub assignment_fits-returns-else-fits : goal.assignment_fits-returns-else-fits
+assignment_fits-returns-else-fits t c =
+    c.if-fits.false
+    ∙ left_bad (expression_tree c.args.left.now) (need (expression_tree c.args.right.now)) c.args.room
+    c.left_operands-before.result (need_one (expression_tree c.args.right.now))
+    (c.left_operands-before.ensures (need (expression_tree c.args.left.now))) (omega (arith, c.if-before-eq0.false))
+    (sym c.fits-else-before-eq0.ensures ∙ c.if-fits.false)
 
 pub both_fit-returns-then-fits : goal.both_fit-returns-then-fits
 both_fit-returns-then-fits t c =
@@ -74,6 +89,58 @@ fits-returns-in-Assign t c =
           c.deref-in-Assign-2.ensures,
     ) c.assignment_fits.ensures
 
+pub fits-returns-in-RelativeOf : goal.fits-returns-in-RelativeOf
+fits-returns-in-RelativeOf t c =
+    let v = c.in-RelativeOf in
+    rw (is_relative_of c.args.expression.now v.field-0 v.object v.is)
+    (c.fits-in-RelativeOf.ensures ∙ ap (λ (y : Expression). nat_le (need (expression_tree y)) c.args.room)
+    c.deref-in-RelativeOf.ensures
+    ∙ ap (λ n. nat_le n c.args.room) (sym (one_need (expression_tree v.object.value))))
+
+pub fits-returns-in-Property : goal.fits-returns-in-Property
+fits-returns-in-Property t c =
+    let v = c.in-Property in
+    let object = expression_tree v.object.value in
+    rw (is_property c.args.expression.now v.object v.field-1 v.field-2 v.is)
+    (c.fits-in-Property.ensures ∙ ap (λ (y : Expression). nat_le (need (expression_tree y)) c.args.room)
+    c.deref-in-Property.ensures
+    ∙ ap (λ n. nat_le n c.args.room)
+    (sym (properties_need (trees.property object (name_tree v.field-1)) v.field-2.items ∙ one_need object)))
+
+pub fits-returns-in-PropertyLength : goal.fits-returns-in-PropertyLength
+fits-returns-in-PropertyLength t c =
+    let v = c.in-PropertyLength in
+    rw (is_property_length c.args.expression.now v.object v.field-1 v.is)
+    (c.fits-in-PropertyLength.ensures ∙ ap (λ (y : Expression). nat_le (need (expression_tree y)) c.args.room)
+    c.deref-in-PropertyLength.ensures
+    ∙ ap (λ n. nat_le n c.args.room) (sym (one_need (expression_tree v.object.value))))
+
+pub fits-returns-in-PropertyEntry : goal.fits-returns-in-PropertyEntry
+fits-returns-in-PropertyEntry t c =
+    let v = c.in-PropertyEntry in
+    rw (
+      is_property_entry c.args.expression.now v.object v.field-1 v.index v.is,
+      ← c.deref-in-PropertyEntry.ensures,
+      ← c.deref-in-PropertyEntry-2.ensures,
+    ) c.both_fit.ensures
+
+pub fits-returns-in-Contained : goal.fits-returns-in-Contained
+fits-returns-in-Contained t c =
+    let v = c.in-Contained in
+    rw (
+      is_contained c.args.expression.now v.left v.field-1 v.right v.is,
+      ← c.deref-in-Contained.ensures,
+      ← c.deref-in-Contained-2.ensures,
+    ) c.both_fit-in-Contained.ensures
+
+pub fits-returns-in-Tested : goal.fits-returns-in-Tested
+fits-returns-in-Tested t c =
+    let v = c.in-Tested in
+    rw (is_tested c.args.expression.now v.object v.field-1 v.field-2 v.is)
+    (c.fits-in-Tested.ensures ∙ ap (λ (y : Expression). nat_le (need (expression_tree y)) c.args.room)
+    c.deref-in-Tested.ensures
+    ∙ ap (λ n. nat_le n c.args.room) (sym (one_need (expression_tree v.object.value))))
+
 pub fits-returns-in-Prefixed : goal.fits-returns-in-Prefixed
 fits-returns-in-Prefixed t c =
     let v = c.in-Prefixed in
@@ -112,7 +179,7 @@ fits-returns-then-both_fit t c =
     ∙ chain_next
     (trees.binary v.field-1 (expression_tree c.deref-in-Chain.result.now)
     (expression_tree c.deref-in-Chain-2.result.now)) c.deref-then-both_fit.result.now c.args.room
-    (sym c.both_fit.ensures ∙ c.if-both_fit.true))
+    (sym c.both_fit-in-Chain.ensures ∙ c.if-both_fit.true))
 
 pub fits-returns-else-both_fit : goal.fits-returns-else-both_fit
 fits-returns-else-both_fit t c =
@@ -127,7 +194,7 @@ fits-returns-else-both_fit t c =
     ∙ chain_bad
     (trees.binary v.field-1 (expression_tree c.deref-in-Chain.result.now)
     (expression_tree c.deref-in-Chain-2.result.now)) v.links.items c.args.room
-    (sym c.both_fit.ensures ∙ c.if-both_fit.false))
+    (sym c.both_fit-in-Chain.ensures ∙ c.if-both_fit.false))
 
 pub operands_fit-returns-then-left-eq0 : goal.operands_fit-returns-then-left-eq0
 operands_fit-returns-then-left-eq0 t c =
@@ -142,3 +209,15 @@ operands_fit-returns-then-left-eq0 t c =
           c.operand-item.is c.loop-operand.invariant.room (sym w.fits.ensures ∙ w.if-not-fits.true))
           ∙ c.loop-operand.invariant.same
     ]
+
+pub operands_fit-loop-operand-preserved : goal.operands_fit-loop-operand-preserved
+operands_fit-loop-operand-preserved t c =
+    let here = c.args.before + c.loop-operand.operand-index in
+    let on : c.args.before + (c.loop-operand.operand-index + 1) ≡ here + 1 = omega arith in
+    record {
+      room = omega (arith, c.loop-operand.invariant.room);
+      same = rw on
+          (sym (operands_next here c.args.room c.loop-operand.left c.args.given.now c.loop-operand.operand-index
+          c.operand-item.result c.loop-operand-test.true c.operand-item.is c.loop-operand.invariant.room
+          (sym c.fits.ensures ∙ c.if-not-fits.false)) ∙ c.loop-operand.invariant.same);
+    }

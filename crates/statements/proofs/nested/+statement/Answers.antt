@@ -3,7 +3,8 @@ use Rattle.lexer.specs.Token.{lexemes}
 use Rattle.statements.specs.Tree.{case_tree}
 use Rattle.statements.specs.Parse.{begins_value, braced, one_case, inside, braces, bodies}
 use Rattle.statements.proofs.Loops.{repeated_out, repeated_done, repeated_more, repeated_fails}
-use Rattle.statements.proofs.Cases.{choice_else, repetition_body, until_condition, iteration_body, otherwise_default, selection_other}
+use Rattle.statements.proofs.Cases.{choice_else, repetition_body, until_condition, iteration_body}
+use Rattle.statements.proofs.Cases.{traversal_body, otherwise_default, selection_other}
 use Rattle.statements.proofs.Inside.{bodies_begun}
 use Rattle.statements.proofs.nested.+statement.Goals as goal
 use Rattle.statements.proofs.nested.+statement.Goals.{cases-else-loop-turn-test, cases-then-loop-turn-test+then-not-begins_value}
@@ -32,6 +33,11 @@ pub iteration-returns : goal.iteration-returns
 iteration-returns t c = c.for_loop.ensures _ _ c.further_in-body.ensures
     (iteration_body c.args.depth (inside c.args.depth) c.args.position (lexemes c.args.tokens.now) _ _
     c.in_ok-heading.ensures.gives)
+
+pub traversal-returns : goal.traversal-returns
+traversal-returns t c = c.loop_over.ensures _ _ c.further_in-body.ensures
+    (traversal_body c.args.depth (inside c.args.depth) c.args.position (lexemes c.args.tokens.now) _ _
+    c.in_ok-over.ensures.gives)
 
 pub otherwise-returns : goal.otherwise-returns
 otherwise-returns t c = c.default_case.ensures _ _ c.braces.ensures

@@ -36,6 +36,9 @@ decreases-until l = 8 * l.depth + 5
 abbrev pub decreases-iteration : goal.decreases-iteration
 decreases-iteration l = 8 * l.depth + 5
 
+abbrev pub decreases-traversal : goal.decreases-traversal
+decreases-traversal l = 8 * l.depth + 5
+
 abbrev pub decreases-bodies : goal.decreases-bodies
 decreases-bodies l = 8 * l.depth + 1
 

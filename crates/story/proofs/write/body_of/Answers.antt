@@ -49,6 +49,14 @@ index-requires c =
     ∙ c.in_ok-codes.ensures) in
     omega (arith, count, codes, c.requires.accepted.main, c.main.ensures, c.in_ok-packed.packed.ok.0)
 
+pub put_low-requires-clause-objects : goal.put_low-requires-clause-objects
+put_low-requires-clause-objects c = record {
+  few = c.requires.accepted.few;
+  proper = record { each = c.requires.accepted.objects; names = c.requires.printable.1 };
+  defaults = c.requires.accepted.defaults.0;
+  placed = c.requires.placed;
+}
+
 pub put_low-requires-clause-keys : goal.put_low-requires-clause-keys
 put_low-requires-clause-keys c = omega (arith, c.requires.placed)
 
@@ -99,5 +107,5 @@ returns c =
     ap (λ (xs : List (Vec ℕ)). map bytes_in xs) c.deref-7.ensures.value ∙ c.in_ok-texts.ensures in
     body_laid c.args.version p c.deref-6.result.now a (map bytes_in c.deref-7.result.now)
     c.new-body.result.items c.put_low.new.bytes.items c.put_routines.new.body.items c.put_texts.new.body.items
-    c.index.result.now
+    c.index.result.now c.requires.accepted.defaults.0
     again printed addresses main c.new-body.ensures.items c.in_ok-put_low.ensures c.in_ok-put_routines.ensures c.in_ok-put_texts.ensures

@@ -6,18 +6,18 @@ use Rattle.forms.specs.Layout.{IsShortest}
 use Rattle.forms.proofs.Offsets.{all_shortest}
 use Rattle.items.specs.Code.{items_of}
 use Rattle.code.specs.Bytes.{parts_of, place_of}
-use Rattle.code.specs.Written.{CodeOf, branch_offsets}
+use Rattle.code.specs.Written.{CodeOf, branch_offsets, sizes_in}
 use Rattle.code.proofs.Codes.{offsets_are}
 use Rattle.code.proofs.routine.Code.branches.Goals as goal
 
 pub returns-clause-offsets : goal.returns-clause-offsets
 returns-clause-offsets c =
     let is = items_of c.self.inside.items.items in
-    let sizes = c.self.inside.sizes.now in
+    let sizes = sizes_in c.self.inside.sizes in
     ap (λ (us : List BranchUse). map (λ (u : BranchUse). u.offset) us) (c.deref.ensures.value ∙ c.self.invariant.1)
     ∙ offsets_are sizes is
     ∙ ap (λ (v : CodeOf). branch_offsets (place_of v.sizes v.items) 0 v.items) c.self.view_is
 
 pub returns-clause-shortest : goal.returns-clause-shortest
 returns-clause-shortest c = subst (All IsShortest) (sym (c.deref.ensures.value ∙ c.self.invariant.1))
-    (all_shortest 0 (parts_of c.self.inside.sizes.now (items_of c.self.inside.items.items)))
+    (all_shortest 0 (parts_of (sizes_in c.self.inside.sizes) (items_of c.self.inside.items.items)))

@@ -2,14 +2,14 @@ use Rattle.std.proofs.Common.{◌≡◌, ◌%◌, List, [], ◌∷◌, ◌++◌,
 use Rattle.items.specs.Items.{Item}
 use Rattle.items.specs.Code.{items_of}
 use Rattle.code.specs.Bytes.{place_of, items_bytes}
-use Rattle.code.specs.Written.{addresses_of}
+use Rattle.code.specs.Written.{addresses_of, sizes_in}
 use Rattle.code.proofs.Codes.{code_written}
 use Rattle.code.proofs.routine.Code.put.Goals as goal
 
 pub returns-clause-written : goal.returns-clause-written
 returns-clause-written c =
     let x = c.self.inside in
-    let sizes = x.sizes.now in
+    let sizes = sizes_in x.sizes in
     let a = addresses_of c.args.addresses.now in
     let first : c.push.new.self.items ≡ (x.locals % 256) ∷ [] =
     c.in_ok-push.ensures.items ∙ ap (λ z. z ++ (x.locals % 256) ∷ []) c.new-bytes.ensures.items in

@@ -1,0 +1,10 @@
+use Rattle.expressions.specs.Tree.{name_tree}
+use Rattle.checker.specs.Programs.{twice, limit_breaches}
+use Rattle.names.proofs.Noted.{noted_two}
+use Rattle.checker.proofs.directive_rules.attribute.Goals as goal
+
+pub returns : goal.returns
+returns c =
+    noted_two c.args.least.now c.twice.new.least c.limit.new.least
+    (twice c.args.names.now.table.entries (name_tree c.args.name))
+    (limit_breaches 48 c.args.names.now.counts.attributes (name_tree c.args.name)) c.twice.ensures c.limit.ensures

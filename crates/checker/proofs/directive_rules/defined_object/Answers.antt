@@ -1,0 +1,17 @@
+use Rattle.std.proofs.Common.{◌++◌}
+use Rattle.expressions.specs.Tree.{name_tree}
+use Rattle.syntax.specs.Tree.{object_tree}
+use Rattle.checker.specs.Objects.{object_breaches}
+use Rattle.checker.specs.Programs.{twice, limit_breaches}
+use Rattle.names.proofs.Noted.{noted_two}
+use Rattle.checker.proofs.directive_rules.defined_object.Goals as goal
+
+pub returns-clause-breaches : goal.returns-clause-breaches
+returns-clause-breaches c =
+    let name = name_tree c.args.written.now.name in
+    let own = twice c.args.names.now.table.entries name in
+    let many = limit_breaches 2000 c.args.names.now.counts.objects name in
+    let value = object_breaches c.args.file.now.table.entries (object_tree c.args.written.now) in
+    noted_two c.args.least.now c.twice.new.least c.object.new.least own (many ++ value) c.twice.ensures
+    (noted_two c.twice.new.least c.limit.new.least c.object.new.least many value c.limit.ensures
+    c.in_ok-made.ensures.breaches)

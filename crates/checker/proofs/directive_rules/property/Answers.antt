@@ -1,0 +1,17 @@
+use Rattle.std.proofs.Common.{◌++◌}
+use Rattle.expressions.specs.Tree.{name_tree}
+use Rattle.syntax.specs.Tree.{optional_tree}
+use Rattle.rules.specs.Literals.{initial_breaches}
+use Rattle.checker.specs.Programs.{twice, limit_breaches}
+use Rattle.names.proofs.Noted.{noted_two}
+use Rattle.checker.proofs.directive_rules.property.Goals as goal
+
+pub returns-clause-breaches : goal.returns-clause-breaches
+returns-clause-breaches c =
+    let whole = c.args.file.now.table.entries in
+    let own = twice c.args.names.now.table.entries (name_tree c.args.name) in
+    let many = limit_breaches 62 c.args.names.now.counts.properties (name_tree c.args.name) in
+    let value = initial_breaches whole (optional_tree c.args.value.now) in
+    noted_two c.args.least.now c.twice.new.least c.initial.new.least own (many ++ value) c.twice.ensures
+    (noted_two c.twice.new.least c.limit.new.least c.initial.new.least many value c.limit.ensures
+    c.initial.ensures.breaches)

@@ -1,0 +1,17 @@
+-- Lists of names in which one stands twice.
+use Rattle.std.specs.Prelude.{Bool, true, false, if◌then◌else◌, List, [], ◌∷◌, ◌++◌}
+use Rattle.expressions.specs.Tree.{NameTree}
+use Rattle.names.specs.declared.breach.Breach.{Breach}
+use Rattle.names.specs.Breaches.{at}
+use Rattle.names.specs.Names.{key_of, same_key}
+
+-- a name is one of these
+abbrev pub has_name : List NameTree → NameTree → Bool
+has_name [] name = false
+has_name (n ∷ ns) name = if same_key (key_of n.text) (key_of name.text) then true else has_name ns name
+
+-- E22 at the second of two, of the names that follow some
+abbrev pub repeated_breaches : List NameTree → List NameTree → List Breach
+repeated_breaches before [] = []
+repeated_breaches before (n ∷ ns) =
+    (if has_name before n then at n.position 22 else []) ++ repeated_breaches (before ++ n ∷ []) ns

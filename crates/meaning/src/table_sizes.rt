@@ -1,0 +1,92 @@
+//! How large the tables of objects are. Nothing bounds how much a source lists, so sums of sizes are folded.
+
+ghost use Rattle.std.specs.Prelude.{◌≡◌, ◌+◌, ◌*◌, ◌<◌, ◌≤◌, ◌^◌, ℕ, length, map};
+ghost use Rattle.zcore.specs.Alphabets.{spelled};
+ghost use Rattle.meaning.specs.Resolved.{object_of, property_of};
+ghost use Rattle.meaning.specs.Places.{total};
+ghost use Rattle.meaning.specs.Places as spec;
+
+use crate::checked::CheckedObject;
+use zcore::{spelling_length, words_for};
+
+/// A size up to 65,535 is itself; what a greater one becomes is as well above 65,535, and has the same remainder by
+/// 65,536.
+#[tactic(auto, using(crate::proofs::Folding::fold_small, crate::proofs::Folding::fold_great))]
+pub(crate) fn folded(size: u128) -> usize
+    ensures size { result ≡ spec.folded size }
+    ensures few { result < 131072 }
+{
+    if size < 65_536 {
+        size as usize
+    } else {
+        65_536 + (size % 65_536) as usize
+    }
+}
+
+/// The character of the machine for a byte of a text.
+pub fn machine_character(byte: u8) -> u8
+    ensures { result ≡ spec.machine_character byte }
+{
+    if byte == b'^' {
+        13
+    } else if byte == b'~' {
+        34
+    } else {
+        byte
+    }
+}
+
+/// The Z-characters of a name.
+#[tactic(auto, using(crate::proofs::Folding::characters_more))]
+fn name_characters(name: &[u8]) -> u128
+    ensures many { result ≡ length (spelled (map spec.machine_character name.now)) }
+    ensures few { result ≤ 4 * 2 ^ 64 }
+{
+    let mut count = 0;
+    for byte in name {
+        count += spelling_length(machine_character(*byte)) as u128;
+    }
+    count
+}
+
+/// The words of a name in a property table.
+pub fn name_words(name: &[u8]) -> u128
+    ensures words { result ≡ spec.name_words name.now }
+    ensures few { result ≤ 4 * 2 ^ 64 + 1 }
+{
+    if name.is_empty() {
+        0
+    } else {
+        words_for(name_characters(name))
+    }
+}
+
+/// The bytes of a property of these words.
+fn property_size(words: &[u16]) -> u128
+    ensures size { (number : ℕ) → result ≡ spec.property_size (number, words.now) }
+    ensures few { result ≤ 2 + 2 * 2 ^ 64 }
+{
+    let head = if words.len() == 1 { 1 } else { 2 };
+    head + 2 * words.len() as u128
+}
+
+/// The bytes of all properties of an object, folded.
+fn properties_size(properties: &[(u8, Vec<u16>)]) -> usize
+    ensures size { result ≡ spec.folded (total (map spec.property_size (map property_of properties.now))) }
+    ensures few { result < 131072 }
+{
+    let mut size = 0;
+    for property in properties {
+        size = folded(size as u128 + property_size(&property.1));
+    }
+    size
+}
+
+/// The bytes of the property table of an object, folded.
+pub(crate) fn table_size(object: &CheckedObject<'_>) -> usize
+    ensures size { result ≡ spec.folded (spec.table_size (object_of object.now)) }
+    ensures few { result < 131072 }
+{
+    let properties = properties_size(&object.properties);
+    folded(2 + 2 * name_words(object.name) + properties as u128)
+}

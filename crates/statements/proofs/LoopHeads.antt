@@ -1,0 +1,321 @@
+-- What an `objectloop` goes over: what is read derives, and what has a tree is read as that tree. It is read as one
+-- expression without an assignment at its root, and told by its tree.
+use Rattle.std.proofs.Common.{◌≡◌, ℕ, zero, suc, ◌<◌, ◌≤◌, max, ◌⊎◌, false, List, ◌∷◌, length, Option, Some, None}
+use Rattle.std.proofs.Common.{refl, sym, ap, subst, ◌∙◌, inl, inr, arith}
+use Rattle.lexer.specs.declared.token.Position.{Position}
+use Rattle.lexer.specs.declared.token.Sign.TheVariants as s
+use Rattle.lexer.specs.declared.token.Word.TheVariants as w
+use Rattle.lexer.specs.Token.{Lexeme, name, reserved, sign, position_of}
+use Rattle.expressions.specs.declared.tree.Containment.{Containment}
+use Rattle.expressions.specs.declared.tree.Containment.TheVariants as containment
+use Rattle.expressions.specs.Operators.{containing}
+use Rattle.expressions.specs.Tree as tree
+use Rattle.expressions.specs.Tree.{NameTree, ExpressionTree, contained}
+use Rattle.expressions.specs.Grammar.{IsE1, e1_plain, e1_logical, n1_plain, n1_not, IsE2, e2_plain, e2_compare}
+use Rattle.expressions.specs.Grammar.{e2_equal, e2_contained, e2_tested, IsE3, e3_plain, e3_add, e4_plain}
+use Rattle.expressions.specs.Grammar.{e4_scale, IsN4, n4_plain, n4_complement, e5_plain, e5_index, e5_entry, IsU}
+use Rattle.expressions.specs.Grammar.{u_plain, u_minus, u_before, u_after, u_length, IsP, p_property, p_number}
+use Rattle.expressions.specs.Grammar.{p_character, p_word, p_true, p_false, p_nothing, p_name, p_call, p_call_with}
+use Rattle.expressions.specs.Grammar.{p_relative, p_parenthesised, nesting}
+use Rattle.expressions.specs.Nesting.{DeepE1}
+use Rattle.expressions.specs.Parse.{head, expect, condition, nested}
+use Rattle.expressions.proofs.Complete.{at_E1}
+use Rattle.expressions.proofs.Judged.{Judged, judged_read, judged_deep, judged_then, judged_after, judged_as}
+use Rattle.expressions.proofs.Limited.{Limited, then}
+use Rattle.expressions.proofs.Short.{short_E1, short_E3}
+use Rattle.expressions.proofs.Sound.{judged_E1}
+use Rattle.expressions.proofs.Tokens.{expect_ok, expect_not_deep}
+use Rattle.statements.specs.Tree.{LoopTree, over_all, over_in, over_where, loop_over, StatementTree}
+use Rattle.statements.specs.Grammar.{tells_objects, IsLoop, loop_all, loop_in, loop_where, statement_nesting}
+use Rattle.statements.specs.Parse.{named, name_alone, member, holder, loop_on, loop_of, looped, looped_in}
+use Rattle.statements.specs.Parse.{enclosed_loop}
+use Rattle.statements.proofs.NamesRead.{named_judged}
+
+abbrev pub loop_nesting : LoopTree → ℕ
+loop_nesting (over_all n) = 0
+loop_nesting (over_in n e) = nesting e
+loop_nesting (over_where n e) = nesting e
+
+pub nests_over : (p : Position) (l : LoopTree) (x : StatementTree)
+    → statement_nesting (loop_over p l x) ≡ suc (max (loop_nesting l) (statement_nesting x))
+nests_over p (over_all n) x = omega arith
+nests_over p (over_in n e) x = refl
+nests_over p (over_where n e) x = refl
+
+pub short_Loop : {ts r : List Lexeme} {l : LoopTree} → IsLoop ts l r → length r < length ts
+short_Loop loop_all = omega arith
+short_Loop (loop_in a) = omega (arith, short_E3 a)
+short_Loop (loop_where a f) = short_E1 a
+
+-- ---- which expressions are a name alone
+
+abbrev At : NameTree → List Lexeme → List Lexeme → Type 0
+At x ts r = ts ≡ name x.text x.position ∷ r
+
+that_name : (x y : NameTree) (r : List Lexeme) → name_alone (tree.named y) ≡ Some x
+    → At x (name y.text y.position ∷ r) r
+that_name x y r h = let same : y ≡ x = cc in ap (λ (z : NameTree). name z.text z.position ∷ r) same
+
+alone_P : {ts r : List Lexeme} {e : ExpressionTree} (x : NameTree) → IsP ts e r → name_alone e ≡ Some x → At x ts r
+alone_P x (p_property a) h = absurd cc
+alone_P x p_number h = absurd cc
+alone_P x p_character h = absurd cc
+alone_P x p_word h = absurd cc
+alone_P x p_true h = absurd cc
+alone_P x p_false h = absurd cc
+alone_P x p_nothing h = absurd cc
+alone_P x (p_name {r = r} {p = p} {n = n}) h = that_name x (record { text = n; position = p }) r h
+alone_P x p_call h = absurd cc
+alone_P x (p_call_with a) h = absurd cc
+alone_P x (p_relative o a) h = absurd cc
+alone_P x (p_parenthesised a) h = absurd cc
+
+alone_U : {ts r : List Lexeme} {e : ExpressionTree} (x : NameTree) → IsU ts e r → name_alone e ≡ Some x → At x ts r
+alone_U x (u_plain a) h = alone_P x a h
+alone_U x (u_minus a) h = absurd cc
+alone_U x (u_before o a) h = absurd cc
+alone_U x (u_after a o) h = absurd cc
+alone_U x (u_length a) h = absurd cc
+
+alone_N4 : {ts r : List Lexeme} {e : ExpressionTree} (x : NameTree) → IsN4 ts e r → name_alone e ≡ Some x → At x ts r
+alone_N4 x (n4_plain (e5_plain a)) h = alone_U x a h
+alone_N4 x (n4_plain (e5_index o a)) h = absurd cc
+alone_N4 x (n4_plain (e5_entry a b)) h = absurd cc
+alone_N4 x (n4_complement a) h = absurd cc
+
+alone_E3 : {ts r : List Lexeme} {e : ExpressionTree} (x : NameTree) → IsE3 ts e r → name_alone e ≡ Some x → At x ts r
+alone_E3 x (e3_plain (e4_plain a)) h = alone_N4 x a h
+alone_E3 x (e3_plain (e4_scale a o b)) h = absurd cc
+alone_E3 x (e3_add a o b) h = absurd cc
+
+alone_E2 : {ts r : List Lexeme} {e : ExpressionTree} (x : NameTree) → IsE2 ts e r → name_alone e ≡ Some x → At x ts r
+alone_E2 x (e2_plain a) h = alone_E3 x a h
+alone_E2 x (e2_compare a o b) h = absurd cc
+alone_E2 x (e2_equal a o b) h = absurd cc
+alone_E2 x (e2_contained a o b) h = absurd cc
+alone_E2 x (e2_tested a o) h = absurd cc
+
+alone_E1 : {ts r : List Lexeme} {e : ExpressionTree} (x : NameTree) → IsE1 ts e r → name_alone e ≡ Some x → At x ts r
+alone_E1 x (e1_plain (n1_plain a)) h = alone_E2 x a h
+alone_E1 x (e1_plain (n1_not a)) h = absurd cc
+alone_E1 x (e1_logical a o b) h = absurd cc
+
+-- ---- which are a name and `in`
+
+held_P : {ts r : List Lexeme} {e : ExpressionTree} → IsP ts e r → holder e ≡ None
+held_P (p_property a) = refl
+held_P p_number = refl
+held_P p_character = refl
+held_P p_word = refl
+held_P p_true = refl
+held_P p_false = refl
+held_P p_nothing = refl
+held_P p_name = refl
+held_P p_call = refl
+held_P (p_call_with a) = refl
+held_P (p_relative o a) = refl
+held_P (p_parenthesised a) = refl
+
+held_U : {ts r : List Lexeme} {e : ExpressionTree} → IsU ts e r → holder e ≡ None
+held_U (u_plain a) = held_P a
+held_U (u_minus a) = refl
+held_U (u_before o a) = refl
+held_U (u_after a o) = refl
+held_U (u_length a) = refl
+
+held_E3 : {ts r : List Lexeme} {e : ExpressionTree} → IsE3 ts e r → holder e ≡ None
+held_E3 (e3_plain (e4_plain (n4_plain (e5_plain a)))) = held_U a
+held_E3 (e3_plain (e4_plain (n4_plain (e5_index o a)))) = refl
+held_E3 (e3_plain (e4_plain (n4_plain (e5_entry a b)))) = refl
+held_E3 (e3_plain (e4_plain (n4_complement a))) = refl
+held_E3 (e3_plain (e4_scale a o b)) = refl
+held_E3 (e3_add a o b) = refl
+
+-- x stands in b: those tokens, up to r
+record IsMember (ts : List Lexeme) (x : NameTree) (b : ExpressionTree) (r : List Lexeme) : Type 0 where
+  joins : Position
+  from : List Lexeme
+  at : ts ≡ name x.text x.position ∷ reserved w.In joins ∷ from
+  derives : IsE3 from b r
+
+is_in : (t : Lexeme) → containing t ≡ Some containment.In → t ≡ reserved w.In (position_of t)
+is_in (reserved w.In p) e = refl
+is_in (reserved w.Notin p) e = absurd cc
+is_in (reserved _ p) e = absurd cc
+is_in _ e = absurd cc
+
+member_contained : {ts m r : List Lexeme} {t : Lexeme} {a b c : ExpressionTree} (x : NameTree) (op : Containment)
+    → IsE3 ts a (t ∷ m) → containing t ≡ Some op → IsE3 m b r → member (contained op a b) ≡ Some x
+    → holder (contained op a b) ≡ Some c → IsMember ts x c r
+member_contained {ts} {m} {r} {t} {b = b} {c = c} x containment.In a o d h g =
+    let same : b ≡ c = cc in
+    subst (λ z. IsMember ts x z r) same (record {
+      joins = position_of t;
+      from = m;
+      at = alone_E3 x a h ∙ ap (λ u. name x.text x.position ∷ u ∷ m) (is_in t o);
+      derives = d;
+    })
+member_contained x containment.NotIn a o d h g = absurd cc
+
+member_E1 : {ts r : List Lexeme} {e b : ExpressionTree} (x : NameTree) → IsE1 ts e r → member e ≡ Some x
+    → holder e ≡ Some b → IsMember ts x b r
+member_E1 x (e1_plain (n1_plain (e2_plain a))) h g = let no = held_E3 a in absurd cc
+member_E1 x (e1_plain (n1_plain (e2_compare a o d))) h g = absurd cc
+member_E1 x (e1_plain (n1_plain (e2_equal a o d))) h g = absurd cc
+member_E1 x (e1_plain (n1_plain (e2_contained {op = op} a o d))) h g = member_contained x op a o d h g
+member_E1 x (e1_plain (n1_plain (e2_tested a o))) h g = absurd cc
+member_E1 x (e1_plain (n1_not a)) h g = absurd cc
+member_E1 x (e1_logical a o d) h g = absurd cc
+
+-- ---- what such an expression tells
+
+-- a member stands in something
+held_member : (e : ExpressionTree) (x : NameTree) → member e ≡ Some x → holder e ≡ None → ⊥
+held_member (contained op a b) x h g = absurd cc
+held_member _ x h g = absurd cc
+
+alone_nesting : (e : ExpressionTree) (x : NameTree) → name_alone e ≡ Some x → nesting e ≡ 0
+alone_nesting (tree.named n) x h = refl
+alone_nesting _ x h = absurd cc
+
+member_nesting : (e b : ExpressionTree) (x : NameTree) → member e ≡ Some x → holder e ≡ Some b → nesting e ≡ nesting b
+member_nesting (contained containment.In a c) b x h g =
+    let same : c ≡ b = cc in
+    subst (λ z. max (nesting a) (nesting c) ≡ nesting z) same (omega (arith, alone_nesting a x h))
+member_nesting (contained containment.NotIn a c) b x h g = absurd cc
+member_nesting _ b x h g = absurd cc
+
+tells_none : (e : ExpressionTree) → name_alone e ≡ None → member e ≡ None → tells_objects e ≡ false
+tells_none (tree.named n) h g = absurd cc
+tells_none (contained containment.In (tree.named n) b) h g = absurd cc
+tells_none _ h g = refl
+
+tells_where : (x : NameTree) (e : ExpressionTree) → tells_objects e ≡ false → loop_of x e ≡ over_where x e
+tells_where x (tree.named n) h = absurd cc
+tells_where x (contained containment.In (tree.named n) b) h = absurd cc
+tells_where x _ h = refl
+
+-- ---- what is read derives
+
+record Told (ts : List Lexeme) (l : LoopTree) (n : ℕ) (r : List Lexeme) : Type 0 where
+  derives : IsLoop ts l r
+  nests : loop_nesting l ≡ n
+
+module _ (x : NameTree) (m r : List Lexeme) (e : ExpressionTree) (is : IsE1 (name x.text x.position ∷ m) e r) where
+  told_by : (a b : Option NameTree) (c : Option ExpressionTree) → name_alone e ≡ a → member e ≡ b → holder e ≡ c
+      → Told (name x.text x.position ∷ m) (loop_on x e a b c) (nesting e) r
+  told_by (Some n) b c h i j = record {
+    derives = subst (λ us. IsLoop us (over_all n) r) (sym (alone_E1 n is h)) loop_all;
+    nests = sym (alone_nesting e n h);
+  }
+  told_by None (Some n) (Some b) h i j =
+      let t = member_E1 n is i j in
+      record {
+        derives = subst (λ us. IsLoop us (over_in n b) r) (sym t.at) (loop_in t.derives);
+        nests = sym (member_nesting e b n i j);
+      }
+  told_by None (Some n) None h i j = absurd (held_member e n i j)
+  told_by None None c h i j = record { derives = loop_where is (tells_none e h i); nests = refl }
+
+  told : Told (name x.text x.position ∷ m) (loop_of x e) (nesting e) r
+  told = told_by (name_alone e) (member e) (holder e) refl refl refl
+
+-- the variable comes first
+pub record DeepLoop (n : ℕ) (ts : List Lexeme) : Type 0 where
+  pub variable : NameTree
+  pub from : List Lexeme
+  pub at : ts ≡ name variable.text variable.position ∷ from
+  pub deep : DeepE1 n (name variable.text variable.position ∷ from)
+
+pub record IsLooped (ts : List Lexeme) (l : LoopTree) (n : ℕ) (r : List Lexeme) : Type 0 where
+  pub closes : Position
+  pub derives : IsLoop ts l (sign s.CloseParenthesis closes ∷ r)
+  pub within : loop_nesting l ≤ n
+
+looped_judged : (d : ℕ) (ts : List Lexeme) → Judged (λ l r. IsLooped ts l d r) (DeepLoop (suc d) ts) (looped d ts)
+unfolding looped
+looped_judged d ts =
+    judged_then _ (named_judged ts)
+    (λ x m at. judged_then _ (judged_E1 d ts)
+    (λ e u h. judged_after (expect s.CloseParenthesis u) _
+    (λ r f.
+    let v = sign s.CloseParenthesis (position_of (head u)) ∷ r in
+    let is = subst (λ us. IsE1 us e v) at (subst (λ us. IsE1 ts e us) (expect_ok s.CloseParenthesis u r f) h.0) in
+    let t = told x m v e is in
+    judged_read (loop_of x e) r (record {
+      closes = position_of (head u);
+      derives = subst (λ us. IsLoop us (loop_of x e) v) (sym at) t.derives;
+      within = omega (arith, h.1, t.nests);
+    }))
+    (λ f. absurd (expect_not_deep s.CloseParenthesis u f)))
+    (λ z. record { variable = x; from = m; at = at; deep = subst (λ us. DeepE1 (suc d) us) at z }))
+    (λ z. absurd z)
+
+pub record IsEnclosedLoop (d : ℕ) (ts : List Lexeme) (l : LoopTree) (r : List Lexeme) : Type 0 where
+  pub opens : Position
+  pub closes : Position
+  pub from : List Lexeme
+  pub at : ts ≡ sign s.OpenParenthesis opens ∷ from
+  pub derives : IsLoop from l (sign s.CloseParenthesis closes ∷ r)
+  pub within : loop_nesting l < d
+
+pub record DeepEnclosedLoop (d : ℕ) (ts : List Lexeme) : Type 0 where
+  pub opens : Position
+  pub from : List Lexeme
+  pub at : ts ≡ sign s.OpenParenthesis opens ∷ from
+  pub deep : (d ≡ 0) ⊎ DeepLoop d from
+
+looped_in_judged : (d : ℕ) (ts : List Lexeme) → Judged (λ l r. IsLooped ts l d r × (loop_nesting l < d))
+    ((d ≡ 0) ⊎ DeepLoop d ts) (looped_in d ts)
+looped_in_judged zero ts = judged_deep (inl refl)
+looped_in_judged (suc d) ts = judged_as (looped_judged d ts)
+    (λ l r q. (
+      record { closes = q.closes; derives = q.derives; within = omega (arith, q.within) },
+      omega (arith, q.within),
+    ))
+    (λ x. inr x)
+
+pub enclosed_loop_judged : (d : ℕ) (ts : List Lexeme) → Judged (IsEnclosedLoop d ts) (DeepEnclosedLoop d ts)
+    (enclosed_loop d ts)
+unfolding enclosed_loop
+enclosed_loop_judged d ts =
+    judged_after (expect s.OpenParenthesis ts) _
+    (λ m e. judged_as (looped_in_judged d m)
+    (λ l r q. record {
+      opens = position_of (head ts);
+      closes = q.0.closes;
+      from = m;
+      at = expect_ok s.OpenParenthesis ts m e;
+      derives = q.0.derives;
+      within = q.1;
+    })
+    (λ x. record { opens = position_of (head ts); from = m; at = expect_ok s.OpenParenthesis ts m e; deep = x }))
+    (λ e. absurd (expect_not_deep s.OpenParenthesis ts e))
+
+-- ---- what has a tree is read as that tree
+
+just_name : {r : List Lexeme} {p : Position} {n : List ℕ}
+    → IsE3 (name n p ∷ r) (tree.named (record { text = n; position = p })) r
+just_name = e3_plain (e4_plain (n4_plain (e5_plain (u_plain p_name))))
+
+step_looped : {n : ℕ} {e : ExpressionTree} (d : ℕ) (x : List ℕ) (p q : Position) (m r : List Lexeme)
+    → Limited (condition (nested d) (name x p ∷ m)) d n e (sign s.CloseParenthesis q ∷ r)
+    → Limited (looped d (name x p ∷ m)) d n (loop_of (record { text = x; position = p }) e) r
+unfolding looped named expect
+step_looped d x p q m r a = then _ a refl
+
+at_condition : {ts r : List Lexeme} {e : ExpressionTree} {q : Position} → IsE1 ts e (sign s.CloseParenthesis q ∷ r)
+    → (d : ℕ) → Limited (condition (nested d) ts) d (nesting e) e (sign s.CloseParenthesis q ∷ r)
+at_condition a d = at_E1 a d (omega arith)
+
+pub at_Loop : {ts r : List Lexeme} {l : LoopTree} {q : Position} → IsLoop ts l (sign s.CloseParenthesis q ∷ r) → (d : ℕ)
+    → Limited (looped d ts) d (loop_nesting l) l r
+at_Loop {r = r} {q = q} (loop_all {p = p} {n = n}) d = step_looped d n p q (sign s.CloseParenthesis q ∷ r) r
+    (at_condition (e1_plain (n1_plain (e2_plain just_name))) d)
+at_Loop {r = r} {q = q} (loop_in {m = m} {p = p} {q = o} {n = n} {e = e} a) d =
+    let a = step_looped d n p q (reserved w.In o ∷ m) r
+    (at_condition (e1_plain (n1_plain (e2_contained just_name refl a))) d) in
+    record { within = λ h. a.within (omega arith); beyond = λ h. a.beyond (omega arith) }
+at_Loop {r = r} {q = q} (loop_where {m = m} {p = p} {n = n} {e = e} a f) d =
+    subst (λ l. Limited (looped d (name n p ∷ m)) d (nesting e) l r)
+    (tells_where (record { text = n; position = p }) e f) (step_looped d n p q m r (at_condition a d))
