@@ -1,12 +1,14 @@
 -- A program that breaks no rule resolves to one within the limits.
 use Rattle.std.proofs.Common.{◌≡◌, ℕ, ◌+◌, ◌^◌, ◌<◌, ◌≤◌, nat_le, List, [], ◌∷◌, ◌++◌, length, Option, Some, None}
 use Rattle.std.proofs.Common.{cond, refl, sym, subst, length-append, arith}
+use Rattle.std.specs.Prelude.{map}
 use Rattle.std.specs.List.{All}
 use Rattle.std.specs.List.Sorted.{IsStrictlyIncreasing}
 use Rattle.std.proofs.lemmas.List.Elements.{All-nil, All-cons}
 use Rattle.lexer.specs.declared.token.Position.{Position}
 use Rattle.expressions.specs.Tree.{NameTree}
 use Rattle.syntax.specs.Tree.{RoutineTree, DirectiveTree, global, constant, array, attribute, property, object, routine}
+use Rattle.syntax.specs.Tree.{TextTree}
 use Rattle.names.specs.declared.binding.Binding.{Binding}
 use Rattle.names.specs.declared.binding.Binding.TheVariants as bindings
 use Rattle.names.specs.Breaches.{at}
@@ -26,12 +28,13 @@ use Rattle.checker.specs.Programs.{limit_breaches, object_trees, defaults_in, ob
 use Rattle.checker.specs.Programs.{twice, locals_breaches, routine_breaches}
 use Rattle.checker.specs.Programs.{directive_breaches, directives_breaches, main_key, first_routine, position_or}
 use Rattle.checker.specs.Programs.{main_breaches, program_breaches, globals_of, arrays_of, resolve_routine}
-use Rattle.checker.specs.Programs.{routines_of}
+use Rattle.checker.specs.Programs.{routines_of, abbreviations_breaches}
 use Rattle.checker.specs.Programs.{routine_number, resolve_with, file_of, resolve_program}
 use Rattle.meaning.specs.Objects.{object_at}
 use Rattle.meaning.specs.Accepted.{IsRoutine, IsArray, IsObject, IsAccepted}
 use Rattle.checker.specs.Laws.{AcceptedPrograms}
-use Rattle.checker.proofs.Whole.{made}
+use Rattle.checker.proofs.Whole.{characters_of, made}
+use Rattle.checker.proofs.Abbreviated.{texts_few, texts_long}
 use Rattle.names.proofs.Gathered.{keys_ascend}
 use Rattle.names.proofs.SmallKeys.{keys_small}
 use Rattle.checker.proofs.ArrayBytes.{array_short}
@@ -405,24 +408,29 @@ module _ (p : ProgramOf) (file : File) (attributes properties : ℕ) (few : attr
 
 -- Programs
 
-accepted : (ds : List DirectiveTree) (end : Position) (name : Option NameTree) (keys : List ℕ) (file : File)
-    → All (λ k. k < 2 ^ 48) keys → IsStrictlyIncreasing keys → file.table ≡ table_of ds
+accepted : (ds : List DirectiveTree) (ts : List TextTree) (end : Position) (name : Option NameTree) (keys : List ℕ)
+    (file : File) → All (λ k. k < 2 ^ 48) keys → IsStrictlyIncreasing keys → file.table ≡ table_of ds
     → directives_breaches file.table first_table no_counts ds
-    ++ (standing_breaches file.table (object_trees ds) ++ main_breaches end name (in_table file.table main_key))
+    ++ (standing_breaches file.table (object_trees ds)
+    ++ (abbreviations_breaches [] ts ++ main_breaches end name (in_table file.table main_key)))
     ≡ []
     → IsAccepted
     (made (globals_of file ds) (arrays_of file ds) (all_defaults (defaults_in file ds)) (objects_of file ds) keys
-    (routines_of file ds) (routine_number (in_table file.table main_key)))
-accepted ds end name keys file small ascending is h =
+    (map characters_of ts) (routines_of file ds) (routine_number (in_table file.table main_key)))
+accepted ds ts end name keys file small ascending is h =
     let p : ProgramOf = made (globals_of file ds) (arrays_of file ds) (all_defaults (defaults_in file ds))
-    (objects_of file ds) keys (routines_of file ds) (routine_number (in_table file.table main_key)) in
+    (objects_of file ds) keys (map characters_of ts) (routines_of file ds)
+    (routine_number (in_table file.table main_key)) in
     let attributes : ℕ = attributes_in ds in
     let properties : ℕ = length (defaults_in file ds) in
     let all = directives_breaches file.table first_table no_counts ds in
     let standing = standing_breaches file.table (object_trees ds) in
+    let texts = abbreviations_breaches [] ts in
     let main = main_breaches end name (in_table file.table main_key) in
-    let own = left_empty all (standing ++ main) h in
-    let rest = right_empty all (standing ++ main) h in
+    let own = left_empty all (standing ++ (texts ++ main)) h in
+    let rest = right_empty all (standing ++ (texts ++ main)) h in
+    let written = left_empty texts main (right_empty standing (texts ++ main) rest) in
+    let last = right_empty texts main (right_empty standing (texts ++ main) rest) in
     let globals = globals_few file first_table no_counts ds (omega arith) own in
     let all_few = attributes_few file first_table no_counts ds (omega arith) own in
     let all_short = properties_few file first_table no_counts ds (omega arith) own in
@@ -435,7 +443,7 @@ accepted ds end name keys file small ascending is h =
     let parents : List ℕ = parents_of file.table (object_trees ds) in
     let as_many = placed_many parents (objects_in file ds) in
     let kept_main = main_within p file attributes properties few short entries end name (in_table file.table main_key)
-    (found_meant p attributes properties few short 0 file.table main_key entries) (right_empty standing main rest) in
+    (found_meant p attributes properties few short 0 file.table main_key entries) last in
     record {
       globals = omega (arith, globals);
       arrays = arrays_within file first_table no_counts ds own;
@@ -444,16 +452,18 @@ accepted ds end name keys file small ascending is h =
       objects = λ (k : ℕ) lt. subst (λ (n : ℕ). IsObject (object_at (placed parents (objects_in file ds)) (k + 1)) n)
           (omega arith)
           (objects_placed 0 parents (objects_in file ds)
-          (parents_rise file.table [] 0 (object_trees ds) tt (left_empty standing main rest))
+          (parents_rise file.table [] 0 (object_trees ds) tt (left_empty standing (texts ++ main) rest))
           (objects_within p file attributes properties few short entries first_table no_counts ds own) k lt);
       routines = routines_within p file attributes properties few short entries first_table no_counts ds own;
       main = kept_main.there;
       alone = kept_main.alone;
       keys = small;
       ascending = ascending;
+      few_abbreviations = texts_few ts written;
+      abbreviations = texts_long [] ts written;
     }
 
 pub accepted_programs : AcceptedPrograms
 unfolding program_breaches resolve_program resolve_with file_of
-accepted_programs p h = accepted p.directives p.end (first_routine p.directives main_key) (keys_of p.words) (file_of p)
+accepted_programs p h = accepted p.directives p.abbreviations p.end (first_routine p.directives main_key) (keys_of p.words) (file_of p)
     (keys_small p.words) (keys_ascend p.words) refl h

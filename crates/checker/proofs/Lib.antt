@@ -3,11 +3,13 @@ mod ArraySamples
 mod LoopSamples
 mod WordSamples
 mod ObjectSamples
+mod AbbreviationSamples
 pub mod Directives
 pub mod NameTables
 pub mod Mapped
 pub mod Locals
 pub mod Whole
+pub mod Abbreviated
 pub mod NeedsBelow
 pub mod Kept
 pub mod Unbroken

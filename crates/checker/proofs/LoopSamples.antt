@@ -51,6 +51,7 @@ loops_resolve : resolve_program loops ≡ record {
   defaults = all_defaults [];
   objects = [];
   keys = [];
+  abbreviations = [];
   routines = record {
     locals = 0;
     body = r.actions_of

@@ -22,6 +22,7 @@ use Rattle.checker.specs.Programs.{resolve_routine, routines_of, resolve_with, f
 use Rattle.meaning.specs.Printable.{IsPrintableItem, IsPrintableAction, ArePrintableActions, ArePrintableCases}
 use Rattle.meaning.specs.Printable.{IsPrintableRoutine}
 use Rattle.checker.specs.Laws.{PrintablePrograms}
+use Rattle.checker.proofs.Abbreviated.{texts_print}
 
 module _ (seen : Seen) where
   item_prints : (i : PrintItemTree) → source.IsPrintableItem i → IsPrintableItem (resolve_item seen i)
@@ -134,7 +135,8 @@ placed_print (p ∷ ps) (o ∷ os) h =
 pub printable_programs : PrintablePrograms
 unfolding resolve_program resolve_with
 printable_programs p h = (
-  routines_print (file_of p) p.directives h,
+  routines_print (file_of p) p.directives h.0,
   placed_print (parents_of (file_of p).table (object_trees p.directives)) (objects_in (file_of p) p.directives)
-      (names_print (file_of p) p.directives h),
+      (names_print (file_of p) p.directives h.0),
+  texts_print p.abbreviations h.1,
 )

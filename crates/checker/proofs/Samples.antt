@@ -41,7 +41,7 @@ abbrev pub routine : List ℕ → List NameTree → List StatementTree → Direc
 routine name locals xs = d.routine (record { name = the 0 name; locals = locals; body = body xs; weight = 0 })
 
 abbrev pub program : List DirectiveTree → ProgramTree
-program ds = record { directives = ds; end = p 999; weight = 0; words = [] }
+program ds = record { directives = ds; abbreviations = []; end = p 999; weight = 0; words = [] }
 
 -- the transcript of one turn
 abbrev pub says : List ℕ → Outcome

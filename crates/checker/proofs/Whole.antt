@@ -1,15 +1,17 @@
 -- A whole program.
-use Rattle.std.proofs.Common.{◌≡◌, ℕ, List, ◌++◌, Option, refl}
+use Rattle.std.proofs.Common.{◌≡◌, ℕ, List, [], ◌++◌, Option, refl}
 use Rattle.std.proofs.Common.{subst, ap, ◌∙◌}
 use Rattle.std.specs.Prelude.{map}
 use Rattle.syntax.specs.declared.tree.Program.{Program}
 use Rattle.syntax.specs.declared.tree.Directive.{Directive}
-use Rattle.syntax.specs.Tree.{directive_tree, ProgramTree, program_tree}
+use Rattle.syntax.specs.declared.tree.Text.{Text}
+use Rattle.syntax.specs.Tree.{directive_tree, TextTree, text_tree, ProgramTree, program_tree}
 use Rattle.names.specs.declared.breach.Breach.{Breach}
 use Rattle.names.specs.Keys.{keys_of}
 use Rattle.names.specs.Names.{Table, File, in_table, first_table, no_counts, table_of}
 use Rattle.names.specs.Noted.{noted}
 use Rattle.meaning.specs.Objects.{ObjectOf}
+use Rattle.meaning.specs.Places.{machine_character}
 use Rattle.meaning.specs.declared.checked.CheckedObject.{CheckedObject}
 use Rattle.meaning.specs.Resolved.{RoutineOf, ProgramOf, CheckedProgram, object_of, routine_of, cut}
 use Rattle.meaning.specs.declared.checked.CheckedRoutine.{CheckedRoutine}
@@ -19,96 +21,110 @@ use Rattle.checker.specs.Programs.{main_key, first_routine, main_breaches, direc
 use Rattle.checker.specs.Objects.{all_defaults, standing_breaches, parents_of, placed}
 use Rattle.checker.specs.Programs.{object_trees, objects_of, defaults_in}
 use Rattle.checker.specs.Programs.{globals_of, arrays_of, routines_of, routine_number, resolve_with, file_of}
-use Rattle.checker.specs.Programs.{resolve_program, IsCheckedOf}
+use Rattle.checker.specs.Programs.{abbreviations_breaches, resolve_program, IsCheckedOf}
 use Rattle.names.proofs.Noted.{noted_two}
 use Rattle.meaning.proofs.Cutting.{cut_is}
 
-abbrev pub made : List ℕ → List (List ℕ) → List ℕ → List ObjectOf → List ℕ → List RoutineOf → ℕ → ProgramOf
-made gs arrays ws os keys rs n = record {
+-- the characters of abbreviations
+abbrev pub characters_of : TextTree → List ℕ
+characters_of t = map machine_character t.bytes
+
+abbrev pub made : List ℕ → List (List ℕ) → List ℕ → List ObjectOf → List ℕ → List (List ℕ) → List RoutineOf → ℕ
+    → ProgramOf
+made gs arrays ws os keys texts rs n = record {
   globals = gs;
   arrays = arrays;
   defaults = ws;
   objects = os;
   keys = keys;
+  abbreviations = texts;
   routines = rs;
   main = n;
 }
 
 pub program_value : (p : Program) (file : File) (gs : List ℕ) (arrays : List (List ℕ)) (ws : List ℕ) (os : List ObjectOf)
-    (keys : List ℕ) (rs : List RoutineOf) (n : ℕ)
+    (keys : List ℕ) (texts : List (List ℕ)) (rs : List RoutineOf) (n : ℕ)
     → file ≡ file_of (program_tree p)
     → gs ≡ globals_of file (map directive_tree p.directives.items)
     → arrays ≡ arrays_of file (map directive_tree p.directives.items)
     → ws ≡ all_defaults (defaults_in file (map directive_tree p.directives.items))
     → os ≡ objects_of file (map directive_tree p.directives.items)
     → keys ≡ keys_of (program_tree p).words
+    → texts ≡ map characters_of (program_tree p).abbreviations
     → rs ≡ routines_of file (map directive_tree p.directives.items)
     → n ≡ routine_number (in_table file.table main_key)
-    → made gs arrays ws os keys rs n ≡ resolve_program (program_tree p)
+    → made gs arrays ws os keys texts rs n ≡ resolve_program (program_tree p)
 unfolding resolve_program resolve_with
-program_value p file gs arrays ws os keys rs n w g a d o k r m =
+program_value p file gs arrays ws os keys texts rs n w g a d o k t r m =
     let ds = map directive_tree p.directives.items in
     let words = (program_tree p).words in
-    let here : made gs arrays ws os keys rs n
+    let written = map characters_of (program_tree p).abbreviations in
+    let here : made gs arrays ws os keys texts rs n
     ≡ made (globals_of file ds) (arrays_of file ds) (all_defaults (defaults_in file ds)) (objects_of file ds)
-    (keys_of words) (routines_of file ds) (routine_number (in_table file.table main_key)) =
-    rw (g, a, d, o, k, r, m) refl in
+    (keys_of words) written (routines_of file ds) (routine_number (in_table file.table main_key)) =
+    rw (g, a, d, o, k, t, r, m) refl in
     here
     ∙ ap (λ (f : File). made (globals_of f ds) (arrays_of f ds) (all_defaults (defaults_in f ds)) (objects_of f ds)
-    (keys_of words) (routines_of f ds) (routine_number (in_table f.table main_key))) w
+    (keys_of words) written (routines_of f ds) (routine_number (in_table f.table main_key))) w
 
 -- the names of a program's file are those of its table
 pub file_table : (p : ProgramTree) → (file_of p).table ≡ table_of p.directives
 unfolding file_of
 file_table p = refl
 
-pub program_break : (m o q r : Option Breach) (p : Program) (whole : Table)
+pub program_break : (m o q a r : Option Breach) (p : Program) (whole : Table)
     → whole ≡ table_of (map directive_tree p.directives.items)
     → o ≡ noted m (directives_breaches whole first_table no_counts (map directive_tree p.directives.items))
     → q ≡ noted o (standing_breaches whole (object_trees (map directive_tree p.directives.items)))
-    → r ≡ noted q
+    → a ≡ noted q (abbreviations_breaches [] (map text_tree p.abbreviations.items))
+    → r ≡ noted a
     (main_breaches p.end (first_routine (map directive_tree p.directives.items) main_key)
     (in_table whole main_key))
     → r ≡ noted m (program_breaches (program_tree p))
 unfolding program_breaches
-program_break m o q r p whole w a s b =
+program_break m o q a r p whole w d s t b =
     let ds = map directive_tree p.directives.items in
     let standing = standing_breaches whole (object_trees ds) in
+    let texts = abbreviations_breaches [] (map text_tree p.abbreviations.items) in
     let main = main_breaches p.end (first_routine ds main_key) (in_table whole main_key) in
-    noted_two m o r (directives_breaches whole first_table no_counts ds) (standing ++ main) a
-    (noted_two o q r standing main s b)
+    noted_two m o r (directives_breaches whole first_table no_counts ds) (standing ++ (texts ++ main)) d
+    (noted_two o q r standing (texts ++ main) s (noted_two q a r texts main t b))
     ∙ ap (λ (t : Table). noted m
     (directives_breaches t first_table no_counts ds
     ++ (standing_breaches t (object_trees ds)
-    ++ main_breaches p.end (first_routine ds main_key) (in_table t main_key)))) w
+    ++ (texts ++ main_breaches p.end (first_routine ds main_key) (in_table t main_key))))) w
 
-abbrev pub checked : List ℕ → List (List ℕ) → List ℕ → List CheckedObject → List ℕ → List CheckedRoutine → ℕ → ℕ → ℕ
-    → CheckedProgram
-checked globals arrays defaults objects keys routines main weight end = record {
+abbrev pub checked : List ℕ → List (List ℕ) → List ℕ → List CheckedObject → List ℕ → List (List ℕ)
+    → List CheckedRoutine → ℕ → ℕ → ℕ → CheckedProgram
+checked globals arrays defaults objects keys abbreviations routines main weight end = record {
   globals = globals;
   arrays = arrays;
   defaults = defaults;
   objects = objects;
   keys = keys;
+  abbreviations = abbreviations;
   routines = routines;
   main = main;
   weight = weight;
   end_line = end;
 }
 
-pub program_checked : (p : Program) (file : File) (keys : List ℕ) (given again : List Directive) (found : Found)
-    (defaults parents : List ℕ) (objects : List CheckedObject) (n : ℕ)
+pub program_checked : (p : Program) (file : File) (keys : List ℕ) (given again : List Directive) (texts : List Text)
+    (found : Found) (defaults parents : List ℕ) (objects : List CheckedObject) (abbreviations : List (List ℕ)) (n : ℕ)
     (c : CheckedProgram) → file ≡ file_of (program_tree p)
     → keys ≡ keys_of (program_tree p).words
-    → given ≡ p.directives.items → again ≡ p.directives.items → IsFound file (map directive_tree given) found
+    → given ≡ p.directives.items → again ≡ p.directives.items → texts ≡ p.abbreviations.items
+    → IsFound file (map directive_tree given) found
     → defaults ≡ all_defaults found.defaults.items
     → parents ≡ parents_of file.table (object_trees (map directive_tree again))
     → map object_of objects ≡ placed parents (map object_of found.objects.items)
+    → abbreviations ≡ map characters_of (map text_tree texts)
     → n ≡ routine_number (in_table file.table main_key)
     → c ≡ checked found.globals.items (cut found.arrays.sizes.items found.arrays.bytes.items) defaults objects keys
-    found.routines.items n p.weight p.end.line
+    abbreviations found.routines.items n p.weight p.end.line
     → IsCheckedOf (program_tree p) c
-program_checked p file keys given again found defaults parents objects n c w k same twice f d ps os m is =
+program_checked p file keys given again texts found defaults parents objects abbreviations n c w k same twice written f
+    d ps os ts m is =
     let ds = map directive_tree p.directives.items in
     let g : IsFound file ds found = subst
     (λ (x : List Directive). IsFound file (map directive_tree x) found) same f in
@@ -116,13 +132,14 @@ program_checked p file keys given again found defaults parents objects n c w k s
     ∙ ap (λ (x : List Directive). parents_of file.table (object_trees (map directive_tree x))) twice in
     rw is (record {
       program = program_value p file found.globals.items (cut found.arrays.sizes.items found.arrays.bytes.items)
-          defaults (map object_of objects) keys
+          defaults (map object_of objects) keys abbreviations
           (map routine_of found.routines.items) n w g.globals
           (cut_is found.arrays.sizes.items found.arrays.bytes.items
           (arrays_of file (map directive_tree p.directives.items)) g.sizes g.bytes)
           (d ∙ ap all_defaults g.defaults)
           (os ∙ ap (λ (x : List ℕ). placed x (map object_of found.objects.items)) stand
-          ∙ ap (λ (x : List ObjectOf). placed (parents_of file.table (object_trees ds)) x) g.objects) k g.routines m;
+          ∙ ap (λ (x : List ObjectOf). placed (parents_of file.table (object_trees ds)) x) g.objects) k
+          (ts ∙ ap (λ (x : List Text). map characters_of (map text_tree x)) written) g.routines m;
       titles = g.titles;
       weight = refl;
       end_line = refl;

@@ -25,7 +25,7 @@ use Rattle.checker.proofs.Samples.{p, the, item, words, routine, says}
 
 -- a program of these directives, with these dictionary words
 abbrev spoken : List (List ℕ) → List DirectiveTree → ProgramTree
-spoken ws ds = record { directives = ds; end = p 999; weight = 0; words = ws }
+spoken ws ds = record { directives = ds; abbreviations = []; end = p 999; weight = 0; words = ws }
 
 abbrev array : ℕ → List ℕ → ArrayKind → List d.ValueTree → DirectiveTree
 array n name kind values = d.array (record { name = the n name; kind = kind; values = values })
@@ -133,6 +133,7 @@ reads_resolve : resolve_program reads ≡ record {
   defaults = all_defaults [];
   objects = [];
   keys = 0x64D028A594A5 ∷ [];
+  abbreviations = [];
   routines = record {
     locals = 0;
     body = r.actions_of

@@ -1,11 +1,13 @@
 -- The rules that a program can break, and what it resolves to.
-use Rattle.std.specs.Prelude.{◌≡◌, ◌%◌, ℕ, nat_le, map, if◌then◌else◌, List, [], ◌∷◌, ◌++◌, codes}
+use Rattle.std.specs.Prelude.{◌≡◌, ◌==◌, ◌||◌, ◌%◌, ℕ, nat_le, nat_lt, Bool, true, false, map, if◌then◌else◌, List, []}
+use Rattle.std.specs.Prelude.{◌∷◌, ◌++◌, codes}
 use Rattle.std.specs.Prelude.{length, Option, Some, None, is_some}
+use Rattle.lexer.specs.declared.fault.TheConstants.{BAD_ABBREVIATION}
 use Rattle.lexer.specs.declared.token.Position.{Position}
 use Rattle.expressions.specs.Tree.{NameTree}
 use Rattle.statements.specs.Tree.{LiteralTree}
 use Rattle.syntax.specs.Tree.{RoutineTree, DirectiveTree, global, constant, array, attribute, property, object}
-use Rattle.syntax.specs.Tree.{routine, ObjectTree, ProgramTree}
+use Rattle.syntax.specs.Tree.{routine, ObjectTree, TextTree, ProgramTree}
 use Rattle.names.specs.declared.binding.Binding.{Binding}
 use Rattle.names.specs.declared.binding.Binding.TheVariants as bindings
 use Rattle.names.specs.declared.breach.Breach.{Breach}
@@ -14,7 +16,7 @@ use Rattle.names.specs.declared.counts.Counts.{Counts}
 use Rattle.names.specs.Keys.{keys_of}
 use Rattle.names.specs.Names.{Table, File, key_of, same_key, in_table, first_table, no_counts, with_directive}
 use Rattle.names.specs.Names.{counts_after, table_of, look_up, Seen, seen_from}
-use Rattle.meaning.specs.Places.{number_in}
+use Rattle.meaning.specs.Places.{abbreviation_count, machine_character, number_in}
 use Rattle.rules.specs.Literals.{initial_breaches, named_breaches, initial_value}
 use Rattle.checker.specs.Arrays.{array_breaches, array_bytes}
 use Rattle.checker.specs.Repeated.{has_name}
@@ -121,12 +123,36 @@ main_breaches end name (Some (bindings.Property n)) = at end 21
 main_breaches end name (Some (bindings.Object o)) = at end 21
 main_breaches end name (Some (bindings.Local l)) = at end 21
 
+-- Abbreviations: E24 from the 97th on; else E33 at one of fewer than two characters, or that stands earlier
+
+abbrev pub same_bytes : List ℕ → List ℕ → Bool
+same_bytes [] [] = true
+same_bytes [] (d ∷ ds) = false
+same_bytes (c ∷ cs) [] = false
+same_bytes (c ∷ cs) (d ∷ ds) = if c == d then same_bytes cs ds else false
+
+abbrev pub has_text : List TextTree → List ℕ → Bool
+has_text [] bytes = false
+has_text (t ∷ ts) bytes = same_bytes t.bytes bytes || has_text ts bytes
+
+-- of one that follows some
+abbrev pub abbreviation_breaches : List TextTree → TextTree → List Breach
+abbreviation_breaches before t =
+    if nat_le abbreviation_count (length before) then at t.position 24
+    else (if nat_lt (length t.bytes) 2 || has_text before t.bytes then at t.position BAD_ABBREVIATION else [])
+
+abbrev pub abbreviations_breaches : List TextTree → List TextTree → List Breach
+abbreviations_breaches before [] = []
+abbreviations_breaches before (t ∷ ts) =
+    abbreviation_breaches before t ++ abbreviations_breaches (before ++ t ∷ []) ts
+
 -- every broken rule of a program, with its place
 unfoldable pub program_breaches : ProgramTree → List Breach
 program_breaches p =
     directives_breaches (table_of p.directives) first_table no_counts p.directives
     ++ (standing_breaches (table_of p.directives) (object_trees p.directives)
-    ++ main_breaches p.end (first_routine p.directives main_key) (in_table (table_of p.directives) main_key))
+    ++ (abbreviations_breaches [] p.abbreviations
+    ++ main_breaches p.end (first_routine p.directives main_key) (in_table (table_of p.directives) main_key)))
 
 -- Resolving
 
@@ -211,6 +237,7 @@ resolve_with file p = record {
   defaults = all_defaults (defaults_in file p.directives);
   objects = objects_of file p.directives;
   keys = keys_of p.words;
+  abbreviations = map (λ (t : TextTree). map machine_character t.bytes) p.abbreviations;
   routines = routines_of file p.directives;
   main = routine_number (in_table file.table main_key);
 }

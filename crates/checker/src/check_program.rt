@@ -8,6 +8,7 @@ ghost use Rattle.checker.specs.Programs.{program_breaches, no_numbers, file_of, 
 ghost use Rattle.names.specs.Scope.{file_in};
 ghost use Rattle.names.specs.Keys.{keys_of};
 
+use crate::abbreviation_rules::{abbreviation_rules, all_abbreviations};
 use crate::defaults::all_defaults;
 use crate::directive_rules::all_directives;
 use crate::main_rules::main_number;
@@ -36,6 +37,8 @@ fn resolve_with<'a>(
     let parents = parents(alloc, &file.table, &program.directives, least)?;
     place(&parents, &mut found.objects);
     let defaults = all_defaults(alloc, &found.defaults)?;
+    abbreviation_rules(&program.abbreviations, least);
+    let abbreviations = all_abbreviations(alloc, &program.abbreviations)?;
     let main = main_number(&program.directives, program.end, &file.table, least);
     Ok(Checked::new(
         found.globals,
@@ -43,6 +46,7 @@ fn resolve_with<'a>(
         defaults,
         found.objects,
         file.numbers.keys,
+        abbreviations,
         found.routines,
         main,
         program.weight,
@@ -98,9 +102,10 @@ fn resolve<'a>(
 ///
 /// The fault is that at the smallest place, and of several there the one with the smallest number: E20 an unknown name,
 /// E21 no proper `Main`, E22 a name that is defined twice, E23 a name of the wrong kind, E24 too many globals, attributes,
-/// properties, objects, locals, arguments or words of a property, or too long a short name, E25 more arguments than the routine has locals, E26 an assignment to what is
+/// properties, objects, locals, arguments, words of a property or abbreviations, or too long a short name, E25 more arguments than the routine has locals, E26 an assignment to what is
 /// neither a variable, nor an entry of an array, nor a property or a word of one, E28 an entry or a size that an array may not have, E29 an expression
-/// that needs too many temporaries. E99, with line 0: memory was refused.
+/// that needs too many temporaries, E33 an abbreviation of fewer than two characters, or one that stands earlier. E99, with
+/// line 0: memory was refused.
 pub fn check<'a>(alloc: Global, program: Program<'a>) -> Result<Checked<'a>, SourceFault>
     ensures { Answers result (program_breaches (program_tree program.entry)) (λ c. IsCheckedOf (program_tree program.entry) c) }
 {

@@ -1,6 +1,7 @@
 //! The rules of directives and whole programs, and what a program resolves to.
 #![tactic(auto)]
 
+mod abbreviation_rules;
 mod array_rules;
 mod check_program;
 mod defaults;

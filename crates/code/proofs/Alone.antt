@@ -82,7 +82,7 @@ module _ (c : Running) where
       ∙ ap (λ ws. done v (at_words (around c) other locals ws text)) h.1
 
   -- the bytes of an item without a text are those of its instructions
-  pub plain_length : (i : Item) → text_bytes i ≡ []
+  pub plain_length : (i : Item) → text_bytes p.abbreviations i ≡ []
       → length (bytes_here c i) ≡ length (flat_map bytes_of (code_here c i))
   plain_length i none = ap (λ t. length (flat_map bytes_of (code_here c i) ++ t)) none
       ∙ ap length (append-nil (flat_map bytes_of (code_here c i)))
@@ -92,8 +92,8 @@ module _ (c : Running) where
     pub held : Holds m (here c) (bytes_of i)
     pub end : here c + length (bytes_of i) ≡ next_place
 
-  pub single : (item : Item) (i : Instruction) → code_here c item ≡ i ∷ [] → text_bytes item ≡ [] → Stands c item
-      → Single i
+  pub single : (item : Item) (i : Instruction) → code_here c item ≡ i ∷ [] → text_bytes p.abbreviations item ≡ []
+      → Stands c item → Single i
   single item i is none stands =
       let same : flat_map bytes_of (code_here c item) ≡ bytes_of i =
       ap (flat_map bytes_of) is ∙ append-nil (bytes_of i) in

@@ -101,7 +101,7 @@ module _ (c : Running) where
       (s : List ℕ)
       → IsOperandHere c x → IsOperandHere c y → IsHere c d → length s ≤ 48 → Stands c item
       → code_here c item ≡ takes (x ∷ y ∷ []) ++ giving op (operands (x ∷ y ∷ [])) (result_in d) ∷ []
-      → text_bytes item ≡ []
+      → text_bytes p.abbreviations item ≡ []
       → least_operands op ≤ 2 → 2 ≤ most_operands op → has_result op ≡ true → FitsBranch (has_branch op) None
       → ((v w : ℕ) (before : Next) (after : ℕ) (st : State)
       → perform op before after (Some (result_in d)) None (v ∷ w ∷ []) st

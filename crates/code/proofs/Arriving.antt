@@ -203,7 +203,8 @@ module _ (c : Running) where
 
   -- an item's instructions
   pub code_held : (i : Item) → Stands i → Holds m here (flat_map bytes_of (code_here i))
-  code_held i stands = (above, (holds_append m here (flat_map bytes_of (code_here i)) (text_bytes i) stands.held).0)
+  code_held i stands =
+      (above, (holds_append m here (flat_map bytes_of (code_here i)) (text_bytes p.abbreviations i) stands.held).0)
 
   -- The machine comes to the next item, with room on its stack, or where there is room
   pub arrives_with : (chosen : Option ℕ) (before after m1 : List ℕ) (situation : Situation) (end : ℕ)

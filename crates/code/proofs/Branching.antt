@@ -98,7 +98,7 @@ module _ (c : Running) where
 
   branches_led : (item : Item) (test : Test) (os : List items.Operand) (when : Bool) (target : ℕ)
       (chosen : Option ℕ) (words vs rest : List ℕ) → All (IsOperandHere c) os → Counted test (length os)
-      → length words ≤ 48 → Stands c item → text_bytes item ≡ []
+      → length words ≤ 48 → Stands c item → text_bytes p.abbreviations item ≡ []
       → code_here c item ≡ tested_code test os when (2 + over target) → Gives os (situation_here c) words vs rest
       → LedFrom c words (stack.branch (agrees (stack.holds test vs) when) target rest (at_case c chosen words))
   branches_led item test os when target chosen words vs rest all is room stands none code g =

@@ -114,6 +114,7 @@ module _ (c : Running) where
         record {
           size = keeps.size ∙ scratch.stored.size;
           header = λ q h. below q (omega (arith, h, header_low)) ∙ scratch.stored.header q h;
+          below = λ q h. below q (omega (arith, h, globals_low)) ∙ scratch.stored.below q h;
           kept = high_same ∙ good.stored.kept;
           values = λ g h.
               let at = globals_of story + 2 * g in

@@ -9,9 +9,10 @@ use Rattle.std.proofs.lemmas.List.Sums.{AllPass-from_list_all}
 use Rattle.zcore.specs.Bytes.{word_at}
 use Rattle.zcore.specs.Dictionary.{entry_of}
 use Rattle.zcore.specs.Header.{globals_of, entry_count}
-use Rattle.zcore.specs.Alphabets.{spelling_of}
+use Rattle.zcore.specs.Alphabets.{is_printable, spelling_of}
 use Rattle.zcore.specs.Instruction.{bytes_of}
 use Rattle.zcore.specs.Text.{encoded}
+use Rattle.zcore.specs.Abbreviations.{encoded_with}
 use Rattle.zcore.specs.Words.{packed}
 use Rattle.tables.specs.Dictionary.{ReadsKeys}
 use Rattle.meaning.specs.declared.cause.Cause.{Cause}
@@ -36,8 +37,8 @@ use Rattle.code.proofs.Stories.{quotient_of_seven}
 small_by : (bytes : List ℕ) → list_all (λ b. nat_lt b 256) bytes ≡ true → All (λ b. b < 256) bytes
 small_by bytes e k d h = ltb-true _ _ (AllPass-from_list_all (λ b. nat_lt b 256) bytes e k d h)
 
-main_held : HoldsRoutine story (sizes_of program) a 314 main
-unfolding bytes_of encoded packed spelling_of
+main_held : HoldsRoutine story (sizes_of program) a 362 main
+unfolding bytes_of encoded encoded_with packed spelling_of
 main_held = record {
   bytes = refl;
   followed = ltb-true _ _ refl;
@@ -47,8 +48,8 @@ main_held = record {
   short = leb-true _ _ refl;
 }
 
-sum_held : HoldsRoutine story (sizes_of program) a 354 sum_of_two
-unfolding bytes_of encoded packed spelling_of
+sum_held : HoldsRoutine story (sizes_of program) a 402 sum_of_two
+unfolding bytes_of encoded encoded_with packed spelling_of
 sum_held = record {
   bytes = refl;
   followed = ltb-true _ _ refl;
@@ -59,7 +60,7 @@ sum_held = record {
 }
 
 faults_held : (cause : Cause) → HoldsText story (fault_address a cause) (fault_line (words_of cause))
-unfolding bytes_of encoded packed spelling_of
+unfolding bytes_of encoded encoded_with packed spelling_of
 faults_held causes.DivisionByZero = record { bytes = refl; word = ltb-true _ _ refl; above = leb-true _ _ refl }
 faults_held causes.NotAnObject = record { bytes = refl; word = ltb-true _ _ refl; above = leb-true _ _ refl }
 faults_held causes.IndexOutOfRange = record { bytes = refl; word = ltb-true _ _ refl; above = leb-true _ _ refl }
@@ -76,17 +77,17 @@ routines_held (suc zero) h = sum_held
 routines_held (suc (suc r)) h = absurd (omega (arith, h))
 
 first_global : (g : ℕ) → g < 1 → word_at story (globals_of story + 2 * g) ≡ slice_index program.globals g
-unfolding bytes_of encoded packed spelling_of
+unfolding bytes_of encoded encoded_with packed spelling_of
 first_global zero h = refl
 first_global (suc g) h = absurd (omega (arith, h))
 
-only_array : (n : ℕ) → n < 1 → slice_index a.arrays n ≡ 544 + offset_in program.arrays n
+only_array : (n : ℕ) → n < 1 → slice_index a.arrays n ≡ 736 + offset_in program.arrays n
 only_array zero h = refl
 only_array (suc n) h = absurd (omega (arith, h))
 
 -- the dictionary has no entry
 dictionary_held : ReadsKeys story 909 []
-unfolding bytes_of encoded packed spelling_of entry_of
+unfolding bytes_of encoded encoded_with packed spelling_of entry_of
 dictionary_held =
     let none : entry_count story 909 ≡ 0 = refl in
     record {
@@ -102,7 +103,7 @@ dictionary_held =
 
 -- its objects stand behind the defaults of properties
 objects_held : HoldsRows story objects defaults
-unfolding bytes_of encoded packed spelling_of
+unfolding bytes_of encoded encoded_with packed spelling_of
 objects_held = record { stand = refl; above = leb-true _ _ refl; below = leb-true _ _ refl }
 
 words_small : All (λ w. w < 65536) defaults
@@ -143,7 +144,7 @@ objects_accepted (suc zero) h = ball_accepted
 objects_accepted (suc (suc k)) h = absurd (omega (arith, h))
 
 pub held : HoldsProgram story a program
-unfolding bytes_of encoded packed spelling_of
+unfolding bytes_of encoded encoded_with packed spelling_of
 held = record {
   byte_each = small_by story refl;
   routines = routines_held;
@@ -154,7 +155,10 @@ held = record {
   globals_below = leb-true _ _ refl;
   static_below = leb-true _ _ refl;
   globals = first_global;
-  first_array = 544;
+  table_above = leb-true _ _ refl;
+  table_below = leb-true _ _ refl;
+  abbreviations = λ n h. absurd (omega (arith, h));
+  first_array = 736;
   arrays = refl;
   arrays_each = only_array;
   arrays_above = leb-true _ _ refl;
@@ -246,7 +250,7 @@ names_printable (suc zero) d h = ball_printable
 names_printable (suc (suc k)) d h = absurd (omega (arith, h))
 
 printable : HasPrintableTexts program
-printable = (routines_printable, names_printable)
+printable = (routines_printable, names_printable, All-nil (λ (t : List ℕ). list_all is_printable t ≡ true))
 
 -- the program is an accepted one
 accepted : IsAccepted program
@@ -262,6 +266,8 @@ accepted = record {
   alone = refl;
   keys = All-nil (λ (k : ℕ). k < 2 ^ 48);
   ascending = λ k h. absurd (omega (arith, h));
+  few_abbreviations = omega arith;
+  abbreviations = All-nil (λ (t : List ℕ). 2 ≤ length t);
 }
 
 pub filled_plays : ItemsFollow → ItemsAreWithin → (full : ℕ) (lines : List (List ℕ)) → Plays story program full lines

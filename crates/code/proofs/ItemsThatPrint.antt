@@ -2,7 +2,7 @@
 use Rattle.std.proofs.Common.{◌≡◌, ℕ, ◌+◌, ◌*◌, ◌≤◌, List, [], ◌∷◌, ◌++◌, codes, length, take, slice_index, Bool}
 use Rattle.std.proofs.Common.{true, false, refl, sym, ap, ◌∙◌, subst, arith}
 use Rattle.std.specs.Prelude.{nat_le, nat_eq, if◌then◌else◌, map, ◌==◌}
-use Rattle.std.specs.List.{All, flat_map}
+use Rattle.std.specs.List.{All, flat_map, list_all}
 use Rattle.zcore.specs.declared.instruction.Operand.TheVariants.{Large}
 use Rattle.zcore.specs.declared.instruction.Operation.TheVariants as operations
 use Rattle.zcore.specs.declared.place.Place.TheVariants as places
@@ -14,6 +14,8 @@ use Rattle.zcore.specs.State.{done, halt}
 use Rattle.zcore.specs.Parts.{unpacked}
 use Rattle.zcore.specs.Execution.{perform, step, text_at, print_inline, print_packed}
 use Rattle.zcore.specs.Text.{encoded}
+use Rattle.zcore.specs.Alphabets.{is_printable}
+use Rattle.zcore.specs.Abbreviations.{encoded_with}
 use Rattle.zcore.specs.Text as machine_text
 use Rattle.zcore.proofs.Holding.{holds_append}
 use Rattle.meaning.specs.declared.cause.Cause.{Cause}
@@ -35,6 +37,7 @@ use Rattle.code.proofs.Steps.{large_value}
 use Rattle.code.proofs.Fitting.{Shaped}
 use Rattle.code.proofs.Ends.{does_after, does_halt, prints, prints_part, prints_on, prints_off, quits}
 use Rattle.code.proofs.Texts.{number_prints, text_prints, text_read, printable_kept, IsLine, line_read}
+use Rattle.code.proofs.Shortened.{has_all}
 use Rattle.code.proofs.Arriving.{unpacked_low, address_low, Running, at, around, here, LedFrom, Stands, kept}
 use Rattle.code.proofs.Arriving.{code_held, arrives_on, situation_here}
 use Rattle.code.proofs.Temporaries.{Scratch, scratch_here, held_in, made, made_at}
@@ -133,25 +136,29 @@ module _ (c : Running) where
       (λ e. makes ∙ prints_off (around c) m locals rest world.text (point (here c) world.fuel) end (signed_text v)
       (signed_text v) (number_prints v) e))
 
-  pub print_text_led : (bytes : List ℕ) (s : List ℕ) → All IsPrintable bytes → length s ≤ 48
-      → Stands c (items.print_text bytes) → LedFrom c s (stack.prints (put (map shown bytes)) s (at c s))
+  pub print_text_led : (bytes : List ℕ) (s : List ℕ)
+      → All (λ (t : List ℕ). list_all is_printable t ≡ true) p.abbreviations → All IsPrintable bytes
+      → length s ≤ 48 → Stands c (items.print_text bytes) → LedFrom c s (stack.prints (put (map shown bytes)) s (at c s))
   unfolding bytes_of perform print_inline text_at
-  print_text_led bytes s printable short stands =
+  print_text_led bytes s texts printable short stands =
       let st = at_words (around c) m locals s world.text in
       let i = plain operations.Print [] in
       let line = map character_of bytes in
       let shown_bytes = map shown bytes in
       let shaped : Shaped i = record { least = omega arith; most = omega arith; result_fits = tt; branch_fits = tt } in
       let same = printable_kept bytes printable in
-      let h = subst (λ t. machine_text.Holds m (here c + 1) (encoded t)) same
-      (holds_append m (here c) (178 ∷ []) (text_bytes (items.print_text bytes)) stands.held).1 in
-      let size : here c + 1 + length (encoded line) ≡ next_place c =
-      omega (arith, stands.next, ap (λ t. length (encoded t)) same) in
-      let read = text_read bytes m (here c + 1) printable h
+      let h = subst (λ t. machine_text.Holds m (here c + 1) (encoded_with p.abbreviations t)) same
+      (holds_append m (here c) (178 ∷ []) (text_bytes p.abbreviations (items.print_text bytes))
+      stands.held).1 in
+      let size : here c + 1 + length (encoded_with p.abbreviations line) ≡ next_place c =
+      omega (arith, stands.next, ap (λ t. length (encoded_with p.abbreviations t)) same) in
+      let has = has_all story a p holds world.globals world.arrays world.objects m good.stored texts in
+      let read = text_read p.abbreviations bytes m (here c + 1) accepted.abbreviations has printable h
       (omega (arith, size, address_low story a p accepted holds routine (place + 1) good.known)) in
       let makes = made c m s s world.text (here c) i [] (scratch_here c) (omega arith) shaped
       (first_held m (here c) i [] (code_held c (items.print_text bytes) stands)) (no_operand st) in
-      printed_led s s s m shown_bytes (here c) (here c + 1 + length (encoded line)) size short (scratch_here c)
+      printed_led s s s m shown_bytes (here c) (here c + 1 + length (encoded_with p.abbreviations line)) size short
+      (scratch_here c)
       (stays (point (here c) world.fuel) st)
       (λ e. makes ∙ rw (
         read,

@@ -190,7 +190,7 @@ module _ (story : List ℕ) (a : Addresses) (p : ProgramOf) (accepted : IsAccept
       go items.first_equal f st is text = first_equal_led c s.chosen words good.room st
       go items.also_equal f st is text = also_equal_led c s.chosen words good.room st
       go items.drop_below f st is text = drop_below_led c s.chosen words st
-      go (items.print_text bytes) f st is text = print_text_led c bytes words text good.room st
+      go (items.print_text bytes) f st is text = print_text_led c bytes words printable.2 text good.room st
       go (items.print_character o) f st is text = print_character_led c o words is good.room st
       go (items.print_number o) f st is text = print_number_led c o words is good.room st
       go (items.print_name o) f st is text =

@@ -765,7 +765,7 @@ module _ (sizes : Sizes) where
 
   -- an item that ends in a branch to a label, by how long its code is
   labelled_size : (a : Addresses) (n : ℕ) (rest : List ℕ) (i : Item) (target : ℕ) → target_of i ≡ Some target
-      → text_bytes i ≡ []
+      → text_bytes sizes.abbreviations i ≡ []
       → ((offset : ℕ) → length (bytes_of_all (item_code sizes a offset i)) + 1
       ≡ length (bytes_of_all (item_code sizes no_addresses 2 i)) + size_with (form_for offset))
       → 1 ≤ length (bytes_of_all (item_code sizes no_addresses 2 i))

@@ -62,6 +62,7 @@ pub mod Resuming
 pub mod Returning
 pub mod Samples
 pub mod Sim
+pub mod Shortened
 pub mod SingleSteps
 pub mod Stepping
 pub mod Steps

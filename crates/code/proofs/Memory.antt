@@ -146,6 +146,13 @@ module _ (story : List ℕ) (a : Addresses) (p : ProgramOf) (globals : List ℕ)
       byte_other memory (global_address memory variable) word q (λ e. omega (arith, h, e, ground.above))
       (λ e. omega (arith, h, e, ground.above)) ∙ stored.header q h
 
+  -- and so are all bytes below the globals
+  below_kept : (variable word : ℕ) (q : ℕ) → q < globals_of story
+      → slice_index (with_variable memory variable word) q ≡ slice_index story q
+  below_kept variable word q h =
+      byte_other memory (global_address memory variable) word q (λ e. omega (arith, h, e, same_globals))
+      (λ e. omega (arith, h, e, same_globals)) ∙ stored.below q h
+
   -- the arrays lie behind the globals
   arrays_kept : (variable word : ℕ) → 16 ≤ variable → variable < 256
       → HoldsArrays story a arrays (with_variable memory variable word)
@@ -194,6 +201,7 @@ module _ (story : List ℕ) (a : Addresses) (p : ProgramOf) (globals : List ℕ)
       record {
         size = w.size ∙ stored.size;
         header = header_kept variable word;
+        below = below_kept variable word;
         kept = w.kept ∙ stored.kept;
         values = λ g h. word_other memory (global_address memory variable) word (globals_of story + 2 * g)
             (inl (omega (arith, h, few, low, same_globals))) ∙ stored.values g h;
@@ -211,6 +219,7 @@ module _ (story : List ℕ) (a : Addresses) (p : ProgramOf) (globals : List ℕ)
       record {
         size = w.size ∙ stored.size;
         header = header_kept (16 + g) word;
+        below = below_kept (16 + g) word;
         kept = w.kept ∙ stored.kept;
         values = λ k h. value k (omega (arith, h, length-set globals g word)) (cases_eq k g);
         regions = arrays_kept (16 + g) word (omega arith) (omega (arith, within, few));

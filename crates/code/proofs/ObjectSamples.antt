@@ -15,7 +15,7 @@ branched = item_bytes sizes a 10
 
 -- a program of so many objects
 abbrev having : ℕ → Sizes
-having n = record { arrays = []; objects = n }
+having n = record { arrays = []; objects = n; abbreviations = [] }
 
 -- jl v 1 ?fault; jl v 4 over the fault: print_paddr; quit
 abbrev tests : ℕ → List ℕ

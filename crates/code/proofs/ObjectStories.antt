@@ -23,6 +23,7 @@ use Rattle.zcore.specs.Objects.{unlink, link_first, remove_object, insert_object
 use Rattle.zcore.specs.ObjectProperties.{test_property_number, property_list, property_at, search_list, find_property}
 use Rattle.zcore.specs.ObjectProperties.{tested_property, property_value, get_property, get_property_address}
 use Rattle.zcore.specs.ObjectProperties.{property_length, get_property_length}
+use Rattle.zcore.specs.Abbreviations.{encoded_with}
 use Rattle.zcore.specs.Text.{decoded, abbreviation, encoded}
 use Rattle.zcore.specs.Reading.{reads}
 use Rattle.zcore.specs.Words.{packed, unpacked_text}
@@ -53,6 +54,7 @@ moving = record {
   defaults = defaults;
   objects = objects;
   keys = [];
+  abbreviations = [];
   routines = moves ∷ sum_of_two ∷ [];
   main = 0;
 }
@@ -64,7 +66,7 @@ means_moved = refl
 
 moved : texts (plays (story_of [] [] moves sum_of_two) 100 [])
     ≡ (codes "ball17" ++ 10 ∷ codes "[Fault: object inside itself]" ++ 10 ∷ []) ∷ []
-unfolding bytes_of encoded packed spelling_of opening turn_from weight step perform give_result divide load increment
+unfolding bytes_of encoded encoded_with packed spelling_of opening turn_from weight step perform give_result divide load increment
     decrement push_word pull store jump call_packed print_characters print_packed text_at print_address
     read_in_place write_in_place push pop read_local write_local read_global write_global
     read_variable write_variable test_variable test_pull operand_value operand_values test_result store_result

@@ -76,6 +76,7 @@ module _ (story : List ℕ) (a : Addresses) (p : ProgramOf) (accepted : IsAccept
   stored = record {
     size = refl;
     header = λ q h. refl;
+    below = λ q h. refl;
     kept = refl;
     values = holds.globals;
     regions = record {

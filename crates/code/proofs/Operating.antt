@@ -219,7 +219,7 @@ module _ (c : Running) where
 
   divided_led : (item : Item) (op : Operation) (f : ℕ → ℕ → ℕ) (x y : items.Operand) (d : Destination) (s : List ℕ)
       → IsOperandHere c x → IsOperandHere c y → IsHere c d → length s ≤ 48 → Stands c item
-      → code_here c item ≡ divided a op x y d → text_bytes item ≡ []
+      → code_here c item ≡ divided a op x y d → text_bytes p.abbreviations item ≡ []
       → least_operands op ≤ 2 → 2 ≤ most_operands op → has_result op ≡ true → FitsBranch (has_branch op) None
       → ((v w : ℕ) → (w == 0) ≡ false → (before : Next) (after : ℕ) (st : State)
       → perform op before after (Some (result_in d)) None (v ∷ w ∷ []) st

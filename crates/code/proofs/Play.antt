@@ -46,13 +46,14 @@ pub record HoldsArrays (story : List ℕ) (a : Addresses) (arrays : List (List �
   pub places : (n : ℕ) → n < length arrays → slice_index a.arrays n ≡ first + offset_in arrays n
   pub stands : Stands memory first (concat arrays)
 
--- the memory of a story that runs: these are the globals, the arrays and the objects of the source, and header, static
--- and high memory are the story's
+-- the memory of a story that runs: these are the globals, the arrays and the objects of the source, and header, all
+-- below the globals, static and high memory are the story's
 pub record Stored (story : List ℕ) (a : Addresses) (p : ProgramOf) (globals : List ℕ) (arrays : List (List ℕ))
     (objects : Objects) (memory : List ℕ) : Type 0
   where
     pub size : length memory ≡ length story
     pub header : (q : ℕ) → q < 64 → slice_index memory q ≡ slice_index story q
+    pub below : (q : ℕ) → q < globals_of story → slice_index memory q ≡ slice_index story q
     pub kept : drop (static_base_of story) memory ≡ drop (static_base_of story) story
     pub values : (g : ℕ) → g < length globals → word_at memory (globals_of story + 2 * g) ≡ slice_index globals g
     pub regions : HoldsArrays story a arrays memory

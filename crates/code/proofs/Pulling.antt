@@ -28,7 +28,8 @@ module _ (c : Running) where
     pub end : reached.q + length (flat_map bytes_of is) ≡ next_place c
     pub memory_is : reached.memory ≡ m
 
-  pub opens : (item : Item) (s : List ℕ) → text_bytes item ≡ [] → Stands c item → Opened s (code_here c item)
+  pub opens : (item : Item) (s : List ℕ) → text_bytes p.abbreviations item ≡ [] → Stands c item
+      → Opened s (code_here c item)
   opens item s none stands = record {
     reached = record {
       memory = m;

@@ -9,7 +9,7 @@ use Rattle.meaning.specs.declared.resolved.Variable.TheVariants as variables
 use Rattle.zcore.specs.Instruction.{bytes_of}
 use Rattle.zcore.specs.Alphabets.{spelling_of}
 use Rattle.zcore.specs.Words.{packed}
-use Rattle.zcore.specs.Text.{encoded}
+use Rattle.zcore.specs.Abbreviations.{encoded_with}
 use Rattle.forms.specs.declared.layout.Form.TheVariants.{One, Two, Far}
 use Rattle.forms.specs.declared.layout.Part.{Part}
 use Rattle.forms.specs.declared.layout.BranchUse.{BranchUse}
@@ -30,7 +30,7 @@ a = record {
 
 -- arrays of 10 bytes and of 600, and 3 objects
 abbrev pub sizes : Sizes
-sizes = record { arrays = 10 ∷ 600 ∷ []; objects = 3 }
+sizes = record { arrays = 10 ∷ 600 ∷ []; objects = 3; abbreviations = [] }
 
 abbrev pub x : Variable
 x = variables.Local 0
@@ -179,8 +179,14 @@ unfolding bytes_of
 far_form = refl
 
 prints : written (print_text (codes "hello")) ≡ 178 ∷ 53 ∷ 81 ∷ 198 ∷ 133 ∷ []
-unfolding bytes_of encoded packed spelling_of
+unfolding bytes_of encoded_with packed spelling_of
 prints = refl
+
+-- with "the" as the first abbreviation
+prints_shorter : item_bytes (record sizes { abbreviations = codes "the" ∷ [] }) a 0 (print_text (codes "the"))
+    ≡ 178 ∷ 132 ∷ 5 ∷ []
+unfolding bytes_of encoded_with packed spelling_of
+prints_shorter = refl
 
 starts : start_code 300 ≡ 143 ∷ 1 ∷ 44 ∷ 186 ∷ []
 unfolding bytes_of
@@ -195,15 +201,15 @@ abbrev one_use : BranchUse → List BranchUse
 one_use u = u ∷ []
 
 signs_1 : uses 0 (parts_of sizes (asking 1)) ≡ one_use (record { form = One; offset = 7 })
-unfolding bytes_of encoded packed spelling_of
+unfolding bytes_of encoded_with packed spelling_of
 signs_1 = refl
 
 signs_22 : uses 0 (parts_of sizes (asking 22)) ≡ one_use (record { form = One; offset = 63 })
-unfolding bytes_of encoded packed spelling_of
+unfolding bytes_of encoded_with packed spelling_of
 signs_22 = refl
 
 signs_23 : uses 0 (parts_of sizes (asking 23)) ≡ one_use (record { form = Two; offset = 65 })
-unfolding bytes_of encoded packed spelling_of
+unfolding bytes_of encoded_with packed spelling_of
 signs_23 = refl
 
 -- the same with 3,070 signs and with 3,071, where the text has 8,189 bytes and 8,191

@@ -98,7 +98,8 @@ module _ (c : Running) where
     end : here c + length (bytes_of i) + length (bytes_of j) ≡ next_place c
 
   pair : (item : Item) (i j : Instruction) → code_here c item ≡ i ∷ j ∷ []
-      → length (flat_map bytes_of (code_here c item)) ≡ length (flat_map bytes_of (i ∷ j ∷ [])) → text_bytes item ≡ []
+      → length (flat_map bytes_of (code_here c item)) ≡ length (flat_map bytes_of (i ∷ j ∷ []))
+      → text_bytes p.abbreviations item ≡ []
       → Stands c item → Pair i j
   pair item i j is size none stands =
       let all = subst (λ is. Holds m (here c) (flat_map bytes_of is)) is (code_held c item stands) in

@@ -95,6 +95,7 @@ stored_other story a p globals arrays other_arrays objects memory other stored k
     record {
       size = keeps.size ∙ stored.size;
       header = λ q h. keeps.before q (omega (arith, h, low, r.above)) ∙ stored.header q h;
+      below = λ q h. keeps.before q (omega (arith, h, r.above)) ∙ stored.below q h;
       kept = high_kept story a p globals arrays objects memory other stored keeps.after ∙ stored.kept;
       values = λ g h.
           let here = globals_of story + 2 * g in

@@ -1,5 +1,5 @@
 -- Small stories that hold programs, run by the machine.
-use Rattle.std.proofs.Common.{◌≡◌, ℕ, List, [], ◌∷◌, ◌++◌, length, take, drop, refl}
+use Rattle.std.proofs.Common.{◌≡◌, ℕ, List, [], ◌∷◌, ◌++◌, length, take, refl}
 use Rattle.std.specs.Prelude.{codes, map, replicate}
 use Rattle.expressions.specs.declared.tree.Binary.TheVariants as binaries
 use Rattle.expressions.specs.declared.tree.Comparison.TheVariants as comparisons
@@ -20,6 +20,7 @@ use Rattle.zcore.specs.Parts.{read_in_place, write_in_place, push, pop, read_loc
 use Rattle.zcore.specs.Parts.{write_global, read_variable, write_variable, test_variable, test_pull, operand_value}
 use Rattle.zcore.specs.Parts.{operand_values, test_result, store_result, test_target, spend, go, test_routine}
 use Rattle.zcore.specs.Parts.{test_calls, enter, call, test_return, leave, give_back, take_branch, branch_on, print}
+use Rattle.zcore.specs.Abbreviations.{encoded_with}
 use Rattle.zcore.specs.Text.{decoded, abbreviation, encoded}
 use Rattle.zcore.specs.Reading.{reads}
 use Rattle.zcore.specs.Words.{packed, unpacked_text}
@@ -29,7 +30,6 @@ use Rattle.std.specs.List.{flat_map}
 use Rattle.tables.specs.Dictionary.{dictionary_bytes}
 use Rattle.region.specs.Rows.{rows_of, rows_bytes}
 use Rattle.meaning.specs.declared.cause.Cause.{Cause}
-use Rattle.meaning.specs.declared.cause.Cause.TheVariants as causes
 use Rattle.meaning.specs.World.{words_of}
 use Rattle.meaning.specs.declared.resolved.Variable.TheVariants as variables
 use Rattle.meaning.specs.Objects.{ObjectOf}
@@ -48,13 +48,14 @@ slot size bytes = take size (bytes ++ replicate size 0)
 abbrev routine_bytes : Sizes → Addresses → RoutineOf → List ℕ
 routine_bytes sizes a r = r.locals ∷ code_bytes sizes a (routine_items r)
 
--- Version 5; globals at 64, an array at 544, objects at 560, static memory and the texts of faults from 736 on, among
--- them at 909 the dictionary, code from 1248 on, Main at 1256, another routine at 1416.
+-- Version 5; the table of abbreviations at 64, globals at 256, an array at 736, objects at 740, static memory from 909
+-- on, which begins with the dictionary, texts of faults from 928 on, code from 1440 on, Main at 1448, another routine
+-- at 1608.
 abbrev pub a : Addresses
 a = record {
-  routines = 314 ∷ 354 ∷ [];
-  arrays = 544 ∷ [];
-  faults = 184 ∷ 200 ∷ 216 ∷ 232 ∷ 248 ∷ 264 ∷ 280 ∷ 296 ∷ [];
+  routines = 362 ∷ 402 ∷ [];
+  arrays = 736 ∷ [];
+  faults = 232 ∷ 248 ∷ 264 ∷ 280 ∷ 296 ∷ 312 ∷ 328 ∷ 344 ∷ [];
 }
 
 abbrev pub defaults : List ℕ
@@ -71,32 +72,27 @@ abbrev pub objects : List ObjectOf
 objects = box ∷ ball ∷ []
 
 abbrev head : List ℕ
-head = slot 64 (5 ∷ 0 ∷ 0 ∷ 1 ∷ 4 ∷ 0xE0 ∷ 4 ∷ 0xE0 ∷ 3 ∷ 0x8D ∷ 2 ∷ 0x30 ∷ 0 ∷ 0x40 ∷ 2 ∷ 0xE0 ∷ [])
+head = slot 64 (5 ∷ 0 ∷ 0 ∷ 1 ∷ 5 ∷ 0xA0 ∷ 5 ∷ 0xA0 ∷ 3 ∷ 0x8D ∷ 2 ∷ 0xE4 ∷ 1 ∷ 0 ∷ 3 ∷ 0x8D ∷ 0 ∷ 0 ∷ 0 ∷ 0 ∷ 0 ∷ 0 ∷ 0
+    ∷ 0 ∷ 0 ∷ 0x40 ∷ [])
 
 -- the text of a fault
 abbrev line_slot : Cause → List ℕ
 line_slot cause = slot 64 (encoded (fault_line (words_of cause)))
 
--- those of all, and the dictionary of no words behind the third
-abbrev lines_and_dictionary : List ℕ
-lines_and_dictionary =
-    flat_map line_slot (take 2 all_causes)
-    ++ (slot 45 (encoded (fault_line (words_of causes.IndexOutOfRange)))
-    ++ (slot 19 (dictionary_bytes [])
-    ++ flat_map line_slot (drop 3 all_causes)))
-
 abbrev sizes_with : List ℕ → Sizes
-sizes_with array = record { arrays = length array ∷ []; objects = 2 }
+sizes_with array = record { arrays = length array ∷ []; objects = 2; abbreviations = [] }
 
 abbrev pub story_of : List ℕ → List ℕ → RoutineOf → RoutineOf → List ℕ
 story_of globals array main other =
-    head ++ (slot 480 globals
-    ++ (slot 16 array
-    ++ (slot 176 (rows_bytes (rows_of objects) defaults 560)
-    ++ (lines_and_dictionary
-    ++ (slot 8 (start_code 314)
+    head ++ (replicate 192 0
+    ++ (slot 480 globals
+    ++ (slot 4 array
+    ++ (slot 169 (rows_bytes (rows_of objects) defaults 740)
+    ++ (slot 19 (dictionary_bytes [])
+    ++ (flat_map line_slot all_causes
+    ++ (slot 8 (start_code 362)
     ++ (slot 160 (routine_bytes (sizes_with array) a main)
-    ++ (slot 160 (routine_bytes (sizes_with array) a other) ++ 0 ∷ [])))))))
+    ++ (slot 160 (routine_bytes (sizes_with array) a other) ++ 0 ∷ [])))))))))
 
 abbrev pub list : List Action → Actions
 list xs = source.actions_of xs
@@ -153,6 +149,7 @@ program = record {
   defaults = defaults;
   objects = objects;
   keys = [];
+  abbreviations = [];
   routines = main ∷ sum_of_two ∷ [];
   main = 0;
 }
@@ -170,7 +167,7 @@ means = refl
 
 played : texts (plays story 1000 []) ≡ (codes "Hi" ++ 10 ∷ codes "42A321" ++ 10 ∷ codes "[Fault: division by zero]"
     ++ 10 ∷ []) ∷ []
-unfolding bytes_of encoded packed spelling_of opening turn_from weight step perform give_result divide load increment
+unfolding bytes_of encoded encoded_with packed spelling_of opening turn_from weight step perform give_result divide load increment
     decrement push_word pull store jump call_packed return_popped print_characters print_inline print_packed
     print_character text_at read_in_place write_in_place push pop read_local write_local read_global write_global
     read_variable write_variable test_variable test_pull operand_value operand_values test_result store_result
@@ -180,7 +177,7 @@ unfolding bytes_of encoded packed spelling_of opening turn_from weight step perf
 played = refl
 
 ends : last_place (plays story 1000 []) ≡ places.Quit
-unfolding bytes_of encoded packed spelling_of opening turn_from weight step perform give_result divide load increment
+unfolding bytes_of encoded encoded_with packed spelling_of opening turn_from weight step perform give_result divide load increment
     decrement push_word pull store jump call_packed return_popped print_characters print_inline print_packed
     print_character text_at read_in_place write_in_place push pop read_local write_local read_global write_global
     read_variable write_variable test_variable test_pull operand_value operand_values test_result store_result
@@ -199,7 +196,7 @@ means_stopped = refl
 
 stopped : texts (plays story 4 []) ≡ (codes "Hi" ++ 10 ∷ codes "42A321" ++ 10 ∷ codes "[Limit: turn too long]"
     ++ 10 ∷ []) ∷ []
-unfolding bytes_of encoded packed spelling_of opening turn_from weight step perform give_result divide load increment
+unfolding bytes_of encoded encoded_with packed spelling_of opening turn_from weight step perform give_result divide load increment
     decrement push_word pull store jump call_packed return_popped print_characters print_inline print_packed
     print_character text_at read_in_place write_in_place push pop read_local write_local read_global write_global
     read_variable write_variable test_variable test_pull operand_value operand_values test_result store_result
@@ -216,6 +213,7 @@ calls_itself = record {
   defaults = defaults;
   objects = objects;
   keys = [];
+  abbreviations = [];
   routines = record {
     locals = 0;
     body = list (source.effect (source.call 1 (source.more (source.number 1) source.none)) ∷ []);
@@ -237,7 +235,7 @@ means_endless = refl
 
 endless : texts (plays (story_of [] [] (routine_at calls_itself.routines 0) (routine_at calls_itself.routines 1)) 12 [])
     ≡ (10 ∷ codes "[Limit: turn too long]" ++ 10 ∷ []) ∷ []
-unfolding bytes_of encoded packed spelling_of opening turn_from weight step perform give_result divide load increment
+unfolding bytes_of encoded encoded_with packed spelling_of opening turn_from weight step perform give_result divide load increment
     decrement push_word pull store jump call_packed return_popped print_characters print_inline print_packed
     print_character text_at read_in_place write_in_place push pop read_local write_local read_global write_global
     read_variable write_variable test_variable test_pull operand_value operand_values test_result store_result
@@ -269,6 +267,7 @@ asking = record {
   defaults = defaults;
   objects = objects;
   keys = [];
+  abbreviations = [];
   routines = asks ∷ sum_of_two ∷ [];
   main = 0;
 }
@@ -280,7 +279,7 @@ means_asked = refl
 
 asked : texts (plays (story_of (0 ∷ 9 ∷ []) [] asks sum_of_two) 100 [])
     ≡ (codes "yes" ++ 34 ∷ codes "-5" ++ 10 ∷ codes "[Fault: not a character]" ++ 10 ∷ []) ∷ []
-unfolding bytes_of encoded packed spelling_of opening turn_from weight step perform give_result divide load increment
+unfolding bytes_of encoded encoded_with packed spelling_of opening turn_from weight step perform give_result divide load increment
     decrement push_word pull store jump call_packed return_popped print_characters print_inline print_packed
     print_character text_at read_in_place write_in_place push pop read_local write_local read_global write_global
     read_variable write_variable test_variable test_pull operand_value operand_values test_result store_result
@@ -307,6 +306,7 @@ reaching = record {
   defaults = defaults;
   objects = objects;
   keys = [];
+  abbreviations = [];
   routines = reaches ∷ sum_of_two ∷ [];
   main = 0;
 }
@@ -318,7 +318,7 @@ means_reached = refl
 
 reached : texts (plays (story_of (0 ∷ 9 ∷ []) table reaches sum_of_two) 100 [])
     ≡ (codes "-2" ++ 10 ∷ codes "[Fault: index out of range]" ++ 10 ∷ []) ∷ []
-unfolding bytes_of encoded packed spelling_of opening turn_from weight step perform give_result divide load increment
+unfolding bytes_of encoded encoded_with packed spelling_of opening turn_from weight step perform give_result divide load increment
     decrement push_word pull store jump call_packed return_popped print_characters print_inline print_packed
     print_character text_at read_in_place write_in_place push pop read_local write_local read_global write_global
     read_variable write_variable test_variable test_pull operand_value operand_values test_result store_result

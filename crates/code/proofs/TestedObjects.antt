@@ -90,11 +90,11 @@ module _ (c : Running) where
     unwritten = λ v low small. refl;
   }
 
-  pub begins_end : (item : Item) → text_bytes item ≡ [] → Stands c item
+  pub begins_end : (item : Item) → text_bytes p.abbreviations item ≡ [] → Stands c item
       → here c + length (flat_map bytes_of (code_here c item)) ≡ next_place c
   begins_end item none stands = omega (arith, stands.next, plain_length c item none)
 
-  pub begun_end : (item : Item) (s : List ℕ) → text_bytes item ≡ [] → (stands : Stands c item)
+  pub begun_end : (item : Item) (s : List ℕ) → text_bytes p.abbreviations item ≡ [] → (stands : Stands c item)
       → (begins item s stands).q + length (flat_map bytes_of (code_here c item)) ≡ next_place c
   unfolding begins
   begun_end item s none stands = begins_end item none stands

@@ -8,9 +8,11 @@ use Rattle.zcore.specs.Alphabets.{is_printable, spelling_of}
 use Rattle.zcore.specs.Words.{packed}
 use Rattle.zcore.specs.Arithmetic.{digit, decimal, signed_text}
 use Rattle.zcore.specs.Parts.{transcribed}
+use Rattle.zcore.specs.Abbreviations.{encoded_with, HasAbbreviations}
 use Rattle.zcore.specs.Text.{Holds, decoded, encoded}
 use Rattle.zcore.proofs.Spelling.{AreBytes}
 use Rattle.zcore.proofs.RoundTrip.{round_trip}
+use Rattle.zcore.proofs.Shortening.{round_trip_with, some_if_two}
 use Rattle.meaning.specs.World.{shown}
 use Rattle.meaning.specs.declared.cause.Cause.{Cause}
 use Rattle.meaning.specs.declared.cause.Cause.TheVariants as causes
@@ -76,11 +78,6 @@ text_prints (c ∷ cs) h =
     (shown_by (nat_eq c 94) (nat_eq c 126) c (omega (arith, here.0)))
     ∙ ap (λ xs. shown c ∷ xs) (text_prints cs (λ k d l. h (suc k) d (omega (arith, l))))
 
-small_by : (b d : Bool) (c : ℕ) → c ≤ 126 → (if b then 13 else (if d then 34 else c)) < 256
-small_by true d c h = omega arith
-small_by false true c h = omega arith
-small_by false false c h = omega (arith, h)
-
 printable_or : (b x : Bool) → x ≡ true → (b || x) ≡ true
 printable_or true x h = refl
 printable_or false x h = h
@@ -92,12 +89,6 @@ printable_by false false c h k =
     let low : nat_le 32 c ≡ true = le-leb 32 c h in
     let high : nat_le c 126 ≡ true = le-leb c 126 k in
     printable_or (nat_eq c 13) (nat_le 32 c && nat_le c 126) (rw (low, high) refl)
-
-text_bytes : (bytes : List ℕ) → All IsPrintable bytes → AreBytes (map character_of bytes)
-text_bytes [] h = tt
-text_bytes (c ∷ cs) h =
-    let here : (32 ≤ c) × (c ≤ 126) = h 0 c (omega arith) in
-    (small_by (nat_eq c 94) (nat_eq c 126) c here.1, text_bytes cs (λ k d l. h (suc k) d (omega (arith, l))))
 
 text_printable : (bytes : List ℕ) → All IsPrintable bytes → list_all is_printable (map character_of bytes) ≡ true
 text_printable [] h = refl
@@ -128,12 +119,18 @@ only_printable (c ∷ cs) = go (only_printable cs) (is_printable c) refl
     go more false e = more
 
 -- the text of an item is read back
-pub text_read : (bytes story : List ℕ) (q : ℕ) → All IsPrintable bytes
-    → Holds story q (encoded (map character_of bytes)) → q + length (encoded (map character_of bytes)) < 2 ^ 32
-    → decoded story q ≡ Ok (map character_of bytes, q + length (encoded (map character_of bytes)))
-text_read bytes story q printable h low =
-    round_trip (map character_of bytes) (encoded (map character_of bytes)) story q (text_bytes bytes printable)
-    (text_printable bytes printable) refl h low
+pub text_read : (abbreviations : List (List ℕ)) (bytes story : List ℕ) (q : ℕ)
+    → All (λ (a : List ℕ). 2 ≤ length a) abbreviations → HasAbbreviations story abbreviations → All IsPrintable bytes
+    → Holds story q (encoded_with abbreviations (map character_of bytes))
+    → q + length (encoded_with abbreviations (map character_of bytes)) < 2 ^ 32
+    → decoded story q ≡ Ok (
+      map character_of bytes,
+      q
+          + length (encoded_with abbreviations (map character_of bytes)),
+    )
+text_read abbreviations bytes story q two has printable h low =
+    round_trip_with abbreviations (map character_of bytes) story q (some_if_two abbreviations two)
+    (text_printable bytes printable) has h low
 
 -- Faults
 

@@ -4,7 +4,7 @@ use Rattle.std.specs.Prelude.{Some, None}
 use Rattle.std.specs.List.{flat_map, filter}
 use Rattle.zcore.specs.Alphabets.{is_printable}
 use Rattle.zcore.specs.Instruction.{Instruction, bytes_of}
-use Rattle.zcore.specs.Text.{encoded}
+use Rattle.zcore.specs.Abbreviations.{encoded_with}
 use Rattle.forms.specs.declared.layout.Part.{Part}
 use Rattle.forms.specs.Layout.{first, lefts}
 use Rattle.items.specs.Items.{Item}
@@ -22,14 +22,16 @@ character_of byte =
     else (if byte == 126 then 34
     else byte)
 
--- the text that follows an instruction `print`; what cannot be printed is left out, and no accepted program has it
-abbrev pub text_bytes : Item → List ℕ
-text_bytes (items.print_text bytes) = encoded (filter is_printable (map character_of bytes))
-text_bytes _ = []
+-- the text that follows an instruction `print`, with these abbreviations; what cannot be printed is left out, and no
+-- accepted program has it
+abbrev pub text_bytes : List (List ℕ) → Item → List ℕ
+text_bytes abbreviations (items.print_text bytes) =
+    encoded_with abbreviations (filter is_printable (map character_of bytes))
+text_bytes abbreviations _ = []
 
 -- an item of a program of these sizes, whose branch or jump has this offset
 abbrev pub item_bytes : Sizes → Addresses → ℕ → Item → List ℕ
-item_bytes sizes a offset item = bytes_of_all (item_code sizes a offset item) ++ text_bytes item
+item_bytes sizes a offset item = bytes_of_all (item_code sizes a offset item) ++ text_bytes sizes.abbreviations item
 
 -- Where items stand
 

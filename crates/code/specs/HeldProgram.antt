@@ -1,12 +1,13 @@
 -- A program that stands in a story.
-use Rattle.std.specs.Prelude.{◌≡◌, ◌+◌, ◌*◌, ◌<◌, ◌≤◌, ℕ, List, [], ◌∷◌, ◌++◌, codes, length, map, take, slice_index}
+use Rattle.std.specs.Prelude.{◌≡◌, ◌+◌, ◌*◌, ◌^◌, ◌<◌, ◌≤◌, ℕ, List, [], ◌∷◌, ◌++◌, codes, length, map, take, slice_index}
 use Rattle.std.specs.List.{All, concat}
 use Rattle.zcore.specs.declared.instruction.Operand.TheVariants.{Large}
 use Rattle.zcore.specs.declared.instruction.Operation.TheVariants.{Call1n, Quit}
 use Rattle.zcore.specs.Bytes.{word_at}
-use Rattle.zcore.specs.Header.{defaults_of, dictionary_of, globals_of, static_base_of}
+use Rattle.zcore.specs.Header.{abbreviations_of, defaults_of, dictionary_of, globals_of, static_base_of}
 use Rattle.zcore.specs.Parts.{unpacked}
 use Rattle.zcore.specs.Text.{Holds, encoded}
+use Rattle.zcore.specs.Abbreviations.{abbreviation_at}
 use Rattle.tables.specs.Dictionary.{ReadsKeys}
 use Rattle.meaning.specs.Resolved.{RoutineOf, ProgramOf}
 use Rattle.meaning.specs.Meaning.{routine_at}
@@ -24,7 +25,7 @@ abbrev pub start_code : ℕ → List ℕ
 start_code main = bytes_of_all (plain Call1n (Large main ∷ []) ∷ plain Quit [] ∷ [])
 
 abbrev pub sizes_of : ProgramOf → Sizes
-sizes_of p = record { arrays = map length p.arrays; objects = length p.objects }
+sizes_of p = record { arrays = map length p.arrays; objects = length p.objects; abbreviations = p.abbreviations }
 
 -- how many bytes of arrays stand before the array of a number, where they stand one behind another
 abbrev pub offset_in : List (List ℕ) → ℕ → ℕ
@@ -46,6 +47,13 @@ pub record HoldsText (story : List ℕ) (packed : ℕ) (text : List ℕ) : Type 
   pub word : packed < 65536
   pub above : static_base_of story ≤ unpacked story packed
 
+-- the abbreviation of a number: the table names the place of its text, halved (3.3), which is in static memory or behind,
+-- and which ends where texts can be read
+pub record HoldsAbbreviation (story : List ℕ) (number : ℕ) (text : List ℕ) : Type 0 where
+  pub bytes : Holds story (2 * word_at story (abbreviations_of story + 2 * number)) (encoded text)
+  pub above : static_base_of story ≤ 2 * word_at story (abbreviations_of story + 2 * number)
+  pub low : 2 * word_at story (abbreviations_of story + 2 * number) + length (encoded text) < 2 ^ 32
+
 -- the line of a source fault, in characters of the machine
 abbrev pub fault_line : List ℕ → List ℕ
 fault_line words = 13 ∷ codes "[Fault: " ++ words ++ codes "]" ++ 13 ∷ []
@@ -64,6 +72,11 @@ pub record HoldsProgram (story : List ℕ) (a : Addresses) (p : ProgramOf) : Typ
   pub globals_below : globals_of story + 480 ≤ static_base_of story
   pub static_below : static_base_of story ≤ length story
   pub globals : (g : ℕ) → g < length p.globals → word_at story (globals_of story + 2 * g) ≡ slice_index p.globals g
+  -- the table of abbreviations, behind the header and below the globals, and the texts of the source's
+  pub table_above : 64 ≤ abbreviations_of story
+  pub table_below : abbreviations_of story + 192 ≤ globals_of story
+  pub abbreviations : (n : ℕ) → n < length p.abbreviations
+      → HoldsAbbreviation story n (abbreviation_at p.abbreviations n)
   -- the arrays, one behind another, behind the globals and below the objects
   pub first_array : ℕ
   pub arrays : Holds story first_array (concat p.arrays)

@@ -100,7 +100,7 @@ addresses_of a = record {
 }
 
 abbrev pub sizes_in : counted.Sizes → Sizes
-sizes_in s = record { arrays = s.arrays.now; objects = s.objects }
+sizes_in s = record { arrays = s.arrays.now; objects = s.objects; abbreviations = s.abbreviations.now }
 
 abbrev pub objects_in : counted.Sizes → ℕ
 objects_in s = objects_of (sizes_in s)

@@ -4,6 +4,7 @@ ghost use Rattle.std.specs.Prelude.{◌≡◌, slice_index};
 ghost use Rattle.code.specs.Addresses as spec;
 
 use meaning::Cause;
+use zcore::Abbreviations;
 
 /// The packed addresses of a story's routines and the addresses of its arrays, each in order of definition, and the
 /// packed addresses of the texts of its faults, in the order of `Cause`.
@@ -14,11 +15,12 @@ pub struct Addresses<'a> {
     pub faults: &'a [u16],
 }
 
-/// How many bytes each array of a program has, in order of definition, and how many objects it has.
+/// How many bytes each array of a program has, in order of definition, how many objects it has, and its abbreviations.
 #[derive(Clone, Copy)]
 pub struct Sizes<'a> {
     pub arrays: &'a [usize],
     pub objects: usize,
+    pub abbreviations: &'a Abbreviations,
 }
 
 /// The address of a number, 0 where there is none.

@@ -93,7 +93,7 @@ fn put_printed(
         ++ item_bytes (sizes_in sizes.now) (addresses_of addresses.now) offset (item_of item.now)) }
 {
     match item {
-        Item::PrintText(text) => put_text(bytes, alloc, text)?,
+        Item::PrintText(text) => put_text(bytes, alloc, sizes.abbreviations, text)?,
         Item::PrintCharacter(operand) => put_character(bytes, addresses, *operand)?,
         Item::PrintNumber(operand) => put_print_number(bytes, *operand)?,
         Item::PrintName(operand) => {

@@ -4,7 +4,7 @@ ghost use Rattle.std.specs.Prelude.{◌≡◌, ◌++◌, [], ◌∷◌, map, tru
 ghost use Rattle.std.specs.List.{filter, list_all};
 ghost use Rattle.zcore.specs.declared.instruction.Operation.TheVariants.{Print};
 ghost use Rattle.zcore.specs.Alphabets.{is_printable};
-ghost use Rattle.zcore.specs.Text.{encoded};
+ghost use Rattle.zcore.specs.Abbreviations.{encoded_with};
 ghost use Rattle.meaning.specs.Meaning as meaning;
 ghost use Rattle.items.specs.Items as source_items;
 ghost use Rattle.items.specs.Code.{as_operand};
@@ -19,7 +19,7 @@ use crate::instruction::{FIRST, Operands, branching, plain, print_fault, pull, p
 use crate::operands::{constant, variable_number};
 use meaning::Cause;
 use std::alloc::{AllocError, Global};
-use zcore::{Operand, Operation, TextFault, encode_text};
+use zcore::{Abbreviations, Operand, Operation, TextFault};
 
 /// A character between the quotes of a text: `^` is a new line, `~` a double quote.
 fn character_of(byte: u8) -> u8
@@ -52,27 +52,36 @@ fn characters(alloc: Global, text: &[u8]) -> Result<Vec<u8>, AllocError>
     Ok(characters)
 }
 
-/// The Z-text of printable characters.
-fn z_text(alloc: Global, characters: &[u8]) -> Result<Vec<u8>, AllocError>
+/// The Z-text of printable characters, with these abbreviations.
+fn z_text(
+    alloc: Global,
+    abbreviations: &Abbreviations,
+    characters: &[u8],
+) -> Result<Vec<u8>, AllocError>
     requires { list_all is_printable characters.now ≡ true }
-    ensures { IfOk result (λ v. v.items ≡ encoded characters.now) }
+    ensures { IfOk result (λ v. v.items ≡ encoded_with abbreviations.now characters.now) }
 {
-    match encode_text(alloc, characters) {
+    match abbreviations.encode(alloc, characters) {
         Ok(text) => Ok(text),
         Err(TextFault::Character) => unreachable!(),
         Err(_) => Err(AllocError),
     }
 }
 
-/// The text between quotes is printed.
-pub fn put_text(bytes: &mut Vec<u8>, alloc: Global, text: &[u8]) -> Result<(), AllocError>
+/// The text between quotes is printed, with these abbreviations.
+pub fn put_text(
+    bytes: &mut Vec<u8>,
+    alloc: Global,
+    abbreviations: &Abbreviations,
+    text: &[u8],
+) -> Result<(), AllocError>
     ensures { OnOk result (bytes.new.items ≡ bytes.old.items
         ++ (bytes_of_all (spec.plain Print [] ∷ [])
-        ++ encoded (filter is_printable (map definitions.character_of text.now)))) }
+        ++ encoded_with abbreviations.now (filter is_printable (map definitions.character_of text.now)))) }
 {
     put_all(bytes, &[plain(Operation::Print, Operands::Zero)])?;
     let characters = characters(alloc, text)?;
-    let text = z_text(alloc, &characters)?;
+    let text = z_text(alloc, abbreviations, &characters)?;
     bytes.extend_from_slice(&text)?;
     Ok(())
 }

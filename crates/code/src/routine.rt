@@ -27,7 +27,7 @@ pub struct Code<'a, 'b> {
     alloc: Global,
     locals: usize,
 
-    /// How many bytes each array has, and how many objects there are.
+    /// How many bytes each array has, how many objects there are, and the abbreviations.
     sizes: Sizes<'b>,
 
     items: Vec<Item<'a>>,
@@ -218,6 +218,7 @@ pub fn routine_code<'a, 'b>(
     let sizes = Sizes {
         arrays: checked.array_sizes(),
         objects: checked.objects().len(),
+        abbreviations: checked.abbreviations(),
     };
     Ok(code_of(alloc, source.locals, sizes, items)?)
 }

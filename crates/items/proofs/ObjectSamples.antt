@@ -159,6 +159,7 @@ with_objects objects xs = record {
   defaults = replicate 63 0;
   objects = objects;
   keys = [];
+  abbreviations = [];
   routines = record { locals = 0; body = actions_of xs } ∷ [];
   main = 0;
 }

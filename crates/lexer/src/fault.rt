@@ -65,6 +65,9 @@ pub const STORY_TOO_LARGE: u8 = 31;
 /// E32: a routine whose weight is above 32,000.
 pub const ROUTINE_TOO_LARGE: u8 = 32;
 
+/// E33: an abbreviation of fewer than two characters, or one that stands earlier.
+pub const BAD_ABBREVIATION: u8 = 33;
+
 /// E99: a growth of memory was refused. The line is 0.
 pub const NO_MEMORY: u8 = 99;
 
@@ -101,6 +104,7 @@ fn words(number: u8) -> &'static str {
         TABLES_TOO_LARGE => "tables too large",
         STORY_TOO_LARGE => "story too large",
         ROUTINE_TOO_LARGE => "routine too large",
+        BAD_ABBREVIATION => "bad abbreviation",
         NO_MEMORY => "no memory",
         _ => "refused",
     }

@@ -3,4 +3,4 @@
 pub use journal::{Cells, Recorded, swap_back, swap_forward};
 pub use machine::{Machine, Store};
 pub use session::{Place, Reply, Session, run, status};
-pub use zcore::{decode_text, encode_text, word_key};
+pub use zcore::{decode_text, encode_text, encode_with, word_key};

@@ -7,7 +7,7 @@ use crate::memory::put_memory;
 use crate::names::{Recorded, Session};
 use crate::sessions::{put_cells, put_redo, put_reply, put_run, put_undo};
 use crate::stories::{Definition, mend, put_at, put_text_at};
-use crate::texts::{put_decoded, put_encoded, put_key};
+use crate::texts::{put_decoded, put_encoded, put_key, put_shortened};
 use rows::{RowError, Setting, Shown, number_in};
 use std::alloc::Global;
 
@@ -106,6 +106,7 @@ impl Row {
         let alloc = self.alloc;
         match word {
             "encode" => put_encoded(shown, alloc, text),
+            "shorten" => put_shortened(shown, alloc, text),
             "decode" => put_decoded(shown, alloc, &self.story, text),
             "key" => put_key(shown, alloc, text),
             "memory" => put_memory(shown, alloc, &self.setting, &self.story, text),

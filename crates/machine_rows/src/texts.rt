@@ -1,6 +1,6 @@
 //! Texts in Z-characters.
 
-use crate::names::{decode_text, encode_text, word_key};
+use crate::names::{decode_text, encode_text, encode_with, word_key};
 use rows::{RowError, Shown, number_in, written_bytes};
 use std::alloc::Global;
 
@@ -8,6 +8,21 @@ use std::alloc::Global;
 pub fn put_encoded(shown: &mut Shown, alloc: Global, text: &str) -> Result<(), RowError> {
     let characters = written_bytes(alloc, text)?;
     match encode_text(alloc, &characters) {
+        Ok(bytes) => shown.hexadecimal_line(&bytes),
+        Err(fault) => shown.display_line(&fault),
+    }
+    Ok(())
+}
+
+/// Adds the Z-text of a written text that uses an abbreviation, which stands before it and a `/`, or the fault.
+pub fn put_shortened(shown: &mut Shown, alloc: Global, text: &str) -> Result<(), RowError> {
+    let (abbreviation, text) = text.split_once('/').ok_or(RowError::Word)?;
+    let abbreviation = written_bytes(alloc, abbreviation)?;
+    if abbreviation.is_empty() {
+        return Err(RowError::Word);
+    }
+    let characters = written_bytes(alloc, text)?;
+    match encode_with(alloc, &characters, &[abbreviation.as_slice()]) {
         Ok(bytes) => shown.hexadecimal_line(&bytes),
         Err(fault) => shown.display_line(&fault),
     }

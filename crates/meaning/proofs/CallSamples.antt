@@ -23,6 +23,7 @@ with_routine xs ys = record {
   keys = [];
   routines = record { locals = 2; body = actions_of xs } ∷ record { locals = 0; body = actions_of ys } ∷ [];
   main = 1;
+  abbreviations = [];
 }
 
 -- the transcript of one turn

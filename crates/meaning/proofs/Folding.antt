@@ -10,8 +10,9 @@ use Rattle.meaning.specs.declared.checked.CheckedObject.{CheckedObject}
 use Rattle.meaning.specs.declared.places.Places.{Places}
 use Rattle.meaning.specs.Resolved.{ProgramOf, object_of, property_of}
 use Rattle.meaning.specs.Places.{folded, machine_character, total, property_size, table_size, objects_size}
-use Rattle.meaning.specs.Places.{arrays_size, key_count, defaults_place, dictionary_place, start_place, routines_place}
-use Rattle.meaning.specs.Places.{places_of}
+use Rattle.meaning.specs.Places.{text_size, abbreviations_size, arrays_size, key_count, defaults_place}
+use Rattle.meaning.specs.Places.{dictionary_place, dictionary_end, filling_before, texts_place, start_place}
+use Rattle.meaning.specs.Places.{routines_place, places_of}
 
 -- Folding
 
@@ -124,6 +125,22 @@ objects_more o os =
     counted : (n t all : ℕ) → 14 + t + (14 * n + all) ≡ 14 * suc n + (t + all)
     counted n t all = omega arith
 
+-- the bytes of abbreviations
+
+abbrev pub texts_total : List (Vec ℕ) → ℕ
+texts_total ts = total (map text_size (map (λ (t : Vec ℕ). t.items) ts))
+
+abbrev pub text_part : Vec ℕ → ℕ
+text_part t = text_size t.items
+
+pub texts_more : (t : Vec ℕ) (ts : List (Vec ℕ)) → text_part t + texts_total ts ≡ texts_total (t ∷ ts)
+texts_more t ts = refl
+
+-- the Z-characters of a text, summed up
+pub text_characters_more : (c : ℕ) (cs : List ℕ)
+    → length (spelled (c ∷ cs)) ≡ length (spelling_of c) + length (spelled cs)
+text_characters_more c cs = length-append (spelling_of c) (spelled cs)
+
 -- Places
 
 pub dictionary_is : (p : ProgramOf) (arrays objects at : ℕ) → arrays ≡ arrays_size p
@@ -133,33 +150,72 @@ dictionary_is p arrays objects at a o e =
     let sum : 864 + arrays + objects_size p.objects ≡ dictionary_place p = omega (arith, a) in
     e ∙ fold_part (864 + arrays) (objects_size p.objects) objects o ∙ ap folded sum
 
-pub routines_are : (p : ProgramOf) (at keys end : ℕ) → at ≡ folded (dictionary_place p) → keys ≡ key_count p
-    → end ≡ folded (at + 7 + 9 * keys + 4) → end ≡ folded (routines_place p)
-routines_are p at keys end a k e =
-    let parts : at + 7 + 9 * keys + 4 ≡ at + (7 + 9 * keys + 4) = omega arith in
-    let sum : dictionary_place p + (7 + 9 * keys + 4) ≡ routines_place p = omega (arith, k) in
-    e ∙ ap folded parts ∙ fold_whole (dictionary_place p) (7 + 9 * keys + 4) at a ∙ ap folded sum
+-- folding keeps what is odd
+pub fold_odd : (n : ℕ) → folded n % 2 ≡ n % 2
+fold_odd n = go (ltb n 65536) refl
+  where
+    go : (b : Bool) → ltb n 65536 ≡ b → folded n % 2 ≡ n % 2
+    go true e = ap (λ k. k % 2) (fold_small n (ltb-true n 65536 e))
+    go false e = let f = fold_great n (ltb-false n 65536 e) in omega (arith, f)
 
-abbrev placed : ℕ → ℕ → ℕ → ℕ → ℕ → Places
-placed globals defaults dictionary start routines = record {
+pub same_filling : (texts : List (List ℕ)) (m n : ℕ) → m % 2 ≡ n % 2 → filling_before texts m ≡ filling_before texts n
+same_filling [] m n e = refl
+same_filling (t ∷ ts) m n e = e
+
+-- the texts behind a dictionary whose place is folded, or is not
+module _ (p : ProgramOf) (at keys texts : ℕ) (k : keys ≡ key_count p)
+    (is : texts ≡ at + (7 + 9 * keys) + filling_before p.abbreviations (at + (7 + 9 * keys))) where
+  pub texts_folded : at ≡ folded (dictionary_place p) → folded texts ≡ folded (texts_place p)
+  texts_folded a =
+      let end = dictionary_end p in
+      let odd : (at + (7 + 9 * keys)) % 2 ≡ end % 2 = omega (arith, a, k, fold_odd (dictionary_place p)) in
+      let same = same_filling p.abbreviations (at + (7 + 9 * keys)) end odd in
+      let m = 7 + 9 * keys + filling_before p.abbreviations end in
+      let here : texts ≡ at + m = omega (arith, is, same) in
+      let there : dictionary_place p + m ≡ texts_place p = omega (arith, k) in
+      ap folded here ∙ fold_whole (dictionary_place p) m at a ∙ ap folded there
+
+  pub texts_exact : at ≡ dictionary_place p → texts ≡ texts_place p
+  texts_exact a =
+      let e : at + (7 + 9 * keys) ≡ dictionary_end p = omega (arith, a, k) in
+      is ∙ ap (λ x. x + filling_before p.abbreviations x) e
+
+pub routines_are : (p : ProgramOf) (texts size end : ℕ) → folded texts ≡ folded (texts_place p)
+    → size ≡ folded (abbreviations_size p) → end ≡ folded (texts + size + 4) → end ≡ folded (routines_place p)
+routines_are p texts size end t s e =
+    let m = size + 4 in
+    let parts : texts + size + 4 ≡ texts + m = omega arith in
+    let back : texts_place p + m ≡ texts_place p + 4 + size = omega arith in
+    let sum : texts_place p + 4 + abbreviations_size p ≡ routines_place p = omega arith in
+    e ∙ ap folded parts ∙ sym (fold_add texts m) ∙ ap (λ x. folded (x + m)) t ∙ fold_add (texts_place p) m
+    ∙ ap folded back ∙ fold_part (texts_place p + 4) (abbreviations_size p) size s ∙ ap folded sum
+
+abbrev placed : ℕ → ℕ → ℕ → ℕ → ℕ → ℕ → Places
+placed globals defaults dictionary texts start routines = record {
   globals = globals;
   defaults = defaults;
   dictionary = dictionary;
+  texts = texts;
   start = start;
   routines = routines;
 }
 
-placed_same : {a b c d e f g h : ℕ} → a ≡ b → c ≡ d → e ≡ f → g ≡ h → placed 258 a c e g ≡ placed 258 b d f h
-placed_same x y z w = rw (x, y, z, w) refl
+placed_same : {a b c d e f g h i j : ℕ} → a ≡ b → c ≡ d → i ≡ j → e ≡ f → g ≡ h
+    → placed 258 a c i e g ≡ placed 258 b d j f h
+placed_same x y v z w = rw (x, y, v, z, w) refl
 
-pub places_are : (p : ProgramOf) (arrays at keys : ℕ) → routines_place p ≤ 65535 → arrays ≡ arrays_size p
+pub places_are : (p : ProgramOf) (arrays at keys texts size : ℕ) → routines_place p ≤ 65535 → arrays ≡ arrays_size p
     → at ≡ folded (dictionary_place p) → keys ≡ key_count p
-    → placed 258 (738 + arrays) at (at + 7 + 9 * keys) (at + 7 + 9 * keys + 4) ≡ places_of p
-places_are p arrays at keys fits a d k =
+    → texts ≡ at + (7 + 9 * keys) + filling_before p.abbreviations (at + (7 + 9 * keys))
+    → size ≡ folded (abbreviations_size p)
+    → placed 258 (738 + arrays) at texts (texts + size) (texts + size + 4) ≡ places_of p
+places_are p arrays at keys texts size fits a d k t s =
     let here : at ≡ dictionary_place p = d ∙ fold_small (dictionary_place p) (omega (arith, fits)) in
-    placed_same (let e : 738 + arrays ≡ defaults_place p = omega (arith, a) in e) here
-    (let e : at + 7 + 9 * keys ≡ start_place p = omega (arith, here, k) in e)
-    (let e : at + 7 + 9 * keys + 4 ≡ routines_place p = omega (arith, here, k) in e)
+    let behind : texts ≡ texts_place p = texts_exact p at keys texts k t here in
+    let all : size ≡ abbreviations_size p = s ∙ fold_small (abbreviations_size p) (omega (arith, fits)) in
+    placed_same (let e : 738 + arrays ≡ defaults_place p = omega (arith, a) in e) here behind
+    (let e : texts + size ≡ start_place p = omega (arith, behind, all) in e)
+    (let e : texts + size + 4 ≡ routines_place p = omega (arith, behind, all) in e)
 
 -- Names
 

@@ -24,6 +24,7 @@ with_i xs = record {
   keys = [];
   routines = record { locals = 0; body = actions_of xs } ∷ [];
   main = 0;
+  abbreviations = [];
 }
 
 -- the transcript of one turn

@@ -28,6 +28,7 @@ with_objects objects xs = record {
   keys = [];
   routines = record { locals = 0; body = actions_of xs } ∷ [];
   main = 0;
+  abbreviations = [];
 }
 
 abbrev within : ℕ → ObjectOf

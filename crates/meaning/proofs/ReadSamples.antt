@@ -32,6 +32,7 @@ with_arrays letters most xs = record {
   keys = 0x64D028A594A5 ∷ [];
   routines = record { locals = 0; body = actions_of xs } ∷ [];
   main = 0;
+  abbreviations = [];
 }
 
 abbrev stands : List (List ℕ) → ℕ → List (List ℕ) → List ℕ → List (List ℕ) → Situation

@@ -1,8 +1,8 @@
 -- Where the parts of a story stand that come before its routines, one behind another:
 --
---     header; table of 96 abbreviations; empty text, which all of them name; 240 words of globals; arrays;
---     63 words of property defaults; objects; property tables; dictionary, with which static memory begins; and the code
---     that begins the story, with which high memory begins.
+--     header; table of 96 abbreviations; empty text, which those name that the source has not; 240 words of globals; arrays;
+--     63 words of property defaults; objects; property tables; dictionary, with which static memory begins; the texts of
+--     abbreviations; and the code that begins the story, with which high memory begins.
 use Rattle.std.specs.Prelude.{◌+◌, ◌*◌, ◌/◌, ◌%◌, ◌==◌, ℕ, nat_lt, if◌then◌else◌, List, [], ◌∷◌, length, map}
 use Rattle.std.specs.List.{concat}
 use Rattle.tables.specs.Dictionary.{key_number}
@@ -73,6 +73,13 @@ properties_size p = total (map table_size p.objects)
 abbrev pub key_count : ProgramOf → ℕ
 key_count p = length p.keys
 
+abbrev pub text_size : List ℕ → ℕ
+text_size text = length (encoded text)
+
+-- the texts of abbreviations, which use none
+abbrev pub abbreviations_size : ProgramOf → ℕ
+abbreviations_size p = total (map text_size p.abbreviations)
+
 abbrev pub start_size : ℕ
 start_size = 4
 
@@ -99,8 +106,20 @@ properties_place p = defaults_place p + 2 * default_count + 14 * object_count p
 abbrev pub dictionary_place : ProgramOf → ℕ
 dictionary_place p = properties_place p + properties_size p
 
+abbrev pub dictionary_end : ProgramOf → ℕ
+dictionary_end p = dictionary_place p + (7 + 9 * key_count p)
+
+-- the table of abbreviations holds addresses halved (Z-Machine Standards Document 1.1, section 3.3), so a byte stands
+-- before the texts where the dictionary ends at an odd one
+abbrev pub filling_before : List (List ℕ) → ℕ → ℕ
+filling_before [] end = 0
+filling_before (a ∷ rest) end = end % 2
+
+abbrev pub texts_place : ProgramOf → ℕ
+texts_place p = dictionary_end p + filling_before p.abbreviations (dictionary_end p)
+
 abbrev pub start_place : ProgramOf → ℕ
-start_place p = dictionary_place p + (7 + 9 * key_count p)
+start_place p = texts_place p + abbreviations_size p
 
 -- the end of these parts, where the routines begin: the sum of their sizes
 abbrev pub routines_place : ProgramOf → ℕ
@@ -116,6 +135,7 @@ places_of p = record {
   globals = globals_place;
   defaults = defaults_place p;
   dictionary = dictionary_place p;
+  texts = texts_place p;
   start = start_place p;
   routines = routines_place p;
 }

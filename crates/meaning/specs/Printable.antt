@@ -1,5 +1,8 @@
--- Resolved programs whose texts print: each of their bytes is one of 32 to 126.
-use Rattle.std.specs.List.{All}
+-- Resolved programs whose texts print: each of their bytes is one of 32 to 126, and each character of an abbreviation is
+-- one that the machine prints.
+use Rattle.std.specs.Prelude.{◌≡◌, ℕ, List, true}
+use Rattle.std.specs.List.{All, list_all}
+use Rattle.zcore.specs.Alphabets.{is_printable}
 use Rattle.lexer.specs.Printable.{IsPrintable}
 use Rattle.meaning.specs.Resolved.{Printed, text, character_of, number_of, Action, Actions, CasesOf, empty, block}
 use Rattle.meaning.specs.Objects.{ObjectOf}
@@ -54,4 +57,6 @@ abbrev pub IsPrintableRoutine : RoutineOf → Type 0
 IsPrintableRoutine r = ArePrintableActions r.body
 
 abbrev pub HasPrintableTexts : ProgramOf → Type 0
-HasPrintableTexts p = All IsPrintableRoutine p.routines × All (λ (o : ObjectOf). All IsPrintable o.name) p.objects
+HasPrintableTexts p =
+    All IsPrintableRoutine p.routines × All (λ (o : ObjectOf). All IsPrintable o.name) p.objects
+    × All (λ (a : List ℕ). list_all is_printable a ≡ true) p.abbreviations

@@ -115,7 +115,8 @@ pub record RoutineOf : Type 0 where
   pub body : Actions
 
 -- a program: what its globals begin with, the bytes that its arrays begin with, its routines, each in order of
--- definition, the keys of its dictionary words, each once and ascending, and the number of Main
+-- definition, the keys of its dictionary words, each once and ascending, its abbreviations, in characters of the
+-- machine, and the number of Main
 pub record ProgramOf : Type 0 where
   pub globals : List ℕ
   pub arrays : List (List ℕ)
@@ -123,6 +124,7 @@ pub record ProgramOf : Type 0 where
   pub defaults : List ℕ
   pub objects : List ObjectOf
   pub keys : List ℕ
+  pub abbreviations : List (List ℕ)
   pub routines : List RoutineOf
   pub main : ℕ
 
@@ -249,14 +251,15 @@ abbrev pub cut : List ℕ → List ℕ → List (List ℕ)
 cut [] bytes = []
 cut (n ∷ ns) bytes = take n bytes ∷ cut ns (drop n bytes)
 
--- a checked program: what its globals and its arrays begin with, the keys of its words, its routines in order of
--- definition, the number of Main, and the source's weight and the line where it ends
+-- a checked program: what its globals and its arrays begin with, the keys of its words, its abbreviations, its routines
+-- in order of definition, the number of Main, and the source's weight and the line where it ends
 pub record CheckedProgram : Type 0 where
   pub globals : List ℕ
   pub arrays : List (List ℕ)
   pub defaults : List ℕ
   pub objects : List CheckedObject
   pub keys : List ℕ
+  pub abbreviations : List (List ℕ)
   pub routines : List CheckedRoutine
   pub main : ℕ
   pub weight : ℕ
@@ -269,6 +272,7 @@ program_of c = record {
   defaults = c.defaults;
   objects = map object_of c.objects;
   keys = c.keys;
+  abbreviations = c.abbreviations;
   routines = map routine_of c.routines;
   main = c.main;
 }

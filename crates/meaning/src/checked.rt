@@ -14,6 +14,7 @@ use crate::arrays::Arrays;
 use crate::resolved::Action;
 use expressions::Name;
 use std::marker::Model;
+use zcore::Abbreviations;
 
 /// A routine of an accepted program.
 #[derive(Drop)]
@@ -50,6 +51,7 @@ pub struct Checked<'a> {
     defaults: Vec<u16>,
     objects: Vec<CheckedObject<'a>>,
     keys: Vec<u64>,
+    abbreviations: Abbreviations,
     routines: Vec<CheckedRoutine<'a>>,
     main: usize,
     weight: u128,
@@ -61,13 +63,13 @@ impl<'a> Model for Checked<'a> {
 
     ghost coded = { Prim.hlevel (codes, (statement.the_row static_lft).coded) };
 
-    ghost view = { λ c. record { globals = c.globals.items; arrays = cut c.arrays.sizes.items c.arrays.bytes.items; defaults = c.defaults.items; objects = c.objects.items; keys = c.keys.items; routines = c.routines.items; main = c.main; weight = c.weight; end_line = c.end_line } };
+    ghost view = { λ c. record { globals = c.globals.items; arrays = cut c.arrays.sizes.items c.arrays.bytes.items; defaults = c.defaults.items; objects = c.objects.items; keys = c.keys.items; abbreviations = c.abbreviations; routines = c.routines.items; main = c.main; weight = c.weight; end_line = c.end_line } };
 
     ghost invariant = { λ c. AreArrays c.arrays.sizes.items c.arrays.bytes.items × (length c.keys.items ≤ 2 ^ 59) };
 }
 
 impl<'a> Checked<'a> {
-    /// A program with these globals, arrays, keys and routines, the number of `Main`, the weight of its source, and the line
+    /// A program with these globals, arrays, objects, keys, abbreviations and routines, the number of `Main`, the weight of its source, and the line
     /// where the source ends.
     pub fn new(
         globals: Vec<u16>,
@@ -75,6 +77,7 @@ impl<'a> Checked<'a> {
         defaults: Vec<u16>,
         objects: Vec<CheckedObject<'a>>,
         keys: Vec<u64>,
+        abbreviations: Abbreviations,
         routines: Vec<CheckedRoutine<'a>>,
         main: usize,
         weight: u128,
@@ -82,7 +85,7 @@ impl<'a> Checked<'a> {
     ) -> Self
         requires arrays { AreArrays arrays.sizes.items arrays.bytes.items }
         requires few { length keys.items ≤ 2 ^ 59 }
-        ensures { result ≡ record { globals = globals.items; arrays = cut arrays.sizes.items arrays.bytes.items; defaults = defaults.items; objects = objects.entry.items; keys = keys.items; routines = routines.entry.items; main = main; weight = weight; end_line = end_line } }
+        ensures { result ≡ record { globals = globals.items; arrays = cut arrays.sizes.items arrays.bytes.items; defaults = defaults.items; objects = objects.entry.items; keys = keys.items; abbreviations = abbreviations; routines = routines.entry.items; main = main; weight = weight; end_line = end_line } }
     {
         Checked {
             globals,
@@ -90,6 +93,7 @@ impl<'a> Checked<'a> {
             defaults,
             objects,
             keys,
+            abbreviations,
             routines,
             main,
             weight,
@@ -138,6 +142,13 @@ impl<'a> Checked<'a> {
         ensures few { length result.now ≤ 2 ^ 59 }
     {
         &self.keys
+    }
+
+    /// The abbreviations in order, in characters of the machine.
+    pub fn abbreviations(&self) -> &Abbreviations
+        ensures { result.now ≡ self.now.abbreviations }
+    {
+        &self.abbreviations
     }
 
     /// How many routines there are.

@@ -1,12 +1,12 @@
 //! Where the parts of a story stand.
 
-ghost use Rattle.std.specs.Prelude.{◌≡◌, ◌+◌, ◌*◌, ◌<◌, ◌≤◌, ◌^◌, ℕ, map};
+ghost use Rattle.std.specs.Prelude.{◌≡◌, ◌+◌, ◌*◌, ◌<◌, ◌≤◌, ◌^◌, ℕ, length, map};
 ghost use Rattle.meaning.specs.Resolved.{program_of, object_of};
 ghost use Rattle.meaning.specs.Places.{folded, places_of, routines_place};
 ghost use Rattle.meaning.specs.Places as spec;
 
 use crate::checked::{Checked, CheckedObject};
-use crate::table_sizes::{folded, table_size};
+use crate::table_sizes::{abbreviations_size, folded, table_size};
 
 /// The bytes of the header.
 const HEADER: usize = 64;
@@ -14,7 +14,7 @@ const HEADER: usize = 64;
 /// The words of the table of abbreviations.
 const ABBREVIATIONS: usize = 96;
 
-/// The bytes of the empty text, which all abbreviations name.
+/// The bytes of the empty text, which abbreviations name that the source has not.
 const EMPTY_TEXT: usize = 2;
 
 /// The words of globals.
@@ -47,6 +47,9 @@ pub struct Places {
     /// The dictionary, with which static memory begins.
     pub dictionary: usize,
 
+    /// The texts of abbreviations.
+    pub texts: usize,
+
     /// The code that calls `Main`, with which high memory begins.
     pub start: usize,
 
@@ -74,13 +77,29 @@ pub fn dictionary_behind(arrays: usize, objects: usize) -> usize
     folded(fixed as u128 + arrays as u128 + objects as u128)
 }
 
+/// Where the texts of abbreviations stand, where the dictionary stands there.
+fn texts_behind(checked: &Checked<'_>, dictionary: usize) -> usize
+    requires { dictionary < 131072 }
+    ensures place { (let end = dictionary + (7 + 9 * length checked.now.keys) in
+        result ≡ end + spec.filling_before checked.now.abbreviations end) }
+    ensures few { result < 2 ^ 63 }
+{
+    let end = dictionary + EMPTY_DICTIONARY + ENTRY * checked.keys().len();
+    if checked.abbreviations().texts().is_empty() {
+        end
+    } else {
+        end + end % 2
+    }
+}
+
 /// The bytes of all that stands before the routines, folded.
 pub fn tables_size(checked: &Checked<'_>) -> usize
     ensures { result ≡ folded (routines_place (program_of checked.now)) }
 {
     let objects = objects_size(checked.objects());
     let dictionary = dictionary_behind(checked.array_bytes().len(), objects);
-    folded((dictionary + EMPTY_DICTIONARY + ENTRY * checked.keys().len() + START) as u128)
+    let texts = texts_behind(checked, dictionary);
+    folded((texts + abbreviations_size(checked.abbreviations()) + START) as u128)
 }
 
 /// Where the parts of the story of a program stand.
@@ -91,11 +110,13 @@ pub fn part_places(checked: &Checked<'_>) -> Places
     let globals = HEADER + 2 * ABBREVIATIONS + EMPTY_TEXT;
     let arrays = checked.array_bytes().len();
     let dictionary = dictionary_behind(arrays, objects_size(checked.objects()));
-    let start = dictionary + EMPTY_DICTIONARY + ENTRY * checked.keys().len();
+    let texts = texts_behind(checked, dictionary);
+    let start = texts + abbreviations_size(checked.abbreviations());
     Places {
         globals,
         defaults: globals + 2 * GLOBALS + arrays,
         dictionary,
+        texts,
         start,
         routines: start + START,
     }

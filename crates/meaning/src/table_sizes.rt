@@ -7,7 +7,7 @@ ghost use Rattle.meaning.specs.Places.{total};
 ghost use Rattle.meaning.specs.Places as spec;
 
 use crate::checked::CheckedObject;
-use zcore::{spelling_length, words_for};
+use zcore::{Abbreviations, spelling_length, words_for};
 
 /// A size up to 65,535 is itself; what a greater one becomes is as well above 65,535, and has the same remainder by
 /// 65,536.
@@ -47,6 +47,47 @@ fn name_characters(name: &[u8]) -> u128
         count += spelling_length(machine_character(*byte)) as u128;
     }
     count
+}
+
+/// The Z-characters of a text in characters of the machine.
+#[tactic(auto, using(crate::proofs::Folding::text_characters_more))]
+fn text_characters(text: &[u8]) -> u128
+    ensures many { result ≡ length (spelled text.now) }
+    ensures few { result ≤ 4 * 2 ^ 64 }
+{
+    let mut count = 0;
+    for character in text {
+        count += spelling_length(*character) as u128;
+    }
+    count
+}
+
+/// The bytes of the Z-text of a text in characters of the machine.
+fn text_size(text: &[u8]) -> u128
+    ensures size { result ≡ spec.text_size text.now }
+    ensures few { result ≤ 8 * 2 ^ 64 + 2 }
+{
+    2 * words_for(text_characters(text))
+}
+
+/// The bytes of the Z-texts of texts, one behind another, folded.
+fn texts_size(texts: &[Vec<u8>]) -> usize
+    ensures size { result ≡ spec.folded (total (map spec.text_size (map (λ t. t.items) texts.now))) }
+    ensures few { result < 131072 }
+{
+    let mut size = 0;
+    for text in texts {
+        size = folded(size as u128 + text_size(text));
+    }
+    size
+}
+
+/// The bytes of the Z-texts of abbreviations, one behind another, folded.
+pub fn abbreviations_size(abbreviations: &Abbreviations) -> usize
+    ensures size { result ≡ spec.folded (total (map spec.text_size abbreviations.now)) }
+    ensures few { result < 131072 }
+{
+    texts_size(abbreviations.texts())
 }
 
 /// The words of a name in a property table.

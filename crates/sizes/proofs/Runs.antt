@@ -50,7 +50,7 @@ abbrev routine : List ℕ → List NameTree → List StatementTree → Directive
 routine name locals xs = d.routine (record { name = the 0 name; locals = locals; body = body xs; weight = 0 })
 
 abbrev program : List DirectiveTree → ProgramTree
-program ds = record { directives = ds; end = p 999; weight = 0; words = [] }
+program ds = record { directives = ds; abbreviations = []; end = p 999; weight = 0; words = [] }
 
 -- the transcript of one turn
 abbrev says : List ℕ → Outcome
@@ -234,6 +234,7 @@ reads letters = record {
   defaults = replicate 63 0;
   objects = [];
   keys = number_of_key (word_key (codes "go")) ∷ [];
+  abbreviations = [];
   routines =
       record { locals = 0; body = source.stop }
       ∷ record {

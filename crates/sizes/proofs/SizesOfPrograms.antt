@@ -8,10 +8,10 @@ use Rattle.lexer.specs.Token.{Lexeme, name, sign}
 use Rattle.expressions.specs.Tree.{NameTree}
 use Rattle.statements.specs.Tree.{StatementTrees}
 use Rattle.statements.specs.Grammar.{IsSs}
-use Rattle.syntax.specs.Tree.{RoutineTree, DirectiveTree, ProgramTree}
+use Rattle.syntax.specs.Tree.{RoutineTree, TextTree, DirectiveTree, EntryTree, directives_of, ProgramTree}
 use Rattle.syntax.specs.Grammar.{weight_of, IsNames, IsDirective, d_global, d_global_value, d_constant, d_array}
-use Rattle.syntax.specs.Grammar.{d_attribute, d_property, d_property_value, d_object, d_routine, IsDirectives}
-use Rattle.syntax.specs.Grammar.{directives_stop, directives_next, IsProgram, program}
+use Rattle.syntax.specs.Grammar.{d_attribute, d_property, d_property_value, d_object, d_routine, IsTexts, texts_stop}
+use Rattle.syntax.specs.Grammar.{texts_next, e_directive, e_abbreviate, IsEntries, entries_stop, entries_next, IsProgram, program}
 use Rattle.syntax.proofs.Spelled.{weight_Ss, spelled_Names, weighs}
 use Rattle.names.specs.Names.{File, seen_from}
 use Rattle.checker.specs.Programs.{resolve_routine, routines_of, routine_trees}
@@ -87,9 +87,16 @@ module _ (file : File) (sizes : Sizes) where
         all = omega (arith, b.all, f.short, f.weight);
       }
 
-  are_short : {ts r : List Lexeme} {ds : List DirectiveTree} → IsDirectives ts ds r → AreShort ts ds r
-  are_short directives_stop = record { each = All-nil IsRoutineShort; all = omega arith }
-  are_short (directives_next a b) = first_short a (are_short b)
+  texts_weight : {ts r : List Lexeme} {xs : List TextTree} → IsTexts ts xs r → weight_of r ≤ weight_of ts
+  texts_weight texts_stop = omega arith
+  texts_weight (texts_next a) = omega (arith, texts_weight a)
+
+  are_short : {ts r : List Lexeme} {es : List EntryTree} → IsEntries ts es r → AreShort ts (directives_of es) r
+  are_short entries_stop = record { each = All-nil IsRoutineShort; all = omega arith }
+  are_short (entries_next (e_directive a) b) = first_short a (are_short b)
+  are_short (entries_next (e_abbreviate a some) b) =
+      let f = are_short b in
+      record { each = f.each; all = omega (arith, f.all, texts_weight a) }
 
   program_short : {ts : List Lexeme} {p : ProgramTree} → IsProgram ts p → IsShort p file sizes
   program_short (program a) = let f = are_short a in record { each = f.each; all = omega (arith, f.all) }

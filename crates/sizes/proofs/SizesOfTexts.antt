@@ -1,14 +1,14 @@
 -- How many bytes texts have.
 use Rattle.std.proofs.Common.{◌≤◌, ◌+◌, ◌-◌, ◌*◌, ◌%◌, ◌==◌, ℕ, suc, Bool, true, false, List, [], ◌∷◌, length, map}
 use Rattle.std.proofs.Common.{Option, Some, None, arith, length-append}
-use Rattle.std.specs.Prelude.{if◌then◌else◌, replicate}
+use Rattle.std.specs.Prelude.{◌++◌, if◌then◌else◌, nat_lt, replicate}
 use Rattle.std.specs.List.{filter}
 use Rattle.std.proofs.lemmas.List.{length-map, length-replicate}
 use Rattle.zcore.specs.Instruction.{bytes_of}
 use Rattle.zcore.specs.Alphabets.{is_printable, punctuation, upper_letters, lower_letters, place_in}
-use Rattle.zcore.specs.Alphabets.{spelling_in_punctuation, spelling_in_upper, spelling_in_lower, spelling_of, spelled}
+use Rattle.zcore.specs.Alphabets.{spelling_in_punctuation, spelling_in_upper, spelling_in_lower, spelling_of}
 use Rattle.zcore.specs.Words.{packed, missing, padded}
-use Rattle.zcore.specs.Text.{encoded}
+use Rattle.zcore.specs.Abbreviations.{Found, longest, spelling_or, more_of, spelled_behind, encoded_with}
 use Rattle.items.specs.Items.{Item, Destination, Test}
 use Rattle.items.specs.Items as items
 use Rattle.code.specs.Addresses.{Sizes}
@@ -38,10 +38,30 @@ spelling_length : (c : ℕ) → length (spelling_of c) ≤ 4
 unfolding spelling_of
 spelling_length c = chosen_length (c == 32) (0 ∷ []) _ (omega arith) (lower_length (place_in lower_letters c) c)
 
-spelled_length : (text : List ℕ) → length (spelled text) ≤ 4 * length text
-spelled_length [] = omega arith
-spelled_length (c ∷ cs) =
-    omega (arith, length-append (spelling_of c) (spelled cs), spelling_length c, spelled_length cs)
+-- an abbreviation has two
+found_length : (found : Option Found) (c : ℕ) → length (spelling_or found c) ≤ 4
+found_length None c = spelling_length c
+found_length (Some x) c = omega arith
+
+either_length : (test : Bool) (xs ys : List ℕ) (n : ℕ) → length xs ≤ n → length ys ≤ n
+    → length (if test then xs else ys) ≤ n
+either_length true xs ys n h k = h
+either_length false xs ys n h k = k
+
+spelled_length : (abbreviations : List (List ℕ)) (spelled : ℕ) (text : List ℕ)
+    → length (spelled_behind abbreviations spelled text) ≤ 4 * length text
+spelled_length abbreviations spelled [] = omega arith
+spelled_length abbreviations spelled (c ∷ cs) =
+    let found : Option Found = longest abbreviations (c ∷ cs) in
+    let rest : List ℕ = spelled_behind abbreviations (more_of found) cs in
+    either_length (nat_lt 0 spelled) (spelled_behind abbreviations (spelled - 1) cs) (spelling_or found c ++ rest)
+    (4 * suc (length cs)) (omega (arith, spelled_length abbreviations (spelled - 1) cs))
+    (omega (
+      arith,
+      length-append (spelling_or found c) rest,
+      found_length found c,
+      spelled_length abbreviations (more_of found) cs,
+    ))
 
 packed_length : (zs : List ℕ) → 3 * length (packed zs) ≤ 2 * length zs
 unfolding packed
@@ -58,17 +78,19 @@ few false n = omega arith
 missing_few : (n : ℕ) → missing n ≤ 3
 missing_few n = few (n == 0) (3 - n % 3)
 
-pub encoded_length : (text : List ℕ) → length (encoded text) ≤ 3 * length text + 2
-unfolding encoded
-encoded_length text =
-    let zs = spelled text in
+-- whatever the abbreviations are
+encoded_length : (abbreviations : List (List ℕ)) (text : List ℕ)
+    → length (encoded_with abbreviations text) ≤ 3 * length text + 2
+unfolding encoded_with
+encoded_length abbreviations text =
+    let zs = spelled_behind abbreviations 0 text in
     omega (
       arith,
       packed_length (padded zs),
       length-append zs (replicate (missing (length zs)) 5),
       missing_few (length zs),
       length-replicate {A = ℕ} (missing (length zs)) 5,
-      spelled_length text,
+      spelled_length abbreviations 0 text,
     )
 
 filter_few : (p : ℕ → Bool) (xs : List ℕ) → length (filter p xs) ≤ length xs
@@ -84,7 +106,7 @@ pub text_few : (sizes : Sizes) (bytes : List ℕ) → least_size sizes (items.pr
 unfolding bytes_of
 text_few sizes bytes = omega (
   arith,
-  encoded_length (filter is_printable (map character_of bytes)),
+  encoded_length sizes.abbreviations (filter is_printable (map character_of bytes)),
   filter_few is_printable (map character_of bytes),
   length-map bytes character_of,
 )

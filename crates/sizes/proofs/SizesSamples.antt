@@ -16,7 +16,7 @@ use Rattle.statements.specs.Grammar.{loop_in, items_last, items_comma, item_text
 use Rattle.statements.specs.Grammar.{s_read, s_move, ss_stop, ss_next}
 use Rattle.syntax.specs.declared.tree.ArrayKind.TheVariants as kinds
 use Rattle.syntax.specs.Tree.{ProgramTree}
-use Rattle.syntax.specs.Grammar.{names_stop, names_next, d_routine, directives_stop, directives_next, IsProgram}
+use Rattle.syntax.specs.Grammar.{names_stop, names_next, d_routine, e_directive, entries_stop, entries_next, IsProgram}
 use Rattle.syntax.specs.Grammar.{program}
 use Rattle.names.specs.declared.binding.Binding.TheVariants as bindings
 use Rattle.names.specs.Names.{key_of, first_table, File, look_up}
@@ -27,7 +27,7 @@ use Rattle.meaning.specs.Resolved as source
 use Rattle.zcore.specs.Instruction.{bytes_of}
 use Rattle.zcore.specs.Alphabets.{spelling_of}
 use Rattle.zcore.specs.Words.{packed}
-use Rattle.zcore.specs.Text.{encoded}
+use Rattle.zcore.specs.Abbreviations.{encoded_with}
 use Rattle.items.specs.Items as items
 use Rattle.code.specs.Addresses.{Sizes}
 use Rattle.code.specs.Bytes.{least_size}
@@ -35,7 +35,7 @@ use Rattle.code.specs.Sizes.{routine_size, routines_size}
 
 -- arrays of 10 bytes, of 600 and of 1,100, and 300 objects
 abbrev sizes : Sizes
-sizes = record { arrays = 10 ∷ 600 ∷ 1100 ∷ []; objects = 300 }
+sizes = record { arrays = 10 ∷ 600 ∷ 1100 ∷ []; objects = 300; abbreviations = [] }
 
 abbrev x : Variable
 x = variables.Local 0
@@ -61,8 +61,18 @@ remainder_has = refl
 
 -- `print` and one word of fives
 no_text_has : least_size sizes (items.print_text []) ≡ 3
-unfolding bytes_of encoded packed
+unfolding bytes_of encoded_with packed
 no_text_has = refl
+
+-- `print` and two words, where the first four characters are an abbreviation; else there are three
+abbrev shortening : List (List ℕ) → Sizes
+shortening abbreviations = record { arrays = []; objects = 0; abbreviations = abbreviations }
+
+shorter_text_has : least_size (shortening (codes "the " ∷ [])) (items.print_text (codes "the end"))
+    ∷ least_size (shortening []) (items.print_text (codes "the end")) ∷ []
+    ≡ 5 ∷ 7 ∷ []
+unfolding bytes_of encoded_with packed spelling_of
+shorter_text_has = refl
 
 -- call_1s, call_vs, and call_vs2 with its second byte of types
 calls_have : least_size sizes (items.call 300 [] items.push)
@@ -153,8 +163,8 @@ divided = e_plain (e1_plain (n1_plain (e2_plain (e3_plain
 abbrev sample : (t : ProgramTree) × IsProgram tokens t
 sample = (
   _,
-  program (directives_next (d_routine names_stop
-      (ss_next (s_print (items_comma item_text (items_last (item_number divided)))) ss_stop)) directives_stop),
+  program (entries_next (e_directive (d_routine names_stop
+      (ss_next (s_print (items_comma item_text (items_last (item_number divided)))) ss_stop))) entries_stop),
 )
 
 sample_weighs : sample.0.weight ≡ 387
@@ -166,7 +176,7 @@ nameless = record { table = first_table; number = λ key. 0 }
 
 -- a text of 3 bytes, a division of 4, the printing of its word of 3, and 1 at the end
 sample_has : routines_size sizes (routines_of nameless sample.0.directives) ≡ 1 + (3 + 4 + 3 + 1) + 7
-unfolding bytes_of encoded packed spelling_of look_up
+unfolding bytes_of encoded_with packed spelling_of look_up
 sample_has = refl
 
 -- [ Main; read t q; print 'go'; ];
@@ -190,8 +200,8 @@ go = whole (u_plain p_word)
 abbrev reading : (t : ProgramTree) × IsProgram reading_tokens t
 reading = (
   _,
-  program (directives_next (d_routine names_stop
-      (ss_next s_read (ss_next (s_print (items_last (item_number go))) ss_stop))) directives_stop),
+  program (entries_next (e_directive (d_routine names_stop
+      (ss_next s_read (ss_next (s_print (items_last (item_number go))) ss_stop)))) entries_stop),
 )
 
 reading_weighs : reading.0.weight ≡ 384
@@ -227,9 +237,9 @@ looping_tokens = sign s.OpenBracket (p 0) ∷ name (codes "Main") (p 1) ∷ name
 abbrev looping : (t : ProgramTree) × IsProgram looping_tokens t
 looping = (
   _,
-  program (directives_next (d_routine (names_next names_stop) (ss_next (s_objectloop
+  program (entries_next (e_directive (d_routine (names_next names_stop) (ss_next (s_objectloop
       (loop_in (e3_plain (e4_plain (n4_plain (e5_plain (u_plain p_name)))))) (s_move (whole (u_plain p_name))
-      (whole (u_plain (p_property p_name))))) ss_stop)) directives_stop),
+      (whole (u_plain (p_property p_name))))) ss_stop))) entries_stop),
 )
 
 looping_weighs : looping.0.weight ≡ 608

@@ -21,7 +21,7 @@ pub record IsShort (p : ProgramTree) (file : File) (sizes : Sizes) : Type 0 wher
   pub all : routines_size sizes (routines_of file p.directives) ≤ p.weight
 
 -- the code of the program that some tokens are is short, whatever its names and words stand for, however large its
--- arrays are, and however many objects it has
+-- arrays are, however many objects it has, and whatever its abbreviations are
 abbrev pub CodeIsShort : Type 0
 CodeIsShort = (tokens : List Lexeme) (p : ProgramTree) → IsProgram tokens p → (file : File)
     → (sizes : Sizes) → IsShort p file sizes

@@ -2,8 +2,8 @@
 
 ghost use Rattle.sizes.specs.Laws.{CodeIsShort, SmallSourcesHaveSmallCode};
 
-/// The code of a program is no longer than its source weighs, whatever the names of the source stand for, and however
-/// many objects it has: each routine has at least 7 bytes less than the weight of its tokens, and all routines, with 7
+/// The code of a program is no longer than its source weighs, whatever the names of the source stand for, however many
+/// objects it has, and whatever its abbreviations are: each routine has at least 7 bytes less than the weight of its tokens, and all routines, with 7
 /// bytes more for each, have at most the weight of the whole source. A token weighs 32, and each byte between the quotes
 /// of a text 3 more.
 pub fn code_is_short()

@@ -8,14 +8,15 @@ use Rattle.zcore.specs.declared.header.Version.{Version}
 use Rattle.zcore.specs.declared.header.Version.TheVariants.{V5, V8}
 use Rattle.zcore.specs.Alphabets.{spelling_of}
 use Rattle.zcore.specs.Bytes.{word_at}
-use Rattle.zcore.specs.Header.{scale_of, version_number}
+use Rattle.zcore.specs.Abbreviations.{abbreviation_at}
+use Rattle.zcore.specs.Header.{abbreviations_of, scale_of, version_number}
 use Rattle.zcore.specs.Parts.{scale_in, unpacked}
 use Rattle.zcore.specs.Text.{Holds, encoded}
 use Rattle.zcore.specs.Words.{packed}
 use Rattle.tables.specs.Dictionary.{ReadsKeys}
 use Rattle.meaning.specs.Resolved.{RoutineOf, ProgramOf}
 use Rattle.meaning.specs.Accepted.{IsAccepted}
-use Rattle.meaning.specs.Places.{arrays_place, start_place, routines_place}
+use Rattle.meaning.specs.Places.{arrays_place, start_place, routines_place, texts_place}
 use Rattle.meaning.specs.Meaning.{routine_at}
 use Rattle.items.specs.Items.{routine_items}
 use Rattle.meaning.specs.World.{words_of}
@@ -25,15 +26,17 @@ use Rattle.region.specs.Laws.{HoldsRows}
 use Rattle.region.specs.Rows.{rows_of, rows_bytes}
 use Rattle.code.specs.Addresses.{Addresses, Sizes, number_of}
 use Rattle.code.specs.Bytes.{code_size}
-use Rattle.code.specs.HeldProgram.{HoldsProgram, HoldsRoutine, HoldsText, fault_line, start_code, sizes_of}
+use Rattle.code.specs.HeldProgram.{HoldsProgram, HoldsAbbreviation, HoldsRoutine, HoldsText, fault_line, start_code, sizes_of}
 use Rattle.code.specs.HeldProgram.{offset_in}
 use Rattle.code.specs.Sizes.{routine_size}
 use Rattle.story.specs.Layout.{addresses_in, fault_texts, packed_addresses, parts_from, addresses_from, aligned}
-use Rattle.story.specs.Layout.{greatest_word, low_bytes, routine_bytes, story_of}
+use Rattle.story.specs.Layout.{greatest_word, low_bytes, routine_bytes, story_of, text_places}
 use Rattle.story.specs.Laws.{IsShort, StoriesHold}
 use Rattle.story.proofs.Parts.{whole, HasPartAt, holds_first, parts_rise, parts_stand, addresses_count}
 use Rattle.story.proofs.Lengths.{routine_length, sizes_are}
+use Rattle.story.proofs.AbbreviationTables.{texts_above, texts_below}
 use Rattle.story.proofs.Low.{global_stands, arrays_hold, objects_hold, high_stands, start_stands}
+use Rattle.story.proofs.Low.{place_stands, abbreviation_stands}
 use Rattle.story.proofs.ObjectTables.{rows_sized}
 use Rattle.story.proofs.Reading.{Says, behind_header, says, header_read, laid_length, laid_out, laid_read, laid_keys}
 
@@ -322,6 +325,25 @@ module _ (version : Version) (p : ProgramOf) (accepted : IsAccepted p) where
     below = omega (arith, said.defaults, said.static_base, rows_sized p.objects);
   }
 
+  abbreviation_lies : routines_place p ≤ greatest_word → (n : ℕ) → n < length p.abbreviations
+      → HoldsAbbreviation story n (abbreviation_at p.abbreviations n)
+  abbreviation_lies placed n within =
+      let place : ℕ = slice_index (text_places (texts_place p) p.abbreviations) n in
+      let named : 2 * word_at story (abbreviations_of story + 2 * n) ≡ place =
+      ap (λ at. 2 * word_at story (at + 2 * n)) said.abbreviations
+      ∙ place_stands story p high main words body_stands n within accepted.few_abbreviations in
+      record {
+        bytes = subst (λ at. Holds story at (encoded (abbreviation_at p.abbreviations n))) (sym named)
+            (abbreviation_stands story p high main words body_stands n within);
+        above = omega (
+          arith,
+          named,
+          said.static_base,
+          texts_above (texts_place p) p.abbreviations n within,
+        );
+        low = omega (arith, named, texts_below (texts_place p) p.abbreviations n within, placed);
+      }
+
   holds : routines_place p ≤ greatest_word → All (IsShort (sizes_of p)) p.routines
       → length story ≤ 65535 * scale_of version → All (λ b. b < 256) story → HoldsProgram story a p
   holds placed small short bytes =
@@ -343,6 +365,9 @@ module _ (version : Version) (p : ProgramOf) (accepted : IsAccepted p) where
         static_below = omega (arith, said.static_base, long);
         globals = λ g within. ap (λ at. word_at story (at + 2 * g)) said.globals
             ∙ global_stands story p high main words body_stands g within (omega (arith, accepted.globals));
+        table_above = omega (arith, said.abbreviations);
+        table_below = omega (arith, said.abbreviations, said.globals);
+        abbreviations = λ n within. abbreviation_lies placed n within;
         first_array = arrays_place;
         arrays = arrays_hold story p high main words body_stands;
         arrays_each = array_found arrays_place p.arrays;

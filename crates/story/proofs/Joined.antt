@@ -11,7 +11,7 @@ use Rattle.zcore.specs.Words.{packed}
 use Rattle.zcore.specs.declared.header.Version.{Version}
 use Rattle.zcore.specs.Header.{scale_of, version_number}
 use Rattle.meaning.specs.declared.places.Places.{Places}
-use Rattle.meaning.specs.Places.{header_size}
+use Rattle.meaning.specs.Places.{dictionary_end, filling_before, header_size}
 use Rattle.meaning.specs.Resolved.{ProgramOf}
 use Rattle.code.specs.Addresses.{Addresses}
 use Rattle.code.specs.HeldProgram.{start_code}
@@ -91,20 +91,25 @@ empty_text : word 38053 ≡ encoded []
 unfolding encoded packed
 empty_text = refl
 
-all_joined : (a x c d e f g b b1 b2 b3 b4 b5 b6 b7 : List ℕ) → b1 ≡ b ++ a → b2 ≡ b1 ++ x → b3 ≡ b2 ++ c
-    → b4 ≡ b3 ++ d → b5 ≡ b4 ++ e → b6 ≡ b5 ++ f → b7 ≡ b6 ++ g → b7 ≡ b ++ (a ++ x ++ c ++ d ++ e ++ f ++ g)
-all_joined a x c d e f g b b1 b2 b3 b4 b5 b6 b7 e1 e2 e3 e4 e5 e6 e7 =
-    e7 ∙ ap (λ z. z ++ g) (e6 ∙ ap (λ z. z ++ f) (e5 ∙ ap (λ z. z ++ e) (e4
-    ∙ ap (λ z. z ++ d) (e3 ∙ ap (λ z. z ++ c) (e2 ∙ ap (λ z. z ++ x) e1))))) ∙ simp append_assoc
+all_joined : (a x c d e f y t g b b1 b2 b3 b4 b5 b6 b7 b8 b9 : List ℕ) → b1 ≡ b ++ a → b2 ≡ b1 ++ x → b3 ≡ b2 ++ c
+    → b4 ≡ b3 ++ d → b5 ≡ b4 ++ e → b6 ≡ b5 ++ f → b7 ≡ b6 ++ y → b8 ≡ b7 ++ t → b9 ≡ b8 ++ g
+    → b9 ≡ b ++ (a ++ x ++ c ++ d ++ e ++ f ++ (y ++ t) ++ g)
+all_joined a x c d e f y t g b b1 b2 b3 b4 b5 b6 b7 b8 b9 e1 e2 e3 e4 e5 e6 e7 e8 e9 =
+    e9 ∙ ap (λ z. z ++ g) (e8 ∙ ap (λ z. z ++ t) (e7 ∙ ap (λ z. z ++ y) (e6 ∙ ap (λ z. z ++ f) (e5
+    ∙ ap (λ z. z ++ e) (e4 ∙ ap (λ z. z ++ d) (e3 ∙ ap (λ z. z ++ c) (e2 ∙ ap (λ z. z ++ x) e1)))))))
+    ∙ simp append_assoc
 
-pub low_joined : (p : ProgramOf) (main : ℕ) (b b1 b2 b3 b4 b5 b6 b7 : List ℕ) → b1 ≡ b ++ abbreviation_bytes
+pub low_joined : (p : ProgramOf) (main : ℕ) (b b1 b2 b3 b4 b5 b6 b7 b8 b9 : List ℕ) → b1 ≡ b ++ abbreviation_bytes p
     → b2 ≡ b1 ++ word 38053 → b3 ≡ b2 ++ global_bytes p.globals → b4 ≡ b3 ++ concat p.arrays
-    → b5 ≡ b4 ++ object_bytes p → b6 ≡ b5 ++ dictionary_bytes p.keys → b7 ≡ b6 ++ start_code main
-    → b7 ≡ b ++ low_bytes p main
-low_joined p main b b1 b2 b3 b4 b5 b6 b7 e1 e2 e3 e4 e5 e6 e7 =
-    all_joined abbreviation_bytes (encoded []) (global_bytes p.globals) (concat p.arrays) (object_bytes p)
-    (dictionary_bytes p.keys) (start_code main) b b1 b2 b3 b4 b5 b6 b7
-    e1 (e2 ∙ ap (λ z. b1 ++ z) empty_text) e3 e4 e5 e6 e7
+    → b5 ≡ b4 ++ object_bytes p → b6 ≡ b5 ++ dictionary_bytes p.keys
+    → b7 ≡ b6 ++ replicate (filling_before p.abbreviations (dictionary_end p)) 0
+    → b8 ≡ b7 ++ flat_map encoded p.abbreviations → b9 ≡ b8 ++ start_code main
+    → b9 ≡ b ++ low_bytes p main
+low_joined p main b b1 b2 b3 b4 b5 b6 b7 b8 b9 e1 e2 e3 e4 e5 e6 e7 e8 e9 =
+    all_joined (abbreviation_bytes p) (encoded []) (global_bytes p.globals) (concat p.arrays) (object_bytes p)
+    (dictionary_bytes p.keys) (replicate (filling_before p.abbreviations (dictionary_end p)) 0)
+    (flat_map encoded p.abbreviations) (start_code main) b b1 b2 b3 b4 b5 b6 b7 b8 b9
+    e1 (e2 ∙ ap (λ z. b1 ++ z) empty_text) e3 e4 e5 e6 e7 e8 e9
 
 -- Routines
 

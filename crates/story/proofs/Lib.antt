@@ -2,6 +2,7 @@ mod Parts
 mod Entries
 mod ObjectTables
 mod ObjectRows
+mod AbbreviationTables
 mod Low
 mod Lengths
 mod Samples

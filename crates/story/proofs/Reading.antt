@@ -16,7 +16,7 @@ use Rattle.meaning.specs.Accepted.{IsAccepted}
 use Rattle.meaning.specs.Places.{defaults_place, dictionary_place, start_place, routines_place, places_of}
 use Rattle.meaning.specs.Resolved.{ProgramOf}
 use Rattle.code.specs.HeldProgram.{start_code}
-use Rattle.story.specs.Layout.{greatest_word, header_of, low_bytes, key_bytes, dictionary_bytes, parts_from}
+use Rattle.story.specs.Layout.{abbreviation_texts, greatest_word, header_of, low_bytes, key_bytes, dictionary_bytes, parts_from}
 use Rattle.story.proofs.Parts.{whole, holds_first, parts_end}
 use Rattle.story.proofs.Entries.{keys_read}
 use Rattle.story.proofs.Low.{word_is, byte_behind, word_behind, low_length, dictionary_stands}
@@ -168,15 +168,19 @@ module _ (version : Version) (p : ProgramOf) (main : ℕ) (parts : List (List �
   pub laid_multiple : length p.defaults ≡ 63 → whole version (length laid_out)
   laid_multiple words = subst (whole version) (sym (laid_length words)) (parts_end version (routines_place p) parts)
 
+  -- what stands behind the dictionary
+  abbrev behind : List ℕ
+  behind = abbreviation_texts p ++ (start_code main ++ high)
+
   pub laid_read : routines_place p ≤ greatest_word → IsAccepted p → Reads laid_out (Ok (header_read version p))
   laid_read placed accepted =
-      is_read version p laid_out (start_code main ++ high) (says version p body)
+      is_read version p laid_out behind (says version p body)
       (laid_multiple accepted.defaults.0) placed (omega (arith, laid_length accepted.defaults.0)) accepted.keys accepted.ascending
       (dictionary_stands laid_out p high main accepted.defaults.0 (behind_header version p body))
 
   -- the keys of the program
   pub laid_keys : routines_place p ≤ greatest_word → IsAccepted p → ReadsKeys laid_out (dictionary_place p) p.keys
   laid_keys placed accepted =
-      are_keys_read version p laid_out (start_code main ++ high) (says version p body)
+      are_keys_read version p laid_out behind (says version p body)
       (laid_multiple accepted.defaults.0) placed (omega (arith, laid_length accepted.defaults.0)) accepted.keys accepted.ascending
       (dictionary_stands laid_out p high main accepted.defaults.0 (behind_header version p body))

@@ -5,6 +5,7 @@ use Rattle.std.specs.List.{flat_map}
 use Rattle.zcore.specs.declared.header.Version.TheVariants.{V5, V8}
 use Rattle.zcore.specs.declared.place.Place.{Place}
 use Rattle.zcore.specs.declared.place.Place.TheVariants as places
+use Rattle.zcore.specs.Abbreviations.{encoded_with}
 use Rattle.zcore.specs.Alphabets.{spelling_of}
 use Rattle.zcore.specs.Arithmetic.{signed_text, decimal}
 use Rattle.zcore.specs.Dictionary.{number_of_key, entry_of}
@@ -33,7 +34,8 @@ use Rattle.checker.specs.Programs.{resolve_program, resolve_with}
 use Rattle.meaning.specs.Resolved.{ProgramOf, binary, call as calls, effect, entry, more, none, number, number_of}
 use Rattle.meaning.specs.Resolved.{print as prints, read, stop, text, next}
 use Rattle.story.specs.Compiled.{size_fault}
-use Rattle.story.specs.Layout.{array_addresses, fault_texts, low_bytes, packed_addresses, story_of}
+use Rattle.story.specs.Layout.{abbreviation_bytes, abbreviation_texts, array_addresses, fault_texts, low_bytes}
+use Rattle.story.specs.Layout.{packed_addresses, story_of}
 
 texts : fault_texts
     ≡ (20 ∷ 229 ∷ 24 ∷ 91 ∷ 17 ∷ 102 ∷ 106 ∷ 57 ∷ 23 ∷ 160 ∷ 37 ∷ 219 ∷ 59 ∷ 14 ∷ 82 ∷ 96 ∷ 31 ∷ 192 ∷ 125 ∷ 87
@@ -67,6 +69,7 @@ nothing = record {
   defaults = no_defaults;
   objects = [];
   keys = [];
+  abbreviations = [];
   routines = record { locals = 0; body = stop } ∷ [];
   main = 0;
 }
@@ -74,6 +77,33 @@ nothing = record {
 low : length (low_bytes nothing 219) ≡ 811
 unfolding bytes_of encoded packed
 low = refl
+
+-- `Abbreviate "in" "the ";` before it: its dictionary ends at 871, so a byte stands before the texts, at 872 and 874
+abbrev shortened : ProgramOf
+shortened = record nothing {
+  abbreviations = (105 ∷ 110 ∷ []) ∷ (116 ∷ 104 ∷ 101 ∷ 32 ∷ []) ∷ [];
+}
+
+texts_from_an_odd_address : abbreviation_texts shortened ≡ 0 ∷ 186 ∷ 101 ∷ 101 ∷ 170 ∷ 128 ∷ 165 ∷ []
+unfolding encoded packed spelling_of
+texts_from_an_odd_address = refl
+
+table_halved : abbreviation_bytes shortened
+    ≡ 1 ∷ 180 ∷ 1 ∷ 181 ∷ flat_map (λ (n : ℕ). 0 ∷ n ∷ []) (replicate 94 128)
+unfolding encoded packed spelling_of
+table_halved = refl
+
+-- and with an array of one byte its dictionary ends at 872: none stands before them, and the table is the same
+abbrev shortened_behind_a_byte : ProgramOf
+shortened_behind_a_byte = record shortened { arrays = (7 ∷ []) ∷ [] }
+
+texts_from_an_even_address : abbreviation_texts shortened_behind_a_byte ≡ 186 ∷ 101 ∷ 101 ∷ 170 ∷ 128 ∷ 165 ∷ []
+unfolding encoded packed spelling_of
+texts_from_an_even_address = refl
+
+table_behind_a_byte : abbreviation_bytes shortened_behind_a_byte ≡ abbreviation_bytes shortened
+unfolding encoded packed spelling_of
+table_behind_a_byte = refl
 
 -- the routine at 876 and the texts from 880 on in version 5; at 880 and from 888 on in version 8
 addresses_of_5 : packed_addresses 4 nothing ≡ 219 ∷ 220 ∷ 227 ∷ 233 ∷ 240 ∷ 247 ∷ 255 ∷ 262 ∷ 268 ∷ []
@@ -146,6 +176,7 @@ division = record {
   defaults = no_defaults;
   objects = [];
   keys = [];
+  abbreviations = [];
   routines = record {
     locals = 0;
     body = next (prints (number_of (binary binaries.Divide (number 1) (number 0)) ∷ [])) stop;
@@ -193,6 +224,7 @@ calling = record {
   defaults = no_defaults;
   objects = [];
   keys = [];
+  abbreviations = [];
   routines = record { locals = 0; body = next (effect (calls 1 (more (number 3) none))) stop }
       ∷ record {
         locals = 1;
@@ -205,18 +237,18 @@ calling = record {
 
 -- Main has 7 bytes at 880 in version 8, and f 10 at 888
 calling_addresses : packed_addresses 8 calling ≡ 110 ∷ 111 ∷ 113 ∷ 117 ∷ 120 ∷ 124 ∷ 128 ∷ 132 ∷ 136 ∷ 139 ∷ []
-unfolding bytes_of encoded packed spelling_of
+unfolding bytes_of encoded packed spelling_of encoded_with
 calling_addresses = refl
 
 -- call_vn f 3; rtrue, and then print_num x; print; rtrue
 calling_code : take 18 (drop 880 (story_of V8 calling))
     ≡ 0 ∷ 249 ∷ 31 ∷ 0 ∷ 111 ∷ 3 ∷ 176 ∷ 0
     ∷ 1 ∷ 230 ∷ 191 ∷ 1 ∷ 178 ∷ 22 ∷ 133 ∷ 156 ∷ 165 ∷ 176 ∷ []
-unfolding story_of bytes_of encoded packed spelling_of
+unfolding story_of bytes_of encoded packed spelling_of encoded_with
 calling_code = refl
 
 calling_played : option_map shown (opening (story_of V8 calling) 1000000) ≡ Some (places.Quit, codes "3!" ++ 10 ∷ [])
-unfolding story_of bytes_of encoded packed spelling_of opening turn_from weight step perform call_packed push_word
+unfolding story_of bytes_of encoded packed spelling_of encoded_with opening turn_from weight step perform call_packed push_word
     pull return_popped print_inline print_packed print_characters text_at decoded abbreviation reads unpacked_text
     decode opcode operands operand byte large result_variable branch operand_values operand_value read_in_place
     write_in_place read_variable write_variable read_local write_local read_global write_global pop push
@@ -236,6 +268,7 @@ arrays = record {
   defaults = no_defaults;
   objects = [];
   keys = [];
+  abbreviations = [];
   routines = record {
     locals = 0;
     body = next (prints (number_of (entry widths.Word 0 (number 2)) ∷ number_of (entry widths.Byte 1 (number 0))
@@ -294,6 +327,7 @@ objects = record {
         properties = (2, 7 ∷ 1000 ∷ []) ∷ (1, 7 ∷ []) ∷ [];
       } ∷ [];
   keys = [];
+  abbreviations = [];
   routines = record { locals = 0; body = stop } ∷ [];
   main = 0;
 }
@@ -323,6 +357,7 @@ words = record {
   defaults = no_defaults;
   objects = [];
   keys = 0x1E9D14A594A5 ∷ 0x64D028A594A5 ∷ [];
+  abbreviations = [];
   routines = record {
     locals = 0;
     body = next (prints (number_of (number 880) ∷ number_of (number 871) ∷ [])) stop;
@@ -361,6 +396,7 @@ weighing source one = record {
     body = trees.stop;
     weight = one;
   }) ∷ [];
+  abbreviations = [];
   end = record { offset = 20; line = 4 };
   weight = source;
   words = [];

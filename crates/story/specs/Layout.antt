@@ -12,7 +12,8 @@ use Rattle.zcore.specs.Text.{encoded}
 use Rattle.tables.specs.Dictionary as tables
 use Rattle.meaning.specs.declared.places.Places.{Places}
 use Rattle.meaning.specs.Places.{header_size, abbreviation_count, abbreviations_place, empty_text_place, global_count}
-use Rattle.meaning.specs.Places.{arrays_place, defaults_place, routines_place, places_of}
+use Rattle.meaning.specs.Places.{arrays_place, defaults_place, dictionary_end, filling_before, texts_place}
+use Rattle.meaning.specs.Places.{routines_place, places_of}
 use Rattle.meaning.specs.Resolved.{RoutineOf, ProgramOf}
 use Rattle.meaning.specs.World.{words_of}
 use Rattle.items.specs.Items.{routine_items}
@@ -35,9 +36,20 @@ word n = (n / 256) ∷ (n % 256) ∷ []
 
 -- Memory below the routines
 
--- the table holds addresses halved (3.3)
-abbrev pub abbreviation_bytes : List ℕ
-abbreviation_bytes = flat_map word (replicate abbreviation_count (empty_text_place / 2))
+-- where each of some texts stands, which follow one another from an address on
+abbrev pub text_places : ℕ → List (List ℕ) → List ℕ
+text_places at [] = []
+text_places at (a ∷ rest) = at ∷ text_places (at + length (encoded a)) rest
+
+-- the table holds addresses halved (3.3); what the source has not is the empty text
+abbrev pub abbreviation_bytes : ProgramOf → List ℕ
+abbreviation_bytes p = flat_map word (map (λ (at : ℕ). at / 2) (take abbreviation_count
+    (text_places (texts_place p) p.abbreviations ++ replicate abbreviation_count empty_text_place)))
+
+-- a zero byte where the dictionary ends at an odd address, and the texts of abbreviations
+abbrev pub abbreviation_texts : ProgramOf → List ℕ
+abbreviation_texts p =
+    replicate (filling_before p.abbreviations (dictionary_end p)) 0 ++ flat_map encoded p.abbreviations
 
 abbrev pub global_bytes : List ℕ → List ℕ
 global_bytes globals = flat_map word (take global_count (globals ++ replicate global_count 0))
@@ -61,8 +73,8 @@ object_bytes p = rows_bytes (rows_of p.objects) p.defaults (defaults_place p)
 -- the arrays stand one behind another
 abbrev pub low_bytes : ProgramOf → ℕ → List ℕ
 low_bytes p main =
-    abbreviation_bytes ++ encoded [] ++ global_bytes p.globals ++ concat p.arrays ++ object_bytes p
-    ++ dictionary_bytes p.keys ++ start_code main
+    abbreviation_bytes p ++ encoded [] ++ global_bytes p.globals ++ concat p.arrays ++ object_bytes p
+    ++ dictionary_bytes p.keys ++ abbreviation_texts p ++ start_code main
 
 -- Parts at packed addresses
 

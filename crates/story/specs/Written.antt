@@ -1,9 +1,10 @@
 -- What the values of the code stand for.
-use Rattle.std.specs.Prelude.{◌≡◌, ◌+◌, ◌/◌, ◌≤◌, ◌<◌, ℕ, List, [], ◌∷◌, length, map}
+use Rattle.std.specs.Prelude.{◌≡◌, ◌+◌, ◌-◌, ◌/◌, ◌≤◌, ◌<◌, ℕ, List, [], ◌∷◌, ◌++◌, length, map, replicate}
+use Rattle.std.specs.List.{flat_map}
 use Rattle.std.specs.Global.{Vec}
 use Rattle.zcore.specs.declared.header.Version.{Version}
 use Rattle.meaning.specs.declared.places.Places.{Places}
-use Rattle.meaning.specs.Places.{routines_place}
+use Rattle.meaning.specs.Places.{abbreviation_count, empty_text_place, routines_place}
 use Rattle.meaning.specs.Resolved.{RoutineOf, ProgramOf}
 use Rattle.meaning.specs.Accepted.{IsAccepted}
 use Rattle.meaning.specs.Printable.{HasPrintableTexts}
@@ -12,7 +13,7 @@ use Rattle.region.specs.Laws.{AreProper}
 use Rattle.code.specs.Addresses.{Addresses, Sizes}
 use Rattle.code.specs.Bytes.{code_size, code_bytes}
 use Rattle.code.specs.Written.{CodeOf}
-use Rattle.story.specs.Layout.{aligned, addresses_from, greatest_word, greatest_length, story_of}
+use Rattle.story.specs.Layout.{aligned, addresses_from, greatest_word, greatest_length, story_of, word}
 
 -- a program that a story of this version can hold
 pub record Fits (version : Version) (p : ProgramOf) : Type 0 where
@@ -63,3 +64,12 @@ packed_from scale at sizes = map (λ address. address / scale) (addresses_from s
 abbrev pub end_from : ℕ → ℕ → List ℕ → ℕ
 end_from scale at [] = aligned scale at
 end_from scale at (size ∷ sizes) = end_from scale (aligned scale at + size) sizes
+
+abbrev pub half : ℕ → ℕ
+half address = address / 2
+
+-- the table of abbreviations whose Z-texts have these sizes and stand one behind another from an address on
+abbrev pub table_bytes : ℕ → List ℕ → List ℕ
+table_bytes at sizes =
+    flat_map word (map half (addresses_from 1 at sizes))
+    ++ flat_map word (replicate (abbreviation_count - length sizes) (half empty_text_place))

@@ -1,20 +1,26 @@
 //! What stands between the header of a story and its routines.
 
-ghost use Rattle.std.specs.Prelude.{◌≡◌, ◌≤◌, ◌++◌, OnOk, length};
+ghost use Rattle.std.specs.Prelude.{◌≡◌, ◌≤◌, ◌+◌, ◌++◌, true, IfOk, OnOk, length, map, sum};
+ghost use Rattle.std.specs.List.{All, concat, flat_map, list_all};
+ghost use Rattle.zcore.specs.Alphabets.{is_printable};
+ghost use Rattle.zcore.specs.Text.{encoded};
 ghost use Rattle.tables.specs.Dictionary.{entry_bytes};
 ghost use Rattle.code.specs.HeldProgram.{start_code};
 ghost use Rattle.meaning.specs.Places as places;
-ghost use Rattle.meaning.specs.Places.{global_count};
+ghost use Rattle.meaning.specs.Places.{abbreviation_count, global_count};
 ghost use Rattle.meaning.specs.Resolved.{program_of};
-ghost use Rattle.story.specs.Written.{ObjectsFit};
+ghost use Rattle.story.specs.Written.{ObjectsFit, bytes_in, half, table_bytes, text_size};
 ghost use Rattle.story.specs.Layout.{dictionary_bytes, entries_bytes, global_bytes, greatest_word, key_bytes, low_bytes};
+ghost use Rattle.story.specs.Layout as layout;
 
+use crate::high::add_text;
 use crate::objects::put_objects;
+use crate::packed::{add_text_sizes, array_addresses};
 use crate::words::{put_word, put_words, put_zeros};
 use meaning::{Checked, part_places};
 use std::alloc::{AllocError, Global};
 
-/// The table has as many words.
+/// The words of the table of abbreviations.
 const ABBREVIATIONS: usize = 96;
 
 /// The address of the empty text, halved (Z-Machine Standards Document 1.1, section 3.3).
@@ -26,11 +32,58 @@ const NO_CHARACTERS: u16 = 0x94A5;
 /// Words of globals (section 6.2).
 const GLOBALS: usize = 240;
 
+/// The bytes of a dictionary without entries.
+const EMPTY_DICTIONARY: usize = 7;
+
+/// The bytes of an entry of the dictionary.
+const ENTRY: usize = 9;
+
 /// `call_1n` with a large constant (section 14).
 const CALL: u8 = 0x8F;
 
 /// `quit` (section 14).
 const QUIT: u8 = 0xBA;
+
+/// The Z-texts of abbreviations, which use none.
+fn z_texts(alloc: Global, abbreviations: &[Vec<u8>]) -> Result<Vec<Vec<u8>>, AllocError>
+    requires { All (λ a. list_all is_printable a ≡ true) (map bytes_in abbreviations.now) }
+    ensures { IfOk result (λ v. map bytes_in v.items ≡ map encoded (map bytes_in abbreviations.now)) }
+{
+    let mut texts = Vec::new(alloc);
+    for abbreviation in abbreviations {
+        add_text(alloc, &mut texts, abbreviation)?;
+    }
+    Ok(texts)
+}
+
+/// Addresses, halved.
+fn put_halves(bytes: &mut Vec<u8>, addresses: &[u16]) -> Result<(), AllocError>
+    ensures { OnOk result (bytes.new.items ≡ bytes.old.items ++ flat_map layout.word (map half addresses.now)) }
+{
+    for address in addresses {
+        put_word(bytes, *address / 2)?;
+    }
+    Ok(())
+}
+
+/// The table of abbreviations whose Z-texts stand one behind another from an address on.
+fn put_table(
+    alloc: Global,
+    bytes: &mut Vec<u8>,
+    texts: &[Vec<u8>],
+    place: usize,
+) -> Result<(), AllocError>
+    requires few { length texts.now ≤ abbreviation_count }
+    requires placed { place + sum (map text_size texts.now) ≤ greatest_word }
+    ensures { OnOk result (bytes.new.items ≡ bytes.old.items ++ table_bytes place (map text_size texts.now)) }
+{
+    let mut sizes = Vec::new(alloc);
+    add_text_sizes(&mut sizes, texts)?;
+    let addresses = array_addresses(alloc, place, &sizes)?;
+    put_halves(bytes, &addresses)?;
+    put_words(bytes, &[EMPTY_TEXT; ABBREVIATIONS][texts.len()..])?;
+    Ok(())
+}
 
 /// The words with which the globals begin, 0 where the source has none.
 fn put_globals(bytes: &mut Vec<u8>, globals: &[u16]) -> Result<(), AllocError>
@@ -72,6 +125,25 @@ fn put_dictionary(bytes: &mut Vec<u8>, keys: &[u64]) -> Result<(), AllocError>
     Ok(())
 }
 
+/// How many bytes stand between the dictionary and the texts of abbreviations, which begin at an even address.
+fn filling(checked: &Checked<'_>) -> usize
+    requires { places.routines_place (program_of checked.now) ≤ greatest_word }
+    ensures { result ≡ places.filling_before checked.now.abbreviations (places.dictionary_end (program_of checked.now)) }
+{
+    let at = part_places(checked);
+    at.texts - (at.dictionary + EMPTY_DICTIONARY + ENTRY * checked.keys().len())
+}
+
+/// Texts, one behind another.
+fn put_all(bytes: &mut Vec<u8>, texts: &[Vec<u8>]) -> Result<(), AllocError>
+    ensures { OnOk result (bytes.new.items ≡ bytes.old.items ++ concat (map bytes_in texts.now)) }
+{
+    for text in texts {
+        bytes.extend_from_slice(text)?;
+    }
+    Ok(())
+}
+
 /// The code that calls the routine at a packed address, and then ends the story.
 fn put_start(bytes: &mut Vec<u8>, main: u16) -> Result<(), AllocError>
     ensures { OnOk result (bytes.new.items ≡ bytes.old.items ++ start_code main) }
@@ -100,14 +172,19 @@ pub fn put_low(
     requires globals { length checked.now.globals ≤ global_count }
     requires objects { ObjectsFit (program_of checked.now) }
     requires keys { length checked.now.keys ≤ greatest_word }
+    requires few { length checked.now.abbreviations ≤ abbreviation_count }
+    requires printable { All (λ a. list_all is_printable a ≡ true) checked.now.abbreviations }
     ensures { OnOk result (bytes.new.items ≡ bytes.old.items ++ low_bytes (program_of checked.now) main) }
 {
-    put_words(bytes, &[EMPTY_TEXT; ABBREVIATIONS])?;
+    let texts = z_texts(alloc, checked.abbreviations().texts())?;
+    put_table(alloc, bytes, &texts, part_places(checked).texts)?;
     put_word(bytes, NO_CHARACTERS)?;
     put_globals(bytes, checked.globals())?;
     bytes.extend_from_slice(checked.array_bytes())?;
     put_objects(alloc, bytes, checked)?;
     put_dictionary(bytes, checked.keys())?;
+    put_zeros(bytes, filling(checked))?;
+    put_all(bytes, &texts)?;
     put_start(bytes, main)?;
     Ok(())
 }

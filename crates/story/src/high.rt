@@ -20,7 +20,7 @@ use zcore::{TextFault, Version, encode_text};
 const HEADER: usize = 64;
 
 /// The Z-text of characters.
-pub fn z_text(alloc: Global, characters: &[u8]) -> Result<Vec<u8>, AllocError>
+fn z_text(alloc: Global, characters: &[u8]) -> Result<Vec<u8>, AllocError>
     requires { list_all is_printable characters.now ≡ true }
     ensures { IfOk result (λ v. v.items ≡ encoded characters.now) }
 {
@@ -29,6 +29,20 @@ pub fn z_text(alloc: Global, characters: &[u8]) -> Result<Vec<u8>, AllocError>
         Err(TextFault::Memory) => Err(AllocError),
         Err(_) => unreachable!(),
     }
+}
+
+/// Adds the Z-text of characters.
+pub fn add_text(
+    alloc: Global,
+    texts: &mut Vec<Vec<u8>>,
+    characters: &[u8],
+) -> Result<(), AllocError>
+    requires { list_all is_printable characters.now ≡ true }
+    ensures { OnOk result (map bytes_in texts.new.items ≡ map bytes_in texts.old.items ++ encoded characters.now ∷ []) }
+{
+    let text = z_text(alloc, characters)?;
+    texts.push(text)?;
+    Ok(())
 }
 
 /// Zero bytes up to an address to which a packed address leads.

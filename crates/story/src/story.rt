@@ -75,9 +75,8 @@ pub fn compile(alloc: Global, source: &[u8]) -> Result<Story, SourceFault>
 ///
 /// The fault by which the source is refused, that of the earliest part that finds one, with its line: E01 to E04 where
 /// the bytes are no tokens, E10 where the tokens are no program, E05 where the program is nested more than 100 deep,
-/// E20 to E29 where it breaks a rule, and E30 to E32 where it is too large; E30 and E31 with line 0, and E31 by the
-/// version. E99, with line 0,
-/// where a growth of memory was refused.
+/// E20 to E29 and E33 where it breaks a rule, and E30 to E32 where it is too large; E30 and E31 with line 0, and E31 by
+/// the version. E99, with line 0, where a growth of memory was refused.
 pub fn compile_for(alloc: Global, source: &[u8], version: Version) -> Result<Story, SourceFault>
     ensures { Compiles version source.now result }
 {

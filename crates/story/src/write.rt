@@ -1,9 +1,6 @@
 //! The bytes of a story.
 
-ghost use Rattle.std.specs.Prelude.{◌≡◌, ◌≤◌, ◌<◌, ◌++◌, [], ◌∷◌, true, IfOk, OnOk, drop, length, map};
-ghost use Rattle.std.specs.List.{list_all};
-ghost use Rattle.zcore.specs.Alphabets.{is_printable};
-ghost use Rattle.zcore.specs.Text.{encoded};
+ghost use Rattle.std.specs.Prelude.{◌≡◌, ◌≤◌, ◌<◌, IfOk, drop, length, map};
 ghost use Rattle.zcore.specs.Header.{scale_of};
 ghost use Rattle.meaning.specs.Meaning.{routine_at};
 ghost use Rattle.meaning.specs.Resolved.{program_of};
@@ -14,22 +11,12 @@ ghost use Rattle.story.specs.Written.{Fits, bytes_in, code_of};
 
 use crate::below::{arrays_place, put_low};
 use crate::header::put_header;
-use crate::high::{put_routines, put_texts, z_text};
+use crate::high::{add_text, put_routines, put_texts};
 use crate::packed::{add_text_sizes, array_addresses, code_sizes, packed_addresses};
 use code::{Addresses, Code, CodeFault, routine_code};
 use meaning::{Checked, part_places};
 use std::alloc::{AllocError, Global};
 use zcore::Version;
-
-/// Adds the Z-text of characters.
-fn add_text(alloc: Global, texts: &mut Vec<Vec<u8>>, characters: &[u8]) -> Result<(), AllocError>
-    requires { list_all is_printable characters.now ≡ true }
-    ensures { OnOk result (map bytes_in texts.new.items ≡ map bytes_in texts.old.items ++ encoded characters.now ∷ []) }
-{
-    let text = z_text(alloc, characters)?;
-    texts.push(text)?;
-    Ok(())
-}
 
 /// The Z-texts of the lines that faults of the source print, in the order of `Cause`.
 fn fault_texts(alloc: Global) -> Result<Vec<Vec<u8>>, AllocError>

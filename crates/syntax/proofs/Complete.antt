@@ -1,5 +1,5 @@
 -- What has a tree is read as that tree, unless it is nested too deep.
-use Rattle.std.proofs.Common.{◌≡◌, ℕ, zero, suc, ◌-◌, ◌<◌, ◌≤◌, true, false, List, [], ◌∷◌, length, Some, None}
+use Rattle.std.proofs.Common.{◌≡◌, ℕ, zero, suc, ◌-◌, ◌<◌, ◌≤◌, max, true, false, List, [], ◌∷◌, length, Some, None}
 use Rattle.std.proofs.Common.{Result, Ok, Err, refl, ap, arith}
 use Rattle.lexer.specs.declared.token.Position.{Position}
 use Rattle.lexer.specs.declared.token.Sign.TheVariants as s
@@ -8,7 +8,7 @@ use Rattle.lexer.specs.Token.{Lexeme, name, reserved, sign, end}
 use Rattle.expressions.specs.declared.error.Fault.{Fault}
 use Rattle.expressions.specs.declared.error.Fault.TheVariants.{Deep}
 use Rattle.expressions.specs.Tree.{NameTree}
-use Rattle.expressions.specs.Parse.{head, expect}
+use Rattle.expressions.specs.Parse.{head, is_word, expect}
 use Rattle.expressions.proofs.Limited.{Limited, then, at_once}
 use Rattle.statements.specs.Tree.{LiteralTree, StatementTrees}
 use Rattle.statements.specs.Nesting.{begins_statement}
@@ -18,16 +18,17 @@ use Rattle.statements.proofs.Follow.{short_Ss}
 use Rattle.statements.proofs.KnownValues.{known_read, short_K, begins_K}
 use Rattle.syntax.specs.declared.tree.ArrayKind.{ArrayKind}
 use Rattle.syntax.specs.Tree.{ValueTree, ObjectTree, RoutineTree, DirectiveTree, global, constant, array, attribute}
-use Rattle.syntax.specs.Tree.{property, object, routine, ProgramTree}
+use Rattle.syntax.specs.Tree.{property, object, routine, EntryTree, entry, abbreviate, directives_of, ProgramTree}
 use Rattle.syntax.specs.Grammar.{weight_of, kind_of, IsDirective, d_global, d_global_value, d_constant, d_array}
-use Rattle.syntax.specs.Grammar.{d_attribute, d_property, d_property_value, d_object, d_routine, IsDirectives}
-use Rattle.syntax.specs.Grammar.{directives_stop, directives_next, IsProgram, program as program_is}
+use Rattle.syntax.specs.Grammar.{d_attribute, d_property, d_property_value, d_object, d_routine, IsEntry, e_directive}
+use Rattle.syntax.specs.Grammar.{e_abbreviate, IsEntries, entries_stop, entries_next, IsProgram, program as program_is}
 use Rattle.syntax.specs.Grammar.{directive_nesting, directives_nesting, program_nesting}
 use Rattle.syntax.specs.Parse.{names, values, kind, array_behind, ended, global_behind, constant_behind}
 use Rattle.syntax.specs.Parse.{attribute_behind, property_behind, object_behind, worded, goes_on, routine_at, directive}
-use Rattle.syntax.specs.Parse.{directives, program}
+use Rattle.syntax.specs.Parse.{parts_of, one_entry, all_entries, entries, program}
 use Rattle.syntax.proofs.Lists.{names_read, short_Names, short_Values, values_read}
 use Rattle.syntax.proofs.ObjectsRead.{short_Head, short_Properties, short_Attributes, object_read}
+use Rattle.syntax.proofs.TextsRead.{short_Texts, abbreviate_read}
 
 -- ---- directives
 
@@ -56,6 +57,44 @@ first_Directive (d_routine n a) = refl
 bracket_stops : (p : Position) → begins_statement (sign s.CloseBracket p) ≡ false
 unfolding begins_statement
 bracket_stops p = refl
+
+-- ---- entries
+
+short_Entry : {ts r : List Lexeme} {e : EntryTree} → IsEntry ts e r → length r < length ts
+short_Entry (e_directive a) = short_Directive a
+short_Entry (e_abbreviate a lt) = omega (arith, short_Texts a)
+
+first_Entry : {ts r : List Lexeme} {e : EntryTree} → IsEntry ts e r → goes_on (head ts) ≡ true
+first_Entry (e_directive a) = first_Directive a
+first_Entry (e_abbreviate a lt) = refl
+
+-- no directive begins with the word `abbreviate`
+no_abbreviate : {ts r : List Lexeme} {x : DirectiveTree} → IsDirective ts x r
+    → is_word w.Abbreviate (head ts) ≡ false
+no_abbreviate d_global = refl
+no_abbreviate (d_global_value k) = refl
+no_abbreviate (d_constant k) = refl
+no_abbreviate (d_array o a lt) = refl
+no_abbreviate d_attribute = refl
+no_abbreviate d_property = refl
+no_abbreviate (d_property_value k) = refl
+no_abbreviate (d_object h a b) = refl
+no_abbreviate (d_routine n a) = refl
+
+abbrev entry_nesting : EntryTree → ℕ
+entry_nesting (entry x) = directive_nesting x
+entry_nesting (abbreviate xs) = 0
+
+nesting_next : (e : EntryTree) (es : List EntryTree)
+    → max (entry_nesting e) (directives_nesting (directives_of es)) ≡ directives_nesting (directives_of (e ∷ es))
+nesting_next (entry x) es = refl
+nesting_next (abbreviate xs) es = omega arith
+
+up : {A : Type 0} {R : Result (A × List Lexeme) Fault} {d m n : ℕ} {a : A} {r : List Lexeme} → Limited R d m a r
+    → m ≡ n → Limited R d n a r
+up p e = record { within = λ h. p.within (omega arith); beyond = λ h. p.beyond (omega arith) }
+
+-- ---- what is read
 
 module _ (d : ℕ) where
   step_global : (p q o : Position) (n : List ℕ) (r : List Lexeme)
@@ -157,27 +196,33 @@ module _ (d : ℕ) where
       step_directive p (name n q ∷ m)
       (step_routine p q o l j n ns xs m k r (names_read m b refl) (at_Ss k a (bracket_stops l) d))
 
-  turns_Directives : {ts : List Lexeme} {xs : List DirectiveTree} {p : Position} → IsDirectives ts xs (end p ∷ [])
-      → (n : ℕ) → length ts ≤ n → Limited (repeated goes_on (directive d) n ts) d (directives_nesting xs) xs
-      (end p ∷ [])
-  turns_Directives {p = p} directives_stop n le = repeated_stop goes_on (directive d) d n (end p ∷ []) refl
-  turns_Directives (directives_next a b) zero le = absurd (omega (arith, short_Directive a))
-  turns_Directives {ts} (directives_next a b) (suc n) le = repeated_next goes_on (directive d) d n ts
-      (first_Directive a) (at_Directive a) (turns_Directives b n (omega (arith, short_Directive a)))
+  at_Entry : {ts r : List Lexeme} {e : EntryTree} → IsEntry ts e r → Limited (one_entry d ts) d (entry_nesting e) e r
+  unfolding one_entry
+  at_Entry (e_directive a) = rw (no_abbreviate a) (then _ (at_Directive a) refl)
+  at_Entry (e_abbreviate a lt) = at_once (rw (abbreviate_read a lt) refl)
 
-  at_Directives : {xs : List DirectiveTree} {p : Position} (ts : List Lexeme) → IsDirectives ts xs (end p ∷ [])
-      → Limited (directives d ts) d (directives_nesting xs) xs (end p ∷ [])
-  unfolding directives
-  at_Directives ts a = turns_Directives a (length ts) (omega arith)
+  turns_Entries : {ts : List Lexeme} {es : List EntryTree} {p : Position} → IsEntries ts es (end p ∷ [])
+      → (n : ℕ) → length ts ≤ n → Limited (repeated goes_on (one_entry d) n ts) d
+      (directives_nesting (directives_of es)) es (end p ∷ [])
+  turns_Entries {p = p} entries_stop n le = repeated_stop goes_on (one_entry d) d n (end p ∷ []) refl
+  turns_Entries (entries_next a b) zero le = absurd (omega (arith, short_Entry a))
+  turns_Entries {ts} (entries_next {e = e} {es = es} a b) (suc n) le = up
+      (repeated_next goes_on (one_entry d) d n ts (first_Entry a) (at_Entry a)
+      (turns_Entries b n (omega (arith, short_Entry a)))) (nesting_next e es)
+
+  at_Entries : {es : List EntryTree} {p : Position} (ts : List Lexeme) → IsEntries ts es (end p ∷ [])
+      → Limited (entries d ts) d (directives_nesting (directives_of es)) (parts_of es) (end p ∷ [])
+  unfolding entries all_entries
+  at_Entries ts a = then _ (turns_Entries a (length ts) (omega arith)) refl
 
 -- ---- programs
 
 pub within : (d : ℕ) {ts : List Lexeme} {p : ProgramTree} → IsProgram ts p → program_nesting p ≤ d
     → program d ts ≡ Ok p
 unfolding program
-within d {ts} (program_is a) le = rw ((at_Directives d ts a).within le) refl
+within d {ts} (program_is a) le = rw ((at_Entries d ts a).within le) refl
 
 pub beyond : (d : ℕ) {ts : List Lexeme} {p : ProgramTree} → IsProgram ts p → d < program_nesting p
     → program d ts ≡ Err Deep
 unfolding program
-beyond d {ts} (program_is a) lt = rw ((at_Directives d ts a).beyond lt) refl
+beyond d {ts} (program_is a) lt = rw ((at_Entries d ts a).beyond lt) refl

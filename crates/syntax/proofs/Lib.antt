@@ -4,6 +4,8 @@ pub mod Weights
 pub mod Spelled
 pub mod Lists
 pub mod ObjectsRead
+pub mod TextsRead
+pub mod EntriesRead
 pub mod Sound
 pub mod Ends
 pub mod Complete

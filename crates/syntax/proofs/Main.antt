@@ -13,12 +13,11 @@ use Rattle.expressions.specs.declared.error.ParseError.TheVariants as errors
 use Rattle.expressions.specs.Errors.{source_fault}
 use Rattle.expressions.specs.Parse.{◌>>=◌, Fails}
 use Rattle.syntax.specs.declared.tree.Program.{Program}
-use Rattle.syntax.specs.Tree.{DirectiveTree, ProgramTree, program_tree}
-use Rattle.syntax.specs.Grammar.{weight_of, dictionary_words, IsDirectives, IsProgram, program as program_is}
-use Rattle.syntax.specs.Grammar.{directives_nesting, program_nesting}
+use Rattle.syntax.specs.Tree.{ProgramTree, program_tree}
+use Rattle.syntax.specs.Grammar.{weight_of, dictionary_words, IsProgram, program as program_is, program_nesting}
 use Rattle.syntax.specs.Nesting.{DeepProgram}
-use Rattle.syntax.specs.Parse.{end_alone, whole, directives, program}
-use Rattle.syntax.proofs.Sound.{directives_judged}
+use Rattle.syntax.specs.Parse.{end_alone, Parts, parts_of, whole, entries, program}
+use Rattle.syntax.proofs.Sound.{Entered, entries_judged}
 use Rattle.syntax.proofs.Complete.{within, beyond}
 
 abbrev done : ProgramTree → Result ProgramTree Fault
@@ -27,40 +26,48 @@ done x = Ok x
 done_is : (x y : ProgramTree) → done x ≡ done y → x ≡ y
 done_is x y e = cc
 
+abbrev program_of : List Lexeme → Parts → Position → ProgramTree
+program_of ts x q = record {
+  directives = x.0;
+  abbreviations = x.1;
+  end = q;
+  weight = weight_of ts;
+  words = dictionary_words ts;
+}
+
 -- ---- what is read
 
-finished : (d : ℕ) (ts : List Lexeme) (xs : List DirectiveTree) (r : List Lexeme) (p : ProgramTree)
-    → IsDirectives ts xs r → directives_nesting xs ≤ d → whole ts xs (end_alone r) ≡ Ok p
-    → IsProgram ts p × (program_nesting p ≤ d)
-finished d ts xs (end q ∷ []) p a le e =
-    subst (λ x. IsProgram ts x × (program_nesting x ≤ d))
-    (done_is (record { directives = xs; end = q; weight = weight_of ts; words = dictionary_words ts }) p e)
-    (program_is a, le)
-finished d ts xs _ p a le e = absurd cc
+finished : (d : ℕ) (ts : List Lexeme) (x : Parts) (r : List Lexeme) (p : ProgramTree) → Entered d ts x r
+    → whole ts x (end_alone r) ≡ Ok p → IsProgram ts p × (program_nesting p ≤ d)
+finished d ts x (end q ∷ []) p a e =
+    subst (λ y. IsProgram ts y × (program_nesting y ≤ d))
+    (done_is (program_of ts (parts_of a.all) q) p (ap (λ y. done (program_of ts y q)) (sym a.is) ∙ e))
+    (program_is a.derives, a.nests)
+finished d ts x _ p a e = absurd cc
 
-not_deep : (ts : List Lexeme) (xs : List DirectiveTree) (o : Option Position) → whole ts xs o ≡ Err Deep → ⊥
-not_deep ts xs (Some q) e = absurd cc
-not_deep ts xs None e = absurd cc
+not_deep : (ts : List Lexeme) (x : Parts) (o : Option Position) → whole ts x o ≡ Err Deep → ⊥
+not_deep ts x (Some q) e = absurd cc
+not_deep ts x None e = absurd cc
 
 pub found : (d : ℕ) (ts : List Lexeme) (p : ProgramTree) → program d ts ≡ Ok p
     → IsProgram ts p × (program_nesting p ≤ d)
 unfolding program
-found d ts p e = go (directives d ts) refl e
+found d ts p e = go (entries d ts) refl e
   where
-    go : (R : Result (List DirectiveTree × List Lexeme) Fault) → directives d ts ≡ R
+    go : (R : Result (Parts × List Lexeme) Fault) → entries d ts ≡ R
         → (R >>= λ x. whole ts x.0 (end_alone x.1)) ≡ Ok p → IsProgram ts p × (program_nesting p ≤ d)
-    go (Ok x) q h = let a = (directives_judged d ts).read x q in finished d ts x.0 x.1 p a.0 a.1 h
+    go (Ok x) q h = finished d ts x.0 x.1 p ((entries_judged d ts).read x q) h
     go (Err f) q h = absurd cc
 
 pub too_deep : (d : ℕ) (ts : List Lexeme) → program d ts ≡ Err Deep → DeepProgram (suc d) ts
 unfolding program
-too_deep d ts e = go (directives d ts) refl e
+too_deep d ts e = go (entries d ts) refl e
   where
-    go : (R : Result (List DirectiveTree × List Lexeme) Fault) → directives d ts ≡ R
+    go : (R : Result (Parts × List Lexeme) Fault) → entries d ts ≡ R
         → (R >>= λ x. whole ts x.0 (end_alone x.1)) ≡ Err Deep → DeepProgram (suc d) ts
     go (Ok x) q h = absurd (not_deep ts x.0 (end_alone x.1) h)
     go (Err Grammar) q h = absurd cc
-    go (Err Deep) q h = (directives_judged d ts).deep q
+    go (Err Deep) q h = (entries_judged d ts).deep q
 
 no_program : (d : ℕ) (ts : List Lexeme) → program d ts ≡ Err Grammar → (p : ProgramTree) → IsProgram ts p → ⊥
 no_program d ts e p a =

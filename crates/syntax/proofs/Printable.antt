@@ -1,7 +1,7 @@
 -- Where the texts of tokens print, so do those of the trees that the tokens derive.
 use Rattle.std.proofs.Common.{ℕ, List, [], ◌∷◌, ◌++◌, Option, subst}
 use Rattle.std.specs.List.{All}
-use Rattle.std.proofs.lemmas.List.Elements.{All-nil, All-cons, All-head, All-tail}
+use Rattle.std.proofs.lemmas.List.Elements.{All-nil, All-cons, All-append, All-head, All-tail}
 use Rattle.lexer.specs.declared.token.Position.{Position}
 use Rattle.lexer.specs.Token.{Lexeme, text}
 use Rattle.lexer.specs.Printable.{IsPrintable, HasPrintableText}
@@ -15,16 +15,19 @@ use Rattle.statements.specs.Grammar.{s_text, s_print, s_print_ret, s_new_line, s
 use Rattle.statements.specs.Grammar.{s_switch, s_break, s_continue, s_return, s_return_value, s_rtrue, s_rfalse, s_quit}
 use Rattle.statements.specs.Grammar.{s_read, s_give, s_move, s_remove, s_objectloop, s_effect, IsSs, ss_stop, ss_next}
 use Rattle.statements.specs.Grammar.{IsCases, cases_none, cases_default, cases_next}
-use Rattle.syntax.specs.Tree.{ValueTree, TextTree, PropertyTree, HeadTree, DirectiveTree, ProgramTree}
+use Rattle.syntax.specs.Tree.{ValueTree, TextTree, PropertyTree, HeadTree, DirectiveTree, EntryTree, directives_of}
+use Rattle.syntax.specs.Tree.{abbreviations_of, ProgramTree}
 use Rattle.syntax.specs.Grammar.{IsNames, IsValue, v_value, IsValues, values_stop, values_next}
 use Rattle.syntax.specs.Grammar.{IsArrows, arrows_stop, arrows_next, IsShort, short_none, short_text, IsHead}
 use Rattle.syntax.specs.Grammar.{head_arrows, head_parent, IsProp, prop_values, IsProps, props_last, props_comma}
 use Rattle.syntax.specs.Grammar.{IsComma, comma_none, comma_one, IsProperties, properties_none, properties_with}
 use Rattle.syntax.specs.Grammar.{IsAttributes, attributes_none, attributes_has, IsDirective, d_global, d_global_value}
 use Rattle.syntax.specs.Grammar.{d_constant, d_array, d_attribute, d_property, d_property_value, d_object, d_routine}
-use Rattle.syntax.specs.Grammar.{IsDirectives, directives_stop, directives_next, IsProgram, program}
+use Rattle.syntax.specs.Grammar.{IsTexts, texts_stop, texts_next, IsEntry, e_directive, e_abbreviate, IsEntries}
+use Rattle.syntax.specs.Grammar.{entries_stop, entries_next, IsProgram, program}
 use Rattle.syntax.specs.Printable.{IsPrintableItem, IsPrintableStatement, ArePrintableStatements}
-use Rattle.syntax.specs.Printable.{ArePrintableCases, IsPrintableName, IsPrintableDirective, HasPrintableTexts}
+use Rattle.syntax.specs.Printable.{ArePrintableCases, IsPrintableText, IsPrintableName, IsPrintableDirective}
+use Rattle.syntax.specs.Printable.{HasPrintableTexts}
 use Rattle.syntax.specs.Laws.{PrintableTrees}
 use Rattle.syntax.proofs.Spelled.{Spelled, SpelledAbout, spelled_E, spelled_Item, spelled_Labels, spelled_S}
 use Rattle.syntax.proofs.Spelled.{spelled_Ss, spelled_Names, spelled_Loop}
@@ -201,14 +204,39 @@ after_directive (d_object x a b) h = after (after_attributes b (after_properties
 after_directive (d_routine a b) h = after
     (after (rest_about (spelled_Ss b) (after (after_names a (after (after h))))))
 
-directives_print : {ts r : List Lexeme} {ds : List DirectiveTree} → IsDirectives ts ds r → Prints ts
-    → All IsPrintableDirective ds
-directives_print directives_stop h = All-nil IsPrintableDirective
-directives_print (directives_next {d = d} {ds = ds} a b) h = All-cons IsPrintableDirective d ds
-    (directive_prints a h) (directives_print b (after_directive a h))
+-- ---- abbreviations
+
+texts_print : {ts r : List Lexeme} {xs : List TextTree} → IsTexts ts xs r → Prints ts → All IsPrintableText xs
+texts_print texts_stop h = All-nil IsPrintableText
+texts_print (texts_next {p = p} {bytes = bytes} {xs = xs} a) h = All-cons IsPrintableText
+    (record { bytes = bytes; position = p }) xs (printed h) (texts_print a (after h))
+
+after_texts : {ts r : List Lexeme} {xs : List TextTree} → IsTexts ts xs r → Prints ts → Prints r
+after_texts texts_stop h = h
+after_texts (texts_next a) h = after_texts a (after h)
+
+-- ---- programs
+
+after_entry : {ts r : List Lexeme} {e : EntryTree} → IsEntry ts e r → Prints ts → Prints r
+after_entry (e_directive a) h = after_directive a h
+after_entry (e_abbreviate a lt) h = after (after_texts a (after h))
+
+directives_print : {ts r : List Lexeme} {es : List EntryTree} → IsEntries ts es r → Prints ts
+    → All IsPrintableDirective (directives_of es)
+directives_print entries_stop h = All-nil IsPrintableDirective
+directives_print (entries_next {es = es} (e_directive {d = d} a) b) h = All-cons IsPrintableDirective d
+    (directives_of es) (directive_prints a h) (directives_print b (after_directive a h))
+directives_print (entries_next (e_abbreviate a lt) b) h = directives_print b (after_entry (e_abbreviate a lt) h)
+
+abbreviations_print : {ts r : List Lexeme} {es : List EntryTree} → IsEntries ts es r → Prints ts
+    → All IsPrintableText (abbreviations_of es)
+abbreviations_print entries_stop h = All-nil IsPrintableText
+abbreviations_print (entries_next (e_directive a) b) h = abbreviations_print b (after_directive a h)
+abbreviations_print (entries_next {es = es} (e_abbreviate {xs = xs} a lt) b) h = All-append IsPrintableText xs
+    (abbreviations_of es) (texts_print a (after h)) (abbreviations_print b (after_entry (e_abbreviate a lt) h))
 
 program_prints : {ts : List Lexeme} {p : ProgramTree} → IsProgram ts p → Prints ts → HasPrintableTexts p
-program_prints (program a) h = directives_print a h
+program_prints (program a) h = (directives_print a h, abbreviations_print a h)
 
 pub printable_trees : PrintableTrees
 printable_trees ts p a h = program_prints a (record { all = h })

@@ -1,22 +1,27 @@
 -- The definitions at worked examples.
-use Rattle.std.proofs.Common.{◌≡◌, ℕ, false, List, [], ◌∷◌, Option, Some, None, refl, arith}
+use Rattle.std.proofs.Common.{◌≡◌, ℕ, ◌<◌, false, List, [], ◌∷◌, length, Option, Some, None, Err, refl, arith}
 use Rattle.std.specs.Prelude.{codes}
 use Rattle.std.proofs.lemmas.List.Elements.{All-head}
 use Rattle.lexer.specs.declared.token.Position.{Position}
 use Rattle.lexer.specs.declared.token.Sign.TheVariants as s
 use Rattle.lexer.specs.declared.token.Word.TheVariants as w
-use Rattle.lexer.specs.Token.{name, number, text, dictionary_word, reserved, sign}
+use Rattle.lexer.specs.Token.{Lexeme, name, number, text, dictionary_word, reserved, sign, end}
 use Rattle.lexer.specs.Printable.{IsPrintable}
+use Rattle.expressions.specs.declared.error.Fault.TheVariants.{Grammar}
 use Rattle.expressions.specs.Tree.{NameTree, named}
 use Rattle.statements.specs.Tree.{LiteralTree, number_value, word_value, named_value, text_item, number_item, block}
 use Rattle.statements.specs.Tree.{text_alone, print, read_line, give, stop, next}
 use Rattle.syntax.specs.declared.tree.ArrayKind.TheVariants as kind
 use Rattle.statements.specs.Grammar.{k_number, k_negative, k_word, k_name}
-use Rattle.syntax.specs.Tree.{ValueTree, TextTree, HeadTree, DirectiveTree, global, array, object, routine}
+use Rattle.syntax.specs.Tree.{ValueTree, TextTree, HeadTree, DirectiveTree, global, array, attribute, object, routine}
+use Rattle.syntax.specs.Tree.{EntryTree}
 use Rattle.syntax.specs.Grammar.{dictionary_words, names_stop, names_next, v_value, values_stop, values_next}
 use Rattle.syntax.specs.Grammar.{arrows_stop, arrows_next, IsShort, short_text, IsHead, head_arrows, prop_values}
-use Rattle.syntax.specs.Grammar.{props_last, props_comma, comma_none, comma_one, properties_with, attributes_has, IsDirective}
-use Rattle.syntax.specs.Grammar.{d_global_value, d_array, d_object}
+use Rattle.syntax.specs.Grammar.{props_last, props_comma, comma_none, comma_one, properties_with, attributes_has}
+use Rattle.syntax.specs.Grammar.{IsDirective, d_global_value, d_array, d_attribute, d_object, IsTexts, texts_stop}
+use Rattle.syntax.specs.Grammar.{texts_next}
+use Rattle.syntax.specs.Grammar.{IsEntry, e_directive, e_abbreviate, entries_stop, entries_next, IsProgram, program}
+use Rattle.syntax.specs.Parse.{one_text, texts, abbreviate_behind, one_entry}
 use Rattle.syntax.specs.Printable.{IsPrintableStatement}
 use Rattle.syntax.specs.Laws.{IsWeighed}
 
@@ -120,3 +125,37 @@ words_taken : dictionary_words
     (dictionary_word (codes "b") p ∷ number 2 p ∷ dictionary_word (codes "a") p ∷ dictionary_word (codes "b") p ∷ [])
     ≡ codes "b" ∷ codes "a" ∷ codes "b" ∷ []
 words_taken = refl
+
+-- Abbreviate "in" "the "; Attribute light; Abbreviate "ing "; is one directive and three abbreviations, in order
+abbrev quoted : List ℕ → TextTree
+quoted letters = record { bytes = letters; position = p }
+
+three_abbreviations : IsProgram
+    (reserved w.Abbreviate p ∷ text (codes "in") p ∷ text (codes "the ") p ∷ sign s.Semicolon p
+    ∷ reserved w.Attribute p ∷ name (codes "light") p ∷ sign s.Semicolon p ∷ reserved w.Abbreviate p
+    ∷ text (codes "ing ") p ∷ sign s.Semicolon p ∷ end p ∷ [])
+    (record {
+      directives = attribute (the (codes "light")) ∷ [];
+      abbreviations = quoted (codes "in") ∷ quoted (codes "the ") ∷ quoted (codes "ing ") ∷ [];
+      end = p;
+      weight = 350;
+      words = [];
+    })
+three_abbreviations = program
+    (entries_next (e_abbreviate (texts_next (texts_next texts_stop)) (omega arith))
+    (entries_next (e_directive d_attribute)
+    (entries_next (e_abbreviate (texts_next texts_stop) (omega arith)) entries_stop)))
+
+-- Abbreviate; is none, and the fault is at its semicolon
+no_texts : one_entry 100 (reserved w.Abbreviate p ∷ sign s.Semicolon p ∷ end p ∷ []) ≡ Err Grammar
+unfolding one_entry abbreviate_behind texts one_text
+no_texts = refl
+
+no_entry : (e : EntryTree) (r : List Lexeme) → IsEntry (reserved w.Abbreviate p ∷ sign s.Semicolon p ∷ end p ∷ []) e r
+    → ⊥
+no_entry e r (e_abbreviate a lt) = no_text a lt
+  where
+    no_text : {xs : List TextTree} {o : Position} {m : List Lexeme}
+        → IsTexts (sign s.Semicolon p ∷ end p ∷ []) xs (sign s.Semicolon o ∷ m) → 0 < length xs → ⊥
+    no_text texts_stop lt = omega (arith, lt)
+no_entry e r (e_directive a) = elim a [ ]

@@ -7,9 +7,9 @@ use Rattle.lexer.specs.declared.token.Sign.TheVariants as s
 use Rattle.lexer.specs.declared.token.Word.{Word}
 use Rattle.lexer.specs.declared.token.Word.TheVariants as w
 use Rattle.lexer.specs.Token.{Lexeme, name, reserved, sign, position_of}
-use Rattle.expressions.specs.Parse.{head, tail, is_sign, expect}
+use Rattle.expressions.specs.Parse.{head, tail, is_sign, is_word, expect}
 use Rattle.expressions.proofs.Judged.{Judged, judged_read, judged_grammar, judged_then, judged_after, judged_by}
-use Rattle.expressions.proofs.Tokens.{at_sign, expect_ok, expect_not_deep}
+use Rattle.expressions.proofs.Tokens.{at_sign, at_word, expect_ok, expect_not_deep}
 use Rattle.statements.specs.Tree.{trees_of}
 use Rattle.statements.specs.Grammar.{IsK, IsSs, body_nesting}
 use Rattle.statements.specs.Parse.{begins_value}
@@ -18,15 +18,18 @@ use Rattle.statements.proofs.NamesRead.{named_judged}
 use Rattle.statements.proofs.Sound.{repeated_judged, judged_Ss}
 use Rattle.syntax.specs.declared.tree.ArrayKind.{ArrayKind}
 use Rattle.syntax.specs.Tree.{DirectiveTree, global, constant, array, attribute, property, object, routine}
+use Rattle.syntax.specs.Tree.{EntryTree, entry, abbreviate, directives_of}
 use Rattle.syntax.specs.Grammar.{weight_of, IsNames, IsValues, kind_of, IsDirective, d_global, d_global_value}
 use Rattle.syntax.specs.Grammar.{d_constant, d_array, d_attribute, d_property, d_property_value, d_routine}
-use Rattle.syntax.specs.Grammar.{IsDirectives, directives_stop, directives_next}
+use Rattle.syntax.specs.Grammar.{IsEntry, e_directive, IsEntries, entries_stop, entries_next}
 use Rattle.syntax.specs.Grammar.{directive_nesting, directives_nesting}
 use Rattle.syntax.specs.Nesting.{DeepDirective, deep_d_routine, DeepProgram, deep_program_first, deep_program_next}
 use Rattle.syntax.specs.Parse.{kind_on, kind, array_behind, ended, global_behind, constant_behind, attribute_behind}
-use Rattle.syntax.specs.Parse.{property_behind, worded, goes_on, routine_at, directive, directives}
+use Rattle.syntax.specs.Parse.{property_behind, worded, goes_on, Parts, parts_of, routine_at, directive, one_entry}
+use Rattle.syntax.specs.Parse.{all_entries, entries}
 use Rattle.syntax.proofs.Lists.{names_judged, values_judged}
 use Rattle.syntax.proofs.ObjectsRead.{object_judged}
+use Rattle.syntax.proofs.TextsRead.{abbreviate_judged}
 
 -- ---- arrays
 
@@ -50,6 +53,20 @@ ended_judged x ts make =
     judged_after (expect s.Semicolon ts) _
     (λ r e. judged_read x r (make (position_of (head ts)) r (expect_ok s.Semicolon ts r e)))
     (λ e. absurd (expect_not_deep s.Semicolon ts e))
+
+-- ---- entries
+
+nests_no_deeper : (d : ℕ) (e : EntryTree) (es : List EntryTree) → directives_nesting (directives_of (e ∷ [])) ≤ d
+    → directives_nesting (directives_of es) ≤ d → directives_nesting (directives_of (e ∷ es)) ≤ d
+nests_no_deeper d (entry x) es a b = omega (arith, a, b)
+nests_no_deeper d (abbreviate xs) es a b = b
+
+-- the parts of entries that derive, nested no deeper than d
+pub record Entered (d : ℕ) (ts : List Lexeme) (x : Parts) (r : List Lexeme) : Type 0 where
+  pub all : List EntryTree
+  pub is : x ≡ parts_of all
+  pub derives : IsEntries ts all r
+  pub nests : directives_nesting (directives_of all) ≤ d
 
 module _ (d : ℕ) where
   global_judged : (p : Position) (ts : List Lexeme)
@@ -211,15 +228,37 @@ module _ (d : ℕ) where
       (λ x r h. judged_read (routine x) r h) (λ x. x)
   directive_judged _ = judged_grammar
 
-  pub directives_judged : (ts : List Lexeme) → Judged (λ xs r. IsDirectives ts xs r × (directives_nesting xs ≤ d))
-      (DeepProgram (suc d) ts) (directives d ts)
-  unfolding directives
-  directives_judged ts =
-      repeated_judged goes_on (directive d) (λ us x r. IsDirective us x r × (directive_nesting x ≤ d))
-      (λ us xs r. IsDirectives us xs r × (directives_nesting xs ≤ d)) (DeepDirective (suc d))
+  entry_judged : (ts : List Lexeme)
+      → Judged (λ e r. IsEntry ts e r × (directives_nesting (directives_of (e ∷ [])) ≤ d)) (DeepDirective (suc d) ts)
+      (one_entry d ts)
+  unfolding one_entry
+  entry_judged ts = judged_by (is_word w.Abbreviate (head ts)) _ _
+      (λ is. judged_then _ (abbreviate_judged (position_of (head ts)) (tail ts))
+      (λ xs r h. judged_read (abbreviate xs) r (
+        subst (λ v. IsEntry v (abbreviate xs) r) (sym (at_word w.Abbreviate ts is)) h,
+        omega arith,
+      ))
+      (λ z. absurd z))
+      (λ is. judged_then _ (directive_judged ts)
+      (λ x r h. judged_read (entry x) r (e_directive h.0, omega (arith, h.1))) (λ z. z))
+
+  all_entries_judged : (ts : List Lexeme)
+      → Judged (λ es r. IsEntries ts es r × (directives_nesting (directives_of es) ≤ d)) (DeepProgram (suc d) ts)
+      (all_entries d ts)
+  unfolding all_entries
+  all_entries_judged ts =
+      repeated_judged goes_on (one_entry d)
+      (λ us e r. IsEntry us e r × (directives_nesting (directives_of (e ∷ [])) ≤ d))
+      (λ us es r. IsEntries us es r × (directives_nesting (directives_of es) ≤ d)) (DeepDirective (suc d))
       (DeepProgram (suc d))
-      (λ r. (directives_stop, omega arith))
-      (λ us x m xs r q l. (directives_next q.0 l.0, omega (arith, q.1, l.1)))
+      (λ r. (entries_stop, omega arith))
+      (λ us e m es r q l. (entries_next q.0 l.0, nests_no_deeper d e es q.1 l.1))
       (λ us e x. deep_program_first x)
-      (λ us x m q z. deep_program_next q.0 z)
-      directive_judged (length ts) ts
+      (λ us e m q z. deep_program_next q.0 z)
+      entry_judged (length ts) ts
+
+  pub entries_judged : (ts : List Lexeme) → Judged (λ x r. Entered d ts x r) (DeepProgram (suc d) ts) (entries d ts)
+  unfolding entries
+  entries_judged ts = judged_then _ (all_entries_judged ts)
+      (λ es r h. judged_read (parts_of es) r (record { all = es; is = refl; derives = h.0; nests = h.1 }))
+      (λ z. z)

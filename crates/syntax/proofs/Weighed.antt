@@ -3,10 +3,10 @@ use Rattle.std.proofs.Common.{List, arith}
 use Rattle.std.specs.List.{All}
 use Rattle.std.proofs.lemmas.List.Elements.{All-nil, All-cons}
 use Rattle.lexer.specs.Token.{Lexeme}
-use Rattle.syntax.specs.Tree.{DirectiveTree, ProgramTree}
+use Rattle.syntax.specs.Tree.{DirectiveTree, EntryTree, directives_of, ProgramTree}
 use Rattle.syntax.specs.Grammar.{IsDirective, d_global, d_global_value, d_constant, d_array, d_attribute, d_property}
-use Rattle.syntax.specs.Grammar.{d_property_value, d_object, d_routine, IsDirectives, directives_stop}
-use Rattle.syntax.specs.Grammar.{directives_next, IsProgram, program}
+use Rattle.syntax.specs.Grammar.{d_property_value, d_object, d_routine, e_directive, e_abbreviate, IsEntries}
+use Rattle.syntax.specs.Grammar.{entries_stop, entries_next, IsProgram, program}
 use Rattle.syntax.specs.Laws.{IsWeighed, WeighedRoutines}
 use Rattle.syntax.proofs.Spelled.{spelled_Names, weighs, spelled_Ss, weighs_about}
 
@@ -22,13 +22,14 @@ directive_weighed (d_object h a b) = tt
 directive_weighed (d_routine a b) = let body = spelled_Ss b in
     (body.signs, body.few, omega (arith, weighs (spelled_Names a), weighs_about body))
 
-directives_weighed : {ts r : List Lexeme} {ds : List DirectiveTree} → IsDirectives ts ds r → All IsWeighed ds
-directives_weighed directives_stop = All-nil IsWeighed
-directives_weighed (directives_next {d = d} {ds = ds} a b) = All-cons IsWeighed d ds (directive_weighed a)
-    (directives_weighed b)
+entries_weighed : {ts r : List Lexeme} {es : List EntryTree} → IsEntries ts es r → All IsWeighed (directives_of es)
+entries_weighed entries_stop = All-nil IsWeighed
+entries_weighed (entries_next {es = es} (e_directive {d = d} a) b) = All-cons IsWeighed d (directives_of es)
+    (directive_weighed a) (entries_weighed b)
+entries_weighed (entries_next (e_abbreviate a lt) b) = entries_weighed b
 
 program_weighed : {ts : List Lexeme} {p : ProgramTree} → IsProgram ts p → All IsWeighed p.directives
-program_weighed (program a) = directives_weighed a
+program_weighed (program a) = entries_weighed a
 
 pub weighed_routines : WeighedRoutines
 weighed_routines ts p a = program_weighed a

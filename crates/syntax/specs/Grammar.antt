@@ -11,7 +11,8 @@ use Rattle.statements.specs.Grammar.{IsK, IsSs, body_nesting}
 use Rattle.syntax.specs.declared.tree.ArrayKind.{ArrayKind}
 use Rattle.syntax.specs.declared.tree.ArrayKind.TheVariants as kind
 use Rattle.syntax.specs.Tree.{ValueTree, TextTree, PropertyTree, HeadTree, DirectiveTree, global, constant, array}
-use Rattle.syntax.specs.Tree.{attribute, property, object, routine, ProgramTree}
+use Rattle.syntax.specs.Tree.{attribute, property, object, routine, EntryTree, entry, abbreviate, directives_of}
+use Rattle.syntax.specs.Tree.{abbreviations_of, ProgramTree}
 
 -- The weight of tokens: 32 for each but the end, and 3 for each byte between the quotes of a text
 
@@ -164,17 +165,31 @@ pub data IsDirective : List Lexeme → DirectiveTree → List Lexeme → Type 0 
         weight = weight_of (sign s.OpenBracket p ∷ name n q ∷ m) - weight_of r;
       })) r
 
--- {Directive}
-pub data IsDirectives : List Lexeme → List DirectiveTree → List Lexeme → Type 0 where
-  directives_stop : {r : List Lexeme} → IsDirectives r [] r
-  directives_next : {ts m r : List Lexeme} {d : DirectiveTree} {ds : List DirectiveTree} → IsDirective ts d m
-      → IsDirectives m ds r → IsDirectives ts (d ∷ ds) r
+-- {text}
+pub data IsTexts : List Lexeme → List TextTree → List Lexeme → Type 0 where
+  texts_stop : {r : List Lexeme} → IsTexts r [] r
+  texts_next : {m r : List Lexeme} {p : Position} {bytes : List ℕ} {xs : List TextTree} → IsTexts m xs r
+      → IsTexts (text bytes p ∷ m) (record { bytes = bytes; position = p } ∷ xs) r
 
--- Program = {Directive}, up to the end
+-- Entry = Directive | "abbreviate" text+ ";"
+pub data IsEntry : List Lexeme → EntryTree → List Lexeme → Type 0 where
+  e_directive : {ts r : List Lexeme} {d : DirectiveTree} → IsDirective ts d r → IsEntry ts (entry d) r
+  e_abbreviate : {m r : List Lexeme} {p o : Position} {xs : List TextTree}
+      → IsTexts m xs (sign s.Semicolon o ∷ r) → 0 < length xs
+      → IsEntry (reserved w.Abbreviate p ∷ m) (abbreviate xs) r
+
+-- {Entry}
+pub data IsEntries : List Lexeme → List EntryTree → List Lexeme → Type 0 where
+  entries_stop : {r : List Lexeme} → IsEntries r [] r
+  entries_next : {ts m r : List Lexeme} {e : EntryTree} {es : List EntryTree} → IsEntry ts e m
+      → IsEntries m es r → IsEntries ts (e ∷ es) r
+
+-- Program = {Entry}, up to the end
 pub data IsProgram : List Lexeme → ProgramTree → Type 0 where
-  program : {ts : List Lexeme} {p : Position} {ds : List DirectiveTree} → IsDirectives ts ds (end p ∷ [])
+  program : {ts : List Lexeme} {p : Position} {es : List EntryTree} → IsEntries ts es (end p ∷ [])
       → IsProgram ts (record {
-        directives = ds;
+        directives = directives_of es;
+        abbreviations = abbreviations_of es;
         end = p;
         weight = weight_of ts;
         words = dictionary_words ts;

@@ -1,7 +1,7 @@
 -- How deep tokens stand in programs: a relation between a number and the tokens from a place on, with one case for
 -- each place at which a part can stand.
 --
--- DeepProgram n ts: directives that begin at ts can be read as far as a token that stands n nestings deep in one of
+-- DeepProgram n ts: entries that begin at ts can be read as far as a token that stands n nestings deep in one of
 -- them. What lies before that token in its parts is complete. The brackets of a routine are no nesting, nor is a
 -- statement directly in it.
 use Rattle.std.specs.Prelude.{ℕ, List, ◌∷◌}
@@ -10,16 +10,16 @@ use Rattle.lexer.specs.declared.token.Sign.TheVariants as s
 use Rattle.lexer.specs.Token.{Lexeme, name, sign}
 use Rattle.expressions.specs.Tree.{NameTree}
 use Rattle.statements.specs.Nesting.{DeepSs}
-use Rattle.syntax.specs.Tree.{DirectiveTree}
-use Rattle.syntax.specs.Grammar.{IsNames, IsDirective}
+use Rattle.syntax.specs.Tree.{EntryTree}
+use Rattle.syntax.specs.Grammar.{IsNames, IsEntry}
 
 -- Directive = .. | "[" name {name} ";" {S} "]" ";"
 pub data DeepDirective : ℕ → List Lexeme → Type 0 where
   deep_d_routine : {n : ℕ} {m k : List Lexeme} {p q o : Position} {f : List ℕ} {ns : List NameTree}
       → IsNames m ns (sign s.Semicolon o ∷ k) → DeepSs n k → DeepDirective n (sign s.OpenBracket p ∷ name f q ∷ m)
 
--- {Directive}
+-- {Entry}
 pub data DeepProgram : ℕ → List Lexeme → Type 0 where
   deep_program_first : {n : ℕ} {ts : List Lexeme} → DeepDirective n ts → DeepProgram n ts
-  deep_program_next : {n : ℕ} {ts m : List Lexeme} {d : DirectiveTree} → IsDirective ts d m → DeepProgram n m
+  deep_program_next : {n : ℕ} {ts m : List Lexeme} {e : EntryTree} → IsEntry ts e m → DeepProgram n m
       → DeepProgram n ts

@@ -16,7 +16,7 @@ use Rattle.statements.specs.Parse.{as_long, repeated, named, known_value, begins
 use Rattle.syntax.specs.declared.tree.ArrayKind.{ArrayKind}
 use Rattle.syntax.specs.Tree.{ValueTree, ArrayTree, TextTree, PropertyTree, HeadTree, ObjectTree, RoutineTree}
 use Rattle.syntax.specs.Tree.{DirectiveTree, global, constant, array, attribute, property, object, routine}
-use Rattle.syntax.specs.Tree.{ProgramTree}
+use Rattle.syntax.specs.Tree.{EntryTree, entry, abbreviate, directives_of, abbreviations_of, ProgramTree}
 use Rattle.syntax.specs.Grammar.{weight_of, dictionary_words, kind_of}
 
 -- ---- names
@@ -134,6 +134,29 @@ object_behind ts = do
     r,
   )
 
+-- ---- abbreviations
+
+-- the token is a text
+abbrev pub is_text : Lexeme → Bool
+is_text (text bytes p) = true
+is_text _ = false
+
+abbrev pub text_on : Lexeme → Parse TextTree
+text_on (text bytes p) ts = Ok (record { bytes = bytes; position = p }, ts)
+text_on _ ts = Err Grammar
+
+-- the text that comes next
+unfoldable pub one_text : Parse TextTree
+one_text ts = text_on (head ts) (tail ts)
+
+-- texts, at least one
+unfoldable pub texts : Parse (List TextTree)
+texts ts = one_text ts >>= λ x. repeated is_text one_text (length x.1) x.1 >>= λ xs. Ok (x.0 ∷ xs.0, xs.1)
+
+-- what follows `abbreviate`
+unfoldable pub abbreviate_behind : Parse (List TextTree)
+abbreviate_behind ts = texts ts >>= λ xs. expect s.Semicolon xs.1 >>= λ r. Ok (xs.0, r)
+
 -- ---- directives, behind their first token
 
 unfoldable pub ended : DirectiveTree → Parse DirectiveTree
@@ -183,10 +206,24 @@ abbrev pub end_alone : List Lexeme → Option Position
 end_alone (end p ∷ []) = Some p
 end_alone _ = None
 
--- a program of these directives and all of these tokens
-abbrev pub whole : List Lexeme → List DirectiveTree → Option Position → Result ProgramTree Fault
-whole ts ds (Some p) = Ok (record { directives = ds; end = p; weight = weight_of ts; words = dictionary_words ts })
-whole ts ds None = Err Grammar
+-- the directives and the abbreviations of a file
+abbrev pub Parts : Type 0
+Parts = List DirectiveTree × List TextTree
+
+abbrev pub parts_of : List EntryTree → Parts
+parts_of es = (directives_of es, abbreviations_of es)
+
+-- a program of these parts and all of these tokens
+abbrev pub whole : List Lexeme → Parts → Option Position → Result ProgramTree Fault
+whole ts x (Some p) = Ok
+    (record {
+      directives = x.0;
+      abbreviations = x.1;
+      end = p;
+      weight = weight_of ts;
+      words = dictionary_words ts;
+    })
+whole ts x None = Err Grammar
 
 -- where d nestings may be opened in a statement
 module _ (d : ℕ) where
@@ -209,8 +246,17 @@ module _ (d : ℕ) where
   unfoldable pub directive : Parse DirectiveTree
   directive ts = directive_on (head ts) ts
 
-  unfoldable pub directives : Parse (List DirectiveTree)
-  directives ts = repeated goes_on directive (length ts) ts
+  -- a directive, or the texts of an `abbreviate`
+  unfoldable pub one_entry : Parse EntryTree
+  one_entry ts =
+      if is_word w.Abbreviate (head ts) then (abbreviate_behind (tail ts) >>= λ xs. Ok (abbreviate xs.0, xs.1))
+      else (directive ts >>= λ x. Ok (entry x.0, x.1))
+
+  unfoldable pub all_entries : Parse (List EntryTree)
+  all_entries ts = repeated goes_on one_entry (length ts) ts
+
+  unfoldable pub entries : Parse Parts
+  entries ts = all_entries ts >>= λ es. Ok (parts_of es.0, es.1)
 
   unfoldable pub program : List Lexeme → Result ProgramTree Fault
-  program ts = directives ts >>= λ ds. whole ts ds.0 (end_alone ds.1)
+  program ts = entries ts >>= λ x. whole ts x.0 (end_alone x.1)

@@ -37,9 +37,12 @@ abbrev mutual
   ArePrintableCases (default_case xs) = ArePrintableStatements xs
   ArePrintableCases (case gs xs cs) = ArePrintableStatements xs × ArePrintableCases cs
 
+abbrev pub IsPrintableText : TextTree → Type 0
+IsPrintableText s = All IsPrintable s.bytes
+
 abbrev pub IsPrintableName : Option TextTree → Type 0
 IsPrintableName None = Unit {0}
-IsPrintableName (Some s) = All IsPrintable s.bytes
+IsPrintableName (Some s) = IsPrintableText s
 
 abbrev pub IsPrintableDirective : DirectiveTree → Type 0
 IsPrintableDirective (routine r) = ArePrintableStatements r.body
@@ -47,4 +50,4 @@ IsPrintableDirective (object o) = IsPrintableName o.short
 IsPrintableDirective _ = Unit {0}
 
 abbrev pub HasPrintableTexts : ProgramTree → Type 0
-HasPrintableTexts p = All IsPrintableDirective p.directives
+HasPrintableTexts p = All IsPrintableDirective p.directives × All IsPrintableText p.abbreviations

@@ -1,5 +1,5 @@
 -- Trees of programs, without where they lie in memory.
-use Rattle.std.specs.Prelude.{ℕ, List, map, Option, Some, None}
+use Rattle.std.specs.Prelude.{ℕ, List, [], ◌∷◌, ◌++◌, map, Option, Some, None}
 use Rattle.std.specs.Option.{option_map}
 use Rattle.lexer.specs.declared.token.Position.{Position}
 use Rattle.expressions.specs.Tree.{NameTree, name_tree}
@@ -69,8 +69,26 @@ pub data DirectiveTree : Type 0 where
   object : ObjectTree → DirectiveTree
   routine : RoutineTree → DirectiveTree
 
+-- what stands in a file: a directive, or the texts of an `abbreviate`
+pub data EntryTree : Type 0 where
+  entry : DirectiveTree → EntryTree
+  abbreviate : List TextTree → EntryTree
+
+-- the directives among what stands in a file, in order
+abbrev pub directives_of : List EntryTree → List DirectiveTree
+directives_of [] = []
+directives_of (entry d ∷ es) = d ∷ directives_of es
+directives_of (abbreviate xs ∷ es) = directives_of es
+
+-- its abbreviations, in order
+abbrev pub abbreviations_of : List EntryTree → List TextTree
+abbreviations_of [] = []
+abbreviations_of (entry d ∷ es) = abbreviations_of es
+abbreviations_of (abbreviate xs ∷ es) = xs ++ abbreviations_of es
+
 pub record ProgramTree : Type 0 where
   pub directives : List DirectiveTree
+  pub abbreviations : List TextTree
   pub end : Position
   pub weight : ℕ
   -- its dictionary words, in order
@@ -133,6 +151,7 @@ directive_tree (directives.Routine r) = routine (routine_tree r)
 abbrev pub program_tree : Program → ProgramTree
 program_tree p = record {
   directives = map directive_tree p.directives.items;
+  abbreviations = map text_tree p.abbreviations.items;
   end = p.end;
   weight = p.weight;
   words = map (λ w. w.now) p.words.items;

@@ -130,9 +130,14 @@ fn worded<'t, 'a>(
     }
 }
 
-// The directive that comes next.
+/// The directive that comes next.
+///
+/// # Errors
+///
+/// `Fault::Grammar` at the first token with which no derivation goes on, `Fault::Deep` at the token for
+/// which no nesting is left, and `Memory` where a growth is refused.
 #[tactic(auto, unfolding(crate::specs::Parse::directive))]
-fn directive<'t, 'a>(
+pub fn directive<'t, 'a>(
     alloc: Global,
     tokens: &'t [Token<'a>],
 ) -> Result<(Directive<'a>, &'t [Token<'a>]), ParseError>
@@ -146,44 +151,4 @@ fn directive<'t, 'a>(
         }
         _ => Err(fault_at(Fault::Grammar, tokens)),
     }
-}
-
-fn goes_on(token: Token<'_>) -> bool
-    ensures { result ≡ spec.goes_on (lexeme token.entry) }
-{
-    !matches!(token.kind, Kind::End)
-}
-
-// The same tokens, as a slice of its own.
-fn same<'t, 'a>(tokens: &'t [Token<'a>]) -> &'t [Token<'a>]
-    ensures { result.now ≡ tokens.now }
-{
-    tokens
-}
-
-/// Directives, up to the end.
-///
-/// # Errors
-///
-/// `Fault::Grammar` at the first token with which no derivation goes on, `Fault::Deep` at the token for which no nesting is
-/// left, and `Memory` where a growth is refused.
-#[tactic(auto, unfolding(crate::specs::Parse::directives), using(statements::proofs::Loops::repeated_out, statements::proofs::Loops::repeated_done, statements::proofs::Loops::repeated_more, statements::proofs::Loops::repeated_fails, statements::proofs::Loops::joined_none))]
-pub fn directives<'t, 'a>(
-    alloc: Global,
-    tokens: &'t [Token<'a>],
-) -> Result<(Vec<Directive<'a>>, &'t [Token<'a>]), ParseError>
-    ensures { Gives (λ x. (map directive_tree x.0.items, lexemes x.1.now)) result
-        (spec.directives 100 (lexemes tokens.now)) }
-{
-    let mut found = Vec::new(alloc);
-    let mut rest = tokens;
-    for _turn in 0..tokens.len() {
-        if !goes_on(peek(rest)) {
-            break;
-        }
-        let (next, after) = directive(alloc, rest)?;
-        found.push(next)?;
-        rest = same(after);
-    }
-    Ok((found, rest))
 }

@@ -3,10 +3,12 @@
 
 mod arrays;
 mod directives;
+mod entries;
 mod laws;
 mod names;
 mod objects;
 mod program;
+mod texts;
 mod tree;
 mod weight;
 mod words;

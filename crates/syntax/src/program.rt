@@ -10,7 +10,7 @@ ghost use Rattle.syntax.specs.Nesting.{DeepProgram};
 ghost use Rattle.syntax.specs.Tree.{ProgramTree, program_tree};
 ghost use Rattle.syntax.specs.Parse as spec;
 
-use crate::directives::directives;
+use crate::entries::entries;
 use crate::tree::Program;
 use crate::weight::weight_of;
 use crate::words::dictionary_words;
@@ -44,12 +44,13 @@ fn end_alone(tokens: &[Token<'_>]) -> Option<Position>
 fn program<'a>(alloc: Global, tokens: &[Token<'a>]) -> Result<Program<'a>, ParseError>
     ensures { Gives program_tree result (spec.program 100 (lexemes tokens.now)) }
 {
-    let (directives, rest) = directives(alloc, tokens)?;
+    let (directives, abbreviations, rest) = entries(alloc, tokens)?;
     let Some(end) = end_alone(rest) else {
         return Err(fault_at(Fault::Grammar, rest));
     };
     Ok(Program {
         directives,
+        abbreviations,
         end,
         weight: weight_of(tokens),
         words: dictionary_words(alloc, tokens)?,
@@ -59,7 +60,8 @@ fn program<'a>(alloc: Global, tokens: &[Token<'a>]) -> Result<Program<'a>, Parse
 /// The program that the tokens of a source are, up to its end, which is the last of them and no other.
 ///
 /// ```text
-/// Program = {Directive}
+/// Program = {Entry}
+/// Entry = Directive | "abbreviate" text+ ";"
 /// Directive = "global" name ["=" K] ";" | "constant" name "=" K ";"
 ///   | "array" name ("->" | "-->" | "string" | "table") K+ ";" | "attribute" name ";" | "property" name [K] ";"
 ///   | "object" ({"->"} name [text] | name [text] name)

@@ -105,6 +105,9 @@ pub enum Directive<'a> {
 pub struct Program<'a> {
     pub directives: Vec<Directive<'a>>,
 
+    /// The texts of all `abbreviate`, in order.
+    pub abbreviations: Vec<Text<'a>>,
+
     /// The end of the source.
     pub end: Position,
 

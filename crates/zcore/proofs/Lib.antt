@@ -1,13 +1,16 @@
 pub mod Packing
 pub mod TextSizes
+pub mod Longest
 pub mod Spelling
 pub mod Causes
 pub mod Fronts
 pub mod Loops
 pub mod Keys
 pub mod RoundTrip
+pub mod Shortening
 pub mod Printable
 mod Samples
+mod AbbreviationSamples
 mod ObjectSamples
 pub mod KeepingReads
 pub mod Keeping

@@ -10,7 +10,7 @@ use Rattle.zcore.specs.Alphabets.{is_printable, spelling_of, spelled}
 use Rattle.zcore.specs.Results.{◌>>=◌}
 use Rattle.zcore.specs.Reading.{Cause, State, Lower, Punctuation, next, printed, reads}
 use Rattle.zcore.specs.Words.{packed, three_of, unpacked_text, missing, padded}
-use Rattle.zcore.specs.Text.{abbreviation, decoded, encoded, Holds}
+use Rattle.zcore.specs.Text.{abbreviation, read_with, decoded, encoded, Holds}
 use Rattle.zcore.specs.TextParts.{AreSmall}
 use Rattle.zcore.proofs.Packing.{small_append}
 use Rattle.zcore.proofs.Spelling.{each_below, below_at, AreBytes, spelled_small, fives_small, printable_below}
@@ -27,7 +27,7 @@ found x = Ok x
 pair_is : (x y : List ℕ × State) → found x ≡ found y → x ≡ y
 pair_is x y e = cc
 
-before_none : (r : Result (List ℕ) Cause) → r ≡ before [] r
+pub before_none : (r : Result (List ℕ) Cause) → r ≡ before [] r
 before_none (Ok x) = refl
 before_none (Err f) = refl
 
@@ -73,17 +73,17 @@ module _ (expand : ℕ → Result (List ℕ) Cause) where
       ap (λ (y : List ℕ × State). Ok y) (λ i. (one_is x.0 c parts.0 i, lower_is x.1 parts.1 i))
   gives_is (Err f) c e = absurd cc
 
-  prints : (c : ℕ) → is_printable c ≡ true → runs Lower (spelling_of c) ≡ Ok (c ∷ [], Lower)
+  pub prints : (c : ℕ) → is_printable c ≡ true → runs Lower (spelling_of c) ≡ Ok (c ∷ [], Lower)
   prints c e =
       let here = below_at prints_itself 127 c all_print (printable_below c e) in
       gives_is (runs Lower (spelling_of c)) c (rw e at here)
 
-  reads_one : (s : State) (z : ℕ) (zs text : List ℕ) → printed expand s z ≡ Ok text
+  pub reads_one : (s : State) (z : ℕ) (zs text : List ℕ) → printed expand s z ≡ Ok text
       → reads expand s (z ∷ zs) ≡ before text (reads expand (next s z) zs)
   unfolding reads
   reads_one s z zs text e = rw e refl
 
-  reads_runs : (s t : State) (zs rest text : List ℕ) → runs s zs ≡ Ok (text, t)
+  pub reads_runs : (s t : State) (zs rest text : List ℕ) → runs s zs ≡ Ok (text, t)
       → reads expand s (zs ++ rest) ≡ before text (reads expand t rest)
   unfolding reads
   reads_runs s t [] rest text e =
@@ -113,12 +113,12 @@ module _ (expand : ℕ → Result (List ℕ) Cause) where
   punctuation_fives zero = refl
   punctuation_fives (suc k) = rw (punctuation_fives k) refl
 
-  lower_fives : (k : ℕ) → reads expand Lower (replicate k 5) ≡ Ok []
+  pub lower_fives : (k : ℕ) → reads expand Lower (replicate k 5) ≡ Ok []
   unfolding reads
   lower_fives zero = refl
   lower_fives (suc k) = rw (punctuation_fives k) refl
 
-  reads_padded : (text : List ℕ) → list_all is_printable text ≡ true
+  pub reads_padded : (text : List ℕ) → list_all is_printable text ≡ true
       → reads expand Lower (padded (spelled text)) ≡ Ok text
   reads_padded text e =
       reads_spelled text (replicate (missing (length (spelled text))) 5) e
@@ -201,20 +201,25 @@ padded_small text h = small_append (spelled text) (replicate (missing (length (s
 
 -- ---- the round trip
 
+-- bytes in a story that are the words of Z-characters are read as what these print
+pub read_back : (expand : ℕ → Result (List ℕ) Cause) (zs text bytes story : List ℕ) (at : ℕ) → AreSmall (padded zs)
+    → reads expand Lower (padded zs) ≡ Ok text → bytes ≡ packed (padded zs) → Holds story at bytes
+    → at + length bytes < 2 ^ 32 → read_with expand story at ≡ Ok (text, at + length bytes)
+read_back expand zs text bytes story at small back is held lt =
+    let rest = drop (length bytes) (drop at story) in
+    let whole : drop at story ≡ packed (padded zs) ++ rest = sym (take-append-drop (length bytes) (drop at story))
+    ∙ ap (λ bs. bs ++ rest) (held ∙ is) in
+    let long : length bytes ≡ length (packed (padded zs)) = ap length is in
+    let words = unpacked_packed (padded zs) rest at (padded_threes zs) small (omega (arith, long)) in
+    ap (λ bs. unpacked_text at bs >>= λ x. reads expand Lower x.0 >>= λ got. Ok (got, x.1)) whole
+    ∙ ap (λ r. r >>= λ x. reads expand Lower x.0 >>= λ got. Ok (got, x.1)) words
+    ∙ ap (λ r. r >>= λ got. Ok (got, at + length (packed (padded zs)))) back
+    ∙ ap (λ k. Ok (text, at + k)) (sym long)
+
 pub round_trip : (text bytes story : List ℕ) (at : ℕ) → AreBytes text → list_all is_printable text ≡ true
     → bytes ≡ encoded text → Holds story at bytes → at + length bytes < 2 ^ 32
     → decoded story at ≡ Ok (text, at + length bytes)
 unfolding decoded encoded
 round_trip text bytes story at small e is held lt =
-    let zs = padded (spelled text) in
-    let rest = drop (length bytes) (drop at story) in
-    let whole : drop at story ≡ packed zs ++ rest = sym (take-append-drop (length bytes) (drop at story))
-    ∙ ap (λ bs. bs ++ rest) (held ∙ is) in
-    let long : length bytes ≡ length (packed zs) = ap length is in
-    let words = unpacked_packed zs rest at (padded_threes (spelled text)) (padded_small text small)
-    (omega (arith, long)) in
-    let back = reads_padded (abbreviation story) text e in
-    ap (λ bs. unpacked_text at bs >>= λ x. reads (abbreviation story) Lower x.0 >>= λ got. Ok (got, x.1)) whole
-    ∙ ap (λ r. r >>= λ x. reads (abbreviation story) Lower x.0 >>= λ got. Ok (got, x.1)) words
-    ∙ ap (λ r. r >>= λ got. Ok (got, at + length (packed zs))) back
-    ∙ ap (λ k. Ok (text, at + k)) (sym long)
+    read_back (abbreviation story) (spelled text) text bytes story at (padded_small text small)
+    (reads_padded (abbreviation story) text e) is held lt

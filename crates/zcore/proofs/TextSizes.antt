@@ -19,25 +19,33 @@ threes_packed (suc k) (a ∷ b ∷ c ∷ zs) e = omega (arith, threes_packed k z
 words_some : (n : ℕ) → (n ≡ 0 → ⊥) → n + missing n ≡ 3 * ((n + 2) / 3)
 words_some n some = let e : eqb n 0 ≡ false = ne_eqb n 0 some in rw e (omega arith)
 
+padded_many : (zs : List ℕ) (n : ℕ) → length zs ≡ n → length (padded zs) ≡ n + missing n
+padded_many zs n many = subst (λ k. length (padded zs) ≡ k + missing k) many (omega (
+  arith,
+  length-append zs (replicate (missing (length zs)) 5),
+  length-replicate {A = ℕ} (missing (length zs)) 5,
+))
+
+-- so many Z-characters in words
+pub none_packed : (zs : List ℕ) (n : ℕ) → length zs ≡ n → n ≡ 0 → 2 ≡ length (packed (padded zs))
+none_packed zs n many none =
+    let three : n + missing n ≡ 3 = rw none refl in
+    omega (arith, threes_packed 1 (padded zs) (omega (arith, padded_many zs n many, three)))
+
+pub some_packed : (zs : List ℕ) (n : ℕ) → length zs ≡ n → (n ≡ 0 → ⊥)
+    → 2 * ((n + 2) / 3) ≡ length (packed (padded zs))
+some_packed zs n many some =
+    omega (
+      arith,
+      threes_packed ((n + 2) / 3) (padded zs) (omega (arith, padded_many zs n many, words_some n some)),
+    )
+
 -- a text of so many Z-characters
 module _ (text : List ℕ) (n : ℕ) (many : length (spelled text) ≡ n) where
-  padded_many : length (padded (spelled text)) ≡ n + missing n
-  padded_many = subst (λ k. length (padded (spelled text)) ≡ k + missing k) many (omega (
-    arith,
-    length-append (spelled text) (replicate (missing (length (spelled text))) 5),
-    length-replicate {A = ℕ} (missing (length (spelled text))) 5,
-  ))
-
   pub no_characters : n ≡ 0 → 2 ≡ length (encoded text)
   unfolding encoded
-  no_characters none =
-      let three : n + missing n ≡ 3 = rw none refl in
-      omega (arith, threes_packed 1 (padded (spelled text)) (omega (arith, padded_many, three)))
+  no_characters none = none_packed (spelled text) n many none
 
   pub some_characters : (n ≡ 0 → ⊥) → 2 * ((n + 2) / 3) ≡ length (encoded text)
   unfolding encoded
-  some_characters some =
-      omega (
-        arith,
-        threes_packed ((n + 2) / 3) (padded (spelled text)) (omega (arith, padded_many, words_some n some)),
-      )
+  some_characters some = some_packed (spelled text) n many some

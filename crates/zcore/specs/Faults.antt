@@ -6,6 +6,7 @@ use Rattle.zcore.specs.declared.fault.TextFault.TheVariants as faults
 use Rattle.zcore.specs.Alphabets.{is_printable}
 use Rattle.zcore.specs.Reading.{Cause, Character, End, Abbreviation}
 use Rattle.zcore.specs.Text.{encoded, HasCause}
+use Rattle.zcore.specs.Abbreviations.{encoded_with}
 
 -- what is refused by a fault, where the definition answers `read`
 abbrev pub Fails : {Y : Type 0} → TextFault → Result Y Cause → Type 0
@@ -26,10 +27,16 @@ HasFault story at faults.End = HasCause story at End
 HasFault story at faults.Abbreviation = HasCause story at Abbreviation
 HasFault story at faults.Memory = Unit {0}
 
--- what is answered for the Z-text of a text: the bytes, or Z1 exactly where a character is not printable
+-- what is answered for a text whose Z-text is this: the bytes, or Z1 exactly where a character is not printable
+abbrev pub EncodesTo : {Z : Type 0} → List ℕ → List ℕ → Result (Vec ℕ Z) TextFault → Type 0
+EncodesTo z_text text (Ok bytes) = (list_all is_printable text ≡ true) × (bytes.items ≡ z_text)
+EncodesTo z_text text (Err faults.Character) = list_all is_printable text ≡ false
+EncodesTo z_text text (Err faults.Memory) = list_all is_printable text ≡ true
+EncodesTo z_text text (Err faults.End) = ⊥
+EncodesTo z_text text (Err faults.Abbreviation) = ⊥
+
 abbrev pub Encodes : {Z : Type 0} → List ℕ → Result (Vec ℕ Z) TextFault → Type 0
-Encodes text (Ok bytes) = (list_all is_printable text ≡ true) × (bytes.items ≡ encoded text)
-Encodes text (Err faults.Character) = list_all is_printable text ≡ false
-Encodes text (Err faults.Memory) = list_all is_printable text ≡ true
-Encodes text (Err faults.End) = ⊥
-Encodes text (Err faults.Abbreviation) = ⊥
+Encodes text result = EncodesTo (encoded text) text result
+
+abbrev pub EncodesWith : {Z : Type 0} → List (List ℕ) → List ℕ → Result (Vec ℕ Z) TextFault → Type 0
+EncodesWith abbreviations text result = EncodesTo (encoded_with abbreviations text) text result

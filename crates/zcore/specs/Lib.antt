@@ -4,6 +4,7 @@ pub mod Results
 pub mod Reading
 pub mod Words
 pub mod Text
+pub mod Abbreviations
 pub mod Faults
 pub mod Fronts
 pub mod Header

@@ -1,6 +1,7 @@
 -- Words for the contracts of the functions within the crate.
 use Rattle.std.specs.Prelude.{◌≡◌, ◌+◌, ◌*◌, ◌/◌, ◌%◌, ◌<◌, ℕ, zero, suc, min, Bool, true, false, List, [], ◌∷◌, ◌++◌}
-use Rattle.std.specs.Prelude.{length, take, replicate, slice_index, Result, Ok, Err}
+use Rattle.std.specs.Prelude.{length, take, replicate, slice_index, if◌then◌else◌, Option, Some, None, Result, Ok, Err}
+use Rattle.zcore.specs.declared.abbreviations.Found as declared_found
 use Rattle.zcore.specs.declared.fault.TextFault.{TextFault}
 use Rattle.zcore.specs.declared.fault.TextFault.TheVariants as faults
 use Rattle.zcore.specs.declared.reading.State.TheVariants as code
@@ -12,6 +13,7 @@ use Rattle.zcore.specs.Reading.{Cause, Character, State, Lower, Upper, Punctuati
 use Rattle.zcore.specs.Reading.{Abbreviated}
 use Rattle.zcore.specs.Words.{three_of}
 use Rattle.zcore.specs.Text.{refused, abbreviation}
+use Rattle.zcore.specs.Abbreviations.{Found, begins}
 
 -- Z-characters are of five bits
 abbrev pub AreSmall : List ℕ → Type 0
@@ -67,3 +69,12 @@ filled zs = take 9 (zs ++ replicate 9 5)
 pub record IsFilled (zs : List ℕ) (count : ℕ) (key : List ℕ) : Type 0 where
   pub characters : key ≡ filled zs
   pub many : count ≡ min 9 (length zs)
+
+-- the abbreviation of the definitions that one of the code is
+abbrev pub found_of : Option declared_found.Found → Option Found
+found_of None = None
+found_of (Some x) = Some (record { number = x.number; length = x.length })
+
+-- the abbreviation of a number, where it stands at the beginning of a text
+abbrev pub at_front : ℕ → List ℕ → List ℕ → Option Found
+at_front number a text = if begins a text then Some (record { number = number; length = length a }) else None

@@ -108,7 +108,7 @@ pub fn spelling_length(c: u8) -> usize
 }
 
 /// Adds the Z-characters of a character.
-fn put_spelled(characters: &mut Vec<u8>, c: u8) -> Result<(), AllocError>
+pub(crate) fn put_spelled(characters: &mut Vec<u8>, c: u8) -> Result<(), AllocError>
     ensures { OnOk result (characters.new.items ≡ characters.old.items ++ spec.spelling_of c) }
 {
     for z in spelling(c).as_slice() {

@@ -1,6 +1,7 @@
 //! Text and header of a story file, and the definitions of the machine that runs it.
 #![tactic(auto)]
 
+mod abbreviations;
 mod alphabets;
 mod bytes;
 mod fault;
@@ -14,6 +15,7 @@ mod reading;
 mod text;
 mod words;
 
+pub use abbreviations::{Abbreviations, encode_with};
 pub use alphabets::spelling_length;
 pub use fault::TextFault;
 pub use header::{Dictionary, Header, HeaderFault, Version};

@@ -1,5 +1,5 @@
-use Rattle.std.proofs.Common.{length, ap, ◌∙◌}
-use Rattle.meaning.specs.Places.{folded}
+use Rattle.std.proofs.Common.{length, map, ap, refl, ◌∙◌}
+use Rattle.meaning.specs.Places.{folded, text_size, total}
 use Rattle.meaning.specs.Resolved.{program_of}
 use Rattle.meaning.proofs.Folding.{objects_total, dictionary_is, places_are}
 use Rattle.meaning.proofs.places.part_places.Goals as goal
@@ -13,4 +13,6 @@ returns c =
     (c.objects_size.ensures.size ∙ ap (λ os. folded (objects_total os)) c.objects.ensures)
     c.dictionary_behind-dictionary.ensures.place in
     places_are p (length c.array_bytes-arrays.result.now) c.dictionary_behind-dictionary.result
-    (length c.keys.result.now) c.requires arrays place (ap length c.keys.ensures.keys)
+    (length c.args.checked.now.keys) c.texts_behind-texts.result c.abbreviations_size.result c.requires arrays place
+    refl c.texts_behind-texts.ensures.place
+    (c.abbreviations_size.ensures.size ∙ ap (λ ts. folded (total (map text_size ts))) c.abbreviations.ensures)

@@ -1,7 +1,7 @@
-use Rattle.std.proofs.Common.{length, ap, ◌∙◌}
-use Rattle.meaning.specs.Places.{folded}
+use Rattle.std.proofs.Common.{length, map, ap, refl, ◌∙◌}
+use Rattle.meaning.specs.Places.{folded, text_size, total}
 use Rattle.meaning.specs.Resolved.{program_of}
-use Rattle.meaning.proofs.Folding.{objects_total, dictionary_is, routines_are}
+use Rattle.meaning.proofs.Folding.{objects_total, dictionary_is, texts_folded, routines_are}
 use Rattle.meaning.proofs.places.tables_size.Goals as goal
 
 pub returns : goal.returns
@@ -11,5 +11,8 @@ returns c =
     c.dictionary_behind-dictionary.result (ap length c.array_bytes.ensures)
     (c.objects_size-objects.ensures.size ∙ ap (λ os. folded (objects_total os)) c.objects.ensures)
     c.dictionary_behind-dictionary.ensures.place in
-    routines_are p c.dictionary_behind-dictionary.result (length c.keys.result.now) c.folded.result place
-    (ap length c.keys.ensures.keys) c.folded.ensures.size
+    let texts = texts_folded p c.dictionary_behind-dictionary.result (length c.args.checked.now.keys)
+    c.texts_behind-texts.result refl c.texts_behind-texts.ensures.place place in
+    routines_are p c.texts_behind-texts.result c.abbreviations_size.result c.folded.result texts
+    (c.abbreviations_size.ensures.size ∙ ap (λ ts. folded (total (map text_size ts))) c.abbreviations.ensures)
+    c.folded.ensures.size

@@ -60,6 +60,12 @@ put_low-requires-clause-objects c = record {
 pub put_low-requires-clause-keys : goal.put_low-requires-clause-keys
 put_low-requires-clause-keys c = omega (arith, c.requires.placed)
 
+pub put_low-requires-clause-few : goal.put_low-requires-clause-few
+put_low-requires-clause-few c = c.requires.accepted.few_abbreviations
+
+pub put_low-requires-clause-printable : goal.put_low-requires-clause-printable
+put_low-requires-clause-printable c = c.requires.printable.2
+
 pub put_routines-requires : goal.put_routines-requires
 put_routines-requires c =
     codes_ready c.args.version (program_of c.args.checked.now) c.deref-6.result.now c.requires

@@ -1,0 +1,204 @@
+-- Abbreviations: which of them stand earlier, how many there may be, how long they are, and that they print.
+use Rattle.std.proofs.Common.{◌≡◌, ℕ, zero, suc, ◌+◌, ◌<◌, ◌≤◌, nat_lt, nat_le, Bool, true, false, ◌&&◌, ◌||◌, ◌==◌}
+use Rattle.std.proofs.Common.{List, [], ◌∷◌, ◌++◌, length, take, drop, slice_index_or, Option, cond, refl, sym, ap, ◌∙◌}
+use Rattle.std.proofs.Common.{length-append, arith}
+use Rattle.std.specs.Prelude.{map}
+use Rattle.std.specs.List.{All, list_all}
+use Rattle.std.specs.Str.{bytes_eq}
+use Rattle.std.proofs.lemmas.Bool.Decides.{nat_tests}
+use Rattle.std.proofs.lemmas.List.{length-map}
+use Rattle.std.proofs.lemmas.List.Elements.{All-nil, All-cons, All-head, All-tail}
+use Rattle.zcore.specs.Alphabets.{is_printable}
+use Rattle.lexer.specs.Printable.{IsPrintable}
+use Rattle.lexer.specs.declared.token.Position.{Position}
+use Rattle.syntax.specs.declared.tree.Text.{Text}
+use Rattle.syntax.specs.Tree.{TextTree, text_tree}
+use Rattle.syntax.specs.Printable.{IsPrintableText}
+use Rattle.names.specs.declared.breach.Breach.{Breach}
+use Rattle.names.specs.Breaches.{at}
+use Rattle.names.specs.Noted.{noted}
+use Rattle.names.proofs.Noted.{noted_none, noted_two}
+use Rattle.names.proofs.Dropped.{drop_end}
+use Rattle.meaning.specs.Places.{machine_character}
+use Rattle.checker.specs.Programs.{same_bytes, has_text, abbreviation_breaches, abbreviations_breaches}
+use Rattle.checker.proofs.Kept.{left_empty, right_empty, below}
+use Rattle.checker.proofs.Whole.{characters_of}
+
+-- What stands earlier
+
+both : (s t u : Bool) → t ≡ u → cond s t false ≡ (s && u)
+both true t u h = h
+both false t u h = refl
+
+pub same_is : (xs ys : List ℕ) → same_bytes xs ys ≡ bytes_eq xs ys
+same_is [] [] = refl
+same_is [] (d ∷ ds) = refl
+same_is (c ∷ cs) [] = refl
+same_is (c ∷ cs) (d ∷ ds) = both (c == d) (same_bytes cs ds) (bytes_eq cs ds) (same_is cs ds)
+
+or_next : (s t : Bool) → s ≡ false → (s || t) ≡ t
+or_next true t h = absurd cc
+or_next false t h = refl
+
+or_here : (s t : Bool) → s ≡ true → (s || t) ≡ true
+or_here true t h = refl
+or_here false t h = absurd cc
+
+there : (ts : List Text) (i : ℕ) (d : Text) (bytes : List ℕ) → i < length ts
+    → has_text (map text_tree (drop i ts)) bytes
+    ≡ (same_bytes (slice_index_or ts i d).bytes.now bytes || has_text (map text_tree (drop (suc i) ts)) bytes)
+there [] i d bytes lt = absurd (omega (arith, lt))
+there (t ∷ ts) zero d bytes lt = refl
+there (t ∷ ts) (suc i) d bytes lt = there ts i d bytes (omega (arith, lt))
+
+pub has_here : (ts : List Text) (i : ℕ) (d : Text) (bytes : List ℕ) → i < length ts
+    → bytes_eq (slice_index_or ts i d).bytes.now bytes ≡ true → has_text (map text_tree (drop i ts)) bytes ≡ true
+has_here ts i d bytes lt same =
+    let t = slice_index_or ts i d in
+    there ts i d bytes lt
+    ∙ or_here (same_bytes t.bytes.now bytes) (has_text (map text_tree (drop (suc i) ts)) bytes)
+    (same_is t.bytes.now bytes ∙ same)
+
+pub has_next : (ts : List Text) (i : ℕ) (d : Text) (bytes : List ℕ) → i < length ts
+    → bytes_eq (slice_index_or ts i d).bytes.now bytes ≡ false
+    → has_text (map text_tree (drop i ts)) bytes ≡ has_text (map text_tree (drop (i + 1) ts)) bytes
+has_next ts i d bytes lt same =
+    let t = slice_index_or ts i d in
+    let j : i + 1 ≡ suc i = omega arith in
+    rw j (there ts i d bytes lt
+    ∙ or_next (same_bytes t.bytes.now bytes) (has_text (map text_tree (drop (suc i) ts)) bytes)
+    (same_is t.bytes.now bytes ∙ same))
+
+pub has_end : (ts : List Text) (i : ℕ) (bytes : List ℕ) → length ts ≤ i
+    → has_text (map text_tree (drop i ts)) bytes ≡ false
+has_end ts i bytes end = ap (λ (xs : List Text). has_text (map text_tree xs) bytes) (drop_end ts i end)
+
+-- An abbreviation that breaks no rule
+
+no_breach : (m : Option Breach) (c s t : Bool) (p : Position) → c ≡ false → s ≡ false → t ≡ false
+    → m ≡ noted m (cond c (at p 24) (cond (s || t) (at p 33) []))
+no_breach m true s t p x y z = absurd cc
+no_breach m false true t p x y z = absurd cc
+no_breach m false false true p x y z = absurd cc
+no_breach m false false false p x y z = sym (noted_none m)
+
+not_le : (limit n : ℕ) → n < limit → nat_le limit n ≡ false
+not_le limit n h = grind (arith, nat_tests)
+
+not_lt : (limit n : ℕ) → limit ≤ n → nat_lt n limit ≡ false
+not_lt limit n h = grind (arith, nat_tests)
+
+pub text_kept : (m : Option Breach) (before : List Text) (t : Text) → length before < 96 → 2 ≤ length t.bytes.now
+    → has_text (map text_tree before) t.bytes.now ≡ false
+    → m ≡ noted m (abbreviation_breaches (map text_tree before) (text_tree t))
+text_kept m before t few long new =
+    no_breach m (nat_le 96 (length (map text_tree before))) (nat_lt (length t.bytes.now) 2)
+    (has_text (map text_tree before) t.bytes.now) t.position
+    (not_le 96 (length (map text_tree before)) (omega (arith, few, length-map before text_tree)))
+    (not_lt 2 (length t.bytes.now) long) new
+
+-- The rules, one abbreviation behind another
+
+take_more : (ts : List Text) (i : ℕ) (d : Text) → i < length ts
+    → map text_tree (take (suc i) ts) ≡ map text_tree (take i ts) ++ text_tree (slice_index_or ts i d) ∷ []
+take_more [] i d h = absurd (omega (arith, h))
+take_more (x ∷ xs) zero d h = refl
+take_more (x ∷ xs) (suc i) d h = ap (λ r. text_tree x ∷ r) (take_more xs i d (omega (arith, h)))
+
+left : (ts : List Text) (i : ℕ) (d : Text) → i < length ts
+    → map text_tree (drop i ts) ≡ text_tree (slice_index_or ts i d) ∷ map text_tree (drop (suc i) ts)
+left [] i d h = absurd (omega (arith, h))
+left (x ∷ xs) zero d h = refl
+left (x ∷ xs) (suc i) d h = left xs i d (omega (arith, h))
+
+pub texts_next : (m o : Option Breach) (ts : List Text) (i : ℕ) (d : Text) → i < length ts
+    → o ≡ noted m (abbreviation_breaches (map text_tree (take i ts)) (text_tree (slice_index_or ts i d)))
+    → noted o (abbreviations_breaches (map text_tree (take (i + 1) ts)) (map text_tree (drop (i + 1) ts)))
+    ≡ noted m (abbreviations_breaches (map text_tree (take i ts)) (map text_tree (drop i ts)))
+texts_next m o ts i d lt a =
+    let j : i + 1 ≡ suc i = omega arith in
+    let x : TextTree = text_tree (slice_index_or ts i d) in
+    let before : List TextTree = map text_tree (take i ts) in
+    let rest : List Breach = abbreviations_breaches (before ++ x ∷ []) (map text_tree (drop (suc i) ts)) in
+    rw (j, take_more ts i d lt, left ts i d lt)
+    (noted_two m o (noted o rest) (abbreviation_breaches before x) rest a refl)
+
+pub texts_end : (m : Option Breach) (ts : List Text) (i : ℕ) (before : List TextTree) → length ts ≤ i
+    → noted m (abbreviations_breaches before (map text_tree (drop i ts))) ≡ m
+texts_end m ts i before end =
+    ap (λ (xs : List Text). noted m (abbreviations_breaches before (map text_tree xs))) (drop_end ts i end)
+    ∙ noted_none m
+
+-- Where no rule is broken there are few, and each is long
+
+kept_few : (c d : Bool) (p : Position) → cond c (at p 24) (cond d (at p 33) []) ≡ [] → c ≡ false
+kept_few true d p h = absurd cc
+kept_few false d p h = refl
+
+kept_long : (c s t : Bool) (p : Position) → cond c (at p 24) (cond (s || t) (at p 33) []) ≡ [] → s ≡ false
+kept_long true s t p h = absurd cc
+kept_long false true t p h = absurd cc
+kept_long false false t p h = refl
+
+at_least : (limit n : ℕ) → nat_lt n limit ≡ false → limit ≤ n
+at_least limit n h = grind (arith, nat_tests)
+
+few_from : (before ts : List TextTree) → length before ≤ 96 → abbreviations_breaches before ts ≡ []
+    → length before + length ts ≤ 96
+few_from before [] few h = omega (arith, few)
+few_from before (t ∷ ts) few h =
+    let own = abbreviation_breaches before t in
+    let rest = abbreviations_breaches (before ++ t ∷ []) ts in
+    let room = below 96 (length before)
+    (kept_few (nat_le 96 (length before)) (nat_lt (length t.bytes) 2 || has_text before t.bytes) t.position
+    (left_empty own rest h)) in
+    let longer = length-append before (t ∷ []) in
+    let all = few_from (before ++ t ∷ []) ts (omega (arith, room, longer)) (right_empty own rest h) in
+    omega (arith, all, longer)
+
+pub texts_few : (ts : List TextTree) → abbreviations_breaches [] ts ≡ [] → length (map characters_of ts) ≤ 96
+texts_few ts h =
+    let all = few_from [] ts (omega arith) h in
+    omega (arith, all, length-map ts characters_of)
+
+abbrev IsLong : List ℕ → Type 0
+IsLong a = 2 ≤ length a
+
+pub texts_long : (before ts : List TextTree) → abbreviations_breaches before ts ≡ [] → All IsLong (map characters_of ts)
+texts_long before [] h = All-nil IsLong
+texts_long before (t ∷ ts) h =
+    let own = abbreviation_breaches before t in
+    let rest = abbreviations_breaches (before ++ t ∷ []) ts in
+    let long = at_least 2 (length t.bytes)
+    (kept_long (nat_le 96 (length before)) (nat_lt (length t.bytes) 2) (has_text before t.bytes) t.position
+    (left_empty own rest h)) in
+    All-cons IsLong (characters_of t) (map characters_of ts)
+    (omega (arith, long, length-map t.bytes machine_character))
+    (texts_long (before ++ t ∷ []) ts (right_empty own rest h))
+
+-- What prints in the source prints on the machine
+
+printable_by : (b d : Bool) (c : ℕ) → 32 ≤ c → c ≤ 126 → is_printable (cond b 13 (cond d 34 c)) ≡ true
+printable_by true d c low high = refl
+printable_by false true c low high = refl
+printable_by false false c low high = grind (arith, nat_tests)
+
+two_hold : (s t : Bool) → s ≡ true → t ≡ true → (s && t) ≡ true
+two_hold true t s h = h
+two_hold false t s h = absurd cc
+
+text_prints : (bytes : List ℕ) → All IsPrintable bytes → list_all is_printable (map machine_character bytes) ≡ true
+text_prints [] h = refl
+text_prints (c ∷ cs) h =
+    let own = All-head IsPrintable c cs h in
+    two_hold (is_printable (machine_character c)) (list_all is_printable (map machine_character cs))
+    (printable_by (c == 94) (c == 126) c own.0 own.1) (text_prints cs (All-tail IsPrintable c cs h))
+
+abbrev Prints : List ℕ → Type 0
+Prints a = list_all is_printable a ≡ true
+
+pub texts_print : (ts : List TextTree) → All IsPrintableText ts → All Prints (map characters_of ts)
+texts_print [] h = All-nil Prints
+texts_print (t ∷ ts) h =
+    All-cons Prints (characters_of t) (map characters_of ts) (text_prints t.bytes (All-head IsPrintableText t ts h))
+    (texts_print ts (All-tail IsPrintableText t ts h))
