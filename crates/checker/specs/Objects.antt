@@ -2,6 +2,7 @@
 use Rattle.std.specs.Prelude.{◌==◌, ◌+◌, ◌-◌, ◌%◌, ℕ, zero, suc, nat_le, nat_lt, Bool, false, if◌then◌else◌, List, [], ◌∷◌, ◌++◌, map}
 use Rattle.std.specs.Prelude.{length, slice_get, Option, Some, None}
 use Rattle.std.specs.List.{flat_map}
+use Rattle.lexer.specs.declared.fault.TheConstants.{TOO_MANY, UNKNOWN_NAME, WRONG_KIND}
 use Rattle.lexer.specs.declared.token.Position.{Position}
 use Rattle.expressions.specs.Tree.{NameTree}
 use Rattle.syntax.specs.Tree.{ValueTree, TextTree, PropertyTree, ObjectTree}
@@ -21,10 +22,10 @@ use Rattle.checker.specs.Repeated.{repeated_breaches}
 -- E24 at the 33rd value of a property, and at the name of one without a value, which the grammar does not have
 abbrev pub excess_breaches : Option ValueTree → List Breach
 excess_breaches None = []
-excess_breaches (Some v) = at v.position 24
+excess_breaches (Some v) = at v.position TOO_MANY
 
 abbrev pub count_breaches : Position → List ValueTree → List Breach
-count_breaches p [] = at p 24
+count_breaches p [] = at p TOO_MANY
 count_breaches p (v ∷ vs) = excess_breaches (slice_get (v ∷ vs) 32)
 
 abbrev pub value_breaches : Table → ValueTree → List Breach
@@ -46,7 +47,7 @@ given_breaches whole n = attribute_breaches n.position (in_table whole (key_of n
 -- E24 at a short name of more than 255 words of Z-text
 abbrev pub short_breaches : Option TextTree → List Breach
 short_breaches None = []
-short_breaches (Some s) = if nat_le (name_words s.bytes) 255 then [] else at s.position 24
+short_breaches (Some s) = if nat_le (name_words s.bytes) 255 then [] else at s.position TOO_MANY
 
 -- E22 at the second of two properties of one name
 abbrev pub object_breaches : Table → ObjectTree → List Breach
@@ -83,19 +84,19 @@ is_next (Some x) n = x.0 + 1 == n
 
 abbrev pub arrow_breaches : Option (ℕ × ℕ) → List Position → List Breach
 arrow_breaches above [] = []
-arrow_breaches above (p ∷ ps) = if is_next above (length (p ∷ ps)) then [] else at p 20
+arrow_breaches above (p ∷ ps) = if is_next above (length (p ∷ ps)) then [] else at p UNKNOWN_NAME
 
 -- a parent that is named: one of the objects before, of which there are so many
 abbrev pub parent_breaches : Position → ℕ → Option Binding → List Breach
-parent_breaches p before None = at p 20
-parent_breaches p before (Some (bindings.Constant n)) = at p 23
-parent_breaches p before (Some (bindings.Global g)) = at p 23
-parent_breaches p before (Some (bindings.Array a kind)) = at p 23
-parent_breaches p before (Some (bindings.Routine r locals)) = at p 23
-parent_breaches p before (Some (bindings.Attribute a)) = at p 23
-parent_breaches p before (Some (bindings.Property n)) = at p 23
-parent_breaches p before (Some (bindings.Object o)) = if nat_le o before then [] else at p 20
-parent_breaches p before (Some (bindings.Local l)) = at p 23
+parent_breaches p before None = at p UNKNOWN_NAME
+parent_breaches p before (Some (bindings.Constant n)) = at p WRONG_KIND
+parent_breaches p before (Some (bindings.Global g)) = at p WRONG_KIND
+parent_breaches p before (Some (bindings.Array a kind)) = at p WRONG_KIND
+parent_breaches p before (Some (bindings.Routine r locals)) = at p WRONG_KIND
+parent_breaches p before (Some (bindings.Attribute a)) = at p WRONG_KIND
+parent_breaches p before (Some (bindings.Property n)) = at p WRONG_KIND
+parent_breaches p before (Some (bindings.Object o)) = if nat_le o before then [] else at p UNKNOWN_NAME
+parent_breaches p before (Some (bindings.Local l)) = at p WRONG_KIND
 
 abbrev pub named_parent_breaches : Table → ℕ → Option NameTree → List Breach
 named_parent_breaches whole before None = []

@@ -2,7 +2,7 @@
 use Rattle.std.specs.Prelude.{◌≡◌, ◌==◌, ◌||◌, ◌%◌, ℕ, nat_le, nat_lt, Bool, true, false, map, if◌then◌else◌, List, []}
 use Rattle.std.specs.Prelude.{◌∷◌, ◌++◌, codes}
 use Rattle.std.specs.Prelude.{length, Option, Some, None, is_some}
-use Rattle.lexer.specs.declared.fault.TheConstants.{BAD_ABBREVIATION}
+use Rattle.lexer.specs.declared.fault.TheConstants.{BAD_ABBREVIATION, DEFINED_TWICE, NO_PROPER_MAIN, TOO_MANY}
 use Rattle.lexer.specs.declared.token.Position.{Position}
 use Rattle.expressions.specs.Tree.{NameTree}
 use Rattle.statements.specs.Tree.{LiteralTree}
@@ -16,7 +16,8 @@ use Rattle.names.specs.declared.counts.Counts.{Counts}
 use Rattle.names.specs.Keys.{keys_of}
 use Rattle.names.specs.Names.{Table, File, key_of, same_key, in_table, first_table, no_counts, with_directive}
 use Rattle.names.specs.Names.{counts_after, table_of, look_up, Seen, seen_from}
-use Rattle.meaning.specs.Places.{abbreviation_count, machine_character, number_in}
+use Rattle.meaning.specs.Places.{machine_character, number_in}
+use Rattle.zcore.specs.Abbreviations.{most_abbreviations}
 use Rattle.rules.specs.Literals.{initial_breaches, named_breaches, initial_value}
 use Rattle.checker.specs.Arrays.{array_breaches, array_bytes}
 use Rattle.checker.specs.Repeated.{has_name}
@@ -30,11 +31,11 @@ use Rattle.meaning.specs.Resolved.{RoutineOf, ProgramOf, CheckedProgram, program
 -- beside `name` and the 2,001st object
 
 abbrev pub twice : Table → NameTree → List Breach
-twice table name = if is_some (in_table table (key_of name.text)) then at name.position 22 else []
+twice table name = if is_some (in_table table (key_of name.text)) then at name.position DEFINED_TWICE else []
 
 -- of a kind of which there may be so many
 abbrev pub limit_breaches : ℕ → ℕ → NameTree → List Breach
-limit_breaches most before name = if nat_le most before then at name.position 24 else []
+limit_breaches most before name = if nat_le most before then at name.position TOO_MANY else []
 
 -- Locals: E22 at the second of two, E24 at the 16th
 
@@ -42,8 +43,8 @@ limit_breaches most before name = if nat_le most before then at name.position 24
 abbrev pub locals_breaches : List NameTree → List NameTree → List Breach
 locals_breaches before [] = []
 locals_breaches before (l ∷ ls) =
-    (if has_name before l then at l.position 22 else [])
-    ++ ((if nat_le 15 (length before) then at l.position 24 else [])
+    (if has_name before l then at l.position DEFINED_TWICE else [])
+    ++ ((if nat_le 15 (length before) then at l.position TOO_MANY else [])
     ++ locals_breaches (before ++ l ∷ []) ls)
 
 abbrev pub routine_breaches : Table → RoutineTree → List Breach
@@ -112,16 +113,16 @@ position_or end None = end
 position_or end (Some name) = name.position
 
 abbrev pub main_breaches : Position → Option NameTree → Option Binding → List Breach
-main_breaches end name None = at end 21
-main_breaches end name (Some (bindings.Constant n)) = at end 21
-main_breaches end name (Some (bindings.Global g)) = at end 21
-main_breaches end name (Some (bindings.Array a kind)) = at end 21
-main_breaches end name (Some (bindings.Routine r locals)) = if nat_le 1 locals then at (position_or end name) 21
-    else []
-main_breaches end name (Some (bindings.Attribute a)) = at end 21
-main_breaches end name (Some (bindings.Property n)) = at end 21
-main_breaches end name (Some (bindings.Object o)) = at end 21
-main_breaches end name (Some (bindings.Local l)) = at end 21
+main_breaches end name None = at end NO_PROPER_MAIN
+main_breaches end name (Some (bindings.Constant n)) = at end NO_PROPER_MAIN
+main_breaches end name (Some (bindings.Global g)) = at end NO_PROPER_MAIN
+main_breaches end name (Some (bindings.Array a kind)) = at end NO_PROPER_MAIN
+main_breaches end name (Some (bindings.Routine r locals)) =
+    if nat_le 1 locals then at (position_or end name) NO_PROPER_MAIN else []
+main_breaches end name (Some (bindings.Attribute a)) = at end NO_PROPER_MAIN
+main_breaches end name (Some (bindings.Property n)) = at end NO_PROPER_MAIN
+main_breaches end name (Some (bindings.Object o)) = at end NO_PROPER_MAIN
+main_breaches end name (Some (bindings.Local l)) = at end NO_PROPER_MAIN
 
 -- Abbreviations: E24 from the 97th on; else E33 at one of fewer than two characters, or that stands earlier
 
@@ -138,7 +139,7 @@ has_text (t ∷ ts) bytes = same_bytes t.bytes bytes || has_text ts bytes
 -- of one that follows some
 abbrev pub abbreviation_breaches : List TextTree → TextTree → List Breach
 abbreviation_breaches before t =
-    if nat_le abbreviation_count (length before) then at t.position 24
+    if nat_le most_abbreviations (length before) then at t.position TOO_MANY
     else (if nat_lt (length t.bytes) 2 || has_text before t.bytes then at t.position BAD_ABBREVIATION else [])
 
 abbrev pub abbreviations_breaches : List TextTree → List TextTree → List Breach

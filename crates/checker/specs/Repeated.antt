@@ -1,5 +1,6 @@
 -- Lists of names in which one stands twice.
 use Rattle.std.specs.Prelude.{Bool, true, false, if◌then◌else◌, List, [], ◌∷◌, ◌++◌}
+use Rattle.lexer.specs.declared.fault.TheConstants.{DEFINED_TWICE}
 use Rattle.expressions.specs.Tree.{NameTree}
 use Rattle.names.specs.declared.breach.Breach.{Breach}
 use Rattle.names.specs.Breaches.{at}
@@ -14,4 +15,4 @@ has_name (n ∷ ns) name = if same_key (key_of n.text) (key_of name.text) then t
 abbrev pub repeated_breaches : List NameTree → List NameTree → List Breach
 repeated_breaches before [] = []
 repeated_breaches before (n ∷ ns) =
-    (if has_name before n then at n.position 22 else []) ++ repeated_breaches (before ++ n ∷ []) ns
+    (if has_name before n then at n.position DEFINED_TWICE else []) ++ repeated_breaches (before ++ n ∷ []) ns

@@ -11,10 +11,7 @@ use meaning::machine_character;
 use names::{Breach, note};
 use std::alloc::{AllocError, Global};
 use syntax::Text;
-use zcore::Abbreviations;
-
-// The most abbreviations of a program.
-const MOST_ABBREVIATIONS: usize = 96;
+use zcore::{Abbreviations, MOST_ABBREVIATIONS};
 
 fn has_text(texts: &[Text<'_>], bytes: &[u8]) -> bool
     ensures { result ≡ spec.has_text (map text_tree texts.now) bytes.now }
@@ -30,7 +27,8 @@ fn has_text(texts: &[Text<'_>], bytes: &[u8]) -> bool
 // An abbreviation that follows these.
 #[tactic(auto, using(names::proofs::Noted::noted_none))]
 fn text_rule(before: &[Text<'_>], text: Text<'_>, least: &mut Option<Breach>)
-    ensures { least.new ≡ noted least.old (spec.abbreviation_breaches (map text_tree before.now) (text_tree text.entry)) }
+    ensures { least.new ≡ noted least.old
+        (spec.abbreviation_breaches (map text_tree before.now) (text_tree text.entry)) }
 {
     if before.len() >= MOST_ABBREVIATIONS {
         note(least, TOO_MANY, text.position);
@@ -39,9 +37,10 @@ fn text_rule(before: &[Text<'_>], text: Text<'_>, least: &mut Option<Breach>)
     }
 }
 
-/// Notes the rules that abbreviations break. Each is compared with no more than the first 96.
+/// Notes the rules that abbreviations break. Each is compared with no more than the first 96 ([`MOST_ABBREVIATIONS`]).
 pub fn abbreviation_rules(texts: &[Text<'_>], least: &mut Option<Breach>)
-    ensures { least.new ≡ noted least.old (spec.abbreviations_breaches [] (map text_tree texts.now)) }
+    ensures { least.new ≡ noted least.old
+        (spec.abbreviations_breaches [] (map text_tree texts.now)) }
 {
     for i in 0..texts.len() {
         text_rule(&texts[..i], texts[i], least);
@@ -64,7 +63,8 @@ fn characters(alloc: Global, text: &[u8]) -> Result<Vec<u8>, AllocError>
 ///
 /// `AllocError` where memory is refused.
 pub fn all_abbreviations(alloc: Global, texts: &[Text<'_>]) -> Result<Abbreviations, AllocError>
-    ensures { IfOk result (λ a. a ≡ map (λ (t : TextTree). map places.machine_character t.bytes) (map text_tree texts.now)) }
+    ensures { IfOk result (λ a. a
+        ≡ map (λ (t : TextTree). map places.machine_character t.bytes) (map text_tree texts.now)) }
 {
     let mut found = Abbreviations::new(alloc);
     for text in texts {

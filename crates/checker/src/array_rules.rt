@@ -105,7 +105,8 @@ fn add_number(bytes: &mut Vec<u8>, kind: ArrayKind, count: usize) -> Result<(), 
 }
 
 fn add_zeros(bytes: &mut Vec<u8>, width: Width, count: usize) -> Result<(), AllocError>
-    ensures { OnOk result (bytes.new.items ≡ bytes.old.items ++ flat_map (spec.entry_bytes width) (replicate count 0)) }
+    ensures { OnOk result (bytes.new.items ≡ bytes.old.items
+        ++ flat_map (spec.entry_bytes width) (replicate count 0)) }
 {
     for _turn in 0..count {
         add_entry(bytes, width, 0)?;
@@ -139,7 +140,8 @@ fn wide_rule(position: Position, width: Width, value: Known, least: &mut Option<
 // An entry of an array.
 fn entry(value: &ArrayValue<'_>, width: Width, file: &File, least: &mut Option<Breach>) -> usize
     ensures value { result ≡ spec.entry_value (file_in file.now) (value_tree value.now) }
-    ensures breaches { least.new ≡ noted least.old (spec.entry_breaches file.now.table.entries width (value_tree value.now)) }
+    ensures breaches { least.new ≡ noted least.old
+        (spec.entry_breaches file.now.table.entries width (value_tree value.now)) }
 {
     let known = or_zero(literal(&value.value, &file.table, least));
     wide_rule(value.position, width, known, least);
@@ -153,8 +155,10 @@ fn add_entries(
     bytes: &mut Vec<u8>,
     least: &mut Option<Breach>,
 ) -> Result<(), AllocError>
-    ensures bytes { OnOk result (bytes.new.items ≡ bytes.old.items ++ flat_map (own_entry_bytes (file_in file.now) width) values.now) }
-    ensures breaches { OnOk result (least.new ≡ noted least.old (flat_map (own_entry_breaches file.now.table.entries width) values.now)) }
+    ensures bytes { OnOk result (bytes.new.items ≡ bytes.old.items
+        ++ flat_map (own_entry_bytes (file_in file.now) width) values.now) }
+    ensures breaches { OnOk result (least.new ≡ noted least.old
+        (flat_map (own_entry_breaches file.now.table.entries width) values.now)) }
 {
     for value in values {
         let number = entry(value, width, file, least);
@@ -173,8 +177,10 @@ fn add_sized(
     least: &mut Option<Breach>,
 ) -> Result<(), AllocError>
     requires one { length values.now ≡ 1 }
-    ensures bytes { OnOk result (bytes.new.items ≡ bytes.old.items ++ spec.bytes_of kind (spec.entries_of (file_in file.now) kind (map value_tree values.now))) }
-    ensures breaches { OnOk result (least.new ≡ noted least.old (spec.values_breaches file.now.table.entries position kind (map value_tree values.now))) }
+    ensures bytes { OnOk result (bytes.new.items ≡ bytes.old.items ++ spec.bytes_of kind
+        (spec.entries_of (file_in file.now) kind (map value_tree values.now))) }
+    ensures breaches { OnOk result (least.new ≡ noted least.old
+        (spec.values_breaches file.now.table.entries position kind (map value_tree values.now))) }
 {
     let size = literal(&values[0].value, &file.table, least);
     let count = zeros_of(position, kind, size, least);
@@ -193,8 +199,10 @@ fn add_listed(
     least: &mut Option<Breach>,
 ) -> Result<(), AllocError>
     requires several { length values.now ≢ 1 }
-    ensures bytes { OnOk result (bytes.new.items ≡ bytes.old.items ++ spec.bytes_of kind (spec.entries_of (file_in file.now) kind (map value_tree values.now))) }
-    ensures breaches { OnOk result (least.new ≡ noted least.old (spec.values_breaches file.now.table.entries position kind (map value_tree values.now))) }
+    ensures bytes { OnOk result (bytes.new.items ≡ bytes.old.items ++ spec.bytes_of kind
+        (spec.entries_of (file_in file.now) kind (map value_tree values.now))) }
+    ensures breaches { OnOk result (least.new ≡ noted least.old
+        (spec.values_breaches file.now.table.entries position kind (map value_tree values.now))) }
 {
     count_rule(position, kind, values.len(), least);
     add_number(bytes, kind, values.len())?;
@@ -210,8 +218,10 @@ fn add_values(
     bytes: &mut Vec<u8>,
     least: &mut Option<Breach>,
 ) -> Result<(), AllocError>
-    ensures bytes { OnOk result (bytes.new.items ≡ bytes.old.items ++ spec.bytes_of kind (spec.entries_of (file_in file.now) kind (map value_tree values.now))) }
-    ensures breaches { OnOk result (least.new ≡ noted least.old (spec.values_breaches file.now.table.entries position kind (map value_tree values.now))) }
+    ensures bytes { OnOk result (bytes.new.items ≡ bytes.old.items ++ spec.bytes_of kind
+        (spec.entries_of (file_in file.now) kind (map value_tree values.now))) }
+    ensures breaches { OnOk result (least.new ≡ noted least.old
+        (spec.values_breaches file.now.table.entries position kind (map value_tree values.now))) }
 {
     if values.len() == 1 {
         add_sized(values, position, kind, file, bytes, least)
@@ -231,8 +241,10 @@ pub fn array(
     found: &mut Arrays,
     least: &mut Option<Breach>,
 ) -> Result<(), AllocError>
-    ensures added { OnOk result (IsArrayAdded (spec.array_bytes (file_in file.now) (array_tree written.now)) found.old found.new) }
-    ensures breaches { OnOk result (least.new ≡ noted least.old (spec.array_breaches file.now.table.entries (array_tree written.now))) }
+    ensures added { OnOk result (IsArrayAdded
+        (spec.array_bytes (file_in file.now) (array_tree written.now)) found.old found.new) }
+    ensures breaches { OnOk result (least.new ≡ noted least.old
+        (spec.array_breaches file.now.table.entries (array_tree written.now))) }
 {
     let before = found.bytes.len();
     let position = written.name.position;

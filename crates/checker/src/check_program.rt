@@ -31,7 +31,8 @@ fn resolve_with<'a>(
     requires keys { file.numbers.keys.items ≡ keys_of (program_tree program.now).words }
     requires few { length file.numbers.keys.items ≤ 2 ^ 59 }
     ensures value { IfOk result (λ c. IsCheckedOf (program_tree program.now) c) }
-    ensures breaches { OnOk result (least.new ≡ noted least.old (program_breaches (program_tree program.now))) }
+    ensures breaches { OnOk result (least.new ≡ noted least.old
+        (program_breaches (program_tree program.now))) }
 {
     let mut found = all_directives(alloc, &file, &program.directives, least)?;
     let parents = parents(alloc, &file.table, &program.directives, least)?;
@@ -66,7 +67,8 @@ fn unnumbered(alloc: Global, program: &Program<'_>) -> Result<File, AllocError>
 // The names of a program and the numbers of its words, which rest on how many bytes its arrays and its objects have.
 fn numbered(alloc: Global, program: &Program<'_>) -> Result<File, AllocError>
     ensures file { IfOk result (λ f. file_in f ≡ file_of (program_tree program.now)) }
-    ensures keys { IfOk result (λ f. f.numbers.keys.items ≡ keys_of (program_tree program.now).words) }
+    ensures keys { IfOk result (λ f. f.numbers.keys.items
+        ≡ keys_of (program_tree program.now).words) }
     ensures few { IfOk result (λ f. length f.numbers.keys.items ≤ 2 ^ 59) }
 {
     let first = unnumbered(alloc, program)?;
@@ -90,7 +92,8 @@ fn resolve<'a>(
     least: &mut Option<Breach>,
 ) -> Result<Checked<'a>, AllocError>
     ensures value { IfOk result (λ c. IsCheckedOf (program_tree program.now) c) }
-    ensures breaches { OnOk result (least.new ≡ noted least.old (program_breaches (program_tree program.now))) }
+    ensures breaches { OnOk result (least.new ≡ noted least.old
+        (program_breaches (program_tree program.now))) }
 {
     let file = numbered(alloc, program)?;
     resolve_with(alloc, program, file, least)
@@ -107,7 +110,8 @@ fn resolve<'a>(
 /// that needs too many temporaries, E33 an abbreviation of fewer than two characters, or one that stands earlier. E99, with
 /// line 0: memory was refused.
 pub fn check<'a>(alloc: Global, program: Program<'a>) -> Result<Checked<'a>, SourceFault>
-    ensures { Answers result (program_breaches (program_tree program.entry)) (λ c. IsCheckedOf (program_tree program.entry) c) }
+    ensures { Answers result (program_breaches (program_tree program.entry))
+        (λ c. IsCheckedOf (program_tree program.entry) c) }
 {
     let mut least = None;
     match resolve(alloc, &program, &mut least) {

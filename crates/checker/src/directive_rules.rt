@@ -49,8 +49,10 @@ fn locals(
     names: &[Name<'_>],
     least: &mut Option<Breach>,
 ) -> Result<Table, AllocError>
-    ensures table { IfOk result (λ t. (key : List ℕ) → in_table t.entries key ≡ local_binding (local_from 0 (map name_tree names.now) key)) }
-    ensures breaches { OnOk result (least.new ≡ noted least.old (spec.locals_breaches [] (map name_tree names.now))) }
+    ensures table { IfOk result (λ t. (key : List ℕ)
+        → in_table t.entries key ≡ local_binding (local_from 0 (map name_tree names.now) key)) }
+    ensures breaches { OnOk result (least.new ≡ noted least.old
+        (spec.locals_breaches [] (map name_tree names.now))) }
 {
     let mut table = IndexMap::new(alloc);
     for number in 0..names.len() {
@@ -75,7 +77,8 @@ fn routine_in<'a>(
     routine: &Routine<'a>,
     least: &mut Option<Breach>,
 ) -> Result<CheckedRoutine<'a>, AllocError>
-    ensures { IfOk result (λ r. IsRoutineIn (seen_in scope.now) (routine_tree routine.now) least.old least.new r) }
+    ensures { IfOk result (λ r. IsRoutineIn (seen_in scope.now) (routine_tree routine.now)
+        least.old least.new r) }
 {
     let name = routine.name;
     let locals = routine.locals.len();
@@ -95,7 +98,8 @@ fn routine<'a>(
     routine: &Routine<'a>,
     least: &mut Option<Breach>,
 ) -> Result<CheckedRoutine<'a>, AllocError>
-    ensures { IfOk result (λ r. IsRoutineOf (file_in file.now) (routine_tree routine.now) least.old least.new r) }
+    ensures { IfOk result (λ r. IsRoutineOf (file_in file.now) (routine_tree routine.now)
+        least.old least.new r) }
 {
     let locals = locals(alloc, &routine.locals, least)?;
     let scope = Scope {
@@ -142,7 +146,9 @@ fn global(
     least: &mut Option<Breach>,
 ) -> u16
     ensures value { result ≡ initial_value (file_in file.now) (optional_tree value.now) }
-    ensures breaches { least.new ≡ noted least.old (spec.global_directive_breaches file.now.table.entries names.now.table.entries names.now.counts (name_tree name.entry) (optional_tree value.now)) }
+    ensures breaches { least.new ≡ noted least.old
+        (spec.global_directive_breaches file.now.table.entries names.now.table.entries
+        names.now.counts (name_tree name.entry) (optional_tree value.now)) }
 {
     twice(&names.table, name, least);
     limit(MOST_GLOBALS, names.counts.globals, name, least);
@@ -150,7 +156,9 @@ fn global(
 }
 
 fn attribute(names: &Names, name: Name<'_>, least: &mut Option<Breach>)
-    ensures { least.new ≡ noted least.old (spec.attribute_directive_breaches names.now.table.entries names.now.counts (name_tree name.entry)) }
+    ensures { least.new ≡ noted least.old
+        (spec.attribute_directive_breaches names.now.table.entries names.now.counts
+        (name_tree name.entry)) }
 {
     twice(&names.table, name, least);
     limit(MOST_ATTRIBUTES, names.counts.attributes, name, least);
@@ -165,7 +173,9 @@ fn property(
     least: &mut Option<Breach>,
 ) -> u16
     ensures value { result ≡ initial_value (file_in file.now) (optional_tree value.now) % 65536 }
-    ensures breaches { least.new ≡ noted least.old (spec.property_directive_breaches file.now.table.entries names.now.table.entries names.now.counts (name_tree name.entry) (optional_tree value.now)) }
+    ensures breaches { least.new ≡ noted least.old
+        (spec.property_directive_breaches file.now.table.entries names.now.table.entries
+        names.now.counts (name_tree name.entry) (optional_tree value.now)) }
 {
     twice(&names.table, name, least);
     limit(MOST_PROPERTIES, names.counts.properties, name, least);
@@ -179,8 +189,11 @@ fn defined_object<'a>(
     written: &Object<'a>,
     least: &mut Option<Breach>,
 ) -> Result<CheckedObject<'a>, AllocError>
-    ensures value { IfOk result (λ o. object_of o ≡ object_in (file_in file.now) (object_tree written.now)) }
-    ensures breaches { OnOk result (least.new ≡ noted least.old (spec.object_directive_breaches file.now.table.entries names.now.table.entries names.now.counts (object_tree written.now))) }
+    ensures value { IfOk result (λ o. object_of o
+        ≡ object_in (file_in file.now) (object_tree written.now)) }
+    ensures breaches { OnOk result (least.new ≡ noted least.old
+        (spec.object_directive_breaches file.now.table.entries names.now.table.entries
+        names.now.counts (object_tree written.now))) }
 {
     twice(&names.table, written.name, least);
     limit(MOST_OBJECTS, names.counts.objects, written.name, least);
@@ -197,8 +210,11 @@ fn directive<'a>(
     found: &mut Found<'a>,
     least: &mut Option<Breach>,
 ) -> Result<(), AllocError>
-    ensures added { OnOk result (IsAdded (file_in file.now) (directive_tree directive.now ∷ []) found.old found.new) }
-    ensures breaches { OnOk result (least.new ≡ noted least.old (spec.directive_breaches file.now.table.entries names.now.table.entries names.now.counts (directive_tree directive.now))) }
+    ensures added { OnOk result
+        (IsAdded (file_in file.now) (directive_tree directive.now ∷ []) found.old found.new) }
+    ensures breaches { OnOk result (least.new ≡ noted least.old
+        (spec.directive_breaches file.now.table.entries names.now.table.entries names.now.counts
+        (directive_tree directive.now))) }
 {
     match directive {
         Directive::Global(name, value) => {
@@ -251,8 +267,11 @@ fn add_all<'a>(
     least: &mut Option<Breach>,
 ) -> Result<(), AllocError>
     requires first { names.old.counts ≡ no_counts }
-    ensures added { OnOk result (IsAdded (file_in file.now) (map directive_tree directives.now) found.old found.new) }
-    ensures breaches { OnOk result (least.new ≡ noted least.old (spec.directives_breaches file.now.table.entries names.old.table.entries no_counts (map directive_tree directives.now))) }
+    ensures added { OnOk result
+        (IsAdded (file_in file.now) (map directive_tree directives.now) found.old found.new) }
+    ensures breaches { OnOk result (least.new ≡ noted least.old
+        (spec.directives_breaches file.now.table.entries names.old.table.entries no_counts
+        (map directive_tree directives.now))) }
 {
     for one in directives {
         directive(alloc, file, names, one, found, least)?;
@@ -273,8 +292,11 @@ pub fn all_directives<'a>(
     directives: &[Directive<'a>],
     least: &mut Option<Breach>,
 ) -> Result<Found<'a>, AllocError>
-    ensures found { IfOk result (λ f. IsFound (file_in file.now) (map directive_tree directives.now) f) }
-    ensures breaches { OnOk result (least.new ≡ noted least.old (spec.directives_breaches file.now.table.entries first_table no_counts (map directive_tree directives.now))) }
+    ensures found { IfOk result
+        (λ f. IsFound (file_in file.now) (map directive_tree directives.now) f) }
+    ensures breaches { OnOk result (least.new ≡ noted least.old
+        (spec.directives_breaches file.now.table.entries first_table no_counts
+        (map directive_tree directives.now))) }
 {
     let mut names = Names::new(alloc)?;
     let mut found = Found {

@@ -16,7 +16,8 @@ use syntax::Directive;
 
 // The name of the first routine with a key.
 fn first_routine<'a>(directives: &[Directive<'a>], key: &Key) -> Option<Name<'a>>
-    ensures { option_map name_tree result ≡ spec.first_routine (map directive_tree directives.now) key.now }
+    ensures { option_map name_tree result
+        ≡ spec.first_routine (map directive_tree directives.now) key.now }
 {
     for directive in directives {
         if let Directive::Routine(routine) = directive {
@@ -29,7 +30,8 @@ fn first_routine<'a>(directives: &[Directive<'a>], key: &Key) -> Option<Name<'a>
 }
 
 fn main_position(directives: &[Directive<'_>], end: Position) -> Position
-    ensures { result ≡ position_or end (spec.first_routine (map directive_tree directives.now) main_key) }
+    ensures { result ≡ position_or end
+        (spec.first_routine (map directive_tree directives.now) main_key) }
 {
     match first_routine(directives, &key_of(b"main")) {
         Some(name) => name.position,
@@ -46,7 +48,9 @@ pub fn main_number(
     least: &mut Option<Breach>,
 ) -> usize
     ensures value { result ≡ routine_number (in_table whole.now.entries main_key) }
-    ensures breaches { least.new ≡ noted least.old (main_breaches end (spec.first_routine (map directive_tree directives.now) main_key) (in_table whole.now.entries main_key)) }
+    ensures breaches { least.new ≡ noted least.old
+        (main_breaches end (spec.first_routine (map directive_tree directives.now) main_key)
+        (in_table whole.now.entries main_key)) }
 {
     match find(whole, b"main") {
         Some(Binding::Routine(number, locals)) => {

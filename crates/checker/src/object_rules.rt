@@ -42,7 +42,8 @@ fn short_rule(short: &Option<Text<'_>>, least: &mut Option<Breach>)
 // The number of a property's words. The grammar gives it one at least.
 #[tactic(auto, using(names::proofs::Noted::noted_none))]
 fn count_rule(name: Name<'_>, values: &[ArrayValue<'_>], least: &mut Option<Breach>)
-    ensures { least.new ≡ noted least.old (spec.count_breaches name.entry.position (map value_tree values.now)) }
+    ensures { least.new ≡ noted least.old
+        (spec.count_breaches name.entry.position (map value_tree values.now)) }
 {
     if values.is_empty() {
         note(least, TOO_MANY, name.position);
@@ -53,7 +54,8 @@ fn count_rule(name: Name<'_>, values: &[ArrayValue<'_>], least: &mut Option<Brea
 
 fn word(value: &ArrayValue<'_>, file: &File, least: &mut Option<Breach>) -> u16
     ensures value { result ≡ spec.word_of (file_in file.now) (value_tree value.now) }
-    ensures breaches { least.new ≡ noted least.old (spec.value_breaches file.now.table.entries (value_tree value.now)) }
+    ensures breaches { least.new ≡ noted least.old
+        (spec.value_breaches file.now.table.entries (value_tree value.now)) }
 {
     file.numbers
         .value(or_zero(literal(&value.value, &file.table, least)))
@@ -65,8 +67,10 @@ fn words(
     file: &File,
     least: &mut Option<Breach>,
 ) -> Result<Vec<u16>, AllocError>
-    ensures words { IfOk result (λ v. v.items ≡ map (spec.word_of (file_in file.now)) (map value_tree values.now)) }
-    ensures breaches { OnOk result (least.new ≡ noted least.old (flat_map (spec.value_breaches file.now.table.entries) (map value_tree values.now))) }
+    ensures words { IfOk result (λ v. v.items
+        ≡ map (spec.word_of (file_in file.now)) (map value_tree values.now)) }
+    ensures breaches { OnOk result (least.new ≡ noted least.old
+        (flat_map (spec.value_breaches file.now.table.entries) (map value_tree values.now))) }
 {
     let mut found = Vec::new(alloc);
     for value in values {
@@ -82,8 +86,10 @@ fn provided(
     file: &File,
     least: &mut Option<Breach>,
 ) -> Result<(u8, Vec<u16>), AllocError>
-    ensures value { IfOk result (λ x. property_of x ≡ spec.provided_of (file_in file.now) (property_tree written.now)) }
-    ensures breaches { OnOk result (least.new ≡ noted least.old (spec.provided_breaches file.now.table.entries (property_tree written.now))) }
+    ensures value { IfOk result (λ x. property_of x
+        ≡ spec.provided_of (file_in file.now) (property_tree written.now)) }
+    ensures breaches { OnOk result (least.new ≡ noted least.old
+        (spec.provided_breaches file.now.table.entries (property_tree written.now))) }
 {
     let name = written.name;
     let number = property(name, find(&file.table, name.text), least);
@@ -108,7 +114,8 @@ fn place_below(number: u8, found: &[(u8, Vec<u16>)]) -> usize
 
 #[tactic(auto, using(crate::proofs::ObjectLists::inserted_mapped))]
 fn add_property(added: (u8, Vec<u16>), found: &mut Vec<(u8, Vec<u16>)>) -> Result<(), AllocError>
-    ensures { OnOk result (map property_of found.new.items ≡ spec.with_property (property_of added) (map property_of found.old.items)) }
+    ensures { OnOk result (map property_of found.new.items
+        ≡ spec.with_property (property_of added) (map property_of found.old.items)) }
 {
     let place = place_below(added.0, found);
     found.insert(place, added)?;
@@ -121,8 +128,11 @@ fn properties(
     file: &File,
     least: &mut Option<Breach>,
 ) -> Result<Vec<(u8, Vec<u16>)>, AllocError>
-    ensures value { IfOk result (λ v. map property_of v.items ≡ spec.with_properties (file_in file.now) [] (map property_tree written.now)) }
-    ensures breaches { OnOk result (least.new ≡ noted least.old (flat_map (spec.provided_breaches file.now.table.entries) (map property_tree written.now))) }
+    ensures value { IfOk result (λ v. map property_of v.items
+        ≡ spec.with_properties (file_in file.now) [] (map property_tree written.now)) }
+    ensures breaches { OnOk result (least.new ≡ noted least.old
+        (flat_map (spec.provided_breaches file.now.table.entries)
+        (map property_tree written.now))) }
 {
     let mut found = Vec::new(alloc);
     for one in written {
@@ -134,7 +144,8 @@ fn properties(
 
 fn given(name: Name<'_>, file: &File, least: &mut Option<Breach>) -> u8
     ensures value { result ≡ spec.given_of (file_in file.now) (name_tree name.entry) }
-    ensures breaches { least.new ≡ noted least.old (spec.given_breaches file.now.table.entries (name_tree name.entry)) }
+    ensures breaches { least.new ≡ noted least.old
+        (spec.given_breaches file.now.table.entries (name_tree name.entry)) }
 {
     (attribute(name, find(&file.table, name.text), least) % 256) as u8
 }
@@ -145,8 +156,10 @@ fn attributes(
     file: &File,
     least: &mut Option<Breach>,
 ) -> Result<Vec<u8>, AllocError>
-    ensures value { IfOk result (λ v. v.items ≡ map (spec.given_of (file_in file.now)) (map name_tree names.now)) }
-    ensures breaches { OnOk result (least.new ≡ noted least.old (flat_map (spec.given_breaches file.now.table.entries) (map name_tree names.now))) }
+    ensures value { IfOk result (λ v. v.items
+        ≡ map (spec.given_of (file_in file.now)) (map name_tree names.now)) }
+    ensures breaches { OnOk result (least.new ≡ noted least.old
+        (flat_map (spec.given_breaches file.now.table.entries) (map name_tree names.now))) }
 {
     let mut found = Vec::new(alloc);
     for name in names {
@@ -156,7 +169,8 @@ fn attributes(
 }
 
 fn names_of<'a>(alloc: Global, written: &[Property<'a>]) -> Result<Vec<Name<'a>>, AllocError>
-    ensures { IfOk result (λ v. map name_tree v.items ≡ map spec.property_name (map property_tree written.now)) }
+    ensures { IfOk result (λ v. map name_tree v.items
+        ≡ map spec.property_name (map property_tree written.now)) }
 {
     let mut names = Vec::new(alloc);
     for one in written {
@@ -167,7 +181,8 @@ fn names_of<'a>(alloc: Global, written: &[Property<'a>]) -> Result<Vec<Name<'a>>
 
 // Two of one name.
 fn repeated(alloc: Global, names: &[Name<'_>], least: &mut Option<Breach>) -> Result<(), AllocError>
-    ensures { OnOk result (least.new ≡ noted least.old (repeated_breaches [] (map name_tree names.now))) }
+    ensures { OnOk result (least.new ≡ noted least.old
+        (repeated_breaches [] (map name_tree names.now))) }
 {
     let mut table = IndexMap::new(alloc);
     for number in 0..names.len() {
@@ -198,8 +213,10 @@ pub fn object<'a>(
     file: &File,
     least: &mut Option<Breach>,
 ) -> Result<CheckedObject<'a>, AllocError>
-    ensures value { IfOk result (λ o. object_of o ≡ spec.object_in (file_in file.now) (object_tree written.now)) }
-    ensures breaches { OnOk result (least.new ≡ noted least.old (spec.object_breaches file.now.table.entries (object_tree written.now))) }
+    ensures value { IfOk result (λ o. object_of o
+        ≡ spec.object_in (file_in file.now) (object_tree written.now)) }
+    ensures breaches { OnOk result (least.new ≡ noted least.old
+        (spec.object_breaches file.now.table.entries (object_tree written.now))) }
 {
     short_rule(&written.short, least);
     let names = names_of(alloc, &written.properties)?;

@@ -88,7 +88,8 @@ fn parent_kind(
 
 #[tactic(auto, using(names::proofs::Noted::noted_none))]
 fn parent_rule(whole: &Table, before: usize, parent: &Option<Name<'_>>, least: &mut Option<Breach>)
-    ensures { least.new ≡ noted least.old (spec.named_parent_breaches whole.now.entries before (option_map name_tree parent.now)) }
+    ensures { least.new ≡ noted least.old
+        (spec.named_parent_breaches whole.now.entries before (option_map name_tree parent.now)) }
 {
     if let Some(name) = parent {
         parent_kind(name.position, before, find(whole, name.text), least);
@@ -105,7 +106,8 @@ fn object_number(found: Option<Binding>) -> usize
 }
 
 fn parent_number(whole: &Table, above: Option<(usize, usize)>, parent: &Option<Name<'_>>) -> usize
-    ensures { result ≡ spec.parent_number whole.now.entries above (option_map name_tree parent.now) }
+    ensures { result ≡ spec.parent_number whole.now.entries above
+        (option_map name_tree parent.now) }
 {
     match parent {
         Some(name) => object_number(find(whole, name.text)),
@@ -125,9 +127,14 @@ fn stand(
     least: &mut Option<Breach>,
 ) -> Result<u16, AllocError>
     requires few { before < 2 ^ 63 }
-    ensures value { IfOk result (λ p. p ≡ spec.parent_number whole.now.entries (spec.above_of (length (object_tree object.now).arrows) chain.old.items) (object_tree object.now).parent % 65536) }
-    ensures chain { OnOk result (chain.new.items ≡ spec.opened (length (object_tree object.now).arrows) before chain.old.items) }
-    ensures breaches { OnOk result (least.new ≡ noted least.old (spec.stand_breaches whole.now.entries chain.old.items before (object_tree object.now))) }
+    ensures value { IfOk result (λ p. p
+        ≡ spec.parent_number whole.now.entries
+        (spec.above_of (length (object_tree object.now).arrows) chain.old.items)
+        (object_tree object.now).parent % 65536) }
+    ensures chain { OnOk result (chain.new.items
+        ≡ spec.opened (length (object_tree object.now).arrows) before chain.old.items) }
+    ensures breaches { OnOk result (least.new ≡ noted least.old
+        (spec.stand_breaches whole.now.entries chain.old.items before (object_tree object.now))) }
 {
     let arrows = object.arrows.len();
     close(arrows, chain);
@@ -150,8 +157,11 @@ pub fn parents(
     directives: &[Directive<'_>],
     least: &mut Option<Breach>,
 ) -> Result<Vec<u16>, AllocError>
-    ensures value { IfOk result (λ v. v.items ≡ spec.parents_of whole.now.entries (object_trees (map directive_tree directives.now))) }
-    ensures breaches { OnOk result (least.new ≡ noted least.old (spec.standing_breaches whole.now.entries (object_trees (map directive_tree directives.now)))) }
+    ensures value { IfOk result (λ v. v.items
+        ≡ spec.parents_of whole.now.entries (object_trees (map directive_tree directives.now))) }
+    ensures breaches { OnOk result (least.new ≡ noted least.old
+        (spec.standing_breaches whole.now.entries
+        (object_trees (map directive_tree directives.now)))) }
 {
     let mut parents = Vec::new(alloc);
     let mut chain = Vec::new(alloc);

@@ -17,7 +17,8 @@ use syntax::Directive;
 
 // The bytes of the array that a directive defines, if it does.
 fn add_array(file: &File, directive: &Directive<'_>, arrays: &mut Arrays) -> Result<(), AllocError>
-    ensures { OnOk result (arrays.new.bytes.items ≡ arrays.old.bytes.items ++ concat (spec.arrays_of (file_in file.now) (directive_tree directive.now ∷ []))) }
+    ensures { OnOk result (arrays.new.bytes.items ≡ arrays.old.bytes.items
+        ++ concat (spec.arrays_of (file_in file.now) (directive_tree directive.now ∷ []))) }
 {
     match directive {
         Directive::Array(written) => {
@@ -39,7 +40,8 @@ fn add_arrays(
     directives: &[Directive<'_>],
     arrays: &mut Arrays,
 ) -> Result<(), AllocError>
-    ensures { OnOk result (arrays.new.bytes.items ≡ arrays.old.bytes.items ++ concat (spec.arrays_of (file_in file.now) (map directive_tree directives.now))) }
+    ensures { OnOk result (arrays.new.bytes.items ≡ arrays.old.bytes.items
+        ++ concat (spec.arrays_of (file_in file.now) (map directive_tree directives.now))) }
 {
     for one in directives {
         add_array(file, one, arrays)?;
@@ -57,7 +59,8 @@ pub fn bytes_of_arrays(
     file: &File,
     directives: &[Directive<'_>],
 ) -> Result<usize, AllocError>
-    ensures bytes { IfOk result (λ n. n ≡ length (concat (spec.arrays_of (file_in file.now) (map directive_tree directives.now)))) }
+    ensures bytes { IfOk result (λ n. n
+        ≡ length (concat (spec.arrays_of (file_in file.now) (map directive_tree directives.now)))) }
     ensures few { IfOk result (λ n. n < 2 ^ 63) }
 {
     let mut arrays = Arrays::none(alloc);
@@ -75,7 +78,8 @@ pub fn objects_alone<'a>(
     file: &File,
     directives: &[Directive<'a>],
 ) -> Result<Vec<CheckedObject<'a>>, AllocError>
-    ensures { IfOk result (λ v. map object_of v.items ≡ spec.objects_in (file_in file.now) (map directive_tree directives.now)) }
+    ensures { IfOk result (λ v. map object_of v.items
+        ≡ spec.objects_in (file_in file.now) (map directive_tree directives.now)) }
 {
     let mut objects = Vec::new(alloc);
     for directive in directives {

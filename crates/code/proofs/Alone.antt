@@ -15,9 +15,9 @@ use Rattle.items.specs.Items.{Item, Destination}
 use Rattle.items.specs.Items as items
 use Rattle.items.specs.Laws.{IsOperand, IsDestination}
 use Rattle.items.specs.Stack as stack
+use Rattle.instructions.specs.Instructions.{giving, in_place, result_in}
+use Rattle.selection.specs.ItemBytes.{text_bytes}
 use Rattle.code.proofs.Behind.{Holds}
-use Rattle.code.specs.Instructions.{giving, in_place, result_in}
-use Rattle.code.specs.Bytes.{text_bytes}
 use Rattle.code.proofs.Play.{Leads, address}
 use Rattle.code.proofs.Parts.{machine as at_words}
 use Rattle.code.proofs.Steps.{point, leads_then, one_step, top_value, variable_value}

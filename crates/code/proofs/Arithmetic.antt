@@ -18,9 +18,9 @@ use Rattle.meaning.specs.Meaning.{with_prefix}
 use Rattle.items.specs.Items.{Item, Destination}
 use Rattle.items.specs.Items as items
 use Rattle.items.specs.Stack as stack
+use Rattle.instructions.specs.Instructions.{giving, in_place, result_in, operands, takes}
+use Rattle.selection.specs.ItemBytes.{text_bytes}
 use Rattle.code.proofs.Behind.{Holds}
-use Rattle.code.specs.Instructions.{giving, in_place, result_in, operands, takes}
-use Rattle.code.specs.Bytes.{text_bytes}
 use Rattle.code.proofs.Play.{stays}
 use Rattle.code.proofs.Parts.{machine as at_words}
 use Rattle.code.proofs.Steps.{point, first_held, one_operand, two_operands, small_value}

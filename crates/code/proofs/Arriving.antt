@@ -19,9 +19,11 @@ use Rattle.items.specs.Stack.{Caller}
 use Rattle.items.specs.Stack as stack
 use Rattle.code.proofs.Behind.{Holds}
 use Rattle.meaning.specs.Objects.{Objects}
-use Rattle.code.specs.Addresses.{Addresses}
-use Rattle.code.specs.Instructions.{item_code}
-use Rattle.code.specs.Bytes.{text_bytes, item_bytes, place_of, offset_of}
+use Rattle.instructions.specs.Addresses.{Addresses}
+use Rattle.selection.specs.ItemCode.{item_code}
+use Rattle.selection.specs.ItemBytes.{text_bytes, item_bytes}
+use Rattle.instructions.specs.Places.{offset_of}
+use Rattle.code.specs.Bytes.{place_of}
 use Rattle.code.specs.HeldProgram.{sizes_of, HoldsProgram}
 use Rattle.code.proofs.Play.{Leads, Stored, items_in, address, frames_of, back_of, result_of, state_of, next_of}
 use Rattle.code.proofs.Play.{IsCaller, Good, Led, IsChosen, none_chosen, other_counts}

@@ -22,8 +22,9 @@ use Rattle.items.specs.Items as items
 use Rattle.items.specs.Stack as stack
 use Rattle.region.specs.Region.{tables_base}
 use Rattle.region.specs.Tables.{Table, words_place}
-use Rattle.code.specs.Instructions.{plain, provided, tested_word, tested_single, assigned_word, is_entry, at_object}
-use Rattle.code.specs.Instructions.{pulled_into, word_in, passed_on}
+use Rattle.instructions.specs.Instructions.{plain, pulled_into, word_in}
+use Rattle.selection.specs.ItemCode.{provided, tested_word, tested_single, assigned_word, is_entry, at_object}
+use Rattle.selection.specs.ItemCode.{passed_on}
 use Rattle.code.proofs.Memory.{word_of}
 use Rattle.code.proofs.Parts.{machine as at_words}
 use Rattle.code.proofs.Steps.{point, leads_then, one_step, first_held, others_held, three_operands, small_value}
@@ -35,8 +36,7 @@ use Rattle.code.proofs.Storing.{after_bound}
 use Rattle.code.proofs.TestedObjects.{IsObjectHere, objects_here, object_tests, tests_led}
 use Rattle.code.proofs.Working.{Works, HoldsWord, fault_led, reads_word, word_value, word_still, same_base}
 use Rattle.code.proofs.Changing.{variable_same, high_same, stored_objects, passed_led}
-use Rattle.code.proofs.Providing.{words_at, acts_on, Finds, finds, WordTested, word_tests, SingleTested}
-use Rattle.code.proofs.Providing.{single_tests}
+use Rattle.code.proofs.Providing.{words_at, acts_on, Finds, finds, WordTested, word_tests, SingleTested, single_tests}
 use Rattle.code.proofs.Pulling.{opens, pulls, works_at}
 
 -- one word where there is one

@@ -14,9 +14,9 @@ use Rattle.zcore.specs.Execution.{perform}
 use Rattle.meaning.specs.declared.cause.Cause.{Cause}
 use Rattle.items.specs.Items as items
 use Rattle.region.specs.Tables.{Table}
-use Rattle.code.specs.Addresses.{fault_address}
-use Rattle.code.specs.Instructions.{branching, fail, constant, is_between, tested_between, tested_in}
-use Rattle.code.specs.Instructions.{word_in, number_of}
+use Rattle.instructions.specs.Addresses.{fault_address}
+use Rattle.instructions.specs.Instructions.{branching, fail, constant, is_between, tested_between, word_in, number_of}
+use Rattle.selection.specs.ItemCode.{tested_in}
 use Rattle.code.proofs.Behind.{Holds, holds_append}
 use Rattle.code.proofs.Play.{Leads}
 use Rattle.code.proofs.Parts.{machine as at_words}

@@ -12,10 +12,11 @@ use Rattle.items.specs.Items.{Item, Test, agrees}
 use Rattle.items.specs.Items as items
 use Rattle.items.specs.Laws.{IsTested}
 use Rattle.items.specs.Stack as stack
-use Rattle.code.proofs.Behind.{Holds}
-use Rattle.code.specs.Instructions.{operands, labelled, test_operation, tested_code, branch_code, most_tested}
-use Rattle.code.specs.Bytes.{text_bytes, place_of}
+use Rattle.instructions.specs.Instructions.{operands, labelled, test_operation, tested_code, branch_code, most_tested}
+use Rattle.selection.specs.ItemBytes.{text_bytes}
+use Rattle.code.specs.Bytes.{place_of}
 use Rattle.code.specs.HeldProgram.{sizes_of}
+use Rattle.code.proofs.Behind.{Holds}
 use Rattle.code.proofs.Play.{Leads, address, IsChosen, none_chosen}
 use Rattle.code.proofs.Parts.{machine as at_words}
 use Rattle.code.proofs.Steps.{point, leads_then, landing}

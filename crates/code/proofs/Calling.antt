@@ -19,16 +19,16 @@ use Rattle.items.specs.Items.{Item, Destination}
 use Rattle.items.specs.Items as items
 use Rattle.items.specs.Stack.{Caller}
 use Rattle.items.specs.Stack as stack
+use Rattle.instructions.specs.Addresses.{Addresses}
+use Rattle.instructions.specs.Instructions.{number_of, operands, takes, call_operation, call_result, calling, call_code}
+use Rattle.instructions.specs.Instructions.{most_arguments}
 use Rattle.code.proofs.Behind.{Holds}
-use Rattle.code.specs.Addresses.{Addresses}
-use Rattle.code.specs.Instructions.{number_of, operands, takes, call_operation, call_result, calling, call_code}
-use Rattle.code.specs.Instructions.{most_arguments}
 use Rattle.code.proofs.Play.{Leads, next_of, state_of, IsCaller, Led}
 use Rattle.code.proofs.Parts.{machine as at_words}
 use Rattle.code.proofs.Steps.{point, leads_then, first_held, large_value}
 use Rattle.code.proofs.Fitting.{Shaped}
-use Rattle.code.proofs.ItemOperands.{Gives, with_first, values_then, by_operands, gives_count, gives_length}
-use Rattle.code.proofs.ItemOperands.{few_pushed, operands_length}
+use Rattle.code.proofs.ItemOperands.{Gives, with_first, values_then, by_operands, gives_count, gives_length, few_pushed}
+use Rattle.code.proofs.ItemOperands.{operands_length}
 use Rattle.code.proofs.Ends.{does_after}
 use Rattle.code.proofs.Lengths.{one_length}
 use Rattle.code.proofs.Entering.{enter_led}

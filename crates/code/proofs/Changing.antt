@@ -15,7 +15,8 @@ use Rattle.items.specs.Items as items
 use Rattle.items.specs.Stack as stack
 use Rattle.region.specs.Region.{HasObjects, KeepsRest}
 use Rattle.region.specs.Tables.{Table}
-use Rattle.code.specs.Instructions.{number_of, push, store, assigned_word, passed_on}
+use Rattle.instructions.specs.Instructions.{number_of, push, store}
+use Rattle.selection.specs.ItemCode.{assigned_word, passed_on}
 use Rattle.code.proofs.Behind.{Holds, holds_on}
 use Rattle.code.proofs.Play.{Leads, Stored, none_chosen}
 use Rattle.code.proofs.Memory.{word_of}

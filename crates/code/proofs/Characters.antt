@@ -15,14 +15,14 @@ use Rattle.zcore.specs.State.{State, done}
 use Rattle.zcore.specs.Parts.{operand_value, operand_values, branch_on, transcribed}
 use Rattle.zcore.specs.Execution.{perform, step, equals_any, print_character}
 use Rattle.meaning.specs.declared.cause.Cause.TheVariants as causes
-use Rattle.code.specs.Addresses.{fault_address}
+use Rattle.instructions.specs.Addresses.{fault_address}
 use Rattle.meaning.specs.World.{put, value_in}
 use Rattle.meaning.specs.World as source
 use Rattle.meaning.specs.Meaning.{is_character, put_character}
 use Rattle.items.specs.Items as items
 use Rattle.items.specs.Stack as stack
+use Rattle.instructions.specs.Instructions.{plain, branching, number_of, pull, fail, in_place, tested_character}
 use Rattle.code.proofs.Behind.{Holds, holds_append}
-use Rattle.code.specs.Instructions.{plain, branching, number_of, pull, fail, in_place, tested_character}
 use Rattle.code.proofs.Play.{Leads, stays, moves}
 use Rattle.code.proofs.Memory.{with_variable}
 use Rattle.code.proofs.Parts.{machine as at_words, Reads}

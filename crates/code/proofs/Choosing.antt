@@ -17,8 +17,8 @@ use Rattle.items.specs.Items.{Item, Test}
 use Rattle.items.specs.Items as items
 use Rattle.items.specs.Laws.{IsTested}
 use Rattle.items.specs.Stack as stack
-use Rattle.code.specs.Instructions.{chosen_variable, most_compared, in_place, pull, store, constant, labelled}
-use Rattle.code.specs.Instructions.{test_operation}
+use Rattle.instructions.specs.Instructions.{chosen_variable, most_compared, in_place, pull, store, constant, labelled}
+use Rattle.instructions.specs.Instructions.{test_operation}
 use Rattle.code.specs.HeldProgram.{sizes_of}
 use Rattle.code.proofs.Behind.{Holds}
 use Rattle.code.proofs.Play.{Leads, IsChosen}
@@ -30,12 +30,11 @@ use Rattle.code.proofs.Fitting.{Shaped, held_bytes}
 use Rattle.code.proofs.ItemOperands.{constant_value, values_then}
 use Rattle.code.proofs.Labels.{Branching, label_leads}
 use Rattle.code.proofs.Places.{ends_by}
-use Rattle.code.proofs.Arriving.{Running, at, at_case, around, here, high, above, few, kept, LedFrom, Stands}
-use Rattle.code.proofs.Arriving.{code_here, code_held, arrives_with, situation_here}
+use Rattle.code.proofs.Arriving.{Running, at, at_case, around, here, high, above, few, kept, LedFrom, Stands, code_here}
+use Rattle.code.proofs.Arriving.{code_held, arrives_with, situation_here}
 use Rattle.code.proofs.Temporaries.{Scratch, scratch_here, scratch_with, word_written, made}
 use Rattle.code.proofs.Delivering.{stored_step}
-use Rattle.code.proofs.Alone.{IsOperandHere, single, by_operand, alone_count, alone_value, next_place}
-use Rattle.code.proofs.Alone.{plain_length}
+use Rattle.code.proofs.Alone.{IsOperandHere, single, by_operand, alone_count, alone_value, next_place, plain_length}
 use Rattle.code.proofs.Jumping.{is_in, short}
 use Rattle.code.proofs.Tests.{labelled_fit, branching_some, TestOf, Counted, test_of}
 use Rattle.code.proofs.Branching.{over, lands_led}

@@ -16,8 +16,8 @@ use Rattle.meaning.specs.declared.cause.Cause.TheVariants as causes
 use Rattle.meaning.specs.Objects.{Climbed, clear, inside, spent, climb}
 use Rattle.region.specs.Region.{HasObjects}
 use Rattle.region.specs.Tables.{Table}
-use Rattle.code.specs.Addresses.{fault_address}
-use Rattle.code.specs.Instructions.{plain, giving, branching, fail}
+use Rattle.instructions.specs.Addresses.{fault_address}
+use Rattle.instructions.specs.Instructions.{plain, giving, branching, fail}
 use Rattle.code.proofs.Behind.{Holds, holds_append}
 use Rattle.code.proofs.Play.{Leads}
 use Rattle.code.proofs.Memory.{word_of, with_variable}

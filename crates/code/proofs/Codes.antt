@@ -14,10 +14,12 @@ use Rattle.items.specs.declared.item.Item as code
 use Rattle.items.specs.Items.{Item}
 use Rattle.items.specs.Items as items
 use Rattle.items.specs.Code.{item_of, items_of}
-use Rattle.code.specs.Addresses.{Addresses, Sizes}
-use Rattle.code.specs.Bytes.{item_bytes, no_addresses, target_of, least_size, label_size, part_of, parts_of, lefts_of}
-use Rattle.code.specs.Bytes.{place_of, offset_of, items_bytes, code_bytes, code_size}
-use Rattle.code.specs.Written.{CodeOf, place_in, branch_offsets}
+use Rattle.instructions.specs.Addresses.{Addresses, Sizes}
+use Rattle.selection.specs.ItemBytes.{item_bytes}
+use Rattle.instructions.specs.Places.{target_of, label_size, offset_of, place_in}
+use Rattle.code.specs.Bytes.{no_addresses, least_size, part_of, parts_of, lefts_of, place_of, items_bytes, code_bytes}
+use Rattle.code.specs.Bytes.{code_size}
+use Rattle.code.specs.Written.{CodeOf, branch_offsets}
 use Rattle.forms.proofs.Offsets.{left_length}
 use Rattle.code.proofs.Places.{branch_offset, ends_at}
 

@@ -11,7 +11,7 @@ use Rattle.items.specs.Items.{Item, Destination}
 use Rattle.items.specs.Items as items
 use Rattle.items.specs.Laws.{IsDestination}
 use Rattle.items.specs.Stack as stack
-use Rattle.code.specs.Instructions.{number_of, result_in}
+use Rattle.instructions.specs.Instructions.{number_of, result_in}
 use Rattle.code.proofs.Play.{Leads, address}
 use Rattle.code.proofs.Memory.{with_variable}
 use Rattle.code.proofs.Parts.{machine as at_words, Writes, global_writes}

@@ -17,7 +17,8 @@ use Rattle.meaning.specs.World.{value_in, with_value, write_variable, give, ◌>
 use Rattle.items.specs.Items.{agrees}
 use Rattle.items.specs.Items as items
 use Rattle.items.specs.Stack as stack
-use Rattle.code.specs.Instructions.{branching, number_of, store, jump_offset, jump_by, is_between}
+use Rattle.instructions.specs.Instructions.{branching, number_of, store, jump_offset, is_between}
+use Rattle.selection.specs.ItemCode.{jump_by}
 use Rattle.code.specs.Bytes.{place_of}
 use Rattle.code.specs.HeldProgram.{sizes_of}
 use Rattle.code.proofs.Behind.{Holds}

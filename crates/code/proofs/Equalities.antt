@@ -12,8 +12,8 @@ use Rattle.zcore.specs.Execution.{perform}
 use Rattle.meaning.specs.Meaning.{truth, is_true}
 use Rattle.items.specs.Items as items
 use Rattle.items.specs.Stack as stack
+use Rattle.instructions.specs.Instructions.{branching, pull, copy, flag}
 use Rattle.code.proofs.Behind.{Holds}
-use Rattle.code.specs.Instructions.{branching, pull, copy, flag}
 use Rattle.code.proofs.Play.{Leads, moves}
 use Rattle.code.proofs.Memory.{with_variable}
 use Rattle.code.proofs.Parts.{machine as at_words, Reads}
@@ -21,8 +21,8 @@ use Rattle.code.proofs.Steps.{point, first_held, others_held, fits_one, fits_two
 use Rattle.code.proofs.Steps.{variable_value, landing}
 use Rattle.code.proofs.SingleSteps.{branch_step, flag_leads}
 use Rattle.code.proofs.Flags.{test_leads}
-use Rattle.code.proofs.Arriving.{Running, at_case, around, here, LedFrom, Stands, above, room_for, code_held}
-use Rattle.code.proofs.Arriving.{arrives, situation_here}
+use Rattle.code.proofs.Arriving.{Running, at_case, around, here, LedFrom, Stands, above, room_for, code_held, arrives}
+use Rattle.code.proofs.Arriving.{situation_here}
 use Rattle.code.proofs.Temporaries.{scratch_here, scratch_with, reads_written, reads_other, word_written}
 use Rattle.code.proofs.Temporaries.{word_unwritten, held_in, pull_temporary, copy_temporary}
 

@@ -18,7 +18,7 @@ use Rattle.tables.specs.Dictionary.{ReadsKeys}
 use Rattle.meaning.specs.declared.cause.Cause.{Cause}
 use Rattle.meaning.specs.declared.cause.Cause.TheVariants as causes
 use Rattle.meaning.specs.World.{words_of}
-use Rattle.code.specs.Addresses.{fault_address}
+use Rattle.instructions.specs.Addresses.{fault_address}
 use Rattle.meaning.specs.Accepted.{IsArray, IsPrinted, IsProperty, IsObject, IsRoutine, IsAccepted}
 use Rattle.meaning.specs.Objects.{ObjectOf, object_at}
 use Rattle.meaning.specs.Meaning.{routine_at}
@@ -29,9 +29,8 @@ use Rattle.meaning.specs.Printable.{IsPrintableItem, IsPrintableRoutine, HasPrin
 use Rattle.region.specs.Laws.{HoldsRows}
 use Rattle.code.specs.HeldProgram.{sizes_of, offset_in, HoldsRoutine, HoldsText, HoldsProgram, fault_line}
 use Rattle.code.proofs.Leading.{code_plays_by}
-use Rattle.code.proofs.Stories.{a, table, main, sum_of_two, defaults, box, ball, objects, program, story}
-use Rattle.code.proofs.Stories.{greeting, count_down}
-use Rattle.code.proofs.Stories.{quotient_of_seven}
+use Rattle.code.proofs.Stories.{a, table, main, sum_of_two, defaults, box, ball, objects, program, story, greeting}
+use Rattle.code.proofs.Stories.{count_down, quotient_of_seven}
 
 -- bytes that pass a test one by one
 small_by : (bytes : List ℕ) → list_all (λ b. nat_lt b 256) bytes ≡ true → All (λ b. b < 256) bytes

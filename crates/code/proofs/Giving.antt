@@ -22,7 +22,8 @@ use Rattle.items.specs.Stack as stack
 use Rattle.region.specs.Laws.{Changes}
 use Rattle.region.specs.Region.{HasObjects}
 use Rattle.region.specs.Tables.{Table}
-use Rattle.code.specs.Instructions.{plain, changing}
+use Rattle.instructions.specs.Instructions.{plain}
+use Rattle.selection.specs.ItemCode.{changing}
 use Rattle.code.proofs.Behind.{Holds, holds_on}
 use Rattle.code.proofs.Play.{Leads, Stored, stays}
 use Rattle.code.proofs.Memory.{word_of}

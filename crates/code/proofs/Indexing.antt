@@ -17,9 +17,10 @@ use Rattle.meaning.specs.declared.cause.Cause.{Cause}
 use Rattle.meaning.specs.declared.cause.Cause.TheVariants as causes
 use Rattle.meaning.specs.World.{value_in}
 use Rattle.items.specs.Items as items
-use Rattle.code.specs.Addresses.{fault_address}
-use Rattle.code.specs.Instructions.{branching, constant, pull, fail, number_of, is_entry, at_index, tested_between}
-use Rattle.code.specs.Instructions.{is_between, at_tested, tests_in, pulled_into, word_in}
+use Rattle.instructions.specs.Addresses.{fault_address}
+use Rattle.instructions.specs.Instructions.{branching, constant, pull, fail, number_of, tested_between, is_between}
+use Rattle.instructions.specs.Instructions.{pulled_into, word_in}
+use Rattle.selection.specs.ItemCode.{is_entry, at_index, at_tested, tests_in}
 use Rattle.code.proofs.Behind.{Holds, holds_append}
 use Rattle.code.proofs.Play.{Leads}
 use Rattle.code.proofs.Memory.{word_of, with_variable}

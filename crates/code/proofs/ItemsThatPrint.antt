@@ -24,9 +24,10 @@ use Rattle.meaning.specs.World as source
 use Rattle.items.specs.Items.{Item}
 use Rattle.items.specs.Items as items
 use Rattle.items.specs.Stack as stack
+use Rattle.instructions.specs.Instructions.{plain, in_place, fail}
+use Rattle.instructions.specs.Bytes.{character_of}
+use Rattle.selection.specs.ItemBytes.{text_bytes}
 use Rattle.code.proofs.Behind.{Holds}
-use Rattle.code.specs.Instructions.{plain, in_place, fail}
-use Rattle.code.specs.Bytes.{character_of, text_bytes}
 use Rattle.lexer.specs.Printable.{IsPrintable}
 use Rattle.code.specs.HeldProgram.{fault_line, HoldsText}
 use Rattle.code.proofs.Play.{Leads, stays}
@@ -38,8 +39,8 @@ use Rattle.code.proofs.Fitting.{Shaped}
 use Rattle.code.proofs.Ends.{does_after, does_halt, prints, prints_part, prints_on, prints_off, quits}
 use Rattle.code.proofs.Texts.{number_prints, text_prints, text_read, printable_kept, IsLine, line_read}
 use Rattle.code.proofs.Shortened.{has_all}
-use Rattle.code.proofs.Arriving.{unpacked_low, address_low, Running, at, around, here, LedFrom, Stands, kept}
-use Rattle.code.proofs.Arriving.{code_held, arrives_on, situation_here}
+use Rattle.code.proofs.Arriving.{unpacked_low, address_low, Running, at, around, here, LedFrom, Stands, kept, code_held}
+use Rattle.code.proofs.Arriving.{arrives_on, situation_here}
 use Rattle.code.proofs.Temporaries.{Scratch, scratch_here, held_in, made, made_at}
 use Rattle.code.proofs.Alone.{by_operand, alone_count, alone_value, IsOperandHere, next_place, single}
 

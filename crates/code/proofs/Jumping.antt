@@ -15,10 +15,10 @@ use Rattle.meaning.specs.World.{spend_from}
 use Rattle.items.specs.Items.{Item}
 use Rattle.items.specs.Items as items
 use Rattle.items.specs.Stack as stack
-use Rattle.code.proofs.Behind.{Holds}
-use Rattle.code.specs.Instructions.{plain, jump_offset}
+use Rattle.instructions.specs.Instructions.{plain, jump_offset}
 use Rattle.code.specs.Bytes.{code_size, place_of}
 use Rattle.code.specs.HeldProgram.{sizes_of}
+use Rattle.code.proofs.Behind.{Holds}
 use Rattle.code.proofs.Play.{Leads, stays, items_in, address, base, Good, Led, IsChosen, none_chosen}
 use Rattle.code.proofs.Parts.{Around, machine as at_words}
 use Rattle.code.proofs.Steps.{point, leads_then, one_step, step_is, fits_one, one_operand, large_value}

@@ -25,13 +25,13 @@ use Rattle.items.specs.Stack as stack
 use Rattle.region.specs.Region.{tables_base}
 use Rattle.region.specs.Tables.{words_place}
 use Rattle.region.proofs.Together.{region_laws}
-use Rattle.code.specs.Instructions.{labelled, assigned_word, at_label, property_address}
+use Rattle.instructions.specs.Instructions.{labelled}
+use Rattle.selection.specs.ItemCode.{assigned_word, at_label, property_address}
 use Rattle.code.specs.HeldProgram.{sizes_of}
 use Rattle.code.proofs.Play.{Leads, none_chosen}
 use Rattle.code.proofs.Memory.{with_variable}
 use Rattle.code.proofs.Parts.{machine as at_words}
-use Rattle.code.proofs.Steps.{point, leads_then, landing, one_operand, two_operands, small_value}
-use Rattle.code.proofs.Steps.{variable_value}
+use Rattle.code.proofs.Steps.{point, leads_then, landing, one_operand, two_operands, small_value, variable_value}
 use Rattle.code.proofs.Fitting.{Shaped, held_bytes}
 use Rattle.code.proofs.Labels.{Branching, label_leads}
 use Rattle.code.proofs.Places.{ends_by}

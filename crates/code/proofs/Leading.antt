@@ -21,9 +21,11 @@ use Rattle.items.specs.Items.{Item, Operand, Destination}
 use Rattle.items.specs.Items as items
 use Rattle.items.specs.Laws.{IsItem, ItemsAreWithin, ItemsFollow}
 use Rattle.items.specs.Stack as stack
-use Rattle.code.specs.Addresses.{Addresses}
-use Rattle.code.specs.Instructions.{plain}
-use Rattle.code.specs.Bytes.{item_bytes, place_of, offset_of, code_bytes}
+use Rattle.instructions.specs.Addresses.{Addresses}
+use Rattle.instructions.specs.Instructions.{plain}
+use Rattle.selection.specs.ItemBytes.{item_bytes}
+use Rattle.instructions.specs.Places.{offset_of}
+use Rattle.code.specs.Bytes.{place_of, code_bytes}
 use Rattle.code.specs.Laws.{CodePlays}
 use Rattle.code.specs.HeldProgram.{sizes_of, HoldsProgram}
 use Rattle.code.proofs.Play.{items_in, address, next_of, state_of, Good, LedBy, none_chosen}

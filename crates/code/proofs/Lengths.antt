@@ -24,22 +24,25 @@ use Rattle.items.specs.Items.{Item, Destination, Test}
 use Rattle.items.specs.Items as items
 use Rattle.meaning.specs.declared.cause.Cause.{Cause}
 use Rattle.meaning.specs.declared.cause.Cause.TheVariants as causes
-use Rattle.code.specs.Addresses.{Addresses, Sizes, fault_address}
-use Rattle.code.specs.Instructions.{plain, branching, fail, labelled, takes, operands, test_operation, tested_code}
-use Rattle.code.specs.Instructions.{asks_none, least_word, branch_code, compared, case_code, calling, call_operation}
-use Rattle.code.specs.Instructions.{call_result}
-use Rattle.code.specs.Instructions.{call_code, divided, character_code, item_code, most_tested, most_arguments}
-use Rattle.code.specs.Instructions.{number_of, temporary, constant, giving, result_in, entries_in}
-use Rattle.code.specs.Instructions.{load_operation, store_operation, behind_comparison, tested_between, at_index}
-use Rattle.code.specs.Instructions.{first_byte, tested_first, letters_in, words_in, line_code, read_code, is_between}
-use Rattle.code.specs.Instructions.{pulled_into, word_in, tests_in, tested_in, at_tested, at_object, objects_of}
-use Rattle.code.specs.Instructions.{property_address, length_at, branching_zero, branching_single, property_value}
-use Rattle.code.specs.Instructions.{provided, tested_word, tested_single, behind_operand, loaded_at, assigned_single}
-use Rattle.code.specs.Instructions.{assigned_at, property_word_code, assign_property_code, assign_property_word_code}
-use Rattle.code.specs.Instructions.{store, climbing, moved_into, relative_of, changing, jump_by, next_object_code}
-use Rattle.code.specs.Instructions.{entry_code, assigned_takes, assigned_word, passed_on, assign_entry_code}
-use Rattle.code.specs.Bytes.{bytes_of_all, item_bytes, text_bytes, no_addresses, label_size, least_size, target_of}
-use Rattle.code.specs.Bytes.{part_of}
+use Rattle.instructions.specs.Addresses.{Addresses, Sizes, fault_address}
+use Rattle.instructions.specs.Instructions.{plain, branching, fail, labelled, takes, operands, test_operation}
+use Rattle.instructions.specs.Instructions.{tested_code, asks_none, least_word, branch_code, compared, case_code}
+use Rattle.instructions.specs.Instructions.{calling, call_operation, call_result, call_code, divided, character_code}
+use Rattle.instructions.specs.Instructions.{most_tested, most_arguments, number_of, temporary, constant, giving}
+use Rattle.instructions.specs.Instructions.{result_in, behind_comparison, tested_between, is_between, pulled_into}
+use Rattle.instructions.specs.Instructions.{word_in, store}
+use Rattle.instructions.specs.Bytes.{bytes_of_all}
+use Rattle.selection.specs.ItemCode.{item_code, entries_in, load_operation, store_operation, at_index, first_byte}
+use Rattle.selection.specs.ItemCode.{tested_first, letters_in, words_in, line_code, read_code, tests_in, tested_in}
+use Rattle.selection.specs.ItemCode.{at_tested, at_object, objects_of, property_address, length_at, branching_zero}
+use Rattle.selection.specs.ItemCode.{branching_single, property_value, provided, tested_word, tested_single}
+use Rattle.selection.specs.ItemCode.{behind_operand, loaded_at, assigned_single, assigned_at, property_word_code}
+use Rattle.selection.specs.ItemCode.{assign_property_code, assign_property_word_code, climbing, moved_into, relative_of}
+use Rattle.selection.specs.ItemCode.{changing, jump_by, next_object_code, entry_code, assigned_takes, assigned_word}
+use Rattle.selection.specs.ItemCode.{passed_on, assign_entry_code}
+use Rattle.selection.specs.ItemBytes.{item_bytes, text_bytes}
+use Rattle.instructions.specs.Places.{label_size, target_of}
+use Rattle.code.specs.Bytes.{no_addresses, least_size, part_of}
 
 -- Lists of instructions
 

@@ -7,7 +7,6 @@ pub mod Behind
 pub mod Bounding
 pub mod Branching
 pub mod Calling
-pub mod Chains
 pub mod Changing
 pub mod CharacterTests
 pub mod Characters
@@ -24,7 +23,6 @@ pub mod Filled
 pub mod Fitting
 pub mod Flags
 pub mod Flat
-pub mod Givens
 pub mod Giving
 pub mod Indexing
 pub mod ItemOperands
@@ -40,10 +38,8 @@ pub mod Memory
 pub mod Moving
 pub mod MovingObjects
 pub mod NamedObjects
-pub mod Naming
 pub mod ObjectSamples
 pub mod ObjectStories
-pub mod ObjectTests
 pub mod Opening
 pub mod Operating
 pub mod Parts
@@ -75,6 +71,5 @@ pub mod Temporaries
 pub mod TestedObjects
 pub mod Tests
 pub mod Texts
-pub mod Types
 pub mod Variables
 pub mod Working

@@ -20,8 +20,9 @@ use Rattle.meaning.specs.World as source
 use Rattle.items.specs.Items.{Destination}
 use Rattle.items.specs.Items as items
 use Rattle.items.specs.Stack as stack
-use Rattle.code.specs.Addresses.{fault_address}
-use Rattle.code.specs.Instructions.{giving, result_in, entries_in, is_entry, load_operation}
+use Rattle.instructions.specs.Addresses.{fault_address}
+use Rattle.instructions.specs.Instructions.{giving, result_in}
+use Rattle.selection.specs.ItemCode.{entries_in, is_entry, load_operation}
 use Rattle.code.specs.HeldProgram.{sizes_of}
 use Rattle.code.proofs.Play.{stays}
 use Rattle.code.proofs.Flat.{size_at}
@@ -34,8 +35,7 @@ use Rattle.code.proofs.Fitting.{Shaped}
 use Rattle.code.proofs.Arriving.{Running, at, around, here, LedFrom, Stands, code_here, code_held, situation_here}
 use Rattle.code.proofs.Temporaries.{scratch_here}
 use Rattle.code.proofs.Delivering.{result_small}
-use Rattle.code.proofs.Alone.{by_operand, alone_count, IsOperandHere, IsHere, plain_length}
-use Rattle.code.proofs.Alone.{gives_here_led}
+use Rattle.code.proofs.Alone.{by_operand, alone_count, IsOperandHere, IsHere, plain_length, gives_here_led}
 use Rattle.code.proofs.ItemsThatPrint.{fails_led}
 use Rattle.code.proofs.Indexing.{Reached, AtIndex, Indexed, indexed}
 

@@ -14,7 +14,7 @@ use Rattle.meaning.specs.Accepted.{IsVariable}
 use Rattle.items.specs.Items.{Item, Destination}
 use Rattle.items.specs.Items as items
 use Rattle.items.specs.Stack as stack
-use Rattle.code.specs.Instructions.{number_of, in_place, result_in, push, pull, copy, store}
+use Rattle.instructions.specs.Instructions.{number_of, in_place, result_in, push, pull, copy, store}
 use Rattle.code.proofs.Play.{Leads, Stored}
 use Rattle.code.proofs.Parts.{machine as at_words, pushes, Writes, global_writes}
 use Rattle.code.proofs.Steps.{point, one_step, one_operand, two_operands, small_value}

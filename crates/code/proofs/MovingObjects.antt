@@ -16,8 +16,9 @@ use Rattle.meaning.specs.World as source
 use Rattle.items.specs.Items as items
 use Rattle.items.specs.Stack as stack
 use Rattle.region.specs.Tables.{Table}
-use Rattle.code.specs.Addresses.{fault_address}
-use Rattle.code.specs.Instructions.{plain, store, tested_in, climbing, at_object, word_in}
+use Rattle.instructions.specs.Addresses.{fault_address}
+use Rattle.instructions.specs.Instructions.{plain, store, word_in}
+use Rattle.selection.specs.ItemCode.{tested_in, climbing, at_object}
 use Rattle.code.proofs.Memory.{word_of, with_variable}
 use Rattle.code.proofs.Parts.{machine as at_words}
 use Rattle.code.proofs.Steps.{point, leads_then, one_step, first_held, two_operands, variable_value}

@@ -5,8 +5,8 @@ use Rattle.zcore.specs.Instruction.{bytes_of}
 use Rattle.items.specs.Items.{Item, pushed, number, variable, push, into, nowhere, relative, property, property_size}
 use Rattle.items.specs.Items.{property_word, assign_property, assign_property_word, give, move_object, remove_object}
 use Rattle.items.specs.Items.{print_name, is_in, has, provides, first_object, next_object}
-use Rattle.code.specs.Addresses.{Sizes}
-use Rattle.code.specs.Bytes.{item_bytes}
+use Rattle.instructions.specs.Addresses.{Sizes}
+use Rattle.selection.specs.ItemBytes.{item_bytes}
 use Rattle.code.proofs.Samples.{a, sizes, x, y, written}
 
 -- with the offset 10

@@ -17,7 +17,7 @@ use Rattle.zcore.specs.Execution.{give_result, divide, modulo, perform}
 use Rattle.expressions.specs.declared.tree.Binary.{Binary}
 use Rattle.expressions.specs.declared.tree.Binary.TheVariants as binaries
 use Rattle.meaning.specs.declared.cause.Cause.TheVariants as causes
-use Rattle.code.specs.Addresses.{fault_address}
+use Rattle.instructions.specs.Addresses.{fault_address}
 use Rattle.meaning.specs.World.{Part, value_in}
 use Rattle.meaning.specs.World as source
 use Rattle.meaning.specs.Meaning.{with_prefix}
@@ -25,10 +25,10 @@ use Rattle.meaning.specs.Meaning as meaning
 use Rattle.items.specs.Items.{Item, Destination}
 use Rattle.items.specs.Items as items
 use Rattle.items.specs.Stack as stack
+use Rattle.instructions.specs.Instructions.{giving, branching, in_place, result_in, number_of, pull, fail, divided_by}
+use Rattle.instructions.specs.Instructions.{divided}
+use Rattle.selection.specs.ItemBytes.{text_bytes}
 use Rattle.code.proofs.Behind.{Holds, holds_append}
-use Rattle.code.specs.Instructions.{giving, branching, in_place, result_in, number_of, pull, fail, divided_by}
-use Rattle.code.specs.Instructions.{divided}
-use Rattle.code.specs.Bytes.{text_bytes}
 use Rattle.code.proofs.Play.{Leads, stays}
 use Rattle.code.proofs.Memory.{with_variable}
 use Rattle.code.proofs.Parts.{machine as at_words, Reads}

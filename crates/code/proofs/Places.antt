@@ -10,10 +10,11 @@ use Rattle.forms.specs.declared.layout.Part.{Part}
 use Rattle.forms.specs.Layout.{first, offset_over, part_size, lefts}
 use Rattle.items.specs.Items.{Item}
 use Rattle.items.specs.Items as items
-use Rattle.code.specs.Addresses.{Addresses, Sizes}
-use Rattle.code.specs.Instructions.{jump_offset}
-use Rattle.code.specs.Bytes.{item_bytes, target_of, part_of, parts_of, lefts_of, code_size, place_of, offset_of}
-use Rattle.code.specs.Bytes.{items_bytes, code_bytes}
+use Rattle.instructions.specs.Addresses.{Addresses, Sizes}
+use Rattle.instructions.specs.Instructions.{jump_offset}
+use Rattle.selection.specs.ItemBytes.{item_bytes}
+use Rattle.instructions.specs.Places.{target_of, offset_of}
+use Rattle.code.specs.Bytes.{part_of, parts_of, lefts_of, code_size, place_of, items_bytes, code_bytes}
 use Rattle.code.proofs.Lengths.{item_length}
 
 -- How many bytes there are on to the end

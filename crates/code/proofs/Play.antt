@@ -20,8 +20,8 @@ use Rattle.items.specs.Items.{Item, routine_items}
 use Rattle.items.specs.Laws.{IsDestination}
 use Rattle.items.specs.Stack.{Caller}
 use Rattle.items.specs.Stack as stack
-use Rattle.code.specs.Addresses.{Addresses}
-use Rattle.code.specs.Instructions.{call_result}
+use Rattle.instructions.specs.Addresses.{Addresses}
+use Rattle.instructions.specs.Instructions.{call_result}
 use Rattle.code.specs.Bytes.{place_of}
 use Rattle.code.specs.HeldProgram.{sizes_of, offset_in}
 use Rattle.code.proofs.Regions.{Stands}

@@ -22,8 +22,9 @@ use Rattle.items.specs.Items as items
 use Rattle.items.specs.Stack as stack
 use Rattle.region.specs.Region.{tables_base}
 use Rattle.region.specs.Tables.{Table, words_place}
-use Rattle.code.specs.Addresses.{fault_address}
-use Rattle.code.specs.Instructions.{giving, branching, fail, result_in, property_address, length_at}
+use Rattle.instructions.specs.Addresses.{fault_address}
+use Rattle.instructions.specs.Instructions.{giving, branching, fail, result_in}
+use Rattle.selection.specs.ItemCode.{property_address, length_at}
 use Rattle.code.proofs.Behind.{Holds, holds_append}
 use Rattle.code.proofs.Play.{Leads}
 use Rattle.code.proofs.Memory.{word_of, with_variable}

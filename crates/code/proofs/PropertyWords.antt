@@ -17,8 +17,8 @@ use Rattle.items.specs.Items as items
 use Rattle.items.specs.Stack as stack
 use Rattle.region.specs.Tables.{Table, words_place}
 use Rattle.region.specs.Region.{tables_base}
-use Rattle.code.specs.Instructions.{giving, result_in, provided, tested_word, assigned_word, is_entry}
-use Rattle.code.specs.Instructions.{at_object}
+use Rattle.instructions.specs.Instructions.{giving, result_in}
+use Rattle.selection.specs.ItemCode.{provided, tested_word, assigned_word, is_entry, at_object}
 use Rattle.code.proofs.Memory.{word_of}
 use Rattle.code.proofs.Parts.{machine as at_words}
 use Rattle.code.proofs.Steps.{point, first_held, two_operands, variable_value}

@@ -18,13 +18,13 @@ use Rattle.region.specs.Laws.{Acts, Placed}
 use Rattle.region.specs.Region.{HasObjects, tables_base}
 use Rattle.region.specs.Tables.{Table, words_place}
 use Rattle.region.proofs.Together.{region_laws}
-use Rattle.code.specs.Addresses.{fault_address}
-use Rattle.code.specs.Instructions.{giving, branching, fail, property_address, length_at, provided, tested_single}
-use Rattle.code.specs.Instructions.{tested_word, behind_operand, is_entry}
+use Rattle.instructions.specs.Addresses.{fault_address}
+use Rattle.instructions.specs.Instructions.{giving, branching, fail}
+use Rattle.selection.specs.ItemCode.{property_address, length_at, provided, tested_single, tested_word, behind_operand}
+use Rattle.selection.specs.ItemCode.{is_entry}
 use Rattle.code.proofs.Memory.{word_of, with_variable}
 use Rattle.code.proofs.Parts.{machine as at_words}
-use Rattle.code.proofs.Steps.{point, one_operand, two_operands, small_value}
-use Rattle.code.proofs.Steps.{variable_value}
+use Rattle.code.proofs.Steps.{point, one_operand, two_operands, small_value, variable_value}
 use Rattle.code.proofs.Fitting.{Shaped}
 use Rattle.code.proofs.Arriving.{Running, around}
 use Rattle.code.proofs.Temporaries.{Scratch, word_written, word_unwritten}

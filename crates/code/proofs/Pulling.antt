@@ -5,8 +5,8 @@ use Rattle.zcore.specs.declared.instruction.Operand.{Operand}
 use Rattle.zcore.specs.Instruction.{Instruction, bytes_of}
 use Rattle.items.specs.Items.{Item}
 use Rattle.items.specs.Items as items
-use Rattle.code.specs.Instructions.{pull, pulled_into}
-use Rattle.code.specs.Bytes.{text_bytes}
+use Rattle.instructions.specs.Instructions.{pull, pulled_into}
+use Rattle.selection.specs.ItemBytes.{text_bytes}
 use Rattle.code.proofs.Play.{Leads, stays}
 use Rattle.code.proofs.Memory.{word_of, with_variable}
 use Rattle.code.proofs.Parts.{machine as at_words}

@@ -29,16 +29,15 @@ use Rattle.meaning.specs.World.{World, Situation, Outcome, Comes, to, over, Part
 use Rattle.meaning.specs.World as source
 use Rattle.items.specs.Items as items
 use Rattle.items.specs.Stack as stack
-use Rattle.code.specs.Addresses.{fault_address}
-use Rattle.code.specs.Instructions.{plain, giving, fail, first_byte, letters_in, words_in}
-use Rattle.code.specs.Instructions.{tested_first, line_code}
+use Rattle.instructions.specs.Addresses.{fault_address}
+use Rattle.instructions.specs.Instructions.{plain, giving, fail}
+use Rattle.selection.specs.ItemCode.{first_byte, letters_in, words_in, tested_first, line_code}
 use Rattle.code.proofs.Behind.{Holds, holds_on}
 use Rattle.code.proofs.Play.{Leads, Stored, Does, Good, LedOn, stays, moves, next_of, state_of, none_chosen}
 use Rattle.code.proofs.Memory.{with_variable, stored_temporary}
 use Rattle.code.proofs.Regions.{KeepsOutside}
 use Rattle.code.proofs.Flat.{array_within}
-use Rattle.code.proofs.StoredEntries.{high_kept, Inside, entry_inside, entry_is, entry_keeps}
-use Rattle.code.proofs.StoredEntries.{high_kept, stored_entry, sizes_kept}
+use Rattle.code.proofs.StoredEntries.{high_kept, Inside, entry_inside, entry_is, entry_keeps, stored_entry, sizes_kept}
 use Rattle.code.proofs.StoredLines.{line_sizes, text_passes, parse_passes, memory_with_line, stored_line}
 use Rattle.code.proofs.Alike.{cleared, letters_cleared, words_cleared, line_cleared}
 use Rattle.code.proofs.Parts.{machine as at_words, global_writes}

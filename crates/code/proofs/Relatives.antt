@@ -24,14 +24,14 @@ use Rattle.meaning.specs.World as source
 use Rattle.items.specs.Items.{Destination}
 use Rattle.items.specs.Items as items
 use Rattle.items.specs.Stack as stack
-use Rattle.code.specs.Instructions.{giving_on, number_of, result_in, relative_of}
+use Rattle.instructions.specs.Instructions.{number_of, result_in}
+use Rattle.selection.specs.ItemCode.{giving_on, relative_of}
 use Rattle.code.proofs.Memory.{with_variable}
 use Rattle.code.proofs.Parts.{room_is, Around, machine as at_words, pushes, Writes, global_writes}
 use Rattle.code.proofs.Steps.{point, leads_then, one_step, first_held, one_operand, landing, branches}
 use Rattle.code.proofs.Lengths.{one_length}
 use Rattle.code.proofs.Fitting.{Shaped}
-use Rattle.code.proofs.Arriving.{Running, at, around, here, above, LedFrom, Stands, situation_here}
-use Rattle.code.proofs.Arriving.{room_for}
+use Rattle.code.proofs.Arriving.{Running, at, around, here, above, LedFrom, Stands, situation_here, room_for}
 use Rattle.code.proofs.Variables.{memory_with, variable_held}
 use Rattle.code.proofs.Temporaries.{Scratch, scratch_with, made}
 use Rattle.code.proofs.Delivering.{result_small, memory_after, locals_after, stack_after, delivered_led}

@@ -9,7 +9,7 @@ use Rattle.meaning.specs.World.{with_objects}
 use Rattle.meaning.specs.World as source
 use Rattle.items.specs.Items as items
 use Rattle.items.specs.Stack as stack
-use Rattle.code.specs.Instructions.{plain}
+use Rattle.instructions.specs.Instructions.{plain}
 use Rattle.code.proofs.Parts.{machine as at_words}
 use Rattle.code.proofs.Steps.{point, leads_then, one_step, first_held, one_operand}
 use Rattle.code.proofs.Lengths.{one_length}

@@ -25,9 +25,9 @@ use Rattle.items.specs.Items as items
 use Rattle.items.specs.Laws.{IsDestination}
 use Rattle.items.specs.Stack.{Caller}
 use Rattle.items.specs.Stack as stack
-use Rattle.code.proofs.Behind.{Holds, holds_on}
-use Rattle.code.specs.Instructions.{plain, number_of, call_result}
+use Rattle.instructions.specs.Instructions.{plain, number_of, call_result}
 use Rattle.code.specs.HeldProgram.{sizes_of}
+use Rattle.code.proofs.Behind.{Holds, holds_on}
 use Rattle.code.proofs.Play.{Leads, items_in, address, frames_of, frame_of, back_of, result_of, first_count}
 use Rattle.code.proofs.Play.{other_counts, IsCaller, Led, none_chosen}
 use Rattle.code.proofs.Parts.{Around, machine as at_words, pushes}

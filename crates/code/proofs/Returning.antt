@@ -10,8 +10,8 @@ use Rattle.items.specs.Items.{Destination}
 use Rattle.items.specs.Items as items
 use Rattle.items.specs.Stack.{Caller}
 use Rattle.items.specs.Stack as stack
+use Rattle.instructions.specs.Instructions.{plain, constant, in_place, return_code}
 use Rattle.code.proofs.Behind.{Holds}
-use Rattle.code.specs.Instructions.{plain, constant, in_place, return_code}
 use Rattle.code.proofs.Parts.{machine as at_words, tops}
 use Rattle.code.proofs.Steps.{no_operand, one_operand}
 use Rattle.code.proofs.Fitting.{Shaped}

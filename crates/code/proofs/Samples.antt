@@ -17,8 +17,9 @@ use Rattle.forms.specs.Layout.{uses}
 use Rattle.items.specs.Items.{Item, pushed, number, variable, push, into, nowhere, is_zero, less, greater, same, move}
 use Rattle.items.specs.Items.{operate, step, entry, assign_entry, print_text, read_line, branch, choose, case, jump}
 use Rattle.items.specs.Items.{call, return}
-use Rattle.code.specs.Addresses.{Addresses, Sizes}
-use Rattle.code.specs.Bytes.{item_bytes, parts_of, code_bytes}
+use Rattle.instructions.specs.Addresses.{Addresses, Sizes}
+use Rattle.selection.specs.ItemBytes.{item_bytes}
+use Rattle.code.specs.Bytes.{parts_of, code_bytes}
 use Rattle.code.specs.HeldProgram.{start_code}
 
 abbrev pub a : Addresses

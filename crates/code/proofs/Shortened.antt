@@ -12,7 +12,7 @@ use Rattle.zcore.specs.Abbreviations.{abbreviation_at, HasAbbreviations}
 use Rattle.zcore.proofs.Shortening.{plain_abbreviation}
 use Rattle.meaning.specs.Objects.{Objects}
 use Rattle.meaning.specs.Resolved.{ProgramOf}
-use Rattle.code.specs.Addresses.{Addresses}
+use Rattle.instructions.specs.Addresses.{Addresses}
 use Rattle.code.specs.HeldProgram.{HoldsProgram}
 use Rattle.code.proofs.Memory.{holds_on}
 use Rattle.code.proofs.Play.{Stored}

@@ -11,7 +11,7 @@ use Rattle.meaning.specs.Resolved.{ProgramOf}
 use Rattle.meaning.specs.World.{Outcome, World}
 use Rattle.items.specs.Items.{Item}
 use Rattle.items.specs.Stack as stack
-use Rattle.code.specs.Addresses.{Addresses}
+use Rattle.instructions.specs.Addresses.{Addresses}
 use Rattle.code.proofs.Play.{Does, Good, Led, LedOn, LedBy, items_in, next_of, state_of}
 use Rattle.code.proofs.Ends.{does_after}
 use Rattle.code.proofs.Keeps.{Same, Keeps, Bounded, KeepsBy, is_read, act_keeps}

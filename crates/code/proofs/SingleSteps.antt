@@ -19,11 +19,10 @@ use Rattle.zcore.specs.Parts.{take_branch, branch_on, is_code}
 use Rattle.zcore.specs.Execution as machine
 use Rattle.zcore.specs.Execution.{give_result, divide, modulo, load, increment, decrement, push_word, jump, perform}
 use Rattle.zcore.specs.Execution.{execute, step}
+use Rattle.instructions.specs.Instructions.{plain, giving, branching, push, pull, copy, flag}
 use Rattle.code.proofs.Behind.{Holds}
-use Rattle.code.specs.Instructions.{plain, giving, branching, push, pull, copy, flag}
 use Rattle.code.proofs.Play.{Leads, moves}
-use Rattle.code.proofs.Parts.{Around, machine as at_words, pushes, pops, tops, writes_top, can_pull_top, Reads}
-use Rattle.code.proofs.Parts.{Writes}
+use Rattle.code.proofs.Parts.{Around, machine as at_words, pushes, pops, tops, writes_top, can_pull_top, Reads, Writes}
 use Rattle.code.proofs.Steps.{point, one_step, first_held, others_held, step_is, fits_one, one_operand, small_value}
 use Rattle.code.proofs.Steps.{large_value, reads_in_place, writes_in_place, named_variable, gives_top, gives_variable}
 use Rattle.code.proofs.Steps.{landing, branches}

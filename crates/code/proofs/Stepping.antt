@@ -17,17 +17,17 @@ use Rattle.meaning.specs.Meaning.{stepped}
 use Rattle.items.specs.Items.{Item, Destination}
 use Rattle.items.specs.Items as items
 use Rattle.items.specs.Stack as stack
+use Rattle.instructions.specs.Instructions.{number_of, push, store, stepping}
+use Rattle.selection.specs.ItemBytes.{text_bytes}
 use Rattle.code.proofs.Behind.{Holds, holds_on}
-use Rattle.code.specs.Instructions.{number_of, push, store, stepping}
-use Rattle.code.specs.Bytes.{text_bytes}
 use Rattle.code.proofs.Play.{moves, none_chosen}
 use Rattle.code.proofs.Parts.{machine as at_words, pushes}
 use Rattle.code.proofs.Steps.{point, one_step, first_held, others_held, one_operand, two_operands, small_value}
 use Rattle.code.proofs.Steps.{variable_value, step_is}
 use Rattle.code.proofs.SingleSteps.{increment_step, decrement_step}
 use Rattle.code.proofs.Fitting.{Shaped, held_bytes, encodable}
-use Rattle.code.proofs.Arriving.{Running, at, around, here, high, kept, LedFrom, Stands, room_for, code_here}
-use Rattle.code.proofs.Arriving.{code_held, situation_here}
+use Rattle.code.proofs.Arriving.{Running, at, around, here, high, kept, LedFrom, Stands, room_for, code_here, code_held}
+use Rattle.code.proofs.Arriving.{situation_here}
 use Rattle.code.proofs.Variables.{memory_with, Held, variable_held}
 use Rattle.code.proofs.Temporaries.{scratch_here}
 use Rattle.code.proofs.Delivering.{stored_step}

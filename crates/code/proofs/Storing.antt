@@ -23,9 +23,9 @@ use Rattle.meaning.specs.World as source
 use Rattle.items.specs.Items.{Destination}
 use Rattle.items.specs.Items as items
 use Rattle.items.specs.Stack as stack
-use Rattle.code.specs.Addresses.{fault_address}
-use Rattle.code.specs.Instructions.{number_of, plain, push, pull, store, entries_in, store_operation}
-use Rattle.code.specs.Instructions.{assigned_word, passed_on, at_index}
+use Rattle.instructions.specs.Addresses.{fault_address}
+use Rattle.instructions.specs.Instructions.{number_of, plain, push, pull, store}
+use Rattle.selection.specs.ItemCode.{entries_in, store_operation, assigned_word, passed_on, at_index}
 use Rattle.code.proofs.Behind.{Holds, holds_on}
 use Rattle.code.proofs.Play.{Leads, Stored, stays, none_chosen}
 use Rattle.code.proofs.Memory.{word_of, with_variable}
@@ -39,8 +39,7 @@ use Rattle.code.proofs.Lengths.{one_length}
 use Rattle.code.proofs.Texts.{cause_line}
 use Rattle.code.proofs.Fitting.{Shaped}
 use Rattle.code.proofs.ItemOperands.{constant_value}
-use Rattle.code.proofs.Arriving.{Running, at, around, here, high, few, LedFrom, Stands, room_for}
-use Rattle.code.proofs.Arriving.{code_held}
+use Rattle.code.proofs.Arriving.{Running, at, around, here, high, few, LedFrom, Stands, room_for, code_held}
 use Rattle.code.proofs.Arriving.{situation_here}
 use Rattle.code.proofs.Variables.{memory_with, variable_held}
 use Rattle.code.proofs.Temporaries.{Scratch, scratch_here, scratch_with, word_written, made, pull_temporary}

@@ -11,8 +11,8 @@ use Rattle.meaning.specs.Meaning.{routine_at}
 use Rattle.items.specs.Items.{pushed, number, variable}
 use Rattle.items.specs.Items as items
 use Rattle.items.specs.Laws.{IsOperand}
+use Rattle.instructions.specs.Instructions.{temporary, pull, pushed_count, take_words, takes, operands}
 use Rattle.code.proofs.Behind.{Holds, holds_append}
-use Rattle.code.specs.Instructions.{temporary, pull, pushed_count, take_words, takes, operands}
 use Rattle.code.proofs.Play.{Leads, stays, moves}
 use Rattle.code.proofs.Memory.{word_of, with_variable}
 use Rattle.code.proofs.Parts.{machine as at_words, Reads, global_reads}

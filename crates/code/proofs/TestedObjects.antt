@@ -15,9 +15,10 @@ use Rattle.items.specs.Items as items
 use Rattle.items.specs.Stack as stack
 use Rattle.region.specs.Laws.{Acts}
 use Rattle.region.proofs.Together.{region_laws}
-use Rattle.code.specs.Addresses.{fault_address}
-use Rattle.code.specs.Instructions.{is_between, at_object, at_label, objects_of}
-use Rattle.code.specs.Bytes.{text_bytes}
+use Rattle.instructions.specs.Addresses.{fault_address}
+use Rattle.instructions.specs.Instructions.{is_between}
+use Rattle.selection.specs.ItemCode.{at_object, at_label, objects_of}
+use Rattle.selection.specs.ItemBytes.{text_bytes}
 use Rattle.code.specs.HeldProgram.{sizes_of}
 use Rattle.code.proofs.Play.{stays}
 use Rattle.code.proofs.Parts.{machine as at_words}

@@ -22,7 +22,8 @@ use Rattle.items.specs.Items.{Item, Test, agrees}
 use Rattle.items.specs.Items as items
 use Rattle.items.specs.Laws.{IsOperand, IsTested}
 use Rattle.items.specs.Stack as stack
-use Rattle.code.specs.Instructions.{plain, branching, labelled, test_operation, tested_code, least_word, branch_code}
+use Rattle.instructions.specs.Instructions.{plain, branching, labelled, test_operation, tested_code, least_word}
+use Rattle.instructions.specs.Instructions.{branch_code}
 use Rattle.code.proofs.Fitting.{AreBytes, first_part, all_fit}
 use Rattle.code.proofs.ItemOperands.{Gives, gives_length}
 use Rattle.code.proofs.Lengths.{branching_length}

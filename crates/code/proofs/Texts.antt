@@ -17,7 +17,7 @@ use Rattle.meaning.specs.World.{shown}
 use Rattle.meaning.specs.declared.cause.Cause.{Cause}
 use Rattle.meaning.specs.declared.cause.Cause.TheVariants as causes
 use Rattle.meaning.specs.World.{words_of}
-use Rattle.code.specs.Bytes.{character_of}
+use Rattle.instructions.specs.Bytes.{character_of}
 use Rattle.lexer.specs.Printable.{IsPrintable}
 use Rattle.code.specs.HeldProgram.{fault_line}
 
@@ -107,16 +107,6 @@ kept_by (c ∷ cs) e = let parts = and_parts (is_printable c) (list_all is_print
 pub printable_kept : (bytes : List ℕ) → All IsPrintable bytes
     → filter is_printable (map character_of bytes) ≡ map character_of bytes
 printable_kept bytes printable = kept_by (map character_of bytes) (text_printable bytes printable)
-
--- what is kept can be printed
-pub only_printable : (cs : List ℕ) → list_all is_printable (filter is_printable cs) ≡ true
-only_printable [] = refl
-only_printable (c ∷ cs) = go (only_printable cs) (is_printable c) refl
-  where
-    go : list_all is_printable (filter is_printable cs) ≡ true → (b : Bool) → is_printable c ≡ b
-        → list_all is_printable (if b then c ∷ filter is_printable cs else filter is_printable cs) ≡ true
-    go more true e = rw e more
-    go more false e = more
 
 -- the text of an item is read back
 pub text_read : (abbreviations : List (List ℕ)) (bytes story : List ℕ) (q : ℕ)

@@ -20,8 +20,8 @@ use Rattle.items.specs.Stack as stack
 use Rattle.region.specs.Region.{HasObjects, tables_base}
 use Rattle.region.specs.Tables.{Table}
 use Rattle.region.proofs.Frames.{keeps}
-use Rattle.code.specs.Addresses.{fault_address}
-use Rattle.code.specs.Instructions.{giving, branching, fail, word_in, number_of, store}
+use Rattle.instructions.specs.Addresses.{fault_address}
+use Rattle.instructions.specs.Instructions.{giving, branching, fail, word_in, number_of, store}
 use Rattle.code.proofs.Behind.{Holds, holds_append}
 use Rattle.code.proofs.Play.{Leads}
 use Rattle.code.proofs.Memory.{word_of, with_variable, length_with, byte_other}

@@ -16,9 +16,10 @@ use Rattle.meaning.specs.Places.{dictionary_place}
 use Rattle.meaning.specs.declared.cause.Cause.{Cause}
 use Rattle.items.specs.Items.{routine_items}
 use Rattle.region.specs.Laws.{HoldsRows}
-use Rattle.code.specs.Addresses.{Addresses, Sizes, fault_address}
-use Rattle.code.specs.Instructions.{plain}
-use Rattle.code.specs.Bytes.{bytes_of_all, code_size, code_bytes}
+use Rattle.instructions.specs.Addresses.{Addresses, Sizes, fault_address}
+use Rattle.instructions.specs.Instructions.{plain}
+use Rattle.instructions.specs.Bytes.{bytes_of_all}
+use Rattle.code.specs.Bytes.{code_size, code_bytes}
 
 -- the code that calls Main, and then ends the story
 abbrev pub start_code : ℕ → List ℕ

@@ -1,5 +1,3 @@
-pub mod Addresses
-pub mod Instructions
 pub mod Bytes
 pub mod Sizes
 pub mod HeldProgram

@@ -1,23 +1,23 @@
 //! The code of a routine.
 
-ghost use Rattle.std.specs.Prelude.{◌≡◌, ◌<◌, ◌≤◌, ◌+◌, ◌++◌, map, reverse, length, slice_index, IfOk, OnOk};
-ghost use Rattle.forms.specs.Layout.{first, bytes_limit};
+ghost use Rattle.std.specs.Prelude.{◌≡◌, ◌<◌, reverse, length, IfOk, OnOk};
+ghost use Rattle.forms.specs.Layout.{bytes_limit};
 ghost use Rattle.meaning.specs.Meaning.{routine_at};
 ghost use Rattle.meaning.specs.Resolved.{program_of};
-ghost use Rattle.items.specs.Code.{item_of, items_of};
+ghost use Rattle.items.specs.Code.{items_of};
 ghost use Rattle.items.specs.Items as definitions;
+ghost use Rattle.instructions.specs.Bytes.{Adds};
+ghost use Rattle.instructions.specs.Written.{addresses_of, sizes_in};
 ghost use Rattle.code.specs.Bytes.{lefts_of, place_of, items_bytes};
 ghost use Rattle.code.specs.Bytes as spec;
 ghost use Rattle.code.specs.HeldProgram.{sizes_of};
-ghost use Rattle.code.specs.Written.{addresses_of, place_in, sizes_in};
 
-use crate::addresses::{Addresses, Sizes};
 use crate::fault::CodeFault;
-use crate::item::put_item;
-use crate::jumps::jump_offset;
 use forms::{BranchUse, Part, branches, lay_out};
+use instructions::{Addresses, Sizes, label_size, offset_of, place, target_of};
 use items::{Item, routine_items};
 use meaning::Checked;
+use selection::put_item;
 use std::alloc::{AllocError, Global};
 use std::marker::Model;
 
@@ -46,8 +46,9 @@ impl<'a, 'b> Model for Code<'a, 'b> {
     ghost use Rattle.std.specs.Prelude.{◌≡◌, ◌<◌, ◌+◌, reverse};
     ghost use Rattle.forms.specs.Layout.{bytes_limit, uses};
     ghost use Rattle.items.specs.Code.{items_of};
+    ghost use Rattle.instructions.specs.Written.{sizes_in};
     ghost use Rattle.code.specs.Bytes.{parts_of, lefts_of, code_size};
-    ghost use Rattle.code.specs.Written.{CodeOf, sizes_in};
+    ghost use Rattle.code.specs.Written.{CodeOf};
 
     ghost Value = { CodeOf };
 
@@ -59,35 +60,13 @@ impl<'a, 'b> Model for Code<'a, 'b> {
         × (code_size (sizes_in c.sizes) (items_of c.items.items) < bytes_limit) };
 }
 
-/// The item to which one branches.
-fn target_of(item: &Item<'_>) -> Option<usize>
-    ensures { result ≡ spec.target_of (item_of item.now) }
-{
-    match item {
-        Item::Branch(_, _, _, target)
-        | Item::IsIn(_, _, _, target)
-        | Item::Has(_, _, _, target)
-        | Item::Provides(_, _, _, target)
-        | Item::Case(_, _, _, target) => Some(*target),
-        _ => None,
-    }
-}
-
-/// How many bytes of the shortest label an item has.
-fn label_size(target: Option<usize>) -> usize
-    ensures { result ≡ spec.label_size target }
-{
-    match target {
-        None => 0,
-        Some(_) => 1,
-    }
-}
-
 /// The items as parts that are laid out. They are written once, with no addresses and the shortest branches, and their
 /// bytes are thrown away: an item has as many bytes wherever all stands, but for the form of its branch.
 fn parts_of(alloc: Global, sizes: &Sizes<'_>, items: &[Item<'_>]) -> Result<Vec<Part>, AllocError>
-    ensures parts { IfOk result (λ v. v.items ≡ spec.parts_of (sizes_in sizes.now) (items_of items.now)) }
-    ensures fits { IfOk result (λ v. spec.code_size (sizes_in sizes.now) (items_of items.now) < bytes_limit) }
+    ensures parts { IfOk result (λ v.
+        v.items ≡ spec.parts_of (sizes_in sizes.now) (items_of items.now)) }
+    ensures fits { IfOk result (λ v.
+        spec.code_size (sizes_in sizes.now) (items_of items.now) < bytes_limit) }
 {
     let addresses = Addresses {
         routines: &[],
@@ -106,51 +85,6 @@ fn parts_of(alloc: Global, sizes: &Sizes<'_>, items: &[Item<'_>]) -> Result<Vec<
     Ok(parts)
 }
 
-/// How many bytes there are from the item of a number on to the end, where `left` tells it of each, the end's first.
-#[tactic(auto, using(forms::proofs::Offsets::turned, forms::proofs::Offsets::turned_past))]
-fn left_from(left: &[usize], number: usize) -> usize
-    ensures { result ≡ slice_index (reverse left.now) number }
-{
-    if number < left.len() {
-        left[left.len() - 1 - number]
-    } else {
-        0
-    }
-}
-
-/// Where the item of a number stands, the end of the code where there is none.
-#[tactic(auto, using(forms::proofs::Offsets::first_is))]
-fn place(left: &[usize], number: usize) -> usize
-    ensures value { result ≡ place_in (reverse left.now) number }
-    ensures within { result ≤ first (reverse left.now) }
-{
-    left_from(left, 0).saturating_sub(left_from(left, number))
-}
-
-/// The offset of the branch or the jump of the item of a number.
-fn offset_of(left: &[usize], number: usize, item: &Item<'_>) -> usize
-    requires few { number < length left.now }
-    requires small { first (reverse left.now) < bytes_limit }
-    ensures { result ≡ spec.offset_of (place_in (reverse left.now)) number (item_of item.now) }
-{
-    match item {
-        Item::Branch(_, _, _, target)
-        | Item::IsIn(_, _, _, target)
-        | Item::Has(_, _, _, target)
-        | Item::Provides(_, _, _, target)
-        | Item::Case(_, _, _, target) => {
-            2 + place(left, *target).saturating_sub(place(left, number + 1))
-        }
-        Item::FirstObject(_, target)
-        | Item::NextObject(_, target)
-        | Item::Jump(target)
-        | Item::Back(target) => {
-            jump_offset(place(left, number + 1), place(left, *target)) as usize
-        }
-        _ => 0,
-    }
-}
-
 /// The bytes of items, one after another, of which the first begins the code.
 fn put_items(
     bytes: &mut Vec<u8>,
@@ -162,9 +96,9 @@ fn put_items(
 ) -> Result<(), AllocError>
     requires left { left.now ≡ reverse (lefts_of (sizes_in sizes.now) (items_of items.now)) }
     requires small { spec.code_size (sizes_in sizes.now) (items_of items.now) < bytes_limit }
-    ensures { OnOk result (bytes.new.items ≡ bytes.old.items
-        ++ items_bytes (sizes_in sizes.now) (addresses_of addresses.now) (place_of (sizes_in sizes.now) (items_of items.now)) 0
-        (items_of items.now)) }
+    ensures { OnOk result (Adds bytes.old bytes.new
+        (items_bytes (sizes_in sizes.now) (addresses_of addresses.now)
+        (place_of (sizes_in sizes.now) (items_of items.now)) 0 (items_of items.now))) }
 {
     for number in 0..items.len() {
         let item = &items[number];
@@ -181,7 +115,8 @@ fn code_of<'a, 'b>(
     sizes: Sizes<'b>,
     items: Vec<Item<'a>>,
 ) -> Result<Code<'a, 'b>, AllocError>
-    ensures { IfOk result (λ c. c ≡ record { locals = locals; sizes = sizes_in sizes.entry; items = items_of items.entry.items }) }
+    ensures { IfOk result (λ c. c
+        ≡ record { locals = locals; sizes = sizes_in sizes.entry; items = items_of items.entry.items }) }
 {
     let parts = parts_of(alloc, &sizes, &items)?;
     let left = lay_out(alloc, &parts)?;
@@ -209,9 +144,11 @@ pub fn routine_code<'a, 'b>(
     routine: usize,
 ) -> Result<Code<'a, 'b>, CodeFault>
     requires { routine < length checked.now.routines }
-    ensures locals { IfOk result (λ c. c.locals ≡ (routine_at (program_of checked.now).routines routine).locals) }
+    ensures locals { IfOk result (λ c. c.locals
+        ≡ (routine_at (program_of checked.now).routines routine).locals) }
     ensures sizes { IfOk result (λ c. c.sizes ≡ sizes_of (program_of checked.now)) }
-    ensures items { IfOk result (λ c. c.items ≡ definitions.routine_items (routine_at (program_of checked.now).routines routine)) }
+    ensures items { IfOk result (λ c. c.items
+        ≡ definitions.routine_items (routine_at (program_of checked.now).routines routine)) }
 {
     let source = checked.routine(routine);
     let items = routine_items(alloc, source)?;
@@ -228,8 +165,10 @@ impl Code<'_, '_> {
     ghost use Rattle.std.specs.List.{All};
     ghost use Rattle.forms.specs.Layout.{IsShortest};
     ghost use Rattle.forms.specs.declared.layout.BranchUse.{BranchUse};
+    ghost use Rattle.instructions.specs.Bytes.{Adds};
+    ghost use Rattle.instructions.specs.Written.{addresses_of};
     ghost use Rattle.code.specs.Bytes.{code_size, code_bytes, place_of};
-    ghost use Rattle.code.specs.Written.{addresses_of, branch_offsets};
+    ghost use Rattle.code.specs.Written.{branch_offsets};
 
     /// How many bytes `put` writes: one for the number of locals, and those of the items.
     pub fn length(&self) -> usize
@@ -243,7 +182,8 @@ impl Code<'_, '_> {
     /// its offset. It has one byte of branch data exactly where the offset is 2 to 63, two exactly where it is another
     /// to 8,191, and the far form exactly where two bytes, all else as it is, would not reach.
     pub fn branches(&self) -> &[BranchUse]
-        ensures offsets { map (λ (u : BranchUse). u.offset) result.now ≡ branch_offsets (place_of self.now.sizes self.now.items) 0 self.now.items }
+        ensures offsets { map (λ (u : BranchUse). u.offset) result.now
+            ≡ branch_offsets (place_of self.now.sizes self.now.items) 0 self.now.items }
         ensures shortest { All IsShortest result.now }
     {
         &self.branches
@@ -256,8 +196,9 @@ impl Code<'_, '_> {
     ///
     /// `Memory` where a growth of memory was refused: then nothing is written.
     pub fn put(&self, addresses: &Addresses<'_>, story: &mut Vec<u8>) -> Result<(), CodeFault>
-        ensures written { OnOk result (story.new.items ≡ story.old.items
-            ++ (self.now.locals % 256) ∷ code_bytes self.now.sizes (addresses_of addresses.now) self.now.items) }
+        ensures written { OnOk result (Adds story.old story.new
+            ((self.now.locals % 256) ∷ code_bytes self.now.sizes (addresses_of addresses.now)
+            self.now.items)) }
         ensures kept { OnErr result (story.new.items ≡ story.old.items) }
     {
         let mut bytes = Vec::new(self.alloc);

@@ -41,7 +41,8 @@ fn put_numbers(
 
 /// A group that others follow: it leads to the statements of the case, where so many items are left, where it holds.
 fn put_group(draft: &mut Draft<'_>, group: &Group, inside: usize) -> Result<(), AllocError>
-    ensures { OnOk result (Writes draft.old draft.new (λ n at. group_items at (group_of group.now) (n - inside))) }
+    ensures { OnOk result (Writes draft.old draft.new
+        (λ n at. group_items at (group_of group.now) (n - inside))) }
 {
     match group {
         Group::Numbers(numbers) => put_numbers(draft, numbers, true, inside),
@@ -55,7 +56,8 @@ fn put_group(draft: &mut Draft<'_>, group: &Group, inside: usize) -> Result<(), 
 
 /// The last group: it leads behind those statements, where so many items are left, where it does not hold.
 fn put_last(draft: &mut Draft<'_>, group: &Group, behind: usize) -> Result<(), AllocError>
-    ensures { OnOk result (Writes draft.old draft.new (λ n at. last_items (group_of group.now) (n - behind))) }
+    ensures { OnOk result (Writes draft.old draft.new
+        (λ n at. last_items (group_of group.now) (n - behind))) }
 {
     match group {
         Group::Numbers(numbers) => put_numbers(draft, numbers, false, behind),
@@ -89,7 +91,8 @@ pub fn put_tests(
 
 /// From the end of a case over what is written of the `switch`, of which the end leaves so many items.
 pub fn put_over(draft: &mut Draft<'_>, end: usize) -> Result<(), AllocError>
-    ensures { OnOk result (Writes draft.old draft.new (λ n at. over_items (length (written_in draft.old) - end) (n - end))) }
+    ensures { OnOk result (Writes draft.old draft.new
+        (λ n at. over_items (length (written_in draft.old) - end) (n - end))) }
 {
     if written(draft) > end {
         put(draft, Item::Jump(end))?;

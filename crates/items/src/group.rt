@@ -23,7 +23,8 @@ pub enum Group {
 
 /// A number before groups, of which the last of these is the first: it takes the number, where it has fewer than three.
 fn add_number(alloc: Global, groups: &mut Vec<Group>, number: u16) -> Result<(), AllocError>
-    ensures { OnOk result (reverse (map group_of groups.new.items) ≡ items.with_number number (reverse (map group_of groups.old.items))) }
+    ensures { OnOk result (reverse (map group_of groups.new.items)
+        ≡ items.with_number number (reverse (map group_of groups.old.items))) }
 {
     match groups.pop() {
         Some(Group::Numbers(mut numbers)) => {
@@ -46,7 +47,8 @@ fn add_number(alloc: Global, groups: &mut Vec<Group>, number: u16) -> Result<(),
 
 /// The groups of a case, the last one first.
 pub fn groups(alloc: Global, spans: &[Span]) -> Result<Vec<Group>, AllocError>
-    ensures { IfOk result (λ v. reverse (map group_of v.items) ≡ items.groups_of (map range_of spans.now)) }
+    ensures { IfOk result (λ v. reverse (map group_of v.items)
+        ≡ items.groups_of (map range_of spans.now)) }
 {
     let mut found = Vec::new(alloc);
     for done in 0..spans.len() {

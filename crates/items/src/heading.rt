@@ -15,7 +15,8 @@ use std::alloc::AllocError;
 
 /// A part whose word goes nowhere, if it is there.
 pub fn put_once(draft: &mut Draft<'_>, part: &Option<Value>) -> Result<(), AllocError>
-    ensures { OnOk result (Writes draft.old draft.new (λ n at. once_items at (option_map value_of part.now))) }
+    ensures { OnOk result (Writes draft.old draft.new
+        (λ n at. once_items at (option_map value_of part.now))) }
 {
     match part {
         None => Ok(()),
@@ -25,7 +26,8 @@ pub fn put_once(draft: &mut Draft<'_>, part: &Option<Value>) -> Result<(), Alloc
 
 /// The test, if it is there: where it does not hold it leads to where so many items are left.
 pub fn put_test(draft: &mut Draft<'_>, test: &Option<Value>, end: usize) -> Result<(), AllocError>
-    ensures { OnOk result (Writes draft.old draft.new (λ n at. test_items at (option_map value_of test.now) (n - end))) }
+    ensures { OnOk result (Writes draft.old draft.new
+        (λ n at. test_items at (option_map value_of test.now) (n - end))) }
 {
     match test {
         None => Ok(()),

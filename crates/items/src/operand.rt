@@ -159,7 +159,8 @@ pub fn before(value: &Value, later: &[Value]) -> Operand
 /// The operand for an expression that is evaluated before another and then others.
 #[tactic(auto, using(crate::proofs::Operands::before_pushed, crate::proofs::Operands::before_number, crate::proofs::Operands::before_changed, crate::proofs::Operands::before_kept))]
 fn before_more(value: &Value, next: &Value, later: &[Value]) -> Operand
-    ensures { as_operand result ≡ items.operand_of (value_of value.now) (more_in next.now later.now) }
+    ensures { as_operand result
+        ≡ items.operand_of (value_of value.now) (more_in next.now later.now) }
 {
     match alone(value) {
         Operand::Pushed => Operand::Pushed,
@@ -184,7 +185,8 @@ pub fn left_of(left: &Value, right: &Value) -> Operand
 
 /// The operand for the first one of three expressions.
 pub fn first_of(first: &Value, second: &Value, third: &Value) -> Operand
-    ensures { as_operand result ≡ items.first_of (value_of first.now) (value_of second.now) (value_of third.now) }
+    ensures { as_operand result
+        ≡ items.first_of (value_of first.now) (value_of second.now) (value_of third.now) }
 {
     match alone(first) {
         Operand::Pushed => Operand::Pushed,

@@ -121,7 +121,8 @@ pub fn put_step_before(
     step: Step,
     wanted: Wanted,
 ) -> Result<(), AllocError>
-    ensures { OnOk result (WritesValue draft.old draft.new wanted (source.step_before step variable)) }
+    ensures { OnOk result (WritesValue draft.old draft.new wanted
+        (source.step_before step variable)) }
 {
     let destination = put_word(draft, wanted)?;
     put(draft, Item::Step(step, variable, destination))?;
@@ -135,7 +136,8 @@ pub fn put_step_after(
     step: Step,
     wanted: Wanted,
 ) -> Result<(), AllocError>
-    ensures { OnOk result (WritesValue draft.old draft.new wanted (source.step_after variable step)) }
+    ensures { OnOk result (WritesValue draft.old draft.new wanted
+        (source.step_after variable step)) }
 {
     match put_word(draft, wanted)? {
         Destination::Nowhere => {

@@ -21,7 +21,8 @@ pub fn routine_items<'a>(
     alloc: Global,
     routine: &CheckedRoutine<'a>,
 ) -> Result<Vec<Item<'a>>, AllocError>
-    ensures { IfOk result (λ code. items_of code.items ≡ items.routine_items (routine_of routine.now)) }
+    ensures { IfOk result (λ code. items_of code.items
+        ≡ items.routine_items (routine_of routine.now)) }
 {
     let items = Vec::new(alloc);
     let mut draft = Draft { alloc, items };

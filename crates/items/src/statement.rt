@@ -29,7 +29,8 @@ pub fn put_statements<'a>(
     exits: Exits,
     statements: &[Action<'a>],
 ) -> Result<(), AllocError>
-    ensures { OnOk result (WritesAction draft.old draft.new exits (block (actions_of (map action_of statements.now)))) }
+    ensures { OnOk result (WritesAction draft.old draft.new exits
+        (block (actions_of (map action_of statements.now)))) }
 {
     for done in 0..statements.len() {
         let statement = &statements[statements.len() - 1 - done];
@@ -100,7 +101,8 @@ fn put_if<'a>(
     then: &Action<'a>,
     test: &Value,
 ) -> Result<(), AllocError>
-    ensures { OnOk result (WritesAction draft.old draft.new exits (if_then (value_of test.now) (action_of then.now))) }
+    ensures { OnOk result (WritesAction draft.old draft.new exits
+        (if_then (value_of test.now) (action_of then.now))) }
 {
     let end = written(draft);
     put_statement(draft, exits, then)?;
@@ -112,7 +114,8 @@ fn put_if<'a>(
 #[cycle(statements)]
 #[tactic(auto, using(crate::proofs::Actions::while_more))]
 fn put_while<'a>(draft: &mut Draft<'a>, body: &Action<'a>, test: &Value) -> Result<(), AllocError>
-    ensures { OnOk result ((x : _) → WritesAction draft.old draft.new x (while_do (value_of test.now) (action_of body.now))) }
+    ensures { OnOk result ((x : _) → WritesAction draft.old draft.new x
+        (while_do (value_of test.now) (action_of body.now))) }
 {
     let end = written(draft);
     put(draft, Item::Back(0))?;
@@ -129,7 +132,8 @@ fn put_while<'a>(draft: &mut Draft<'a>, body: &Action<'a>, test: &Value) -> Resu
 /// `do`: the test goes back to the body where it is false.
 #[cycle(statements)]
 fn put_do<'a>(draft: &mut Draft<'a>, body: &Action<'a>, test: &Value) -> Result<(), AllocError>
-    ensures { OnOk result ((x : _) → WritesAction draft.old draft.new x (do_until (action_of body.now) (value_of test.now))) }
+    ensures { OnOk result ((x : _) → WritesAction draft.old draft.new x
+        (do_until (action_of body.now) (value_of test.now))) }
 {
     let end = written(draft);
     put(draft, Item::Back(0))?;
@@ -152,8 +156,9 @@ fn put_for<'a>(
     test: &Option<Value>,
     behind: &Option<Value>,
 ) -> Result<(), AllocError>
-    ensures { OnOk result ((x : _) → WritesAction draft.old draft.new x (for_loop (option_map value_of before.now)
-        (option_map value_of test.now) (option_map value_of behind.now) (action_of body.now))) }
+    ensures { OnOk result ((x : _) → WritesAction draft.old draft.new x
+        (for_loop (option_map value_of before.now) (option_map value_of test.now)
+        (option_map value_of behind.now) (action_of body.now))) }
 {
     let end = written(draft);
     put(draft, Item::Back(0))?;
@@ -176,7 +181,8 @@ fn put_each<'a>(
     body: &Action<'a>,
     variable: Variable,
 ) -> Result<(), AllocError>
-    ensures { OnOk result ((x : _) → WritesAction draft.old draft.new x (each_object variable (action_of body.now))) }
+    ensures { OnOk result ((x : _) → WritesAction draft.old draft.new x
+        (each_object variable (action_of body.now))) }
 {
     let end = written(draft);
     let inside = put_next(draft, variable)?;
@@ -269,7 +275,8 @@ fn put_other<'a>(
     exits: Exits,
     other: &Option<Vec<Action<'a>>>,
 ) -> Result<(), AllocError>
-    ensures { OnOk result ((end : _) → WritesCases draft.old draft.new exits (cases_of [] (other_of other.now)) end) }
+    ensures { OnOk result ((end : _) → WritesCases draft.old draft.new exits
+        (cases_of [] (other_of other.now)) end) }
 {
     match other {
         None => Ok(()),
@@ -332,7 +339,8 @@ fn put_kin(
     variable: Variable,
     end: usize,
 ) -> Result<(), AllocError>
-    ensures { OnOk result (Writes draft.old draft.new (λ n at. relative_items relation (as_operand object) variable (n - end))) }
+    ensures { OnOk result (Writes draft.old draft.new
+        (λ n at. relative_items relation (as_operand object) variable (n - end))) }
 {
     put_branch(draft, Operand::Pushed, false, end)?;
     put(draft, Item::Keep(variable))?;
@@ -346,7 +354,8 @@ fn put_give(
     object: &Value,
     changes: &[(bool, usize)],
 ) -> Result<(), AllocError>
-    ensures { OnOk result ((x : _) → WritesAction draft.old draft.new x (give_to (value_of object.now) changes.now)) }
+    ensures { OnOk result ((x : _) → WritesAction draft.old draft.new x
+        (give_to (value_of object.now) changes.now)) }
 {
     let operand = alone(object);
     let mut given = Vec::new(draft.alloc);
@@ -357,7 +366,8 @@ fn put_give(
 
 /// `move`: both objects, and then the first goes into the second.
 fn put_move(draft: &mut Draft<'_>, object: &Value, into: &Value) -> Result<(), AllocError>
-    ensures { OnOk result ((x : _) → WritesAction draft.old draft.new x (move_to (value_of object.now) (value_of into.now))) }
+    ensures { OnOk result ((x : _) → WritesAction draft.old draft.new x
+        (move_to (value_of object.now) (value_of into.now))) }
 {
     let left = left_of(object, into);
     let right = alone(into);
@@ -367,7 +377,8 @@ fn put_move(draft: &mut Draft<'_>, object: &Value, into: &Value) -> Result<(), A
 }
 
 fn put_remove(draft: &mut Draft<'_>, object: &Value) -> Result<(), AllocError>
-    ensures { OnOk result ((x : _) → WritesAction draft.old draft.new x (remove_from (value_of object.now))) }
+    ensures { OnOk result ((x : _) → WritesAction draft.old draft.new x
+        (remove_from (value_of object.now))) }
 {
     let operand = alone(object);
     put_after(draft, object, operand, Item::RemoveObject(operand))?;
@@ -376,7 +387,8 @@ fn put_remove(draft: &mut Draft<'_>, object: &Value) -> Result<(), AllocError>
 
 #[tactic(auto, using(crate::proofs::Actions::return_more))]
 fn put_return(draft: &mut Draft<'_>, value: &Value) -> Result<(), AllocError>
-    ensures { OnOk result ((x : _) → WritesAction draft.old draft.new x (return_value (value_of value.now))) }
+    ensures { OnOk result ((x : _) → WritesAction draft.old draft.new x
+        (return_value (value_of value.now))) }
 {
     let operand = alone(value);
     put_after(draft, value, operand, Item::Return(operand))?;
@@ -409,7 +421,8 @@ fn put_prints<'a>(draft: &mut Draft<'a>, items: &[Printed<'a>]) -> Result<(), Al
 }
 
 fn put_printed<'a>(draft: &mut Draft<'a>, item: &Printed<'a>) -> Result<(), AllocError>
-    ensures { OnOk result (Writes draft.old draft.new (λ n at. printed_items at (printed_of item.now))) }
+    ensures { OnOk result (Writes draft.old draft.new
+        (λ n at. printed_items at (printed_of item.now))) }
 {
     match item {
         Printed::Text(text) => put(draft, Item::PrintText(text))?,

@@ -131,7 +131,8 @@ fn put_call<'a>(
     routine: usize,
     wanted: Wanted,
 ) -> Result<(), AllocError>
-    ensures { OnOk result (WritesValue draft.old draft.new wanted (call routine (values_in arguments.now))) }
+    ensures { OnOk result (WritesValue draft.old draft.new wanted
+        (call routine (values_in arguments.now))) }
 {
     let destination = put_word(draft, wanted)?;
     let mut operands = Vec::new(draft.alloc);
@@ -148,7 +149,8 @@ fn put_prefixed<'a>(
     prefix: Prefix,
     wanted: Wanted,
 ) -> Result<(), AllocError>
-    ensures { OnOk result (WritesValue draft.old draft.new wanted (prefixed prefix (value_of value.now))) }
+    ensures { OnOk result (WritesValue draft.old draft.new wanted
+        (prefixed prefix (value_of value.now))) }
 {
     match prefix {
         Prefix::Not => {
@@ -172,7 +174,8 @@ fn put_assigned<'a>(
     variable: Variable,
     wanted: Wanted,
 ) -> Result<(), AllocError>
-    ensures { OnOk result (WritesValue draft.old draft.new wanted (assign variable (value_of value.now))) }
+    ensures { OnOk result (WritesValue draft.old draft.new wanted
+        (assign variable (value_of value.now))) }
 {
     match put_word(draft, wanted)? {
         Destination::Nowhere => {
@@ -200,7 +203,8 @@ fn put_entry<'a>(
     array: usize,
     wanted: Wanted,
 ) -> Result<(), AllocError>
-    ensures { OnOk result (WritesValue draft.old draft.new wanted (entry width array (value_of index.now))) }
+    ensures { OnOk result (WritesValue draft.old draft.new wanted
+        (entry width array (value_of index.now))) }
 {
     let destination = put_word(draft, wanted)?;
     let operand = alone(index);
@@ -219,7 +223,8 @@ fn put_assigned_entry<'a>(
     index: Operand,
     wanted: Wanted,
 ) -> Result<(), AllocError>
-    ensures { OnOk result (WritesAssignedEntry draft.old draft.new wanted width array index value.now) }
+    ensures { OnOk result (WritesAssignedEntry draft.old draft.new
+        wanted width array index value.now) }
 {
     let destination = put_word(draft, wanted)?;
     let operand = alone(value);
@@ -239,7 +244,8 @@ fn put_relative<'a>(
     relation: Relative,
     wanted: Wanted,
 ) -> Result<(), AllocError>
-    ensures { OnOk result (WritesValue draft.old draft.new wanted (relative relation (value_of object.now))) }
+    ensures { OnOk result (WritesValue draft.old draft.new wanted
+        (relative relation (value_of object.now))) }
 {
     let destination = put_word(draft, wanted)?;
     let operand = alone(object);
@@ -257,7 +263,8 @@ fn put_contained<'a>(
     object: Operand,
     wanted: Wanted,
 ) -> Result<(), AllocError>
-    ensures { OnOk result (WritesContained draft.old draft.new wanted containment object parent.now) }
+    ensures { OnOk result (WritesContained draft.old draft.new
+        wanted containment object parent.now) }
 {
     let (when, target) = put_truth(draft, wanted)?;
     let operand = alone(parent);
@@ -276,7 +283,8 @@ fn put_has<'a>(
     attribute: usize,
     wanted: Wanted,
 ) -> Result<(), AllocError>
-    ensures { OnOk result (WritesValue draft.old draft.new wanted (has positive (value_of object.now) attribute)) }
+    ensures { OnOk result (WritesValue draft.old draft.new wanted
+        (has positive (value_of object.now) attribute)) }
 {
     let (when, target) = put_truth(draft, wanted)?;
     let operand = alone(object);
@@ -294,7 +302,8 @@ fn put_provides<'a>(
     property: usize,
     wanted: Wanted,
 ) -> Result<(), AllocError>
-    ensures { OnOk result (WritesValue draft.old draft.new wanted (provides (value_of object.now) property)) }
+    ensures { OnOk result (WritesValue draft.old draft.new wanted
+        (provides (value_of object.now) property)) }
 {
     let (when, target) = put_truth(draft, wanted)?;
     let operand = alone(object);
@@ -311,7 +320,8 @@ fn put_property<'a>(
     number: usize,
     wanted: Wanted,
 ) -> Result<(), AllocError>
-    ensures { OnOk result (WritesValue draft.old draft.new wanted (property (value_of object.now) number)) }
+    ensures { OnOk result (WritesValue draft.old draft.new wanted
+        (property (value_of object.now) number)) }
 {
     let destination = put_word(draft, wanted)?;
     let operand = alone(object);
@@ -328,7 +338,8 @@ fn put_property_size<'a>(
     number: usize,
     wanted: Wanted,
 ) -> Result<(), AllocError>
-    ensures { OnOk result (WritesValue draft.old draft.new wanted (property_size (value_of object.now) number)) }
+    ensures { OnOk result (WritesValue draft.old draft.new wanted
+        (property_size (value_of object.now) number)) }
 {
     let destination = put_word(draft, wanted)?;
     let operand = alone(object);
@@ -367,7 +378,8 @@ fn put_assigned_property<'a>(
     object: Operand,
     wanted: Wanted,
 ) -> Result<(), AllocError>
-    ensures { OnOk result (WritesAssignedProperty draft.old draft.new wanted number object value.now) }
+    ensures { OnOk result (WritesAssignedProperty draft.old draft.new
+        wanted number object value.now) }
 {
     let destination = put_word(draft, wanted)?;
     let operand = alone(value);
@@ -388,7 +400,8 @@ fn put_assigned_word<'a>(
     places: (Operand, Operand),
     wanted: Wanted,
 ) -> Result<(), AllocError>
-    ensures { OnOk result (WritesAssignedWord draft.old draft.new wanted number places.0 places.1 value.now) }
+    ensures { OnOk result (WritesAssignedWord draft.old draft.new
+        wanted number places.0 places.1 value.now) }
 {
     let destination = put_word(draft, wanted)?;
     let operand = alone(value);
@@ -427,7 +440,8 @@ fn put_link<'a>(
     left: Operand,
     wanted: Wanted,
 ) -> Result<Wanted, AllocError>
-    ensures { IfOk result (λ rest. WritesLink draft.old draft.new wanted rest operator left second.now) }
+    ensures { IfOk result (λ rest. WritesLink draft.old draft.new
+        wanted rest operator left second.now) }
 {
     match operator {
         Binary::AndAlso => {
@@ -505,7 +519,8 @@ fn put_others<'a>(
     sides: (Operand, Operand),
     wanted: Wanted,
 ) -> Result<(), AllocError>
-    ensures { OnOk result (WritesEquality draft.old draft.new wanted equality sides.0 sides.1 others.now) }
+    ensures { OnOk result (WritesEquality draft.old draft.new
+        wanted equality sides.0 sides.1 others.now) }
 {
     let (when, target) = put_truth(draft, wanted)?;
     let when = equality_when(equality, when);

@@ -1,13 +1,12 @@
 -- Pages and their cells; and putting back what is kept of them.
 use Rattle.std.proofs.Common.{◌≡◌, ℕ, zero, suc, ◌+◌, ◌-◌, ◌*◌, ◌/◌, ◌<◌, ◌≤◌, min, Bool, true, false, ◌||◌, eqb}
-use Rattle.std.proofs.Common.{List, [], ◌∷◌, ◌++◌, length, take, map, get_or, set, refl, ap, sym, subst, ◌∙◌, arith}
+use Rattle.std.proofs.Common.{List, [], ◌∷◌, ◌++◌, length, map, get_or, set, refl, ap, sym, subst, ◌∙◌, arith}
 use Rattle.std.proofs.Common.{append_assoc, slice_set, slice_index, ◌⊎◌, inl, inr}
 use Rattle.std.specs.List.{AllByRecursion, IsDistinct, list_any, range_with_len, zip}
 use Rattle.std.proofs.lemmas.Cmp.{nat_eq_equiv}
 use Rattle.std.proofs.lemmas.Bool.{eq-eqb}
 use Rattle.std.proofs.lemmas.Bool.Decides.{eqb_tells}
-use Rattle.std.proofs.lemmas.List.{append-nil, set-set, set_comm, set-get_or, length-append, length-map, length-set}
-use Rattle.std.proofs.lemmas.List.{take_more_set}
+use Rattle.std.proofs.lemmas.List.{append-nil, set-set, set_comm, set-get_or, length-append, length-map}
 use Rattle.std.proofs.lemmas.List.Folds.{list_any-append, list_any_at}
 use Rattle.std.proofs.lemmas.List.FromFn.{length-range_with_len, get_or-range_with_len, map-range_with_len_more}
 use Rattle.std.proofs.lemmas.Grind.{flat_map-append}
@@ -268,43 +267,3 @@ below_next f b a j h here k low high = elim (eqb_tells k (a + j)) as (λ _. f k 
   | inl s ↦ subst (λ (t : ℕ). f t ≤ b t) (sym s.1) here
   | inr d ↦ h k low (omega (arith, d.1, high))
 ]
-
--- four cells of a run that are read to a page
-
-one_read : (f : ℕ → ℕ) (a j next at v : ℕ) (page : List ℕ) → next ≡ j + 1 → at ≡ a + j → next ≤ length page
-    → take j page ≡ map f (range_with_len a j) → v ≡ f at → take next (set page j v) ≡ map f (range_with_len a next)
-one_read f a j next at v page e e' room h here =
-    let last : take (j + 1) (set page j v) ≡ map f (range_with_len a (j + 1)) =
-    take_more_set page j v (omega (arith, e, room))
-    ∙ run_more f a j v [] (take j page) h (here ∙ ap f e') in
-    subst (λ n. take n (set page j v) ≡ map f (range_with_len a n)) (sym e) last
-
-pub four_read : (f : ℕ → ℕ) (a j v0 v1 v2 v3 : ℕ) (page : List ℕ) → j + 4 ≤ length page
-    → take j page ≡ map f (range_with_len a j)
-    → v0 ≡ f (a + j) → v1 ≡ f (a + j + 1) → v2 ≡ f (a + j + 2) → v3 ≡ f (a + j + 3)
-    → take (j + 4) (set (set (set (set page j v0) (j + 1) v1) (j + 2) v2) (j + 3) v3) ≡ map f (range_with_len a (j + 4))
-four_read f a j v0 v1 v2 v3 page room h h0 h1 h2 h3 =
-    let p1 : List ℕ = set page j v0 in
-    let p2 : List ℕ = set p1 (j + 1) v1 in
-    let p3 : List ℕ = set p2 (j + 2) v2 in
-    let n1 : length p1 ≡ length page = length-set page j v0 in
-    let n2 : length p2 ≡ length p1 = length-set p1 (j + 1) v1 in
-    let n3 : length p3 ≡ length p2 = length-set p2 (j + 2) v2 in
-    let r1 = one_read f a j (j + 1) (a + j) v0 page refl refl (omega (arith, room)) h h0 in
-    let r2 = one_read f a (j + 1) (j + 2) (a + j + 1) v1 p1 (omega arith) (omega arith) (omega (arith, room, n1)) r1 h1 in
-    let r3 = one_read f a (j + 2) (j + 3) (a + j + 2) v2 p2 (omega arith) (omega arith) (omega (arith, room, n1, n2)) r2 h2 in
-    one_read f a (j + 3) (j + 4) (a + j + 3) v3 p3 (omega arith) (omega arith) (omega (arith, room, n1, n2, n3)) r3 h3
-
-one_below : (f b : ℕ → ℕ) (a j next at : ℕ) → next ≡ j + 1 → at ≡ a + j
-    → ((k : ℕ) → a ≤ k → k < a + j → f k ≤ b k) → f at ≤ b at → (k : ℕ) → a ≤ k → k < a + next → f k ≤ b k
-one_below f b a j next at e e' h here k low high =
-    below_next f b a j h (subst (λ n. f n ≤ b n) e' here) k low (omega (arith, e, high))
-
-pub four_below : (f b : ℕ → ℕ) (a j : ℕ) → ((k : ℕ) → a ≤ k → k < a + j → f k ≤ b k)
-    → f (a + j) ≤ b (a + j) → f (a + j + 1) ≤ b (a + j + 1) → f (a + j + 2) ≤ b (a + j + 2)
-    → f (a + j + 3) ≤ b (a + j + 3) → (k : ℕ) → a ≤ k → k < a + (j + 4) → f k ≤ b k
-four_below f b a j h h0 h1 h2 h3 =
-    let b1 = one_below f b a j (j + 1) (a + j) refl refl h h0 in
-    let b2 = one_below f b a (j + 1) (j + 2) (a + j + 1) (omega arith) (omega arith) b1 h1 in
-    let b3 = one_below f b a (j + 2) (j + 3) (a + j + 2) (omega arith) (omega arith) b2 h2 in
-    one_below f b a (j + 3) (j + 4) (a + j + 3) (omega arith) (omega arith) b3 h3

@@ -1,6 +1,6 @@
 //! What a turn overwrote, and the swaps that take a turn back and do it again.
 
-ghost use Rattle.std.specs.Prelude.{◌≡◌, ◌+◌, ◌*◌, ◌<◌, ◌≤◌, ℕ, length, slice_set, slice_index};
+ghost use Rattle.std.specs.Prelude.{◌≡◌, ◌+◌, ◌*◌, ◌^◌, ◌<◌, ◌≤◌, ℕ, length, slice_set, slice_index};
 ghost use Rattle.std.specs.List.{All};
 ghost use Rattle.journal.specs.Swap.{back, forward, Fits, FitsCell};
 ghost use Rattle.journal.specs.Pages.{IsPaged, cells_of, entries_of, page_len};
@@ -97,16 +97,31 @@ pub(crate) fn page_size(len: usize, page: usize) -> usize
     if left < PAGE { left } else { PAGE }
 }
 
-/// Exchanges a value with that of its cell.
-fn exchange<C: Cells>(store: &mut C, cell: usize, value: &mut u16)
-    requires { FitsCell (length (C.cells store.old)) (C.bounds store.old) (cell, value.old) }
-    ensures cells { C.cells store.new ≡ slice_set (C.cells store.old) cell value.old }
-    ensures value { value.new ≡ slice_index (C.cells store.old) cell }
-    ensures fits { FitsCell (length (C.cells store.new)) (C.bounds store.new) (cell, value.new) }
+/// The cell at an offset in a page. The remainder is the offset itself: by it the compiler sees that cells which differ
+/// in the offset alone are of one page, so that what a store asks of the page is asked once for all of them.
+#[inline(always)]
+pub(crate) fn cell_of(page: usize, offset: usize) -> usize
+    requires offset { offset < 64 }
+    requires within { page * 64 + offset < 2 ^ 64 }
+    ensures { result ≡ page * 64 + offset }
+{
+    page * PAGE + offset % PAGE
+}
+
+/// Exchanges a value with that of the cell at an offset in a page.
+#[inline(always)]
+fn exchange<C: Cells>(store: &mut C, page: usize, offset: usize, value: &mut u16)
+    requires offset { offset < 64 }
+    requires within { page * 64 + offset < 2 ^ 64 }
+    requires fits { FitsCell (length (C.cells store.old)) (C.bounds store.old) (page * 64 + offset, value.old) }
+    ensures cells { C.cells store.new ≡ slice_set (C.cells store.old) (page * 64 + offset) value.old }
+    ensures value { value.new ≡ slice_index (C.cells store.old) (page * 64 + offset) }
+    ensures fits { FitsCell (length (C.cells store.new)) (C.bounds store.new) (page * 64 + offset, value.new) }
     ensures length { length (C.cells store.new) ≡ length (C.cells store.old) }
     ensures bounds { C.bounds store.new ≡ C.bounds store.old }
     ensures fixed { C.fixed store.new ≡ C.fixed store.old }
 {
+    let cell = cell_of(page, offset);
     let was = store.get(cell);
     store.put(cell, *value);
     *value = was;
@@ -134,7 +149,7 @@ pub(crate) fn go_back<C: Cells>(store: &mut C, len: usize, pages: &[usize], valu
         let mut offset = size;
         'cells: while offset > 0 {
             offset -= 1;
-            exchange(store, page * PAGE + offset, &mut values[at + offset]);
+            exchange(store, page, offset, &mut values[at + offset]);
         }
     }
 }
@@ -156,7 +171,7 @@ fn go_forward<C: Cells>(store: &mut C, len: usize, pages: &[usize], values: &mut
         let page = pages[slot];
         let size = page_size(len, page);
         'cells: for offset in 0..size {
-            exchange(store, page * PAGE + offset, &mut values[at + offset]);
+            exchange(store, page, offset, &mut values[at + offset]);
         }
         at += size;
     }

@@ -9,7 +9,7 @@ ghost use Rattle.journal.specs.Swap.{back, entry_cells, entry_values, Fits};
 ghost use Rattle.journal.specs.Pages.{IsMarked, cells_of, keeps, page_cells, page_len, with_page};
 
 use crate::cells::Cells;
-use crate::record::{PAGE, Record, go_back, page_size};
+use crate::record::{PAGE, Record, cell_of, go_back, page_size};
 use std::alloc::{AllocError, Global};
 use std::marker::Model;
 use std::mem;
@@ -176,12 +176,7 @@ impl<C: Cells> Recorded<C> {
         let len = self.store.len();
         cover(&mut self.flags, page, len / PAGE + 1)?;
         let at = self.values.len();
-        copy_page(
-            &self.store,
-            page * PAGE,
-            page_size(len, page),
-            &mut self.values,
-        )?;
+        copy_page(&self.store, page, page_size(len, page), &mut self.values)?;
         if self.pages.push(page).is_err() {
             self.values.truncate(at);
             return Err(AllocError);
@@ -254,63 +249,45 @@ fn cover(flags: &mut Vec<bool>, page: usize, count: usize) -> Result<(), AllocEr
     Ok(())
 }
 
-/// Appends the values of a run of cells, at most a page. At `Err` nothing is appended. They are gathered in an array
-/// first, since a loop that writes to a vector behind a reference takes twice the time. Room for the first page is room
-/// for `FIRST_PAGES`, as few turns keep less.
+/// Appends the values of the first cells of a page. At `Err` nothing is appended. They are gathered in an array first,
+/// since a loop that writes to a vector behind a reference takes twice the time. Room for the first page is room for
+/// `FIRST_PAGES`, as few turns keep less.
 fn copy_page<C: Cells>(
     store: &C,
-    first: usize,
+    page: usize,
     count: usize,
     values: &mut Vec<u16>,
 ) -> Result<(), AllocError>
-    requires cells { first + count ≤ length (C.cells store.now) }
+    requires cells { page * 64 + count ≤ length (C.cells store.now) }
     requires page { count ≤ 64 }
     ensures ok { OnOk result (values.new.items
-        ≡ values.old.items ++ map (slice_index (C.cells store.now)) (range_with_len first count)) }
-    ensures within { OnOk result ((k : ℕ) → first ≤ k → k < first + count
+        ≡ values.old.items ++ map (slice_index (C.cells store.now)) (range_with_len (page * 64) count)) }
+    ensures within { OnOk result ((k : ℕ) → page * 64 ≤ k → k < page * 64 + count
         → slice_index (C.cells store.now) k ≤ C.bounds store.now k) }
     ensures err { OnErr result (values.new.items ≡ values.old.items) }
 {
-    let mut page = [0; PAGE];
-    read_page(store, first, count, &mut page);
+    let mut cells = [0; PAGE];
+    read_page(store, page, count, &mut cells);
     if values.is_empty() {
         values.reserve(FIRST_PAGES * PAGE)?;
     }
-    values.extend_from_slice(&page[..count])
+    values.extend_from_slice(&cells[..count])
 }
 
-/// Writes the values of a run of cells to the front of a page.
-fn read_page<C: Cells>(store: &C, first: usize, count: usize, page: &mut [u16; PAGE])
-    requires cells { first + count ≤ length (C.cells store.now) }
+/// Writes the values of the first cells of a page to the front of an array. The loop ends by `!=`: where the compiler
+/// knows that the offsets are below `PAGE`, it drops the remainder in `cell_of` before it has used it.
+fn read_page<C: Cells>(store: &C, page: usize, count: usize, cells: &mut [u16; PAGE])
+    requires cells { page * 64 + count ≤ length (C.cells store.now) }
     requires page { count ≤ 64 }
-    ensures read { take count page.new ≡ map (slice_index (C.cells store.now)) (range_with_len first count) }
-    ensures within { (k : ℕ) → first ≤ k → k < first + count
+    ensures read { take count cells.new ≡ map (slice_index (C.cells store.now)) (range_with_len (page * 64) count) }
+    ensures within { (k : ℕ) → page * 64 ≤ k → k < page * 64 + count
         → slice_index (C.cells store.now) k ≤ C.bounds store.now k }
 {
     let _len = store.len();
-    let fours = count / 4;
-    read_fours(store, first, fours, page);
-    for offset in 4 * fours..count {
-        page[offset] = store.get(first + offset);
-    }
-}
-
-/// Writes the values of so many cells, taken by fours, to the front of a page: most of the time of a loop over single
-/// cells is the loop's own.
-fn read_fours<C: Cells>(store: &C, first: usize, fours: usize, page: &mut [u16; PAGE])
-    requires cells { first + 4 * fours ≤ length (C.cells store.now) }
-    requires page { fours ≤ 16 }
-    ensures read { take (4 * fours) page.new ≡ map (slice_index (C.cells store.now)) (range_with_len first (4 * fours)) }
-    ensures within { (k : ℕ) → first ≤ k → k < first + 4 * fours
-        → slice_index (C.cells store.now) k ≤ C.bounds store.now k }
-{
-    let _len = store.len();
-    for four in 0..fours {
-        let offset = 4 * four;
-        page[offset] = store.get(first + offset);
-        page[offset + 1] = store.get(first + offset + 1);
-        page[offset + 2] = store.get(first + offset + 2);
-        page[offset + 3] = store.get(first + offset + 3);
+    let mut offset = 0;
+    'offsets: while offset != count {
+        cells[offset] = store.get(cell_of(page, offset));
+        offset += 1;
     }
 }
 

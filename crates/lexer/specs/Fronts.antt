@@ -1,6 +1,6 @@
 -- Words of proofs: what the parts of a scan find at the front of bytes.
 use Rattle.std.specs.Prelude.{◌≡◌, ◌==◌, ◌≤◌, ℕ, Bool, true, false, if◌then◌else◌, List, length, take, drop, Result}
-use Rattle.std.specs.Prelude.{Ok, Err}
+use Rattle.std.specs.Prelude.{Ok, Err, Option, MatchOption}
 use Rattle.lexer.specs.declared.bytes.Base.{Base}
 use Rattle.lexer.specs.declared.bytes.Base.TheVariants as bases
 use Rattle.lexer.specs.declared.fault.LexicalFault.{LexicalFault}
@@ -12,6 +12,10 @@ use Rattle.lexer.specs.declared.token.Word.TheVariants as w
 use Rattle.lexer.specs.Token.{Lexeme, character, dictionary_word, lexeme_of}
 use Rattle.lexer.specs.Spelling.{sign_spelling, IsCharacter, IsDictionaryWord}
 use Rattle.lexer.specs.Tokens.{IsLongest, IsAllowed, Breaks}
+
+-- what is found meets a fact, and where nothing is found, nothing meets it
+abbrev pub FindsOne : {A : Type 0} → (A → Type 0) → Option A → Type 0
+FindsOne {A} P result = MatchOption result ((a : A) → P a → ⊥) P
 
 -- a token's kind and length, wherever the bytes lie, or the broken rule
 abbrev pub Scanned : List ℕ → Result (Kind × ℕ) LexicalFault → Type 0

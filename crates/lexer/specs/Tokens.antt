@@ -81,6 +81,10 @@ pub data Lexes : ℕ → ℕ → List ℕ → Outcome → Type 0 where
   fault : {at line : ℕ} {bs : List ℕ} (broken : LexicalFault) → Breaks broken bs
       → Lexes at line bs (Err (record { number = number_of broken; line = line }))
 
+-- the same of a source, whose bytes before the offset are left out
+abbrev pub LexesFrom : ℕ → ℕ → List ℕ → Outcome → Type 0
+LexesFrom at line source o = Lexes at line (drop at source) o
+
 -- the last token is the end of the source, and no other is
 abbrev pub EndsOnce : List Lexeme → Type 0
 EndsOnce [] = ⊥

@@ -1,12 +1,12 @@
 //! Names and reserved words.
 
-ghost use Rattle.std.specs.Prelude.{◌≡◌, ◌<◌, ◌≤◌, length, slice_index, true, false, MatchOption};
+ghost use Rattle.std.specs.Prelude.{◌≡◌, ◌<◌, ◌≤◌, length, slice_index, true, false};
 ghost use Rattle.std.specs.List.{Contains, All};
 ghost use Rattle.std.specs.Str.{str_eq_ignore_ascii_case};
 ghost use Rattle.lexer.specs.Bytes as classes;
 ghost use Rattle.lexer.specs.declared.token.Word.{Word};
 ghost use Rattle.lexer.specs.Spelling.{IsReserved, word_spelling};
-ghost use Rattle.lexer.specs.Fronts.{Scanned, is_statement_word};
+ghost use Rattle.lexer.specs.Fronts.{FindsOne, Scanned, is_statement_word};
 
 use crate::bytes::{Class, front, run_length};
 use crate::fault::LexicalFault;
@@ -150,7 +150,7 @@ fn is_spelled(text: &[u8], word: Word) -> bool
 }
 
 fn reserved_word(text: &[u8]) -> Option<Word>
-    ensures { MatchOption result ((w : Word) → IsReserved w text.now → ⊥) (λ w. IsReserved w text.now) }
+    ensures { FindsOne (λ w. IsReserved w text.now) result }
 {
     for word in words_of_length(text.len()) {
         if is_spelled(text, *word) {

@@ -35,7 +35,8 @@ fn prefix_length(base: Base) -> usize
 // The number that digits spell, if it fits.
 #[tactic(auto, using(crate::proofs::Runs::value_more, crate::proofs::Runs::value_end, crate::proofs::Runs::value_grows))]
 fn value(base: Base, digits: &[u8]) -> Option<u16>
-    ensures { MatchOption result (65535 < value_from base 0 digits.now) (λ v. (v ≡ value_from base 0 digits.now) × (v ≤ 65535)) }
+    ensures { MatchOption result (65535 < value_from base 0 digits.now)
+        (λ v. (v ≡ value_from base 0 digits.now) × (v ≤ 65535)) }
 {
     let mut value: u32 = 0;
     for digit in digits {
@@ -53,7 +54,8 @@ fn value(base: Base, digits: &[u8]) -> Option<u16>
 ///
 /// `BadNumber`: no digit stands behind the prefix, the value is above 65,535, or a byte of names stands directly after it.
 pub fn number_token<'a>(bytes: &'a [u8]) -> Result<(Kind<'a>, usize), LexicalFault>
-    requires { (classes.is_digit (slice_index bytes.now 0) || slice_index bytes.now 0 == 36) ≡ true }
+    requires { (classes.is_digit (slice_index bytes.now 0)
+        || slice_index bytes.now 0 == 36) ≡ true }
     ensures { Scanned bytes.now result }
 {
     let base = base(bytes);

@@ -30,8 +30,10 @@ pub fn text_token<'a>(bytes: &'a [u8]) -> Result<(Kind<'a>, usize), LexicalFault
 }
 
 fn has_two_slashes(bytes: &[u8]) -> bool
-    ensures none { result ≡ false → (i : ℕ) → slice_index bytes.now i ≡ 47 → slice_index bytes.now (i + 1) ≡ 47 → ⊥ }
-    ensures some { result ≡ true → (i : ℕ) × (slice_index bytes.now i ≡ 47) × (slice_index bytes.now (i + 1) ≡ 47) }
+    ensures none { result ≡ false → (i : ℕ) → slice_index bytes.now i ≡ 47
+        → slice_index bytes.now (i + 1) ≡ 47 → ⊥ }
+    ensures some { result ≡ true → (i : ℕ) × (slice_index bytes.now i ≡ 47)
+        × (slice_index bytes.now (i + 1) ≡ 47) }
 {
     for at in 1..bytes.len() {
         if bytes[at - 1] == b'/' && bytes[at] == b'/' {
@@ -55,7 +57,8 @@ fn is_plain_word(word: &[u8]) -> bool
 
 // Without the two slashes at the end, where they stand there.
 fn without_slashes(content: &[u8]) -> &[u8]
-    ensures { (content.now ≡ result.now ++ codes "//") ⊎ ((result.now ≡ content.now) × ((s : List ℕ) → content.now ≡ s ++ codes "//" → ⊥)) }
+    ensures { (content.now ≡ result.now ++ codes "//")
+        ⊎ ((result.now ≡ content.now) × ((s : List ℕ) → content.now ≡ s ++ codes "//" → ⊥)) }
 {
     match content {
         [word @ .., b'/', b'/'] => word,
@@ -65,7 +68,8 @@ fn without_slashes(content: &[u8]) -> &[u8]
 
 // The token whose content stands between single quotes.
 fn quoted_kind<'a>(content: &'a [u8]) -> Option<Kind<'a>>
-    ensures { MatchOption result ((x : Lexeme) → IsContent x content.now → ⊥) (λ k. (p : Position) → IsContent (lexeme_of k p) content.now) }
+    ensures { MatchOption result ((x : Lexeme) → IsContent x content.now → ⊥)
+        (λ k. (p : Position) → IsContent (lexeme_of k p) content.now) }
 {
     if content.len() == 1 {
         return if is_character(content[0]) {

@@ -4,7 +4,7 @@ ghost use Rattle.std.specs.Prelude.{◌≡◌, ◌<◌, ◌≤◌, ◌∷◌, []
 ghost use Rattle.std.specs.Bool.{Decides};
 ghost use Rattle.lexer.specs.declared.token.Sign.{Sign};
 ghost use Rattle.lexer.specs.Spelling.{sign_spelling};
-ghost use Rattle.lexer.specs.Fronts.{IsLongestSign, HasNoSign};
+ghost use Rattle.lexer.specs.Fronts.{FindsOne, IsLongestSign, HasNoSign};
 
 use crate::bytes::byte_at;
 use crate::token::Sign;
@@ -17,7 +17,7 @@ fn is_long_arrow(first: u8, second: u8, third: u8) -> bool
 }
 
 fn sign_of_two(first: u8, second: u8) -> Option<Sign>
-    ensures { MatchOption result ((s : Sign) → sign_spelling s ≡ first ∷ second ∷ [] → ⊥) (λ s. sign_spelling s ≡ first ∷ second ∷ []) }
+    ensures { FindsOne (λ s. sign_spelling s ≡ first ∷ second ∷ []) result }
 {
     match (first, second) {
         (b'.', b'&') => Some(Sign::DotAmpersand),
@@ -37,7 +37,7 @@ fn sign_of_two(first: u8, second: u8) -> Option<Sign>
 }
 
 fn sign_of_one(first: u8) -> Option<Sign>
-    ensures { MatchOption result ((s : Sign) → sign_spelling s ≡ first ∷ [] → ⊥) (λ s. sign_spelling s ≡ first ∷ []) }
+    ensures { FindsOne (λ s. sign_spelling s ≡ first ∷ []) result }
 {
     match first {
         b'(' => Some(Sign::OpenParenthesis),

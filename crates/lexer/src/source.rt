@@ -1,9 +1,9 @@
 //! The whole source.
 
-ghost use Rattle.std.specs.Prelude.{◌≡◌, ◌≤◌, ◌+◌, ◌-◌, ◌<◌, ◌==◌, length, drop, slice_index, List, ℕ, Err, false, IfOk, IfErr};
+ghost use Rattle.std.specs.Prelude.{◌≡◌, ◌≤◌, ◌+◌, ◌-◌, ◌<◌, ◌==◌, length, slice_index, List, ℕ, Err, false, IfOk, IfErr};
 ghost use Rattle.lexer.specs.Bytes.{is_divider};
 ghost use Rattle.lexer.specs.Token.{lexemes};
-ghost use Rattle.lexer.specs.Tokens.{Lexes, line_after, put, Outcome, EndsOnce};
+ghost use Rattle.lexer.specs.Tokens.{Lexes, LexesFrom, line_after, put, Outcome, EndsOnce};
 ghost use Rattle.lexer.specs.Results.{source_token, Meets};
 
 use crate::bytes::{Class, from, front, is_divider, run_length};
@@ -25,9 +25,11 @@ fn token_at<'a>(source: &'a [u8], position: Position) -> Result<Token<'a>, Sourc
     requires within { position.offset < length source.now }
     requires no_divider { is_divider (slice_index source.now position.offset) ≡ false }
     requires no_comment { (slice_index source.now position.offset == 33) ≡ false }
-    ensures first { IfOk result (λ t. (o : Outcome) → Lexes t.end position.line (drop t.end source.now) o → Lexes position.offset position.line (drop position.offset source.now) (put (source_token t) o)) }
+    ensures first { IfOk result (λ t. (o : Outcome) → LexesFrom t.end position.line source.now o
+        → LexesFrom position.offset position.line source.now (put (source_token t) o)) }
     ensures moves { IfOk result (λ t. (position.offset < t.end) × (t.end ≤ length source.now)) }
-    ensures broken { IfErr result (λ e. Lexes position.offset position.line (drop position.offset source.now) (Err e)) }
+    ensures broken { IfErr result
+        (λ e. LexesFrom position.offset position.line source.now (Err e)) }
 {
     let rest = from(source, position.offset);
     match scan(rest) {

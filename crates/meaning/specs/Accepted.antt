@@ -13,7 +13,8 @@ use Rattle.meaning.specs.Resolved.{property, property_size, property_word, assig
 use Rattle.meaning.specs.Resolved.{name_of, give_to, move_to, remove_from, each_object, each_where, each_in}
 use Rattle.meaning.specs.Resolved.{none, more, Printed, text}
 use Rattle.meaning.specs.Objects.{ObjectOf, object_at}
-use Rattle.meaning.specs.Places.{abbreviation_count, name_words}
+use Rattle.zcore.specs.Abbreviations.{most_abbreviations}
+use Rattle.meaning.specs.Places.{name_words}
 use Rattle.meaning.specs.Resolved.{character_of, number_of, Action, Actions, CasesOf, empty, block, text_alone, print}
 use Rattle.meaning.specs.Resolved.{print_return, new_line, if_then, if_else, while_do, do_until, for_loop, switch_on}
 use Rattle.meaning.specs.Resolved.{break_out, continue_on, read_line, return_value, quit, effect, stop, next, no_case}
@@ -197,5 +198,5 @@ pub record IsAccepted (p : ProgramOf) : Type 0 where
   -- the keys of words have six bytes, and ascend
   pub keys : All (λ k. k < 2 ^ 48) p.keys
   pub ascending : IsStrictlyIncreasing p.keys
-  pub few_abbreviations : length p.abbreviations ≤ abbreviation_count
+  pub few_abbreviations : length p.abbreviations ≤ most_abbreviations
   pub abbreviations : All (λ (a : List ℕ). 2 ≤ length a) p.abbreviations

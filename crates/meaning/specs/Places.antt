@@ -6,6 +6,7 @@
 use Rattle.std.specs.Prelude.{◌+◌, ◌*◌, ◌/◌, ◌%◌, ◌==◌, ℕ, nat_lt, if◌then◌else◌, List, [], ◌∷◌, length, map}
 use Rattle.std.specs.List.{concat}
 use Rattle.tables.specs.Dictionary.{key_number}
+use Rattle.zcore.specs.Abbreviations.{most_abbreviations}
 use Rattle.zcore.specs.Text.{encoded}
 use Rattle.meaning.specs.Objects.{ObjectOf}
 use Rattle.meaning.specs.Resolved.{ProgramOf}
@@ -20,9 +21,6 @@ folded n = if nat_lt n 65536 then n else 65536 + n % 65536
 
 abbrev pub header_size : ℕ
 header_size = 64
-
-abbrev pub abbreviation_count : ℕ
-abbreviation_count = 96
 
 abbrev pub empty_text_size : ℕ
 empty_text_size = 2
@@ -89,7 +87,7 @@ abbrev pub abbreviations_place : ℕ
 abbreviations_place = header_size
 
 abbrev pub empty_text_place : ℕ
-empty_text_place = abbreviations_place + 2 * abbreviation_count
+empty_text_place = abbreviations_place + 2 * most_abbreviations
 
 abbrev pub globals_place : ℕ
 globals_place = empty_text_place + empty_text_size

@@ -66,7 +66,8 @@ fn object_first(before: Option<Binding>, anywhere: Option<Binding>) -> Option<Bi
 
 // What a constant's value is, where `whole` has the objects of the file and `table` the names before it.
 fn earlier_known(whole: &Table, table: &Table, value: &Literal<'_>) -> Option<Known>
-    ensures { result ≡ spec.earlier_known whole.now.entries table.now.entries (literal_tree value.now) }
+    ensures { result ≡ spec.earlier_known whole.now.entries table.now.entries
+        (literal_tree value.now) }
 {
     match value {
         Literal::Number(number) => Some(Known::Number(*number)),
@@ -123,7 +124,8 @@ impl Names {
     // What the name of a directive stands for.
     fn binding_of(&self, whole: &Table, directive: &Directive<'_>) -> Binding
         requires few { spec.AreFewer (2 ^ 63) self.now.counts }
-        ensures { result ≡ spec.binding_of whole.now.entries self.now.table.entries self.now.counts (directive_tree directive.now) }
+        ensures { result ≡ spec.binding_of whole.now.entries self.now.table.entries
+            self.now.counts (directive_tree directive.now) }
     {
         match directive {
             Directive::Global(_, _) => Binding::Global(self.counts.globals),
@@ -147,8 +149,11 @@ impl Names {
     /// `AllocError` where memory is refused.
     pub fn add(&mut self, whole: &Table, directive: &Directive<'_>) -> Result<(), AllocError>
         requires few { spec.AreFewer (2 ^ 63) self.old.counts }
-        ensures table { OnOk result (self.new.table.entries ≡ spec.with_directive whole.now.entries self.old.table.entries self.old.counts (directive_tree directive.now)) }
-        ensures counts { OnOk result (self.new.counts ≡ spec.counts_after self.old.counts (directive_tree directive.now)) }
+        ensures table { OnOk result (self.new.table.entries
+            ≡ spec.with_directive whole.now.entries self.old.table.entries self.old.counts
+            (directive_tree directive.now)) }
+        ensures counts { OnOk result (self.new.counts
+            ≡ spec.counts_after self.old.counts (directive_tree directive.now)) }
     {
         let binding = self.binding_of(whole, directive);
         define(&mut self.table, defined_name(directive), binding)?;
@@ -164,7 +169,9 @@ fn tabulate_with(
     whole: &Table,
     directives: &[Directive<'_>],
 ) -> Result<Table, AllocError>
-    ensures { IfOk result (λ t. t.entries ≡ spec.table_from whole.now.entries spec.first_table spec.no_counts (map directive_tree directives.now)) }
+    ensures { IfOk result (λ t. t.entries
+        ≡ spec.table_from whole.now.entries spec.first_table spec.no_counts
+        (map directive_tree directives.now)) }
 {
     let mut names = Names::new(alloc)?;
     for directive in directives {

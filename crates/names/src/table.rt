@@ -35,7 +35,8 @@ pub fn find(table: &Table, name: &[u8]) -> Option<Binding>
 ///
 /// `AllocError` where memory is refused.
 pub fn define(table: &mut Table, name: Name<'_>, binding: Binding) -> Result<(), AllocError>
-    ensures { OnOk result (table.new.entries ≡ with_name table.old.entries (name_tree name.entry) binding) }
+    ensures { OnOk result (table.new.entries
+        ≡ with_name table.old.entries (name_tree name.entry) binding) }
 {
     if find(table, name.text).is_none() {
         table.insert(key_of(name.text), binding)?;

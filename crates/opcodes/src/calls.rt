@@ -32,7 +32,8 @@ pub fn call_packed(
 ) -> Result<Next, End>
     requires store { IsStoreOf header.now store.old.store }
     requires few { length arguments.now ≤ 15 }
-    ensures { Went result store.old store.new (call_packed here after result_variable packed arguments.now) }
+    ensures { Went result store.old store.new
+        (call_packed here after result_variable packed arguments.now) }
 {
     if packed == 0 {
         return give_result(header, store, here, after, result_variable, 0);
@@ -63,7 +64,8 @@ fn call(
     requires sound { IsSound store.old.store }
     requires address { routine ≤ longest_story }
     requires few { length arguments.now ≤ 15 }
-    ensures { Went result store.old store.new (call here after routine arguments.now result_variable) }
+    ensures { Went result store.old store.new
+        (call here after routine arguments.now result_variable) }
 {
     test_routine(store, routine as usize)?;
     test_calls(store)?;

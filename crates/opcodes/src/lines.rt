@@ -24,7 +24,8 @@ pub fn read(
     parse_buffer: u16,
 ) -> Result<Next, End>
     requires { IsStoreOf header.now store.old.store }
-    ensures { Went result store.old store.new (steps.read here after result_variable text_buffer parse_buffer) }
+    ensures { Went result store.old store.new
+        (steps.read here after result_variable text_buffer parse_buffer) }
 {
     test_text_buffer(header, store, text_buffer)?;
     test_parse_buffer(header, store, parse_buffer)?;

@@ -1,12 +1,12 @@
 //! Opcodes that print (Z-Machine Standards Document 1.1, section 15).
 
-ghost use Rattle.std.specs.Prelude.{◌≡◌, ◌≤◌, ℕ, length, drop};
+ghost use Rattle.std.specs.Prelude.{◌≡◌, ◌≤◌, ℕ, length};
 ghost use Rattle.zcore.specs.Arithmetic.{signed_text};
 ghost use Rattle.zcore.specs.Execution.{text_at, print_characters, print_inline, print_return, print_address, print_packed, is_output, print_character};
 ghost use Rattle.opcodes.specs.Fronts.{ReadsFront};
-ghost use Rattle.opcodes.specs.Printed.{HasBegun, Grew};
+ghost use Rattle.opcodes.specs.Printed.{HasBegun, Grew, ToldFrom};
 ghost use Rattle.frames.specs.States.{IsSound, IsStoreOf};
-ghost use Rattle.frames.specs.Went.{Went, Told};
+ghost use Rattle.frames.specs.Went.{Went};
 
 use crate::calls::{give_back, unpacked};
 use crate::numbers::signed_digits;
@@ -35,7 +35,8 @@ pub fn print_characters(
 ) -> Result<Next, End>
     requires sound { IsSound store.old.store }
     requires text { HasBegun start text.old.items }
-    ensures told { Told result store.old (drop start text.old.items) store.new (drop start text.new.items) (print_characters here after characters.now) }
+    ensures told { ToldFrom start result store.old text.old.items store.new text.new.items
+        (print_characters here after characters.now) }
     ensures text { Grew start text.old.items text.new.items }
 {
     print(store, text, start, characters)?;
@@ -61,7 +62,8 @@ pub fn print_inline(
 ) -> Result<Next, End>
     requires sound { IsSound store.old.store }
     requires text { HasBegun start text.old.items }
-    ensures told { Told result store.old (drop start text.old.items) store.new (drop start text.new.items) (print_inline here after) }
+    ensures told { ToldFrom start result store.old text.old.items store.new text.new.items
+        (print_inline here after) }
     ensures text { Grew start text.old.items text.new.items }
 {
     let (characters, program_counter) = text_at(alloc, store, after)?;
@@ -89,7 +91,8 @@ pub fn print_return(
 ) -> Result<Next, End>
     requires store { IsStoreOf header.now store.old.store }
     requires text { HasBegun start text.old.items }
-    ensures told { Told result store.old (drop start text.old.items) store.new (drop start text.new.items) (print_return here after) }
+    ensures told { ToldFrom start result store.old text.old.items store.new text.new.items
+        (print_return here after) }
     ensures text { Grew start text.old.items text.new.items }
 {
     let (characters, _end) = text_at(alloc, store, after)?;
@@ -116,7 +119,8 @@ pub fn print_address(
 ) -> Result<Next, End>
     requires sound { IsSound store.old.store }
     requires text { HasBegun start text.old.items }
-    ensures told { Told result store.old (drop start text.old.items) store.new (drop start text.new.items) (print_address here after address) }
+    ensures told { ToldFrom start result store.old text.old.items store.new text.new.items
+        (print_address here after address) }
     ensures text { Grew start text.old.items text.new.items }
 {
     let (characters, _end) = text_at(alloc, store, address as u32)?;
@@ -141,7 +145,8 @@ pub fn print_packed(
 ) -> Result<Next, End>
     requires store { IsStoreOf header.now store.old.store }
     requires text { HasBegun start text.old.items }
-    ensures told { Told result store.old (drop start text.old.items) store.new (drop start text.new.items) (print_packed here after packed) }
+    ensures told { ToldFrom start result store.old text.old.items store.new text.new.items
+        (print_packed here after packed) }
     ensures text { Grew start text.old.items text.new.items }
 {
     let (characters, _end) = text_at(alloc, store, unpacked(header, packed))?;
@@ -164,7 +169,8 @@ pub fn print_character(
 ) -> Result<Next, End>
     requires sound { IsSound store.old.store }
     requires text { HasBegun start text.old.items }
-    ensures told { Told result store.old (drop start text.old.items) store.new (drop start text.new.items) (print_character here after character) }
+    ensures told { ToldFrom start result store.old text.old.items store.new text.new.items
+        (print_character here after character) }
     ensures text { Grew start text.old.items text.new.items }
 {
     if !is_output(character) {
@@ -188,7 +194,8 @@ pub fn print_number(
 ) -> Result<Next, End>
     requires sound { IsSound store.old.store }
     requires text { HasBegun start text.old.items }
-    ensures told { Told result store.old (drop start text.old.items) store.new (drop start text.new.items) (print_characters here after (signed_text number)) }
+    ensures told { ToldFrom start result store.old text.old.items store.new text.new.items
+        (print_characters here after (signed_text number)) }
     ensures text { Grew start text.old.items text.new.items }
 {
     let (digits, first) = signed_digits(number);

@@ -1,10 +1,9 @@
 //! Printing to the transcript.
 
-ghost use Rattle.std.specs.Prelude.{◌≡◌, ◌≢◌, ◌≤◌, ℕ, List, [], ◌∷◌, length, take, drop};
+ghost use Rattle.std.specs.Prelude.{◌≡◌, ◌≢◌, ◌≤◌, ℕ, List, [], ◌∷◌, length, take};
 ghost use Rattle.zcore.specs.Parts as parts;
-ghost use Rattle.opcodes.specs.Printed.{HasBegun, Grew};
+ghost use Rattle.opcodes.specs.Printed.{HasBegun, Grew, ToldFrom};
 ghost use Rattle.frames.specs.States.{IsSound};
-ghost use Rattle.frames.specs.Went.{Told};
 
 use frames::{End, Store};
 use journal::Recorded;
@@ -26,7 +25,8 @@ pub fn print(
 ) -> Result<(), End>
     requires sound { IsSound store.old.store }
     requires text { HasBegun start text.old.items }
-    ensures told { Told result store.old (drop start text.old.items) store.new (drop start text.new.items) (parts.print characters.now) }
+    ensures told { ToldFrom start result store.old text.old.items store.new text.new.items
+        (parts.print characters.now) }
     ensures text { Grew start text.old.items text.new.items }
 {
     for character in characters {
@@ -45,7 +45,8 @@ fn print_character(
 ) -> Result<(), End>
     requires sound { IsSound store.old.store }
     requires text { HasBegun start text.old.items }
-    ensures told { Told result store.old (drop start text.old.items) store.new (drop start text.new.items) (parts.print (character ∷ [])) }
+    ensures told { ToldFrom start result store.old text.old.items store.new text.new.items
+        (parts.print (character ∷ [])) }
     ensures text { Grew start text.old.items text.new.items }
 {
     if character == 0 {

@@ -1,5 +1,7 @@
 -- The rules that an expression can break, and what it resolves to.
 use Rattle.std.specs.Prelude.{◌+◌, ◌%◌, ℕ, nat_lt, Bool, true, false, if◌then◌else◌, List, [], ◌++◌, Option, Some, None}
+use Rattle.lexer.specs.declared.fault.TheConstants.{NOT_ASSIGNABLE, TOO_MANY, TOO_MANY_ARGUMENTS}
+use Rattle.lexer.specs.declared.fault.TheConstants.{UNKNOWN_NAME, WRONG_KIND}
 use Rattle.lexer.specs.declared.token.Position.{Position}
 use Rattle.expressions.specs.declared.tree.ObjectTest.{ObjectTest}
 use Rattle.expressions.specs.declared.tree.ObjectTest.TheVariants as tests
@@ -20,68 +22,68 @@ use Rattle.meaning.specs.Resolved.{none, more}
 
 -- a name as a value: E20 where it is unknown, E23 where it is an array, a routine, an attribute or a property
 abbrev pub value_breaches : Position → Option Binding → List Breach
-value_breaches p None = at p 20
+value_breaches p None = at p UNKNOWN_NAME
 value_breaches p (Some (bindings.Constant n)) = []
 value_breaches p (Some (bindings.Global g)) = []
-value_breaches p (Some (bindings.Array a kind)) = at p 23
-value_breaches p (Some (bindings.Routine r locals)) = at p 23
-value_breaches p (Some (bindings.Attribute a)) = at p 23
-value_breaches p (Some (bindings.Property n)) = at p 23
+value_breaches p (Some (bindings.Array a kind)) = at p WRONG_KIND
+value_breaches p (Some (bindings.Routine r locals)) = at p WRONG_KIND
+value_breaches p (Some (bindings.Attribute a)) = at p WRONG_KIND
+value_breaches p (Some (bindings.Property n)) = at p WRONG_KIND
 value_breaches p (Some (bindings.Object o)) = []
 value_breaches p (Some (bindings.Local l)) = []
 
 -- more than seven arguments are E24; more than the routine has locals are E25
 abbrev pub argument_breaches : Position → ℕ → ℕ → List Breach
-argument_breaches p given locals = (if nat_lt 7 given then at p 24 else [])
-    ++ (if nat_lt locals given then at p 25 else [])
+argument_breaches p given locals = (if nat_lt 7 given then at p TOO_MANY else [])
+    ++ (if nat_lt locals given then at p TOO_MANY_ARGUMENTS else [])
 
 -- a name that is called: E20 where it is unknown, E23 where it is no routine
 abbrev pub call_breaches : Position → ℕ → Option Binding → List Breach
-call_breaches p given None = at p 20
-call_breaches p given (Some (bindings.Constant n)) = at p 23
-call_breaches p given (Some (bindings.Global g)) = at p 23
-call_breaches p given (Some (bindings.Array a kind)) = at p 23
+call_breaches p given None = at p UNKNOWN_NAME
+call_breaches p given (Some (bindings.Constant n)) = at p WRONG_KIND
+call_breaches p given (Some (bindings.Global g)) = at p WRONG_KIND
+call_breaches p given (Some (bindings.Array a kind)) = at p WRONG_KIND
 call_breaches p given (Some (bindings.Routine r locals)) = argument_breaches p given locals
-call_breaches p given (Some (bindings.Attribute a)) = at p 23
-call_breaches p given (Some (bindings.Property n)) = at p 23
-call_breaches p given (Some (bindings.Object o)) = at p 23
-call_breaches p given (Some (bindings.Local l)) = at p 23
+call_breaches p given (Some (bindings.Attribute a)) = at p WRONG_KIND
+call_breaches p given (Some (bindings.Property n)) = at p WRONG_KIND
+call_breaches p given (Some (bindings.Object o)) = at p WRONG_KIND
+call_breaches p given (Some (bindings.Local l)) = at p WRONG_KIND
 
 -- a name before `->` or `-->`: E20 where it is unknown, E23 where it is no array
 abbrev pub array_name_breaches : Position → Option Binding → List Breach
-array_name_breaches p None = at p 20
-array_name_breaches p (Some (bindings.Constant n)) = at p 23
-array_name_breaches p (Some (bindings.Global g)) = at p 23
+array_name_breaches p None = at p UNKNOWN_NAME
+array_name_breaches p (Some (bindings.Constant n)) = at p WRONG_KIND
+array_name_breaches p (Some (bindings.Global g)) = at p WRONG_KIND
 array_name_breaches p (Some (bindings.Array a kind)) = []
-array_name_breaches p (Some (bindings.Routine r locals)) = at p 23
-array_name_breaches p (Some (bindings.Attribute a)) = at p 23
-array_name_breaches p (Some (bindings.Property n)) = at p 23
-array_name_breaches p (Some (bindings.Object o)) = at p 23
-array_name_breaches p (Some (bindings.Local l)) = at p 23
+array_name_breaches p (Some (bindings.Routine r locals)) = at p WRONG_KIND
+array_name_breaches p (Some (bindings.Attribute a)) = at p WRONG_KIND
+array_name_breaches p (Some (bindings.Property n)) = at p WRONG_KIND
+array_name_breaches p (Some (bindings.Object o)) = at p WRONG_KIND
+array_name_breaches p (Some (bindings.Local l)) = at p WRONG_KIND
 
 -- a name after `has` or `hasnt`, and in a `give`: E20 where it is unknown, E23 where it is no attribute
 abbrev pub attribute_breaches : Position → Option Binding → List Breach
-attribute_breaches p None = at p 20
-attribute_breaches p (Some (bindings.Constant n)) = at p 23
-attribute_breaches p (Some (bindings.Global g)) = at p 23
-attribute_breaches p (Some (bindings.Array a kind)) = at p 23
-attribute_breaches p (Some (bindings.Routine r locals)) = at p 23
+attribute_breaches p None = at p UNKNOWN_NAME
+attribute_breaches p (Some (bindings.Constant n)) = at p WRONG_KIND
+attribute_breaches p (Some (bindings.Global g)) = at p WRONG_KIND
+attribute_breaches p (Some (bindings.Array a kind)) = at p WRONG_KIND
+attribute_breaches p (Some (bindings.Routine r locals)) = at p WRONG_KIND
 attribute_breaches p (Some (bindings.Attribute a)) = []
-attribute_breaches p (Some (bindings.Property n)) = at p 23
-attribute_breaches p (Some (bindings.Object o)) = at p 23
-attribute_breaches p (Some (bindings.Local l)) = at p 23
+attribute_breaches p (Some (bindings.Property n)) = at p WRONG_KIND
+attribute_breaches p (Some (bindings.Object o)) = at p WRONG_KIND
+attribute_breaches p (Some (bindings.Local l)) = at p WRONG_KIND
 
 -- a name after `.`, `.#`, `.&` or `provides`: E20 where it is unknown, E23 where it is no property
 abbrev pub property_breaches : Position → Option Binding → List Breach
-property_breaches p None = at p 20
-property_breaches p (Some (bindings.Constant n)) = at p 23
-property_breaches p (Some (bindings.Global g)) = at p 23
-property_breaches p (Some (bindings.Array a kind)) = at p 23
-property_breaches p (Some (bindings.Routine r locals)) = at p 23
-property_breaches p (Some (bindings.Attribute a)) = at p 23
+property_breaches p None = at p UNKNOWN_NAME
+property_breaches p (Some (bindings.Constant n)) = at p WRONG_KIND
+property_breaches p (Some (bindings.Global g)) = at p WRONG_KIND
+property_breaches p (Some (bindings.Array a kind)) = at p WRONG_KIND
+property_breaches p (Some (bindings.Routine r locals)) = at p WRONG_KIND
+property_breaches p (Some (bindings.Attribute a)) = at p WRONG_KIND
 property_breaches p (Some (bindings.Property n)) = []
-property_breaches p (Some (bindings.Object o)) = at p 23
-property_breaches p (Some (bindings.Local l)) = at p 23
+property_breaches p (Some (bindings.Object o)) = at p WRONG_KIND
+property_breaches p (Some (bindings.Local l)) = at p WRONG_KIND
 
 -- what an object is tested for
 abbrev pub tested_breaches : ObjectTest → Position → Option Binding → List Breach
@@ -92,14 +94,14 @@ tested_breaches tests.Provides p found = property_breaches p found
 -- A name that is assigned to or stepped, with the operator's position: E20 where it is unknown; E26 at the operator
 -- where it is no variable, and E23 at an array, a routine, an attribute or a property too.
 abbrev pub target_breaches : Position → Position → Option Binding → List Breach
-target_breaches p operator None = at p 20
-target_breaches p operator (Some (bindings.Constant n)) = at operator 26
+target_breaches p operator None = at p UNKNOWN_NAME
+target_breaches p operator (Some (bindings.Constant n)) = at operator NOT_ASSIGNABLE
 target_breaches p operator (Some (bindings.Global g)) = []
-target_breaches p operator (Some (bindings.Array a kind)) = at p 23 ++ at operator 26
-target_breaches p operator (Some (bindings.Routine r locals)) = at p 23 ++ at operator 26
-target_breaches p operator (Some (bindings.Attribute a)) = at p 23 ++ at operator 26
-target_breaches p operator (Some (bindings.Property n)) = at p 23 ++ at operator 26
-target_breaches p operator (Some (bindings.Object o)) = at operator 26
+target_breaches p operator (Some (bindings.Array a kind)) = at p WRONG_KIND ++ at operator NOT_ASSIGNABLE
+target_breaches p operator (Some (bindings.Routine r locals)) = at p WRONG_KIND ++ at operator NOT_ASSIGNABLE
+target_breaches p operator (Some (bindings.Attribute a)) = at p WRONG_KIND ++ at operator NOT_ASSIGNABLE
+target_breaches p operator (Some (bindings.Property n)) = at p WRONG_KIND ++ at operator NOT_ASSIGNABLE
+target_breaches p operator (Some (bindings.Object o)) = at operator NOT_ASSIGNABLE
 target_breaches p operator (Some (bindings.Local l)) = []
 
 abbrev pub count : ExpressionTrees → ℕ
@@ -209,13 +211,13 @@ module _ (look : List ℕ → Option Binding) where
   -- What is stepped, by the name that it is; `inside` are the rules that it breaks as an expression.
   abbrev pub left_breaches : Position → Option NameTree → List Breach → List Breach
   left_breaches operator (Some n) inside = target_breaches n.position operator (look n.text)
-  left_breaches operator None inside = inside ++ at operator 26
+  left_breaches operator None inside = inside ++ at operator NOT_ASSIGNABLE
 
   -- What is assigned to, by the name that it is, and by whether it is an entry, a property or a word of a property.
   abbrev pub assigned_breaches : Position → Option NameTree → Bool → List Breach → List Breach
   assigned_breaches operator (Some n) is_one inside = target_breaches n.position operator (look n.text)
   assigned_breaches operator None true inside = inside
-  assigned_breaches operator None false inside = inside ++ at operator 26
+  assigned_breaches operator None false inside = inside ++ at operator NOT_ASSIGNABLE
 
   abbrev mutual
     pub breaches : ExpressionTree → List Breach

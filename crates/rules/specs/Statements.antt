@@ -3,11 +3,12 @@ use Rattle.std.specs.Prelude.{ℕ, nat_lt, Bool, if◌then◌else◌, List, [], 
 use Rattle.std.specs.Prelude.{None}
 use Rattle.std.specs.List.{flat_map}
 use Rattle.std.specs.Option.{option_map}
+use Rattle.lexer.specs.declared.fault.TheConstants.{BREAK_OUTSIDE, EXPRESSION_TOO_LARGE, UNKNOWN_NAME, WRONG_KIND}
 use Rattle.lexer.specs.declared.token.Position.{Position}
 use Rattle.expressions.specs.Tree.{NameTree, ExpressionTree}
 use Rattle.statements.specs.Tree as trees
-use Rattle.statements.specs.Tree.{LiteralTree, RangeTree, FlagTree, PrintItemTree, StatementTree, StatementTrees}
-use Rattle.statements.specs.Tree.{CaseTrees}
+use Rattle.statements.specs.Tree.{LiteralTree, RangeTree, FlagTree, PrintItemTree, HeadingTree, StatementTree}
+use Rattle.statements.specs.Tree.{StatementTrees, CaseTrees}
 use Rattle.meaning.specs.declared.around.Around.{Around}
 use Rattle.meaning.specs.Around.{in_loop, in_switch}
 use Rattle.meaning.specs.declared.resolved.Variable.{Variable}
@@ -39,31 +40,38 @@ part_needs (Some e) = need e ∷ []
 abbrev pub heading_need : Option ExpressionTree → Option ExpressionTree → Option ExpressionTree → ℕ
 heading_need a b c = operands 0 (part_needs a ++ (part_needs b ++ part_needs c))
 
+abbrev pub need_of_heading : HeadingTree → ℕ
+need_of_heading h = heading_need h.before h.test h.behind
+
 -- what the operands of a `move` need, as those of one form
 abbrev pub move_need : ExpressionTree → ExpressionTree → ℕ
 move_need a b = operands 0 (need a ∷ need b ∷ [])
 
+-- what begins at p needs so many temporaries: E29 where they are more than 48
+abbrev pub room_breaches : Position → ℕ → List Breach
+room_breaches p n = if nat_lt 48 n then at p EXPRESSION_TOO_LARGE else []
+
 -- the variable of an `objectloop`: E20 where it is unknown, E23 where it is no variable
 abbrev pub loop_breaches : Position → Option Binding → List Breach
-loop_breaches p None = at p 20
-loop_breaches p (Some (bindings.Constant n)) = at p 23
+loop_breaches p None = at p UNKNOWN_NAME
+loop_breaches p (Some (bindings.Constant n)) = at p WRONG_KIND
 loop_breaches p (Some (bindings.Global g)) = []
-loop_breaches p (Some (bindings.Array a kind)) = at p 23
-loop_breaches p (Some (bindings.Routine r locals)) = at p 23
-loop_breaches p (Some (bindings.Attribute a)) = at p 23
-loop_breaches p (Some (bindings.Property n)) = at p 23
-loop_breaches p (Some (bindings.Object o)) = at p 23
+loop_breaches p (Some (bindings.Array a kind)) = at p WRONG_KIND
+loop_breaches p (Some (bindings.Routine r locals)) = at p WRONG_KIND
+loop_breaches p (Some (bindings.Attribute a)) = at p WRONG_KIND
+loop_breaches p (Some (bindings.Property n)) = at p WRONG_KIND
+loop_breaches p (Some (bindings.Object o)) = at p WRONG_KIND
 loop_breaches p (Some (bindings.Local l)) = []
 
 -- `break` or `continue` where it may not stand
 abbrev pub outside_breaches : Bool → Position → List Breach
-outside_breaches stands p = if stands then [] else at p 27
+outside_breaches stands p = if stands then [] else at p BREAK_OUTSIDE
 
 -- `look` tells what a name stands for
 module _ (look : List ℕ → Option Binding) where
   -- an expression of a statement or an item that begins at p: E29 where it needs more than 48 temporaries
   abbrev pub whole_breaches : Position → ExpressionTree → List Breach
-  whole_breaches p e = (if nat_lt 48 (need e) then at p 29 else []) ++ breaches look e
+  whole_breaches p e = room_breaches p (need e) ++ breaches look e
 
   -- the parts of a `for` that begins at p
   abbrev pub part_breaches : Option ExpressionTree → List Breach
@@ -72,7 +80,7 @@ module _ (look : List ℕ → Option Binding) where
 
   abbrev pub heading_breaches : Position → Option ExpressionTree → Option ExpressionTree → Option ExpressionTree
       → List Breach
-  heading_breaches p a b c = (if nat_lt 48 (heading_need a b c) then at p 29 else [])
+  heading_breaches p a b c = room_breaches p (heading_need a b c)
       ++ (part_breaches a ++ (part_breaches b ++ part_breaches c))
 
   -- a value of a case: a name in it is a constant, and a local hides one
@@ -100,7 +108,7 @@ module _ (look : List ℕ → Option Binding) where
 
   -- the operands of a `move` that begins at p
   abbrev pub move_breaches : Position → ExpressionTree → ExpressionTree → List Breach
-  move_breaches p a b = (if nat_lt 48 (move_need a b) then at p 29 else []) ++ (breaches look a ++ breaches look b)
+  move_breaches p a b = room_breaches p (move_need a b) ++ (breaches look a ++ breaches look b)
 
   -- of a statement that stands in what is around it
   abbrev mutual

@@ -1,5 +1,6 @@
 -- Words of proofs: what a walk over a part of a tree finds, and what it notes.
-use Rattle.std.specs.Prelude.{◌≡◌, ℕ, Bool, List, [], ◌∷◌, ◌++◌, Option, Some, None, map}
+use Rattle.std.specs.Prelude.{◌≡◌, ℕ, Bool, List, [], ◌∷◌, ◌++◌, Option, Some, None, map, Result}
+use Rattle.std.specs.Prelude.{IfOk}
 use Rattle.std.specs.Global.{Vec}
 use Rattle.std.specs.List.{flat_map}
 use Rattle.std.specs.Option.{option_map}
@@ -17,9 +18,10 @@ use Rattle.meaning.specs.declared.around.Around.{Around}
 use Rattle.names.specs.declared.breach.Breach.{Breach}
 use Rattle.meaning.specs.declared.resolved.Variable.{Variable}
 use Rattle.meaning.specs.declared.resolved.Value as code_value
+use Rattle.meaning.specs.declared.resolved.Action as code_action
 use Rattle.names.specs.Names.{name_of, is_place, Seen}
 use Rattle.names.specs.Noted.{noted}
-use Rattle.meaning.specs.Resolved.{Value, RangeOf, Printed, Action, Actions, value_of, property}
+use Rattle.meaning.specs.Resolved.{Value, RangeOf, Printed, Action, Actions, value_of, action_of, property}
 use Rattle.rules.specs.Expressions.{breaches, property_breaches, left_breaches, assigned_breaches, target}
 use Rattle.rules.specs.Expressions.{property_of_binding, resolve}
 use Rattle.rules.specs.Statements.{whole_breaches, part_breaches, heading_breaches, range_breaches, resolve_range}
@@ -117,6 +119,11 @@ module _ (seen : Seen) where
   abbrev pub IsResolved : ExpressionTree → Option Breach → Option Breach → Value → Type 0
   IsResolved e before after v = IsWalked (breaches seen.look e) before after v (resolve seen e)
 
+  -- what is answered, unless memory was refused: what the expression resolves to
+  abbrev pub GivesValue : {E : Type 0} → Result code_value.Value E → Option Breach → Option Breach → ExpressionTree
+      → Type 0
+  GivesValue result before after e = IfOk result (λ v. IsResolved e before after (value_of v))
+
   abbrev pub AreResolved : List Expression → Option Breach → Option Breach → List Value → Type 0
   AreResolved es before after vs = IsWalked (flat_map own_breaches es) before after vs (map resolved es)
 
@@ -193,6 +200,11 @@ module _ (seen : Seen) where
   abbrev pub IsAction : Around → StatementTree → Option Breach → Option Breach → Action → Type 0
   IsAction around s before after a = IsWalked (statement_breaches seen.look around s) before after a
       (resolve_statement seen s)
+
+  -- what is answered, unless memory was refused: what the statement resolves to
+  abbrev pub GivesAction : {E : Type 0} → Around → Result code_action.Action E → Option Breach → Option Breach
+      → StatementTree → Type 0
+  GivesAction around result before after s = IfOk result (λ a. IsAction around s before after (action_of a))
 
   abbrev pub AreActions : Around → List Statement → Option Breach → Option Breach → List Action → Type 0
   AreActions around ss before after found = IsWalked (flat_map (own_statement_breaches around) ss) before after found

@@ -115,7 +115,9 @@ pub fn read<'a>(
     words: Name<'_>,
     least: &mut Option<Breach>,
 ) -> Action<'a>
-    ensures { (around : _) → IsAction (seen_in scope.now) around (trees.read_line (name_tree text.entry) (name_tree words.entry)) least.old least.new (action_of result) }
+    ensures { (around : _) → IsAction (seen_in scope.now) around
+        (trees.read_line (name_tree text.entry) (name_tree words.entry))
+        least.old least.new (action_of result) }
 {
     let first = scope.look(text.text);
     let second = scope.look(words.text);

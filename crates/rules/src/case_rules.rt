@@ -19,7 +19,8 @@ use std::alloc::{AllocError, Global};
 #[tactic(auto, using(names::proofs::Noted::noted_none))]
 fn case_value(scope: &Scope<'_>, value: &Literal<'_>, least: &mut Option<Breach>) -> u16
     ensures value { result ≡ spec.known_number (seen_in scope.now) (literal_tree value.now) }
-    ensures breaches { least.new ≡ noted least.old (spec.known_breaches (look_in scope.now) (literal_tree value.now)) }
+    ensures breaches { least.new ≡ noted least.old
+        (spec.known_breaches (look_in scope.now) (literal_tree value.now)) }
 {
     match value {
         Literal::Number(number) => *number,
@@ -35,8 +36,10 @@ fn case_value(scope: &Scope<'_>, value: &Literal<'_>, least: &mut Option<Breach>
 // What a range holds for, whose first value is known.
 #[tactic(auto, using(names::proofs::Noted::noted_none))]
 fn span(scope: &Scope<'_>, low: u16, high: &Option<Literal<'_>>, least: &mut Option<Breach>) -> Span
-    ensures value { range_of result ≡ spec.range_to (seen_in scope.now) low (option_map literal_tree high.now) }
-    ensures breaches { least.new ≡ noted least.old (spec.high_breaches (look_in scope.now) (option_map literal_tree high.now)) }
+    ensures value { range_of result ≡ spec.range_to (seen_in scope.now) low
+        (option_map literal_tree high.now) }
+    ensures breaches { least.new ≡ noted least.old
+        (spec.high_breaches (look_in scope.now) (option_map literal_tree high.now)) }
 {
     match high {
         None => Span::One(low),
@@ -45,7 +48,8 @@ fn span(scope: &Scope<'_>, low: u16, high: &Option<Literal<'_>>, least: &mut Opt
 }
 
 fn range(scope: &Scope<'_>, range: &Range<'_>, least: &mut Option<Breach>) -> Span
-    ensures { IsRange (seen_in scope.now) (range_tree range.now) least.old least.new (range_of result) }
+    ensures { IsRange (seen_in scope.now) (range_tree range.now)
+        least.old least.new (range_of result) }
 {
     let low = case_value(scope, &range.low, least);
     span(scope, low, &range.high, least)
@@ -62,7 +66,8 @@ pub fn ranges(
     given: &[Range<'_>],
     least: &mut Option<Breach>,
 ) -> Result<Vec<Span>, AllocError>
-    ensures { IfOk result (λ v. AreRanges (seen_in scope.now) given.now least.old least.new (map range_of v.items)) }
+    ensures { IfOk result (λ v. AreRanges (seen_in scope.now) given.now
+        least.old least.new (map range_of v.items)) }
 {
     let mut found = Vec::new(alloc);
     for x in given {

@@ -10,7 +10,7 @@ ghost use Rattle.names.specs.Scope.{seen_in};
 ghost use Rattle.meaning.specs.Resolved.{value_of};
 ghost use Rattle.rules.specs.Expressions.{tested_breaches, tested_for, assigned};
 ghost use Rattle.names.specs.Names as names;
-ghost use Rattle.rules.specs.Walk.{IsResolved, AreResolved, AreLinks, AreProperties, IsTarget, IsAssigned, value_link};
+ghost use Rattle.rules.specs.Walk.{IsResolved, GivesValue, AreResolved, AreLinks, AreProperties, IsTarget, IsAssigned, value_link};
 
 use crate::name_rules::{array, attribute, named, property, routine, target_of, value};
 use expressions::{
@@ -127,7 +127,8 @@ fn tested_value(
     least: &mut Option<Breach>,
 ) -> Value
     ensures value { value_of result ≡ tested_for test (value_of object.value) found }
-    ensures breaches { least.new ≡ noted least.old (tested_breaches test name.entry.position found) }
+    ensures breaches { least.new ≡ noted least.old
+        (tested_breaches test name.entry.position found) }
 {
     match test {
         ObjectTest::Has => Value::Has(true, object, attribute(name, found, least)),
@@ -144,7 +145,8 @@ fn further_properties(
     others: &[Name<'_>],
     least: &mut Option<Breach>,
 ) -> Result<Value, AllocError>
-    ensures { IfOk result (λ v. AreProperties (seen_in scope.now) others.now (value_of first) least.old least.new (value_of v)) }
+    ensures { IfOk result (λ v. AreProperties (seen_in scope.now) others.now (value_of first)
+        least.old least.new (value_of v)) }
 {
     let mut found = first;
     for name in others {
@@ -166,7 +168,7 @@ pub fn expression(
     e: &Expression<'_>,
     least: &mut Option<Breach>,
 ) -> Result<Value, AllocError>
-    ensures { IfOk result (λ v. IsResolved (seen_in scope.now) (expression_tree e.now) least.old least.new (value_of v)) }
+    ensures { GivesValue (seen_in scope.now) result least.old least.new (expression_tree e.now) }
 {
     match e {
         Expression::Constant(number) => Ok(Value::Number(*number)),
@@ -226,7 +228,8 @@ fn boxed(
     e: &Expression<'_>,
     least: &mut Option<Breach>,
 ) -> Result<Box<Value>, AllocError>
-    ensures { IfOk result (λ v. IsResolved (seen_in scope.now) (expression_tree e.now) least.old least.new (value_of v.value)) }
+    ensures { IfOk result (λ v. IsResolved (seen_in scope.now) (expression_tree e.now)
+        least.old least.new (value_of v.value)) }
 {
     let Ok(found) = expression(alloc, scope, e, least) else {
         return Err(AllocError);
@@ -241,7 +244,8 @@ fn all_expressions(
     given: &[Expression<'_>],
     least: &mut Option<Breach>,
 ) -> Result<Vec<Value>, AllocError>
-    ensures { IfOk result (λ v. AreResolved (seen_in scope.now) given.now least.old least.new (map value_of v.items)) }
+    ensures { IfOk result (λ v. AreResolved (seen_in scope.now) given.now
+        least.old least.new (map value_of v.items)) }
 {
     let mut found = Vec::new(alloc);
     for e in given {
@@ -261,7 +265,8 @@ fn chain_links(
     links: &[(Binary, Expression<'_>)],
     least: &mut Option<Breach>,
 ) -> Result<Vec<(Binary, Value)>, AllocError>
-    ensures { IfOk result (λ v. AreLinks (seen_in scope.now) links.now least.old least.new (map value_link v.items)) }
+    ensures { IfOk result (λ v. AreLinks (seen_in scope.now) links.now
+        least.old least.new (map value_link v.items)) }
 {
     let mut found = Vec::new(alloc);
     for link in links {
@@ -282,7 +287,8 @@ fn variable(
     operator: Position,
     least: &mut Option<Breach>,
 ) -> Result<Variable, AllocError>
-    ensures { IfOk result (λ x. IsTarget (seen_in scope.now) operator (expression_tree e.now) least.old least.new x) }
+    ensures { IfOk result (λ x. IsTarget (seen_in scope.now) operator (expression_tree e.now)
+        least.old least.new x) }
 {
     match name_of(e) {
         Some(name) => Ok(target_of(name, operator, scope.look(name.text), least)),
@@ -302,7 +308,8 @@ fn call(
     name: Name<'_>,
     least: &mut Option<Breach>,
 ) -> Result<Value, AllocError>
-    ensures { IfOk result (λ v. IsResolved (seen_in scope.now) (trees.call (name_tree name.entry) (trees_of (map expression_tree given.now))) least.old least.new (value_of v)) }
+    ensures { GivesValue (seen_in scope.now) result least.old least.new
+        (trees.call (name_tree name.entry) (trees_of (map expression_tree given.now))) }
 {
     let number = routine(name, given.len(), scope.look(name.text), least);
     let Ok(given) = all_expressions(alloc, scope, given, least) else {
@@ -320,7 +327,8 @@ fn index(
     width: Width,
     least: &mut Option<Breach>,
 ) -> Result<Value, AllocError>
-    ensures { IfOk result (λ v. IsResolved (seen_in scope.now) (trees.index (name_tree name.entry) width (expression_tree operand.now)) least.old least.new (value_of v)) }
+    ensures { GivesValue (seen_in scope.now) result least.old least.new
+        (trees.index (name_tree name.entry) width (expression_tree operand.now)) }
 {
     let number = array(name, scope.look(name.text), least);
     let Ok(operand) = boxed(alloc, scope, operand, least) else {
@@ -337,7 +345,8 @@ fn relative_of(
     relative: Relative,
     least: &mut Option<Breach>,
 ) -> Result<Value, AllocError>
-    ensures { IfOk result (λ v. IsResolved (seen_in scope.now) (trees.relative_of relative (expression_tree object.now)) least.old least.new (value_of v)) }
+    ensures { GivesValue (seen_in scope.now) result least.old least.new
+        (trees.relative_of relative (expression_tree object.now)) }
 {
     let Ok(object) = boxed(alloc, scope, object, least) else {
         return Err(AllocError);
@@ -354,7 +363,9 @@ fn properties(
     others: &[Name<'_>],
     least: &mut Option<Breach>,
 ) -> Result<Value, AllocError>
-    ensures { IfOk result (λ v. IsResolved (seen_in scope.now) (propertied (trees.property (expression_tree object.now) (name_tree name.entry)) others.now) least.old least.new (value_of v)) }
+    ensures { GivesValue (seen_in scope.now) result least.old least.new
+        (propertied (trees.property (expression_tree object.now) (name_tree name.entry))
+        others.now) }
 {
     let Ok(object) = boxed(alloc, scope, object, least) else {
         return Err(AllocError);
@@ -371,7 +382,8 @@ fn property_length(
     name: Name<'_>,
     least: &mut Option<Breach>,
 ) -> Result<Value, AllocError>
-    ensures { IfOk result (λ v. IsResolved (seen_in scope.now) (trees.property_length (expression_tree object.now) (name_tree name.entry)) least.old least.new (value_of v)) }
+    ensures { GivesValue (seen_in scope.now) result least.old least.new
+        (trees.property_length (expression_tree object.now) (name_tree name.entry)) }
 {
     let Ok(object) = boxed(alloc, scope, object, least) else {
         return Err(AllocError);
@@ -389,7 +401,9 @@ fn property_entry(
     index: &Expression<'_>,
     least: &mut Option<Breach>,
 ) -> Result<Value, AllocError>
-    ensures { IfOk result (λ v. IsResolved (seen_in scope.now) (trees.property_entry (expression_tree object.now) (name_tree name.entry) (expression_tree index.now)) least.old least.new (value_of v)) }
+    ensures { GivesValue (seen_in scope.now) result least.old least.new
+        (trees.property_entry (expression_tree object.now) (name_tree name.entry)
+        (expression_tree index.now)) }
 {
     let Ok(object) = boxed(alloc, scope, object, least) else {
         return Err(AllocError);
@@ -409,7 +423,8 @@ fn prefixed(
     prefix: Prefix,
     least: &mut Option<Breach>,
 ) -> Result<Value, AllocError>
-    ensures { IfOk result (λ v. IsResolved (seen_in scope.now) (trees.prefixed prefix (expression_tree operand.now)) least.old least.new (value_of v)) }
+    ensures { GivesValue (seen_in scope.now) result least.old least.new
+        (trees.prefixed prefix (expression_tree operand.now)) }
 {
     let Ok(operand) = boxed(alloc, scope, operand, least) else {
         return Err(AllocError);
@@ -426,7 +441,8 @@ fn step_before(
     position: Position,
     least: &mut Option<Breach>,
 ) -> Result<Value, AllocError>
-    ensures { IfOk result (λ v. IsResolved (seen_in scope.now) (trees.step_before step position (expression_tree operand.now)) least.old least.new (value_of v)) }
+    ensures { GivesValue (seen_in scope.now) result least.old least.new
+        (trees.step_before step position (expression_tree operand.now)) }
 {
     let Ok(variable) = variable(alloc, scope, operand, position, least) else {
         return Err(AllocError);
@@ -443,7 +459,8 @@ fn step_after(
     position: Position,
     least: &mut Option<Breach>,
 ) -> Result<Value, AllocError>
-    ensures { IfOk result (λ v. IsResolved (seen_in scope.now) (trees.step_after (expression_tree operand.now) step position) least.old least.new (value_of v)) }
+    ensures { GivesValue (seen_in scope.now) result least.old least.new
+        (trees.step_after (expression_tree operand.now) step position) }
 {
     let Ok(variable) = variable(alloc, scope, operand, position, least) else {
         return Err(AllocError);
@@ -461,7 +478,10 @@ fn chain(
     second: &Expression<'_>,
     least: &mut Option<Breach>,
 ) -> Result<Value, AllocError>
-    ensures { IfOk result (λ v. IsResolved (seen_in scope.now) (trees.chained (trees.binary operator (expression_tree first.now) (expression_tree second.now)) (map link links.now)) least.old least.new (value_of v)) }
+    ensures { GivesValue (seen_in scope.now) result least.old least.new
+        (trees.chained
+        (trees.binary operator (expression_tree first.now) (expression_tree second.now))
+        (map link links.now)) }
 {
     let Ok(first) = boxed(alloc, scope, first, least) else {
         return Err(AllocError);
@@ -484,7 +504,8 @@ fn compare(
     right: &Expression<'_>,
     least: &mut Option<Breach>,
 ) -> Result<Value, AllocError>
-    ensures { IfOk result (λ v. IsResolved (seen_in scope.now) (trees.compare comparison (expression_tree left.now) (expression_tree right.now)) least.old least.new (value_of v)) }
+    ensures { GivesValue (seen_in scope.now) result least.old least.new
+        (trees.compare comparison (expression_tree left.now) (expression_tree right.now)) }
 {
     let Ok(left) = boxed(alloc, scope, left, least) else {
         return Err(AllocError);
@@ -505,7 +526,9 @@ fn equal(
     right: &Expression<'_>,
     least: &mut Option<Breach>,
 ) -> Result<Value, AllocError>
-    ensures { IfOk result (λ v. IsResolved (seen_in scope.now) (trees.equal equality (expression_tree left.now) (trees.more (expression_tree right.now) (trees_of (map expression_tree others.now)))) least.old least.new (value_of v)) }
+    ensures { GivesValue (seen_in scope.now) result least.old least.new
+        (trees.equal equality (expression_tree left.now)
+        (trees.more (expression_tree right.now) (trees_of (map expression_tree others.now)))) }
 {
     let Ok(left) = boxed(alloc, scope, left, least) else {
         return Err(AllocError);
@@ -528,7 +551,8 @@ fn contained(
     right: &Expression<'_>,
     least: &mut Option<Breach>,
 ) -> Result<Value, AllocError>
-    ensures { IfOk result (λ v. IsResolved (seen_in scope.now) (trees.contained containment (expression_tree left.now) (expression_tree right.now)) least.old least.new (value_of v)) }
+    ensures { GivesValue (seen_in scope.now) result least.old least.new
+        (trees.contained containment (expression_tree left.now) (expression_tree right.now)) }
 {
     let Ok(left) = boxed(alloc, scope, left, least) else {
         return Err(AllocError);
@@ -548,7 +572,8 @@ fn tested(
     name: Name<'_>,
     least: &mut Option<Breach>,
 ) -> Result<Value, AllocError>
-    ensures { IfOk result (λ v. IsResolved (seen_in scope.now) (trees.tested test (expression_tree object.now) (name_tree name.entry)) least.old least.new (value_of v)) }
+    ensures { GivesValue (seen_in scope.now) result least.old least.new
+        (trees.tested test (expression_tree object.now) (name_tree name.entry)) }
 {
     let Ok(object) = boxed(alloc, scope, object, least) else {
         return Err(AllocError);
@@ -565,7 +590,8 @@ fn left_side(
     operator: Position,
     least: &mut Option<Breach>,
 ) -> Result<Value, AllocError>
-    ensures { IfOk result (λ v. IsAssigned (seen_in scope.now) operator (expression_tree e.now) least.old least.new (value_of v)) }
+    ensures { IfOk result (λ v. IsAssigned (seen_in scope.now) operator (expression_tree e.now)
+        least.old least.new (value_of v)) }
 {
     match name_of(e) {
         Some(name) => {
@@ -590,7 +616,8 @@ fn assign(
     right: &Expression<'_>,
     least: &mut Option<Breach>,
 ) -> Result<Value, AllocError>
-    ensures { IfOk result (λ v. IsResolved (seen_in scope.now) (trees.assign (expression_tree left.now) position (expression_tree right.now)) least.old least.new (value_of v)) }
+    ensures { GivesValue (seen_in scope.now) result least.old least.new
+        (trees.assign (expression_tree left.now) position (expression_tree right.now)) }
 {
     let Ok(left) = left_side(alloc, scope, left, position, least) else {
         return Err(AllocError);

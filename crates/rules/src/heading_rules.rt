@@ -1,9 +1,8 @@
 //! The parts of a `for`: the rules that they can break, and what they resolve to.
 
-ghost use Rattle.std.specs.Prelude.{◌≡◌, ◌&&◌, IfOk, nat_le, nat_lt, if◌then◌else◌, []};
+ghost use Rattle.std.specs.Prelude.{◌≡◌, ◌&&◌, IfOk, nat_le};
 ghost use Rattle.std.specs.Option.{option_map};
 ghost use Rattle.statements.specs.Tree.{part_tree, heading_tree};
-ghost use Rattle.names.specs.Breaches.{at};
 ghost use Rattle.names.specs.Noted.{noted};
 ghost use Rattle.meaning.specs.Resolved.{value_of};
 ghost use Rattle.names.specs.Scope.{seen_in};
@@ -48,7 +47,7 @@ fn all_three(first: bool, second: bool, third: bool) -> bool
 
 // Whether the parts, as operands of one form, need at most 48 temporaries.
 fn all_fit(heading: &Heading<'_>) -> bool
-    ensures { result ≡ nat_le (spec.heading_need (heading_tree heading.now).before (heading_tree heading.now).test (heading_tree heading.now).behind) 48 }
+    ensures { result ≡ nat_le (spec.need_of_heading (heading_tree heading.now)) 48 }
 {
     let second = left_behind(&heading.before, 48);
     let third = left_behind(&heading.test, second);
@@ -60,7 +59,8 @@ fn all_fit(heading: &Heading<'_>) -> bool
 
 #[tactic(auto, using(names::proofs::Noted::noted_none, crate::proofs::Needs::fits_not))]
 fn temporaries(position: Position, heading: &Heading<'_>, least: &mut Option<Breach>)
-    ensures { least.new ≡ noted least.old (if nat_lt 48 (spec.heading_need (heading_tree heading.now).before (heading_tree heading.now).test (heading_tree heading.now).behind) then at position 29 else []) }
+    ensures { least.new ≡ noted least.old
+        (spec.room_breaches position (spec.need_of_heading (heading_tree heading.now))) }
 {
     if !all_fit(heading) {
         note(least, EXPRESSION_TOO_LARGE, position);
@@ -74,7 +74,8 @@ fn part(
     given: &Option<Box<Expression<'_>>>,
     least: &mut Option<Breach>,
 ) -> Result<Option<Value>, AllocError>
-    ensures { IfOk result (λ v. IsPart (seen_in scope.now) (part_tree given.now) least.old least.new (option_map value_of v)) }
+    ensures { IfOk result (λ v. IsPart (seen_in scope.now) (part_tree given.now)
+        least.old least.new (option_map value_of v)) }
 {
     match given {
         None => Ok(None),
@@ -93,7 +94,8 @@ fn parts(
     given: &Heading<'_>,
     least: &mut Option<Breach>,
 ) -> Result<(Option<Value>, Option<Value>, Option<Value>), AllocError>
-    ensures { IfOk result (λ x. AreParts (seen_in scope.now) (heading_tree given.now) least.old least.new (parts_of x)) }
+    ensures { IfOk result (λ x. AreParts (seen_in scope.now) (heading_tree given.now)
+        least.old least.new (parts_of x)) }
 {
     let Ok(before) = part(alloc, scope, &given.before, least) else {
         return Err(AllocError);
@@ -122,7 +124,8 @@ pub fn heading(
     given: &Heading<'_>,
     least: &mut Option<Breach>,
 ) -> Result<(Option<Value>, Option<Value>, Option<Value>), AllocError>
-    ensures { IfOk result (λ x. IsHeading (seen_in scope.now) position (heading_tree given.now) least.old least.new (parts_of x)) }
+    ensures { IfOk result (λ x. IsHeading (seen_in scope.now) position (heading_tree given.now)
+        least.old least.new (parts_of x)) }
 {
     temporaries(position, given, least);
     parts(alloc, scope, given, least)

@@ -33,7 +33,8 @@ pub fn constant_name(position: Position, found: Option<Binding>, least: &mut Opt
 
 #[tactic(auto, using(names::proofs::Noted::noted_none))]
 fn literal_rules(value: &Literal<'_>, whole: &Table, least: &mut Option<Breach>)
-    ensures { least.new ≡ noted least.old (spec.literal_breaches whole.now.entries (literal_tree value.now)) }
+    ensures { least.new ≡ noted least.old
+        (spec.literal_breaches whole.now.entries (literal_tree value.now)) }
 {
     if let Literal::Named(name) = value {
         constant_name(name.position, find(whole, name.text), least);
@@ -43,7 +44,8 @@ fn literal_rules(value: &Literal<'_>, whole: &Table, least: &mut Option<Breach>)
 /// What a literal is, among the names of the file; `None` where it breaks a rule.
 pub fn literal(value: &Literal<'_>, whole: &Table, least: &mut Option<Breach>) -> Option<Known>
     ensures value { result ≡ names.literal_known whole.now.entries (literal_tree value.now) }
-    ensures breaches { least.new ≡ noted least.old (spec.literal_breaches whole.now.entries (literal_tree value.now)) }
+    ensures breaches { least.new ≡ noted least.old
+        (spec.literal_breaches whole.now.entries (literal_tree value.now)) }
 {
     literal_rules(value, whole, least);
     literal_known(whole, value)
@@ -53,7 +55,8 @@ pub fn literal(value: &Literal<'_>, whole: &Table, least: &mut Option<Breach>) -
 #[tactic(auto, using(names::proofs::Noted::noted_none))]
 pub fn initial(value: &Option<Literal<'_>>, file: &File, least: &mut Option<Breach>) -> u16
     ensures value { result ≡ spec.initial_value (file_in file.now) (optional_tree value.now) }
-    ensures breaches { least.new ≡ noted least.old (spec.initial_breaches file.now.table.entries (optional_tree value.now)) }
+    ensures breaches { least.new ≡ noted least.old
+        (spec.initial_breaches file.now.table.entries (optional_tree value.now)) }
 {
     match value {
         None => 0,
@@ -107,7 +110,8 @@ fn earlier_name(
 /// The value of a constant, where `table` has the names before it.
 #[tactic(auto, using(names::proofs::Noted::noted_none))]
 pub fn constant_value(value: &Literal<'_>, whole: &Table, table: &Table, least: &mut Option<Breach>)
-    ensures { least.new ≡ noted least.old (spec.named_breaches whole.now.entries table.now.entries (literal_tree value.now)) }
+    ensures { least.new ≡ noted least.old
+        (spec.named_breaches whole.now.entries table.now.entries (literal_tree value.now)) }
 {
     if let Literal::Named(name) = value {
         earlier_name(

@@ -152,7 +152,8 @@ pub fn target_of(
     least: &mut Option<Breach>,
 ) -> Variable
     ensures value { result ≡ variable_of_binding found }
-    ensures breaches { least.new ≡ noted least.old (target_breaches name.entry.position operator found) }
+    ensures breaches { least.new ≡ noted least.old
+        (target_breaches name.entry.position operator found) }
 {
     match found {
         None => note(least, UNKNOWN_NAME, name.position),

@@ -1,17 +1,16 @@
 //! Statements: the rules that they can break, and what they resolve to.
 
-ghost use Rattle.std.specs.Prelude.{◌≡◌, IfOk, map, nat_lt, if◌then◌else◌, []};
+ghost use Rattle.std.specs.Prelude.{◌≡◌, IfOk, map};
 ghost use Rattle.expressions.specs.Tree.{expression_tree, name_tree};
 ghost use Rattle.statements.specs.Tree as trees;
 ghost use Rattle.statements.specs.Tree.{flag_tree, item_tree, statement_tree, trees_of, heading_tree, case_tree, other_tree};
-ghost use Rattle.names.specs.Breaches.{at};
-ghost use Rattle.rules.specs.Statements.{outside_breaches, move_need};
+ghost use Rattle.rules.specs.Statements.{outside_breaches, room_breaches, move_need};
 ghost use Rattle.meaning.specs.Around.{in_switch};
 ghost use Rattle.names.specs.Noted.{noted};
 ghost use Rattle.names.specs.Scope.{seen_in};
 ghost use Rattle.rules.specs.Temporaries.{need};
 ghost use Rattle.meaning.specs.Resolved.{value_of, printed_of, action_of, case_of, other_of};
-ghost use Rattle.rules.specs.Walk.{IsWhole, IsFlag, AreFlags, IsItem, AreItems, IsAction, AreActions, IsCase, AreCases, IsOther};
+ghost use Rattle.rules.specs.Walk.{IsWhole, IsFlag, AreFlags, IsItem, AreItems, IsAction, GivesAction, AreActions, IsCase, AreCases, IsOther};
 
 use crate::buffer_rules::read;
 use crate::case_rules::ranges;
@@ -28,7 +27,7 @@ use std::alloc::{AllocError, Global};
 
 #[tactic(auto, using(names::proofs::Noted::noted_none, crate::proofs::Needs::fits_not))]
 fn temporaries(position: Position, e: &Expression<'_>, least: &mut Option<Breach>)
-    ensures { least.new ≡ noted least.old (if nat_lt 48 (need (expression_tree e.now)) then at position 29 else []) }
+    ensures { least.new ≡ noted least.old (room_breaches position (need (expression_tree e.now))) }
 {
     if !fits(e, 48) {
         note(least, EXPRESSION_TOO_LARGE, position);
@@ -43,7 +42,8 @@ fn whole(
     e: &Expression<'_>,
     least: &mut Option<Breach>,
 ) -> Result<Value, AllocError>
-    ensures { IfOk result (λ v. IsWhole (seen_in scope.now) position (expression_tree e.now) least.old least.new (value_of v)) }
+    ensures { IfOk result (λ v. IsWhole (seen_in scope.now) position (expression_tree e.now)
+        least.old least.new (value_of v)) }
 {
     temporaries(position, e, least);
     expression(alloc, scope, e, least)
@@ -56,7 +56,8 @@ fn item<'a>(
     printed: &PrintItem<'a>,
     least: &mut Option<Breach>,
 ) -> Result<Printed<'a>, AllocError>
-    ensures { IfOk result (λ x. IsItem (seen_in scope.now) (item_tree printed.now) least.old least.new (printed_of x)) }
+    ensures { IfOk result (λ x. IsItem (seen_in scope.now) (item_tree printed.now)
+        least.old least.new (printed_of x)) }
 {
     match printed {
         PrintItem::Text(text) => Ok(Printed::Text(text)),
@@ -87,7 +88,8 @@ fn items<'a>(
     printed: &[PrintItem<'a>],
     least: &mut Option<Breach>,
 ) -> Result<Vec<Printed<'a>>, AllocError>
-    ensures { IfOk result (λ v. AreItems (seen_in scope.now) printed.now least.old least.new (map printed_of v.items)) }
+    ensures { IfOk result (λ v. AreItems (seen_in scope.now) printed.now
+        least.old least.new (map printed_of v.items)) }
 {
     let mut found = Vec::new(alloc);
     for x in printed {
@@ -105,7 +107,8 @@ fn print<'a>(
     printed: &[PrintItem<'a>],
     least: &mut Option<Breach>,
 ) -> Result<Action<'a>, AllocError>
-    ensures { (around : _) → IfOk result (λ x. IsAction (seen_in scope.now) around (trees.print (map item_tree printed.now)) least.old least.new (action_of x)) }
+    ensures { (around : _) → GivesAction (seen_in scope.now) around result least.old least.new
+        (trees.print (map item_tree printed.now)) }
 {
     let Ok(found) = items(alloc, scope, printed, least) else {
         return Err(AllocError);
@@ -119,7 +122,8 @@ fn print_return<'a>(
     printed: &[PrintItem<'a>],
     least: &mut Option<Breach>,
 ) -> Result<Action<'a>, AllocError>
-    ensures { (around : _) → IfOk result (λ x. IsAction (seen_in scope.now) around (trees.print_return (map item_tree printed.now)) least.old least.new (action_of x)) }
+    ensures { (around : _) → GivesAction (seen_in scope.now) around result least.old least.new
+        (trees.print_return (map item_tree printed.now)) }
 {
     let Ok(found) = items(alloc, scope, printed, least) else {
         return Err(AllocError);
@@ -134,7 +138,8 @@ fn return_value<'a>(
     e: &Expression<'_>,
     least: &mut Option<Breach>,
 ) -> Result<Action<'a>, AllocError>
-    ensures { (around : _) → IfOk result (λ x. IsAction (seen_in scope.now) around (trees.return_value position (expression_tree e.now)) least.old least.new (action_of x)) }
+    ensures { (around : _) → GivesAction (seen_in scope.now) around result least.old least.new
+        (trees.return_value position (expression_tree e.now)) }
 {
     let Ok(value) = whole(alloc, scope, position, e, least) else {
         return Err(AllocError);
@@ -149,7 +154,8 @@ fn effect<'a>(
     e: &Expression<'_>,
     least: &mut Option<Breach>,
 ) -> Result<Action<'a>, AllocError>
-    ensures { (around : _) → IfOk result (λ x. IsAction (seen_in scope.now) around (trees.effect position (expression_tree e.now)) least.old least.new (action_of x)) }
+    ensures { (around : _) → GivesAction (seen_in scope.now) around result least.old least.new
+        (trees.effect position (expression_tree e.now)) }
 {
     let Ok(value) = whole(alloc, scope, position, e, least) else {
         return Err(AllocError);
@@ -173,7 +179,8 @@ fn flags(
     given: &[(bool, Name<'_>)],
     least: &mut Option<Breach>,
 ) -> Result<Vec<(bool, usize)>, AllocError>
-    ensures { IfOk result (λ v. AreFlags (seen_in scope.now) given.now least.old least.new v.items) }
+    ensures { IfOk result (λ v. AreFlags (seen_in scope.now) given.now
+        least.old least.new v.items) }
 {
     let mut found = Vec::new(alloc);
     for x in given {
@@ -191,7 +198,8 @@ fn give<'a>(
     given: &[(bool, Name<'_>)],
     least: &mut Option<Breach>,
 ) -> Result<Action<'a>, AllocError>
-    ensures { (around : _) → IfOk result (λ x. IsAction (seen_in scope.now) around (trees.give position (expression_tree e.now) (map flag_tree given.now)) least.old least.new (action_of x)) }
+    ensures { (around : _) → GivesAction (seen_in scope.now) around result least.old least.new
+        (trees.give position (expression_tree e.now) (map flag_tree given.now)) }
 {
     let Ok(object) = whole(alloc, scope, position, e, least) else {
         return Err(AllocError);
@@ -210,7 +218,8 @@ fn move_temporaries(
     parent: &Expression<'_>,
     least: &mut Option<Breach>,
 )
-    ensures { least.new ≡ noted least.old (if nat_lt 48 (move_need (expression_tree object.now) (expression_tree parent.now)) then at position 29 else []) }
+    ensures { least.new ≡ noted least.old (room_breaches position
+        (move_need (expression_tree object.now) (expression_tree parent.now))) }
 {
     if !both_fit(object, parent, 48) {
         note(least, EXPRESSION_TOO_LARGE, position);
@@ -225,7 +234,8 @@ fn move_to<'a>(
     parent: &Expression<'_>,
     least: &mut Option<Breach>,
 ) -> Result<Action<'a>, AllocError>
-    ensures { (around : _) → IfOk result (λ x. IsAction (seen_in scope.now) around (trees.move position (expression_tree object.now) (expression_tree parent.now)) least.old least.new (action_of x)) }
+    ensures { (around : _) → GivesAction (seen_in scope.now) around result least.old least.new
+        (trees.move position (expression_tree object.now) (expression_tree parent.now)) }
 {
     move_temporaries(position, object, parent, least);
     let Ok(object) = expression(alloc, scope, object, least) else {
@@ -245,7 +255,8 @@ fn remove<'a>(
     e: &Expression<'_>,
     least: &mut Option<Breach>,
 ) -> Result<Action<'a>, AllocError>
-    ensures { (around : _) → IfOk result (λ x. IsAction (seen_in scope.now) around (trees.remove position (expression_tree e.now)) least.old least.new (action_of x)) }
+    ensures { (around : _) → GivesAction (seen_in scope.now) around result least.old least.new
+        (trees.remove position (expression_tree e.now)) }
 {
     let Ok(object) = whole(alloc, scope, position, e, least) else {
         return Err(AllocError);
@@ -278,7 +289,8 @@ pub fn statement<'a>(
     around: Around,
     least: &mut Option<Breach>,
 ) -> Result<Action<'a>, AllocError>
-    ensures { IfOk result (λ x. IsAction (seen_in scope.now) around (statement_tree s.now) least.old least.new (action_of x)) }
+    ensures { GivesAction (seen_in scope.now) around result least.old least.new
+        (statement_tree s.now) }
 {
     match s {
         Statement::Empty => Ok(Action::Empty),
@@ -353,7 +365,8 @@ fn boxed<'a>(
     s: &Box<Statement<'a>>,
     least: &mut Option<Breach>,
 ) -> Result<Box<Action<'a>>, AllocError>
-    ensures { IfOk result (λ x. IsAction (seen_in scope.now) around (statement_tree s.now.value) least.old least.new (action_of x.value)) }
+    ensures { IfOk result (λ x. IsAction (seen_in scope.now) around (statement_tree s.now.value)
+        least.old least.new (action_of x.value)) }
 {
     let Ok(found) = statement(s, alloc, scope, around, least) else {
         return Err(AllocError);
@@ -374,7 +387,8 @@ pub fn all_statements<'a>(
     all: &[Statement<'a>],
     least: &mut Option<Breach>,
 ) -> Result<Vec<Action<'a>>, AllocError>
-    ensures { IfOk result (λ v. AreActions (seen_in scope.now) around all.now least.old least.new (map action_of v.items)) }
+    ensures { IfOk result (λ v. AreActions (seen_in scope.now) around all.now
+        least.old least.new (map action_of v.items)) }
 {
     let mut found = Vec::new(alloc);
     for s in all {
@@ -394,7 +408,8 @@ fn block<'a>(
     all: &[Statement<'a>],
     least: &mut Option<Breach>,
 ) -> Result<Action<'a>, AllocError>
-    ensures { IfOk result (λ x. IsAction (seen_in scope.now) around (trees.block (trees_of (map statement_tree all.now))) least.old least.new (action_of x)) }
+    ensures { GivesAction (seen_in scope.now) around result least.old least.new
+        (trees.block (trees_of (map statement_tree all.now))) }
 {
     let Ok(found) = all_statements(alloc, scope, around, all, least) else {
         return Err(AllocError);
@@ -412,7 +427,8 @@ fn if_then<'a>(
     condition: &Expression<'_>,
     least: &mut Option<Breach>,
 ) -> Result<Action<'a>, AllocError>
-    ensures { IfOk result (λ x. IsAction (seen_in scope.now) around (trees.if_then position (expression_tree condition.now) (statement_tree body.now.value)) least.old least.new (action_of x)) }
+    ensures { GivesAction (seen_in scope.now) around result least.old least.new
+        (trees.if_then position (expression_tree condition.now) (statement_tree body.now.value)) }
 {
     let Ok(condition) = whole(alloc, scope, position, condition, least) else {
         return Err(AllocError);
@@ -435,7 +451,9 @@ fn if_else<'a>(
     condition: &Expression<'_>,
     least: &mut Option<Breach>,
 ) -> Result<Action<'a>, AllocError>
-    ensures { IfOk result (λ x. IsAction (seen_in scope.now) around (trees.if_else position (expression_tree condition.now) (statement_tree first.now.value) (statement_tree otherwise.now.value)) least.old least.new (action_of x)) }
+    ensures { GivesAction (seen_in scope.now) around result least.old least.new
+        (trees.if_else position (expression_tree condition.now) (statement_tree first.now.value)
+        (statement_tree otherwise.now.value)) }
 {
     let Ok(condition) = whole(alloc, scope, position, condition, least) else {
         return Err(AllocError);
@@ -460,7 +478,8 @@ fn while_do<'a>(
     condition: &Expression<'_>,
     least: &mut Option<Breach>,
 ) -> Result<Action<'a>, AllocError>
-    ensures { (around : _) → IfOk result (λ x. IsAction (seen_in scope.now) around (trees.while_do position (expression_tree condition.now) (statement_tree body.now.value)) least.old least.new (action_of x)) }
+    ensures { (around : _) → GivesAction (seen_in scope.now) around result least.old least.new
+        (trees.while_do position (expression_tree condition.now) (statement_tree body.now.value)) }
 {
     let Ok(condition) = whole(alloc, scope, position, condition, least) else {
         return Err(AllocError);
@@ -481,7 +500,8 @@ fn do_until<'a>(
     condition: &Expression<'_>,
     least: &mut Option<Breach>,
 ) -> Result<Action<'a>, AllocError>
-    ensures { (around : _) → IfOk result (λ x. IsAction (seen_in scope.now) around (trees.do_until position (statement_tree body.now.value) (expression_tree condition.now)) least.old least.new (action_of x)) }
+    ensures { (around : _) → GivesAction (seen_in scope.now) around result least.old least.new
+        (trees.do_until position (statement_tree body.now.value) (expression_tree condition.now)) }
 {
     let Ok(body) = boxed(alloc, scope, IN_LOOP, body, least) else {
         return Err(AllocError);
@@ -502,7 +522,9 @@ fn for_loop<'a>(
     given: &Heading<'_>,
     least: &mut Option<Breach>,
 ) -> Result<Action<'a>, AllocError>
-    ensures { (around : _) → IfOk result (λ x. IsAction (seen_in scope.now) around (trees.for_loop position (heading_tree given.now).before (heading_tree given.now).test (heading_tree given.now).behind (statement_tree body.now.value)) least.old least.new (action_of x)) }
+    ensures { (around : _) → GivesAction (seen_in scope.now) around result least.old least.new
+        (trees.for_loop position (heading_tree given.now).before (heading_tree given.now).test
+        (heading_tree given.now).behind (statement_tree body.now.value)) }
 {
     let Ok((before, test, behind)) = heading(alloc, scope, position, given, least) else {
         return Err(AllocError);
@@ -524,7 +546,8 @@ fn each<'a>(
     name: Name<'_>,
     least: &mut Option<Breach>,
 ) -> Result<Action<'a>, AllocError>
-    ensures { (around : _) → IfOk result (λ x. IsAction (seen_in scope.now) around (trees.each (name_tree name.entry) (statement_tree body.now.value)) least.old least.new (action_of x)) }
+    ensures { (around : _) → GivesAction (seen_in scope.now) around result least.old least.new
+        (trees.each (name_tree name.entry) (statement_tree body.now.value)) }
 {
     let variable = loop_variable(name, scope.look(name.text), least);
     let Ok(body) = boxed(alloc, scope, IN_LOOP, body, least) else {
@@ -543,7 +566,9 @@ fn each_in<'a>(
     parent: &Expression<'_>,
     least: &mut Option<Breach>,
 ) -> Result<Action<'a>, AllocError>
-    ensures { (around : _) → IfOk result (λ x. IsAction (seen_in scope.now) around (trees.each_in position (name_tree name.entry) (expression_tree parent.now) (statement_tree body.now.value)) least.old least.new (action_of x)) }
+    ensures { (around : _) → GivesAction (seen_in scope.now) around result least.old least.new
+        (trees.each_in position (name_tree name.entry) (expression_tree parent.now)
+        (statement_tree body.now.value)) }
 {
     let variable = loop_variable(name, scope.look(name.text), least);
     let Ok(parent) = whole(alloc, scope, position, parent, least) else {
@@ -566,7 +591,9 @@ fn each_where<'a>(
     condition: &Expression<'_>,
     least: &mut Option<Breach>,
 ) -> Result<Action<'a>, AllocError>
-    ensures { (around : _) → IfOk result (λ x. IsAction (seen_in scope.now) around (trees.each_where position (name_tree name.entry) (expression_tree condition.now) (statement_tree body.now.value)) least.old least.new (action_of x)) }
+    ensures { (around : _) → GivesAction (seen_in scope.now) around result least.old least.new
+        (trees.each_where position (name_tree name.entry) (expression_tree condition.now)
+        (statement_tree body.now.value)) }
 {
     let variable = loop_variable(name, scope.look(name.text), least);
     let Ok(condition) = whole(alloc, scope, position, condition, least) else {
@@ -588,7 +615,8 @@ fn one_case<'a>(
     around: Around,
     least: &mut Option<Breach>,
 ) -> Result<(Vec<Span>, Vec<Action<'a>>), AllocError>
-    ensures { IfOk result (λ x. IsCase (seen_in scope.now) around given.now least.old least.new (case_of x)) }
+    ensures { IfOk result (λ x. IsCase (seen_in scope.now) around given.now
+        least.old least.new (case_of x)) }
 {
     let Ok(spans) = ranges(alloc, scope, &given.0, least) else {
         return Err(AllocError);
@@ -607,7 +635,8 @@ fn all_cases<'a>(
     given: &[(Vec<Range<'a>>, Vec<Statement<'a>>)],
     least: &mut Option<Breach>,
 ) -> Result<Vec<(Vec<Span>, Vec<Action<'a>>)>, AllocError>
-    ensures { IfOk result (λ v. AreCases (seen_in scope.now) around given.now least.old least.new (map case_of v.items)) }
+    ensures { IfOk result (λ v. AreCases (seen_in scope.now) around given.now
+        least.old least.new (map case_of v.items)) }
 {
     let mut found = Vec::new(alloc);
     for c in given {
@@ -628,7 +657,8 @@ fn otherwise<'a>(
     around: Around,
     least: &mut Option<Breach>,
 ) -> Result<Option<Vec<Action<'a>>>, AllocError>
-    ensures { IfOk result (λ x. IsOther (seen_in scope.now) around (other_tree other.now) least.old least.new (other_of x)) }
+    ensures { IfOk result (λ x. IsOther (seen_in scope.now) around (other_tree other.now)
+        least.old least.new (other_of x)) }
 {
     match other {
         None => Ok(None),
@@ -652,7 +682,10 @@ fn switch_on<'a>(
     value: &Expression<'_>,
     least: &mut Option<Breach>,
 ) -> Result<Action<'a>, AllocError>
-    ensures { (around : _) → inside ≡ in_switch around → IfOk result (λ x. IsAction (seen_in scope.now) around (trees.switch_on position (expression_tree value.now) (trees.cases_of (map case_tree cases.now) (other_tree other.now))) least.old least.new (action_of x)) }
+    ensures { (around : _) → inside ≡ in_switch around
+        → GivesAction (seen_in scope.now) around result least.old least.new
+        (trees.switch_on position (expression_tree value.now)
+        (trees.cases_of (map case_tree cases.now) (other_tree other.now))) }
 {
     let Ok(value) = whole(alloc, scope, position, value, least) else {
         return Err(AllocError);

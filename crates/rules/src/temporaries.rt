@@ -69,7 +69,8 @@ pub fn fits(expression: &Expression<'_>, room: u8) -> bool
 /// Whether two operands of one form need at most `room` temporaries.
 #[cycle(fits)]
 pub fn both_fit(first: &Expression<'_>, second: &Expression<'_>, room: u8) -> bool
-    ensures { result ≡ nat_le (operands 0 (need (expression_tree first.now) ∷ need (expression_tree second.now) ∷ [])) room }
+    ensures { result ≡ nat_le (operands 0
+        (need (expression_tree first.now) ∷ need (expression_tree second.now) ∷ [])) room }
 {
     fits(first, room) && fits(second, room.saturating_sub(1))
 }
@@ -77,7 +78,9 @@ pub fn both_fit(first: &Expression<'_>, second: &Expression<'_>, room: u8) -> bo
 // The sides of an assignment.
 #[cycle(fits)]
 fn assignment_fits(left: &Expression<'_>, right: &Expression<'_>, room: u8) -> bool
-    ensures { result ≡ nat_le (operands 0 (left_needs (expression_tree left.now) (need (expression_tree left.now)) ++ need (expression_tree right.now) ∷ [])) room }
+    ensures { result ≡ nat_le (operands 0
+        (left_needs (expression_tree left.now) (need (expression_tree left.now))
+        ++ need (expression_tree right.now) ∷ [])) room }
 {
     let before = left_operands(left);
     if before == 0 {
@@ -90,7 +93,8 @@ fn assignment_fits(left: &Expression<'_>, right: &Expression<'_>, room: u8) -> b
 // Operands after so many others.
 #[cycle(fits)]
 fn operands_fit(given: &[Expression<'_>], before: u8, room: u8) -> bool
-    ensures { result ≡ nat_le (operands before (needs (trees_of (map expression_tree given.now)))) room }
+    ensures { result ≡ nat_le (operands before
+        (needs (trees_of (map expression_tree given.now)))) room }
 {
     let mut left = room.saturating_sub(before);
     for operand in given {
@@ -105,7 +109,8 @@ fn operands_fit(given: &[Expression<'_>], before: u8, room: u8) -> bool
 // The operands that follow the first in a chain.
 #[cycle(fits)]
 fn links_fit(links: &[(Binary, Expression<'_>)], room: u8) -> bool
-    ensures { result ≡ nat_le (greatest (map (λ l. need (expression_tree l.1)) links.now)) (room - 1) }
+    ensures { result ≡ nat_le (greatest (map (λ l. need (expression_tree l.1)) links.now))
+        (room - 1) }
 {
     for link in links {
         if !fits(&link.1, room.saturating_sub(1)) {

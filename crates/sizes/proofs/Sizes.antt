@@ -24,22 +24,24 @@ use Rattle.meaning.specs.Meaning.{is_character}
 use Rattle.items.specs.Items.{Item, Destination, Test}
 use Rattle.meaning.specs.declared.cause.Cause.TheVariants as causes
 use Rattle.items.specs.Items as items
-use Rattle.code.specs.Instructions as spec
-use Rattle.code.specs.Instructions.{plain, giving, in_place, constant, pushed_count, named_from, operands, takes}
-use Rattle.code.specs.Instructions.{result_in, fail, arithmetic, divided, divided_by, binary_code, prefix_code}
-use Rattle.code.specs.Instructions.{move_code, step_code, character_code, tested_character, labelled, test_operation}
-use Rattle.code.specs.Instructions.{tested_code, asks_none, least_word, branch_code, call_operation, call_result}
-use Rattle.code.specs.Instructions.{calling, call_code, return_code, most_tested, most_arguments}
-use Rattle.code.specs.Instructions.{branching, pull, is_entry, entries_in, load_operation, store_operation}
-use Rattle.code.specs.Instructions.{tested_index, at_index, entry_code, assigned_takes, assigned_word, passed_on}
-use Rattle.code.specs.Instructions.{assign_entry_code, chosen_variable, choose_code, most_compared, compared}
-use Rattle.code.specs.Instructions.{case_code, first_byte, tested_first, letters_in, words_in, line_code, read_code}
-use Rattle.code.specs.Instructions.{objects_of, relative_code, is_in_code, has_code, provides_code, give_code}
-use Rattle.code.specs.Instructions.{remove_code, print_name_code, property_code, property_size_code, property_word_code}
-use Rattle.code.specs.Instructions.{assign_property_code, assign_property_word_code, move_object_code}
-use Rattle.code.specs.Instructions.{first_object_code, next_object_code}
-use Rattle.code.specs.Addresses.{Sizes}
-use Rattle.code.specs.Bytes.{bytes_of_all, no_addresses, part_of, parts_of, code_size}
+use Rattle.instructions.specs.Instructions as spec
+use Rattle.instructions.specs.Instructions.{plain, giving, in_place, constant, pushed_count, named_from, operands}
+use Rattle.instructions.specs.Instructions.{takes, result_in, fail, arithmetic, divided, divided_by, binary_code}
+use Rattle.instructions.specs.Instructions.{prefix_code, move_code, step_code, character_code, tested_character}
+use Rattle.instructions.specs.Instructions.{labelled, test_operation, tested_code, asks_none, least_word, branch_code}
+use Rattle.instructions.specs.Instructions.{call_operation, call_result, calling, call_code, return_code, most_tested}
+use Rattle.instructions.specs.Instructions.{most_arguments, branching, pull, chosen_variable, choose_code}
+use Rattle.instructions.specs.Instructions.{most_compared, compared, case_code}
+use Rattle.instructions.specs.Addresses.{Sizes}
+use Rattle.instructions.specs.Bytes.{bytes_of_all}
+use Rattle.selection.specs.ItemCode.{is_entry, entries_in, load_operation, store_operation, tested_index, at_index}
+use Rattle.selection.specs.ItemCode.{entry_code, assigned_takes, assigned_word, passed_on, assign_entry_code}
+use Rattle.selection.specs.ItemCode.{first_byte, tested_first, letters_in, words_in, line_code, read_code, objects_of}
+use Rattle.selection.specs.ItemCode.{relative_code, is_in_code, has_code, provides_code, give_code, remove_code}
+use Rattle.selection.specs.ItemCode.{print_name_code, property_code, property_size_code, property_word_code}
+use Rattle.selection.specs.ItemCode.{assign_property_code, assign_property_word_code, move_object_code}
+use Rattle.selection.specs.ItemCode.{first_object_code, next_object_code}
+use Rattle.code.specs.Bytes.{no_addresses, part_of, parts_of, code_size}
 use Rattle.sizes.proofs.Most.{most, most_of}
 use Rattle.code.proofs.Lengths.{all_length, one_length, labelled_length}
 use Rattle.sizes.proofs.SizesOfInstructions.{opcode_most, operand_count, parts_length, few_bytes}

@@ -18,7 +18,7 @@ use Rattle.checker.specs.Programs.{routine_trees, title, IsCheckedOf}
 use Rattle.meaning.specs.Places.{routines_place}
 use Rattle.meaning.specs.Resolved.{RoutineOf, ProgramOf, CheckedProgram, program_of, routine_of, title_of}
 use Rattle.meaning.specs.Sizes.{greatest_weight, first_heavy, heavy_fault, size_fault, fault}
-use Rattle.code.specs.Addresses.{Sizes}
+use Rattle.instructions.specs.Addresses.{Sizes}
 use Rattle.code.specs.HeldProgram.{sizes_of}
 use Rattle.code.specs.Sizes.{routine_size, routines_size}
 use Rattle.sizes.specs.Laws.{SmallSourcesHaveSmallCode}

@@ -12,8 +12,8 @@ use Rattle.zcore.specs.Instruction.{Instruction, type_of, opcode_bytes, operand_
 use Rattle.zcore.specs.Instruction.{bytes_of}
 use Rattle.items.specs.Items.{Item, Destination, Test}
 use Rattle.items.specs.Items as items
-use Rattle.code.specs.Instructions.{in_place, constant, pushed_count, named_from, operands, takes}
-use Rattle.code.specs.Bytes.{bytes_of_all}
+use Rattle.instructions.specs.Instructions.{in_place, constant, pushed_count, named_from, operands, takes}
+use Rattle.instructions.specs.Bytes.{bytes_of_all}
 use Rattle.code.proofs.Taking.{pulls_length}
 
 -- Instructions

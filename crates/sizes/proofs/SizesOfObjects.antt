@@ -11,17 +11,19 @@ use Rattle.meaning.specs.declared.cause.Cause.TheVariants as causes
 use Rattle.meaning.specs.declared.resolved.Variable as source
 use Rattle.items.specs.Items.{Destination}
 use Rattle.items.specs.Items as items
-use Rattle.code.specs.Addresses.{fault_address}
-use Rattle.code.specs.Instructions as spec
-use Rattle.code.specs.Instructions.{plain, giving, branching, fail, labelled, result_in, temporary, number_of, constant}
-use Rattle.code.specs.Instructions.{tests_in, pulled_into, word_in, assigned_takes, assigned_word, passed_on, at_object}
-use Rattle.code.specs.Instructions.{at_label, relative_of, relative_code, is_in_code, has_code, changing, give_code}
-use Rattle.code.specs.Instructions.{property_address, length_at, branching_zero, branching_single, provides_code}
-use Rattle.code.specs.Instructions.{property_value, property_code, property_size_code, provided, tested_single}
-use Rattle.code.specs.Instructions.{tested_word, loaded_at, property_word_code, assigned_single, assign_property_code}
-use Rattle.code.specs.Instructions.{assigned_at, assign_property_word_code, store, climbing, moved_into}
-use Rattle.code.specs.Instructions.{move_object_code, first_object_code, next_object_code, tested_in, jump_by}
-use Rattle.code.specs.Bytes.{bytes_of_all, no_addresses}
+use Rattle.instructions.specs.Addresses.{fault_address}
+use Rattle.instructions.specs.Instructions.{plain, giving, branching, fail, labelled, result_in, temporary, number_of}
+use Rattle.instructions.specs.Instructions.{constant, pulled_into, word_in, store}
+use Rattle.instructions.specs.Bytes.{bytes_of_all}
+use Rattle.selection.specs.ItemCode as spec
+use Rattle.selection.specs.ItemCode.{tests_in, assigned_takes, assigned_word, passed_on, at_object, at_label}
+use Rattle.selection.specs.ItemCode.{relative_of, relative_code, is_in_code, has_code, changing, give_code}
+use Rattle.selection.specs.ItemCode.{property_address, length_at, branching_zero, branching_single, provides_code}
+use Rattle.selection.specs.ItemCode.{property_value, property_code, property_size_code, provided, tested_single}
+use Rattle.selection.specs.ItemCode.{tested_word, loaded_at, property_word_code, assigned_single, assign_property_code}
+use Rattle.selection.specs.ItemCode.{assigned_at, assign_property_word_code, climbing, moved_into, move_object_code}
+use Rattle.selection.specs.ItemCode.{first_object_code, next_object_code, tested_in, jump_by}
+use Rattle.code.specs.Bytes.{no_addresses}
 use Rattle.code.proofs.Lengths.{all_length, one_length}
 use Rattle.sizes.proofs.SizesOfInstructions.{few_bytes, one_count, two_count, three_count}
 use Rattle.sizes.proofs.SizesOfOperands.{giving_few, plain_few, store_few, pulled_into_few}

@@ -15,11 +15,13 @@ use Rattle.forms.specs.Layout.{size_with}
 use Rattle.meaning.specs.declared.cause.Cause.{Cause}
 use Rattle.items.specs.Items.{Destination}
 use Rattle.items.specs.Items as items
-use Rattle.code.specs.Addresses.{fault_address}
-use Rattle.code.specs.Instructions as spec
-use Rattle.code.specs.Instructions.{plain, giving, constant, fail, labelled, branching, pull, is_between}
-use Rattle.code.specs.Instructions.{tested_between, tests_in, tested_in, at_tested, pulled_into, word_in, passed_on}
-use Rattle.code.specs.Bytes.{bytes_of_all, no_addresses}
+use Rattle.instructions.specs.Addresses.{fault_address}
+use Rattle.instructions.specs.Instructions as spec
+use Rattle.instructions.specs.Instructions.{plain, giving, constant, fail, labelled, branching, pull, is_between}
+use Rattle.instructions.specs.Instructions.{tested_between, pulled_into, word_in}
+use Rattle.instructions.specs.Bytes.{bytes_of_all}
+use Rattle.selection.specs.ItemCode.{tests_in, tested_in, at_tested, passed_on}
+use Rattle.code.specs.Bytes.{no_addresses}
 use Rattle.code.proofs.Lengths.{all_length, one_length, labelled_length, beside}
 use Rattle.sizes.proofs.SizesOfInstructions.{opcode_few, operand_count, few_bytes, constant_few, one_count, two_count}
 

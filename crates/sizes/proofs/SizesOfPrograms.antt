@@ -17,7 +17,7 @@ use Rattle.names.specs.Names.{File, seen_from}
 use Rattle.checker.specs.Programs.{resolve_routine, routines_of, routine_trees}
 use Rattle.rules.specs.Statements.{resolve_statements}
 use Rattle.items.specs.Items.{return_true, actions_count, exits_to, actions_items}
-use Rattle.code.specs.Addresses.{Sizes}
+use Rattle.instructions.specs.Addresses.{Sizes}
 use Rattle.code.specs.Sizes.{routine_size, routines_size}
 use Rattle.sizes.specs.Laws.{IsShort, CodeIsShort}
 use Rattle.sizes.proofs.Most.{most_append}

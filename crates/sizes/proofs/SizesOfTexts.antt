@@ -11,8 +11,9 @@ use Rattle.zcore.specs.Words.{packed, missing, padded}
 use Rattle.zcore.specs.Abbreviations.{Found, longest, spelling_or, more_of, spelled_behind, encoded_with}
 use Rattle.items.specs.Items.{Item, Destination, Test}
 use Rattle.items.specs.Items as items
-use Rattle.code.specs.Addresses.{Sizes}
-use Rattle.code.specs.Bytes.{character_of, least_size}
+use Rattle.instructions.specs.Addresses.{Sizes}
+use Rattle.instructions.specs.Bytes.{character_of}
+use Rattle.code.specs.Bytes.{least_size}
 
 -- Texts
 

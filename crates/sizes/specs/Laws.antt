@@ -9,7 +9,7 @@ use Rattle.names.specs.Names.{File}
 use Rattle.checker.specs.Programs.{resolve_routine, routines_of, routine_trees, IsCheckedOf}
 use Rattle.meaning.specs.Resolved.{RoutineOf, CheckedProgram, program_of}
 use Rattle.meaning.specs.Sizes.{greatest_weight, size_fault}
-use Rattle.code.specs.Addresses.{Sizes}
+use Rattle.instructions.specs.Addresses.{Sizes}
 use Rattle.code.specs.HeldProgram.{sizes_of}
 use Rattle.code.specs.Sizes.{routine_size, routines_size}
 

@@ -24,10 +24,10 @@ use Rattle.meaning.specs.declared.cause.Cause.{Cause}
 use Rattle.meaning.specs.declared.cause.Cause.TheVariants as causes
 use Rattle.region.specs.Laws.{HoldsRows}
 use Rattle.region.specs.Rows.{rows_of, rows_bytes}
-use Rattle.code.specs.Addresses.{Addresses, Sizes, number_of}
+use Rattle.instructions.specs.Addresses.{Addresses, Sizes, number_of}
 use Rattle.code.specs.Bytes.{code_size}
-use Rattle.code.specs.HeldProgram.{HoldsProgram, HoldsAbbreviation, HoldsRoutine, HoldsText, fault_line, start_code, sizes_of}
-use Rattle.code.specs.HeldProgram.{offset_in}
+use Rattle.code.specs.HeldProgram.{HoldsProgram, HoldsAbbreviation, HoldsRoutine, HoldsText, fault_line, start_code}
+use Rattle.code.specs.HeldProgram.{sizes_of, offset_in}
 use Rattle.code.specs.Sizes.{routine_size}
 use Rattle.story.specs.Layout.{addresses_in, fault_texts, packed_addresses, parts_from, addresses_from, aligned}
 use Rattle.story.specs.Layout.{greatest_word, low_bytes, routine_bytes, story_of, text_places}

@@ -13,7 +13,7 @@ use Rattle.zcore.specs.Header.{scale_of, version_number}
 use Rattle.meaning.specs.declared.places.Places.{Places}
 use Rattle.meaning.specs.Places.{dictionary_end, filling_before, header_size}
 use Rattle.meaning.specs.Resolved.{ProgramOf}
-use Rattle.code.specs.Addresses.{Addresses}
+use Rattle.instructions.specs.Addresses.{Addresses}
 use Rattle.code.specs.HeldProgram.{start_code}
 use Rattle.code.specs.Written.{CodeOf}
 use Rattle.story.specs.Layout.{word, abbreviation_bytes, global_bytes, object_bytes, dictionary_bytes, low_bytes}

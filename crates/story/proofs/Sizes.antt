@@ -9,7 +9,7 @@ use Rattle.meaning.specs.Resolved.{RoutineOf, ProgramOf}
 use Rattle.meaning.specs.Accepted.{IsAccepted}
 use Rattle.meaning.specs.Places.{routines_place}
 use Rattle.meaning.specs.Sizes.{greatest_weight}
-use Rattle.code.specs.Addresses.{Sizes}
+use Rattle.instructions.specs.Addresses.{Sizes}
 use Rattle.code.specs.HeldProgram.{sizes_of}
 use Rattle.code.specs.Sizes.{routine_size, routines_size}
 use Rattle.story.specs.Layout.{addresses_in, fault_texts, greatest_word, parts_from, story_of}

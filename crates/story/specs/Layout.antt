@@ -6,19 +6,20 @@ use Rattle.std.specs.Prelude.{◌+◌, ◌-◌, ◌*◌, ◌/◌, ◌%◌, ℕ, 
 use Rattle.std.specs.Prelude.{drop, slice_index, sum}
 use Rattle.std.specs.List.{flat_map, concat}
 use Rattle.byteorder.specs.Endian.{big_bytes}
+use Rattle.zcore.specs.Abbreviations.{most_abbreviations}
 use Rattle.zcore.specs.declared.header.Version.{Version}
 use Rattle.zcore.specs.Header.{version_number, scale_of}
 use Rattle.zcore.specs.Text.{encoded}
 use Rattle.tables.specs.Dictionary as tables
 use Rattle.meaning.specs.declared.places.Places.{Places}
-use Rattle.meaning.specs.Places.{header_size, abbreviation_count, abbreviations_place, empty_text_place, global_count}
+use Rattle.meaning.specs.Places.{header_size, abbreviations_place, empty_text_place, global_count}
 use Rattle.meaning.specs.Places.{arrays_place, defaults_place, dictionary_end, filling_before, texts_place}
 use Rattle.meaning.specs.Places.{routines_place, places_of}
 use Rattle.meaning.specs.Resolved.{RoutineOf, ProgramOf}
 use Rattle.meaning.specs.World.{words_of}
 use Rattle.items.specs.Items.{routine_items}
 use Rattle.region.specs.Rows.{rows_of, rows_bytes}
-use Rattle.code.specs.Addresses.{Addresses, Sizes, all_causes}
+use Rattle.instructions.specs.Addresses.{Addresses, Sizes, all_causes}
 use Rattle.code.specs.Bytes.{code_bytes}
 use Rattle.code.specs.Sizes.{routine_size}
 use Rattle.code.specs.HeldProgram.{start_code, fault_line, sizes_of}
@@ -43,8 +44,8 @@ text_places at (a ∷ rest) = at ∷ text_places (at + length (encoded a)) rest
 
 -- the table holds addresses halved (3.3); what the source has not is the empty text
 abbrev pub abbreviation_bytes : ProgramOf → List ℕ
-abbreviation_bytes p = flat_map word (map (λ (at : ℕ). at / 2) (take abbreviation_count
-    (text_places (texts_place p) p.abbreviations ++ replicate abbreviation_count empty_text_place)))
+abbreviation_bytes p = flat_map word (map (λ (at : ℕ). at / 2) (take most_abbreviations
+    (text_places (texts_place p) p.abbreviations ++ replicate most_abbreviations empty_text_place)))
 
 -- a zero byte where the dictionary ends at an odd address, and the texts of abbreviations
 abbrev pub abbreviation_texts : ProgramOf → List ℕ

@@ -2,15 +2,16 @@
 use Rattle.std.specs.Prelude.{◌≡◌, ◌+◌, ◌-◌, ◌/◌, ◌≤◌, ◌<◌, ℕ, List, [], ◌∷◌, ◌++◌, length, map, replicate}
 use Rattle.std.specs.List.{flat_map}
 use Rattle.std.specs.Global.{Vec}
+use Rattle.zcore.specs.Abbreviations.{most_abbreviations}
 use Rattle.zcore.specs.declared.header.Version.{Version}
 use Rattle.meaning.specs.declared.places.Places.{Places}
-use Rattle.meaning.specs.Places.{abbreviation_count, empty_text_place, routines_place}
+use Rattle.meaning.specs.Places.{empty_text_place, routines_place}
 use Rattle.meaning.specs.Resolved.{RoutineOf, ProgramOf}
 use Rattle.meaning.specs.Accepted.{IsAccepted}
 use Rattle.meaning.specs.Printable.{HasPrintableTexts}
 use Rattle.items.specs.Items.{routine_items}
 use Rattle.region.specs.Laws.{AreProper}
-use Rattle.code.specs.Addresses.{Addresses, Sizes}
+use Rattle.instructions.specs.Addresses.{Addresses, Sizes}
 use Rattle.code.specs.Bytes.{code_size, code_bytes}
 use Rattle.code.specs.Written.{CodeOf}
 use Rattle.story.specs.Layout.{aligned, addresses_from, greatest_word, greatest_length, story_of, word}
@@ -72,4 +73,4 @@ half address = address / 2
 abbrev pub table_bytes : ℕ → List ℕ → List ℕ
 table_bytes at sizes =
     flat_map word (map half (addresses_from 1 at sizes))
-    ++ flat_map word (replicate (abbreviation_count - length sizes) (half empty_text_place))
+    ++ flat_map word (replicate (most_abbreviations - length sizes) (half empty_text_place))

@@ -1,17 +1,19 @@
 //! What stands between the header of a story and its routines.
 
-ghost use Rattle.std.specs.Prelude.{◌≡◌, ◌≤◌, ◌+◌, ◌++◌, true, IfOk, OnOk, length, map, sum};
+ghost use Rattle.std.specs.Prelude.{◌≡◌, ◌≤◌, ◌+◌, true, IfOk, OnOk, length, map, sum};
 ghost use Rattle.std.specs.List.{All, concat, flat_map, list_all};
+ghost use Rattle.zcore.specs.Abbreviations.{most_abbreviations};
 ghost use Rattle.zcore.specs.Alphabets.{is_printable};
 ghost use Rattle.zcore.specs.Text.{encoded};
 ghost use Rattle.tables.specs.Dictionary.{entry_bytes};
 ghost use Rattle.code.specs.HeldProgram.{start_code};
 ghost use Rattle.meaning.specs.Places as places;
-ghost use Rattle.meaning.specs.Places.{abbreviation_count, global_count};
+ghost use Rattle.meaning.specs.Places.{global_count};
 ghost use Rattle.meaning.specs.Resolved.{program_of};
 ghost use Rattle.story.specs.Written.{ObjectsFit, bytes_in, half, table_bytes, text_size};
 ghost use Rattle.story.specs.Layout.{dictionary_bytes, entries_bytes, global_bytes, greatest_word, key_bytes, low_bytes};
 ghost use Rattle.story.specs.Layout as layout;
+ghost use Rattle.instructions.specs.Bytes.{Adds};
 
 use crate::high::add_text;
 use crate::objects::put_objects;
@@ -47,7 +49,8 @@ const QUIT: u8 = 0xBA;
 /// The Z-texts of abbreviations, which use none.
 fn z_texts(alloc: Global, abbreviations: &[Vec<u8>]) -> Result<Vec<Vec<u8>>, AllocError>
     requires { All (λ a. list_all is_printable a ≡ true) (map bytes_in abbreviations.now) }
-    ensures { IfOk result (λ v. map bytes_in v.items ≡ map encoded (map bytes_in abbreviations.now)) }
+    ensures { IfOk result (λ v.
+        map bytes_in v.items ≡ map encoded (map bytes_in abbreviations.now)) }
 {
     let mut texts = Vec::new(alloc);
     for abbreviation in abbreviations {
@@ -58,7 +61,8 @@ fn z_texts(alloc: Global, abbreviations: &[Vec<u8>]) -> Result<Vec<Vec<u8>>, All
 
 /// Addresses, halved.
 fn put_halves(bytes: &mut Vec<u8>, addresses: &[u16]) -> Result<(), AllocError>
-    ensures { OnOk result (bytes.new.items ≡ bytes.old.items ++ flat_map layout.word (map half addresses.now)) }
+    ensures { OnOk result (Adds bytes.old bytes.new
+        (flat_map layout.word (map half addresses.now))) }
 {
     for address in addresses {
         put_word(bytes, *address / 2)?;
@@ -73,9 +77,9 @@ fn put_table(
     texts: &[Vec<u8>],
     place: usize,
 ) -> Result<(), AllocError>
-    requires few { length texts.now ≤ abbreviation_count }
+    requires few { length texts.now ≤ most_abbreviations }
     requires placed { place + sum (map text_size texts.now) ≤ greatest_word }
-    ensures { OnOk result (bytes.new.items ≡ bytes.old.items ++ table_bytes place (map text_size texts.now)) }
+    ensures { OnOk result (Adds bytes.old bytes.new (table_bytes place (map text_size texts.now))) }
 {
     let mut sizes = Vec::new(alloc);
     add_text_sizes(&mut sizes, texts)?;
@@ -88,7 +92,7 @@ fn put_table(
 /// The words with which the globals begin, 0 where the source has none.
 fn put_globals(bytes: &mut Vec<u8>, globals: &[u16]) -> Result<(), AllocError>
     requires { length globals.now ≤ global_count }
-    ensures { OnOk result (bytes.new.items ≡ bytes.old.items ++ global_bytes globals.now) }
+    ensures { OnOk result (Adds bytes.old bytes.new (global_bytes globals.now)) }
 {
     put_words(bytes, globals)?;
     put_zeros(bytes, 2 * (GLOBALS - globals.len()))?;
@@ -97,7 +101,7 @@ fn put_globals(bytes: &mut Vec<u8>, globals: &[u16]) -> Result<(), AllocError>
 
 /// An entry of the dictionary: the six bytes of its key, the highest first, and three of data that are 0.
 fn put_entry(bytes: &mut Vec<u8>, key: u64) -> Result<(), AllocError>
-    ensures { OnOk result (bytes.new.items ≡ bytes.old.items ++ entry_bytes (key_bytes key)) }
+    ensures { OnOk result (Adds bytes.old bytes.new (entry_bytes (key_bytes key))) }
 {
     bytes.extend_from_slice(&key.to_be_bytes()[2..])?;
     bytes.extend_from_slice(&[0; 3])?;
@@ -106,7 +110,7 @@ fn put_entry(bytes: &mut Vec<u8>, key: u64) -> Result<(), AllocError>
 
 /// The entries of keys, one behind another.
 fn put_entries(bytes: &mut Vec<u8>, keys: &[u64]) -> Result<(), AllocError>
-    ensures { OnOk result (bytes.new.items ≡ bytes.old.items ++ entries_bytes keys.now) }
+    ensures { OnOk result (Adds bytes.old bytes.new (entries_bytes keys.now)) }
 {
     for key in keys {
         put_entry(bytes, *key)?;
@@ -117,7 +121,7 @@ fn put_entries(bytes: &mut Vec<u8>, keys: &[u64]) -> Result<(), AllocError>
 /// The dictionary of keys, with three separators, whose entries have nine bytes (section 13.2).
 fn put_dictionary(bytes: &mut Vec<u8>, keys: &[u64]) -> Result<(), AllocError>
     requires { length keys.now ≤ greatest_word }
-    ensures { OnOk result (bytes.new.items ≡ bytes.old.items ++ dictionary_bytes keys.now) }
+    ensures { OnOk result (Adds bytes.old bytes.new (dictionary_bytes keys.now)) }
 {
     bytes.extend_from_slice(b"\x03.,\"\x09")?;
     put_word(bytes, keys.len() as u16)?;
@@ -128,7 +132,8 @@ fn put_dictionary(bytes: &mut Vec<u8>, keys: &[u64]) -> Result<(), AllocError>
 /// How many bytes stand between the dictionary and the texts of abbreviations, which begin at an even address.
 fn filling(checked: &Checked<'_>) -> usize
     requires { places.routines_place (program_of checked.now) ≤ greatest_word }
-    ensures { result ≡ places.filling_before checked.now.abbreviations (places.dictionary_end (program_of checked.now)) }
+    ensures { result ≡ places.filling_before checked.now.abbreviations
+        (places.dictionary_end (program_of checked.now)) }
 {
     let at = part_places(checked);
     at.texts - (at.dictionary + EMPTY_DICTIONARY + ENTRY * checked.keys().len())
@@ -136,7 +141,7 @@ fn filling(checked: &Checked<'_>) -> usize
 
 /// Texts, one behind another.
 fn put_all(bytes: &mut Vec<u8>, texts: &[Vec<u8>]) -> Result<(), AllocError>
-    ensures { OnOk result (bytes.new.items ≡ bytes.old.items ++ concat (map bytes_in texts.now)) }
+    ensures { OnOk result (Adds bytes.old bytes.new (concat (map bytes_in texts.now))) }
 {
     for text in texts {
         bytes.extend_from_slice(text)?;
@@ -146,7 +151,7 @@ fn put_all(bytes: &mut Vec<u8>, texts: &[Vec<u8>]) -> Result<(), AllocError>
 
 /// The code that calls the routine at a packed address, and then ends the story.
 fn put_start(bytes: &mut Vec<u8>, main: u16) -> Result<(), AllocError>
-    ensures { OnOk result (bytes.new.items ≡ bytes.old.items ++ start_code main) }
+    ensures { OnOk result (Adds bytes.old bytes.new (start_code main)) }
 {
     bytes.push(CALL)?;
     put_word(bytes, main)?;
@@ -172,9 +177,9 @@ pub fn put_low(
     requires globals { length checked.now.globals ≤ global_count }
     requires objects { ObjectsFit (program_of checked.now) }
     requires keys { length checked.now.keys ≤ greatest_word }
-    requires few { length checked.now.abbreviations ≤ abbreviation_count }
+    requires few { length checked.now.abbreviations ≤ most_abbreviations }
     requires printable { All (λ a. list_all is_printable a ≡ true) checked.now.abbreviations }
-    ensures { OnOk result (bytes.new.items ≡ bytes.old.items ++ low_bytes (program_of checked.now) main) }
+    ensures { OnOk result (Adds bytes.old bytes.new (low_bytes (program_of checked.now) main)) }
 {
     let texts = z_texts(alloc, checked.abbreviations().texts())?;
     put_table(alloc, bytes, &texts, part_places(checked).texts)?;

@@ -1,10 +1,11 @@
 //! The header of a story (Z-Machine Standards Document 1.1, section 11.1).
 
-ghost use Rattle.std.specs.Prelude.{◌≡◌, ◌≤◌, ◌+◌, ◌/◌, ◌%◌, ◌++◌, OnOk, length, sum};
+ghost use Rattle.std.specs.Prelude.{◌≡◌, ◌≤◌, ◌+◌, ◌/◌, ◌%◌, OnOk, length, sum};
 ghost use Rattle.zcore.specs.Header.{scale_of, version_number};
 ghost use Rattle.meaning.specs.Places.{header_size};
 ghost use Rattle.story.specs.Layout.{greatest_length, header_of};
 ghost use Rattle.story.specs.Written.{AreWords};
+ghost use Rattle.instructions.specs.Bytes.{Adds};
 
 use crate::words::{put_words, put_zeros};
 use meaning::Places;
@@ -61,7 +62,7 @@ pub fn put_header(
 ) -> Result<(), AllocError>
     requires words { AreWords places }
     requires length { header_size + length body.now ≤ greatest_length version }
-    ensures { OnOk result (story.new.items ≡ story.old.items ++ header_of version places body.now) }
+    ensures { OnOk result (Adds story.old story.new (header_of version places body.now)) }
 {
     let start = places.start as u16;
     let dictionary = places.dictionary as u16;

@@ -5,10 +5,11 @@ ghost use Rattle.std.specs.List.{All, list_all};
 ghost use Rattle.zcore.specs.Alphabets.{is_printable};
 ghost use Rattle.zcore.specs.Header.{scale_of};
 ghost use Rattle.zcore.specs.Text.{encoded};
-ghost use Rattle.code.specs.Written.{addresses_of};
+ghost use Rattle.instructions.specs.Written.{addresses_of};
 ghost use Rattle.meaning.specs.Places.{header_size};
 ghost use Rattle.story.specs.Layout as layout;
 ghost use Rattle.story.specs.Written.{IsReady, bytes_in, code_part};
+ghost use Rattle.instructions.specs.Bytes.{Adds};
 
 use crate::packed::aligned;
 use crate::words::put_zeros;
@@ -38,7 +39,8 @@ pub fn add_text(
     characters: &[u8],
 ) -> Result<(), AllocError>
     requires { list_all is_printable characters.now ≡ true }
-    ensures { OnOk result (map bytes_in texts.new.items ≡ map bytes_in texts.old.items ++ encoded characters.now ∷ []) }
+    ensures { OnOk result (map bytes_in texts.new.items ≡ map bytes_in texts.old.items
+        ++ encoded characters.now ∷ []) }
 {
     let text = z_text(alloc, characters)?;
     texts.push(text)?;
@@ -61,7 +63,8 @@ fn put_code(
     addresses: &Addresses<'_>,
 ) -> Result<(), AllocError>
     requires { IsReady code.now }
-    ensures { OnOk result (body.new.items ≡ body.old.items ++ code_part (addresses_of addresses.now) code.now) }
+    ensures { OnOk result (Adds body.old body.new
+        (code_part (addresses_of addresses.now) code.now)) }
 {
     match code.put(addresses, body) {
         Ok(()) => Ok(()),
@@ -103,8 +106,9 @@ fn put_text(body: &mut Vec<u8>, version: Version, text: &[u8]) -> Result<(), All
 
 /// Texts, and what fills the end of the story.
 pub fn put_texts(body: &mut Vec<u8>, version: Version, texts: &[Vec<u8>]) -> Result<(), AllocError>
-    ensures { OnOk result (body.new.items ≡ body.old.items ++ layout.parts_from (scale_of version)
-        (header_size + length body.old.items) (map bytes_in texts.now)) }
+    ensures { OnOk result (Adds body.old body.new
+        (layout.parts_from (scale_of version) (header_size + length body.old.items)
+        (map bytes_in texts.now))) }
 {
     for text in texts {
         put_text(body, version, text)?;

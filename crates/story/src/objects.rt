@@ -1,6 +1,6 @@
 //! The object table of a story (Z-Machine Standards Document 1.1, section 12).
 
-ghost use Rattle.std.specs.Prelude.{◌≡◌, ◌≤◌, ◌<◌, ◌+◌, ◌++◌, IfOk, OnOk, drop, length, map};
+ghost use Rattle.std.specs.Prelude.{◌≡◌, ◌≤◌, ◌<◌, ◌+◌, IfOk, OnOk, drop, length, map};
 ghost use Rattle.std.specs.List.{All};
 ghost use Rattle.tables.specs.Rows.{HasShortName, IsRow, objects_length};
 ghost use Rattle.meaning.specs.Objects.{first_of, object_at, standing_in};
@@ -10,6 +10,7 @@ ghost use Rattle.region.specs.Rows as rows;
 ghost use Rattle.region.specs.Rows.{rows_bytes, rows_of, view_of};
 ghost use Rattle.story.specs.Layout.{object_bytes};
 ghost use Rattle.story.specs.Written.{ObjectsFit};
+ghost use Rattle.instructions.specs.Bytes.{Adds};
 
 use meaning::{Checked, CheckedObject, machine_character, part_places};
 use std::alloc::{AllocError, Global};
@@ -59,7 +60,8 @@ fn attribute_byte(attributes: &[u8], first: u8) -> u8
 /// The number of the first object from an index on that stands in another, 0 where none does.
 fn first_in(objects: &[CheckedObject<'_>], from: usize, parent: u16) -> u16
     requires { length objects.now ≤ 2000 }
-    ensures { result ≡ first_of (standing_in parent (from + 1) (drop from (map object_of objects.now))) }
+    ensures { result ≡ first_of (standing_in parent (from + 1)
+        (drop from (map object_of objects.now))) }
 {
     for index in from..objects.len() {
         if objects[index].parent == parent {
@@ -73,7 +75,8 @@ fn first_in(objects: &[CheckedObject<'_>], from: usize, parent: u16) -> u16
 fn sibling(objects: &[CheckedObject<'_>], index: usize) -> u16
     requires within { index < length objects.now }
     requires few { length objects.now ≤ 2000 }
-    ensures { result ≡ (rows.row_of (map object_of objects.now) (index + 1) (object_at (map object_of objects.now) (index + 1))).sibling }
+    ensures { result ≡ (rows.row_of (map object_of objects.now) (index + 1)
+        (object_at (map object_of objects.now) (index + 1))).sibling }
 {
     let parent = objects[index].parent;
     if parent == 0 {
@@ -99,7 +102,8 @@ fn copied(alloc: Global, properties: &[(u8, Vec<u16>)]) -> Result<Vec<(u8, Vec<u
 fn row(alloc: Global, objects: &[CheckedObject<'_>], index: usize) -> Result<ObjectRow, AllocError>
     requires within { index < length objects.now }
     requires few { length objects.now ≤ 2000 }
-    ensures { IfOk result (λ r. view_of r ≡ rows.row_of (map object_of objects.now) (index + 1) (object_at (map object_of objects.now) (index + 1))) }
+    ensures { IfOk result (λ r. view_of r ≡ rows.row_of (map object_of objects.now) (index + 1)
+        (object_at (map object_of objects.now) (index + 1))) }
 {
     let object = &objects[index];
     let name = characters(alloc, object.name)?;
@@ -164,7 +168,7 @@ pub fn put_objects(
     checked: &Checked<'_>,
 ) -> Result<(), AllocError>
     requires { ObjectsFit (program_of checked.now) }
-    ensures { OnOk result (bytes.new.items ≡ bytes.old.items ++ object_bytes (program_of checked.now)) }
+    ensures { OnOk result (Adds bytes.old bytes.new (object_bytes (program_of checked.now))) }
 {
     let rows = rows(alloc, checked.objects())?;
     let at = part_places(checked).defaults as u16;

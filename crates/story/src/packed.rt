@@ -1,9 +1,10 @@
 //! Where the parts of a story stand to which code refers.
 
-ghost use Rattle.std.specs.Prelude.{◌≡◌, ◌≤◌, ◌<◌, ◌+◌, ◌/◌, ◌^◌, ◌++◌, [], ◌∷◌, IfOk, OnOk, map, sum};
+ghost use Rattle.std.specs.Prelude.{◌≡◌, ◌≤◌, ◌<◌, ◌+◌, ◌/◌, ◌^◌, [], ◌∷◌, IfOk, OnOk, map, sum};
 ghost use Rattle.zcore.specs.Header.{scale_of};
 ghost use Rattle.story.specs.Layout as layout;
 ghost use Rattle.story.specs.Written.{end_from, packed_from, part_size, text_size};
+ghost use Rattle.instructions.specs.Bytes.{Adds};
 
 use code::Code;
 use std::alloc::{AllocError, Global};
@@ -26,8 +27,8 @@ fn add_address(
     size: usize,
 ) -> Result<usize, AllocError>
     requires { layout.aligned (scale_of version) at + size ≤ layout.greatest_length version }
-    ensures addresses { OnOk result (addresses.new.items ≡ addresses.old.items
-        ++ (layout.aligned (scale_of version) at / scale_of version) ∷ []) }
+    ensures addresses { OnOk result (Adds addresses.old addresses.new
+        ((layout.aligned (scale_of version) at / scale_of version) ∷ [])) }
     ensures end { IfOk result (λ end. end ≡ layout.aligned (scale_of version) at + size) }
 {
     let address = aligned(version, at);
@@ -48,7 +49,7 @@ pub fn code_sizes(alloc: Global, codes: &[Code<'_, '_>]) -> Result<Vec<usize>, A
 
 /// Adds how many bytes texts have.
 pub fn add_text_sizes(sizes: &mut Vec<usize>, texts: &[Vec<u8>]) -> Result<(), AllocError>
-    ensures { OnOk result (sizes.new.items ≡ sizes.old.items ++ map text_size texts.now) }
+    ensures { OnOk result (Adds sizes.old sizes.new (map text_size texts.now)) }
 {
     for text in texts {
         sizes.push(text.len())?;

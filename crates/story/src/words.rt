@@ -1,14 +1,15 @@
 //! Words, and the zero bytes that fill what stands between parts.
 
-ghost use Rattle.std.specs.Prelude.{◌≡◌, ◌++◌, OnOk, replicate};
+ghost use Rattle.std.specs.Prelude.{OnOk, replicate};
 ghost use Rattle.std.specs.List.{flat_map};
 ghost use Rattle.story.specs.Layout as layout;
+ghost use Rattle.instructions.specs.Bytes.{Adds};
 
 use std::alloc::AllocError;
 
 /// A word, the high byte first.
 pub fn put_word(bytes: &mut Vec<u8>, word: u16) -> Result<(), AllocError>
-    ensures { OnOk result (bytes.new.items ≡ bytes.old.items ++ layout.word word) }
+    ensures { OnOk result (Adds bytes.old bytes.new (layout.word word)) }
 {
     bytes.push((word / 256) as u8)?;
     bytes.push((word % 256) as u8)?;
@@ -17,7 +18,7 @@ pub fn put_word(bytes: &mut Vec<u8>, word: u16) -> Result<(), AllocError>
 
 /// Words, one behind another.
 pub fn put_words(bytes: &mut Vec<u8>, words: &[u16]) -> Result<(), AllocError>
-    ensures { OnOk result (bytes.new.items ≡ bytes.old.items ++ flat_map layout.word words.now) }
+    ensures { OnOk result (Adds bytes.old bytes.new (flat_map layout.word words.now)) }
 {
     for word in words {
         put_word(bytes, *word)?;
@@ -27,7 +28,7 @@ pub fn put_words(bytes: &mut Vec<u8>, words: &[u16]) -> Result<(), AllocError>
 
 /// So many zero bytes.
 pub fn put_zeros(bytes: &mut Vec<u8>, count: usize) -> Result<(), AllocError>
-    ensures { OnOk result (bytes.new.items ≡ bytes.old.items ++ replicate count 0) }
+    ensures { OnOk result (Adds bytes.old bytes.new (replicate count 0)) }
 {
     let mut left = count;
     while left > 0 {

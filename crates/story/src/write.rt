@@ -4,8 +4,8 @@ ghost use Rattle.std.specs.Prelude.{◌≡◌, ◌≤◌, ◌<◌, IfOk, drop, l
 ghost use Rattle.zcore.specs.Header.{scale_of};
 ghost use Rattle.meaning.specs.Meaning.{routine_at};
 ghost use Rattle.meaning.specs.Resolved.{program_of};
+ghost use Rattle.instructions.specs.Written.{addresses_of};
 ghost use Rattle.code.specs.HeldProgram.{sizes_of};
-ghost use Rattle.code.specs.Written.{addresses_of};
 ghost use Rattle.story.specs.Layout as layout;
 ghost use Rattle.story.specs.Written.{Fits, bytes_in, code_of};
 
@@ -58,7 +58,8 @@ fn code_at<'a, 'b>(
     routine: usize,
 ) -> Result<Code<'a, 'b>, AllocError>
     requires { routine < length checked.now.routines }
-    ensures { IfOk result (λ c. c ≡ code_of (sizes_of (program_of checked.now)) (routine_at (program_of checked.now).routines routine)) }
+    ensures { IfOk result (λ c. c ≡ code_of (sizes_of (program_of checked.now))
+        (routine_at (program_of checked.now).routines routine)) }
 {
     match routine_code(alloc, checked, routine) {
         Ok(code) => Ok(code),
@@ -71,7 +72,8 @@ fn codes_of<'a, 'b>(
     alloc: Global,
     checked: &'b Checked<'a>,
 ) -> Result<Vec<Code<'a, 'b>>, AllocError>
-    ensures { IfOk result (λ v. v.items ≡ map (code_of (sizes_of (program_of checked.now))) (program_of checked.now).routines) }
+    ensures { IfOk result (λ v. v.items
+        ≡ map (code_of (sizes_of (program_of checked.now))) (program_of checked.now).routines) }
 {
     let mut codes = Vec::new(alloc);
     for routine in 0..checked.routines() {

@@ -40,7 +40,8 @@ fn kind<'t, 'a>(tokens: &'t [Token<'a>]) -> Result<(ArrayKind, &'t [Token<'a>]),
 // A value, with the position of its first token.
 #[tactic(auto, unfolding(crate::specs::Parse::placed))]
 fn placed<'t, 'a>(tokens: &'t [Token<'a>]) -> Result<(ArrayValue<'a>, &'t [Token<'a>]), ParseError>
-    ensures { Gives (λ x. (value_tree x.0, lexemes x.1.now)) result (spec.placed (lexemes tokens.now)) }
+    ensures { Gives (λ x. (value_tree x.0, lexemes x.1.now)) result
+        (spec.placed (lexemes tokens.now)) }
 {
     let position = position(tokens);
     let (value, rest) = known_value(tokens)?;
@@ -57,7 +58,8 @@ pub fn values<'t, 'a>(
     alloc: Global,
     tokens: &'t [Token<'a>],
 ) -> Result<(Vec<ArrayValue<'a>>, &'t [Token<'a>]), ParseError>
-    ensures { Gives (λ x. (map value_tree x.0.items, lexemes x.1.now)) result (spec.values (lexemes tokens.now)) }
+    ensures { Gives (λ x. (map value_tree x.0.items, lexemes x.1.now)) result
+        (spec.values (lexemes tokens.now)) }
 {
     let mut found = Vec::new(alloc);
     let (first, mut rest) = placed(tokens)?;
@@ -83,7 +85,8 @@ pub fn array<'t, 'a>(
     alloc: Global,
     tokens: &'t [Token<'a>],
 ) -> Result<(Array<'a>, &'t [Token<'a>]), ParseError>
-    ensures { Gives (λ x. (array_tree x.0, lexemes x.1.now)) result (spec.array_behind (lexemes tokens.now)) }
+    ensures { Gives (λ x. (array_tree x.0, lexemes x.1.now)) result
+        (spec.array_behind (lexemes tokens.now)) }
 {
     let (name, rest) = named(tokens)?;
     let (kind, rest) = kind(rest)?;

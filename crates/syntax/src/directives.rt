@@ -35,7 +35,8 @@ fn ended<'t, 'a>(
 // What follows `global`.
 #[tactic(auto, unfolding(crate::specs::Parse::global_behind))]
 fn global<'t, 'a>(tokens: &'t [Token<'a>]) -> Result<(Directive<'a>, &'t [Token<'a>]), ParseError>
-    ensures { Gives (λ x. (directive_tree x.0, lexemes x.1.now)) result (spec.global_behind (lexemes tokens.now)) }
+    ensures { Gives (λ x. (directive_tree x.0, lexemes x.1.now)) result
+        (spec.global_behind (lexemes tokens.now)) }
 {
     let (name, rest) = named(tokens)?;
     if !is_sign(peek(rest), Sign::Assign) {
@@ -48,7 +49,8 @@ fn global<'t, 'a>(tokens: &'t [Token<'a>]) -> Result<(Directive<'a>, &'t [Token<
 // What follows `constant`.
 #[tactic(auto, unfolding(crate::specs::Parse::constant_behind))]
 fn constant<'t, 'a>(tokens: &'t [Token<'a>]) -> Result<(Directive<'a>, &'t [Token<'a>]), ParseError>
-    ensures { Gives (λ x. (directive_tree x.0, lexemes x.1.now)) result (spec.constant_behind (lexemes tokens.now)) }
+    ensures { Gives (λ x. (directive_tree x.0, lexemes x.1.now)) result
+        (spec.constant_behind (lexemes tokens.now)) }
 {
     let (name, rest) = named(tokens)?;
     let rest = expect(Sign::Assign, rest)?;
@@ -61,7 +63,8 @@ fn constant<'t, 'a>(tokens: &'t [Token<'a>]) -> Result<(Directive<'a>, &'t [Toke
 fn attribute<'t, 'a>(
     tokens: &'t [Token<'a>],
 ) -> Result<(Directive<'a>, &'t [Token<'a>]), ParseError>
-    ensures { Gives (λ x. (directive_tree x.0, lexemes x.1.now)) result (spec.attribute_behind (lexemes tokens.now)) }
+    ensures { Gives (λ x. (directive_tree x.0, lexemes x.1.now)) result
+        (spec.attribute_behind (lexemes tokens.now)) }
 {
     let (name, rest) = named(tokens)?;
     ended(Directive::Attribute(name), rest)
@@ -70,7 +73,8 @@ fn attribute<'t, 'a>(
 // What follows `property`.
 #[tactic(auto, unfolding(crate::specs::Parse::property_behind))]
 fn property<'t, 'a>(tokens: &'t [Token<'a>]) -> Result<(Directive<'a>, &'t [Token<'a>]), ParseError>
-    ensures { Gives (λ x. (directive_tree x.0, lexemes x.1.now)) result (spec.property_behind (lexemes tokens.now)) }
+    ensures { Gives (λ x. (directive_tree x.0, lexemes x.1.now)) result
+        (spec.property_behind (lexemes tokens.now)) }
 {
     let (name, rest) = named(tokens)?;
     if !begins_value(peek(rest)) {
@@ -86,7 +90,8 @@ fn routine<'t, 'a>(
     alloc: Global,
     tokens: &'t [Token<'a>],
 ) -> Result<(Routine<'a>, &'t [Token<'a>]), ParseError>
-    ensures { Gives (λ x. (routine_tree x.0, lexemes x.1.now)) result (spec.routine_at 100 (lexemes tokens.now)) }
+    ensures { Gives (λ x. (routine_tree x.0, lexemes x.1.now)) result
+        (spec.routine_at 100 (lexemes tokens.now)) }
 {
     let (name, rest) = named(skip(tokens))?;
     let (locals, rest) = names(alloc, rest)?;
@@ -111,7 +116,8 @@ fn worded<'t, 'a>(
     word: Word,
     tokens: &'t [Token<'a>],
 ) -> Result<(Directive<'a>, &'t [Token<'a>]), ParseError>
-    ensures { Gives (λ x. (directive_tree x.0, lexemes x.1.now)) result (spec.worded word (lexemes tokens.now)) }
+    ensures { Gives (λ x. (directive_tree x.0, lexemes x.1.now)) result
+        (spec.worded word (lexemes tokens.now)) }
 {
     match word {
         Word::Global => global(skip(tokens)),
@@ -141,7 +147,8 @@ pub fn directive<'t, 'a>(
     alloc: Global,
     tokens: &'t [Token<'a>],
 ) -> Result<(Directive<'a>, &'t [Token<'a>]), ParseError>
-    ensures { Gives (λ x. (directive_tree x.0, lexemes x.1.now)) result (spec.directive 100 (lexemes tokens.now)) }
+    ensures { Gives (λ x. (directive_tree x.0, lexemes x.1.now)) result
+        (spec.directive 100 (lexemes tokens.now)) }
 {
     match peek(tokens).kind {
         Kind::Reserved(word) => worded(alloc, word, tokens),

@@ -37,8 +37,9 @@ pub fn entries<'t, 'a>(
     alloc: Global,
     tokens: &'t [Token<'a>],
 ) -> Result<(Vec<Directive<'a>>, Vec<Text<'a>>, &'t [Token<'a>]), ParseError>
-    ensures { Gives (λ x. ((map directive_tree x.0.items, map text_tree x.1.items), lexemes x.2.now)) result
-        (spec.entries 100 (lexemes tokens.now)) }
+    ensures { Gives
+        (λ x. ((map directive_tree x.0.items, map text_tree x.1.items), lexemes x.2.now))
+        result (spec.entries 100 (lexemes tokens.now)) }
 {
     let mut directives = Vec::new(alloc);
     let mut abbreviations = Vec::new(alloc);

@@ -20,7 +20,8 @@ pub fn names<'t, 'a>(
     alloc: Global,
     tokens: &'t [Token<'a>],
 ) -> Result<(Vec<Name<'a>>, &'t [Token<'a>]), ParseError>
-    ensures { Gives (λ x. (map name_tree x.0.items, lexemes x.1.now)) result (spec.names (lexemes tokens.now)) }
+    ensures { Gives (λ x. (map name_tree x.0.items, lexemes x.1.now)) result
+        (spec.names (lexemes tokens.now)) }
 {
     let mut found = Vec::new(alloc);
     let mut rest = tokens;
@@ -44,7 +45,8 @@ pub fn some_names<'t, 'a>(
     alloc: Global,
     tokens: &'t [Token<'a>],
 ) -> Result<(Vec<Name<'a>>, &'t [Token<'a>]), ParseError>
-    ensures { Gives (λ x. (map name_tree x.0.items, lexemes x.1.now)) result (spec.some_names (lexemes tokens.now)) }
+    ensures { Gives (λ x. (map name_tree x.0.items, lexemes x.1.now)) result
+        (spec.some_names (lexemes tokens.now)) }
 {
     let (found, rest) = names(alloc, tokens)?;
     if found.is_empty() {

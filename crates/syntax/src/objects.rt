@@ -50,7 +50,8 @@ fn arrows<'t, 'a>(
 // The text that comes next, if one does.
 #[tactic(auto, unfolding(crate::specs::Parse::short))]
 fn short<'t, 'a>(tokens: &'t [Token<'a>]) -> (Option<Text<'a>>, &'t [Token<'a>])
-    ensures { spec.short (lexemes tokens.now) ≡ Ok (option_map text_tree result.0, lexemes result.1.now) }
+    ensures { spec.short (lexemes tokens.now)
+        ≡ Ok (option_map text_tree result.0, lexemes result.1.now) }
 {
     let next = peek(tokens);
     match next.kind {
@@ -89,7 +90,8 @@ fn heading<'t, 'a>(
     alloc: Global,
     tokens: &'t [Token<'a>],
 ) -> Result<(Head<'a>, &'t [Token<'a>]), ParseError>
-    ensures { Gives (λ x. (head_tree x.0, lexemes x.1.now)) result (spec.heading (lexemes tokens.now)) }
+    ensures { Gives (λ x. (head_tree x.0, lexemes x.1.now)) result
+        (spec.heading (lexemes tokens.now)) }
 {
     let (arrows, rest) = arrows(alloc, tokens)?;
     let (name, rest) = named(rest)?;
@@ -122,7 +124,8 @@ fn property<'t, 'a>(
     alloc: Global,
     tokens: &'t [Token<'a>],
 ) -> Result<(Property<'a>, &'t [Token<'a>]), ParseError>
-    ensures { Gives (λ x. (property_tree x.0, lexemes x.1.now)) result (spec.prop (lexemes tokens.now)) }
+    ensures { Gives (λ x. (property_tree x.0, lexemes x.1.now)) result
+        (spec.prop (lexemes tokens.now)) }
 {
     let (name, rest) = named(tokens)?;
     let (values, rest) = values(alloc, rest)?;
@@ -143,7 +146,8 @@ fn next_property<'t, 'a>(
     alloc: Global,
     tokens: &'t [Token<'a>],
 ) -> Result<(Property<'a>, &'t [Token<'a>]), ParseError>
-    ensures { Gives (λ x. (property_tree x.0, lexemes x.1.now)) result (spec.next_prop (lexemes tokens.now)) }
+    ensures { Gives (λ x. (property_tree x.0, lexemes x.1.now)) result
+        (spec.next_prop (lexemes tokens.now)) }
 {
     let rest = expect(Sign::Comma, tokens)?;
     property(alloc, rest)
@@ -155,7 +159,8 @@ fn listed<'t, 'a>(
     alloc: Global,
     tokens: &'t [Token<'a>],
 ) -> Result<(Vec<Property<'a>>, &'t [Token<'a>]), ParseError>
-    ensures { Gives (λ x. (map property_tree x.0.items, lexemes x.1.now)) result (spec.props (lexemes tokens.now)) }
+    ensures { Gives (λ x. (map property_tree x.0.items, lexemes x.1.now)) result
+        (spec.props (lexemes tokens.now)) }
 {
     let mut found = Vec::new(alloc);
     let (first, mut rest) = property(alloc, tokens)?;
@@ -216,7 +221,8 @@ pub fn object<'t, 'a>(
     alloc: Global,
     tokens: &'t [Token<'a>],
 ) -> Result<(Object<'a>, &'t [Token<'a>]), ParseError>
-    ensures { Gives (λ x. (object_tree x.0, lexemes x.1.now)) result (spec.object_behind (lexemes tokens.now)) }
+    ensures { Gives (λ x. (object_tree x.0, lexemes x.1.now)) result
+        (spec.object_behind (lexemes tokens.now)) }
 {
     let (head, rest) = heading(alloc, tokens)?;
     let (properties, rest) = properties(alloc, rest)?;

@@ -83,9 +83,11 @@ pub fn parse<'a>(alloc: Global, tokens: &[Token<'a>]) -> Result<Program<'a>, Sou
     ensures found { IfOk result
         (λ p. IsProgram (lexemes tokens.now) (program_tree p) × (program_nesting (program_tree p) ≤ 100)) }
     // What derives is read.
-    ensures only { (p : ProgramTree) → IsProgram (lexemes tokens.now) p → program_nesting p ≤ 100 → Answers result p }
+    ensures only { (p : ProgramTree) → IsProgram (lexemes tokens.now) p → program_nesting p ≤ 100
+        → Answers result p }
     // When each fault comes.
-    ensures grammar { IfNumber result 10 ((p : ProgramTree) → IsProgram (lexemes tokens.now) p → ⊥) }
+    ensures grammar { IfNumber result 10
+        ((p : ProgramTree) → IsProgram (lexemes tokens.now) p → ⊥) }
     ensures deep { IfNumber result 5 (DeepProgram 101 (lexemes tokens.now)
         × ((p : ProgramTree) → IsProgram (lexemes tokens.now) p → 100 < program_nesting p)) }
     ensures numbers { IfErr result (λ f. (f.number ≡ 5) ⊎ (f.number ≡ 10) ⊎ (f ≡ no_memory)) }

@@ -20,7 +20,8 @@ fn is_text(token: Token<'_>) -> bool
 // The text that comes next.
 #[tactic(auto, unfolding(crate::specs::Parse::one_text))]
 fn one_text<'t, 'a>(tokens: &'t [Token<'a>]) -> Result<(Text<'a>, &'t [Token<'a>]), ParseError>
-    ensures { Gives (λ x. (text_tree x.0, lexemes x.1.now)) result (spec.one_text (lexemes tokens.now)) }
+    ensures { Gives (λ x. (text_tree x.0, lexemes x.1.now)) result
+        (spec.one_text (lexemes tokens.now)) }
 {
     let next = peek(tokens);
     match next.kind {
@@ -41,7 +42,8 @@ fn texts<'t, 'a>(
     alloc: Global,
     tokens: &'t [Token<'a>],
 ) -> Result<(Vec<Text<'a>>, &'t [Token<'a>]), ParseError>
-    ensures { Gives (λ x. (map text_tree x.0.items, lexemes x.1.now)) result (spec.texts (lexemes tokens.now)) }
+    ensures { Gives (λ x. (map text_tree x.0.items, lexemes x.1.now)) result
+        (spec.texts (lexemes tokens.now)) }
 {
     let mut found = Vec::new(alloc);
     let (first, mut rest) = one_text(tokens)?;

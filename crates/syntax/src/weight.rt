@@ -34,7 +34,8 @@ pub fn weight_of(tokens: &[Token<'_>]) -> u128
 #[tactic(auto, using(crate::proofs::Ends::ends_short, crate::proofs::Ends::ends_weight))]
 pub fn weight_before(tokens: &[Token<'_>], rest: &[Token<'_>]) -> u128
     requires { EndsWith (lexemes tokens.now) (lexemes rest.now) }
-    ensures { result ≡ grammar.weight_of (lexemes tokens.now) - grammar.weight_of (lexemes rest.now) }
+    ensures { result ≡ grammar.weight_of (lexemes tokens.now)
+        - grammar.weight_of (lexemes rest.now) }
 {
     weight_of(&tokens[..tokens.len() - rest.len()])
 }

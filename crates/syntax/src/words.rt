@@ -16,7 +16,8 @@ pub fn dictionary_words<'a>(
     alloc: Global,
     tokens: &[Token<'a>],
 ) -> Result<Vec<&'a [u8]>, AllocError>
-    ensures { IfOk result (λ v. map (λ w. w.now) v.items ≡ grammar.dictionary_words (lexemes tokens.now)) }
+    ensures { IfOk result (λ v. map (λ w. w.now) v.items
+        ≡ grammar.dictionary_words (lexemes tokens.now)) }
 {
     let mut words = Vec::new(alloc);
     for token in tokens {

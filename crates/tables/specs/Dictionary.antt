@@ -4,7 +4,9 @@ use Rattle.std.specs.Prelude.{◌≡◌, ◌==◌, ◌+◌, ◌*◌, ◌/◌, �
 use Rattle.std.specs.Prelude.{length, slice_range}
 use Rattle.std.specs.List.{flat_map}
 use Rattle.zcore.specs.Dictionary.{entry_of}
-use Rattle.zcore.specs.Header.{separator_count, entry_length_of, entry_count, first_entry, key_at, IsDictionary}
+use Rattle.zcore.specs.Header.{separator_count, entry_length_of, entry_count, first_entry, key_at, static_end}
+use Rattle.zcore.specs.Header.{IsDictionary}
+use Rattle.zcore.specs.Text.{Holds}
 use Rattle.tables.specs.declared.fault.TableFault.{TableFault}
 use Rattle.tables.specs.declared.fault.TableFault.TheVariants.{NameTooLong, TooLarge, Memory}
 
@@ -59,3 +61,8 @@ pub record ReadsKeys (story : List ℕ) (at : ℕ) (keys : List ℕ) : Type 0 wh
   pub dictionary : IsDictionary story at
   pub separators : slice_range story (at + 1) (at + 1 + separator_count story at) ≡ 46 ∷ 44 ∷ 34 ∷ []
   pub numbers : (key : ℕ) → entry_of story at key ≡ key_number at keys key
+
+-- these keys are read where a story holds the bytes, which end with its static memory or before
+abbrev pub AreReadFrom : List ℕ → List ℕ → Type 0
+AreReadFrom bytes keys = (story : List ℕ) (at : ℕ) → Holds story at bytes → at + length bytes ≤ static_end story
+    → ReadsKeys story at keys

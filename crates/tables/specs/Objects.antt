@@ -2,12 +2,18 @@
 use Rattle.std.specs.Prelude.{◌+◌, ℕ, zero, suc, nat_le, nat_lt, Bool, if◌then◌else◌, List, length, slice_index}
 use Rattle.std.specs.Prelude.{slice_range, Option, Some, None, Result, Ok, Err}
 use Rattle.zcore.specs.Bytes.{word_at}
-use Rattle.zcore.specs.Entries.{Link, owner, place_of, has_entry, properties_place, attribute_place, is_set}
+use Rattle.zcore.specs.Entries.{Link, owner, place_of, object_entry, has_entry, properties_place}
+use Rattle.zcore.specs.Entries.{attribute_place, is_set}
 use Rattle.zcore.specs.Properties.{Standing, Terminator, Listed, Beyond, standing, list_start, property_in}
 use Rattle.tables.specs.declared.fault.TableRead.{TableRead}
 use Rattle.tables.specs.declared.fault.TableRead.TheVariants.{Object, Outside}
 
 -- Entries (12.3)
+
+-- the word at a place of an object's entry
+abbrev pub word_of_entry : List ℕ → ℕ → ℕ → ℕ → Result ℕ TableRead
+word_of_entry story table object place =
+    if has_entry table (length story) object then Ok (word_at story (object_entry table object + place)) else Err Object
 
 abbrev pub link_of : List ℕ → ℕ → Link → Result ℕ TableRead
 link_of story table link =

@@ -1,8 +1,8 @@
 //! Cutting a line into words (Z-Machine Standards Document 1.1, section 13.6).
 
-ghost use Rattle.std.specs.Prelude.{◌≡◌, ◌==◌, ◌+◌, ◌<◌, ◌≤◌, ℕ, false, [], ◌∷◌, drop, length, slice_index, slice_range};
-ghost use Rattle.zcore.specs.Cutting.{divides, is_among, IsCut, words_from, words_of};
-ghost use Rattle.tables.specs.Placed.{words_left};
+ghost use Rattle.std.specs.Prelude.{◌≡◌, ◌==◌, ◌+◌, ◌<◌, ◌≤◌, false, ◌∷◌, length, slice_index};
+ghost use Rattle.zcore.specs.Cutting.{divides, is_among, IsCut, words_of};
+ghost use Rattle.tables.specs.Placed.{words_at, words_left, word_between};
 
 use crate::words::{Word, Words};
 
@@ -25,7 +25,8 @@ fn word_start(line: &[u8], from: usize) -> usize
     ensures from { from ≤ result }
     ensures within { result ≤ length line.now }
     ensures no_space { result < length line.now → (slice_index line.now result == 32) ≡ false }
-    ensures same { (separators : _) → words_from separators from [] (drop from line.now) ≡ words_from separators result [] (drop result line.now) }
+    ensures same { (separators : _) → words_at separators line.now from
+        ≡ words_at separators line.now result }
 {
     for i in from..line.len() {
         if line[i] != b' ' {
@@ -41,7 +42,8 @@ fn word_end(line: &[u8], separators: &[u8], start: usize) -> usize
     requires no_space { (slice_index line.now start == 32) ≡ false }
     ensures after { start < result }
     ensures within { result ≤ length line.now }
-    ensures word { words_from separators.now start [] (drop start line.now) ≡ record { place = start; bytes = slice_range line.now start result } ∷ words_from separators.now result [] (drop result line.now) }
+    ensures word { words_at separators.now line.now start
+        ≡ word_between line.now start result ∷ words_at separators.now line.now result }
 {
     if separators.contains(&line[start]) {
         return start + 1;

@@ -1,11 +1,10 @@
 //! The dictionary of a story: written, and searched (Z-Machine Standards Document 1.1, section 13).
 
-ghost use Rattle.std.specs.Prelude.{◌≡◌, ◌+◌, ◌*◌, ◌<◌, ◌≤◌, ◌++◌, ℕ, length, map, OnOk, IfOk, IfErr, MatchOption};
+ghost use Rattle.std.specs.Prelude.{◌≡◌, ◌+◌, ◌*◌, ◌<◌, ◌≤◌, ◌++◌, length, map, OnOk, IfOk, IfErr, MatchOption};
 ghost use Rattle.std.specs.List.Sorted.{IsStrictlyIncreasing};
 ghost use Rattle.zcore.specs.Header.{key_at, static_end, AreAscending, IsDictionary};
-ghost use Rattle.zcore.specs.Text.{Holds};
 ghost use Rattle.zcore.specs.Dictionary.{number_of_key};
-ghost use Rattle.tables.specs.Dictionary.{head_bytes, entry_bytes, dictionary_bytes, Finds, ReadsKeys, RefusesKeys};
+ghost use Rattle.tables.specs.Dictionary.{head_bytes, entry_bytes, dictionary_bytes, Finds, AreReadFrom, RefusesKeys};
 ghost use Rattle.tables.specs.Searched.{AreEntriesAt, AreWhole, IsFoundIn};
 ghost use Rattle.tables.specs.declared.fault.TableFault.TheVariants.{Memory};
 
@@ -40,7 +39,7 @@ const MOST_ENTRIES: usize = (65_536 - HEAD_LENGTH) / ENTRY_LENGTH;
 pub fn write_dictionary(alloc: Global, keys: &[[u8; 6]]) -> Result<Vec<u8>, TableFault>
     requires { IsStrictlyIncreasing (map number_of_key keys.now) }
     ensures bytes { IfOk result (λ v. v.items ≡ dictionary_bytes keys.now) }
-    ensures read { IfOk result (λ v. (story : _) (at : ℕ) → Holds story at v.items → at + length v.items ≤ static_end story → ReadsKeys story at (map number_of_key keys.now)) }
+    ensures read { IfOk result (λ v. AreReadFrom v.items (map number_of_key keys.now)) }
     ensures fits { IfOk result (λ v. length v.items ≤ 65536) }
     ensures refused { IfErr result (RefusesKeys (length keys.now)) }
 {
@@ -89,7 +88,8 @@ struct Entries {
 /// The address of the entry that has the key, or 0 where none has it. It asks nothing of the story: where there is no
 /// dictionary that can be searched at the address, it answers some number.
 pub fn lookup(story: &[u8], dictionary: u16, key: &[u8; 6]) -> u16
-    ensures { IsDictionary story.now dictionary → Finds story.now dictionary (number_of_key key.now) result }
+    ensures { IsDictionary story.now dictionary
+        → Finds story.now dictionary (number_of_key key.now) result }
 {
     match entries_at(story, dictionary) {
         Some(entries) => find(story, entries, BigEndian::read_u48(key)),
@@ -106,7 +106,8 @@ fn end_of_static(story: &[u8]) -> usize
 
 /// The entries of the dictionary at an address, where they are whole and long enough for a key.
 fn entries_at(story: &[u8], dictionary: u16) -> Option<Entries>
-    ensures { MatchOption result (¬ IsDictionary story.now dictionary) (AreEntriesAt story.now dictionary) }
+    ensures { MatchOption result (¬ IsDictionary story.now dictionary)
+        (AreEntriesAt story.now dictionary) }
 {
     let end = end_of_static(story);
     let start = usize::from(dictionary);
@@ -133,7 +134,8 @@ fn entries_at(story: &[u8], dictionary: u16) -> Option<Entries>
 /// The address of the entry that has the key, or 0: a search by halving, which asks that keys ascend.
 fn find(story: &[u8], entries: Entries, key: u64) -> u16
     requires { AreWhole story.now entries }
-    ensures { AreAscending story.now entries.first entries.bytes entries.count → IsFoundIn story.now entries key result }
+    ensures { AreAscending story.now entries.first entries.bytes entries.count
+        → IsFoundIn story.now entries key result }
 {
     let mut low = 0;
     let mut high = entries.count;

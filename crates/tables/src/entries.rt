@@ -1,11 +1,10 @@
 //! The entries of an object table (Z-Machine Standards Document 1.1, section 12.3).
 
-ghost use Rattle.std.specs.Prelude.{◌≡◌, ◌<◌, ◌≤◌, ◌+◌, ℕ, length, if◌then◌else◌, Ok, Err};
+ghost use Rattle.std.specs.Prelude.{◌≡◌, ◌<◌, ◌≤◌, ◌+◌, ℕ, length};
 ghost use Rattle.zcore.specs.Bytes.{word_at};
 ghost use Rattle.zcore.specs.Entries.{Parent, Sibling, Child, object_entry, has_entry, place_of, properties_place, attribute_place, is_set};
 ghost use Rattle.tables.specs.Links.{as_link};
-ghost use Rattle.tables.specs.Objects.{link_of, attribute_of};
-ghost use Rattle.tables.specs.declared.fault.TableRead.TheVariants.{Object};
+ghost use Rattle.tables.specs.Objects.{word_of_entry, link_of, attribute_of};
 
 use crate::fault::TableRead;
 use crate::link::Link;
@@ -101,7 +100,7 @@ pub(crate) fn read_word(story: &[u8], at: usize) -> u16
 /// The word at a place of an object's entry.
 fn entry_word(story: &[u8], table: u16, object: u16, place: usize) -> Result<u16, TableRead>
     requires { place + 1 < 14 }
-    ensures { result ≡ (if has_entry table (length story.now) object then Ok (word_at story.now (object_entry table object + place)) else Err Object) }
+    ensures { result ≡ word_of_entry story.now table object place }
 {
     if !is_object(story, table, object) {
         return Err(TableRead::Object);

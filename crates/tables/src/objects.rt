@@ -43,7 +43,8 @@ pub fn write_objects(
     ensures bytes { IfOk result (λ v. v.items ≡ written.objects_bytes rows.now defaults.now at) }
     ensures fits { IfOk result (λ v. at + objects_length rows.now ≤ 65536) }
     ensures names { IfOk result (λ v. All HasShortName rows.now) }
-    ensures read { IfOk result (λ v. (story : List ℕ) → Holds story at v.items → ReadsRows story at rows.now defaults.now) }
+    ensures read { IfOk result (λ v. (story : List ℕ) → Holds story at v.items
+        → ReadsRows story at rows.now defaults.now) }
     ensures refused { IfErr result (RefusesRows rows.now at) }
 {
     if rows.len() > MOST_OBJECTS {
@@ -70,7 +71,8 @@ pub fn write_objects(
 
 /// Adds an entry, whose property table stands at an address.
 fn put_entry(bytes: &mut Vec<u8>, row: &ObjectRow, table: u16) -> Result<(), AllocError>
-    ensures put { OnOk result (bytes.new.items ≡ bytes.old.items ++ written.entry_bytes row.now table) }
+    ensures put { OnOk result (bytes.new.items ≡ bytes.old.items
+        ++ written.entry_bytes row.now table) }
     ensures attributes { OnOk result (length row.now.attributes ≡ 6) }
 {
     bytes.extend_from_slice(&row.attributes)?;

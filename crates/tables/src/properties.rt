@@ -131,8 +131,11 @@ pub fn property<'a>(
     object: u16,
     number: u8,
 ) -> Result<Option<&'a [u8]>, TableRead>
-    ensures found { IfOk result (λ found. MatchOption found (property_of story.now table object number ≡ Ok None) (λ bytes. property_of story.now table object number ≡ Ok (Some bytes.now))) }
-    ensures refused { IfErr result (λ cause. property_of story.now table object number ≡ Err cause) }
+    ensures found { IfOk result (λ found. MatchOption found
+        (property_of story.now table object number ≡ Ok None)
+        (λ bytes. property_of story.now table object number ≡ Ok (Some bytes.now))) }
+    ensures refused { IfErr result
+        (λ cause. property_of story.now table object number ≡ Err cause) }
 {
     let start = list_start(story, table, object)?;
     match search_list(story, number, start) {

@@ -1,9 +1,9 @@
 -- Texts that use abbreviations (Z-Machine Standards Document 1.1, section 3.3).
-use Rattle.std.specs.Prelude.{◌≡◌, ◌+◌, ◌-◌, ◌/◌, ◌%◌, ◌==◌, ◌<◌, ℕ, zero, suc, nat_lt, Bool, true, false, List, []}
-use Rattle.std.specs.Prelude.{if◌then◌else◌, ◌∷◌, ◌++◌, length, take, Option, Some, None, Ok}
+use Rattle.std.specs.Prelude.{◌≡◌, ◌+◌, ◌-◌, ◌/◌, ◌%◌, ◌^◌, ◌==◌, ◌<◌, ℕ, zero, suc, nat_lt, Bool, true, false, List}
+use Rattle.std.specs.Prelude.{[], if◌then◌else◌, ◌∷◌, ◌++◌, length, take, Option, Some, None, Ok}
 use Rattle.zcore.specs.Alphabets.{spelling_of}
 use Rattle.zcore.specs.Words.{packed, padded}
-use Rattle.zcore.specs.Text.{abbreviation}
+use Rattle.zcore.specs.Text.{abbreviation, decoded, Holds}
 
 -- how many abbreviations a story has at most
 abbrev pub most_abbreviations : ℕ
@@ -43,9 +43,13 @@ abbrev pub longest : List (List ℕ) → List ℕ → Option Found
 longest abbreviations text = longest_from 0 (take most_abbreviations abbreviations) text
 
 -- an abbreviation is spelled by two Z-characters, 1 to 3 for its row of 32, and its place there
+abbrev pub number_spelling : ℕ → List ℕ
+number_spelling number = (1 + number / 32) ∷ (number % 32) ∷ []
+
+-- the Z-characters of what is found, or else of the character
 abbrev pub spelling_or : Option Found → ℕ → List ℕ
 spelling_or None c = spelling_of c
-spelling_or (Some x) c = (1 + x.number / 32) ∷ (x.number % 32) ∷ []
+spelling_or (Some x) c = number_spelling x.number
 
 -- the characters behind the first one that what is found stands for
 abbrev pub more_of : Option Found → ℕ
@@ -68,3 +72,8 @@ encoded_with abbreviations text = packed (padded (spelled_behind abbreviations 0
 abbrev pub HasAbbreviations : List ℕ → List (List ℕ) → Type 0
 HasAbbreviations story abbreviations = (number : ℕ) → number < length abbreviations → number < most_abbreviations
     → abbreviation story number ≡ Ok (abbreviation_at abbreviations number)
+
+-- bytes are Z-text of these characters: a story with the abbreviations that holds them has the characters there
+abbrev pub IsReadWith : List (List ℕ) → List ℕ → List ℕ → Type 0
+IsReadWith abbreviations bytes text = (story : List ℕ) (at : ℕ) → HasAbbreviations story abbreviations
+    → Holds story at bytes → at + length bytes < 2 ^ 32 → decoded story at ≡ Ok (text, at + length bytes)

@@ -1,6 +1,7 @@
 -- Words for the contracts of the functions within the crate.
 use Rattle.std.specs.Prelude.{◌≡◌, ◌+◌, ◌*◌, ◌/◌, ◌%◌, ◌<◌, ℕ, zero, suc, min, Bool, true, false, List, [], ◌∷◌, ◌++◌}
 use Rattle.std.specs.Prelude.{length, take, replicate, slice_index, if◌then◌else◌, Option, Some, None, Result, Ok, Err}
+use Rattle.std.specs.Prelude.{MatchResult}
 use Rattle.zcore.specs.declared.abbreviations.Found as declared_found
 use Rattle.zcore.specs.declared.fault.TextFault.{TextFault}
 use Rattle.zcore.specs.declared.fault.TextFault.TheVariants as faults
@@ -12,7 +13,7 @@ use Rattle.zcore.specs.Results.{◌>>=◌}
 use Rattle.zcore.specs.Reading.{Cause, Character, State, Lower, Upper, Punctuation, EscapeHigh, EscapeLow}
 use Rattle.zcore.specs.Reading.{Abbreviated}
 use Rattle.zcore.specs.Words.{three_of}
-use Rattle.zcore.specs.Text.{refused, abbreviation}
+use Rattle.zcore.specs.Text.{refused, abbreviation, has_abbreviations, abbreviation_address}
 use Rattle.zcore.specs.Abbreviations.{Found, begins}
 
 -- Z-characters are of five bits
@@ -51,6 +52,12 @@ Prints expand read (Ok (outputs.Character c)) = read ≡ Ok (c ∷ [])
 Prints expand read (Ok (outputs.Abbreviation number)) = (read ≡ expand number) × (number < 96)
 Prints expand read (Err faults.Character) = read ≡ Err Character
 Prints expand read (Err _) = ⊥
+
+-- the address of an abbreviation's text, or the fault of a story that has no table
+abbrev pub FindsAbbreviation : List ℕ → ℕ → Result ℕ TextFault → Type 0
+FindsAbbreviation story number result = MatchResult result
+    (λ place. (has_abbreviations story ≡ true) × (place ≡ abbreviation_address story number))
+    (λ fault. (fault ≡ faults.Abbreviation) × (has_abbreviations story ≡ false))
 
 -- the texts of abbreviations, of which the text of an abbreviation has none
 abbrev pub expansion : Bool → List ℕ → ℕ → Result (List ℕ) Cause

@@ -1,11 +1,10 @@
 //! Texts that use abbreviations.
 
-ghost use Rattle.std.specs.Prelude.{◌≡◌, ◌<◌, ◌+◌, ◌-◌, ◌/◌, ◌%◌, ◌^◌, ◌++◌, [], ◌∷◌, IfOk, OnOk, length, map, ℕ, List, Ok, Some};
+ghost use Rattle.std.specs.Prelude.{◌≡◌, ◌<◌, ◌++◌, [], ◌∷◌, IfOk, OnOk, length, map, ℕ, List};
 ghost use Rattle.std.specs.List.{All};
 ghost use Rattle.zcore.specs.Abbreviations as spec;
-ghost use Rattle.zcore.specs.Abbreviations.{HasAbbreviations};
+ghost use Rattle.zcore.specs.Abbreviations.{IsReadWith};
 ghost use Rattle.zcore.specs.Faults.{EncodesWith};
-ghost use Rattle.zcore.specs.Text.{Holds, decoded};
 ghost use Rattle.zcore.specs.TextParts.{found_of, at_front};
 
 use crate::alphabets::{are_printable, put_spelled};
@@ -15,8 +14,8 @@ use std::alloc::{AllocError, Global};
 use std::convert::AsSlice;
 use std::marker::Model;
 
-/// How many abbreviations a story has at most.
-const MOST_ABBREVIATIONS: usize = 96;
+/// The most abbreviations of a story (Standards document 1.1, section 3.3).
+pub const MOST_ABBREVIATIONS: usize = 96;
 
 /// An abbreviation that stands at the beginning of a text.
 #[derive(Clone, Copy)]
@@ -66,7 +65,8 @@ fn longest<T: AsSlice<u8>>(abbreviations: &[T], text: &[u8]) -> Option<Found>
 
 /// Adds the two Z-characters of an abbreviation.
 fn put_abbreviation(characters: &mut Vec<u8>, found: Found) -> Result<(), AllocError>
-    ensures { OnOk result (characters.new.items ≡ characters.old.items ++ (1 + found.number / 32) ∷ (found.number % 32) ∷ []) }
+    ensures { OnOk result (characters.new.items ≡ characters.old.items
+        ++ spec.number_spelling found.number) }
 {
     characters.push(1 + found.number / 32)?;
     characters.push(found.number % 32)?;
@@ -76,7 +76,8 @@ fn put_abbreviation(characters: &mut Vec<u8>, found: Found) -> Result<(), AllocE
 /// Adds the Z-characters of what was found at a character, or else of the character, and answers how many characters
 /// behind it they spell too.
 fn put_found(characters: &mut Vec<u8>, found: Option<Found>, c: u8) -> Result<usize, AllocError>
-    ensures spelled { OnOk result (characters.new.items ≡ characters.old.items ++ spec.spelling_or (found_of found) c) }
+    ensures spelled { OnOk result (characters.new.items ≡ characters.old.items
+        ++ spec.spelling_or (found_of found) c) }
     ensures more { IfOk result (λ n. n ≡ spec.more_of (found_of found)) }
 {
     match found {
@@ -97,7 +98,8 @@ fn shortened<T: AsSlice<u8>>(
     abbreviations: &[T],
     text: &[u8],
 ) -> Result<Vec<u8>, AllocError>
-    ensures { IfOk result (λ v. v.items ≡ spec.spelled_behind (map T.items abbreviations.now) 0 text.now) }
+    ensures { IfOk result (λ v. v.items
+        ≡ spec.spelled_behind (map T.items abbreviations.now) 0 text.now) }
 {
     let mut characters = Vec::new(alloc);
     // how many characters from here on are spelled already
@@ -146,7 +148,8 @@ pub fn encode_with(
 ) -> Result<Vec<u8>, TextFault>
     requires { All (λ a. 0 < length a.now) abbreviations.now }
     ensures encodes { EncodesWith (map (λ a. a.now) abbreviations.now) text.now result }
-    ensures again { IfOk result (λ v. (story : List ℕ) (at : ℕ) → HasAbbreviations story (map (λ a. a.now) abbreviations.now) → Holds story at v.items → at + length v.items < 2 ^ 32 → decoded story at ≡ Ok (text.now, at + length v.items)) }
+    ensures again { IfOk result (λ v.
+        IsReadWith (map (λ a. a.now) abbreviations.now) v.items text.now) }
 {
     z_text(alloc, abbreviations, text)
 }

@@ -53,7 +53,8 @@ fn place_in(letters: &[u8], c: u8) -> Option<usize>
 
 /// How a character in neither alphabet of letters, no space and no new line, is spelled.
 fn sign_spelling(c: u8) -> ZCharacters
-    ensures { take result.length result.characters ≡ spec.spelling_in_punctuation (spec.place_in spec.punctuation c) c }
+    ensures { take result.length result.characters
+        ≡ spec.spelling_in_punctuation (spec.place_in spec.punctuation c) c }
 {
     match place_in(&PUNCTUATION, c) {
         Some(place) => ZCharacters {

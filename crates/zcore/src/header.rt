@@ -68,7 +68,7 @@ impl Version {
     /// The version of a story.
     fn of_story(story: &[u8]) -> Option<Version>
         requires { HasHeader story.now }
-        ensures { MatchOption result (¬ IsKnownVersion story.now) (λ version. IsOfVersion story.now version) }
+        ensures { MatchOption result (¬ IsKnownVersion story.now) (IsOfVersion story.now) }
     {
         match story[0] {
             5 => Some(Version::V5),

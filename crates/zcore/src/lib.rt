@@ -15,7 +15,7 @@ mod reading;
 mod text;
 mod words;
 
-pub use abbreviations::{Abbreviations, encode_with};
+pub use abbreviations::{Abbreviations, MOST_ABBREVIATIONS, encode_with};
 pub use alphabets::spelling_length;
 pub use fault::TextFault;
 pub use header::{Dictionary, Header, HeaderFault, Version};

@@ -1,11 +1,10 @@
 //! Texts in Z-characters: written, read, and as keys of the dictionary.
 
-ghost use Rattle.std.specs.Prelude.{◌≡◌, ◌<◌, ◌≤◌, ◌+◌, ◌^◌, ◌++◌, ℕ, List, true, Ok, IfOk, IfErr, length};
+ghost use Rattle.std.specs.Prelude.{◌≡◌, ◌<◌, ◌≤◌, ◌^◌, ◌++◌, ℕ, List, true, IfOk, IfErr, length};
 ghost use Rattle.std.specs.List.{list_all};
 ghost use Rattle.zcore.specs.Alphabets.{spelling_of, is_printable};
 ghost use Rattle.zcore.specs.Words as words;
 ghost use Rattle.zcore.specs.Text as spec;
-ghost use Rattle.zcore.specs.Text.{Holds};
 ghost use Rattle.zcore.specs.Faults.{Gives, Encodes, HasFault};
 ghost use Rattle.zcore.specs.Fronts.{front_of};
 ghost use Rattle.zcore.specs.TextParts.{AreSmall, IsFilled};
@@ -27,7 +26,7 @@ use std::alloc::Global;
 /// `Z9` where a growth of memory was refused. No other fault is answered.
 pub fn encode_text(alloc: Global, text: &[u8]) -> Result<Vec<u8>, TextFault>
     ensures encodes { Encodes text.now result }
-    ensures again { IfOk result (λ v. (story : List ℕ) (at : ℕ) → Holds story at v.items → at + length v.items < 2 ^ 32 → spec.decoded story at ≡ Ok (text.now, at + length v.items)) }
+    ensures again { IfOk result (λ v. spec.IsReadAs v.items text.now) }
 {
     if !are_printable(text) {
         return Err(TextFault::Character);
@@ -69,10 +68,12 @@ pub fn decode_front(
     at: u32,
     most: usize,
 ) -> Result<(Vec<u8>, u32), TextFault>
-    ensures text { Gives (λ x. (x.0.items, x.1)) result (front_of most (spec.decoded story.now at)) }
+    ensures text { Gives (λ x. (x.0.items, x.1)) result
+        (front_of most (spec.decoded story.now at)) }
     ensures cause { IfErr result (HasFault story.now at) }
     ensures room { IfOk result (λ x. length x.0.items < 2 ^ 63) }
-    ensures printable { (x : List ℕ × ℕ) → spec.decoded story.now at ≡ Ok x → list_all is_printable x.0 ≡ true }
+    ensures printable { (x : List ℕ × ℕ) → spec.decoded story.now at ≡ Ok x
+        → list_all is_printable x.0 ≡ true }
 {
     let mut text = Vec::new(alloc);
     let after = put_text(&mut text, story, at, false, most)?;
@@ -89,7 +90,8 @@ fn lower_case(c: u8) -> u8
 /// has then.
 fn put_spelling(key: &mut [u8; 9], count: usize, c: u8) -> usize
     requires { count ≤ 9 }
-    ensures { (zs : List ℕ) → IsFilled zs count key.old → IsFilled (zs ++ spelling_of c) result key.new }
+    ensures { (zs : List ℕ) → IsFilled zs count key.old
+        → IsFilled (zs ++ spelling_of c) result key.new }
 {
     let mut filled = count;
     for z in spelling(c).as_slice() {

@@ -26,7 +26,8 @@ fn put_word(bytes: &mut Vec<u8>, more: &[u8], a: u8, b: u8, c: u8) -> Result<(),
     requires first { a < 32 }
     requires second { b < 32 }
     requires third { c < 32 }
-    ensures { OnOk result (bytes.new.items ≡ bytes.old.items ++ spec.word_of (spec.mark more.now) a b c) }
+    ensures { OnOk result (bytes.new.items ≡ bytes.old.items
+        ++ spec.word_of (spec.mark more.now) a b c) }
 {
     let mark = if more.is_empty() { 128 } else { 0 };
     let [high, low] = word_bytes(mark, a, b, c);
@@ -36,7 +37,8 @@ fn put_word(bytes: &mut Vec<u8>, more: &[u8], a: u8, b: u8, c: u8) -> Result<(),
 }
 
 fn take_three(characters: &[u8]) -> Option<(u8, u8, u8, &[u8])>
-    ensures { MatchOption result (length characters.now < 3) (λ x. characters.now ≡ x.0 ∷ x.1 ∷ x.2 ∷ x.3.now) }
+    ensures { MatchOption result (length characters.now < 3)
+        (λ x. characters.now ≡ x.0 ∷ x.1 ∷ x.2 ∷ x.3.now) }
 {
     match characters {
         [a, b, c, more @ ..] => Some((*a, *b, *c, more)),
@@ -77,7 +79,8 @@ pub(crate) fn pad(characters: &mut Vec<u8>) -> Result<(), AllocError>
 /// How many words the Z-text of a text with so many Z-characters has: at least one.
 pub fn words_for(characters: u128) -> u128
     requires { characters < 2 ^ 127 }
-    ensures words { (text : List ℕ) → length (spelled text) ≡ characters → 2 * result ≡ length (encoded text) }
+    ensures words { (text : List ℕ) → length (spelled text) ≡ characters
+        → 2 * result ≡ length (encoded text) }
     ensures few { result ≤ characters + 1 }
 {
     if characters == 0 {
@@ -98,7 +101,8 @@ pub(crate) fn bytes_from(story: &[u8], at: usize) -> &[u8]
 /// the text has 32 bits.
 #[tactic(auto, using(crate::proofs::Packing::words_none, crate::proofs::Packing::words_more, crate::proofs::Packing::words_last, crate::proofs::Packing::words_beyond, crate::proofs::Packing::words_short))]
 pub(crate) fn word_count(bytes: &[u8], at: u32) -> Result<usize, TextFault>
-    ensures words { Gives (λ n. (words_of n bytes.now, at + 2 * n)) result (spec.unpacked_text at bytes.now) }
+    ensures words { Gives (λ n. (words_of n bytes.now, at + 2 * n)) result
+        (spec.unpacked_text at bytes.now) }
     ensures room { IfOk result (λ n. 2 * n ≤ length bytes.now) }
     ensures address { IfOk result (λ n. at + 2 * n < 2 ^ 32) }
 {

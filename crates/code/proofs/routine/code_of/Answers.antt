@@ -2,8 +2,9 @@ use Rattle.std.proofs.Common.{◌≡◌, ℕ, List, ◌+◌, reverse, ap, ◌∙
 use Rattle.forms.specs.declared.layout.Part.{Part}
 use Rattle.forms.specs.Layout.{lefts, uses}
 use Rattle.items.specs.Code.{items_of}
+use Rattle.instructions.specs.Written.{sizes_in}
+use Rattle.instructions.specs.Places.{place_in}
 use Rattle.code.specs.Bytes.{lefts_of, parts_of, code_size}
-use Rattle.code.specs.Written.{place_in, sizes_in}
 use Rattle.code.proofs.Codes.{place_is, last_place}
 use Rattle.code.proofs.routine.code_of.Goals as goal
 

@@ -1,7 +1,7 @@
 use Rattle.std.proofs.Common.{◌≡◌, ◌+◌, ◌++◌, length, drop}
 use Rattle.items.specs.Code.{items_of}
+use Rattle.instructions.specs.Written.{sizes_in}
 use Rattle.code.specs.Bytes.{parts_of}
-use Rattle.code.specs.Written.{sizes_in}
 use Rattle.code.proofs.Codes.{least_sum}
 use Rattle.code.proofs.routine.parts_of.Given as goal
 

@@ -1,7 +1,7 @@
 use Rattle.std.proofs.Common.{◌≡◌, ◌++◌, drop}
 use Rattle.items.specs.Code.{items_of}
+use Rattle.instructions.specs.Written.{addresses_of, sizes_in}
 use Rattle.code.specs.Bytes.{place_of, items_bytes}
-use Rattle.code.specs.Written.{addresses_of, sizes_in}
 use Rattle.code.proofs.routine.put_items.Given as goal
 
 abbrev pub invariant-loop-number : goal.invariant-loop-number

@@ -65,8 +65,8 @@ index_mut-requires g c =
     c.cells.invariant.upto in
     omega (arith, here.0, c.cells.invariant.back.size)
 
-pub exchange-requires : goal.exchange-requires
-exchange-requires g c =
+pub exchange-requires-clause-fits : goal.exchange-requires-clause-fits
+exchange-requires-clause-fits g c =
     let here = place_back c.args.len c.args.pages.now c.pages.slot c.pages.at c.page_size-size.result c.cells.offset
     (omega arith) c.pages.invariant.upto c.pages.invariant.at c.page_size-size.ensures.result (omega arith)
     c.cells.invariant.upto in

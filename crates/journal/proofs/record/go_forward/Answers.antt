@@ -26,8 +26,8 @@ cells-init g c =
       same_fixed = c.pages.invariant.same_fixed;
     }
 
-pub exchange-requires : goal.exchange-requires
-exchange-requires g c =
+pub exchange-requires-clause-fits : goal.exchange-requires-clause-fits
+exchange-requires-clause-fits g c =
     let here = place c.args.len c.args.pages.now c.pages.slot c.pages.at c.page_size-size.result c.cells.offset
     (omega arith) c.pages.invariant.at c.page_size-size.ensures.result (omega arith) in
     let fit = fit_at (length (g.C.Cells.cells c.args.store.now)) (g.C.Cells.bounds c.args.store.now)

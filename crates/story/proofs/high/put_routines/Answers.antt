@@ -1,4 +1,4 @@
-use Rattle.code.specs.Written.{addresses_of}
+use Rattle.instructions.specs.Written.{addresses_of}
 use Rattle.story.proofs.Joined.{routine_joined}
 use Rattle.story.proofs.high.put_routines.Goals as goal
 

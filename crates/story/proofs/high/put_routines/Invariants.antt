@@ -1,6 +1,6 @@
 use Rattle.std.proofs.Common.{◌≡◌, ◌+◌, ◌++◌, ℕ, List, length, map, drop}
 use Rattle.zcore.specs.Header.{scale_of}
-use Rattle.code.specs.Written.{addresses_of}
+use Rattle.instructions.specs.Written.{addresses_of}
 use Rattle.story.specs.Layout.{parts_from}
 use Rattle.story.specs.Written.{code_part}
 use Rattle.story.proofs.high.put_routines.Given as goal

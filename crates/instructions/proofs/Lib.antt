@@ -1,0 +1,5 @@
+pub mod Chains
+pub mod Givens
+pub mod Naming
+pub mod Printable
+pub mod Types

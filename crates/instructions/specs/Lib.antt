@@ -1,0 +1,5 @@
+pub mod Addresses
+pub mod Instructions
+pub mod Bytes
+pub mod Places
+pub mod Written

@@ -1,0 +1,2 @@
+pub mod ItemParts
+pub mod ObjectTests

@@ -1,0 +1,3 @@
+pub mod ItemCode
+pub mod ItemBytes
+pub mod Written
