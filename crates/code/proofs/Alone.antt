@@ -11,8 +11,8 @@ use Rattle.zcore.specs.Parts.{operand_value, operand_values}
 use Rattle.zcore.specs.Execution.{give_result, perform}
 use Rattle.meaning.specs.World.{Situation, value_in}
 use Rattle.meaning.specs.Meaning.{routine_at}
-use Rattle.items.specs.Items.{Item, Destination}
-use Rattle.items.specs.Items as items
+use Rattle.values.specs.Items.{Item, Destination}
+use Rattle.values.specs.Items as items
 use Rattle.items.specs.Laws.{IsOperand, IsDestination}
 use Rattle.items.specs.Stack as stack
 use Rattle.instructions.specs.Instructions.{giving, in_place, result_in}

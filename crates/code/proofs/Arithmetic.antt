@@ -15,8 +15,8 @@ use Rattle.zcore.specs.Execution.{give_result, perform}
 use Rattle.expressions.specs.declared.tree.Prefix.{Prefix}
 use Rattle.expressions.specs.declared.tree.Prefix.TheVariants as prefixes
 use Rattle.meaning.specs.Meaning.{with_prefix}
-use Rattle.items.specs.Items.{Item, Destination}
-use Rattle.items.specs.Items as items
+use Rattle.values.specs.Items.{Item, Destination}
+use Rattle.values.specs.Items as items
 use Rattle.items.specs.Stack as stack
 use Rattle.instructions.specs.Instructions.{giving, in_place, result_in, operands, takes}
 use Rattle.selection.specs.ItemBytes.{text_bytes}

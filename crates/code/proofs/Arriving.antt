@@ -14,7 +14,7 @@ use Rattle.meaning.specs.Resolved.{RoutineOf, ProgramOf}
 use Rattle.meaning.specs.World.{World, Situation}
 use Rattle.meaning.specs.Meaning.{no_routine, routine_at}
 use Rattle.meaning.specs.Accepted.{IsAccepted}
-use Rattle.items.specs.Items.{Item}
+use Rattle.values.specs.Items.{Item}
 use Rattle.items.specs.Stack.{Caller}
 use Rattle.items.specs.Stack as stack
 use Rattle.code.proofs.Behind.{Holds}

@@ -17,8 +17,8 @@ use Rattle.meaning.specs.Objects.{Objects, with_words}
 use Rattle.meaning.specs.World.{Situation, Part, bound, ◌>>=◌, to, test_provided, test_word, test_single}
 use Rattle.meaning.specs.World.{write_words, with_objects}
 use Rattle.meaning.specs.World as source
-use Rattle.items.specs.Items.{Destination}
-use Rattle.items.specs.Items as items
+use Rattle.values.specs.Items.{Destination}
+use Rattle.values.specs.Items as items
 use Rattle.items.specs.Stack as stack
 use Rattle.region.specs.Region.{tables_base}
 use Rattle.region.specs.Tables.{Table, words_place}

@@ -12,7 +12,7 @@ use Rattle.zcore.specs.Parts.{operand_value}
 use Rattle.zcore.specs.State.{State, done}
 use Rattle.zcore.specs.Execution.{perform}
 use Rattle.meaning.specs.declared.cause.Cause.{Cause}
-use Rattle.items.specs.Items as items
+use Rattle.values.specs.Items as items
 use Rattle.region.specs.Tables.{Table}
 use Rattle.instructions.specs.Addresses.{fault_address}
 use Rattle.instructions.specs.Instructions.{branching, fail, constant, is_between, tested_between, word_in, number_of}

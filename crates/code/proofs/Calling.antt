@@ -15,8 +15,8 @@ use Rattle.zcore.specs.State.{State}
 use Rattle.zcore.specs.Execution.{step, perform, call_packed}
 use Rattle.meaning.specs.Resolved.{ProgramOf}
 use Rattle.meaning.specs.World.{World}
-use Rattle.items.specs.Items.{Item, Destination}
-use Rattle.items.specs.Items as items
+use Rattle.values.specs.Items.{Item, Destination}
+use Rattle.values.specs.Items as items
 use Rattle.items.specs.Stack.{Caller}
 use Rattle.items.specs.Stack as stack
 use Rattle.instructions.specs.Addresses.{Addresses}

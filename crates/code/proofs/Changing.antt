@@ -10,8 +10,8 @@ use Rattle.zcore.specs.Execution.{perform, push_word}
 use Rattle.meaning.specs.declared.resolved.Variable.TheVariants as variables
 use Rattle.meaning.specs.Objects.{Objects}
 use Rattle.meaning.specs.World.{Situation, with_value, with_objects}
-use Rattle.items.specs.Items.{Destination}
-use Rattle.items.specs.Items as items
+use Rattle.values.specs.Items.{Destination}
+use Rattle.values.specs.Items as items
 use Rattle.items.specs.Stack as stack
 use Rattle.region.specs.Region.{HasObjects, KeepsRest}
 use Rattle.region.specs.Tables.{Table}

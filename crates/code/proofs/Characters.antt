@@ -19,7 +19,7 @@ use Rattle.instructions.specs.Addresses.{fault_address}
 use Rattle.meaning.specs.World.{put, value_in}
 use Rattle.meaning.specs.World as source
 use Rattle.meaning.specs.Meaning.{is_character, put_character}
-use Rattle.items.specs.Items as items
+use Rattle.values.specs.Items as items
 use Rattle.items.specs.Stack as stack
 use Rattle.instructions.specs.Instructions.{plain, branching, number_of, pull, fail, in_place, tested_character}
 use Rattle.code.proofs.Behind.{Holds, holds_append}

@@ -13,8 +13,8 @@ use Rattle.zcore.specs.Instruction.{bytes_of, FitsOperand}
 use Rattle.zcore.specs.State.{State, done}
 use Rattle.zcore.specs.Parts.{operand_values}
 use Rattle.zcore.specs.Execution.{perform}
-use Rattle.items.specs.Items.{Item, Test}
-use Rattle.items.specs.Items as items
+use Rattle.values.specs.Items.{Item, Test}
+use Rattle.values.specs.Items as items
 use Rattle.items.specs.Laws.{IsTested}
 use Rattle.items.specs.Stack as stack
 use Rattle.instructions.specs.Instructions.{chosen_variable, most_compared, in_place, pull, store, constant, labelled}

@@ -10,10 +10,10 @@ use Rattle.forms.specs.declared.layout.Form.TheVariants as form
 use Rattle.forms.specs.declared.layout.Part.{Part}
 use Rattle.forms.specs.declared.layout.BranchUse.{BranchUse}
 use Rattle.forms.specs.Layout.{first, size_with, form_for, offset_over, part_size, lefts, uses}
-use Rattle.items.specs.declared.item.Item as code
-use Rattle.items.specs.Items.{Item}
-use Rattle.items.specs.Items as items
-use Rattle.items.specs.Code.{item_of, items_of}
+use Rattle.values.specs.declared.item.Item as code
+use Rattle.values.specs.Items.{Item}
+use Rattle.values.specs.Items as items
+use Rattle.values.specs.Code.{item_of, items_of}
 use Rattle.instructions.specs.Addresses.{Addresses, Sizes}
 use Rattle.selection.specs.ItemBytes.{item_bytes}
 use Rattle.instructions.specs.Places.{target_of, label_size, offset_of, place_in}

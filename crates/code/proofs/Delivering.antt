@@ -7,8 +7,8 @@ use Rattle.meaning.specs.declared.resolved.Variable.{Variable}
 use Rattle.meaning.specs.declared.resolved.Variable.TheVariants as variables
 use Rattle.meaning.specs.World.{with_value}
 use Rattle.meaning.specs.Meaning.{routine_at}
-use Rattle.items.specs.Items.{Item, Destination}
-use Rattle.items.specs.Items as items
+use Rattle.values.specs.Items.{Item, Destination}
+use Rattle.values.specs.Items as items
 use Rattle.items.specs.Laws.{IsDestination}
 use Rattle.items.specs.Stack as stack
 use Rattle.instructions.specs.Instructions.{number_of, result_in}

@@ -14,8 +14,8 @@ use Rattle.zcore.specs.State.{State, done}
 use Rattle.zcore.specs.Execution.{perform}
 use Rattle.meaning.specs.declared.resolved.Variable as resolved
 use Rattle.meaning.specs.World.{value_in, with_value, write_variable, give, ◌>>=◌}
-use Rattle.items.specs.Items.{agrees}
-use Rattle.items.specs.Items as items
+use Rattle.values.specs.Items.{agrees}
+use Rattle.values.specs.Items as items
 use Rattle.items.specs.Stack as stack
 use Rattle.instructions.specs.Instructions.{branching, number_of, store, jump_offset, is_between}
 use Rattle.selection.specs.ItemCode.{jump_by}

@@ -19,7 +19,7 @@ use Rattle.meaning.specs.Resolved.{ProgramOf}
 use Rattle.meaning.specs.World.{Situation, ended, spend_from}
 use Rattle.meaning.specs.Meaning.{locals_of, routine_at}
 use Rattle.meaning.specs.Accepted.{IsAccepted}
-use Rattle.items.specs.Items.{routine_items}
+use Rattle.items.specs.Statements.{routine_items}
 use Rattle.items.specs.Stack.{Caller}
 use Rattle.items.specs.Stack as stack
 use Rattle.meaning.specs.Objects.{Objects}

@@ -17,7 +17,7 @@ use Rattle.meaning.specs.Objects.{Objects, with_attribute}
 use Rattle.meaning.specs.Meaning.{give_all}
 use Rattle.meaning.specs.World.{Situation, to, with_objects}
 use Rattle.meaning.specs.World as source
-use Rattle.items.specs.Items as items
+use Rattle.values.specs.Items as items
 use Rattle.items.specs.Stack as stack
 use Rattle.region.specs.Laws.{Changes}
 use Rattle.region.specs.Region.{HasObjects}

@@ -16,7 +16,7 @@ use Rattle.zcore.specs.Execution.{perform}
 use Rattle.meaning.specs.declared.cause.Cause.{Cause}
 use Rattle.meaning.specs.declared.cause.Cause.TheVariants as causes
 use Rattle.meaning.specs.World.{value_in}
-use Rattle.items.specs.Items as items
+use Rattle.values.specs.Items as items
 use Rattle.instructions.specs.Addresses.{fault_address}
 use Rattle.instructions.specs.Instructions.{branching, constant, pull, fail, number_of, tested_between, is_between}
 use Rattle.instructions.specs.Instructions.{pulled_into, word_in}

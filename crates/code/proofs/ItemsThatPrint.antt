@@ -21,8 +21,8 @@ use Rattle.zcore.proofs.Holding.{holds_append}
 use Rattle.meaning.specs.declared.cause.Cause.{Cause}
 use Rattle.meaning.specs.World.{World, Situation, Outcome, Comes, to, over, bound, put, shown, words_of}
 use Rattle.meaning.specs.World as source
-use Rattle.items.specs.Items.{Item}
-use Rattle.items.specs.Items as items
+use Rattle.values.specs.Items.{Item}
+use Rattle.values.specs.Items as items
 use Rattle.items.specs.Stack as stack
 use Rattle.instructions.specs.Instructions.{plain, in_place, fail}
 use Rattle.instructions.specs.Bytes.{character_of}

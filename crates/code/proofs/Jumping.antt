@@ -12,8 +12,8 @@ use Rattle.zcore.specs.State.{State, done, halt}
 use Rattle.zcore.specs.Parts.{jump_target, test_target, go, spend}
 use Rattle.zcore.specs.Execution.{step, perform, jump}
 use Rattle.meaning.specs.World.{spend_from}
-use Rattle.items.specs.Items.{Item}
-use Rattle.items.specs.Items as items
+use Rattle.values.specs.Items.{Item}
+use Rattle.values.specs.Items as items
 use Rattle.items.specs.Stack as stack
 use Rattle.instructions.specs.Instructions.{plain, jump_offset}
 use Rattle.code.specs.Bytes.{code_size, place_of}

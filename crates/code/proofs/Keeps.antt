@@ -25,8 +25,9 @@ use Rattle.meaning.specs.Objects.{Climbed, clear, inside, spent, climb, object_a
 use Rattle.meaning.specs.Meaning.{operate, put_character, put_line, is_character, routine_at, truth, is_true, give_all}
 use Rattle.meaning.specs.Places.{number_in}
 use Rattle.meaning.specs.Reading.{holds_letters, holds_words, next_line}
-use Rattle.items.specs.Items.{Item, Operand, Destination, Test, routine_items}
-use Rattle.items.specs.Items as items
+use Rattle.values.specs.Items.{Item, Operand, Destination, Test}
+use Rattle.items.specs.Statements.{routine_items}
+use Rattle.values.specs.Items as items
 use Rattle.items.specs.Stack as stack
 
 -- lines and texts are the same, and the turn has printed no more than it may, if it had not before

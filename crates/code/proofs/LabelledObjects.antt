@@ -19,8 +19,8 @@ use Rattle.expressions.specs.declared.tree.Relative.TheVariants as relatives
 use Rattle.meaning.specs.Accepted.{IsProperty}
 use Rattle.meaning.specs.Objects.{relative_in}
 use Rattle.meaning.specs.World as source
-use Rattle.items.specs.Items.{agrees}
-use Rattle.items.specs.Items as items
+use Rattle.values.specs.Items.{agrees}
+use Rattle.values.specs.Items as items
 use Rattle.items.specs.Stack as stack
 use Rattle.region.specs.Region.{tables_base}
 use Rattle.region.specs.Tables.{words_place}

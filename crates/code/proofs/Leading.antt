@@ -17,8 +17,8 @@ use Rattle.meaning.specs.Resolved.{RoutineOf, ProgramOf}
 use Rattle.meaning.specs.Meaning.{routine_at}
 use Rattle.meaning.specs.Accepted.{IsRoutine, IsAccepted}
 use Rattle.meaning.specs.Printable.{HasPrintableTexts, ArePrintableActions}
-use Rattle.items.specs.Items.{Item, Operand, Destination}
-use Rattle.items.specs.Items as items
+use Rattle.values.specs.Items.{Item, Operand, Destination}
+use Rattle.values.specs.Items as items
 use Rattle.items.specs.Laws.{IsItem, ItemsAreWithin, ItemsFollow}
 use Rattle.items.specs.Stack as stack
 use Rattle.instructions.specs.Addresses.{Addresses}

@@ -20,8 +20,8 @@ use Rattle.expressions.specs.declared.tree.Binary.TheVariants as binaries
 use Rattle.expressions.specs.declared.tree.Width.{Width}
 use Rattle.meaning.specs.Meaning.{is_character}
 use Rattle.meaning.specs.declared.resolved.Variable as source
-use Rattle.items.specs.Items.{Item, Destination, Test}
-use Rattle.items.specs.Items as items
+use Rattle.values.specs.Items.{Item, Destination, Test}
+use Rattle.values.specs.Items as items
 use Rattle.meaning.specs.declared.cause.Cause.{Cause}
 use Rattle.meaning.specs.declared.cause.Cause.TheVariants as causes
 use Rattle.instructions.specs.Addresses.{Addresses, Sizes, fault_address}

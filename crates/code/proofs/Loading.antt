@@ -17,8 +17,8 @@ use Rattle.expressions.specs.declared.tree.Width.TheVariants as widths
 use Rattle.meaning.specs.declared.cause.Cause.TheVariants as causes
 use Rattle.meaning.specs.World.{Comes, to, array_at, entry_count, is_index, entry_at, read_entry}
 use Rattle.meaning.specs.World as source
-use Rattle.items.specs.Items.{Destination}
-use Rattle.items.specs.Items as items
+use Rattle.values.specs.Items.{Destination}
+use Rattle.values.specs.Items as items
 use Rattle.items.specs.Stack as stack
 use Rattle.instructions.specs.Addresses.{fault_address}
 use Rattle.instructions.specs.Instructions.{giving, result_in}

@@ -11,8 +11,8 @@ use Rattle.meaning.specs.declared.resolved.Variable.TheVariants as variables
 use Rattle.meaning.specs.World.{Situation, with_value}
 use Rattle.meaning.specs.Meaning.{routine_at}
 use Rattle.meaning.specs.Accepted.{IsVariable}
-use Rattle.items.specs.Items.{Item, Destination}
-use Rattle.items.specs.Items as items
+use Rattle.values.specs.Items.{Item, Destination}
+use Rattle.values.specs.Items as items
 use Rattle.items.specs.Stack as stack
 use Rattle.instructions.specs.Instructions.{number_of, in_place, result_in, push, pull, copy, store}
 use Rattle.code.proofs.Play.{Leads, Stored}

@@ -13,7 +13,7 @@ use Rattle.meaning.specs.declared.cause.Cause.TheVariants as causes
 use Rattle.meaning.specs.Objects.{Objects, Climbed, clear, inside, spent, climb, moved}
 use Rattle.meaning.specs.World.{Situation, bound, ◌>>=◌, move_by, with_tree}
 use Rattle.meaning.specs.World as source
-use Rattle.items.specs.Items as items
+use Rattle.values.specs.Items as items
 use Rattle.items.specs.Stack as stack
 use Rattle.region.specs.Tables.{Table}
 use Rattle.instructions.specs.Addresses.{fault_address}

@@ -13,7 +13,7 @@ use Rattle.meaning.specs.Forests.{IsObjectNumber}
 use Rattle.meaning.specs.Objects.{ObjectOf, object_at}
 use Rattle.meaning.specs.Places.{machine_character}
 use Rattle.meaning.specs.World.{put, shown}
-use Rattle.items.specs.Items as items
+use Rattle.values.specs.Items as items
 use Rattle.items.specs.Stack as stack
 use Rattle.instructions.specs.Instructions.{plain}
 use Rattle.code.proofs.Parts.{machine as at_words}

@@ -22,8 +22,8 @@ use Rattle.meaning.specs.World.{Part, value_in}
 use Rattle.meaning.specs.World as source
 use Rattle.meaning.specs.Meaning.{with_prefix}
 use Rattle.meaning.specs.Meaning as meaning
-use Rattle.items.specs.Items.{Item, Destination}
-use Rattle.items.specs.Items as items
+use Rattle.values.specs.Items.{Item, Destination}
+use Rattle.values.specs.Items as items
 use Rattle.items.specs.Stack as stack
 use Rattle.instructions.specs.Instructions.{giving, branching, in_place, result_in, number_of, pull, fail, divided_by}
 use Rattle.instructions.specs.Instructions.{divided}

@@ -8,8 +8,8 @@ use Rattle.zcore.specs.Text.{Holds}
 use Rattle.zcore.proofs.Holding.{holds_append}
 use Rattle.forms.specs.declared.layout.Part.{Part}
 use Rattle.forms.specs.Layout.{first, offset_over, part_size, lefts}
-use Rattle.items.specs.Items.{Item}
-use Rattle.items.specs.Items as items
+use Rattle.values.specs.Items.{Item}
+use Rattle.values.specs.Items as items
 use Rattle.instructions.specs.Addresses.{Addresses, Sizes}
 use Rattle.instructions.specs.Instructions.{jump_offset}
 use Rattle.selection.specs.ItemBytes.{item_bytes}

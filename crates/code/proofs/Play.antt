@@ -16,7 +16,8 @@ use Rattle.meaning.specs.Objects.{Objects}
 use Rattle.meaning.specs.Resolved.{ProgramOf}
 use Rattle.meaning.specs.World.{Outcome, World}
 use Rattle.meaning.specs.Meaning.{routine_at}
-use Rattle.items.specs.Items.{Item, routine_items}
+use Rattle.values.specs.Items.{Item}
+use Rattle.items.specs.Statements.{routine_items}
 use Rattle.items.specs.Laws.{IsDestination}
 use Rattle.items.specs.Stack.{Caller}
 use Rattle.items.specs.Stack as stack

@@ -19,16 +19,20 @@ use Rattle.meaning.specs.Resolved as source
 use Rattle.meaning.specs.Meaning.{is_true}
 use Rattle.meaning.specs.Printable.{IsPrintableItem, IsPrintableAction, ArePrintableActions, ArePrintableCases}
 use Rattle.lexer.specs.Printable.{IsPrintable}
-use Rattle.items.specs.Items.{Item, Operand, pushed, number, variable, Destination, push, into, nowhere, operand_of}
-use Rattle.items.specs.Items.{first_of, each_items, relative_items, children_items}
-use Rattle.items.specs.Items.{alone, left_of, if_pushed, is_few, agrees, value_count, operand_count, operands_count}
-use Rattle.items.specs.Items.{branch_count, many_count, moved, truth_items, after_items, kept_items, value_items}
-use Rattle.items.specs.Items.{operands_items, branch_items, many_items, also_items, printed_count, action_count}
-use Rattle.items.specs.Items.{alone_items, printed_items, prints_items, Exits, exits_to, action_items}
-use Rattle.items.specs.Items.{actions_items, return_true, routine_items, once_count, once_items, test_count}
-use Rattle.items.specs.Items.{test_items, Group, groups_of, group_count, group_items, last_items, tests_count}
-use Rattle.items.specs.Items.{tests_items, over_count, over_items, actions_count, cases_count, cases_items}
-use Rattle.items.specs.Items as items
+use Rattle.values.specs.Items.{Item, Operand, pushed, number, variable, Destination, push, into, nowhere, operand_of}
+use Rattle.values.specs.Items.{first_of}
+use Rattle.items.specs.Statements.{each_items, relative_items, children_items}
+use Rattle.values.specs.Items.{alone, left_of, if_pushed, is_few, agrees, value_count, operand_count, operands_count}
+use Rattle.values.specs.Items.{branch_count, many_count, moved, truth_items, after_items, kept_items, value_items}
+use Rattle.values.specs.Items.{operands_items, branch_items, many_items, also_items}
+use Rattle.items.specs.Statements.{printed_count, action_count}
+use Rattle.values.specs.Items.{alone_items}
+use Rattle.items.specs.Statements.{printed_items, prints_items, Exits, exits_to, action_items, actions_items}
+use Rattle.items.specs.Statements.{return_true, routine_items, once_count, once_items, test_count, test_items, Group}
+use Rattle.items.specs.Statements.{groups_of, group_count, group_items, last_items, tests_count, tests_items}
+use Rattle.items.specs.Statements.{over_count, over_items, actions_count, cases_count, cases_items}
+use Rattle.values.specs.Items as items
+use Rattle.items.specs.Statements as statements
 
 -- a text that an item prints has only bytes from 32 to 126
 abbrev pub HasPrintableText : Item → Type 0
@@ -379,12 +383,12 @@ test_fine None at end = nothing
 test_fine (Some v) at end = (value_fine v).branch at false end
 
 group_fine : (g : Group) (at inside : ℕ) → Fine (group_items at g inside)
-group_fine (items.numbers ns) at inside = first _ _ tt nothing
-group_fine (items.range low high) at inside = first _ _ tt (first _ _ tt nothing)
+group_fine (statements.numbers ns) at inside = first _ _ tt nothing
+group_fine (statements.range low high) at inside = first _ _ tt (first _ _ tt nothing)
 
 last_fine : (g : Group) (behind : ℕ) → Fine (last_items g behind)
-last_fine (items.numbers ns) behind = first _ _ tt nothing
-last_fine (items.range low high) behind = first _ _ tt (first _ _ tt nothing)
+last_fine (statements.numbers ns) behind = first _ _ tt nothing
+last_fine (statements.range low high) behind = first _ _ tt (first _ _ tt nothing)
 
 tests_fine : (gs : List Group) (at inside behind : ℕ) → Fine (tests_items at gs inside behind)
 tests_fine [] at inside behind = first _ _ tt nothing

@@ -17,8 +17,8 @@ use Rattle.meaning.specs.declared.cause.Cause.TheVariants as causes
 use Rattle.meaning.specs.Accepted.{IsProperty}
 use Rattle.meaning.specs.World.{Situation, Comes, bound, single_word, size_of, test_single}
 use Rattle.meaning.specs.World as source
-use Rattle.items.specs.Items.{Destination}
-use Rattle.items.specs.Items as items
+use Rattle.values.specs.Items.{Destination}
+use Rattle.values.specs.Items as items
 use Rattle.items.specs.Stack as stack
 use Rattle.region.specs.Region.{tables_base}
 use Rattle.region.specs.Tables.{Table, words_place}

@@ -12,8 +12,8 @@ use Rattle.meaning.specs.declared.cause.Cause.TheVariants as causes
 use Rattle.meaning.specs.Accepted.{IsProperty}
 use Rattle.meaning.specs.World.{Situation, Part, bound, ◌>>=◌, test_provided, test_word}
 use Rattle.meaning.specs.World as source
-use Rattle.items.specs.Items.{Destination}
-use Rattle.items.specs.Items as items
+use Rattle.values.specs.Items.{Destination}
+use Rattle.values.specs.Items as items
 use Rattle.items.specs.Stack as stack
 use Rattle.region.specs.Tables.{Table, words_place}
 use Rattle.region.specs.Region.{tables_base}

@@ -27,7 +27,7 @@ use Rattle.meaning.specs.Places.{number_in}
 use Rattle.meaning.specs.Reading.{holds_letters, holds_words, next_line, read_next, with_line}
 use Rattle.meaning.specs.World.{World, Situation, Outcome, Comes, to, over, Part, bound, array_at, is_index, with_entry}
 use Rattle.meaning.specs.World as source
-use Rattle.items.specs.Items as items
+use Rattle.values.specs.Items as items
 use Rattle.items.specs.Stack as stack
 use Rattle.instructions.specs.Addresses.{fault_address}
 use Rattle.instructions.specs.Instructions.{plain, giving, fail}

@@ -21,8 +21,8 @@ use Rattle.expressions.specs.declared.tree.Relative.{Relative}
 use Rattle.expressions.specs.declared.tree.Relative.TheVariants as relatives
 use Rattle.meaning.specs.Objects.{relative_in}
 use Rattle.meaning.specs.World as source
-use Rattle.items.specs.Items.{Destination}
-use Rattle.items.specs.Items as items
+use Rattle.values.specs.Items.{Destination}
+use Rattle.values.specs.Items as items
 use Rattle.items.specs.Stack as stack
 use Rattle.instructions.specs.Instructions.{number_of, result_in}
 use Rattle.selection.specs.ItemCode.{giving_on, relative_of}

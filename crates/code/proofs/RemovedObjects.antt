@@ -7,7 +7,7 @@ use Rattle.zcore.specs.Execution.{perform}
 use Rattle.meaning.specs.Objects.{removed}
 use Rattle.meaning.specs.World.{with_objects}
 use Rattle.meaning.specs.World as source
-use Rattle.items.specs.Items as items
+use Rattle.values.specs.Items as items
 use Rattle.items.specs.Stack as stack
 use Rattle.instructions.specs.Instructions.{plain}
 use Rattle.code.proofs.Parts.{machine as at_words}

@@ -20,8 +20,8 @@ use Rattle.zcore.proofs.Holding.{holds_byte}
 use Rattle.meaning.specs.declared.resolved.Variable as source
 use Rattle.meaning.specs.World.{Situation, with_value}
 use Rattle.meaning.specs.Meaning.{routine_at}
-use Rattle.items.specs.Items.{Destination}
-use Rattle.items.specs.Items as items
+use Rattle.values.specs.Items.{Destination}
+use Rattle.values.specs.Items as items
 use Rattle.items.specs.Laws.{IsDestination}
 use Rattle.items.specs.Stack.{Caller}
 use Rattle.items.specs.Stack as stack

@@ -6,8 +6,8 @@ use Rattle.zcore.specs.declared.instruction.Operation.TheVariants as operations
 use Rattle.zcore.specs.Instruction.{bytes_of}
 use Rattle.zcore.specs.Parts.{give_back}
 use Rattle.zcore.specs.Execution.{perform, return_popped}
-use Rattle.items.specs.Items.{Destination}
-use Rattle.items.specs.Items as items
+use Rattle.values.specs.Items.{Destination}
+use Rattle.values.specs.Items as items
 use Rattle.items.specs.Stack.{Caller}
 use Rattle.items.specs.Stack as stack
 use Rattle.instructions.specs.Instructions.{plain, constant, in_place, return_code}

@@ -9,7 +9,7 @@ use Rattle.zcore.specs.Turn.{Whole, Turns, turn_from, turn_on, is_waiting, entri
 use Rattle.zcore.proofs.Turning.{turns_is}
 use Rattle.meaning.specs.Resolved.{ProgramOf}
 use Rattle.meaning.specs.World.{Outcome, World}
-use Rattle.items.specs.Items.{Item}
+use Rattle.values.specs.Items.{Item}
 use Rattle.items.specs.Stack as stack
 use Rattle.instructions.specs.Addresses.{Addresses}
 use Rattle.code.proofs.Play.{Does, Good, Led, LedOn, LedBy, items_in, next_of, state_of}

@@ -14,8 +14,8 @@ use Rattle.expressions.specs.declared.tree.Step.TheVariants as steps
 use Rattle.meaning.specs.declared.resolved.Variable as source
 use Rattle.meaning.specs.World.{Situation, value_in, with_value}
 use Rattle.meaning.specs.Meaning.{stepped}
-use Rattle.items.specs.Items.{Item, Destination}
-use Rattle.items.specs.Items as items
+use Rattle.values.specs.Items.{Item, Destination}
+use Rattle.values.specs.Items as items
 use Rattle.items.specs.Stack as stack
 use Rattle.instructions.specs.Instructions.{number_of, push, store, stepping}
 use Rattle.selection.specs.ItemBytes.{text_bytes}

@@ -36,7 +36,7 @@ use Rattle.meaning.specs.Objects.{ObjectOf}
 use Rattle.meaning.specs.Resolved as source
 use Rattle.meaning.specs.Resolved.{Action, Actions, RoutineOf, ProgramOf}
 use Rattle.meaning.specs.Meaning.{routine_at, meaning}
-use Rattle.items.specs.Items.{routine_items}
+use Rattle.items.specs.Statements.{routine_items}
 use Rattle.instructions.specs.Addresses.{Addresses, Sizes, all_causes}
 use Rattle.code.specs.Bytes.{code_bytes}
 use Rattle.code.specs.HeldProgram.{start_code, fault_line}

@@ -20,8 +20,8 @@ use Rattle.meaning.specs.declared.cause.Cause.TheVariants as causes
 use Rattle.meaning.specs.World.{Situation, Comes, to, over, bound, Part, value_in, with_value, is_index, with_entry}
 use Rattle.meaning.specs.World.{with_array}
 use Rattle.meaning.specs.World as source
-use Rattle.items.specs.Items.{Destination}
-use Rattle.items.specs.Items as items
+use Rattle.values.specs.Items.{Destination}
+use Rattle.values.specs.Items as items
 use Rattle.items.specs.Stack as stack
 use Rattle.instructions.specs.Addresses.{fault_address}
 use Rattle.instructions.specs.Instructions.{number_of, plain, push, pull, store}

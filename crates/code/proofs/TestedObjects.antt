@@ -10,8 +10,8 @@ use Rattle.meaning.specs.declared.cause.Cause.TheVariants as causes
 use Rattle.meaning.specs.Forests.{IsObjectNumber}
 use Rattle.meaning.specs.World.{Situation, Part, bound}
 use Rattle.meaning.specs.World as source
-use Rattle.items.specs.Items.{Item}
-use Rattle.items.specs.Items as items
+use Rattle.values.specs.Items.{Item}
+use Rattle.values.specs.Items as items
 use Rattle.items.specs.Stack as stack
 use Rattle.region.specs.Laws.{Acts}
 use Rattle.region.proofs.Together.{region_laws}

@@ -18,8 +18,8 @@ use Rattle.zcore.specs.Execution.{perform}
 use Rattle.zcore.specs.Arithmetic.{signed_less}
 use Rattle.meaning.specs.Resolved.{ProgramOf}
 use Rattle.meaning.specs.World.{Situation}
-use Rattle.items.specs.Items.{Item, Test, agrees}
-use Rattle.items.specs.Items as items
+use Rattle.values.specs.Items.{Item, Test, agrees}
+use Rattle.values.specs.Items as items
 use Rattle.items.specs.Laws.{IsOperand, IsTested}
 use Rattle.items.specs.Stack as stack
 use Rattle.instructions.specs.Instructions.{plain, branching, labelled, test_operation, tested_code, least_word}

@@ -15,7 +15,7 @@ use Rattle.zcore.specs.Execution.{perform, give_result}
 use Rattle.meaning.specs.declared.cause.Cause.{Cause}
 use Rattle.meaning.specs.World.{Situation, value_in}
 use Rattle.meaning.specs.World as source
-use Rattle.items.specs.Items as items
+use Rattle.values.specs.Items as items
 use Rattle.items.specs.Stack as stack
 use Rattle.region.specs.Region.{HasObjects, tables_base}
 use Rattle.region.specs.Tables.{Table}

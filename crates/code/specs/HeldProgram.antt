@@ -14,7 +14,7 @@ use Rattle.meaning.specs.Meaning.{routine_at}
 use Rattle.meaning.specs.World.{words_of}
 use Rattle.meaning.specs.Places.{dictionary_place}
 use Rattle.meaning.specs.declared.cause.Cause.{Cause}
-use Rattle.items.specs.Items.{routine_items}
+use Rattle.items.specs.Statements.{routine_items}
 use Rattle.region.specs.Laws.{HoldsRows}
 use Rattle.instructions.specs.Addresses.{Addresses, Sizes, fault_address}
 use Rattle.instructions.specs.Instructions.{plain}

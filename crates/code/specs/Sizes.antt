@@ -1,7 +1,7 @@
 -- How many bytes the routines of a program have in a story.
 use Rattle.std.specs.Prelude.{◌+◌, ℕ, List, [], ◌∷◌}
 use Rattle.meaning.specs.Resolved.{RoutineOf}
-use Rattle.items.specs.Items.{routine_items}
+use Rattle.items.specs.Statements.{routine_items}
 use Rattle.instructions.specs.Addresses.{Sizes}
 use Rattle.code.specs.Bytes.{code_size}
 

@@ -1,7 +1,7 @@
 -- What the values of the code stand for.
 use Rattle.std.specs.Prelude.{◌+◌, List, [], ◌∷◌, ℕ}
-use Rattle.items.specs.Items.{Item}
-use Rattle.items.specs.Items as items
+use Rattle.values.specs.Items.{Item}
+use Rattle.values.specs.Items as items
 use Rattle.instructions.specs.Addresses.{Sizes}
 use Rattle.instructions.specs.Places.{offset_of}
 

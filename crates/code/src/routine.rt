@@ -4,8 +4,8 @@ ghost use Rattle.std.specs.Prelude.{◌≡◌, ◌<◌, reverse, length, IfOk, O
 ghost use Rattle.forms.specs.Layout.{bytes_limit};
 ghost use Rattle.meaning.specs.Meaning.{routine_at};
 ghost use Rattle.meaning.specs.Resolved.{program_of};
-ghost use Rattle.items.specs.Code.{items_of};
-ghost use Rattle.items.specs.Items as definitions;
+ghost use Rattle.values.specs.Code.{items_of};
+ghost use Rattle.items.specs.Statements as definitions;
 ghost use Rattle.instructions.specs.Bytes.{Adds};
 ghost use Rattle.instructions.specs.Written.{addresses_of, sizes_in};
 ghost use Rattle.code.specs.Bytes.{lefts_of, place_of, items_bytes};
@@ -45,7 +45,7 @@ pub struct Code<'a, 'b> {
 impl<'a, 'b> Model for Code<'a, 'b> {
     ghost use Rattle.std.specs.Prelude.{◌≡◌, ◌<◌, ◌+◌, reverse};
     ghost use Rattle.forms.specs.Layout.{bytes_limit, uses};
-    ghost use Rattle.items.specs.Code.{items_of};
+    ghost use Rattle.values.specs.Code.{items_of};
     ghost use Rattle.instructions.specs.Written.{sizes_in};
     ghost use Rattle.code.specs.Bytes.{parts_of, lefts_of, code_size};
     ghost use Rattle.code.specs.Written.{CodeOf};

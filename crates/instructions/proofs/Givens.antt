@@ -6,10 +6,10 @@ use Rattle.zcore.specs.declared.instruction.Operand.{Operand}
 use Rattle.zcore.specs.declared.instruction.Operand.TheVariants.{Large}
 use Rattle.zcore.specs.declared.instruction.Operation.{Operation}
 use Rattle.zcore.specs.Instruction.{bytes_of}
-use Rattle.items.specs.Items.{Destination, Test}
-use Rattle.items.specs.Items as items
-use Rattle.items.specs.declared.item.Operand as code_operand
-use Rattle.items.specs.Code.{as_operand, as_operands}
+use Rattle.values.specs.Items.{Destination, Test}
+use Rattle.values.specs.Items as items
+use Rattle.values.specs.declared.item.Operand as code_operand
+use Rattle.values.specs.Code.{as_operand, as_operands}
 use Rattle.instructions.specs.Instructions.{takes, operands, calling, call_code, call_operation, call_result, asks_none}
 use Rattle.instructions.specs.Instructions.{labelled, test_operation, least_word, tested_code, branch_code}
 use Rattle.instructions.specs.Bytes.{bytes_of_all}

@@ -3,9 +3,9 @@ use Rattle.std.proofs.Common.{◌≡◌, ℕ, zero, suc, ◌+◌, ◌<◌, List,
 use Rattle.std.proofs.Common.{sym, ap, ◌∙◌, arith, append_assoc}
 use Rattle.std.proofs.Math.Seq.{drop-cons}
 use Rattle.zcore.specs.declared.instruction.Operand.{Operand}
-use Rattle.items.specs.Items as items
-use Rattle.items.specs.declared.item.Operand as code_operand
-use Rattle.items.specs.Code.{as_operand, as_operands}
+use Rattle.values.specs.Items as items
+use Rattle.values.specs.declared.item.Operand as code_operand
+use Rattle.values.specs.Code.{as_operand, as_operands}
 use Rattle.instructions.specs.Instructions.{pushed_count}
 use Rattle.instructions.specs.Written.{named_when}
 

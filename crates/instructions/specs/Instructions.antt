@@ -27,8 +27,8 @@ use Rattle.meaning.specs.declared.cause.Cause.TheVariants as causes
 use Rattle.meaning.specs.declared.resolved.Variable as source
 use Rattle.meaning.specs.declared.resolved.Variable.TheVariants as variables
 use Rattle.meaning.specs.Meaning.{is_character}
-use Rattle.items.specs.Items.{Destination, Test}
-use Rattle.items.specs.Items as items
+use Rattle.values.specs.Items.{Destination, Test}
+use Rattle.values.specs.Items as items
 use Rattle.instructions.specs.Addresses.{Addresses, fault_address}
 
 -- Instructions

@@ -1,8 +1,8 @@
 -- Where an item stands and leads.
 use Rattle.std.specs.Prelude.{◌+◌, ◌-◌, ℕ, List, slice_index, Option, Some, None}
 use Rattle.forms.specs.Layout.{first}
-use Rattle.items.specs.Items.{Item}
-use Rattle.items.specs.Items as items
+use Rattle.values.specs.Items.{Item}
+use Rattle.values.specs.Items as items
 use Rattle.instructions.specs.Instructions.{jump_offset}
 
 -- the item to which one branches

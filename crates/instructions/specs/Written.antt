@@ -3,7 +3,7 @@ use Rattle.std.specs.Prelude.{List, [], ◌∷◌, Option, Some, None, ℕ, zero
 use Rattle.zcore.specs.declared.instruction.Branch.{Branch}
 use Rattle.zcore.specs.declared.instruction.Operand.{Operand}
 use Rattle.zcore.specs.Instruction.{Instruction}
-use Rattle.items.specs.Items as items
+use Rattle.values.specs.Items as items
 use Rattle.instructions.specs.Addresses.{Addresses, Sizes}
 use Rattle.instructions.specs.Instructions.{named_from, operands}
 use Rattle.instructions.specs.declared.addresses.Addresses as located

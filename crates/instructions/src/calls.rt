@@ -1,8 +1,8 @@
 //! Calls of routines, and returns.
 
 ghost use Rattle.std.specs.Prelude.{◌≡◌, [], ◌∷◌, take, OnOk};
-ghost use Rattle.items.specs.Items as source_items;
-ghost use Rattle.items.specs.Code.{as_operand, as_operands, as_destination};
+ghost use Rattle.values.specs.Items as source_items;
+ghost use Rattle.values.specs.Code.{as_operand, as_operands, as_destination};
 ghost use Rattle.instructions.specs.Instructions.{call_code, return_code};
 ghost use Rattle.instructions.specs.Instructions as spec;
 ghost use Rattle.instructions.specs.Bytes.{AddsCode};

@@ -3,8 +3,8 @@
 ghost use Rattle.std.specs.Prelude.{◌≡◌, ◌≤◌, ◌+◌, ◌++◌, [], ◌∷◌, length, take, not, IfOk, OnOk};
 ghost use Rattle.zcore.specs.declared.instruction.Operation.TheVariants.{Jump};
 ghost use Rattle.zcore.specs.declared.instruction.Operand.TheVariants.{Large};
-ghost use Rattle.items.specs.Items as source_items;
-ghost use Rattle.items.specs.Code.{as_operands, as_test};
+ghost use Rattle.values.specs.Items as source_items;
+ghost use Rattle.values.specs.Code.{as_operands, as_test};
 ghost use Rattle.instructions.specs.Instructions.{plain, labelled, tested_code, branch_code, test_operation};
 ghost use Rattle.instructions.specs.Instructions as spec;
 ghost use Rattle.instructions.specs.Bytes.{AddsCode};

@@ -1,7 +1,7 @@
 //! Operands of items in instructions.
 
 ghost use Rattle.std.specs.Prelude.{◌≡◌, ◌≤◌, ◌++◌, [], ◌∷◌, length, OnOk};
-ghost use Rattle.items.specs.Code.{as_operand, as_operands, as_destination};
+ghost use Rattle.values.specs.Code.{as_operand, as_operands, as_destination};
 ghost use Rattle.instructions.specs.Instructions.{number_of};
 ghost use Rattle.instructions.specs.Instructions as spec;
 ghost use Rattle.instructions.specs.Bytes.{AddsCode};

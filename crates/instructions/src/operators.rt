@@ -2,8 +2,8 @@
 
 ghost use Rattle.std.specs.Prelude.{◌∷◌, OnOk};
 ghost use Rattle.zcore.specs.declared.instruction.Operation.TheVariants.{Div};
-ghost use Rattle.items.specs.Items as source_items;
-ghost use Rattle.items.specs.Code.{as_operand, as_destination};
+ghost use Rattle.values.specs.Items as source_items;
+ghost use Rattle.values.specs.Code.{as_operand, as_destination};
 ghost use Rattle.instructions.specs.Instructions.{prefix_code, arithmetic, divided, divided_by, binary_code, first_equal_code, also_equal_code, flag};
 ghost use Rattle.instructions.specs.Bytes.{AddsCode};
 ghost use Rattle.instructions.specs.Written.{addresses_of, instruction_of};

@@ -2,7 +2,7 @@
 
 ghost use Rattle.std.specs.Prelude.{◌≡◌, ◌<◌, ◌≤◌, reverse, length, slice_index};
 ghost use Rattle.forms.specs.Layout.{first, bytes_limit};
-ghost use Rattle.items.specs.Code.{item_of};
+ghost use Rattle.values.specs.Code.{item_of};
 ghost use Rattle.instructions.specs.Places.{place_in};
 ghost use Rattle.instructions.specs.Places as spec;
 

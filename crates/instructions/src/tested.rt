@@ -1,7 +1,7 @@
 //! Tests of operands, and faults.
 
 ghost use Rattle.std.specs.Prelude.{◌≡◌, ◌<◌, OnOk};
-ghost use Rattle.items.specs.Code.{as_operand};
+ghost use Rattle.values.specs.Code.{as_operand};
 ghost use Rattle.instructions.specs.Instructions.{tested_between};
 ghost use Rattle.instructions.specs.Instructions as spec;
 ghost use Rattle.instructions.specs.Addresses as places;

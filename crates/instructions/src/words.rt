@@ -1,8 +1,8 @@
 //! Words that are moved, kept and stepped.
 
 ghost use Rattle.std.specs.Prelude.{◌≡◌, [], ◌∷◌, OnOk};
-ghost use Rattle.items.specs.Items as source_items;
-ghost use Rattle.items.specs.Code.{as_operand, as_destination};
+ghost use Rattle.values.specs.Items as source_items;
+ghost use Rattle.values.specs.Code.{as_operand, as_destination};
 ghost use Rattle.instructions.specs.Instructions.{number_of, move_code, step_code, stepping, step_operation};
 ghost use Rattle.instructions.specs.Instructions as spec;
 ghost use Rattle.instructions.specs.Bytes.{AddsCode};

@@ -6,18 +6,22 @@ use Rattle.meaning.specs.declared.resolved.Printed as code_printed
 use Rattle.meaning.specs.declared.resolved.Action as code_action
 use Rattle.meaning.specs.Resolved.{Value, Printed, Action, Actions, actions_of, action_of, printed_of}
 use Rattle.meaning.specs.Resolved as source
-use Rattle.items.specs.Items.{Item, Operand, alone, if_pushed, push, branch_count, value_count, value_items}
-use Rattle.items.specs.Items.{branch_items, printed_count, prints_count, action_count, printed_items, prints_items}
-use Rattle.items.specs.Items.{actions_count, alone_items, action_items, actions_items, return_true, left_of}
-use Rattle.items.specs.Items.{operand_count}
-use Rattle.items.specs.Items as items
-use Rattle.items.specs.declared.wanted.Wanted.TheVariants.{Branch}
+use Rattle.values.specs.Items.{Item, Operand, alone, if_pushed, push, branch_count, value_count, value_items}
+use Rattle.values.specs.Items.{branch_items}
+use Rattle.items.specs.Statements.{printed_count, prints_count, action_count, printed_items, prints_items}
+use Rattle.values.specs.Items.{alone_items, left_of}
+use Rattle.items.specs.Statements.{actions_count, action_items, actions_items, return_true}
+use Rattle.values.specs.Items.{operand_count}
+use Rattle.values.specs.Items as items
+use Rattle.items.specs.Statements as statements
+use Rattle.values.specs.declared.wanted.Wanted.TheVariants.{Branch}
 use Rattle.items.specs.declared.exits.Exits.{Exits}
-use Rattle.items.specs.Writing.{in_order, Written, wanted_items, pushes, taken_items, exits_of}
-use Rattle.items.proofs.Counts.{branch_length}
+use Rattle.values.specs.Writing.{in_order, Written, wanted_items, pushes}
+use Rattle.items.specs.Writing.{taken_items, exits_of}
+use Rattle.values.proofs.Counts.{branch_length}
 use Rattle.items.proofs.StatementCounts.{printed_length, prints_length, action_length, actions_length}
-use Rattle.items.proofs.Written.{in_order_append, one, counted, both, as_items, then_one, after_one}
-use Rattle.items.proofs.Values.{pushes_length}
+use Rattle.values.proofs.WrittenItems.{in_order_append, one, counted, both, as_items, then_one, after_one}
+use Rattle.values.proofs.Values.{pushes_length}
 
 pub end_more : (c c1 c2 : List Item) → c1 ≡ c ++ return_true ∷ [] → c2 ≡ c1 ++ items.new_line ∷ []
     → Written c c2 (λ n at. items.new_line ∷ return_true ∷ [])
@@ -143,14 +147,14 @@ while_more c c1 c2 c3 c4 v a x ee e1 ec wa wv e4 y =
     let t : n - end ≡ at + k + m + 1 = omega (arith, h, l1, l2, l3, l4, ee) in
     let s : n - x.continues ≡ at + k + m = omega (arith, h, l1, l2, l3, l4, ec) in
     let b : n - length c3 ≡ at = omega (arith, h, l4) in
-    ap (λ t. (branch_items at v false t ++ action_items (items.exits_to (n - x.continues) t) (at + k) a)
+    ap (λ t. (branch_items at v false t ++ action_items (statements.exits_to (n - x.continues) t) (at + k) a)
     ++ items.back (n - length c3) ∷ []) t
     ∙ ap (λ s. (branch_items at v false (at + k + m + 1)
-    ++ action_items (items.exits_to s (at + k + m + 1)) (at + k) a) ++ items.back (n - length c3) ∷ []) s
+    ++ action_items (statements.exits_to s (at + k + m + 1)) (at + k) a) ++ items.back (n - length c3) ∷ []) s
     ∙ ap (λ b. (branch_items at v false (at + k + m + 1)
-    ++ action_items (items.exits_to (at + k + m) (at + k + m + 1)) (at + k) a) ++ items.back b ∷ []) b
+    ++ action_items (statements.exits_to (at + k + m) (at + k + m + 1)) (at + k) a) ++ items.back b ∷ []) b
     ∙ append_assoc (branch_items at v false (at + k + m + 1))
-    (action_items (items.exits_to (at + k + m) (at + k + m + 1)) (at + k) a) (items.back at ∷ []))
+    (action_items (statements.exits_to (at + k + m) (at + k + m + 1)) (at + k) a) (items.back at ∷ []))
     (both (k + m) (λ n at. omega (
       arith,
       length-append (branch_items at v false (n - end)) (action_items (exits_of n x) (at + k) a),
@@ -161,7 +165,7 @@ while_more c c1 c2 c3 c4 v a x ee e1 ec wa wv e4 y =
 
 -- Lists, from the last to the first
 
-actions_from : (e : items.Exits) (xs : List code_action.Action) (i : ℕ) (x : code_action.Action) (at : ℕ)
+actions_from : (e : statements.Exits) (xs : List code_action.Action) (i : ℕ) (x : code_action.Action) (at : ℕ)
     → i < length xs → actions_items e at (actions_of (map action_of (drop i xs)))
     ≡ action_items e at (action_of (slice_index_or xs i x))
     ++ actions_items e (at + action_count (action_of (slice_index_or xs i x)))
@@ -183,7 +187,7 @@ action_next c c1 c2 e xs i x lt is many w =
     ∙ sym (actions_from (exits_of n e) xs i x at lt))
     (both (action_count (action_of x)) (λ n at. action_length (exits_of n e) (action_of x) at) many w)
   where
-    item_at : items.Exits → code_action.Action → ℕ → ℕ → List Item
+    item_at : statements.Exits → code_action.Action → ℕ → ℕ → List Item
     item_at out y k at = action_items out at (action_of y) ++ actions_items out (at + action_count (action_of y))
         (actions_of (map action_of (drop k xs)))
 
@@ -213,7 +217,7 @@ printed_next c c1 c2 xs i x lt is many w =
 
 pub routine_more : (c c1 code : List Item) (x : Exits) (locals : ℕ) (xs : Actions) → c ≡ [] ++ return_true ∷ []
     → Written c c1 (λ n at. actions_items (exits_of n x) at xs) → x.breaks ≡ length c → x.continues ≡ length c
-    → code ≡ in_order (length c1) c1 → code ≡ items.routine_items (record { locals = locals; body = xs })
+    → code ≡ in_order (length c1) c1 → code ≡ statements.routine_items (record { locals = locals; body = xs })
 routine_more c c1 code x locals xs e w eb es ec =
     let n = length c1 in
     let k = actions_count xs in
@@ -224,8 +228,8 @@ routine_more c c1 code x locals xs e w eb es ec =
     ec ∙ ap (in_order n) (w.is ∙ ap (λ l. l ++ w.more) e) ∙ whole w.more
     ∙ ap (λ l. l ++ return_true ∷ []) (w.are n (omega arith))
     ∙ ap (λ at. actions_items (exits_of n x) at xs ++ return_true ∷ []) none
-    ∙ ap (λ b. actions_items (items.exits_to (n - x.continues) b) 0 xs ++ return_true ∷ []) b
-    ∙ ap (λ s. actions_items (items.exits_to s k) 0 xs ++ return_true ∷ []) s
+    ∙ ap (λ b. actions_items (statements.exits_to (n - x.continues) b) 0 xs ++ return_true ∷ []) b
+    ∙ ap (λ s. actions_items (statements.exits_to s k) 0 xs ++ return_true ∷ []) s
   where
     whole : (more : List Item) → in_order (length c1) ((return_true ∷ []) ++ more)
         ≡ in_order (length c1) more ++ return_true ∷ []

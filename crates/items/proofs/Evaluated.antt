@@ -8,11 +8,12 @@ use Rattle.meaning.specs.Resolved as source
 use Rattle.meaning.specs.Accepted.{need_of, needs_of}
 use Rattle.meaning.specs.World.{Situation, to, Part, ◌>>=◌, give, value_in}
 use Rattle.meaning.specs.Meaning.{evaluate, evaluate_all}
-use Rattle.items.specs.Items.{Item, pushed, variable, Destination, push, operand_of, operands_of, alone}
-use Rattle.items.specs.Items.{left_of, first_of, if_pushed, changes, change, operand_count, value_items, operands_items}
-use Rattle.items.specs.Items.{branch_items}
+use Rattle.values.specs.Items.{Item, pushed, variable, Destination, push, operand_of, operands_of, alone}
+use Rattle.values.specs.Items.{left_of, first_of, if_pushed, changes, change, operand_count, value_items}
+use Rattle.values.specs.Items.{operands_items}
+use Rattle.values.specs.Items.{branch_items}
 use Rattle.items.specs.Stack.{Next}
-use Rattle.items.proofs.Counts.{value_length, if_length}
+use Rattle.values.proofs.Counts.{value_length, if_length}
 use Rattle.items.proofs.Unchanged.{unchanged, all_unchanged, left, right}
 use Rattle.items.proofs.Acts.{came}
 use Rattle.items.proofs.Running.{Running, code, setting}

@@ -8,7 +8,7 @@ use Rattle.zcore.specs.Arithmetic.{signed_less}
 use Rattle.meaning.specs.Resolved.{RangeOf}
 use Rattle.meaning.specs.Resolved as source
 use Rattle.meaning.specs.Meaning.{holds_for}
-use Rattle.items.specs.Items.{Group, numbers, range, with_number, groups_of}
+use Rattle.items.specs.Statements.{Group, numbers, range, with_number, groups_of}
 
 -- whether a group holds for a word
 abbrev pub asks : ℕ → Group → Bool

@@ -1,5 +1,4 @@
 mod Acts
-mod Counts
 mod StatementCounts
 mod Unchanged
 mod Standing
@@ -38,14 +37,6 @@ mod Within
 mod Samples
 mod ObjectSamples
 pub mod Trees
-pub mod Drafts
-pub mod Operands
-pub mod Written
-pub mod Reductions
-pub mod Values
-pub mod Assigned
-pub mod Alternatives
-pub mod ObjectForms
 pub mod Tests
 pub mod Rounds
 pub mod SwitchCases

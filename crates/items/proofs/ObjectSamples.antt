@@ -16,10 +16,12 @@ use Rattle.meaning.specs.Resolved.{new_line, give_to, move_to, remove_from, each
 use Rattle.meaning.specs.Resolved.{actions_of}
 use Rattle.meaning.specs.Resolved as source
 use Rattle.meaning.specs.World.{Outcome}
-use Rattle.items.specs.Items.{pushed, push, into, nowhere, is_zero, branch, keep, back, print_number, print_name, move}
-use Rattle.items.specs.Items.{move_object, remove_object, give, is_in, first_object, next_object, Exits, exits_to}
-use Rattle.items.specs.Items.{action_items}
-use Rattle.items.specs.Items as items
+use Rattle.values.specs.Items.{pushed, push, into, nowhere, is_zero, branch, keep, back, print_number, print_name}
+use Rattle.values.specs.Items.{move}
+use Rattle.values.specs.Items.{move_object, remove_object, give, is_in, first_object, next_object}
+use Rattle.items.specs.Statements.{Exits, exits_to}
+use Rattle.items.specs.Statements.{action_items}
+use Rattle.values.specs.Items as items
 use Rattle.items.specs.Stack.{from, exec, start}
 
 abbrev x : Variable

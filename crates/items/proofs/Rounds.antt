@@ -7,17 +7,20 @@ use Rattle.expressions.specs.declared.tree.Relative.TheVariants as relatives
 use Rattle.meaning.specs.declared.resolved.Variable.{Variable}
 use Rattle.meaning.specs.Resolved.{Value, Action}
 use Rattle.meaning.specs.Resolved as source
-use Rattle.items.specs.Items.{Item, Operand, alone, if_pushed, push, value_count, value_items, branch_count}
-use Rattle.items.specs.Items.{branch_items, action_count, action_items, once_count, once_items, test_count, test_items}
-use Rattle.items.specs.Items.{for_items, exits_to, each_items, relative_items, children_items}
-use Rattle.items.specs.Items as items
-use Rattle.items.specs.declared.wanted.Wanted.TheVariants.{Branch}
+use Rattle.values.specs.Items.{Item, Operand, alone, if_pushed, push, value_count, value_items, branch_count}
+use Rattle.values.specs.Items.{branch_items}
+use Rattle.items.specs.Statements.{action_count, action_items, once_count, once_items, test_count, test_items}
+use Rattle.items.specs.Statements.{for_items, exits_to, each_items, relative_items, children_items}
+use Rattle.values.specs.Items as items
+use Rattle.items.specs.Statements as statements
+use Rattle.values.specs.declared.wanted.Wanted.TheVariants.{Branch}
 use Rattle.items.specs.declared.exits.Exits.{Exits}
-use Rattle.items.specs.Writing.{Written, wanted_items, pushes, exits_of}
-use Rattle.items.proofs.Counts.{branch_length, joined}
+use Rattle.values.specs.Writing.{Written, wanted_items, pushes}
+use Rattle.items.specs.Writing.{exits_of}
+use Rattle.values.proofs.Counts.{branch_length, joined}
 use Rattle.items.proofs.StatementCounts.{action_length, once_length, test_length}
-use Rattle.items.proofs.Written.{one, counted, both, as_items, then_one}
-use Rattle.items.proofs.Values.{pushes_length}
+use Rattle.values.proofs.WrittenItems.{one, counted, both, as_items, then_one}
+use Rattle.values.proofs.Values.{pushes_length}
 
 -- a round that ends in a way back to its first item
 looped : (c c1 c2 c3 : List Item) (f : ℕ → ℕ → List Item) (k end : ℕ) → ((n at : ℕ) → length (f n at) ≡ k)
@@ -121,8 +124,8 @@ for_more c c1 c2 c3 c4 c5 c6 before test behind a x ee e1 wb ec wa wt e5 wf y =
     (rounds_more c c1 c2 c3 c4 c5 test behind a x ee e1 wb ec wa wt e5) wf
 
 -- `objectloop` over all objects, whose rounds have k items
-pub each_more : (c c1 c2 c3 c4 : List Item) (y : Variable) (k : ℕ) (run : items.Exits → ℕ → List Item) (x : Exits)
-    (end : ℕ) → ((e : items.Exits) (at : ℕ) → length (run e at) ≡ k) → end ≡ length c
+pub each_more : (c c1 c2 c3 c4 : List Item) (y : Variable) (k : ℕ) (run : statements.Exits → ℕ → List Item) (x : Exits)
+    (end : ℕ) → ((e : statements.Exits) (at : ℕ) → length (run e at) ≡ k) → end ≡ length c
     → c1 ≡ c ++ items.back 0 ∷ items.next_object y (length c) ∷ [] → x.breaks ≡ length c → x.continues ≡ length c1
     → Written c1 c2 (λ n at. run (exits_of n x) at) → c3 ≡ slice_set c2 end (items.back (length c2))
     → c4 ≡ c3 ++ items.first_object y end ∷ [] → Written c c4 (λ n at. each_items at y k run)

@@ -9,12 +9,14 @@ use Rattle.meaning.specs.Meaning.{put_line, evaluate, Ending, goes_on, breaks, c
 use Rattle.meaning.specs.Meaning.{run_all, run_cases, routine_at, word_of}
 use Rattle.meaning.specs.Reading.{read_next}
 use Rattle.meaning.specs.Places.{number_in}
-use Rattle.items.specs.Items.{nowhere, alone, operand_count, prints_count, action_count, actions_count, alone_items}
-use Rattle.items.specs.Items.{prints_items, return_true, Exits, exits_to, action_items, actions_items, cases_count}
-use Rattle.items.specs.Items.{cases_items}
-use Rattle.items.specs.Items as items
+use Rattle.values.specs.Items.{nowhere, alone, operand_count, alone_items}
+use Rattle.items.specs.Statements.{prints_count, action_count, actions_count}
+use Rattle.items.specs.Statements.{prints_items, return_true, Exits, exits_to, action_items, actions_items}
+use Rattle.items.specs.Statements.{cases_count}
+use Rattle.items.specs.Statements.{cases_items}
+use Rattle.values.specs.Items as items
 use Rattle.items.specs.Stack.{Next, return_to, act}
-use Rattle.items.proofs.Counts.{alone_length}
+use Rattle.values.proofs.Counts.{alone_length}
 use Rattle.items.proofs.StatementCounts.{prints_length, action_length, actions_length, cases_length}
 use Rattle.items.proofs.Acts.{keeps_put}
 use Rattle.items.proofs.Running.{ends_there, steps_on, Running, code, locals, setting}

@@ -6,7 +6,8 @@ use Rattle.meaning.specs.Resolved.{ProgramOf}
 use Rattle.meaning.specs.World.{Outcome, Situation, to}
 use Rattle.meaning.specs.Meaning.{Setting, routine_at, call_in}
 use Rattle.meaning.specs.Meaning as meaning
-use Rattle.items.specs.Items.{Item, routine_items}
+use Rattle.values.specs.Items.{Item}
+use Rattle.items.specs.Statements.{routine_items}
 use Rattle.items.specs.Stack.{Caller, State, Next, goes, ends, stuck, within, enter, return_to, step, from, exec}
 use Rattle.items.proofs.Acts.{hand, Lower}
 use Rattle.items.proofs.Unchanged.{LeaveLocals}

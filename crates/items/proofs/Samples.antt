@@ -15,11 +15,14 @@ use Rattle.meaning.specs.Resolved.{switch_on, one, between, return_value, next, 
 use Rattle.meaning.specs.Resolved.{text_alone}
 use Rattle.meaning.specs.Resolved.{print, print_return, text, character_of, number_of}
 use Rattle.meaning.specs.Resolved as source
-use Rattle.items.specs.Items.{pushed, push, into, nowhere, less, greater, same, is_zero, move, operate, step, branch}
-use Rattle.items.specs.Items.{choose, jump, Exits, exits_to}
-use Rattle.items.specs.Items.{back, print_text, print_character, print_number, new_line, quit, action_items}
-use Rattle.items.specs.Items.{apply_prefix, keep, first_equal, also_equal, drop_below, return_true}
-use Rattle.items.specs.Items as items
+use Rattle.values.specs.Items.{pushed, push, into, nowhere, less, greater, same, is_zero, move, operate, step, branch}
+use Rattle.values.specs.Items.{choose, jump}
+use Rattle.items.specs.Statements.{Exits, exits_to}
+use Rattle.values.specs.Items.{back, print_text, print_character, print_number, new_line, quit}
+use Rattle.items.specs.Statements.{action_items}
+use Rattle.values.specs.Items.{apply_prefix, keep, first_equal, also_equal, drop_below}
+use Rattle.items.specs.Statements.{return_true}
+use Rattle.values.specs.Items as items
 
 abbrev x : Variable
 x = Local 0

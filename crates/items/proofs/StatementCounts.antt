@@ -6,15 +6,21 @@ use Rattle.meaning.specs.Resolved.{Value, Printed, Action, Actions, CasesOf, sto
 use Rattle.meaning.specs.Resolved as source
 use Rattle.expressions.specs.declared.tree.Relative.TheVariants as relatives
 use Rattle.meaning.specs.declared.resolved.Variable.{Variable}
-use Rattle.items.specs.Items.{Operand, variable, push, left_of, if_pushed, value_items, each_items, children_items}
-use Rattle.items.specs.Items.{relative_items}
-use Rattle.items.specs.Items.{nowhere, alone, branch_count, branch_items, printed_count, prints_count, action_count}
-use Rattle.items.specs.Items.{actions_count, cases_count, once_count, test_count, tests_count, group_count, groups_of}
-use Rattle.items.specs.Items.{operand_count, over_count, alone_items, printed_items, prints_items, once_items}
-use Rattle.items.specs.Items.{test_items, Group, group_items, last_items, tests_items, over_items, Exits, exits_to}
-use Rattle.items.specs.Items.{action_items, actions_items, cases_items, for_items, case_items}
-use Rattle.items.specs.Items as items
-use Rattle.items.proofs.Counts.{joined, if_length, value_length, branch_length, alone_length}
+use Rattle.values.specs.Items.{Operand, variable, push, left_of, if_pushed, value_items}
+use Rattle.items.specs.Statements.{each_items, children_items}
+use Rattle.items.specs.Statements.{relative_items}
+use Rattle.values.specs.Items.{nowhere, alone, branch_count, branch_items}
+use Rattle.items.specs.Statements.{printed_count, prints_count, action_count}
+use Rattle.items.specs.Statements.{actions_count, cases_count, once_count, test_count, tests_count, group_count}
+use Rattle.items.specs.Statements.{groups_of}
+use Rattle.values.specs.Items.{operand_count, alone_items}
+use Rattle.items.specs.Statements.{over_count, printed_items, prints_items, once_items}
+use Rattle.items.specs.Statements.{test_items, Group, group_items, last_items, tests_items, over_items, Exits}
+use Rattle.items.specs.Statements.{exits_to}
+use Rattle.items.specs.Statements.{action_items, actions_items, cases_items, for_items, case_items}
+use Rattle.values.specs.Items as items
+use Rattle.items.specs.Statements as statements
+use Rattle.values.proofs.Counts.{joined, if_length, value_length, branch_length, alone_length}
 
 pub printed_length : (i : Printed) (at : ℕ) → length (printed_items at i) ≡ printed_count i
 printed_length (source.text bytes) at = refl
@@ -59,12 +65,12 @@ for_length at tested body done test run behind et eb ed =
 -- The tests of a case, and the way over the later ones
 
 pub group_length : (g : Group) (at inside : ℕ) → length (group_items at g inside) ≡ group_count g
-group_length (items.numbers ns) at inside = refl
-group_length (items.range low high) at inside = refl
+group_length (statements.numbers ns) at inside = refl
+group_length (statements.range low high) at inside = refl
 
 pub last_length : (g : Group) (behind : ℕ) → length (last_items g behind) ≡ group_count g
-last_length (items.numbers ns) behind = refl
-last_length (items.range low high) behind = refl
+last_length (statements.numbers ns) behind = refl
+last_length (statements.range low high) behind = refl
 
 pub tests_length : (gs : List Group) (at inside behind : ℕ) → length (tests_items at gs inside behind) ≡ tests_count gs
 tests_length [] at inside behind = refl

@@ -6,17 +6,21 @@ use Rattle.meaning.specs.declared.resolved.Span.{Span}
 use Rattle.meaning.specs.declared.resolved.Action as code_action
 use Rattle.meaning.specs.Resolved.{Value, RangeOf, Action, Actions, CasesOf, case_of}
 use Rattle.meaning.specs.Resolved as source
-use Rattle.items.specs.Items.{Item, Operand, alone, if_pushed, push, value_count, value_items, operand_count}
-use Rattle.items.specs.Items.{actions_count, cases_count, tests_count, over_count, groups_of, tests_items, over_items}
-use Rattle.items.specs.Items.{alone_items, action_items, actions_items, cases_items}
-use Rattle.items.specs.Items as items
-use Rattle.items.specs.declared.draft.Draft.{Draft}
+use Rattle.values.specs.Items.{Item, Operand, alone, if_pushed, push, value_count, value_items, operand_count}
+use Rattle.items.specs.Statements.{actions_count, cases_count, tests_count, over_count, groups_of, tests_items}
+use Rattle.items.specs.Statements.{over_items}
+use Rattle.values.specs.Items.{alone_items}
+use Rattle.items.specs.Statements.{action_items, actions_items, cases_items}
+use Rattle.values.specs.Items as items
+use Rattle.items.specs.Statements as statements
+use Rattle.values.specs.declared.draft.Draft.{Draft}
 use Rattle.items.specs.declared.exits.Exits.{Exits}
-use Rattle.items.specs.Writing.{written_in, Written, taken_items, exits_of, cases_before, LeavesCases}
-use Rattle.items.proofs.Counts.{joined}
+use Rattle.values.specs.Writing.{written_in, Written}
+use Rattle.items.specs.Writing.{taken_items, exits_of, cases_before, LeavesCases}
+use Rattle.values.proofs.Counts.{joined}
 use Rattle.items.proofs.StatementCounts.{actions_length, cases_length, tests_length, over_length}
-use Rattle.items.proofs.Written.{counted, both, as_items}
-use Rattle.items.proofs.Values.{pushes_length}
+use Rattle.values.proofs.WrittenItems.{counted, both, as_items}
+use Rattle.values.proofs.Values.{pushes_length}
 
 -- a case before others
 pub case_more : (start c c1 c2 c3 : List Item) (x : Exits) (gs : List RangeOf) (xs : Actions) (later : CasesOf)
@@ -118,4 +122,4 @@ switch_more c c1 c2 x o v cs inside ee ec eo wc wt =
   where
     whole : ℕ → ℕ → ℕ → ℕ → List Item
     whole at behind stop place = alone_items at v
-        ++ items.choose (alone v) ∷ cases_items (items.exits_to behind stop) place cs stop
+        ++ items.choose (alone v) ∷ cases_items (statements.exits_to behind stop) place cs stop

@@ -11,13 +11,16 @@ use Rattle.meaning.specs.Accepted.{IsWhole}
 use Rattle.meaning.specs.World.{Situation, Comes, to, Part}
 use Rattle.meaning.specs.Meaning.{evaluate, Ending, goes_on, breaks, continues, returns, holds_for, behind_case}
 use Rattle.meaning.specs.Meaning.{run_cases}
-use Rattle.items.specs.Items.{Item, Group, numbers, range, groups_of, group_count, group_items, last_items, tests_count}
-use Rattle.items.specs.Items.{tests_items, over_count, over_items}
-use Rattle.items.specs.Items.{case_items, cases_count, cases_items, agrees, alone, alone_items, operand_count, same}
-use Rattle.items.specs.Items.{less, greater, Exits}
-use Rattle.items.specs.Items as items
+use Rattle.values.specs.Items.{Item}
+use Rattle.items.specs.Statements.{Group, numbers, range, groups_of, group_count, group_items, last_items, tests_count}
+use Rattle.items.specs.Statements.{tests_items, over_count, over_items}
+use Rattle.values.specs.Items.{agrees, alone, alone_items, operand_count, same}
+use Rattle.items.specs.Statements.{case_items, cases_count, cases_items}
+use Rattle.values.specs.Items.{less, greater}
+use Rattle.items.specs.Statements.{Exits}
+use Rattle.values.specs.Items as items
 use Rattle.items.specs.Stack.{Next, goes, chooses}
-use Rattle.items.proofs.Counts.{alone_length}
+use Rattle.values.proofs.Counts.{alone_length}
 use Rattle.items.proofs.StatementCounts.{tests_length, over_length, cases_length}
 use Rattle.items.proofs.Running.{Running, code, locals, setting}
 use Rattle.items.proofs.Standing.{HasAt, split, long}

@@ -4,12 +4,13 @@ use Rattle.std.specs.Prelude.{◌==◌}
 use Rattle.std.proofs.Common.{reverse, slice_index_or, Bool, false, refl, sym, ap, subst, ◌∙◌, arith}
 use Rattle.std.proofs.lemmas.Bool.{eqb-false}
 use Rattle.std.proofs.lemmas.List.{map-append, reverse-append, take_more, take_all}
-use Rattle.items.specs.Items.{Item, Group, group_count, group_items, tests_items}
+use Rattle.values.specs.Items.{Item}
+use Rattle.items.specs.Statements.{Group, group_count, group_items, tests_items}
 use Rattle.items.specs.declared.group.Group as code_group
 use Rattle.items.specs.Code.{group_of}
-use Rattle.items.specs.Writing.{Written}
+use Rattle.values.specs.Writing.{Written}
 use Rattle.items.proofs.StatementCounts.{group_length}
-use Rattle.items.proofs.Written.{both, as_items}
+use Rattle.values.proofs.WrittenItems.{both, as_items}
 
 pub not_empty : (b : Bool) (n : ℕ) → b ≡ (n == 0) → b ≡ false → 0 < n
 not_empty b zero e is = absurd (eqb-false 0 0 (sym e ∙ is) refl)

@@ -21,7 +21,7 @@ use Rattle.meaning.specs.World.{with_value, write_variable, array_at, is_index, 
 use Rattle.meaning.specs.World.{words_provided, test_provided, test_single, test_word, single_word, write_words}
 use Rattle.meaning.specs.Meaning.{truth, is_true, operate, equated, compared, with_prefix, stepped, early, Setting}
 use Rattle.meaning.specs.Meaning.{evaluate, evaluate_all, test_object, default_of}
-use Rattle.items.specs.Items.{is_same, is_global, changes, change}
+use Rattle.values.specs.Items.{is_same, is_global, changes, change}
 use Rattle.items.specs.Stack.{assigned_entry}
 
 -- where it comes to a value, the variable has this word

@@ -10,14 +10,18 @@ use Rattle.meaning.specs.declared.resolved.Variable.{Variable}
 use Rattle.meaning.specs.Resolved.{Value, none, more, Printed, Action, Actions, stop, next, CasesOf}
 use Rattle.meaning.specs.Resolved as source
 use Rattle.meaning.specs.Accepted.{IsVariable, IsValue, IsPart, IsPrinted, IsAction, AreActions, AreCases}
-use Rattle.items.specs.Items.{nowhere, alone, operand_count, branch_count, branch_items, printed_count, prints_count}
-use Rattle.items.specs.Items.{action_count, actions_count, alone_items, printed_items, prints_items, return_true}
-use Rattle.items.specs.Items.{Exits, exits_to, action_items, actions_items, routine_items}
-use Rattle.items.specs.Items.{once_count, once_items, test_count, test_items, Test, less, greater, same, Group, numbers}
-use Rattle.items.specs.Items.{range, groups_of, group_count, group_items, last_items, tests_count, tests_items}
-use Rattle.items.specs.Items.{over_count, over_items, cases_count, cases_items}
-use Rattle.items.specs.Items.{Item, Operand, pushed, variable, each_items, children_items, relative_items}
-use Rattle.items.specs.Items as items
+use Rattle.values.specs.Items.{nowhere, alone, operand_count, branch_count, branch_items}
+use Rattle.items.specs.Statements.{printed_count, prints_count}
+use Rattle.values.specs.Items.{alone_items}
+use Rattle.items.specs.Statements.{action_count, actions_count, printed_items, prints_items, return_true}
+use Rattle.items.specs.Statements.{Exits, exits_to, action_items, actions_items, routine_items}
+use Rattle.values.specs.Items.{Test, less, greater, same}
+use Rattle.items.specs.Statements.{once_count, once_items, test_count, test_items, Group, numbers}
+use Rattle.items.specs.Statements.{range, groups_of, group_count, group_items, last_items, tests_count, tests_items}
+use Rattle.items.specs.Statements.{over_count, over_items, cases_count, cases_items}
+use Rattle.values.specs.Items.{Item, Operand, pushed, variable}
+use Rattle.items.specs.Statements.{each_items, children_items, relative_items}
+use Rattle.values.specs.Items as items
 use Rattle.items.specs.Laws.{IsTested, IsItem, IsOperand, ItemsAreWithin}
 use Rattle.items.proofs.StatementCounts.{actions_length}
 use Rattle.items.proofs.Fine.{Bounds, Fine, either_fine, first, joined, last, last_two, nothing, operand_fine}

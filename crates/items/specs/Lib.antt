@@ -1,4 +1,4 @@
-pub mod Items
+pub mod Statements
 pub mod Stack
 pub mod Code
 pub mod Laws

@@ -2,7 +2,7 @@
 
 ghost use Rattle.std.specs.Prelude.{◌≡◌, map, reverse, IfOk, OnOk};
 ghost use Rattle.meaning.specs.Resolved.{range_of};
-ghost use Rattle.items.specs.Items as items;
+ghost use Rattle.items.specs.Statements as statements;
 ghost use Rattle.items.specs.Code.{group_of};
 
 use meaning::Span;
@@ -24,7 +24,7 @@ pub enum Group {
 /// A number before groups, of which the last of these is the first: it takes the number, where it has fewer than three.
 fn add_number(alloc: Global, groups: &mut Vec<Group>, number: u16) -> Result<(), AllocError>
     ensures { OnOk result (reverse (map group_of groups.new.items)
-        ≡ items.with_number number (reverse (map group_of groups.old.items))) }
+        ≡ statements.with_number number (reverse (map group_of groups.old.items))) }
 {
     match groups.pop() {
         Some(Group::Numbers(mut numbers)) => {
@@ -48,7 +48,7 @@ fn add_number(alloc: Global, groups: &mut Vec<Group>, number: u16) -> Result<(),
 /// The groups of a case, the last one first.
 pub fn groups(alloc: Global, spans: &[Span]) -> Result<Vec<Group>, AllocError>
     ensures { IfOk result (λ v. reverse (map group_of v.items)
-        ≡ items.groups_of (map range_of spans.now)) }
+        ≡ statements.groups_of (map range_of spans.now)) }
 {
     let mut found = Vec::new(alloc);
     for done in 0..spans.len() {

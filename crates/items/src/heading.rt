@@ -3,15 +3,12 @@
 ghost use Rattle.std.specs.Prelude.{◌-◌, OnOk};
 ghost use Rattle.std.specs.Option.{option_map};
 ghost use Rattle.meaning.specs.Resolved.{value_of};
-ghost use Rattle.items.specs.Items.{once_items, test_items};
-ghost use Rattle.items.specs.Writing.{Writes};
+ghost use Rattle.items.specs.Statements.{once_items, test_items};
+ghost use Rattle.values.specs.Writing.{Writes};
 
-use crate::draft::Draft;
-use crate::item::Destination;
-use crate::value::put_value;
-use crate::wanted::Wanted;
 use meaning::Value;
 use std::alloc::AllocError;
+use values::{Destination, Draft, Wanted, put_value};
 
 /// A part whose word goes nowhere, if it is there.
 pub fn put_once(draft: &mut Draft<'_>, part: &Option<Value>) -> Result<(), AllocError>

@@ -2,19 +2,13 @@
 #![tactic(auto)]
 
 mod cases;
-mod draft;
 mod exits;
 mod group;
 mod heading;
-mod item;
 mod laws;
-mod operand;
-mod parts;
 mod routine;
 mod statement;
-mod value;
-mod wanted;
 
-pub use item::{Destination, Item, Operand, Test};
 pub use laws::{items_are_within, items_follow};
 pub use routine::routine_items;
+pub use values::{Destination, Item, Operand, Test};

@@ -2,15 +2,14 @@
 
 ghost use Rattle.std.specs.Prelude.{◌≡◌, IfOk};
 ghost use Rattle.meaning.specs.Resolved.{routine_of};
-ghost use Rattle.items.specs.Items as items;
-ghost use Rattle.items.specs.Code.{items_of};
+ghost use Rattle.items.specs.Statements as statements;
+ghost use Rattle.values.specs.Code.{items_of};
 
-use crate::draft::{Draft, in_order, put, written};
 use crate::exits::Exits;
-use crate::item::{Item, Operand};
 use crate::statement::put_statements;
 use meaning::CheckedRoutine;
 use std::alloc::{AllocError, Global};
+use values::{Draft, Item, Operand, in_order, put, written};
 
 /// The items of a routine: those of its statements, and then it returns true.
 ///
@@ -22,7 +21,7 @@ pub fn routine_items<'a>(
     routine: &CheckedRoutine<'a>,
 ) -> Result<Vec<Item<'a>>, AllocError>
     ensures { IfOk result (λ code. items_of code.items
-        ≡ items.routine_items (routine_of routine.now)) }
+        ≡ statements.routine_items (routine_of routine.now)) }
 {
     let items = Vec::new(alloc);
     let mut draft = Draft { alloc, items };

@@ -6,7 +6,7 @@ use Rattle.zcore.specs.declared.instruction.Operand.{Operand}
 use Rattle.zcore.specs.Instruction.{Instruction}
 use Rattle.meaning.specs.declared.cause.Cause.{Cause}
 use Rattle.meaning.specs.declared.cause.Cause.TheVariants.{NotAnObject}
-use Rattle.items.specs.Items as items
+use Rattle.values.specs.Items as items
 use Rattle.instructions.specs.Addresses.{Addresses, fault_address}
 use Rattle.instructions.specs.Instructions.{pulled_into, word_in, is_between, fail, constant}
 use Rattle.instructions.specs.Bytes.{bytes_of_all}

@@ -3,8 +3,8 @@ use Rattle.std.specs.Prelude.{ℕ, List, [], ◌++◌, map}
 use Rattle.std.specs.List.{filter}
 use Rattle.zcore.specs.Alphabets.{is_printable}
 use Rattle.zcore.specs.Abbreviations.{encoded_with}
-use Rattle.items.specs.Items.{Item}
-use Rattle.items.specs.Items as items
+use Rattle.values.specs.Items.{Item}
+use Rattle.values.specs.Items as items
 use Rattle.instructions.specs.Addresses.{Addresses, Sizes}
 use Rattle.instructions.specs.Bytes.{bytes_of_all, character_of}
 use Rattle.selection.specs.ItemCode.{item_code}

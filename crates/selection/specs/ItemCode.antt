@@ -25,8 +25,8 @@ use Rattle.expressions.specs.declared.tree.Width.TheVariants as widths
 use Rattle.meaning.specs.declared.cause.Cause.{Cause}
 use Rattle.meaning.specs.declared.cause.Cause.TheVariants as causes
 use Rattle.meaning.specs.declared.resolved.Variable as source
-use Rattle.items.specs.Items.{Item, Destination}
-use Rattle.items.specs.Items as items
+use Rattle.values.specs.Items.{Item, Destination}
+use Rattle.values.specs.Items as items
 use Rattle.instructions.specs.Addresses.{Addresses, Sizes, fault_address}
 use Rattle.instructions.specs.Instructions.{plain, giving, branching, number_of, temporary, constant, push, pull, copy}
 use Rattle.instructions.specs.Instructions.{store, fail, in_place, operands, pulled_into, word_in, most_tested}

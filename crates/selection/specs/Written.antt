@@ -1,8 +1,8 @@
 -- What the values of the code stand for.
 use Rattle.std.specs.Prelude.{if◌then◌else◌, Option, Some, None, ℕ}
 use Rattle.zcore.specs.declared.instruction.Operand.{Operand}
-use Rattle.items.specs.Items.{Item}
-use Rattle.items.specs.Items as items
+use Rattle.values.specs.Items.{Item}
+use Rattle.values.specs.Items as items
 use Rattle.instructions.specs.Instructions.{is_between, constant, word_in}
 use Rattle.instructions.specs.Written.{sizes_in}
 use Rattle.instructions.specs.declared.addresses.Sizes as counted

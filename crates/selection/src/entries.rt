@@ -3,8 +3,8 @@
 ghost use Rattle.std.specs.Prelude.{◌≡◌, ◌++◌, ◌%◌, [], ◌∷◌, slice_index, OnOk};
 ghost use Rattle.zcore.specs.declared.instruction.Operand.TheVariants.{Large, Variable};
 ghost use Rattle.meaning.specs.declared.cause.Cause.TheVariants.{IndexOutOfRange};
-ghost use Rattle.items.specs.Items as source_items;
-ghost use Rattle.items.specs.Code.{as_operand, as_destination};
+ghost use Rattle.values.specs.Items as source_items;
+ghost use Rattle.values.specs.Code.{as_operand, as_destination};
 ghost use Rattle.instructions.specs.Instructions as basic;
 ghost use Rattle.instructions.specs.Bytes.{AddsCode};
 ghost use Rattle.instructions.specs.Written.{addresses_of};

@@ -2,7 +2,7 @@
 
 ghost use Rattle.std.specs.Prelude.{◌≡◌, ◌%◌, [], ◌∷◌, slice_index, OnOk};
 ghost use Rattle.zcore.specs.declared.instruction.Operation.TheVariants.{PrintNumber};
-ghost use Rattle.items.specs.Code.{item_of, as_operand};
+ghost use Rattle.values.specs.Code.{item_of, as_operand};
 ghost use Rattle.instructions.specs.Instructions as basic;
 ghost use Rattle.instructions.specs.Bytes.{Adds, AddsCode};
 ghost use Rattle.instructions.specs.Written.{addresses_of, sizes_in};

@@ -1,7 +1,7 @@
 //! What items are about.
 
 ghost use Rattle.std.specs.Prelude.{◌≡◌};
-ghost use Rattle.items.specs.Code.{item_of};
+ghost use Rattle.values.specs.Code.{item_of};
 ghost use Rattle.selection.specs.Written as spec;
 
 use items::Item;

@@ -3,7 +3,7 @@
 ghost use Rattle.std.specs.Prelude.{◌≡◌, ◌<◌, ◌+◌, ◌++◌, [], ◌∷◌, map, OnOk};
 ghost use Rattle.zcore.specs.declared.instruction.Operand.TheVariants.{Small};
 ghost use Rattle.meaning.specs.declared.cause.Cause.TheVariants.{NotAnObject};
-ghost use Rattle.items.specs.Code.{as_operand, as_destination};
+ghost use Rattle.values.specs.Code.{as_operand, as_destination};
 ghost use Rattle.instructions.specs.Instructions.{pulled_into, tested_between};
 ghost use Rattle.instructions.specs.Instructions as basic;
 ghost use Rattle.instructions.specs.Bytes.{AddsCode};

@@ -3,7 +3,7 @@
 ghost use Rattle.std.specs.Prelude.{◌≡◌, ◌<◌, [], ◌∷◌, OnOk};
 ghost use Rattle.zcore.specs.declared.instruction.Operand.TheVariants.{Variable};
 ghost use Rattle.zcore.specs.declared.instruction.Operation.TheVariants.{LoadWord, StoreWord};
-ghost use Rattle.items.specs.Code.{as_operand, as_destination};
+ghost use Rattle.values.specs.Code.{as_operand, as_destination};
 ghost use Rattle.instructions.specs.Instructions as basic;
 ghost use Rattle.instructions.specs.Bytes.{AddsCode};
 ghost use Rattle.instructions.specs.Written.{addresses_of, instruction_of};

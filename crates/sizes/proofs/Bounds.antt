@@ -14,13 +14,13 @@ use Rattle.meaning.specs.Resolved.{Value, Values, none, more}
 use Rattle.meaning.specs.Resolved as source
 use Rattle.meaning.specs.Meaning.{is_true}
 use Rattle.meaning.specs.Accepted.{count_of}
-use Rattle.items.specs.Items.{Item, Operand, pushed, number, variable, Destination, push, into, nowhere, operand_of}
-use Rattle.items.specs.Items.{operands_of, alone, left_of, if_pushed, branch_true, agrees, is_few, comparison_test}
-use Rattle.items.specs.Items.{comparison_when, equality_when, value_count, operand_count, operands_count}
-use Rattle.items.specs.Items.{branch_count, many_count, moved, truth_items, after_items, kept_items, and_items}
-use Rattle.items.specs.Items.{or_items, value_items, operands_items, branch_items, many_items, also_items}
-use Rattle.items.specs.Items.{first_of, containment_when}
-use Rattle.items.specs.Items as items
+use Rattle.values.specs.Items.{Item, Operand, pushed, number, variable, Destination, push, into, nowhere, operand_of}
+use Rattle.values.specs.Items.{operands_of, alone, left_of, if_pushed, branch_true, agrees, is_few, comparison_test}
+use Rattle.values.specs.Items.{comparison_when, equality_when, value_count, operand_count, operands_count}
+use Rattle.values.specs.Items.{branch_count, many_count, moved, truth_items, after_items, kept_items, and_items}
+use Rattle.values.specs.Items.{or_items, value_items, operands_items, branch_items, many_items, also_items, first_of}
+use Rattle.values.specs.Items.{containment_when}
+use Rattle.values.specs.Items as items
 use Rattle.sizes.proofs.Most.{most_of, tokens, list_tokens, alternative_tokens, or_tokens, most_append, if_small}
 use Rattle.sizes.proofs.Most.{moved_small, after_small, kept_small, truth_small, either_small, operands_length}
 use Rattle.sizes.proofs.Most.{alternatives_are}

@@ -21,9 +21,9 @@ use Rattle.expressions.specs.declared.tree.Width.{Width}
 use Rattle.expressions.specs.declared.tree.Width.TheVariants as widths
 use Rattle.meaning.specs.declared.resolved.Variable as source
 use Rattle.meaning.specs.Meaning.{is_character}
-use Rattle.items.specs.Items.{Item, Destination, Test}
+use Rattle.values.specs.Items.{Item, Destination, Test}
 use Rattle.meaning.specs.declared.cause.Cause.TheVariants as causes
-use Rattle.items.specs.Items as items
+use Rattle.values.specs.Items as items
 use Rattle.instructions.specs.Instructions as spec
 use Rattle.instructions.specs.Instructions.{plain, giving, in_place, constant, pushed_count, named_from, operands}
 use Rattle.instructions.specs.Instructions.{takes, result_in, fail, arithmetic, divided, divided_by, binary_code}

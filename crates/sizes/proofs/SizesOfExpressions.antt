@@ -29,8 +29,8 @@ use Rattle.meaning.specs.Accepted.{count_of}
 use Rattle.rules.specs.Expressions.{value_of_binding, tested_for, assigned, resolve, resolve_all}
 use Rattle.meaning.specs.Resolved.{Value}
 use Rattle.meaning.specs.Resolved as source
-use Rattle.items.specs.Items.{Item, Destination, push, alone, left_of, if_pushed, operand_count, value_items}
-use Rattle.items.specs.Items.{branch_items, alone_items}
+use Rattle.values.specs.Items.{Item, Destination, push, alone, left_of, if_pushed, operand_count, value_items}
+use Rattle.values.specs.Items.{branch_items, alone_items}
 use Rattle.sizes.proofs.Most.{most_of, tokens, list_tokens, alternative_tokens, or_tokens, if_small}
 use Rattle.sizes.proofs.Most.{alternatives_are}
 use Rattle.sizes.proofs.Bounds.{small, two_small}

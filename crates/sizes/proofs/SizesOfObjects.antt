@@ -9,8 +9,8 @@ use Rattle.expressions.specs.declared.tree.Relative.{Relative}
 use Rattle.expressions.specs.declared.tree.Relative.TheVariants as relatives
 use Rattle.meaning.specs.declared.cause.Cause.TheVariants as causes
 use Rattle.meaning.specs.declared.resolved.Variable as source
-use Rattle.items.specs.Items.{Destination}
-use Rattle.items.specs.Items as items
+use Rattle.values.specs.Items.{Destination}
+use Rattle.values.specs.Items as items
 use Rattle.instructions.specs.Addresses.{fault_address}
 use Rattle.instructions.specs.Instructions.{plain, giving, branching, fail, labelled, result_in, temporary, number_of}
 use Rattle.instructions.specs.Instructions.{constant, pulled_into, word_in, store}

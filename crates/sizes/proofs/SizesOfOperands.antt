@@ -13,8 +13,8 @@ use Rattle.forms.specs.declared.layout.Form.TheVariants as form
 use Rattle.forms.specs.declared.layout.Form.{Form}
 use Rattle.forms.specs.Layout.{size_with}
 use Rattle.meaning.specs.declared.cause.Cause.{Cause}
-use Rattle.items.specs.Items.{Destination}
-use Rattle.items.specs.Items as items
+use Rattle.values.specs.Items.{Destination}
+use Rattle.values.specs.Items as items
 use Rattle.instructions.specs.Addresses.{fault_address}
 use Rattle.instructions.specs.Instructions as spec
 use Rattle.instructions.specs.Instructions.{plain, giving, constant, fail, labelled, branching, pull, is_between}

@@ -16,7 +16,7 @@ use Rattle.syntax.proofs.Spelled.{weight_Ss, spelled_Names, weighs}
 use Rattle.names.specs.Names.{File, seen_from}
 use Rattle.checker.specs.Programs.{resolve_routine, routines_of, routine_trees}
 use Rattle.rules.specs.Statements.{resolve_statements}
-use Rattle.items.specs.Items.{return_true, actions_count, exits_to, actions_items}
+use Rattle.items.specs.Statements.{return_true, actions_count, exits_to, actions_items}
 use Rattle.instructions.specs.Addresses.{Sizes}
 use Rattle.code.specs.Sizes.{routine_size, routines_size}
 use Rattle.sizes.specs.Laws.{IsShort, CodeIsShort}

@@ -9,8 +9,8 @@ use Rattle.zcore.specs.Alphabets.{is_printable, punctuation, upper_letters, lowe
 use Rattle.zcore.specs.Alphabets.{spelling_in_punctuation, spelling_in_upper, spelling_in_lower, spelling_of}
 use Rattle.zcore.specs.Words.{packed, missing, padded}
 use Rattle.zcore.specs.Abbreviations.{Found, longest, spelling_or, more_of, spelled_behind, encoded_with}
-use Rattle.items.specs.Items.{Item, Destination, Test}
-use Rattle.items.specs.Items as items
+use Rattle.values.specs.Items.{Item, Destination, Test}
+use Rattle.values.specs.Items as items
 use Rattle.instructions.specs.Addresses.{Sizes}
 use Rattle.instructions.specs.Bytes.{character_of}
 use Rattle.code.specs.Bytes.{least_size}

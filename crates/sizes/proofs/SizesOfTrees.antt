@@ -27,13 +27,15 @@ use Rattle.meaning.specs.Resolved.{RangeOf}
 use Rattle.meaning.specs.Resolved as resolved
 use Rattle.rules.specs.Statements.{resolve_range, resolve_item, resolve_flag, loop_variable, resolve_statement}
 use Rattle.rules.specs.Statements.{resolve_statements, resolve_cases}
-use Rattle.items.specs.Items.{Item, Destination, push, nowhere, operand_count, branch_count, alone, if_pushed}
-use Rattle.items.specs.Items.{value_items, branch_items, alone_items, printed_count, printed_items, prints_items}
-use Rattle.items.specs.Items.{once_count, test_count, once_items, test_items, Group, numbers, range, with_number}
-use Rattle.items.specs.Items.{groups_of, group_count, group_items, tests_count, tests_items, over_count, over_items}
-use Rattle.items.specs.Items.{action_count, actions_count, cases_count, Exits, exits_to, action_items, actions_items}
-use Rattle.items.specs.Items.{cases_items, Operand, left_of, each_items, relative_items, children_items}
-use Rattle.items.specs.Items as items
+use Rattle.values.specs.Items.{Item, Destination, push, nowhere, operand_count, branch_count, alone, if_pushed}
+use Rattle.values.specs.Items.{value_items, branch_items, alone_items}
+use Rattle.items.specs.Statements.{printed_count, printed_items, prints_items, once_count, test_count, once_items}
+use Rattle.items.specs.Statements.{test_items, Group, numbers, range, with_number, groups_of, group_count, group_items}
+use Rattle.items.specs.Statements.{tests_count, tests_items, over_count, over_items, return_true, action_count}
+use Rattle.items.specs.Statements.{actions_count, cases_count, Exits, exits_to, action_items, actions_items}
+use Rattle.values.specs.Items.{Operand, left_of}
+use Rattle.items.specs.Statements.{cases_items, each_items, relative_items, children_items}
+use Rattle.values.specs.Items as items
 use Rattle.sizes.proofs.Most.{most_of, most_append}
 use Rattle.sizes.proofs.SizesOfExpressions.{Fits, fits_E, fits_E1, fits_E3, few_value, few_branch, few_alone}
 use Rattle.sizes.proofs.SizesOfExpressions.{few_two}
@@ -182,7 +184,7 @@ module _ (seen : Seen) where
     within =
         λ e at. omega (
           arith,
-          most_append (prints_items at (map (resolve_item seen) is)) (items.new_line ∷ items.return_true ∷ []),
+          most_append (prints_items at (map (resolve_item seen) is)) (items.new_line ∷ return_true ∷ []),
           a.within at,
         );
   }

@@ -28,7 +28,7 @@ use Rattle.zcore.specs.Instruction.{bytes_of}
 use Rattle.zcore.specs.Alphabets.{spelling_of}
 use Rattle.zcore.specs.Words.{packed}
 use Rattle.zcore.specs.Abbreviations.{encoded_with}
-use Rattle.items.specs.Items as items
+use Rattle.values.specs.Items as items
 use Rattle.instructions.specs.Addresses.{Sizes}
 use Rattle.code.specs.Bytes.{least_size}
 use Rattle.code.specs.Sizes.{routine_size, routines_size}

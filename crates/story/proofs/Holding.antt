@@ -18,7 +18,7 @@ use Rattle.meaning.specs.Resolved.{RoutineOf, ProgramOf}
 use Rattle.meaning.specs.Accepted.{IsAccepted}
 use Rattle.meaning.specs.Places.{arrays_place, start_place, routines_place, texts_place}
 use Rattle.meaning.specs.Meaning.{routine_at}
-use Rattle.items.specs.Items.{routine_items}
+use Rattle.items.specs.Statements.{routine_items}
 use Rattle.meaning.specs.World.{words_of}
 use Rattle.meaning.specs.declared.cause.Cause.{Cause}
 use Rattle.meaning.specs.declared.cause.Cause.TheVariants as causes

@@ -2,7 +2,7 @@
 use Rattle.std.proofs.Common.{◌≡◌, List, [], ◌∷◌, ◌++◌, length, refl, ap, ◌∙◌, arith}
 use Rattle.std.specs.Prelude.{map}
 use Rattle.meaning.specs.Resolved.{RoutineOf}
-use Rattle.items.specs.Items.{routine_items}
+use Rattle.items.specs.Statements.{routine_items}
 use Rattle.instructions.specs.Addresses.{Addresses, Sizes}
 use Rattle.code.specs.Bytes.{code_size, code_bytes}
 use Rattle.code.specs.Sizes.{routine_size}

@@ -8,7 +8,7 @@ use Rattle.meaning.specs.Resolved.{RoutineOf, ProgramOf}
 use Rattle.meaning.specs.Accepted.{IsAccepted}
 use Rattle.meaning.specs.Sizes.{greatest_weight}
 use Rattle.meaning.specs.Places.{routines_place}
-use Rattle.items.specs.Items.{routine_items}
+use Rattle.items.specs.Statements.{routine_items}
 use Rattle.instructions.specs.Addresses.{Sizes}
 use Rattle.code.specs.Bytes.{code_size}
 use Rattle.code.specs.Sizes.{routines_size}

@@ -17,7 +17,7 @@ use Rattle.meaning.specs.Places.{arrays_place, defaults_place, dictionary_end, f
 use Rattle.meaning.specs.Places.{routines_place, places_of}
 use Rattle.meaning.specs.Resolved.{RoutineOf, ProgramOf}
 use Rattle.meaning.specs.World.{words_of}
-use Rattle.items.specs.Items.{routine_items}
+use Rattle.items.specs.Statements.{routine_items}
 use Rattle.region.specs.Rows.{rows_of, rows_bytes}
 use Rattle.instructions.specs.Addresses.{Addresses, Sizes, all_causes}
 use Rattle.code.specs.Bytes.{code_bytes}

@@ -1,7 +1,7 @@
 use Rattle.std.proofs.Common.{◌≡◌, ℕ, List, ◌+◌, reverse, ap, ◌∙◌, arith}
 use Rattle.forms.specs.declared.layout.Part.{Part}
 use Rattle.forms.specs.Layout.{lefts, uses}
-use Rattle.items.specs.Code.{items_of}
+use Rattle.values.specs.Code.{items_of}
 use Rattle.instructions.specs.Written.{sizes_in}
 use Rattle.instructions.specs.Places.{place_in}
 use Rattle.code.specs.Bytes.{lefts_of, parts_of, code_size}

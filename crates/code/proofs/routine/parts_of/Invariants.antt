@@ -1,5 +1,5 @@
 use Rattle.std.proofs.Common.{◌≡◌, ◌+◌, ◌++◌, length, drop}
-use Rattle.items.specs.Code.{items_of}
+use Rattle.values.specs.Code.{items_of}
 use Rattle.instructions.specs.Written.{sizes_in}
 use Rattle.code.specs.Bytes.{parts_of}
 use Rattle.code.proofs.Codes.{least_sum}

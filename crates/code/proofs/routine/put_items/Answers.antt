@@ -1,5 +1,5 @@
 use Rattle.std.proofs.Common.{ap, ◌∙◌, arith}
-use Rattle.items.specs.Code.{item_of, items_of}
+use Rattle.values.specs.Code.{item_of, items_of}
 use Rattle.instructions.specs.Written.{addresses_of, sizes_in}
 use Rattle.code.specs.Bytes.{place_of}
 use Rattle.code.proofs.Codes.{left_count, bytes_next, offset_is}

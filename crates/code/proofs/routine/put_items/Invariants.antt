@@ -1,5 +1,5 @@
 use Rattle.std.proofs.Common.{◌≡◌, ◌++◌, drop}
-use Rattle.items.specs.Code.{items_of}
+use Rattle.values.specs.Code.{items_of}
 use Rattle.instructions.specs.Written.{addresses_of, sizes_in}
 use Rattle.code.specs.Bytes.{place_of, items_bytes}
 use Rattle.code.proofs.routine.put_items.Given as goal

@@ -1,4 +1,4 @@
-use Rattle.items.specs.Code.{as_operands, as_test}
+use Rattle.values.specs.Code.{as_operands, as_test}
 use Rattle.std.proofs.Common.{take}
 use Rattle.instructions.specs.Instructions.{most_tested}
 use Rattle.instructions.proofs.Givens.{given_is, branch_otherwise, on_ok}

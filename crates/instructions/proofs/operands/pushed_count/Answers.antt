@@ -1,5 +1,5 @@
 use Rattle.std.proofs.Common.{arith}
-use Rattle.items.specs.declared.item.Operand.TheVariants.{Pushed}
+use Rattle.values.specs.declared.item.Operand.TheVariants.{Pushed}
 use Rattle.instructions.proofs.Naming.{counted_on}
 use Rattle.instructions.proofs.operands.pushed_count.Goals as goal
 

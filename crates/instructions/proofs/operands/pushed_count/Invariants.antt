@@ -1,5 +1,5 @@
 use Rattle.std.proofs.Common.{◌≡◌, ◌≤◌, ◌+◌, drop}
-use Rattle.items.specs.Code.{as_operands}
+use Rattle.values.specs.Code.{as_operands}
 use Rattle.instructions.specs.Instructions.{pushed_count}
 use Rattle.instructions.proofs.operands.pushed_count.Given as goal
 

@@ -1,5 +1,5 @@
 use Rattle.std.proofs.Common.{arith}
-use Rattle.items.specs.declared.item.Operand.TheVariants.{Pushed}
+use Rattle.values.specs.declared.item.Operand.TheVariants.{Pushed}
 use Rattle.instructions.proofs.Naming.{named_on}
 use Rattle.instructions.proofs.operands.put_named.Goals as goal
 

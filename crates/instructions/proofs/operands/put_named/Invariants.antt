@@ -1,5 +1,5 @@
 use Rattle.std.proofs.Common.{◌≡◌, ◌≤◌, ◌++◌, drop}
-use Rattle.items.specs.Code.{as_operands}
+use Rattle.values.specs.Code.{as_operands}
 use Rattle.instructions.specs.Instructions.{operands}
 use Rattle.instructions.specs.Written.{named_when}
 use Rattle.instructions.proofs.operands.put_named.Given as goal

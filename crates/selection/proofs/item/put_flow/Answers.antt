@@ -1,6 +1,6 @@
 use Rattle.std.proofs.Common.{◌≡◌, ◌++◌, ◌%◌, slice_index, sym, subst}
-use Rattle.items.specs.declared.item.Item as code
-use Rattle.items.specs.Code.{item_of}
+use Rattle.values.specs.declared.item.Item as code
+use Rattle.values.specs.Code.{item_of}
 use Rattle.instructions.specs.Bytes.{bytes_of_all}
 use Rattle.instructions.specs.Written.{addresses_of, sizes_in}
 use Rattle.selection.specs.ItemCode.{read_code}

@@ -1,7 +1,7 @@
 use Rattle.std.proofs.Common.{◌++◌, [], ◌∷◌}
 use Rattle.zcore.specs.declared.instruction.Operand.TheVariants.{Variable}
 use Rattle.zcore.specs.declared.instruction.Operation.TheVariants.{InsertObject}
-use Rattle.items.specs.Code.{as_operand}
+use Rattle.values.specs.Code.{as_operand}
 use Rattle.instructions.specs.Instructions.{plain, store, temporary}
 use Rattle.instructions.specs.Written.{addresses_of}
 use Rattle.selection.specs.ItemCode.{climbing}

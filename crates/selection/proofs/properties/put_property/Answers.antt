@@ -1,4 +1,4 @@
-use Rattle.items.specs.Code.{as_operand, as_destination}
+use Rattle.values.specs.Code.{as_operand, as_destination}
 use Rattle.instructions.specs.Instructions.{result_in}
 use Rattle.instructions.specs.Written.{addresses_of}
 use Rattle.selection.specs.ItemCode.{property_value}

@@ -1,7 +1,7 @@
 use Rattle.std.proofs.Common.{◌≡◌, ◌++◌, List, subst}
 use Rattle.zcore.specs.declared.instruction.Operand.{Operand}
 use Rattle.zcore.specs.Instruction.{Instruction}
-use Rattle.items.specs.Code.{as_operand, as_destination}
+use Rattle.values.specs.Code.{as_operand, as_destination}
 use Rattle.instructions.specs.Instructions.{result_in, word_in}
 use Rattle.instructions.specs.Bytes.{bytes_of_all}
 use Rattle.instructions.specs.Written.{addresses_of}

@@ -1,6 +1,6 @@
 use Rattle.std.proofs.Common.{◌≡◌, ◌%◌, List, [], ◌∷◌, ◌++◌, ap, ◌∙◌}
-use Rattle.items.specs.Items.{Item}
-use Rattle.items.specs.Code.{items_of}
+use Rattle.values.specs.Items.{Item}
+use Rattle.values.specs.Code.{items_of}
 use Rattle.instructions.specs.Written.{addresses_of, sizes_in}
 use Rattle.code.specs.Bytes.{place_of, items_bytes}
 use Rattle.code.proofs.Codes.{code_written}

@@ -1,5 +1,0 @@
-use Rattle.items.proofs.Trees.{chain_pushed}
-use Rattle.items.proofs.operand.alone.Goals as goal
-
-pub returns-in-Chain : goal.returns-in-Chain
-returns-in-Chain c = chain_pushed _ _ _ _ _ c.in-Chain.is

@@ -1,0 +1,10 @@
+pub mod Counts
+pub mod Trees
+pub mod Drafts
+pub mod Operands
+pub mod WrittenItems
+pub mod Reductions
+pub mod Values
+pub mod Assigned
+pub mod Alternatives
+pub mod ObjectForms
