@@ -7,8 +7,8 @@ use Rattle.values.specs.Items.{Item, Operand, pushed, Destination, push, alone, 
 use Rattle.values.specs.Items.{branch_true, value_count, value_items, branch_items}
 use Rattle.values.specs.Items as items
 use Rattle.values.specs.declared.wanted.Wanted.{Wanted}
-use Rattle.values.specs.Writing.{numbered, Written, Leaves, wanted_items, pushes, both_push, IsCondition}
-use Rattle.values.specs.Writing.{ReducesWord, ReducesTruth, ReducesAssignedWord}
+use Rattle.values.specs.Writing.{numbered, Written, Leaves, wanted_items, pushes, both_push, IsCondition, ReducesWord}
+use Rattle.values.specs.Writing.{ReducesTruth, ReducesAssignedWord}
 use Rattle.values.proofs.WrittenItems.{both, as_items, after_one}
 use Rattle.values.proofs.Values.{pushes_length}
 use Rattle.values.proofs.Alternatives.{both_length}
@@ -33,27 +33,29 @@ three_pushed o v q i ow w at rest =
 
 -- as the code comes to them: d and so on are the trees behind its boxes
 
-pub box_more : (c c1 : List Item) (wanted : Wanted) (t : Value) (a d : code_value.Value) (whole : Value → Value)
-    → t ≡ whole (value_of a) → d ≡ a → Written c c1 (wanted_items wanted (whole (value_of d)))
-    → Written c c1 (wanted_items wanted t)
-box_more c c1 wanted t a d whole is e w =
-    let P : Value → Type 0 = λ u. Written c c1 (wanted_items wanted u) in
-    subst P (ap (λ (x : code_value.Value). whole (value_of x)) e ∙ sym is) w
+pub one_boxed : (P : Value → Type 0) (t : Value) (a d : code_value.Value) (whole : Value → Value)
+    → t ≡ whole (value_of a) → d ≡ a → P (whole (value_of d)) → P t
+one_boxed P t a d whole is e holds = subst P (ap (λ (x : code_value.Value). whole (value_of x)) e ∙ sym is) holds
 
-pub pair_more : (c c1 c2 : List Item) (wanted : Wanted) (t : Value) (o : Operand) (a b d1 d2 d3 d4 : code_value.Value)
-    (whole : Value → Value → Value) → t ≡ whole (value_of a) (value_of b) → d1 ≡ a → d2 ≡ b
-    → o ≡ left_of (value_of d1) (value_of d2) → d3 ≡ b
-    → ((v : Value) → o ≡ left_of v (value_of d3)
-    → Leaves c c1 (wanted_items wanted (whole v (value_of d3))) (pushes o v))
-    → d4 ≡ a → Written c1 c2 (pushes o (value_of d4)) → Written c c2 (wanted_items wanted t)
-pair_more c c1 c2 wanted t o a b d1 d2 d3 d4 whole is e1 e2 eo e3 link e4 w =
-    let P : Value → Type 0 = λ u. Written c c2 (wanted_items wanted u) in
-    let Q : code_value.Value → Type 0 = λ x. (v : Value) → o ≡ left_of v (value_of x)
-    → Leaves c c1 (wanted_items wanted (whole v (value_of x))) (pushes o v) in
-    let R : code_value.Value → Type 0 = λ x. Written c1 c2 (pushes o (value_of x)) in
-    let left = eo ∙ ap (λ (x : code_value.Value). left_of (value_of x) (value_of d2)) e1
-    ∙ ap (λ (x : code_value.Value). left_of (value_of a) (value_of x)) e2 in
-    subst P (sym is) ((subst Q e3 link (value_of a) left).with_rest c2 (subst R e4 w))
+pub two_boxed : (P : Value → Type 0) (t : Value) (a b d1 d2 : code_value.Value) (whole : Value → Value → Value)
+    → t ≡ whole (value_of a) (value_of b) → d1 ≡ a → d2 ≡ b → P (whole (value_of d1) (value_of d2)) → P t
+two_boxed P t a b d1 d2 whole is e1 e2 holds =
+    subst P (ap (λ (x : code_value.Value). whole (value_of x) (value_of d2)) e1
+    ∙ ap (λ (x : code_value.Value). whole (value_of a) (value_of x)) e2 ∙ sym is) holds
+
+pub three_boxed : (P : Value → Type 0) (t : Value) (a b c d1 d2 d3 : code_value.Value)
+    (whole : Value → Value → Value → Value) → t ≡ whole (value_of a) (value_of b) (value_of c) → d1 ≡ a → d2 ≡ b
+    → d3 ≡ c → P (whole (value_of d1) (value_of d2) (value_of d3)) → P t
+three_boxed P t a b c d1 d2 d3 whole is e1 e2 e3 holds =
+    subst P (ap (λ (x : code_value.Value). whole (value_of x) (value_of d2) (value_of d3)) e1
+    ∙ ap (λ (x : code_value.Value). whole (value_of a) (value_of x) (value_of d3)) e2
+    ∙ ap (λ (x : code_value.Value). whole (value_of a) (value_of b) (value_of x)) e3 ∙ sym is) holds
+
+-- what pushes the first of two operands
+pub pair_more : (c c1 c2 : List Item) (wanted : Wanted) (o : Operand) (a b : Value) (whole : Value → Value → Value)
+    → o ≡ left_of a b → ((v : Value) → o ≡ left_of v b → Leaves c c1 (wanted_items wanted (whole v b)) (pushes o v))
+    → Written c1 c2 (pushes o a) → Written c c2 (wanted_items wanted (whole a b))
+pair_more c c1 c2 wanted o a b whole eo link w = (link a eo).with_rest c2 w
 
 -- a word of one operand
 pub one_word : (c c1 c2 c3 : List Item) (wanted : Wanted) (d : Destination) (o : Operand) (v whole : Value)

@@ -1,9 +1,10 @@
 //! Expressions as items.
 
-ghost use Rattle.std.specs.Prelude.{IfOk, OnOk};
+ghost use Rattle.std.specs.Prelude.{map, IfOk, OnOk};
 ghost use Rattle.meaning.specs.Resolved.{call, prefixed, assign, entry, relative, has, provides, property, property_size};
-ghost use Rattle.meaning.specs.Resolved.{value_of};
-ghost use Rattle.values.specs.Writing.{values_in, WritesValue, WritesOperand, WritesOperands, WritesFolded};
+ghost use Rattle.meaning.specs.Resolved.{chained, binary, compare, equal, assign_entry, contained, property_word, value_of};
+ghost use Rattle.meaning.specs.Resolved.{assign_property, assign_property_word};
+ghost use Rattle.values.specs.Writing.{link_of, more_in, values_in, WritesValue, WritesOperand, WritesOperands, WritesFolded};
 ghost use Rattle.values.specs.Writing.{WritesLink, WritesLinks, WritesComparison, WritesEquality, WritesFirst};
 ghost use Rattle.values.specs.Writing.{WritesAssignedEntry, WritesContained, WritesPropertyWord};
 ghost use Rattle.values.specs.Writing.{WritesAssignedProperty};
@@ -28,71 +29,38 @@ pub fn put_value<'a>(draft: &mut Draft<'a>, value: &Value, wanted: Wanted) -> Re
     ensures { OnOk result (WritesValue draft.old draft.new wanted (value_of value.now)) }
 {
     match value {
-        Value::Number(number) => put_number(draft, *number, wanted)?,
-        Value::Read(variable) => put_read(draft, *variable, wanted)?,
-        Value::Call(routine, arguments) => put_call(draft, arguments, *routine, wanted)?,
-        Value::Prefixed(prefix, operand) => put_prefixed(draft, operand, *prefix, wanted)?,
-        Value::StepBefore(step, variable) => {
-            put_step_before(draft, *variable, *step, wanted)?;
-        }
-        Value::StepAfter(variable, step) => put_step_after(draft, *variable, *step, wanted)?,
+        Value::Number(number) => put_number(draft, *number, wanted),
+        Value::Read(variable) => put_read(draft, *variable, wanted),
+        Value::Call(routine, arguments) => put_call(draft, arguments, *routine, wanted),
+        Value::Prefixed(prefix, operand) => put_prefixed(draft, operand, *prefix, wanted),
+        Value::StepBefore(step, variable) => put_step_before(draft, *variable, *step, wanted),
+        Value::StepAfter(variable, step) => put_step_after(draft, *variable, *step, wanted),
         Value::Chain(first, operator, second, links) => {
-            let wanted = put_links(draft, links, wanted)?;
-            let left = left_of(first, second);
-            let wanted = put_link(draft, second, *operator, left, wanted)?;
-            put_first(draft, first, *operator, left, wanted)?;
+            put_chain(draft, first, *operator, second, links, wanted)
         }
-        Value::Compare(left, comparison, right) => {
-            let operand = left_of(left, right);
-            put_comparison(draft, right, *comparison, operand, wanted)?;
-            put_operand(draft, left, operand)?;
-        }
-        Value::Equal(left, equality, right, others) => {
-            let (first, second) = side_operands(left, right, others);
-            put_others(draft, others, *equality, (first, second), wanted)?;
-            put_operand(draft, right, second)?;
-            put_operand(draft, left, first)?;
-        }
-        Value::Assign(variable, value) => put_assigned(draft, value, *variable, wanted)?,
-        Value::Entry(width, array, index) => put_entry(draft, index, *width, *array, wanted)?,
+        Value::Compare(left, test, right) => put_compare(draft, left, right, *test, wanted),
+        Value::Equal(left, test, right, more) => put_equal(draft, left, right, more, *test, wanted),
+        Value::Assign(variable, value) => put_assigned(draft, value, *variable, wanted),
+        Value::Entry(width, array, index) => put_entry(draft, index, *width, *array, wanted),
         Value::AssignEntry(width, array, index, value) => {
-            let left = left_of(index, value);
-            put_assigned_entry(draft, value, *width, *array, left, wanted)?;
-            put_operand(draft, index, left)?;
+            put_assign_entry(draft, index, value, *width, *array, wanted)
         }
-        Value::Relative(relative, object) => put_relative(draft, object, *relative, wanted)?,
-        Value::Contained(object, containment, parent) => {
-            let left = left_of(object, parent);
-            put_contained(draft, parent, *containment, left, wanted)?;
-            put_operand(draft, object, left)?;
+        Value::Relative(relative, object) => put_relative(draft, object, *relative, wanted),
+        Value::Contained(left, test, right) => put_contained(draft, left, right, *test, wanted),
+        Value::Has(positive, object, number) => put_has(draft, object, *positive, *number, wanted),
+        Value::Provides(object, number) => put_provides(draft, object, *number, wanted),
+        Value::Property(object, number) => put_property(draft, object, *number, wanted),
+        Value::PropertySize(object, number) => put_property_size(draft, object, *number, wanted),
+        Value::PropertyWord(object, number, index) => {
+            put_property_word(draft, object, index, *number, wanted)
         }
-        Value::Has(positive, object, attribute) => {
-            put_has(draft, object, *positive, *attribute, wanted)?;
+        Value::AssignProperty(object, number, value) => {
+            put_assign_property(draft, object, value, *number, wanted)
         }
-        Value::Provides(object, property) => put_provides(draft, object, *property, wanted)?,
-        Value::Property(object, property) => put_property(draft, object, *property, wanted)?,
-        Value::PropertySize(object, property) => {
-            put_property_size(draft, object, *property, wanted)?;
-        }
-        Value::PropertyWord(object, property, index) => {
-            let left = left_of(object, index);
-            put_property_word(draft, index, *property, left, wanted)?;
-            put_operand(draft, object, left)?;
-        }
-        Value::AssignProperty(object, property, value) => {
-            let left = left_of(object, value);
-            put_assigned_property(draft, value, *property, left, wanted)?;
-            put_operand(draft, object, left)?;
-        }
-        Value::AssignPropertyWord(object, property, index, value) => {
-            let first = first_of(object, index, value);
-            let second = left_of(index, value);
-            put_assigned_word(draft, value, *property, (first, second), wanted)?;
-            put_operand(draft, index, second)?;
-            put_operand(draft, object, first)?;
+        Value::AssignPropertyWord(object, number, index, value) => {
+            put_assign_property_word(draft, object, index, value, *number, wanted)
         }
     }
-    Ok(())
 }
 
 /// What pushes the word of an operand; none where it stands in place.
@@ -214,6 +182,25 @@ fn put_entry<'a>(
     Ok(())
 }
 
+/// An entry that is assigned.
+#[cycle(values)]
+fn put_assign_entry<'a>(
+    draft: &mut Draft<'a>,
+    index: &Value,
+    value: &Value,
+    width: Width,
+    array: usize,
+    wanted: Wanted,
+) -> Result<(), AllocError>
+    ensures { OnOk result (WritesValue draft.old draft.new wanted
+        (assign_entry width array (value_of index.now) (value_of value.now))) }
+{
+    let left = left_of(index, value);
+    put_assigned_entry(draft, value, width, array, left, wanted)?;
+    put_operand(draft, index, left)?;
+    Ok(())
+}
+
 /// An entry that is assigned, where the operand for its index is known.
 #[cycle(values)]
 fn put_assigned_entry<'a>(
@@ -255,9 +242,27 @@ fn put_relative<'a>(
     Ok(())
 }
 
-/// `in` or `notin` and the word at its right, where the operand for the object is known.
+/// Whether an object stands in another, or whether it does not.
 #[cycle(values)]
 fn put_contained<'a>(
+    draft: &mut Draft<'a>,
+    object: &Value,
+    parent: &Value,
+    containment: Containment,
+    wanted: Wanted,
+) -> Result<(), AllocError>
+    ensures { OnOk result (WritesValue draft.old draft.new wanted
+        (contained containment (value_of object.now) (value_of parent.now))) }
+{
+    let left = left_of(object, parent);
+    put_containment(draft, parent, containment, left, wanted)?;
+    put_operand(draft, object, left)?;
+    Ok(())
+}
+
+/// `in` or `notin` and the word at its right, where the operand for the object is known.
+#[cycle(values)]
+fn put_containment<'a>(
     draft: &mut Draft<'a>,
     parent: &Value,
     containment: Containment,
@@ -349,9 +354,27 @@ fn put_property_size<'a>(
     Ok(())
 }
 
-/// A word of a property, where the operand for the object is known.
+/// A word of a property.
 #[cycle(values)]
 fn put_property_word<'a>(
+    draft: &mut Draft<'a>,
+    object: &Value,
+    index: &Value,
+    number: usize,
+    wanted: Wanted,
+) -> Result<(), AllocError>
+    ensures { OnOk result (WritesValue draft.old draft.new wanted
+        (property_word (value_of object.now) number (value_of index.now))) }
+{
+    let left = left_of(object, index);
+    put_indexed_property(draft, index, number, left, wanted)?;
+    put_operand(draft, object, left)?;
+    Ok(())
+}
+
+/// A word of a property, where the operand for the object is known.
+#[cycle(values)]
+fn put_indexed_property<'a>(
     draft: &mut Draft<'a>,
     index: &Value,
     number: usize,
@@ -367,6 +390,24 @@ fn put_property_word<'a>(
         Item::PropertyWord(number, object, operand, destination),
     )?;
     put_operand(draft, index, operand)?;
+    Ok(())
+}
+
+/// A property that is assigned.
+#[cycle(values)]
+fn put_assign_property<'a>(
+    draft: &mut Draft<'a>,
+    object: &Value,
+    value: &Value,
+    number: usize,
+    wanted: Wanted,
+) -> Result<(), AllocError>
+    ensures { OnOk result (WritesValue draft.old draft.new wanted
+        (assign_property (value_of object.now) number (value_of value.now))) }
+{
+    let left = left_of(object, value);
+    put_assigned_property(draft, value, number, left, wanted)?;
+    put_operand(draft, object, left)?;
     Ok(())
 }
 
@@ -392,6 +433,28 @@ fn put_assigned_property<'a>(
     Ok(())
 }
 
+/// A word of a property that is assigned.
+#[cycle(values)]
+fn put_assign_property_word<'a>(
+    draft: &mut Draft<'a>,
+    object: &Value,
+    index: &Value,
+    value: &Value,
+    number: usize,
+    wanted: Wanted,
+) -> Result<(), AllocError>
+    ensures { OnOk result (WritesValue draft.old draft.new wanted
+        (assign_property_word (value_of object.now) number (value_of index.now)
+        (value_of value.now))) }
+{
+    let first = first_of(object, index, value);
+    let second = left_of(index, value);
+    put_assigned_word(draft, value, number, (first, second), wanted)?;
+    put_operand(draft, index, second)?;
+    put_operand(draft, object, first)?;
+    Ok(())
+}
+
 /// A word of a property that is assigned, where the operands for the object and the index are known.
 #[cycle(values)]
 fn put_assigned_word<'a>(
@@ -411,6 +474,27 @@ fn put_assigned_word<'a>(
         Item::AssignPropertyWord(number, places.0, places.1, operand, destination),
     )?;
     put_operand(draft, value, operand)?;
+    Ok(())
+}
+
+/// Operations that group to the left, from the last one to the first operand.
+#[cycle(values)]
+fn put_chain<'a>(
+    draft: &mut Draft<'a>,
+    first: &Value,
+    operator: Binary,
+    second: &Value,
+    links: &[(Binary, Value)],
+    wanted: Wanted,
+) -> Result<(), AllocError>
+    ensures { OnOk result (WritesValue draft.old draft.new wanted
+        (chained (binary operator (value_of first.now) (value_of second.now))
+        (map link_of links.now))) }
+{
+    let wanted = put_links(draft, links, wanted)?;
+    let left = left_of(first, second);
+    let wanted = put_link(draft, second, operator, left, wanted)?;
+    put_first(draft, first, operator, left, wanted)?;
     Ok(())
 }
 
@@ -489,6 +573,24 @@ fn put_first<'a>(
     Ok(())
 }
 
+/// A comparison of two words.
+#[cycle(values)]
+fn put_compare<'a>(
+    draft: &mut Draft<'a>,
+    left: &Value,
+    right: &Value,
+    comparison: Comparison,
+    wanted: Wanted,
+) -> Result<(), AllocError>
+    ensures { OnOk result (WritesValue draft.old draft.new wanted
+        (compare comparison (value_of left.now) (value_of right.now))) }
+{
+    let operand = left_of(left, right);
+    put_comparison(draft, right, comparison, operand, wanted)?;
+    put_operand(draft, left, operand)?;
+    Ok(())
+}
+
 /// A comparison and its right side, where the operand for the left one is known.
 #[cycle(values)]
 fn put_comparison<'a>(
@@ -507,6 +609,26 @@ fn put_comparison<'a>(
     let when = comparison_when(comparison, when);
     put(draft, Item::Branch(test, operands, when, target))?;
     put_operand(draft, right, operand)?;
+    Ok(())
+}
+
+/// `==` or `~=` with all its right sides.
+#[cycle(values)]
+fn put_equal<'a>(
+    draft: &mut Draft<'a>,
+    left: &Value,
+    right: &Value,
+    others: &[Value],
+    equality: Equality,
+    wanted: Wanted,
+) -> Result<(), AllocError>
+    ensures { OnOk result (WritesValue draft.old draft.new wanted
+        (equal equality (value_of left.now) (more_in right.now others.now))) }
+{
+    let (first, second) = side_operands(left, right, others);
+    put_others(draft, others, equality, (first, second), wanted)?;
+    put_operand(draft, right, second)?;
+    put_operand(draft, left, first)?;
     Ok(())
 }
 

@@ -1,32 +1,29 @@
 use Rattle.std.proofs.Common.{◌≡◌, ℕ, ◌+◌, ◌-◌, ◌<◌, List, [], ◌∷◌, ◌++◌, length, map, drop, ap, sym, subst, ◌∙◌}
-use Rattle.std.proofs.Common.{arith}
-use Rattle.std.proofs.Common.{refl}
+use Rattle.std.proofs.Common.{arith, refl, OnOk}
 use Rattle.std.proofs.lemmas.List.{take_rest}
 use Rattle.expressions.specs.declared.tree.Binary.{Binary}
 use Rattle.meaning.specs.declared.resolved.Value as code_value
 use Rattle.meaning.specs.Resolved.{Value, value_of, values_of, relative, contained, has, provides, property}
 use Rattle.meaning.specs.Resolved.{property_size, property_word, assign_property, call, prefixed, assign, entry}
-use Rattle.meaning.specs.Resolved.{compare, assign_entry}
-use Rattle.values.specs.Items.{pushed, branch_true, left_of, operand_of, operands_of, operands_items, agrees}
-use Rattle.values.specs.Items.{containment_when, first_of}
+use Rattle.meaning.specs.Resolved.{compare, assign_entry, chained, binary, equal, more, assign_property_word}
+use Rattle.values.specs.Items.{pushed, branch_true, operand_of, operands_of, operands_items, agrees, containment_when}
 use Rattle.values.specs.Items as items
 use Rattle.values.specs.Code.{as_operand, as_operands, as_destination}
 use Rattle.values.specs.declared.item.Destination as code
 use Rattle.values.specs.declared.item.Operand as code_operand
 use Rattle.values.specs.declared.wanted.Wanted.{Wanted}
-use Rattle.values.specs.Writing.{written_in, link_of, folded_items, first_items, pushes, first_operand, second_operand}
-use Rattle.values.specs.Writing.{wanted_items, Written, ReducesWord, ReducesLink, ReducesLinks, ReducesEquality}
-use Rattle.values.specs.Writing.{ReducesAssignedWord}
+use Rattle.values.specs.Writing.{written_in, link_of, folded_items, wanted_items, Written, ReducesWord, ReducesLink}
+use Rattle.values.specs.Writing.{ReducesLinks}
 use Rattle.values.proofs.Trees.{chain_is, equal_is, step_before_is, assign_property_word_is, number_is, read_is}
 use Rattle.values.proofs.Trees.{call_is, prefixed_is, step_after_is, compare_is, assign_is, entry_is, assign_entry_is}
 use Rattle.values.proofs.Trees.{relative_is, contained_is, has_is, provides_is, property_is, property_size_is}
 use Rattle.values.proofs.Trees.{property_word_is, assign_property_is}
-use Rattle.values.proofs.Values.{call_more, prefix_more, not_more_at, and_link_at, or_link_at}
-use Rattle.values.proofs.Values.{not_logical, operate_link, chain_more, compare_link, entry_more, assigned_entry_link}
+use Rattle.values.proofs.Values.{call_more, prefix_more, not_more_at, and_link_at, or_link_at, not_logical}
+use Rattle.values.proofs.Values.{operate_link, chain_more, compare_link, entry_more, assigned_entry_link}
 use Rattle.values.proofs.Assigned.{assign_nowhere, assign_pushed, assign_kept}
 use Rattle.values.proofs.Alternatives.{few_link, many_link, equal_more, operand_next, folded_next, link_next}
 use Rattle.values.proofs.ObjectForms.{one_word, one_condition, two_word, two_condition, assigned_word_link}
-use Rattle.values.proofs.ObjectForms.{assigned_word_more, box_more, pair_more}
+use Rattle.values.proofs.ObjectForms.{assigned_word_more, one_boxed, two_boxed, three_boxed, pair_more}
 use Rattle.values.proofs.value.+values.Goals as goal
 
 pub put_assigned-returns-in_ok-put_value-in-Nowhere : goal.put_assigned-returns-in_ok-put_value-in-Nowhere
@@ -156,73 +153,6 @@ put_others-returns-in_ok-put-3 t c =
     (c.in_ok-put_branch.ensures ∙ ap (λ w. c1 ++ branch_true pushed w target ∷ []) c.equality_when-when.ensures)
     c.in_ok-put-2.ensures c.in_ok-put_folded.ensures c.in_ok-put-3.ensures
 
-pub put_value-returns-in_ok-put_step_before-in-StepBefore : goal.put_value-returns-in_ok-put_step_before-in-StepBefore
-put_value-returns-in_ok-put_step_before-in-StepBefore t c =
-    let P : Value → Type 0 = λ v. Written (written_in c.args.draft.now) (written_in c.put_step_before.new.draft)
-    (wanted_items c.args.wanted v) in
-    subst P (sym (step_before_is _ _ _ c.in-StepBefore.is)) c.in_ok-put_step_before-in-StepBefore.ensures
-
-pub put_value-returns-in_ok-put_first-in-Chain : goal.put_value-returns-in_ok-put_first-in-Chain
-put_value-returns-in_ok-put_first-in-Chain t c =
-    let x = c.in-Chain in
-    let c0 = written_in c.args.draft.now in
-    let c1 = written_in c.put_links.new.draft in
-    let c2 = written_in c.put_link.new.draft in
-    let c3 = written_in c.put_first.new.draft in
-    let w1 = c.in_ok-wanted-in-Chain.wanted in
-    let w2 = c.in_ok-wanted-in-Chain-2.wanted in
-    let o = as_operand c.left_of-left.result in
-    let P : Value → Type 0 = λ v. Written c0 c3 (wanted_items c.args.wanted v) in
-    let Q : List (Binary × code_value.Value) → Type 0 = λ l. ReducesLinks c0 c1 c.args.wanted w1 (map link_of l) in
-    let R : code_value.Value → Type 0 = λ e. ReducesLink c1 c2 w1 w2 x.operator o (value_of e) in
-    let S : code_value.Value → Type 0 = λ e. Written c2 c3 (first_items x.operator o w2 (value_of e)) in
-    let left = c.left_of-left.ensures
-    ∙ ap (λ (e : code_value.Value). left_of (value_of e) (value_of c.deref-in-Chain-3.result.now))
-    c.deref-in-Chain-2.ensures
-    ∙ ap (λ (e : code_value.Value). left_of (value_of x.first.value) (value_of e)) c.deref-in-Chain-3.ensures in
-    subst P (sym (chain_is _ _ _ _ _ x.is))
-    (chain_more c0 c1 c2 c3 c.args.wanted w1 w2 x.operator o (value_of x.first.value) (value_of x.second.value)
-    (map link_of x.links.items)
-    (subst Q c.deref-in-Chain.ensures.value c.in_ok-wanted-in-Chain.ensures) left
-    (subst R c.deref-in-Chain-4.ensures c.in_ok-wanted-in-Chain-2.ensures)
-    (subst S c.deref-in-Chain-5.ensures c.in_ok-put_first-in-Chain.ensures))
-
-pub put_value-returns-in_ok-put_operand-in-Equal-2 : goal.put_value-returns-in_ok-put_operand-in-Equal-2
-put_value-returns-in_ok-put_operand-in-Equal-2 t c =
-    let x = c.in-Equal in
-    let c0 = written_in c.args.draft.now in
-    let c1 = written_in c.put_others.new.draft in
-    let c2 = written_in c.put_operand-in-Equal.new.draft in
-    let c3 = written_in c.put_operand-in-Equal-2.new.draft in
-    let a = value_of x.left.value in
-    let b = value_of x.right.value in
-    let vs = values_of (map value_of x.others.items) in
-    let oa = as_operand c.side_operands-first.result.0 in
-    let ob = as_operand c.side_operands-first.result.1 in
-    let P : Value → Type 0 = λ v. Written c0 c3 (wanted_items c.args.wanted v) in
-    let Q : List code_value.Value → Type 0 = λ l. ReducesEquality c0 c1 c.args.wanted x.equality oa ob
-    (values_of (map value_of l)) in
-    let R : code_value.Value → Type 0 = λ e. Written c1 c2 (pushes ob (value_of e)) in
-    let S : code_value.Value → Type 0 = λ e. Written c2 c3 (pushes oa (value_of e)) in
-    let ea = c.side_operands-first.ensures.left
-    ∙ ap (λ (e : code_value.Value). first_operand (value_of e) (value_of c.deref-in-Equal-2.result.now)
-    (values_of (map value_of c.deref-in-Equal-3.result.now))) c.deref-in-Equal.ensures
-    ∙ ap (λ (e : code_value.Value). first_operand a (value_of e)
-    (values_of (map value_of c.deref-in-Equal-3.result.now)))
-    c.deref-in-Equal-2.ensures
-    ∙ ap (λ (l : List code_value.Value). first_operand a b (values_of (map value_of l)))
-    c.deref-in-Equal-3.ensures.value in
-    let eb = c.side_operands-first.ensures.right
-    ∙ ap (λ (e : code_value.Value). second_operand (value_of e)
-    (values_of (map value_of c.deref-in-Equal-3.result.now))) c.deref-in-Equal-2.ensures
-    ∙ ap (λ (l : List code_value.Value). second_operand b (values_of (map value_of l)))
-    c.deref-in-Equal-3.ensures.value in
-    subst P (sym (equal_is _ _ _ _ _ x.is))
-    (equal_more c0 c1 c2 c3 c.args.wanted x.equality oa ob a b vs ea eb
-    (subst Q c.deref-in-Equal-4.ensures.value c.in_ok-put_others-in-Equal.ensures)
-    (subst R c.deref-in-Equal-5.ensures c.in_ok-put_operand-in-Equal.ensures)
-    (subst S c.deref-in-Equal-6.ensures c.in_ok-put_operand-in-Equal-2.ensures))
-
 pub put_folded-loop-done-preserved : goal.put_folded-loop-done-preserved
 put_folded-loop-done-preserved t c =
     let xs = c.args.values.now in
@@ -322,8 +252,8 @@ put_provides-returns t c =
     (λ o b place. items.provides o number b place) (λ n place o b. refl) (λ at d. refl) (λ at place b. refl)
     c.in_ok-when.ensures c.alone-operand.ensures c.in_ok-put.ensures c.in_ok-put_operand.ensures
 
-pub put_contained-returns : goal.put_contained-returns
-put_contained-returns t c =
+pub put_containment-returns : goal.put_containment-returns
+put_containment-returns t c =
     let op = c.args.containment in
     let parent = value_of c.args.parent.now in
     let o = as_operand c.args.object in
@@ -336,8 +266,8 @@ put_contained-returns t c =
     ∙ ap (λ b. c1 ++ items.is_in o (as_operand c.alone-operand.result) b target ∷ []) c.containment_when-when.ensures)
     c.in_ok-put_operand.ensures
 
-pub put_property_word-returns : goal.put_property_word-returns
-put_property_word-returns t c =
+pub put_indexed_property-returns : goal.put_indexed_property-returns
+put_indexed_property-returns t c =
     let number = c.args.number in
     let index = value_of c.args.index.now in
     two_word _ _ _ _ c.args.wanted _ _ _ index (λ v. property_word v number index)
@@ -357,155 +287,225 @@ put_assigned_word-returns t c =
     assigned_word_link _ _ _ _ c.args.wanted _ c.args.number _ _ _ _ c.in_ok-destination.ensures
     c.alone-operand.ensures c.in_ok-put.ensures c.in_ok-put_operand.ensures
 
-pub put_value-returns-in_ok-put_operand-in-AssignPropertyWord-2 :
-    goal.put_value-returns-in_ok-put_operand-in-AssignPropertyWord-2
-put_value-returns-in_ok-put_operand-in-AssignPropertyWord-2 t c =
-    let x = c.in-AssignPropertyWord in
-    let c0 = written_in c.args.draft.now in
-    let c1 = written_in c.put_assigned_word.new.draft in
-    let c2 = written_in c.put_operand-in-AssignPropertyWord.new.draft in
-    let c3 = written_in c.put_operand-in-AssignPropertyWord-2.new.draft in
-    let v = value_of x.object.value in
-    let i = value_of x.index.value in
-    let o = as_operand c.first_of-first.result in
-    let q = as_operand c.left_of-second.result in
-    let P : Value → Type 0 = λ a. Written c0 c3 (wanted_items c.args.wanted a) in
-    let Q : code_value.Value → Type 0 = λ e. ReducesAssignedWord c0 c1 c.args.wanted x.property o q (value_of e) in
-    let R : code_value.Value → Type 0 = λ e. Written c1 c2 (pushes q (value_of e)) in
-    let S : code_value.Value → Type 0 = λ e. Written c2 c3 (pushes o (value_of e)) in
-    let eo = c.first_of-first.ensures
-    ∙ ap (λ (e : code_value.Value). first_of (value_of e) (value_of c.deref-in-AssignPropertyWord-2.result.now)
-    (value_of c.deref-in-AssignPropertyWord-3.result.now)) c.deref-in-AssignPropertyWord.ensures
-    ∙ ap (λ (e : code_value.Value). first_of v (value_of e)
-    (value_of c.deref-in-AssignPropertyWord-3.result.now)) c.deref-in-AssignPropertyWord-2.ensures
-    ∙ ap (λ (e : code_value.Value). first_of v i (value_of e)) c.deref-in-AssignPropertyWord-3.ensures in
-    let eq = c.left_of-second.ensures
-    ∙ ap (λ (e : code_value.Value). left_of (value_of e) (value_of c.deref-in-AssignPropertyWord-5.result.now))
-    c.deref-in-AssignPropertyWord-4.ensures
-    ∙ ap (λ (e : code_value.Value). left_of i (value_of e)) c.deref-in-AssignPropertyWord-5.ensures in
-    subst P (sym (assign_property_word_is _ _ _ _ _ x.is))
-    (assigned_word_more c0 c1 c2 c3 c.args.wanted x.property o q v i (value_of x.value.value) eo eq
-    (subst Q c.deref-in-AssignPropertyWord-6.ensures c.in_ok-put_assigned_word-in-AssignPropertyWord.ensures)
-    (subst R c.deref-in-AssignPropertyWord-7.ensures c.in_ok-put_operand-in-AssignPropertyWord.ensures)
-    (subst S c.deref-in-AssignPropertyWord-8.ensures c.in_ok-put_operand-in-AssignPropertyWord-2.ensures))
+-- Forms of two or more parts
 
-pub put_value-returns-in_ok-put_number-in-Number : goal.put_value-returns-in_ok-put_number-in-Number
-put_value-returns-in_ok-put_number-in-Number t c =
-    let P : Value → Type 0 = λ v. Written (written_in c.args.draft.now) (written_in c.put_number.new.draft)
-    (wanted_items c.args.wanted v) in
-    subst P (sym (number_is _ _ c.in-Number.is)) c.in_ok-put_number-in-Number.ensures
+pub put_compare-returns : goal.put_compare-returns
+put_compare-returns t c =
+    pair_more _ _ _ c.args.wanted _ (value_of c.args.left.now) (value_of c.args.right.now)
+    (λ v w. compare c.args.comparison v w) c.left_of-operand.ensures c.in_ok-put_comparison.ensures
+    c.in_ok-put_operand.ensures
 
-pub put_value-returns-in_ok-put_read-in-Read : goal.put_value-returns-in_ok-put_read-in-Read
-put_value-returns-in_ok-put_read-in-Read t c =
-    let P : Value → Type 0 = λ v. Written (written_in c.args.draft.now) (written_in c.put_read.new.draft)
-    (wanted_items c.args.wanted v) in
-    subst P (sym (read_is _ _ c.in-Read.is)) c.in_ok-put_read-in-Read.ensures
+pub put_assign_entry-returns : goal.put_assign_entry-returns
+put_assign_entry-returns t c =
+    pair_more _ _ _ c.args.wanted _ (value_of c.args.index.now) (value_of c.args.value.now)
+    (λ v w. assign_entry c.args.width c.args.array v w) c.left_of-left.ensures c.in_ok-put_assigned_entry.ensures
+    c.in_ok-put_operand.ensures
 
-pub put_value-returns-in_ok-put_step_after-in-StepAfter : goal.put_value-returns-in_ok-put_step_after-in-StepAfter
-put_value-returns-in_ok-put_step_after-in-StepAfter t c =
-    let P : Value → Type 0 = λ v. Written (written_in c.args.draft.now) (written_in c.put_step_after.new.draft)
-    (wanted_items c.args.wanted v) in
-    subst P (sym (step_after_is _ _ _ c.in-StepAfter.is)) c.in_ok-put_step_after-in-StepAfter.ensures
+pub put_contained-returns : goal.put_contained-returns
+put_contained-returns t c =
+    pair_more _ _ _ c.args.wanted _ (value_of c.args.object.now) (value_of c.args.parent.now)
+    (λ v w. contained c.args.containment v w) c.left_of-left.ensures c.in_ok-put_containment.ensures
+    c.in_ok-put_operand.ensures
 
-pub put_value-returns-in_ok-put_call-in-Call : goal.put_value-returns-in_ok-put_call-in-Call
-put_value-returns-in_ok-put_call-in-Call t c =
+pub put_property_word-returns : goal.put_property_word-returns
+put_property_word-returns t c =
+    pair_more _ _ _ c.args.wanted _ (value_of c.args.object.now) (value_of c.args.index.now)
+    (λ v w. property_word v c.args.number w) c.left_of-left.ensures c.in_ok-put_indexed_property.ensures
+    c.in_ok-put_operand.ensures
+
+pub put_assign_property-returns : goal.put_assign_property-returns
+put_assign_property-returns t c =
+    pair_more _ _ _ c.args.wanted _ (value_of c.args.object.now) (value_of c.args.value.now)
+    (λ v w. assign_property v c.args.number w) c.left_of-left.ensures c.in_ok-put_assigned_property.ensures
+    c.in_ok-put_operand.ensures
+
+pub put_chain-returns : goal.put_chain-returns
+put_chain-returns t c =
+    chain_more _ _ _ _ c.args.wanted _ _ c.args.operator _ (value_of c.args.first.now) (value_of c.args.second.now)
+    (map link_of c.args.links.now) c.in_ok-wanted.ensures c.left_of-left.ensures c.in_ok-wanted-2.ensures
+    c.in_ok-put_first.ensures
+
+pub put_equal-returns : goal.put_equal-returns
+put_equal-returns t c =
+    equal_more _ _ _ _ c.args.wanted c.args.equality _ _ (value_of c.args.left.now) (value_of c.args.right.now)
+    (values_of (map value_of c.args.others.now)) c.side_operands-first.ensures.left c.side_operands-first.ensures.right
+    c.in_ok-put_others.ensures c.in_ok-put_operand.ensures c.in_ok-put_operand-2.ensures
+
+pub put_assign_property_word-returns : goal.put_assign_property_word-returns
+put_assign_property_word-returns t c =
+    assigned_word_more _ _ _ _ c.args.wanted c.args.number _ _ (value_of c.args.object.now)
+    (value_of c.args.index.now) (value_of c.args.value.now) c.first_of-first.ensures c.left_of-second.ensures
+    c.in_ok-put_assigned_word.ensures c.in_ok-put_operand.ensures c.in_ok-put_operand-2.ensures
+
+-- An expression: its form, whose parts are in boxes
+
+pub put_value-returns-in-Number : goal.put_value-returns-in-Number
+put_value-returns-in-Number t c =
+    let P : Value → Type 0 = λ v. OnOk c.put_number.result (Written (written_in c.args.draft.now)
+    (written_in c.put_number.new.draft) (wanted_items c.args.wanted v)) in
+    let x = c.in-Number in
+    subst P (sym (number_is _ _ x.is)) c.put_number.ensures
+
+pub put_value-returns-in-Read : goal.put_value-returns-in-Read
+put_value-returns-in-Read t c =
+    let P : Value → Type 0 = λ v. OnOk c.put_read.result (Written (written_in c.args.draft.now)
+    (written_in c.put_read.new.draft) (wanted_items c.args.wanted v)) in
+    let x = c.in-Read in
+    subst P (sym (read_is _ _ x.is)) c.put_read.ensures
+
+pub put_value-returns-in-StepBefore : goal.put_value-returns-in-StepBefore
+put_value-returns-in-StepBefore t c =
+    let P : Value → Type 0 = λ v. OnOk c.put_step_before.result (Written (written_in c.args.draft.now)
+    (written_in c.put_step_before.new.draft) (wanted_items c.args.wanted v)) in
+    let x = c.in-StepBefore in
+    subst P (sym (step_before_is _ _ _ x.is)) c.put_step_before.ensures
+
+pub put_value-returns-in-StepAfter : goal.put_value-returns-in-StepAfter
+put_value-returns-in-StepAfter t c =
+    let P : Value → Type 0 = λ v. OnOk c.put_step_after.result (Written (written_in c.args.draft.now)
+    (written_in c.put_step_after.new.draft) (wanted_items c.args.wanted v)) in
+    let x = c.in-StepAfter in
+    subst P (sym (step_after_is _ _ _ x.is)) c.put_step_after.ensures
+
+pub put_value-returns-in-Call : goal.put_value-returns-in-Call
+put_value-returns-in-Call t c =
+    let P : Value → Type 0 = λ v. OnOk c.put_call.result (Written (written_in c.args.draft.now)
+    (written_in c.put_call.new.draft) (wanted_items c.args.wanted v)) in
     let x = c.in-Call in
-    let P : Value → Type 0 = λ v. Written (written_in c.args.draft.now) (written_in c.put_call.new.draft)
-    (wanted_items c.args.wanted v) in
-    let Q : List code_value.Value → Type 0 = λ l. Written (written_in c.args.draft.now)
-    (written_in c.put_call.new.draft) (wanted_items c.args.wanted (call x.routine (values_of (map value_of l)))) in
-    subst P (sym (call_is _ _ _ x.is)) (subst Q c.deref.ensures.value c.in_ok-put_call-in-Call.ensures)
+    let Q : List code_value.Value → Type 0 = λ l. P (call x.routine (values_of (map value_of l))) in
+    subst P (sym (call_is _ _ _ x.is)) (subst Q c.deref.ensures.value c.put_call.ensures)
 
-pub put_value-returns-in_ok-put_prefixed-in-Prefixed : goal.put_value-returns-in_ok-put_prefixed-in-Prefixed
-put_value-returns-in_ok-put_prefixed-in-Prefixed t c =
+pub put_value-returns-in-Prefixed : goal.put_value-returns-in-Prefixed
+put_value-returns-in-Prefixed t c =
+    let P : Value → Type 0 = λ v. OnOk c.put_prefixed.result (Written (written_in c.args.draft.now)
+    (written_in c.put_prefixed.new.draft) (wanted_items c.args.wanted v)) in
     let x = c.in-Prefixed in
-    box_more _ _ c.args.wanted _ _ _ (λ v. prefixed x.prefix v) (prefixed_is _ _ _ x.is) c.deref-in-Prefixed.ensures
-    c.in_ok-put_prefixed-in-Prefixed.ensures
+    one_boxed P _ _ _ (λ v. prefixed x.prefix v) (prefixed_is _ _ _ x.is) c.deref-in-Prefixed.ensures
+    c.put_prefixed.ensures
 
-pub put_value-returns-in_ok-put_assigned-in-Assign : goal.put_value-returns-in_ok-put_assigned-in-Assign
-put_value-returns-in_ok-put_assigned-in-Assign t c =
+pub put_value-returns-in-Assign : goal.put_value-returns-in-Assign
+put_value-returns-in-Assign t c =
+    let P : Value → Type 0 = λ v. OnOk c.put_assigned.result (Written (written_in c.args.draft.now)
+    (written_in c.put_assigned.new.draft) (wanted_items c.args.wanted v)) in
     let x = c.in-Assign in
-    box_more _ _ c.args.wanted _ _ _ (λ v. assign x.variable v) (assign_is _ _ _ x.is) c.deref-in-Assign.ensures
-    c.in_ok-put_assigned-in-Assign.ensures
+    one_boxed P _ _ _ (λ v. assign x.variable v) (assign_is _ _ _ x.is) c.deref-in-Assign.ensures c.put_assigned.ensures
 
-pub put_value-returns-in_ok-put_entry-in-Entry : goal.put_value-returns-in_ok-put_entry-in-Entry
-put_value-returns-in_ok-put_entry-in-Entry t c =
+pub put_value-returns-in-Entry : goal.put_value-returns-in-Entry
+put_value-returns-in-Entry t c =
+    let P : Value → Type 0 = λ v. OnOk c.put_entry.result (Written (written_in c.args.draft.now)
+    (written_in c.put_entry.new.draft) (wanted_items c.args.wanted v)) in
     let x = c.in-Entry in
-    box_more _ _ c.args.wanted _ _ _ (λ v. entry x.width x.array v) (entry_is _ _ _ _ x.is) c.deref-in-Entry.ensures
-    c.in_ok-put_entry-in-Entry.ensures
+    one_boxed P _ _ _ (λ v. entry x.width x.array v) (entry_is _ _ _ _ x.is) c.deref-in-Entry.ensures
+    c.put_entry.ensures
 
-pub put_value-returns-in_ok-put_relative-in-Relative : goal.put_value-returns-in_ok-put_relative-in-Relative
-put_value-returns-in_ok-put_relative-in-Relative t c =
+pub put_value-returns-in-Relative : goal.put_value-returns-in-Relative
+put_value-returns-in-Relative t c =
+    let P : Value → Type 0 = λ v. OnOk c.put_relative.result (Written (written_in c.args.draft.now)
+    (written_in c.put_relative.new.draft) (wanted_items c.args.wanted v)) in
     let x = c.in-Relative in
-    box_more _ _ c.args.wanted _ _ _ (λ v. relative x.relative v) (relative_is _ _ _ x.is) c.deref-in-Relative.ensures
-    c.in_ok-put_relative-in-Relative.ensures
+    one_boxed P _ _ _ (λ v. relative x.relative v) (relative_is _ _ _ x.is) c.deref-in-Relative.ensures
+    c.put_relative.ensures
 
-pub put_value-returns-in_ok-put_has-in-Has : goal.put_value-returns-in_ok-put_has-in-Has
-put_value-returns-in_ok-put_has-in-Has t c =
+pub put_value-returns-in-Has : goal.put_value-returns-in-Has
+put_value-returns-in-Has t c =
+    let P : Value → Type 0 = λ v. OnOk c.put_has.result (Written (written_in c.args.draft.now)
+    (written_in c.put_has.new.draft) (wanted_items c.args.wanted v)) in
     let x = c.in-Has in
-    box_more _ _ c.args.wanted _ _ _ (λ v. has x.positive v x.attribute) (has_is _ _ _ _ x.is) c.deref-in-Has.ensures
-    c.in_ok-put_has-in-Has.ensures
+    one_boxed P _ _ _ (λ v. has x.positive v x.number) (has_is _ _ _ _ x.is) c.deref-in-Has.ensures c.put_has.ensures
 
-pub put_value-returns-in_ok-put_provides-in-Provides : goal.put_value-returns-in_ok-put_provides-in-Provides
-put_value-returns-in_ok-put_provides-in-Provides t c =
+pub put_value-returns-in-Provides : goal.put_value-returns-in-Provides
+put_value-returns-in-Provides t c =
+    let P : Value → Type 0 = λ v. OnOk c.put_provides.result (Written (written_in c.args.draft.now)
+    (written_in c.put_provides.new.draft) (wanted_items c.args.wanted v)) in
     let x = c.in-Provides in
-    box_more _ _ c.args.wanted _ _ _ (λ v. provides v x.property) (provides_is _ _ _ x.is) c.deref-in-Provides.ensures
-    c.in_ok-put_provides-in-Provides.ensures
+    one_boxed P _ _ _ (λ v. provides v x.number) (provides_is _ _ _ x.is) c.deref-in-Provides.ensures
+    c.put_provides.ensures
 
-pub put_value-returns-in_ok-put_property-in-Property : goal.put_value-returns-in_ok-put_property-in-Property
-put_value-returns-in_ok-put_property-in-Property t c =
+pub put_value-returns-in-Property : goal.put_value-returns-in-Property
+put_value-returns-in-Property t c =
+    let P : Value → Type 0 = λ v. OnOk c.put_property.result (Written (written_in c.args.draft.now)
+    (written_in c.put_property.new.draft) (wanted_items c.args.wanted v)) in
     let x = c.in-Property in
-    box_more _ _ c.args.wanted _ _ _ (λ v. property v x.property) (property_is _ _ _ x.is) c.deref-in-Property.ensures
-    c.in_ok-put_property-in-Property.ensures
+    one_boxed P _ _ _ (λ v. property v x.number) (property_is _ _ _ x.is) c.deref-in-Property.ensures
+    c.put_property.ensures
 
-pub put_value-returns-in_ok-put_property_size-in-PropertySize :
-    goal.put_value-returns-in_ok-put_property_size-in-PropertySize
-put_value-returns-in_ok-put_property_size-in-PropertySize t c =
+pub put_value-returns-in-PropertySize : goal.put_value-returns-in-PropertySize
+put_value-returns-in-PropertySize t c =
+    let P : Value → Type 0 = λ v. OnOk c.put_property_size.result (Written (written_in c.args.draft.now)
+    (written_in c.put_property_size.new.draft) (wanted_items c.args.wanted v)) in
     let x = c.in-PropertySize in
-    box_more _ _ c.args.wanted _ _ _ (λ v. property_size v x.property) (property_size_is _ _ _ x.is)
-    c.deref-in-PropertySize.ensures
-    c.in_ok-put_property_size-in-PropertySize.ensures
+    one_boxed P _ _ _ (λ v. property_size v x.number) (property_size_is _ _ _ x.is) c.deref-in-PropertySize.ensures
+    c.put_property_size.ensures
 
-pub put_value-returns-in_ok-put_operand-in-Compare : goal.put_value-returns-in_ok-put_operand-in-Compare
-put_value-returns-in_ok-put_operand-in-Compare t c =
+pub put_value-returns-in-Compare : goal.put_value-returns-in-Compare
+put_value-returns-in-Compare t c =
+    let P : Value → Type 0 = λ v. OnOk c.put_compare.result (Written (written_in c.args.draft.now)
+    (written_in c.put_compare.new.draft) (wanted_items c.args.wanted v)) in
     let x = c.in-Compare in
-    pair_more _ _ _ c.args.wanted _ _ _ _ _ _ _ _ (λ v w. compare x.comparison v w) (compare_is _ _ _ _ x.is)
-    c.deref-in-Compare.ensures c.deref-in-Compare-2.ensures c.left_of-operand.ensures c.deref-in-Compare-3.ensures
-    c.in_ok-put_comparison-in-Compare.ensures c.deref-in-Compare-4.ensures c.in_ok-put_operand-in-Compare.ensures
+    two_boxed P _ _ _ _ _ (λ v w. compare x.test v w) (compare_is _ _ _ _ x.is)
+    c.deref-in-Compare.ensures c.deref-in-Compare-2.ensures c.put_compare.ensures
 
-pub put_value-returns-in_ok-put_operand-in-AssignEntry : goal.put_value-returns-in_ok-put_operand-in-AssignEntry
-put_value-returns-in_ok-put_operand-in-AssignEntry t c =
+pub put_value-returns-in-AssignEntry : goal.put_value-returns-in-AssignEntry
+put_value-returns-in-AssignEntry t c =
+    let P : Value → Type 0 = λ v. OnOk c.put_assign_entry.result (Written (written_in c.args.draft.now)
+    (written_in c.put_assign_entry.new.draft) (wanted_items c.args.wanted v)) in
     let x = c.in-AssignEntry in
-    pair_more _ _ _ c.args.wanted _ _ _ _ _ _ _ _ (λ v w. assign_entry x.width x.array v w) (assign_entry_is _ _ _ _
-    _ x.is)
-    c.deref-in-AssignEntry.ensures c.deref-in-AssignEntry-2.ensures c.left_of-left-in-AssignEntry.ensures
-    c.deref-in-AssignEntry-3.ensures
-    c.in_ok-put_assigned_entry-in-AssignEntry.ensures c.deref-in-AssignEntry-4.ensures
-    c.in_ok-put_operand-in-AssignEntry.ensures
+    two_boxed P _ _ _ _ _ (λ v w. assign_entry x.width x.array v w) (assign_entry_is _ _ _ _ _ x.is)
+    c.deref-in-AssignEntry.ensures c.deref-in-AssignEntry-2.ensures c.put_assign_entry.ensures
 
-pub put_value-returns-in_ok-put_operand-in-Contained : goal.put_value-returns-in_ok-put_operand-in-Contained
-put_value-returns-in_ok-put_operand-in-Contained t c =
+pub put_value-returns-in-Contained : goal.put_value-returns-in-Contained
+put_value-returns-in-Contained t c =
+    let P : Value → Type 0 = λ v. OnOk c.put_contained.result (Written (written_in c.args.draft.now)
+    (written_in c.put_contained.new.draft) (wanted_items c.args.wanted v)) in
     let x = c.in-Contained in
-    pair_more _ _ _ c.args.wanted _ _ _ _ _ _ _ _ (λ v w. contained x.containment v w) (contained_is _ _ _ _ x.is)
-    c.deref-in-Contained.ensures c.deref-in-Contained-2.ensures c.left_of-left-in-Contained.ensures
-    c.deref-in-Contained-3.ensures
-    c.in_ok-put_contained-in-Contained.ensures c.deref-in-Contained-4.ensures c.in_ok-put_operand-in-Contained.ensures
+    two_boxed P _ _ _ _ _ (λ v w. contained x.test v w) (contained_is _ _ _ _ x.is)
+    c.deref-in-Contained.ensures c.deref-in-Contained-2.ensures c.put_contained.ensures
 
-pub put_value-returns-in_ok-put_operand-in-PropertyWord : goal.put_value-returns-in_ok-put_operand-in-PropertyWord
-put_value-returns-in_ok-put_operand-in-PropertyWord t c =
+pub put_value-returns-in-PropertyWord : goal.put_value-returns-in-PropertyWord
+put_value-returns-in-PropertyWord t c =
+    let P : Value → Type 0 = λ v. OnOk c.put_property_word.result (Written (written_in c.args.draft.now)
+    (written_in c.put_property_word.new.draft) (wanted_items c.args.wanted v)) in
     let x = c.in-PropertyWord in
-    pair_more _ _ _ c.args.wanted _ _ _ _ _ _ _ _ (λ v w. property_word v x.property w) (property_word_is _ _ _ _ x.is)
-    c.deref-in-PropertyWord.ensures c.deref-in-PropertyWord-2.ensures c.left_of-left-in-PropertyWord.ensures
-    c.deref-in-PropertyWord-3.ensures
-    c.in_ok-put_property_word-in-PropertyWord.ensures c.deref-in-PropertyWord-4.ensures
-    c.in_ok-put_operand-in-PropertyWord.ensures
+    two_boxed P _ _ _ _ _ (λ v w. property_word v x.number w) (property_word_is _ _ _ _ x.is)
+    c.deref-in-PropertyWord.ensures c.deref-in-PropertyWord-2.ensures c.put_property_word.ensures
 
-pub put_value-returns-in_ok-put_operand-in-AssignProperty : goal.put_value-returns-in_ok-put_operand-in-AssignProperty
-put_value-returns-in_ok-put_operand-in-AssignProperty t c =
+pub put_value-returns-in-AssignProperty : goal.put_value-returns-in-AssignProperty
+put_value-returns-in-AssignProperty t c =
+    let P : Value → Type 0 = λ v. OnOk c.put_assign_property.result (Written (written_in c.args.draft.now)
+    (written_in c.put_assign_property.new.draft) (wanted_items c.args.wanted v)) in
     let x = c.in-AssignProperty in
-    pair_more _ _ _ c.args.wanted _ _ _ _ _ _ _ _ (λ v w. assign_property v x.property w) (assign_property_is _ _ _ _
-    x.is)
-    c.deref-in-AssignProperty.ensures c.deref-in-AssignProperty-2.ensures c.left_of-left-in-AssignProperty.ensures
-    c.deref-in-AssignProperty-3.ensures
-    c.in_ok-put_assigned_property-in-AssignProperty.ensures c.deref-in-AssignProperty-4.ensures
-    c.in_ok-put_operand-in-AssignProperty.ensures
+    two_boxed P _ _ _ _ _ (λ v w. assign_property v x.number w) (assign_property_is _ _ _ _ x.is)
+    c.deref-in-AssignProperty.ensures c.deref-in-AssignProperty-2.ensures c.put_assign_property.ensures
+
+pub put_value-returns-in-AssignPropertyWord : goal.put_value-returns-in-AssignPropertyWord
+put_value-returns-in-AssignPropertyWord t c =
+    let P : Value → Type 0 = λ v. OnOk c.put_assign_property_word.result (Written (written_in c.args.draft.now)
+    (written_in c.put_assign_property_word.new.draft) (wanted_items c.args.wanted v)) in
+    let x = c.in-AssignPropertyWord in
+    three_boxed P _ _ _ _ _ _ _ (λ v i w. assign_property_word v x.number i w)
+    (assign_property_word_is _ _ _ _ _ x.is) c.deref-in-AssignPropertyWord.ensures
+    c.deref-in-AssignPropertyWord-2.ensures c.deref-in-AssignPropertyWord-3.ensures
+    c.put_assign_property_word.ensures
+
+pub put_value-returns-in-Chain : goal.put_value-returns-in-Chain
+put_value-returns-in-Chain t c =
+    let P : Value → Type 0 = λ v. OnOk c.put_chain.result (Written (written_in c.args.draft.now)
+    (written_in c.put_chain.new.draft) (wanted_items c.args.wanted v)) in
+    let x = c.in-Chain in
+    let Q : List (Binary × code_value.Value) → Type 0 = λ l.
+    P (chained (binary x.operator (value_of x.first.value) (value_of x.second.value)) (map link_of l)) in
+    subst P (sym (chain_is _ _ _ _ _ x.is)) (subst Q c.deref-in-Chain-3.ensures.value
+    (two_boxed (λ v. P (chained v (map link_of c.deref-in-Chain-3.result.now))) _ _ _ _ _
+    (λ v w. binary x.operator v w) refl c.deref-in-Chain.ensures c.deref-in-Chain-2.ensures c.put_chain.ensures))
+
+pub put_value-returns-in-Equal : goal.put_value-returns-in-Equal
+put_value-returns-in-Equal t c =
+    let P : Value → Type 0 = λ v. OnOk c.put_equal.result (Written (written_in c.args.draft.now)
+    (written_in c.put_equal.new.draft) (wanted_items c.args.wanted v)) in
+    let x = c.in-Equal in
+    let Q : List code_value.Value → Type 0 = λ l.
+    P (equal x.test (value_of x.left.value) (more (value_of x.right.value) (values_of (map value_of l)))) in
+    subst P (sym (equal_is _ _ _ _ _ x.is)) (subst Q c.deref-in-Equal-3.ensures.value
+    (two_boxed P _ _ _ _ _
+    (λ v w. equal x.test v (more w (values_of (map value_of c.deref-in-Equal-3.result.now)))) refl
+    c.deref-in-Equal.ensures c.deref-in-Equal-2.ensures c.put_equal.ensures))
