@@ -1,5 +1,5 @@
 -- What stands for expressions and statements on objects, and runs of items on programs with objects, computed.
-use Rattle.std.proofs.Common.{◌≡◌, ℕ, Bool, List, [], ◌∷◌, ◌++◌, Some, true, false, refl}
+use Rattle.std.proofs.Common.{◌≡◌, ℕ, List, [], ◌∷◌, ◌++◌, Some, true, false, refl}
 use Rattle.std.specs.Prelude.{codes, replicate}
 use Rattle.zcore.specs.Arithmetic.{signed_text, decimal, quotient, remainder}
 use Rattle.zcore.specs.declared.place.Place.TheVariants as places

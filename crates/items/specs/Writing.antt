@@ -1,5 +1,5 @@
 -- Words of proofs: statements that are written from the last to the first.
-use Rattle.std.specs.Prelude.{◌≡◌, ◌+◌, ◌-◌, ℕ, List, [], ◌∷◌, ◌++◌, length, map}
+use Rattle.std.specs.Prelude.{◌≡◌, ◌-◌, ℕ, List, [], ◌∷◌, ◌++◌, length, map}
 use Rattle.meaning.specs.declared.resolved.Variable.{Variable}
 use Rattle.meaning.specs.declared.resolved.Value as code_value
 use Rattle.meaning.specs.declared.resolved.Printed as code_printed

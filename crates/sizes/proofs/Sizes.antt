@@ -34,7 +34,7 @@ use Rattle.instructions.specs.Instructions.{most_arguments, branching, pull, cho
 use Rattle.instructions.specs.Instructions.{most_compared, compared, case_code}
 use Rattle.instructions.specs.Addresses.{Sizes}
 use Rattle.instructions.specs.Bytes.{bytes_of_all}
-use Rattle.selection.specs.ItemCode.{is_entry, entries_in, load_operation, store_operation, tested_index, at_index}
+use Rattle.selection.specs.ItemCode.{entries_in, load_operation, store_operation, at_index}
 use Rattle.selection.specs.ItemCode.{entry_code, assigned_takes, assigned_word, passed_on, assign_entry_code}
 use Rattle.selection.specs.ItemCode.{first_byte, tested_first, letters_in, words_in, line_code, read_code, objects_of}
 use Rattle.selection.specs.ItemCode.{relative_code, is_in_code, has_code, provides_code, give_code, remove_code}

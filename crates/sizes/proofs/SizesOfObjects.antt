@@ -13,7 +13,7 @@ use Rattle.values.specs.Items.{Destination}
 use Rattle.values.specs.Items as items
 use Rattle.instructions.specs.Addresses.{fault_address}
 use Rattle.instructions.specs.Instructions.{plain, giving, branching, fail, labelled, result_in, temporary, number_of}
-use Rattle.instructions.specs.Instructions.{constant, pulled_into, word_in, store}
+use Rattle.instructions.specs.Instructions.{pulled_into, word_in, store}
 use Rattle.instructions.specs.Bytes.{bytes_of_all}
 use Rattle.selection.specs.ItemCode as spec
 use Rattle.selection.specs.ItemCode.{tests_in, assigned_takes, assigned_word, passed_on, at_object, at_label}
