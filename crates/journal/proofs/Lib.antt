@@ -4,3 +4,4 @@ pub mod Steps
 pub mod Flags
 pub mod Held
 pub mod HandedOut
+pub mod ReadPages

@@ -6,6 +6,7 @@ ghost use Rattle.journal.specs.Swap.{back, forward, Fits, FitsCell};
 ghost use Rattle.journal.specs.Pages.{IsPaged, cells_of, entries_of, page_len};
 
 use crate::cells::Cells;
+use crate::recorded::read_page;
 use std::marker::Model;
 
 /// How many cells a whole page has. Page n of a store is its cells 64n to 64n + 63, as far as they exist.
@@ -108,11 +109,14 @@ pub(crate) fn cell_of(page: usize, offset: usize) -> usize
     page * PAGE + offset % PAGE
 }
 
-/// Exchanges a value with that of the cell at an offset in a page.
+/// Exchanges a value with that of the cell at an offset in a page, which is given too. Most cells of a page have the same
+/// value still, and to compare costs less than to write.
 #[inline(always)]
-fn exchange<C: Cells>(store: &mut C, page: usize, offset: usize, value: &mut u16)
+fn exchange<C: Cells>(store: &mut C, page: usize, offset: usize, held: u16, value: &mut u16)
     requires offset { offset < 64 }
     requires within { page * 64 + offset < 2 ^ 64 }
+    requires held { held ≡ slice_index (C.cells store.old) (page * 64 + offset) }
+    requires bound { held ≤ C.bounds store.old (page * 64 + offset) }
     requires fits { FitsCell (length (C.cells store.old)) (C.bounds store.old) (page * 64 + offset, value.old) }
     ensures cells { C.cells store.new ≡ slice_set (C.cells store.old) (page * 64 + offset) value.old }
     ensures value { value.new ≡ slice_index (C.cells store.old) (page * 64 + offset) }
@@ -121,10 +125,10 @@ fn exchange<C: Cells>(store: &mut C, page: usize, offset: usize, value: &mut u16
     ensures bounds { C.bounds store.new ≡ C.bounds store.old }
     ensures fixed { C.fixed store.new ≡ C.fixed store.old }
 {
-    let cell = cell_of(page, offset);
-    let was = store.get(cell);
-    store.put(cell, *value);
-    *value = was;
+    if held != *value {
+        store.put(cell_of(page, offset), *value);
+        *value = held;
+    }
 }
 
 /// `swap_back` on the parts of a record.
@@ -146,10 +150,12 @@ pub(crate) fn go_back<C: Cells>(store: &mut C, len: usize, pages: &[usize], valu
         let page = pages[slot];
         let size = page_size(len, page);
         at -= size;
+        let mut held = [0; PAGE];
+        read_page(store, page, size, &mut held);
         let mut offset = size;
         'cells: while offset > 0 {
             offset -= 1;
-            exchange(store, page, offset, &mut values[at + offset]);
+            exchange(store, page, offset, held[offset], &mut values[at + offset]);
         }
     }
 }
@@ -170,8 +176,10 @@ fn go_forward<C: Cells>(store: &mut C, len: usize, pages: &[usize], values: &mut
     'pages: for slot in 0..pages.len() {
         let page = pages[slot];
         let size = page_size(len, page);
+        let mut held = [0; PAGE];
+        read_page(store, page, size, &mut held);
         'cells: for offset in 0..size {
-            exchange(store, page, offset, &mut values[at + offset]);
+            exchange(store, page, offset, held[offset], &mut values[at + offset]);
         }
         at += size;
     }

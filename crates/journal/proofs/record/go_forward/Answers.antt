@@ -1,8 +1,12 @@
-use Rattle.std.proofs.Common.{◌≡◌, ◌+◌, ◌*◌, length, get_or, refl, arith}
+use Rattle.std.proofs.Common.{◌≡◌, ◌+◌, ◌-◌, ◌*◌, ◌<◌, ℕ, List, length, get_or, slice_index, refl, sym, subst, arith}
+use Rattle.std.proofs.lemmas.List.{get_or_default}
+use Rattle.std.proofs.lemmas.List.Elements.{All-get_or}
 use Rattle.journal.specs.Swap.{FitsCell}
 use Rattle.journal.specs.Pages.{cells_of}
 use Rattle.journal.proofs.Steps.{forward_ends_pages, fit_at, forward_starts, gone_forward_at, gone_forward_more}
 use Rattle.journal.proofs.Steps.{page_at, page_within, place}
+use Rattle.journal.proofs.Pages.{page_len_is}
+use Rattle.journal.proofs.ReadPages.{read_at, other_stays}
 use Rattle.journal.proofs.record.go_forward.Goals as goal
 
 pub pages-init : goal.pages-init
@@ -21,6 +25,8 @@ cells-init g c =
     record {
       forward = gone_forward_at {cs = cells_of c.args.len c.args.pages.now} c.pages.at (c.pages.at + 0) (omega arith)
           c.pages.invariant.forward;
+      unread = λ k from lt. read_at (g.C.Cells.cells c.pages.store) c.read_page.new.cells
+          (get_or c.args.pages.now c.pages.slot 0 * 64) c.page_size-size.result k c.read_page.ensures.read lt;
       same_len = c.pages.invariant.same_len;
       same_bounds = c.pages.invariant.same_bounds;
       same_fixed = c.pages.invariant.same_fixed;
@@ -53,6 +59,11 @@ cells-preserved g c =
           (g.C.Cells.cells c.exchange.new.store)
           c.cells.invariant.forward c.requires.paged.size (omega arith) here.0 here.1 c.index_mut.ensures.value
           c.exchange.ensures.cells c.exchange.ensures.value fit;
+      unread = λ k from lt. subst (λ (t : List ℕ). slice_index t (get_or c.args.pages.now c.pages.slot 0 * 64 + k)
+          ≡ slice_index c.read_page.new.cells k) (sym c.exchange.ensures.cells)
+          (other_stays (g.C.Cells.cells c.cells.store) cell (get_or c.args.pages.now c.pages.slot 0 * 64 + k)
+          c.index_mut.result.now (slice_index c.read_page.new.cells k) (λ e. absurd (omega (arith, e, from)))
+          (c.cells.invariant.unread k (omega (arith, from)) lt));
       same_len = cc;
       same_bounds = cc;
       same_fixed = cc;
@@ -106,3 +117,37 @@ pub returns-clause-entries : goal.returns-clause-entries
 returns-clause-entries g c =
     (forward_ends_pages c.args.len c.args.pages.now c.pages.slot c.pages.at c.pages.invariant.forward
     c.requires.paged.size c.pages.invariant.at (omega arith)).1
+
+pub read_page-requires-clause-cells : goal.read_page-requires-clause-cells
+read_page-requires-clause-cells g c =
+    let size = c.page_size-size.result in
+    let page = get_or c.args.pages.now c.pages.slot 0 in
+    let named : page * 64 < c.args.len = All-get_or (λ (p : ℕ). p * 64 < c.args.len) c.args.pages.now c.pages.slot 0
+    (omega arith) c.requires.paged.named in
+    let some : 0 < size = omega (arith, named, page_len_is c.args.len page, c.page_size-size.ensures.result) in
+    let here = place c.args.len c.args.pages.now c.pages.slot c.pages.at size (size - 1)
+    (omega arith) c.pages.invariant.at c.page_size-size.ensures.result (omega (arith, some)) in
+    let at : ℕ = c.pages.at + (size - 1) in
+    let last : ℕ = get_or c.pages.values.items at 0 in
+    let fit = fit_at (length (g.C.Cells.cells c.args.store.now)) (g.C.Cells.bounds c.args.store.now)
+    (cells_of c.args.len c.args.pages.now) c.pages.values.items at (page * 64 + (size - 1)) last c.pages.invariant.forward.size c.pages.invariant.forward.fits here.0 here.1
+    (get_or_default c.pages.values.items at 0 last (omega (arith, here.0, c.pages.invariant.forward.size))) in
+    omega (arith, fit.0, some, c.pages.invariant.same_len)
+
+pub exchange-requires-clause-offset : goal.exchange-requires-clause-offset
+exchange-requires-clause-offset g c = omega (arith, c.page_size-size.ensures.page)
+
+pub exchange-requires-clause-within : goal.exchange-requires-clause-within
+exchange-requires-clause-within g c = omega (arith, c.page_size-size.ensures.within)
+
+pub exchange-requires-clause-held : goal.exchange-requires-clause-held
+exchange-requires-clause-held g c = sym (c.cells.invariant.unread c.cells.offset (omega arith) (omega arith))
+
+pub exchange-requires-clause-bound : goal.exchange-requires-clause-bound
+exchange-requires-clause-bound g c =
+    let page = get_or c.args.pages.now c.pages.slot 0 in
+    let offset = c.cells.offset in
+    let value = read_at (g.C.Cells.cells c.pages.store) c.read_page.new.cells (page * 64) c.page_size-size.result offset
+    c.read_page.ensures.read (omega arith) in
+    let here = c.read_page.ensures.within (page * 64 + offset) (omega arith) (omega arith) in
+    rw (value, c.pages.invariant.same_bounds, sym c.cells.invariant.same_bounds) at here

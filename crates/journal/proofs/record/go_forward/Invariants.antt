@@ -1,4 +1,4 @@
-use Rattle.std.proofs.Common.{◌≡◌, ◌+◌, length, take}
+use Rattle.std.proofs.Common.{◌≡◌, ◌+◌, ◌*◌, ◌<◌, ◌≤◌, ℕ, length, take, slice_index}
 use Rattle.journal.specs.Pages.{cells_of}
 use Rattle.journal.proofs.Steps.{GoneForward}
 use Rattle.journal.proofs.record.go_forward.Given as goal
@@ -23,6 +23,7 @@ invariant-cells g l =
     record {
       forward : GoneForward (length (cells l.fn.store)) (bounds l.fn.store) (cells_of l.len l.pages)
           l.fn.values.items (cells l.fn.store) (l.at + l.offset) (cells l.store) l.values.items;
+      unread : (k : ℕ) → l.offset ≤ k → k < l.size → slice_index (cells l.store) (l.page * 64 + k) ≡ slice_index l.held k;
       same_len : length (cells l.store) ≡ length (cells l.fn.store);
       same_bounds : bounds l.store ≡ bounds l.fn.store;
       same_fixed : g.C.Cells.fixed l.store ≡ g.C.Cells.fixed l.fn.store;
