@@ -5,3 +5,4 @@ pub mod Flags
 pub mod Held
 pub mod HandedOut
 pub mod ReadPages
+pub mod PageSwaps

@@ -3,7 +3,7 @@
 ghost use Rattle.std.specs.Prelude.{◌≡◌, ◌+◌, ◌*◌, ◌^◌, ◌<◌, ◌≤◌, ℕ, length, slice_set, slice_index};
 ghost use Rattle.std.specs.List.{All};
 ghost use Rattle.journal.specs.Swap.{back, forward, Fits, FitsCell};
-ghost use Rattle.journal.specs.Pages.{IsPaged, cells_of, entries_of, page_len};
+ghost use Rattle.journal.specs.Pages.{IsPaged, cells_of, entries_of, page_entries, page_len};
 
 use crate::cells::Cells;
 use crate::recorded::read_page;
@@ -131,6 +131,53 @@ fn exchange<C: Cells>(store: &mut C, page: usize, offset: usize, held: u16, valu
     }
 }
 
+/// Exchanges the values of a page with those of its first cells, from the last to the first.
+#[inline(always)]
+fn exchange_back<C: Cells>(store: &mut C, page: usize, values: &mut [u16])
+    requires page { length values.old ≤ 64 }
+    requires within { page * 64 + length values.old < 2 ^ 64 }
+    requires cells { page * 64 + length values.old ≤ length (C.cells store.old) }
+    requires fits { Fits (length (C.cells store.old)) (C.bounds store.old) (page_entries page values.old) }
+    ensures cells { C.cells store.new ≡ (back (C.cells store.old) (page_entries page values.old)).cells }
+    ensures entries { page_entries page values.new ≡ (back (C.cells store.old) (page_entries page values.old)).entries }
+    ensures size { length values.new ≡ length values.old }
+    ensures fits { Fits (length (C.cells store.new)) (C.bounds store.new) (page_entries page values.new) }
+    ensures length { length (C.cells store.new) ≡ length (C.cells store.old) }
+    ensures bounds { C.bounds store.new ≡ C.bounds store.old }
+    ensures fixed { C.fixed store.new ≡ C.fixed store.old }
+{
+    let mut held = [0; PAGE];
+    let mut offset = values.len();
+    read_page(store, page, offset, &mut held);
+    'cells: while offset > 0 {
+        offset -= 1;
+        exchange(store, page, offset, held[offset], &mut values[offset]);
+    }
+}
+
+/// Exchanges the values of a page with those of its first cells, from the first to the last.
+#[inline(always)]
+fn exchange_forward<C: Cells>(store: &mut C, page: usize, values: &mut [u16])
+    requires page { length values.old ≤ 64 }
+    requires within { page * 64 + length values.old < 2 ^ 64 }
+    requires cells { page * 64 + length values.old ≤ length (C.cells store.old) }
+    requires fits { Fits (length (C.cells store.old)) (C.bounds store.old) (page_entries page values.old) }
+    ensures cells { C.cells store.new ≡ (forward (C.cells store.old) (page_entries page values.old)).cells }
+    ensures entries { page_entries page values.new ≡ (forward (C.cells store.old) (page_entries page values.old)).entries }
+    ensures size { length values.new ≡ length values.old }
+    ensures fits { Fits (length (C.cells store.new)) (C.bounds store.new) (page_entries page values.new) }
+    ensures length { length (C.cells store.new) ≡ length (C.cells store.old) }
+    ensures bounds { C.bounds store.new ≡ C.bounds store.old }
+    ensures fixed { C.fixed store.new ≡ C.fixed store.old }
+{
+    let mut held = [0; PAGE];
+    let size = values.len();
+    read_page(store, page, size, &mut held);
+    'cells: for offset in 0..size {
+        exchange(store, page, offset, held[offset], &mut values[offset]);
+    }
+}
+
 /// `swap_back` on the parts of a record.
 pub(crate) fn go_back<C: Cells>(store: &mut C, len: usize, pages: &[usize], values: &mut Vec<u16>)
     requires paged { IsPaged len pages.now values.old.items }
@@ -150,13 +197,7 @@ pub(crate) fn go_back<C: Cells>(store: &mut C, len: usize, pages: &[usize], valu
         let page = pages[slot];
         let size = page_size(len, page);
         at -= size;
-        let mut held = [0; PAGE];
-        read_page(store, page, size, &mut held);
-        let mut offset = size;
-        'cells: while offset > 0 {
-            offset -= 1;
-            exchange(store, page, offset, held[offset], &mut values[at + offset]);
-        }
+        exchange_back(store, page, &mut values[at..at + size]);
     }
 }
 
@@ -176,11 +217,7 @@ fn go_forward<C: Cells>(store: &mut C, len: usize, pages: &[usize], values: &mut
     'pages: for slot in 0..pages.len() {
         let page = pages[slot];
         let size = page_size(len, page);
-        let mut held = [0; PAGE];
-        read_page(store, page, size, &mut held);
-        'cells: for offset in 0..size {
-            exchange(store, page, offset, held[offset], &mut values[at + offset]);
-        }
+        exchange_forward(store, page, &mut values[at..at + size]);
         at += size;
     }
 }
