@@ -2,7 +2,7 @@
 -- among all cells.
 use Rattle.std.proofs.Common.{◌≡◌, ℕ, zero, suc, ◌+◌, ◌-◌, ◌*◌, ◌<◌, ◌≤◌, List, [], ◌∷◌, ◌++◌, length, get_or, take, drop}
 use Rattle.std.proofs.Common.{refl, ap, sym, subst, ◌∙◌, arith, append_assoc}
-use Rattle.std.specs.List.{range_with_len, zip}
+use Rattle.std.specs.List.{All, range_with_len, zip}
 use Rattle.std.proofs.lemmas.List.{append-nil, take-append-drop, take_all, take_more, take_at, drop_at, drop_more, drop-drop}
 use Rattle.std.proofs.lemmas.List.{length-append, length-take-le, length-take, length-drop, take-take, drop-take, take-append-le}
 use Rattle.std.proofs.lemmas.List.Elements.{All-append, All-take, All-drop, All-get_or}
@@ -11,8 +11,8 @@ use Rattle.std.proofs.lemmas.Grind.{flat_map-append}
 use Rattle.std.proofs.lemmas.Slice.Zip.{get_or-zip, length-zip}
 use Rattle.journal.specs.Swap.{back, forward, Fits, FitsCell}
 use Rattle.journal.specs.Pages.{cells_of, page_cells, page_entries, page_len}
-use Rattle.journal.proofs.Pages.{back-append, length-page_cells, zip-append}
-use Rattle.journal.proofs.Steps.{GoneBack, GoneForward, length-entries, page_within}
+use Rattle.journal.proofs.Pages.{back-append, length-page_cells, page_len_is, zip-append}
+use Rattle.journal.proofs.Steps.{GoneBack, GoneForward, length-entries, page_start, page_within}
 
 -- swaps of entries one behind the other
 
@@ -36,7 +36,7 @@ forward-append_entries c (x ∷ xs) ys = ap (λ (z : List (ℕ × ℕ)). (x.0, g
 
 -- the entries of a page
 
-zip_of_none : (cs : List ℕ) → zip cs [] ≡ []
+zip_of_none : (cs : List ℕ) → zip {K = ℕ} {X = ℕ} cs [] ≡ []
 zip_of_none [] = refl
 zip_of_none (c ∷ cs) = refl
 
@@ -269,3 +269,35 @@ has_page n pages vs s start size width lt at wide same long =
       within = omega (arith, page_within n pages s 0 lt, at, wide_page);
       long = long;
     }
+
+-- page s - 1, where a swap comes to its end that goes back; values is how the swap's values are written there
+pub page_before : {n : ℕ} {b : ℕ → ℕ} {was c x : List ℕ} (len : ℕ) (pages vs values : List ℕ) (s at size : ℕ) → 0 < s
+    → s ≤ length pages → at ≡ length (cells_of len (take s pages)) → size ≡ page_len len (get_or pages (s - 1) 0)
+    → values ≡ vs → GoneBack n b (cells_of len pages) was c at x vs
+    → GoneBack n b (cells_of len pages) was c at x values
+    × HasPage (cells_of len pages) values (get_or pages (s - 1) 0) (at - size) (at - size + size - (at - size))
+page_before {n} {b} {was} {c} {x} len pages vs values s at size pos upto end wide same g =
+    let start : (size ≤ at) × (at - size ≡ length (cells_of len (take (s - 1) pages))) =
+    page_start len pages s at size pos upto end wide in
+    let gone : GoneBack n b (cells_of len pages) was c at x values =
+    subst (λ (t : List ℕ). GoneBack n b (cells_of len pages) was c at x t) (sym same) g in
+    (gone, has_page len pages values (s - 1) (at - size) (at - size + size - (at - size)) size (omega arith) start.1 wide
+    (omega arith) gone.size)
+
+-- page s, where a swap comes to its beginning that goes forward
+pub page_after : {n : ℕ} {b : ℕ → ℕ} {was c x : List ℕ} (len : ℕ) (pages vs values : List ℕ) (s at size : ℕ)
+    → s < length pages → at ≡ length (cells_of len (take s pages)) → size ≡ page_len len (get_or pages s 0)
+    → values ≡ vs → GoneForward n b (cells_of len pages) was c at x vs
+    → GoneForward n b (cells_of len pages) was c at x values
+    × HasPage (cells_of len pages) values (get_or pages s 0) at (at + size - at)
+page_after {n} {b} {was} {c} {x} len pages vs values s at size lt start wide same g =
+    let gone : GoneForward n b (cells_of len pages) was c at x values =
+    subst (λ (t : List ℕ). GoneForward n b (cells_of len pages) was c at x t) (sym same) g in
+    (gone, has_page len pages values s at (at + size - at) size lt start wide (omega arith) gone.size)
+
+-- a page that begins in the store has a cell
+pub some_cells : (len : ℕ) (pages : List ℕ) (s size : ℕ) → All (λ p. p * 64 < len) pages → s < length pages
+    → size ≡ page_len len (get_or pages s 0) → 0 < size
+some_cells len pages s size named lt wide =
+    let here : get_or pages s 0 * 64 < len = All-get_or (λ (p : ℕ). p * 64 < len) pages s 0 lt named in
+    omega (arith, here, wide, page_len_is len (get_or pages s 0))

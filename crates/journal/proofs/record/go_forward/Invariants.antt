@@ -1,8 +1,17 @@
-use Rattle.std.proofs.Common.{◌≡◌, ◌+◌, ◌*◌, ◌^◌, ◌<◌, ◌≤◌, ℕ, length, slice_set, slice_index, ◌-◌}
-use Rattle.std.specs.List.{All}
-use Rattle.journal.specs.Swap.{back, forward, Fits, FitsCell}
-use Rattle.journal.specs.Pages.{IsPaged, cells_of, entries_of, page_entries, page_len}
+use Rattle.std.proofs.Common.{◌≡◌, ℕ, length, take}
+use Rattle.journal.specs.Pages.{cells_of}
+use Rattle.journal.proofs.Steps.{GoneForward}
 use Rattle.journal.proofs.record.go_forward.Given as goal
 
 abbrev pub invariant-pages : goal.invariant-pages
-invariant-pages g l = ?
+invariant-pages g l =
+    let cells = g.C.Cells.cells in
+    let bounds = g.C.Cells.bounds in
+    record {
+      at : l.at ≡ length (cells_of l.len (take l.slot l.pages));
+      forward : GoneForward (length (cells l.fn.store)) (bounds l.fn.store) (cells_of l.len l.pages)
+          l.fn.values.items (cells l.fn.store) l.at (cells l.store) l.values.items;
+      same_len : length (cells l.store) ≡ length (cells l.fn.store);
+      same_bounds : bounds l.store ≡ bounds l.fn.store;
+      same_fixed : g.C.Cells.fixed l.store ≡ g.C.Cells.fixed l.fn.store;
+    }
