@@ -4,7 +4,7 @@ use Rattle.std.proofs.lemmas.List.{get_or_default}
 use Rattle.std.proofs.lemmas.List.FromFn.{length-range_with_len, get_or-range_with_len}
 use Rattle.journal.specs.Swap.{back, Fits, FitsCell}
 use Rattle.journal.specs.Pages.{page_entries}
-use Rattle.journal.proofs.Steps.{back_starts, fit_at, gone_back_at, gone_back_more}
+use Rattle.journal.proofs.Steps.{back_ends, back_starts, fit_at, gone_back_more}
 use Rattle.journal.proofs.ReadPages.{read_at, other_stays}
 use Rattle.journal.proofs.record.exchange_back.Goals as goal
 
@@ -23,24 +23,6 @@ cells-init g c =
       same_bounds = refl;
       same_fixed = refl;
     }
-
-pub bounds-held-offset : goal.bounds-held-offset
-bounds-held-offset g c = omega (arith, c.cells.invariant.upto, c.requires.page)
-
-pub offset_bounds-held-offset : goal.offset_bounds-held-offset
-offset_bounds-held-offset g c = omega (arith, c.cells.invariant.upto, c.requires.page)
-
-pub bounds-values-offset : goal.bounds-values-offset
-bounds-values-offset g c = omega (arith, c.cells.invariant.upto, c.cells.auto.values)
-
-pub offset_bounds-values-offset : goal.offset_bounds-values-offset
-offset_bounds-values-offset g c = omega (arith, c.cells.invariant.upto, c.requires.page)
-
-pub exchange-requires-clause-offset : goal.exchange-requires-clause-offset
-exchange-requires-clause-offset g c = omega (arith, c.cells.invariant.upto, c.requires.page)
-
-pub exchange-requires-clause-within : goal.exchange-requires-clause-within
-exchange-requires-clause-within g c = omega (arith, c.cells.invariant.upto, c.requires.within)
 
 pub exchange-requires-clause-held : goal.exchange-requires-clause-held
 exchange-requires-clause-held g c = sym (c.cells.invariant.unread (c.cells.offset - 1) (omega arith))
@@ -101,17 +83,20 @@ cells-preserved g c =
 
 pub returns-clause-cells : goal.returns-clause-cells
 returns-clause-cells g c =
-    let none : c.cells.offset ≡ 0 = omega arith in
-    (gone_back_at {cs = range_with_len (c.args.page * 64) (length c.args.values.now)} c.cells.offset 0 none
-    c.cells.invariant.back).now
+    let first = c.args.page * 64 in
+    let size = length c.args.values.now in
+    (back_ends (length (g.C.Cells.cells c.args.store.now)) (g.C.Cells.bounds c.args.store.now)
+    (range_with_len first size) c.args.values.now (g.C.Cells.cells c.args.store.now) c.cells.offset
+    (g.C.Cells.cells c.cells.store) c.cells.values c.cells.invariant.back (omega arith)).0
 
 pub returns-clause-entries : goal.returns-clause-entries
 returns-clause-entries g c =
-    let none : c.cells.offset ≡ 0 = omega arith in
-    let first : ℕ = c.args.page * 64 in
+    let first = c.args.page * 64 in
+    let size = length c.args.values.now in
     ap (λ (t : ℕ). zip (range_with_len first t) c.cells.values) c.cells.auto.values
-    ∙ (gone_back_at {cs = range_with_len first (length c.args.values.now)} c.cells.offset 0 none
-    c.cells.invariant.back).left
+    ∙ (back_ends (length (g.C.Cells.cells c.args.store.now)) (g.C.Cells.bounds c.args.store.now)
+    (range_with_len first size) c.args.values.now (g.C.Cells.cells c.args.store.now) c.cells.offset
+    (g.C.Cells.cells c.cells.store) c.cells.values c.cells.invariant.back (omega arith)).1
 
 pub returns-clause-fits : goal.returns-clause-fits
 returns-clause-fits g c =

@@ -22,9 +22,6 @@ cells-init g c =
       same_fixed = refl;
     }
 
-pub exchange-requires-clause-within : goal.exchange-requires-clause-within
-exchange-requires-clause-within g c = omega (arith, c.requires.within)
-
 pub exchange-requires-clause-held : goal.exchange-requires-clause-held
 exchange-requires-clause-held g c = sym (c.cells.invariant.unread c.cells.offset (omega arith) (omega arith))
 
