@@ -1,10 +1,10 @@
 -- What a swap of one page does to a swap of all pages: size is how many cells the page has, and start where they stand
 -- among all cells.
-use Rattle.std.proofs.Common.{◌≡◌, ℕ, zero, suc, ◌+◌, ◌-◌, ◌*◌, ◌<◌, ◌≤◌, List, [], ◌∷◌, ◌++◌, length, get_or, take, drop}
-use Rattle.std.proofs.Common.{refl, ap, sym, subst, ◌∙◌, arith, append_assoc}
+use Rattle.std.proofs.Common.{◌≡◌, ℕ, zero, suc, ◌+◌, ◌-◌, ◌*◌, ◌<◌, ◌≤◌, List, [], ◌∷◌, ◌++◌, length, get_or}
+use Rattle.std.proofs.Common.{take, drop, refl, ap, sym, subst, ◌∙◌, arith, append_assoc}
 use Rattle.std.specs.List.{All, range_with_len, zip}
-use Rattle.std.proofs.lemmas.List.{append-nil, take-append-drop, take_all, take_more, take_at, drop_at, drop_more, drop-drop}
-use Rattle.std.proofs.lemmas.List.{length-append, length-take-le, length-take, length-drop, take-take, drop-take, take-append-le}
+use Rattle.std.proofs.lemmas.List.{take-append-drop, take_at, drop_at, drop_more, drop-drop}
+use Rattle.std.proofs.lemmas.List.{length-append, length-take-le, length-take, length-drop, take-take, drop-take}
 use Rattle.std.proofs.lemmas.List.Elements.{All-append, All-take, All-drop, All-get_or}
 use Rattle.std.proofs.lemmas.List.FromFn.{length-range_with_len, get_or-range_with_len}
 use Rattle.std.proofs.lemmas.Grind.{flat_map-append}
@@ -32,7 +32,8 @@ forward-append c (x ∷ xs) ys = forward-append _ xs ys
 forward-append_entries : (c : List ℕ) (xs ys : List (ℕ × ℕ))
     → (forward c (xs ++ ys)).entries ≡ (forward c xs).entries ++ (forward (forward c xs).cells ys).entries
 forward-append_entries c [] ys = refl
-forward-append_entries c (x ∷ xs) ys = ap (λ (z : List (ℕ × ℕ)). (x.0, get_or c x.0 0) ∷ z) (forward-append_entries _ xs ys)
+forward-append_entries c (x ∷ xs) ys = ap (λ (z : List (ℕ × ℕ)). (x.0, get_or c x.0 0) ∷ z)
+    (forward-append_entries _ xs ys)
 
 -- the entries of a page
 
@@ -88,14 +89,14 @@ put_row cs vs row p start size h same =
     ap (λ (t : List ℕ). zip t (take start vs ++ (row ++ values))) split
     ∙ zip-append (take start cs) (range_with_len (p * 64) size ++ rest) (take start vs) (row ++ values) first
     ∙ ap (λ (t : List (ℕ × ℕ)). zip (take start cs) (take start vs) ++ t)
-        (zip-append (range_with_len (p * 64) size) rest row values
-        (omega (arith, long, length-range_with_len (p * 64) size)))
+    (zip-append (range_with_len (p * 64) size) rest row values
+    (omega (arith, long, length-range_with_len (p * 64) size)))
     ∙ ap (λ (t : List (ℕ × ℕ)). t ++ (zip (range_with_len (p * 64) size) row ++ zip rest values))
-        (sym (take-zip start cs vs))
+    (sym (take-zip start cs vs))
     ∙ ap (λ (t : ℕ). take start (zip cs vs) ++ (zip (range_with_len (p * 64) t) row ++ zip rest values)) (sym long)
     ∙ ap (λ (t : List (ℕ × ℕ)). take start (zip cs vs) ++ (page_entries p row ++ t))
-        (sym (ap (λ (t : List (ℕ × ℕ)). drop size t) (drop-zip start cs vs)
-        ∙ drop-zip size (drop start cs) (drop start vs)))
+    (sym (ap (λ (t : List (ℕ × ℕ)). drop size t) (drop-zip start cs vs)
+    ∙ drop-zip size (drop start cs) (drop start vs)))
 
 length-put_row : (cs vs row : List ℕ) (p start size : ℕ) → HasPage cs vs p start size
     → length row ≡ length (take size (drop start vs))
@@ -187,11 +188,11 @@ page_gone_back n b cs was c k start size p x vs y row g long end h same cells en
           ∙ sym (back-append c ps rest) ∙ sym (ap (λ (t : List (ℕ × ℕ)). (back c t).cells) split);
       left = put_row cs vs row p start size h same
           ∙ ap (λ (t : List (ℕ × ℕ)). t ++ (page_entries p row ++ drop size (drop start ys)))
-              (ap (λ (t : List (ℕ × ℕ)). take start t) is
-              ∙ take_at (take start es) (ps ++ (back c rest).entries) start long_start)
+          (ap (λ (t : List (ℕ × ℕ)). take start t) is
+          ∙ take_at (take start es) (ps ++ (back c rest).entries) start long_start)
           ∙ ap (λ (t : List (ℕ × ℕ)). take start es ++ (t ++ drop size (drop start ys))) row_is
           ∙ ap (λ (t : List (ℕ × ℕ)). take start es ++ ((back (back c rest).cells ps).entries ++ t))
-              (ap (λ (t : List (ℕ × ℕ)). drop size t) from ∙ drop_at ps (back c rest).entries size long_ps)
+          (ap (λ (t : List (ℕ × ℕ)). drop size t) from ∙ drop_at ps (back c rest).entries size long_ps)
           ∙ ap (λ (t : List (ℕ × ℕ)). take start es ++ t) (sym (back-append_entries c ps rest))
           ∙ sym (ap (λ (t : List (ℕ × ℕ)). take start es ++ (back c t).entries) split);
       size = length-put_row cs vs row p start size h same;
@@ -222,10 +223,13 @@ page_gone_forward n b cs was c start k size p x vs y row g long end h same cells
     let row_is : rs ≡ (forward x ps).entries = entries ∙ ap (λ (t : List (ℕ × ℕ)). (forward x t).entries) page in
     let long_ys : length ys ≡ length cs = length-entries cs vs h.long ∙ h.long in
     let long_row : length row ≡ size = same ∙ length-row cs vs p start size h in
+    let cells_long : length (range_with_len (p * 64) (length row)) ≡ length row = length-range_with_len (p * 64)
+    (length row) in
     let long_rs : length rs ≡ size = omega
-    (arith, length-zip (range_with_len (p * 64) (length row)) row, length-range_with_len (p * 64) (length row), long_row) in
+    (arith, length-zip (range_with_len (p * 64) (length row)) row, cells_long, long_row) in
+    let long_ys_first : length (take start ys) ≡ start = length-take-le start ys (omega (arith, long_ys, h.within)) in
     let long_first : length (take start ys ++ rs) ≡ k = omega
-    (arith, length-append (take start ys) rs, length-take-le start ys (omega (arith, long_ys, h.within)), long_rs, end) in
+    (arith, length-append (take start ys) rs, long_ys_first, long_rs, end) in
     let is : zs ≡ (take start ys ++ rs) ++ rest = put_row cs vs row p start size h same
     ∙ ap (λ (t : List (ℕ × ℕ)). take start ys ++ (rs ++ t)) same_rest ∙ sym (append_assoc (take start ys) rs rest) in
     let first : take k zs ≡ take start ys ++ rs = ap (λ (t : List (ℕ × ℕ)). take k t) is
@@ -280,9 +284,11 @@ page_before {n} {b} {was} {c} {x} len pages vs values s at size pos upto end wid
     let start : (size ≤ at) × (at - size ≡ length (cells_of len (take (s - 1) pages))) =
     page_start len pages s at size pos upto end wide in
     let gone : GoneBack n b (cells_of len pages) was c at x values =
-    subst (λ (t : List ℕ). GoneBack n b (cells_of len pages) was c at x t) (sym same) g in
-    (gone, has_page len pages values (s - 1) (at - size) (at - size + size - (at - size)) size (omega arith) start.1 wide
-    (omega arith) gone.size)
+    subst (λ (t : List ℕ). GoneBack n b (cells_of len pages) was c at x t) (sym same) g in (
+      gone,
+      has_page len pages values (s - 1) (at - size) (at - size + size - (at - size)) size (omega arith) start.1 wide
+          (omega arith) gone.size,
+    )
 
 -- page s, where a swap comes to its beginning that goes forward
 pub page_after : {n : ℕ} {b : ℕ → ℕ} {was c x : List ℕ} (len : ℕ) (pages vs values : List ℕ) (s at size : ℕ)

@@ -139,7 +139,8 @@ fn exchange_back<C: Cells>(store: &mut C, page: usize, values: &mut [u16])
     requires cells { page * 64 + length values.old ≤ length (C.cells store.old) }
     requires fits { Fits (length (C.cells store.old)) (C.bounds store.old) (page_entries page values.old) }
     ensures cells { C.cells store.new ≡ (back (C.cells store.old) (page_entries page values.old)).cells }
-    ensures entries { page_entries page values.new ≡ (back (C.cells store.old) (page_entries page values.old)).entries }
+    ensures entries { page_entries page values.new
+        ≡ (back (C.cells store.old) (page_entries page values.old)).entries }
     ensures size { length values.new ≡ length values.old }
     ensures fits { Fits (length (C.cells store.new)) (C.bounds store.new) (page_entries page values.new) }
     ensures length { length (C.cells store.new) ≡ length (C.cells store.old) }
@@ -163,7 +164,8 @@ fn exchange_forward<C: Cells>(store: &mut C, page: usize, values: &mut [u16])
     requires cells { page * 64 + length values.old ≤ length (C.cells store.old) }
     requires fits { Fits (length (C.cells store.old)) (C.bounds store.old) (page_entries page values.old) }
     ensures cells { C.cells store.new ≡ (forward (C.cells store.old) (page_entries page values.old)).cells }
-    ensures entries { page_entries page values.new ≡ (forward (C.cells store.old) (page_entries page values.old)).entries }
+    ensures entries { page_entries page values.new
+        ≡ (forward (C.cells store.old) (page_entries page values.old)).entries }
     ensures size { length values.new ≡ length values.old }
     ensures fits { Fits (length (C.cells store.new)) (C.bounds store.new) (page_entries page values.new) }
     ensures length { length (C.cells store.new) ≡ length (C.cells store.old) }

@@ -1,9 +1,9 @@
-use Rattle.std.proofs.Common.{◌≡◌, ◌+◌, ◌-◌, ◌*◌, ℕ, List, length, get_or, slice_index, refl, ap, sym, subst, ◌∙◌, arith}
+use Rattle.std.proofs.Common.{◌≡◌, ◌+◌, ◌-◌, ◌*◌, ℕ, List, length, get_or, slice_index, refl, ap, sym, subst, ◌∙◌}
+use Rattle.std.proofs.Common.{arith}
 use Rattle.std.specs.List.{range_with_len, zip}
 use Rattle.std.proofs.lemmas.List.{get_or_default}
 use Rattle.std.proofs.lemmas.List.FromFn.{length-range_with_len, get_or-range_with_len}
-use Rattle.journal.specs.Swap.{back, Fits, FitsCell}
-use Rattle.journal.specs.Pages.{page_entries}
+use Rattle.journal.specs.Swap.{Fits, FitsCell}
 use Rattle.journal.proofs.Steps.{back_ends, back_starts, fit_at, gone_back_more}
 use Rattle.journal.proofs.ReadPages.{read_at, other_stays}
 use Rattle.journal.proofs.record.exchange_back.Goals as goal
@@ -103,5 +103,5 @@ returns-clause-fits g c =
     let first : ℕ = c.args.page * 64 in
     let values : List ℕ = c.cells.values in
     let whole = subst (λ (t : ℕ). Fits (length (g.C.Cells.cells c.args.store.now)) (g.C.Cells.bounds c.args.store.now)
-        (zip (range_with_len first t) values)) (sym c.cells.auto.values) c.cells.invariant.back.fits in
+    (zip (range_with_len first t) values)) (sym c.cells.auto.values) c.cells.invariant.back.fits in
     rw (c.cells.invariant.same_len, c.cells.invariant.same_bounds) whole

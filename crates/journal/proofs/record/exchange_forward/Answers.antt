@@ -102,5 +102,5 @@ returns-clause-fits g c =
     let first : ℕ = c.args.page * 64 in
     let values : List ℕ = c.cells.values in
     let whole = subst (λ (t : ℕ). Fits (length (g.C.Cells.cells c.args.store.now)) (g.C.Cells.bounds c.args.store.now)
-        (zip (range_with_len first t) values)) (sym c.cells.auto.values) c.cells.invariant.forward.fits in
+    (zip (range_with_len first t) values)) (sym c.cells.auto.values) c.cells.invariant.forward.fits in
     rw (c.cells.invariant.same_len, c.cells.invariant.same_bounds) whole

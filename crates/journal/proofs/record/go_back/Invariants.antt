@@ -1,4 +1,4 @@
-use Rattle.std.proofs.Common.{◌≡◌, ◌≤◌, ℕ, length, take}
+use Rattle.std.proofs.Common.{◌≡◌, ◌≤◌, length, take}
 use Rattle.journal.specs.Pages.{cells_of}
 use Rattle.journal.proofs.Steps.{GoneBack}
 use Rattle.journal.proofs.record.go_back.Given as goal
