@@ -109,8 +109,8 @@ pub(crate) fn cell_of(page: usize, offset: usize) -> usize
     page * PAGE + offset % PAGE
 }
 
-/// Exchanges a value with that of the cell at an offset in a page, which is given too. Most cells of a page have the same
-/// value still, and to compare costs less than to write.
+/// Exchanges a value with that of the cell at an offset in a page, which is given too. Most cells of a page have the
+/// same value still, and to compare costs less than to write.
 #[inline(always)]
 fn exchange<C: Cells>(store: &mut C, page: usize, offset: usize, held: u16, value: &mut u16)
     requires offset { offset < 64 }
@@ -131,7 +131,8 @@ fn exchange<C: Cells>(store: &mut C, page: usize, offset: usize, held: u16, valu
     }
 }
 
-/// Exchanges the values of a page with those of its first cells, from the last to the first.
+/// Exchanges the values of a page with those of its first cells, from the last to the first. The values are a slice, so
+/// that where they lie is read once for the page: behind a reference to a vector it would be read for each cell.
 #[inline(always)]
 fn exchange_back<C: Cells>(store: &mut C, page: usize, values: &mut [u16])
     requires page { length values.old ≤ 64 }
@@ -156,7 +157,7 @@ fn exchange_back<C: Cells>(store: &mut C, page: usize, values: &mut [u16])
     }
 }
 
-/// Exchanges the values of a page with those of its first cells, from the first to the last.
+/// Exchanges the values of a page with those of its first cells, from the first to the last; a slice for the same reason.
 #[inline(always)]
 fn exchange_forward<C: Cells>(store: &mut C, page: usize, values: &mut [u16])
     requires page { length values.old ≤ 64 }
