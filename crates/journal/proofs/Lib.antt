@@ -4,3 +4,5 @@ pub mod Steps
 pub mod Flags
 pub mod Held
 pub mod HandedOut
+pub mod ReadPages
+pub mod PageSwaps

@@ -1,13 +1,11 @@
 -- How far a swap has come, at entry k of a record that gives each of the cells cs a value.
-use Rattle.std.proofs.Common.{◌≡◌, ℕ, ◌+◌, ◌*◌, ◌<◌, ◌≤◌, List, [], ◌∷◌, ◌++◌, length, get_or, set, take, drop, refl}
+use Rattle.std.proofs.Common.{◌≡◌, ℕ, ◌+◌, ◌<◌, ◌≤◌, List, [], ◌∷◌, ◌++◌, length, get_or, set, take, drop, refl}
 use Rattle.std.proofs.Common.{ap, sym, subst, ◌∙◌, arith, append_assoc, slice_index, drop_of_length-le, ◌-◌}
 use Rattle.std.specs.List.{zip}
 use Rattle.std.proofs.lemmas.List.{append-nil, take_all, length-set, drop_more, take_more, take_more_set, get_or-drop}
 use Rattle.std.proofs.lemmas.List.{drop-set-lt, length-append}
-use Rattle.std.proofs.lemmas.List.Concat.{get_or-flat_map}
 use Rattle.std.proofs.lemmas.List.Elements.{All-set, All-get_or}
 use Rattle.std.proofs.lemmas.List.Folds.{length-flat_map-take}
-use Rattle.std.proofs.lemmas.List.FromFn.{get_or-range_with_len}
 use Rattle.std.proofs.lemmas.Grind.{drop_more_same, get_or_default_zero}
 use Rattle.std.proofs.lemmas.Slice.Zip.{get_or-zip, length-zip}
 use Rattle.journal.specs.Swap.{back, forward, Fits, FitsCell}
@@ -124,22 +122,7 @@ pub page_within : (n : ℕ) (pages : List ℕ) (s d : ℕ) → s < length pages
 page_within n pages s d lt = omega
     (arith, length-flat_map-take (page_cells n) pages s d lt, length-page_cells n (get_or pages s d))
 
-pub cell_at : (n : ℕ) (pages : List ℕ) (s j d : ℕ) → s < length pages → j < page_len n (get_or pages s d)
-    → get_or pages s d * 64 + j ≡ get_or (cells_of n pages) (length (cells_of n (take s pages)) + j) 0
-cell_at n pages s j d lt below =
-    sym (get_or-flat_map (page_cells n) pages s j d 0 lt (omega (arith, length-page_cells n (get_or pages s d)))
-    ∙ get_or-range_with_len (get_or pages s d * 64) (page_len n (get_or pages s d)) j 0 below)
-
--- a place within page s, which begins at `at`
-pub place : (n : ℕ) (pages : List ℕ) (s at size j : ℕ) → s < length pages → at ≡ length (cells_of n (take s pages))
-    → size ≡ page_len n (get_or pages s 0) → j < size
-    → (at + j < length (cells_of n pages)) × (get_or pages s 0 * 64 + j ≡ get_or (cells_of n pages) (at + j) 0)
-place n pages s at size j lt start same below = (
-  omega (arith, page_within n pages s 0 lt),
-  cell_at n pages s j 0 lt (omega arith) ∙ ap (λ (t : ℕ). get_or (cells_of n pages) (t + j) 0) (sym start),
-)
-
--- the same from the page's end, where a swap comes to it that goes back
+-- where page s - 1 begins, as a swap finds it that goes back
 pub page_start : (n : ℕ) (pages : List ℕ) (s at size : ℕ) → 0 < s → s ≤ length pages
     → at ≡ length (cells_of n (take s pages)) → size ≡ page_len n (get_or pages (s - 1) 0)
     → (size ≤ at) × (at - size ≡ length (cells_of n (take (s - 1) pages)))
@@ -151,25 +134,6 @@ page_start n pages s at size pos upto end same =
     ≡ length (cells_of n (take (s - 1) pages)) + page_len n (get_or pages (s - 1) 0) = page_at n pages (s - 1) 0
     (omega arith) in
     (omega arith, omega arith)
-
--- cell j - 1 of page s - 1, where a swap comes to it that goes back
-pub place_back : (n : ℕ) (pages : List ℕ) (s at size j : ℕ) → 0 < s → s ≤ length pages
-    → at ≡ length (cells_of n (take s pages)) → size ≡ page_len n (get_or pages (s - 1) 0) → 0 < j → j ≤ size
-    → (at - size + (j - 1) < length (cells_of n pages))
-    × (get_or pages (s - 1) 0 * 64 + (j - 1) ≡ get_or (cells_of n pages) (at - size + (j - 1)) 0)
-place_back n pages s at size j pos upto end same some below =
-    let start : (size ≤ at) × (at - size ≡ length (cells_of n (take (s - 1) pages))) = page_start n pages s at size
-    pos upto end same in
-    place n pages (s - 1) (at - size) size (j - 1) (omega arith) start.1 same (omega arith)
-
--- the same, where the number of the entry is written in another way
-pub gone_back_at : {n : ℕ} {b : ℕ → ℕ} {cs was c : List ℕ} {x vs : List ℕ} (i k : ℕ) → i ≡ k
-    → GoneBack n b cs was c i x vs → GoneBack n b cs was c k x vs
-gone_back_at {n} {b} {cs} {was} {c} {x} {vs} i k e g = subst (λ (t : ℕ). GoneBack n b cs was c t x vs) e g
-
-pub gone_forward_at : {n : ℕ} {b : ℕ → ℕ} {cs was c : List ℕ} {x vs : List ℕ} (i k : ℕ) → i ≡ k
-    → GoneForward n b cs was c i x vs → GoneForward n b cs was c k x vs
-gone_forward_at {n} {b} {cs} {was} {c} {x} {vs} i k e g = subst (λ (t : ℕ). GoneForward n b cs was c t x vs) e g
 
 pub back_starts : (n : ℕ) (b : ℕ → ℕ) (cs was c : List ℕ) (k : ℕ) → length was ≡ length cs → k ≡ length was
     → Fits n b (zip cs was) → GoneBack n b cs was c k c was
@@ -184,6 +148,12 @@ back_starts n b cs was c k p e fits =
       size = p;
       fits = fits;
     }
+
+pub back_ends : (n : ℕ) (b : ℕ → ℕ) (cs was c : List ℕ) (k : ℕ) (x vs : List ℕ) → GoneBack n b cs was c k x vs
+    → k ≡ 0 → (x ≡ (back c (zip cs was)).cells) × (zip cs vs ≡ (back c (zip cs was)).entries)
+back_ends n b cs was c k x vs g e =
+    let whole : GoneBack n b cs was c 0 x vs = subst (λ (t : ℕ). GoneBack n b cs was c t x vs) e g in
+    (whole.now, whole.left)
 
 pub forward_starts : (n : ℕ) (b : ℕ → ℕ) (cs was c : List ℕ) → length was ≡ length cs → Fits n b (zip cs was)
     → GoneForward n b cs was c 0 c was

@@ -20,6 +20,10 @@ cells_of n pages = flat_map (page_cells n) pages
 abbrev pub entries_of : ℕ → List ℕ → List ℕ → List (ℕ × ℕ)
 entries_of n pages values = zip (cells_of n pages) values
 
+-- the first cells of a page with these values, as entries
+abbrev pub page_entries : ℕ → List ℕ → List (ℕ × ℕ)
+page_entries p values = zip (range_with_len (p * 64) (length values)) values
+
 -- whether a page is among them
 abbrev pub keeps : List ℕ → ℕ → Bool
 keeps pages p = list_any (eqb p) pages

@@ -3,9 +3,10 @@
 ghost use Rattle.std.specs.Prelude.{◌≡◌, ◌+◌, ◌*◌, ◌^◌, ◌<◌, ◌≤◌, ℕ, length, slice_set, slice_index};
 ghost use Rattle.std.specs.List.{All};
 ghost use Rattle.journal.specs.Swap.{back, forward, Fits, FitsCell};
-ghost use Rattle.journal.specs.Pages.{IsPaged, cells_of, entries_of, page_len};
+ghost use Rattle.journal.specs.Pages.{IsPaged, cells_of, entries_of, page_entries, page_len};
 
 use crate::cells::Cells;
+use crate::recorded::read_page;
 use std::marker::Model;
 
 /// How many cells a whole page has. Page n of a store is its cells 64n to 64n + 63, as far as they exist.
@@ -108,11 +109,14 @@ pub(crate) fn cell_of(page: usize, offset: usize) -> usize
     page * PAGE + offset % PAGE
 }
 
-/// Exchanges a value with that of the cell at an offset in a page.
+/// Exchanges a value with that of the cell at an offset in a page, which is given too. Most cells of a page have the
+/// same value still, and to compare costs less than to write.
 #[inline(always)]
-fn exchange<C: Cells>(store: &mut C, page: usize, offset: usize, value: &mut u16)
+fn exchange<C: Cells>(store: &mut C, page: usize, offset: usize, held: u16, value: &mut u16)
     requires offset { offset < 64 }
     requires within { page * 64 + offset < 2 ^ 64 }
+    requires held { held ≡ slice_index (C.cells store.old) (page * 64 + offset) }
+    requires bound { held ≤ C.bounds store.old (page * 64 + offset) }
     requires fits { FitsCell (length (C.cells store.old)) (C.bounds store.old) (page * 64 + offset, value.old) }
     ensures cells { C.cells store.new ≡ slice_set (C.cells store.old) (page * 64 + offset) value.old }
     ensures value { value.new ≡ slice_index (C.cells store.old) (page * 64 + offset) }
@@ -121,10 +125,60 @@ fn exchange<C: Cells>(store: &mut C, page: usize, offset: usize, value: &mut u16
     ensures bounds { C.bounds store.new ≡ C.bounds store.old }
     ensures fixed { C.fixed store.new ≡ C.fixed store.old }
 {
-    let cell = cell_of(page, offset);
-    let was = store.get(cell);
-    store.put(cell, *value);
-    *value = was;
+    if held != *value {
+        store.put(cell_of(page, offset), *value);
+        *value = held;
+    }
+}
+
+/// Exchanges the values of a page with those of its first cells, from the last to the first. The values are a slice, so
+/// that where they lie is read once for the page: behind a reference to a vector it would be read for each cell.
+#[inline(always)]
+fn exchange_back<C: Cells>(store: &mut C, page: usize, values: &mut [u16])
+    requires page { length values.old ≤ 64 }
+    requires within { page * 64 + length values.old < 2 ^ 64 }
+    requires cells { page * 64 + length values.old ≤ length (C.cells store.old) }
+    requires fits { Fits (length (C.cells store.old)) (C.bounds store.old) (page_entries page values.old) }
+    ensures cells { C.cells store.new ≡ (back (C.cells store.old) (page_entries page values.old)).cells }
+    ensures entries { page_entries page values.new
+        ≡ (back (C.cells store.old) (page_entries page values.old)).entries }
+    ensures size { length values.new ≡ length values.old }
+    ensures fits { Fits (length (C.cells store.new)) (C.bounds store.new) (page_entries page values.new) }
+    ensures length { length (C.cells store.new) ≡ length (C.cells store.old) }
+    ensures bounds { C.bounds store.new ≡ C.bounds store.old }
+    ensures fixed { C.fixed store.new ≡ C.fixed store.old }
+{
+    let mut held = [0; PAGE];
+    let mut offset = values.len();
+    read_page(store, page, offset, &mut held);
+    'cells: while offset > 0 {
+        offset -= 1;
+        exchange(store, page, offset, held[offset], &mut values[offset]);
+    }
+}
+
+/// Exchanges the values of a page with those of its first cells, from the first to the last; a slice for the same reason.
+#[inline(always)]
+fn exchange_forward<C: Cells>(store: &mut C, page: usize, values: &mut [u16])
+    requires page { length values.old ≤ 64 }
+    requires within { page * 64 + length values.old < 2 ^ 64 }
+    requires cells { page * 64 + length values.old ≤ length (C.cells store.old) }
+    requires fits { Fits (length (C.cells store.old)) (C.bounds store.old) (page_entries page values.old) }
+    ensures cells { C.cells store.new ≡ (forward (C.cells store.old) (page_entries page values.old)).cells }
+    ensures entries { page_entries page values.new
+        ≡ (forward (C.cells store.old) (page_entries page values.old)).entries }
+    ensures size { length values.new ≡ length values.old }
+    ensures fits { Fits (length (C.cells store.new)) (C.bounds store.new) (page_entries page values.new) }
+    ensures length { length (C.cells store.new) ≡ length (C.cells store.old) }
+    ensures bounds { C.bounds store.new ≡ C.bounds store.old }
+    ensures fixed { C.fixed store.new ≡ C.fixed store.old }
+{
+    let mut held = [0; PAGE];
+    let size = values.len();
+    read_page(store, page, size, &mut held);
+    'cells: for offset in 0..size {
+        exchange(store, page, offset, held[offset], &mut values[offset]);
+    }
 }
 
 /// `swap_back` on the parts of a record.
@@ -146,11 +200,7 @@ pub(crate) fn go_back<C: Cells>(store: &mut C, len: usize, pages: &[usize], valu
         let page = pages[slot];
         let size = page_size(len, page);
         at -= size;
-        let mut offset = size;
-        'cells: while offset > 0 {
-            offset -= 1;
-            exchange(store, page, offset, &mut values[at + offset]);
-        }
+        exchange_back(store, page, &mut values[at..at + size]);
     }
 }
 
@@ -170,9 +220,7 @@ fn go_forward<C: Cells>(store: &mut C, len: usize, pages: &[usize], values: &mut
     'pages: for slot in 0..pages.len() {
         let page = pages[slot];
         let size = page_size(len, page);
-        'cells: for offset in 0..size {
-            exchange(store, page, offset, &mut values[at + offset]);
-        }
+        exchange_forward(store, page, &mut values[at..at + size]);
         at += size;
     }
 }

@@ -276,7 +276,7 @@ fn copy_page<C: Cells>(
 
 /// Writes the values of the first cells of a page to the front of an array. The loop ends by `!=`: where the compiler
 /// knows that the offsets are below `PAGE`, it drops the remainder in `cell_of` before it has used it.
-fn read_page<C: Cells>(store: &C, page: usize, count: usize, cells: &mut [u16; PAGE])
+pub(crate) fn read_page<C: Cells>(store: &C, page: usize, count: usize, cells: &mut [u16; PAGE])
     requires cells { page * 64 + count ≤ length (C.cells store.now) }
     requires page { count ≤ 64 }
     ensures read { take count cells.new ≡ map (slice_index (C.cells store.now)) (range_with_len (page * 64) count) }

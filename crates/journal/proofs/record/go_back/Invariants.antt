@@ -1,4 +1,4 @@
-use Rattle.std.proofs.Common.{◌≡◌, ◌+◌, ◌≤◌, length, take}
+use Rattle.std.proofs.Common.{◌≡◌, ◌≤◌, length, take}
 use Rattle.journal.specs.Pages.{cells_of}
 use Rattle.journal.proofs.Steps.{GoneBack}
 use Rattle.journal.proofs.record.go_back.Given as goal
@@ -19,19 +19,3 @@ invariant-pages g l =
 
 abbrev pub decreases-pages : goal.decreases-pages
 decreases-pages g l = l.slot
-
-abbrev pub invariant-cells : goal.invariant-cells
-invariant-cells g l =
-    let cells = g.C.Cells.cells in
-    let bounds = g.C.Cells.bounds in
-    record {
-      upto : l.offset ≤ l.size;
-      back : GoneBack (length (cells l.fn.store)) (bounds l.fn.store) (cells_of l.len l.pages) l.fn.values.items
-          (cells l.fn.store) (l.at + l.offset) (cells l.store) l.values.items;
-      same_len : length (cells l.store) ≡ length (cells l.fn.store);
-      same_bounds : bounds l.store ≡ bounds l.fn.store;
-      same_fixed : g.C.Cells.fixed l.store ≡ g.C.Cells.fixed l.fn.store;
-    }
-
-abbrev pub decreases-cells : goal.decreases-cells
-decreases-cells g l = l.offset

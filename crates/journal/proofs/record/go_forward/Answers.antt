@@ -1,8 +1,9 @@
-use Rattle.std.proofs.Common.{◌≡◌, ◌+◌, ◌*◌, length, get_or, refl, arith}
-use Rattle.journal.specs.Swap.{FitsCell}
-use Rattle.journal.specs.Pages.{cells_of}
-use Rattle.journal.proofs.Steps.{forward_ends_pages, fit_at, forward_starts, gone_forward_at, gone_forward_more}
-use Rattle.journal.proofs.Steps.{page_at, page_within, place}
+use Rattle.std.proofs.Common.{◌≡◌, ◌+◌, ◌-◌, ◌<◌, ℕ, List, ◌++◌, length, get_or, take, drop, refl, sym, subst, arith}
+use Rattle.std.proofs.lemmas.List.{with_items_is}
+use Rattle.journal.specs.Swap.{Fits}
+use Rattle.journal.specs.Pages.{cells_of, page_entries}
+use Rattle.journal.proofs.Steps.{GoneForward, forward_ends_pages, forward_starts, page_at, page_within}
+use Rattle.journal.proofs.PageSwaps.{fits_page, length-row, page_after, page_gone_forward, page_in_store, some_cells}
 use Rattle.journal.proofs.record.go_forward.Goals as goal
 
 pub pages-init : goal.pages-init
@@ -16,73 +17,88 @@ pages-init g c = record {
   same_fixed = refl;
 }
 
-pub cells-init : goal.cells-init
-cells-init g c =
-    record {
-      forward = gone_forward_at {cs = cells_of c.args.len c.args.pages.now} c.pages.at (c.pages.at + 0) (omega arith)
-          c.pages.invariant.forward;
-      same_len = c.pages.invariant.same_len;
-      same_bounds = c.pages.invariant.same_bounds;
-      same_fixed = c.pages.invariant.same_fixed;
-    }
-
-pub exchange-requires-clause-fits : goal.exchange-requires-clause-fits
-exchange-requires-clause-fits g c =
-    let here = place c.args.len c.args.pages.now c.pages.slot c.pages.at c.page_size-size.result c.cells.offset
-    (omega arith) c.pages.invariant.at c.page_size-size.ensures.result (omega arith) in
-    let fit = fit_at (length (g.C.Cells.cells c.args.store.now)) (g.C.Cells.bounds c.args.store.now)
-    (cells_of c.args.len c.args.pages.now) c.cells.values.items (c.pages.at + c.cells.offset)
-    (get_or c.args.pages.now c.pages.slot 0 * 64 + c.cells.offset) c.index_mut.result.now
-    c.cells.invariant.forward.size c.cells.invariant.forward.fits here.0 here.1 c.index_mut.ensures.value in
-    rw (c.cells.invariant.same_len, c.cells.invariant.same_bounds) fit
-
-pub cells-preserved : goal.cells-preserved
-cells-preserved g c =
-    let here = place c.args.len c.args.pages.now c.pages.slot c.pages.at c.page_size-size.result c.cells.offset
-    (omega arith) c.pages.invariant.at c.page_size-size.ensures.result (omega arith) in
-    let n = length (g.C.Cells.cells c.args.store.now) in
-    let b = g.C.Cells.bounds c.args.store.now in
-    let cell = get_or c.args.pages.now c.pages.slot 0 * 64 + c.cells.offset in
-    let len : n ≡ length (g.C.Cells.cells c.exchange.new.store) = cc in
-    let bounds : b ≡ g.C.Cells.bounds c.exchange.new.store = cc in
-    let fit : FitsCell n b (cell, c.exchange.new.value) = rw (len, bounds) c.exchange.ensures.fits in
-    record {
-      forward = gone_forward_more n b (cells_of c.args.len c.args.pages.now) c.args.values.now.items
-          (g.C.Cells.cells c.args.store.now) (c.pages.at + (c.cells.offset + 1)) (c.pages.at + c.cells.offset)
-          (g.C.Cells.cells c.cells.store) c.cells.values.items cell c.index_mut.result.now c.exchange.new.value
-          (g.C.Cells.cells c.exchange.new.store)
-          c.cells.invariant.forward c.requires.paged.size (omega arith) here.0 here.1 c.index_mut.ensures.value
-          c.exchange.ensures.cells c.exchange.ensures.value fit;
-      same_len = cc;
-      same_bounds = cc;
-      same_fixed = cc;
-    }
-
 pub overflow_add-at : goal.overflow_add-at
 overflow_add-at g c =
-    let here = place c.args.len c.args.pages.now c.pages.slot c.pages.at c.page_size-size.result c.cells.offset
-    (omega arith) c.pages.invariant.at c.page_size-size.ensures.result (omega arith) in
-    omega (arith, here.0, c.cells.invariant.forward.size)
-
-pub index_mut-requires : goal.index_mut-requires
-index_mut-requires g c =
-    let here = place c.args.len c.args.pages.now c.pages.slot c.pages.at c.page_size-size.result c.cells.offset
-    (omega arith) c.pages.invariant.at c.page_size-size.ensures.result (omega arith) in
-    omega (arith, here.0, c.cells.invariant.forward.size)
-
-pub overflow_add-at-in-pages : goal.overflow_add-at-in-pages
-overflow_add-at-in-pages g c =
     omega (
       arith,
       page_within c.args.len c.args.pages.now c.pages.slot 0 (omega arith),
       c.pages.invariant.at,
       c.page_size-size.ensures.result,
-      c.cells.invariant.forward.size,
+      c.pages.invariant.forward.size,
     )
+
+pub offset_bounds-deref_mut-at : goal.offset_bounds-deref_mut-at
+offset_bounds-deref_mut-at g c =
+    let here = page_after c.args.len c.args.pages.now c.pages.values.items c.deref_mut.result.now c.pages.slot
+    c.pages.at c.page_size-size.result (omega arith) c.pages.invariant.at c.page_size-size.ensures.result
+    c.deref_mut.ensures.value c.pages.invariant.forward in
+    omega (arith, here.1.within, here.1.long, c.deref_mut.type_inv.1)
+
+pub slice_bounds-exchange_forward-end : goal.slice_bounds-exchange_forward-end
+slice_bounds-exchange_forward-end g c =
+    let here = page_after c.args.len c.args.pages.now c.pages.values.items c.deref_mut.result.now c.pages.slot
+    c.pages.at c.page_size-size.result (omega arith) c.pages.invariant.at c.page_size-size.ensures.result
+    c.deref_mut.ensures.value c.pages.invariant.forward in
+    omega (arith, here.1.within, here.1.long)
+
+pub exchange_forward-requires-clause-cells : goal.exchange_forward-requires-clause-cells
+exchange_forward-requires-clause-cells g c =
+    let size = c.page_size-size.result in
+    let count : ℕ = c.pages.at + size - c.pages.at in
+    let page : ℕ = get_or c.args.pages.now c.pages.slot 0 in
+    let values : List ℕ = c.deref_mut.result.now in
+    let cs : List ℕ = cells_of c.args.len c.args.pages.now in
+    let n : ℕ = length (g.C.Cells.cells c.args.store.now) in
+    let b : ℕ → ℕ = g.C.Cells.bounds c.args.store.now in
+    let here = page_after c.args.len c.args.pages.now c.pages.values.items values c.pages.slot c.pages.at
+    size (omega arith) c.pages.invariant.at c.page_size-size.ensures.result c.deref_mut.ensures.value
+    c.pages.invariant.forward in
+    let some : 0 < size = some_cells c.args.len c.args.pages.now c.pages.slot size c.requires.paged.named (omega arith)
+    c.page_size-size.ensures.result in
+    let inside = page_in_store n b page (take count (drop c.pages.at values))
+    (fits_page n b cs values page c.pages.at count here.1 here.0.fits)
+    (omega (arith, length-row cs values page c.pages.at count here.1, some)) in
+    omega (arith, inside, c.pages.invariant.same_len)
+
+pub exchange_forward-requires-clause-fits : goal.exchange_forward-requires-clause-fits
+exchange_forward-requires-clause-fits g c =
+    let size = c.page_size-size.result in
+    let count : ℕ = c.pages.at + size - c.pages.at in
+    let page : ℕ = get_or c.args.pages.now c.pages.slot 0 in
+    let values : List ℕ = c.deref_mut.result.now in
+    let n : ℕ = length (g.C.Cells.cells c.args.store.now) in
+    let b : ℕ → ℕ = g.C.Cells.bounds c.args.store.now in
+    let here = page_after c.args.len c.args.pages.now c.pages.values.items values c.pages.slot c.pages.at
+    size (omega arith) c.pages.invariant.at c.page_size-size.ensures.result c.deref_mut.ensures.value
+    c.pages.invariant.forward in
+    let fits : Fits n b (page_entries page (take count (drop c.pages.at values))) = fits_page n b
+    (cells_of c.args.len c.args.pages.now) values page c.pages.at count here.1 here.0.fits in
+    rw (c.pages.invariant.same_len, c.pages.invariant.same_bounds) fits
 
 pub pages-preserved : goal.pages-preserved
 pages-preserved g c =
-    let same : c.cells.offset ≡ c.page_size-size.result = omega arith in
+    let size = c.page_size-size.result in
+    let at : ℕ = c.pages.at in
+    let count : ℕ = c.pages.at + size - c.pages.at in
+    let page : ℕ = get_or c.args.pages.now c.pages.slot 0 in
+    let values : List ℕ = c.deref_mut.result.now in
+    let row : List ℕ = c.exchange_forward.new.values in
+    let whole : List ℕ = take at values ++ (row ++ drop count (drop at values)) in
+    let cs : List ℕ = cells_of c.args.len c.args.pages.now in
+    let was : List ℕ = c.args.values.now.items in
+    let n : ℕ = length (g.C.Cells.cells c.args.store.now) in
+    let b : ℕ → ℕ = g.C.Cells.bounds c.args.store.now in
+    let here = page_after c.args.len c.args.pages.now c.pages.values.items values c.pages.slot at
+    size (omega arith) c.pages.invariant.at c.page_size-size.ensures.result c.deref_mut.ensures.value
+    c.pages.invariant.forward in
+    let len : n ≡ length (g.C.Cells.cells c.exchange_forward.new.store) = cc in
+    let bounds : b ≡ g.C.Cells.bounds c.exchange_forward.new.store = cc in
+    let fits : Fits n b (page_entries page row) = rw (len, bounds) c.exchange_forward.ensures.fits in
+    let gone = page_gone_forward n b cs was (g.C.Cells.cells c.args.store.now) at (at + size) count page
+    (g.C.Cells.cells c.pages.store) values (g.C.Cells.cells c.exchange_forward.new.store) row here.0
+    c.requires.paged.size (omega arith) here.1 c.exchange_forward.ensures.size c.exchange_forward.ensures.cells
+    c.exchange_forward.ensures.entries fits in
+    let items = with_items_is c.pages.values whole (omega (arith, gone.size, here.1.long, c.deref_mut.ensures.len)) in
     record {
       at = omega (
         arith,
@@ -90,11 +106,11 @@ pages-preserved g c =
         c.pages.invariant.at,
         c.page_size-size.ensures.result,
       );
-      forward = gone_forward_at {cs = cells_of c.args.len c.args.pages.now} (c.pages.at + c.cells.offset)
-          (c.pages.at + c.page_size-size.result) (omega arith) c.cells.invariant.forward;
-      same_len = c.cells.invariant.same_len;
-      same_bounds = c.cells.invariant.same_bounds;
-      same_fixed = c.cells.invariant.same_fixed;
+      forward = subst (λ (t : List ℕ). GoneForward n b cs was (g.C.Cells.cells c.args.store.now) (at + size)
+          (g.C.Cells.cells c.exchange_forward.new.store) t) (sym items) gone;
+      same_len = cc;
+      same_bounds = cc;
+      same_fixed = cc;
     }
 
 pub returns-clause-cells : goal.returns-clause-cells
