@@ -1,10 +1,11 @@
 -- The flags that tell which pages are kept.
-use Rattle.std.proofs.Common.{◌≡◌, ℕ, zero, suc, ◌+◌, ◌<◌, ◌≤◌, Bool, true, false, ◌||◌, eqb, List, [], ◌∷◌, ◌++◌}
-use Rattle.std.proofs.Common.{length, get_or, set, drop, refl, ap, sym, ◌∙◌, arith, inl, inr, drop_of_length-le}
+use Rattle.std.proofs.Common.{◌≡◌, ℕ, zero, suc, ◌+◌, ◌-◌, ◌<◌, ◌≤◌, Bool, true, false, ◌||◌, eqb, List, [], ◌∷◌, ◌++◌}
+use Rattle.std.proofs.Common.{length, get_or, set, drop, replicate, refl, ap, sym, ◌∙◌, arith, inl, inr, drop_of_length-le}
 use Rattle.std.specs.List.{list_any}
-use Rattle.std.proofs.lemmas.Bool.{eq-eqb}
+use Rattle.std.proofs.lemmas.Bool.{cases_lt, eq-eqb}
 use Rattle.std.proofs.lemmas.Bool.Decides.{eqb_tells}
-use Rattle.std.proofs.lemmas.List.{drop_more, get_or-set_same, get_or-set_other}
+use Rattle.std.proofs.lemmas.List.{drop_more, get_or-set_same, get_or-set_other, get_or_append_left, get_or-append_right}
+use Rattle.std.proofs.lemmas.List.{get_or-replicate, length-replicate}
 use Rattle.std.proofs.lemmas.List.Folds.{list_any-append, list_any_at}
 use Rattle.journal.specs.Pages.{IsMarked, keeps}
 use Rattle.journal.proofs.Pages.{false_if, not_both, or_false, or_true}
@@ -66,4 +67,14 @@ marked_push flags pages p h lt q =
           ∙ sym (split ∙ ap (λ (k : Bool). keeps pages q || (k || false)) s.0 ∙ or_true (keeps pages q))
       | inr d ↦ get_or-set_other flags p q true false d.1 ∙ h q
           ∙ sym (split ∙ ap (λ (k : Bool). keeps pages q || (k || false)) d.0 ∙ or_false (keeps pages q))
+    ]
+
+-- flags of which none is set
+pub none_set : (n : ℕ) (more : List Bool) → more ≡ [] → (p : ℕ) → get_or (replicate n false ++ more) p false ≡ false
+none_set n more e p =
+    elim (cases_lt p n) as (λ _. get_or (replicate n false ++ more) p false ≡ false) [
+      | inl lt ↦ get_or_append_left (replicate n false) more false p (omega (arith, lt, length-replicate n false))
+          ∙ get_or-replicate n p false false lt
+      | inr ge ↦ get_or-append_right (replicate n false) more n p false (length-replicate n false) ge
+          ∙ ap (λ (t : List Bool). get_or t (p - n) false) e
     ]

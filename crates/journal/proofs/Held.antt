@@ -23,9 +23,6 @@ nothing_held n b flags pages values p v h =
     (subst (λ (t : List ℕ). IsHeld n b flags [] t) (sym v)
     record { paged = no_pages n; fits = All-nil (FitsCell n b); marked = h })
 
-pub no_flags : (flags : List Bool) → flags ≡ [] → IsMarked flags []
-no_flags flags e p = ap (λ (t : List Bool). get_or t p false) e
-
 -- one more page, with the values that f gives its cells; count is how many it has
 pub held_push : (n : ℕ) (b f : ℕ → ℕ) (flags wide : List Bool) (pages longer values more : List ℕ) (p count : ℕ)
     → IsHeld n b flags pages values → p * 64 < n → keeps pages p ≡ false

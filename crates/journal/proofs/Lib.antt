@@ -5,4 +5,5 @@ pub mod Flags
 pub mod Held
 pub mod HandedOut
 pub mod ReadPages
+pub mod PageEntries
 pub mod PageSwaps

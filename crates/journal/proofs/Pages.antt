@@ -225,7 +225,8 @@ paged_push n pages values f p h named new =
     let size : length (values ++ map f (page_cells n p)) ≡ length (cells_of n (pages ++ p ∷ [])) =
     length-append values (map f (page_cells n p)) ∙ ap (λ (t : ℕ). length values + t) (length-map (page_cells n p) f)
     ∙ ap (λ (t : ℕ). t + length (page_cells n p)) h.size
-    ∙ sym (ap (λ (t : List ℕ). length t) (cells_of-push n pages p) ∙ length-append (cells_of n pages) (page_cells n p)) in
+    ∙ sym (ap (λ (t : List ℕ). length t) (cells_of-push n pages p)
+    ∙ length-append (cells_of n pages) (page_cells n p)) in
     record {
       distinct = IsDistinct-push nat_eq_equiv pages p h.distinct new;
       named = All-append (λ q. q * 64 < n) pages (p ∷ []) h.named
@@ -249,7 +250,8 @@ fits_push n b f pages values p size fits lt h =
     let cs : List ℕ = cells_of n pages in
     let ps : List ℕ = page_cells n p in
     let e : zip (cells_of n (pages ++ p ∷ [])) (values ++ map f ps) ≡ zip cs values ++ zip ps (map f ps) =
-    ap (λ (t : List ℕ). zip t (values ++ map f ps)) (cells_of-push n pages p) ∙ zip-append cs ps values (map f ps) size in
+    ap (λ (t : List ℕ). zip t (values ++ map f ps)) (cells_of-push n pages p)
+    ∙ zip-append cs ps values (map f ps) size in
     subst (λ (t : List (ℕ × ℕ)). Fits n b t) (sym e)
     (All-append (FitsCell n b) (zip cs values) (zip ps (map f ps)) fits
     (run_fits n b f (p * 64) (page_len n p) lt h))

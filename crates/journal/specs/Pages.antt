@@ -1,6 +1,6 @@
 -- The pages of a store: page p has the cells 64p to 64p + 63, as far as the store goes.
-use Rattle.std.specs.Prelude.{◌≡◌, ℕ, ◌-◌, ◌*◌, ◌<◌, min, Bool, false, eqb, List, [], ◌∷◌, ◌++◌, length}
-use Rattle.std.specs.Prelude.{slice_index_or, if◌then◌else◌}
+use Rattle.std.specs.Prelude.{◌≡◌, ℕ, ◌-◌, ◌*◌, ◌<◌, min, Bool, false, eqb, List, [], ◌∷◌, ◌++◌, length, map}
+use Rattle.std.specs.Prelude.{slice_index, slice_index_or, if◌then◌else◌}
 use Rattle.std.specs.List.{All, IsDistinct, flat_map, list_any, range_with_len, zip}
 use Rattle.journal.specs.Swap.{Fits}
 
@@ -19,6 +19,10 @@ cells_of n pages = flat_map (page_cells n) pages
 -- pages with the values of their cells, as entries
 abbrev pub entries_of : ℕ → List ℕ → List ℕ → List (ℕ × ℕ)
 entries_of n pages values = zip (cells_of n pages) values
+
+-- the values of the first cells of page p
+abbrev pub page_values : List ℕ → ℕ → ℕ → List ℕ
+page_values cells p count = map (slice_index cells) (range_with_len (p * 64) count)
 
 -- the first cells of a page with these values, as entries
 abbrev pub page_entries : ℕ → List ℕ → List (ℕ × ℕ)
@@ -41,6 +45,10 @@ pub record IsPaged (n : ℕ) (pages values : List ℕ) : Type 0 where
 -- the flags tell which pages are kept
 abbrev pub IsMarked : List Bool → List ℕ → Type 0
 IsMarked flags pages = (p : ℕ) → slice_index_or flags p false ≡ keeps pages p
+
+-- the same pages are flagged as before; those behind the end of the flags are not
+abbrev pub IsMarkedAs : List Bool → List Bool → Type 0
+IsMarkedAs was now = (p : ℕ) → slice_index_or now p false ≡ slice_index_or was p false
 
 -- what a turn holds: distinct pages with a value for each cell, each value within its cell's bound, and flags that
 -- tell which pages these are

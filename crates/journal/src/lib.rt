@@ -3,6 +3,7 @@
 #![tactic(auto)]
 
 mod cells;
+mod page_flags;
 mod record;
 mod recorded;
 

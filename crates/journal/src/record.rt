@@ -2,8 +2,9 @@
 
 ghost use Rattle.std.specs.Prelude.{◌≡◌, ◌+◌, ◌*◌, ◌^◌, ◌<◌, ◌≤◌, ℕ, length, slice_set, slice_index};
 ghost use Rattle.std.specs.List.{All};
-ghost use Rattle.journal.specs.Swap.{back, forward, Fits, FitsCell};
+ghost use Rattle.journal.specs.Swap.{back, forward};
 ghost use Rattle.journal.specs.Pages.{IsPaged, cells_of, entries_of, page_entries, page_len};
+ghost use Rattle.journal.specs.Stores.{FitsIn, GoesBack, GoesForward, MayHold, Writes, swapped};
 
 use crate::cells::Cells;
 use crate::recorded::read_page;
@@ -59,11 +60,11 @@ impl Record {
 /// The turn's record then holds what the store held, so that `swap_forward` undoes this. It takes no
 /// memory and always succeeds.
 pub fn swap_back<C: Cells>(store: &mut C, turn: &mut Record)
-    requires { Fits (length (C.cells store.old)) (C.bounds store.old) turn.old }
-    ensures cells { C.cells store.new ≡ (back (C.cells store.old) turn.old).cells }
+    requires { FitsIn C.Cells store.old turn.old }
+    ensures cells { GoesBack C.Cells store.old store.new turn.old }
     ensures record { turn.new ≡ (back (C.cells store.old) turn.old).entries }
-    ensures fits { Fits (length (C.cells store.new)) (C.bounds store.new) turn.new }
-    ensures inverse { forward (C.cells store.new) turn.new ≡ record { cells = C.cells store.old; entries = turn.old } }
+    ensures fits { FitsIn C.Cells store.new turn.new }
+    ensures inverse { forward (C.cells store.new) turn.new ≡ swapped C.Cells store.old turn.old }
     ensures length { length (C.cells store.new) ≡ length (C.cells store.old) }
     ensures bounds { C.bounds store.new ≡ C.bounds store.old }
     ensures fixed { C.fixed store.new ≡ C.fixed store.old }
@@ -75,11 +76,11 @@ pub fn swap_back<C: Cells>(store: &mut C, turn: &mut Record)
 /// first to the last. The turn's record then holds what the store held, so that `swap_back` undoes this.
 /// It takes no memory and always succeeds.
 pub fn swap_forward<C: Cells>(store: &mut C, turn: &mut Record)
-    requires { Fits (length (C.cells store.old)) (C.bounds store.old) turn.old }
-    ensures cells { C.cells store.new ≡ (forward (C.cells store.old) turn.old).cells }
+    requires { FitsIn C.Cells store.old turn.old }
+    ensures cells { GoesForward C.Cells store.old store.new turn.old }
     ensures record { turn.new ≡ (forward (C.cells store.old) turn.old).entries }
-    ensures fits { Fits (length (C.cells store.new)) (C.bounds store.new) turn.new }
-    ensures inverse { back (C.cells store.new) turn.new ≡ record { cells = C.cells store.old; entries = turn.old } }
+    ensures fits { FitsIn C.Cells store.new turn.new }
+    ensures inverse { back (C.cells store.new) turn.new ≡ swapped C.Cells store.old turn.old }
     ensures length { length (C.cells store.new) ≡ length (C.cells store.old) }
     ensures bounds { C.bounds store.new ≡ C.bounds store.old }
     ensures fixed { C.fixed store.new ≡ C.fixed store.old }
@@ -117,10 +118,10 @@ fn exchange<C: Cells>(store: &mut C, page: usize, offset: usize, held: u16, valu
     requires within { page * 64 + offset < 2 ^ 64 }
     requires held { held ≡ slice_index (C.cells store.old) (page * 64 + offset) }
     requires bound { held ≤ C.bounds store.old (page * 64 + offset) }
-    requires fits { FitsCell (length (C.cells store.old)) (C.bounds store.old) (page * 64 + offset, value.old) }
-    ensures cells { C.cells store.new ≡ slice_set (C.cells store.old) (page * 64 + offset) value.old }
+    requires fits { MayHold C.Cells store.old (page * 64 + offset) value.old }
+    ensures cells { Writes C.Cells store.old store.new (page * 64 + offset) value.old }
     ensures value { value.new ≡ slice_index (C.cells store.old) (page * 64 + offset) }
-    ensures fits { FitsCell (length (C.cells store.new)) (C.bounds store.new) (page * 64 + offset, value.new) }
+    ensures fits { MayHold C.Cells store.new (page * 64 + offset) value.new }
     ensures length { length (C.cells store.new) ≡ length (C.cells store.old) }
     ensures bounds { C.bounds store.new ≡ C.bounds store.old }
     ensures fixed { C.fixed store.new ≡ C.fixed store.old }
@@ -138,12 +139,12 @@ fn exchange_back<C: Cells>(store: &mut C, page: usize, values: &mut [u16])
     requires page { length values.old ≤ 64 }
     requires within { page * 64 + length values.old < 2 ^ 64 }
     requires cells { page * 64 + length values.old ≤ length (C.cells store.old) }
-    requires fits { Fits (length (C.cells store.old)) (C.bounds store.old) (page_entries page values.old) }
-    ensures cells { C.cells store.new ≡ (back (C.cells store.old) (page_entries page values.old)).cells }
+    requires fits { FitsIn C.Cells store.old (page_entries page values.old) }
+    ensures cells { GoesBack C.Cells store.old store.new (page_entries page values.old) }
     ensures entries { page_entries page values.new
         ≡ (back (C.cells store.old) (page_entries page values.old)).entries }
     ensures size { length values.new ≡ length values.old }
-    ensures fits { Fits (length (C.cells store.new)) (C.bounds store.new) (page_entries page values.new) }
+    ensures fits { FitsIn C.Cells store.new (page_entries page values.new) }
     ensures length { length (C.cells store.new) ≡ length (C.cells store.old) }
     ensures bounds { C.bounds store.new ≡ C.bounds store.old }
     ensures fixed { C.fixed store.new ≡ C.fixed store.old }
@@ -163,12 +164,12 @@ fn exchange_forward<C: Cells>(store: &mut C, page: usize, values: &mut [u16])
     requires page { length values.old ≤ 64 }
     requires within { page * 64 + length values.old < 2 ^ 64 }
     requires cells { page * 64 + length values.old ≤ length (C.cells store.old) }
-    requires fits { Fits (length (C.cells store.old)) (C.bounds store.old) (page_entries page values.old) }
-    ensures cells { C.cells store.new ≡ (forward (C.cells store.old) (page_entries page values.old)).cells }
+    requires fits { FitsIn C.Cells store.old (page_entries page values.old) }
+    ensures cells { GoesForward C.Cells store.old store.new (page_entries page values.old) }
     ensures entries { page_entries page values.new
         ≡ (forward (C.cells store.old) (page_entries page values.old)).entries }
     ensures size { length values.new ≡ length values.old }
-    ensures fits { Fits (length (C.cells store.new)) (C.bounds store.new) (page_entries page values.new) }
+    ensures fits { FitsIn C.Cells store.new (page_entries page values.new) }
     ensures length { length (C.cells store.new) ≡ length (C.cells store.old) }
     ensures bounds { C.bounds store.new ≡ C.bounds store.old }
     ensures fixed { C.fixed store.new ≡ C.fixed store.old }
@@ -184,11 +185,13 @@ fn exchange_forward<C: Cells>(store: &mut C, page: usize, values: &mut [u16])
 /// `swap_back` on the parts of a record.
 pub(crate) fn go_back<C: Cells>(store: &mut C, len: usize, pages: &[usize], values: &mut Vec<u16>)
     requires paged { IsPaged len pages.now values.old.items }
-    requires fits { Fits (length (C.cells store.old)) (C.bounds store.old) (entries_of len pages.now values.old.items) }
-    ensures cells { C.cells store.new ≡ (back (C.cells store.old) (entries_of len pages.now values.old.items)).cells }
-    ensures entries { entries_of len pages.now values.new.items ≡ (back (C.cells store.old) (entries_of len pages.now values.old.items)).entries }
+    requires fits { FitsIn C.Cells store.old (entries_of len pages.now values.old.items) }
+    ensures cells { GoesBack C.Cells store.old store.new
+        (entries_of len pages.now values.old.items) }
+    ensures entries { entries_of len pages.now values.new.items
+        ≡ (back (C.cells store.old) (entries_of len pages.now values.old.items)).entries }
     ensures paged { IsPaged len pages.now values.new.items }
-    ensures fits { Fits (length (C.cells store.new)) (C.bounds store.new) (entries_of len pages.now values.new.items) }
+    ensures fits { FitsIn C.Cells store.new (entries_of len pages.now values.new.items) }
     ensures length { length (C.cells store.new) ≡ length (C.cells store.old) }
     ensures bounds { C.bounds store.new ≡ C.bounds store.old }
     ensures fixed { C.fixed store.new ≡ C.fixed store.old }
@@ -207,11 +210,13 @@ pub(crate) fn go_back<C: Cells>(store: &mut C, len: usize, pages: &[usize], valu
 /// `swap_forward` on the parts of a record.
 fn go_forward<C: Cells>(store: &mut C, len: usize, pages: &[usize], values: &mut Vec<u16>)
     requires paged { IsPaged len pages.now values.old.items }
-    requires fits { Fits (length (C.cells store.old)) (C.bounds store.old) (entries_of len pages.now values.old.items) }
-    ensures cells { C.cells store.new ≡ (forward (C.cells store.old) (entries_of len pages.now values.old.items)).cells }
-    ensures entries { entries_of len pages.now values.new.items ≡ (forward (C.cells store.old) (entries_of len pages.now values.old.items)).entries }
+    requires fits { FitsIn C.Cells store.old (entries_of len pages.now values.old.items) }
+    ensures cells { GoesForward C.Cells store.old store.new
+        (entries_of len pages.now values.old.items) }
+    ensures entries { entries_of len pages.now values.new.items
+        ≡ (forward (C.cells store.old) (entries_of len pages.now values.old.items)).entries }
     ensures paged { IsPaged len pages.now values.new.items }
-    ensures fits { Fits (length (C.cells store.new)) (C.bounds store.new) (entries_of len pages.now values.new.items) }
+    ensures fits { FitsIn C.Cells store.new (entries_of len pages.now values.new.items) }
     ensures length { length (C.cells store.new) ≡ length (C.cells store.old) }
     ensures bounds { C.bounds store.new ≡ C.bounds store.old }
     ensures fixed { C.fixed store.new ≡ C.fixed store.old }

@@ -5,10 +5,12 @@ ghost use Rattle.std.specs.Borrow.{sem, Lends};
 ghost use Rattle.std.specs.List.{range_with_len};
 ghost use Rattle.journal.specs.contracts.recorded.Recorded.{the_row};
 ghost use Rattle.journal.specs.Recording.{IsNothingKept};
-ghost use Rattle.journal.specs.Swap.{back, entry_cells, entry_values, Fits};
-ghost use Rattle.journal.specs.Pages.{IsMarked, cells_of, keeps, page_cells, page_len, with_page};
+ghost use Rattle.journal.specs.Swap.{back, entry_cells, entry_values};
+ghost use Rattle.journal.specs.Pages.{IsMarked, keeps, page_len, page_values, with_page};
+ghost use Rattle.journal.specs.Stores.{FitsIn, IsPageWithin, Writes, begun, kept_cells};
 
 use crate::cells::Cells;
+use crate::page_flags::PageFlags;
 use crate::record::{PAGE, Record, cell_of, go_back, page_size};
 use std::alloc::{AllocError, Global};
 use std::marker::Model;
@@ -30,8 +32,8 @@ const FIRST_PAGES: usize = 4;
 pub struct Recorded<C: Cells> {
     store: C,
 
-    /// Of each page, whether it is kept. It never shrinks, and pages behind its end are not kept.
-    flags: Vec<bool>,
+    /// Of each page, whether it is kept.
+    flags: PageFlags,
 
     /// The kept pages, in the order in which they were first written.
     pages: Vec<usize>,
@@ -61,18 +63,18 @@ impl<C: Cells> Model for Recorded<C> {
     } };
 
     ghost invariant = { λ r. IsHeld (length (C.cells r.store)) (C.bounds r.store)
-        r.flags.items r.pages.items r.values.items };
+        r.flags r.pages.items r.values.items };
 }
 
 impl<C: Cells> Recorded<C> {
     /// Records writes to a store from now on: the first turn begins, with nothing kept.
     /// It takes no memory.
     pub fn new(alloc: Global, store: C) -> Recorded<C>
-        ensures { result ≡ record { store = store; beginning = C.cells store; kept = [] } }
+        ensures { result ≡ begun C.Cells store }
     {
         Recorded {
             store,
-            flags: Vec::new(alloc),
+            flags: PageFlags::new(alloc),
             pages: Vec::new(alloc),
             values: Vec::new(alloc),
             alloc,
@@ -96,7 +98,7 @@ impl<C: Cells> Recorded<C> {
     pub fn put(&mut self, i: usize, v: u16) -> Result<(), NoMemory>
         requires cell { i < length (C.cells self.old.store) }
         requires within { v ≤ C.bounds self.old.store i }
-        ensures cells { OnOk result (C.cells self.new.store ≡ slice_set (C.cells self.old.store) i v) }
+        ensures cells { OnOk result (Writes C.Cells self.old.store self.new.store i v) }
         ensures kept { OnOk result (self.new.kept ≡ with_page self.old.kept (i / 64)) }
         ensures sure { keeps self.old.kept (i / 64) ≡ true → IsOk result }
         ensures beginning { OnOk result (self.new.beginning ≡ self.old.beginning) }
@@ -123,7 +125,7 @@ impl<C: Cells> Recorded<C> {
         requires within { value ≤ C.bounds self.old.store cell }
         ensures sure { result ≡ keeps self.old.kept (cell / 64) }
         ensures same { result ≡ false → self.new ≡ self.old }
-        ensures cells { result ≡ true → C.cells self.new.store ≡ slice_set (C.cells self.old.store) cell value }
+        ensures cells { result ≡ true → Writes C.Cells self.old.store self.new.store cell value }
         ensures kept { self.new.kept ≡ self.old.kept }
         ensures beginning { self.new.beginning ≡ self.old.beginning }
         ensures bounds { C.bounds self.new.store ≡ C.bounds self.old.store }
@@ -142,7 +144,7 @@ impl<C: Cells> Recorded<C> {
         requires cell { cell < length (C.cells self.old.store) }
         requires within { value ≤ C.bounds self.old.store cell }
         requires kept { keeps self.old.kept (cell / 64) ≡ true }
-        ensures cells { C.cells self.new.store ≡ slice_set (C.cells self.old.store) cell value }
+        ensures cells { Writes C.Cells self.old.store self.new.store cell value }
         ensures kept { self.new.kept ≡ self.old.kept }
         ensures beginning { self.new.beginning ≡ self.old.beginning }
         ensures bounds { C.bounds self.new.store ≡ C.bounds self.old.store }
@@ -157,7 +159,7 @@ impl<C: Cells> Recorded<C> {
     pub fn is_kept(&self, page: usize) -> bool
         ensures { result ≡ keeps self.now.kept page }
     {
-        page < self.flags.len() && self.flags[page]
+        self.flags.is_set(page)
     }
 
     /// Keeps a page that is not kept yet. At `Err` nothing has changed.
@@ -174,14 +176,14 @@ impl<C: Cells> Recorded<C> {
         ensures err { OnErr result (self.new ≡ self.old) }
     {
         let len = self.store.len();
-        cover(&mut self.flags, page, len / PAGE + 1)?;
+        self.flags.cover(page, len / PAGE + 1)?;
         let at = self.values.len();
         copy_page(&self.store, page, page_size(len, page), &mut self.values)?;
         if self.pages.push(page).is_err() {
             self.values.truncate(at);
             return Err(AllocError);
         }
-        self.flags[page] = true;
+        self.flags.set(page, true);
         Ok(())
     }
 
@@ -189,14 +191,14 @@ impl<C: Cells> Recorded<C> {
     /// It takes no memory, and time by the pages that are kept.
     pub fn close(&mut self) -> Record
         ensures back { (back (C.cells self.old.store) result).cells ≡ self.old.beginning }
-        ensures fits { Fits (length (C.cells self.old.store)) (C.bounds self.old.store) result }
-        ensures cells { entry_cells result ≡ cells_of (length (C.cells self.old.store)) self.old.kept }
+        ensures fits { FitsIn C.Cells self.old.store result }
+        ensures cells { entry_cells result ≡ kept_cells C.Cells self.old }
         ensures values { entry_values result
-            ≡ map (slice_index self.old.beginning) (cells_of (length (C.cells self.old.store)) self.old.kept) }
+            ≡ map (slice_index self.old.beginning) (kept_cells C.Cells self.old) }
         ensures distinct { AllPairs (λ a b. a ≢ b) (entry_cells result) }
-        ensures kept { length result ≡ length (cells_of (length (C.cells self.old.store)) self.old.kept) }
+        ensures kept { length result ≡ length (kept_cells C.Cells self.old) }
         ensures bound { length result ≤ length (C.cells self.old.store) }
-        ensures new { self.new ≡ record { store = self.old.store; beginning = C.cells self.old.store; kept = [] } }
+        ensures new { self.new ≡ begun C.Cells self.old.store }
     {
         let alloc = self.alloc;
         let len = self.store.len();
@@ -230,23 +232,11 @@ impl<C: Cells> Recorded<C> {
     pub fn store_mut(&mut self) -> &mut C
         requires { IsNothingKept self.old }
         ensures* writes_back { sem 𝓛 (Lends (the_row C.row C.Cells) C.row self.entry result
-            (λ w. record { store = w; beginning = C.cells w; kept = [] })) }
+            (λ w. begun C.Cells w)) }
         ensures value { result.now ≡ self.old.store }
     {
         &mut self.store
     }
-}
-
-/// Makes room for the flag of a page, all flags being as they were.
-fn cover(flags: &mut Vec<bool>, page: usize, count: usize) -> Result<(), AllocError>
-    requires { page < count }
-    ensures same { (p : ℕ) → slice_index_or flags.new.items p false ≡ slice_index_or flags.old.items p false }
-    ensures room { OnOk result (page < length flags.new.items) }
-{
-    if flags.len() <= page {
-        flags.resize(count, false)?;
-    }
-    Ok(())
 }
 
 /// Appends the values of the first cells of a page. At `Err` nothing is appended. They are gathered in an array first,
@@ -261,9 +251,8 @@ fn copy_page<C: Cells>(
     requires cells { page * 64 + count ≤ length (C.cells store.now) }
     requires page { count ≤ 64 }
     ensures ok { OnOk result (values.new.items
-        ≡ values.old.items ++ map (slice_index (C.cells store.now)) (range_with_len (page * 64) count)) }
-    ensures within { OnOk result ((k : ℕ) → page * 64 ≤ k → k < page * 64 + count
-        → slice_index (C.cells store.now) k ≤ C.bounds store.now k) }
+        ≡ values.old.items ++ page_values (C.cells store.now) page count) }
+    ensures within { OnOk result (IsPageWithin C.Cells store.now page count) }
     ensures err { OnErr result (values.new.items ≡ values.old.items) }
 {
     let mut cells = [0; PAGE];
@@ -279,9 +268,8 @@ fn copy_page<C: Cells>(
 pub(crate) fn read_page<C: Cells>(store: &C, page: usize, count: usize, cells: &mut [u16; PAGE])
     requires cells { page * 64 + count ≤ length (C.cells store.now) }
     requires page { count ≤ 64 }
-    ensures read { take count cells.new ≡ map (slice_index (C.cells store.now)) (range_with_len (page * 64) count) }
-    ensures within { (k : ℕ) → page * 64 ≤ k → k < page * 64 + count
-        → slice_index (C.cells store.now) k ≤ C.bounds store.now k }
+    ensures read { take count cells.new ≡ page_values (C.cells store.now) page count }
+    ensures within { IsPageWithin C.Cells store.now page count }
 {
     let _len = store.len();
     let mut offset = 0;
@@ -292,11 +280,11 @@ pub(crate) fn read_page<C: Cells>(store: &C, page: usize, count: usize, cells: &
 }
 
 /// Clears the flags of the pages, which are all that are set.
-fn unmark(flags: &mut Vec<bool>, pages: &[usize])
-    requires { IsMarked flags.old.items pages.now }
-    ensures { IsMarked flags.new.items [] }
+fn unmark(flags: &mut PageFlags, pages: &[usize])
+    requires { IsMarked flags.old pages.now }
+    ensures { IsMarked flags.new [] }
 {
     for i in 0..pages.len() {
-        flags[pages[i]] = false;
+        flags.set(pages[i], false);
     }
 }

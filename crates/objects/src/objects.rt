@@ -77,7 +77,8 @@ fn give_object(
 ) -> Result<Next, End>
     requires store { IsStoreOf header.now store.old.store }
     requires after { after ≤ longest_story }
-    ensures { Went result store.old store.new (give_object here after result_variable branch object) }
+    ensures { Went result store.old store.new
+        (give_object here after result_variable branch object) }
 {
     let holds = 1 <= object;
     test_result(store, result_variable)?;
@@ -104,7 +105,8 @@ pub fn get_sibling(
 ) -> Result<Next, End>
     requires store { IsStoreOf header.now store.old.store }
     requires after { after ≤ longest_story }
-    ensures { Went result store.old store.new (get_sibling here after result_variable branch object) }
+    ensures { Went result store.old store.new
+        (get_sibling here after result_variable branch object) }
 {
     test_object(header, store, object)?;
     let sibling = read_link(header, store, Link::Sibling(object))?;
@@ -168,7 +170,8 @@ pub fn print_object(
 ) -> Result<Next, End>
     requires store { IsStoreOf header.now store.old.store }
     requires text { HasBegun start text.old.items }
-    ensures told { Told result store.old (drop start text.old.items) store.new (drop start text.new.items) (print_object here after object) }
+    ensures told { Told result store.old (drop start text.old.items)
+        store.new (drop start text.new.items) (print_object here after object) }
     ensures text { Grew start text.old.items text.new.items }
 {
     test_object(header, store, object)?;

@@ -1,8 +1,10 @@
 pub mod Moves
 pub mod Insides
+pub mod Views
 pub mod Plays
 pub mod Sessions
 pub mod Turning
+pub mod Opening
 pub mod Taking
 mod Samples
 pub mod Cutting

@@ -112,7 +112,8 @@ cells_older_by : (c : List ℕ) (r : List (ℕ × ℕ)) (rs : List (List (ℕ ×
     → drop 1 (all_cells c (r ∷ rs) (suc k)) ≡ all_cells c rs k
 unfolding all_cells
 cells_older_by c r rs k =
-    let turned : reverse (take (suc k) (r ∷ rs)) ≡ reverse (take k rs) ++ r ∷ [] = reverse-append (r ∷ []) (take k rs) in
+    let turned : reverse (take (suc k) (r ∷ rs)) ≡ reverse (take k rs) ++ r ∷ [] =
+    reverse-append (r ∷ []) (take k rs) in
     let newer = c ∷ future c (drop k rs) in
     ap (λ x. drop 1 (past c x ++ newer)) turned
     ∙ drop-append-le 1 (past c (reverse (take k rs) ++ r ∷ [])) newer

@@ -49,7 +49,8 @@ pub(crate) fn hear<W: Write>(
         → IsKept line.old full
         → Hears game (W.contents writer.old) (W.contents writer.new) s
         (λ t. IsSessionOf game t session.new) (whole_from full chunk.now) result }
-    ensures line { (full : List ℕ) → IsKept line.old full → OnOk result (IsKept line.new (rest_from full chunk.now)) }
+    ensures line { (full : List ℕ) → IsKept line.old full
+        → OnOk result (IsKept line.new (rest_from full chunk.now)) }
     ensures within { line.new.len ≤ longest_line }
 {
     for byte in chunk {

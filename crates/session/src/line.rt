@@ -39,7 +39,8 @@ impl Line {
     /// Adds a byte. Of a byte past the thousandth it is only kept that it was there.
     pub(crate) fn push(&mut self, byte: u8)
         requires { self.old.len ≤ longest_line }
-        ensures kept { (full : List ℕ) → IsKept self.old full → IsKept self.new (full ++ byte ∷ []) }
+        ensures kept { (full : List ℕ) → IsKept self.old full
+            → IsKept self.new (full ++ byte ∷ []) }
         ensures within { self.new.len ≤ longest_line }
     {
         if self.len < LONGEST_LINE {

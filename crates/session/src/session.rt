@@ -127,7 +127,8 @@ impl Session {
     /// What the opening printed.
     pub fn opening(&self) -> &[u8]
         ensures text { result.now ≡ self.now.opening }
-        ensures opening { InEach self.now (λ story fuel keep s. result.now ≡ text_after story fuel []) }
+        ensures opening { InEach self.now
+            (λ story fuel keep s. result.now ≡ text_after story fuel []) }
     {
         &self.opening
     }
@@ -135,7 +136,8 @@ impl Session {
     /// Where the latest turn that is done left the machine.
     pub fn place(&self) -> Place
         ensures present { result ≡ slice_index_or self.now.places self.now.present places.Quit }
-        ensures place { InEach self.now (λ story fuel keep s. result ≡ place_after story fuel s.done) }
+        ensures place { InEach self.now
+            (λ story fuel keep s. result ≡ place_after story fuel s.done) }
     {
         if self.done == 0 {
             self.first
@@ -163,7 +165,8 @@ impl Session {
     /// exactly where no turn is undone. It takes no memory.
     pub fn redo(&mut self) -> Option<&[u8]>
         ensures* rests { sem 𝓛 (Rests the_row self.entry (Redone self.old)) }
-        ensures found { InEach self.old (λ story fuel keep s. IsSome result ↔ (0 < length s.undone)) }
+        ensures found { InEach self.old
+            (λ story fuel keep s. IsSome result ↔ (0 < length s.undone)) }
         ensures text { InEach self.old (λ story fuel keep s.
             IfSome result (λ t. t.now ≡ text_after story fuel (redo_of s).done)) }
     {

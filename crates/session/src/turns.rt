@@ -49,7 +49,8 @@ pub(crate) fn take_back(store: &mut Recorded<Store>, turn: &mut Turn)
     ensures turn { turn.new ≡ turn_back store.old.store turn.old }
     ensures fits { Fits (length store.new.store.cells) bound_of turn.new.overwritten }
     ensures length { length store.new.store.cells ≡ length store.old.store.cells }
-    ensures inverse { forward store.new.store.cells turn.new.overwritten ≡ swapped store.old.store turn.old }
+    ensures inverse { forward store.new.store.cells turn.new.overwritten
+        ≡ swapped store.old.store turn.old }
 {
     swap_back(store.store_mut(), &mut turn.overwritten);
 }
@@ -64,7 +65,8 @@ pub(crate) fn do_again(store: &mut Recorded<Store>, turn: &mut Turn)
     ensures turn { turn.new ≡ turn_forward store.old.store turn.old }
     ensures fits { Fits (length store.new.store.cells) bound_of turn.new.overwritten }
     ensures length { length store.new.store.cells ≡ length store.old.store.cells }
-    ensures inverse { back store.new.store.cells turn.new.overwritten ≡ swapped store.old.store turn.old }
+    ensures inverse { back store.new.store.cells turn.new.overwritten
+        ≡ swapped store.old.store turn.old }
 {
     swap_forward(store.store_mut(), &mut turn.overwritten);
 }

@@ -1,4 +1,6 @@
 pub mod Decoding
+pub mod OperandsRead
+pub mod TypesGiven
 pub mod Performing
 pub mod Stepping
 pub mod Values

@@ -4,7 +4,8 @@ use Rattle.std.proofs.lemmas.List.{take_all, with_items_is}
 use Rattle.journal.specs.Swap.{Fits}
 use Rattle.journal.specs.Pages.{cells_of, page_entries}
 use Rattle.journal.proofs.Steps.{GoneBack, back_starts, page_start}
-use Rattle.journal.proofs.PageSwaps.{fits_page, length-row, page_before, page_gone_back, page_in_store, some_cells}
+use Rattle.journal.proofs.PageEntries.{fits_page, length-row, page_in_store, some_cells}
+use Rattle.journal.proofs.PageSwaps.{page_before, page_gone_back}
 use Rattle.journal.proofs.record.go_back.Goals as goal
 
 pub pages-init : goal.pages-init
@@ -34,14 +35,16 @@ overflow_sub-at g c =
 pub offset_bounds-deref_mut-at : goal.offset_bounds-deref_mut-at
 offset_bounds-deref_mut-at g c =
     let here = page_before c.args.len c.args.pages.now c.pages.values.items c.deref_mut.result.now c.pages.slot
-    c.pages.at c.page_size-size.result (omega arith) c.pages.invariant.upto c.pages.invariant.at c.page_size-size.ensures.result
+    c.pages.at c.page_size-size.result (omega arith) c.pages.invariant.upto c.pages.invariant.at
+    c.page_size-size.ensures.result
     c.deref_mut.ensures.value c.pages.invariant.back in
     omega (arith, here.1.within, here.1.long, c.deref_mut.type_inv.1)
 
 pub slice_bounds-exchange_back-end : goal.slice_bounds-exchange_back-end
 slice_bounds-exchange_back-end g c =
     let here = page_before c.args.len c.args.pages.now c.pages.values.items c.deref_mut.result.now c.pages.slot
-    c.pages.at c.page_size-size.result (omega arith) c.pages.invariant.upto c.pages.invariant.at c.page_size-size.ensures.result
+    c.pages.at c.page_size-size.result (omega arith) c.pages.invariant.upto c.pages.invariant.at
+    c.page_size-size.ensures.result
     c.deref_mut.ensures.value c.pages.invariant.back in
     omega (arith, here.1.within, here.1.long)
 

@@ -3,7 +3,8 @@ use Rattle.std.proofs.lemmas.List.{with_items_is}
 use Rattle.journal.specs.Swap.{Fits}
 use Rattle.journal.specs.Pages.{cells_of, page_entries}
 use Rattle.journal.proofs.Steps.{GoneForward, forward_ends_pages, forward_starts, page_at, page_within}
-use Rattle.journal.proofs.PageSwaps.{fits_page, length-row, page_after, page_gone_forward, page_in_store, some_cells}
+use Rattle.journal.proofs.PageEntries.{fits_page, length-row, page_in_store, some_cells}
+use Rattle.journal.proofs.PageSwaps.{page_after, page_gone_forward}
 use Rattle.journal.proofs.record.go_forward.Goals as goal
 
 pub pages-init : goal.pages-init

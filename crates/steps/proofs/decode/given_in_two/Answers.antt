@@ -1,5 +1,6 @@
 use Rattle.std.proofs.Common.{arith}
-use Rattle.steps.proofs.Decoding.{seen_err, given_wrong, given_short, given_full}
+use Rattle.steps.proofs.Decoding.{seen_err}
+use Rattle.steps.proofs.TypesGiven.{given_wrong, given_short, given_full}
 use Rattle.steps.proofs.decode.given_in_two.Goals as goal
 
 pub returns-in_err-count-clause-types : goal.returns-in_err-count-clause-types

@@ -1,6 +1,7 @@
 use Rattle.std.proofs.Common.{◌≡◌, ◌<◌, ◌∙◌, ap, sym, arith, length, take, drop}
 use Rattle.zcore.specs.Instruction.{operand, operands}
-use Rattle.steps.proofs.Decoding.{seen_err, reads_more, reads_no_more, read_on, read_all}
+use Rattle.steps.proofs.Decoding.{seen_err}
+use Rattle.steps.proofs.OperandsRead.{reads_more, reads_no_more, read_on, read_all}
 use Rattle.std.proofs.lemmas.List.{length-take-le, get_or-take, drop_all, length-set}
 use Rattle.steps.proofs.decode.read_each.Goals as goal
 

@@ -1,6 +1,6 @@
 use Rattle.std.proofs.Common.{◌≡◌, ◌≤◌, length, take, drop}
 use Rattle.zcore.specs.Instruction.{operands}
-use Rattle.steps.proofs.Decoding.{read_on}
+use Rattle.steps.proofs.OperandsRead.{read_on}
 use Rattle.steps.proofs.decode.read_each.Given as goal
 
 abbrev pub invariant-loop-i : goal.invariant-loop-i

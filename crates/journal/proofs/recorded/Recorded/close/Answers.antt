@@ -6,7 +6,7 @@ use Rattle.journal.proofs.recorded.Recorded.close.Goals as goal
 
 pub invariant_of-self : goal.invariant_of-self
 invariant_of-self g c = nothing_held (length (g.C.Cells.cells c.self.inside.store))
-    (g.C.Cells.bounds c.self.inside.store) c.unmark.new.flags.items c.replace-pages.new.dest.items
+    (g.C.Cells.bounds c.self.inside.store) c.unmark.new.flags c.replace-pages.new.dest.items
     c.replace-values.new.dest.items (ap (λ v. v.items) c.replace-pages.ensures.after ∙ c.new.ensures.items)
     (ap (λ v. v.items) c.replace-values.ensures.after ∙ c.new-2.ensures.items) c.unmark.ensures
 

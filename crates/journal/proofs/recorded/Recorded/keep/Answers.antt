@@ -1,6 +1,7 @@
-use Rattle.std.proofs.Common.{◌≡◌, ℕ, ◌<◌, ◌++◌, ◌∷◌, [], ◌*◌, ◌∙◌, ap, arith, length, slice_index, false}
+use Rattle.std.proofs.Common.{◌≡◌, ℕ, ◌<◌, ◌++◌, ◌∷◌, [], ◌*◌, ◌∙◌, Bool, List, ap, arith, length, slice_index, false}
+use Rattle.std.proofs.Common.{subst, sym}
 use Rattle.std.proofs.lemmas.Grind.{common_steps}
-use Rattle.journal.specs.Pages.{keeps, page_len}
+use Rattle.journal.specs.Pages.{IsHeld, keeps, page_len}
 use Rattle.journal.proofs.Held.{beginning_push, held_push, same_recording}
 use Rattle.journal.proofs.recorded.Recorded.keep.Goals as goal
 
@@ -14,11 +15,13 @@ invariant_of-self-2 g c =
     (arith, c.requires.page, ap (λ r. length (g.C.Cells.cells r.store)) c.self.view_is) in
     let new : keeps c.self.inside.pages.items c.args.page ≡ false = ap (λ r. keeps r.kept c.args.page) c.self.view_is
     ∙ c.requires.new in
-    held_push (length cells) (g.C.Cells.bounds c.self.inside.store) (slice_index cells) c.self.inside.flags.items
-    c.cover.new.flags.items c.self.inside.pages.items c.push.new.self.items c.self.inside.values.items
+    let marked = held_push (length cells) (g.C.Cells.bounds c.self.inside.store) (slice_index cells) c.self.inside.flags
+    c.cover.new.self c.self.inside.pages.items c.push.new.self.items c.self.inside.values.items
     c.copy_page.new.values.items
     c.args.page c.page_size.result c.self.invariant named new c.in_ok-cover.ensures.same c.in_ok-cover.ensures.room
-    size c.in_ok-copy_page.ensures.within pages c.in_ok-copy_page.ensures.ok
+    size c.in_ok-copy_page.ensures.within pages c.in_ok-copy_page.ensures.ok in
+    subst (λ (flags : List Bool). IsHeld (length cells) (g.C.Cells.bounds c.self.inside.store) flags
+    c.push.new.self.items c.copy_page.new.values.items) (sym c.set.ensures) marked
 
 pub returns-clause-ok : goal.returns-clause-ok
 returns-clause-ok g c =

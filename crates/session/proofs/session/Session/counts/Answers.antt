@@ -1,5 +1,5 @@
 use Rattle.std.proofs.Common.{◌≡◌, ◌-◌, arith, length}
-use Rattle.session.proofs.Insides.{counted}
+use Rattle.session.proofs.Views.{counted}
 use Rattle.session.proofs.Sessions.{session_undone}
 use Rattle.session.proofs.session.Session.counts.Goals as goal
 

@@ -1,5 +1,5 @@
 use Rattle.std.proofs.Common.{◌∙◌, arith}
-use Rattle.session.proofs.Insides.{counted, view_keep}
+use Rattle.session.proofs.Views.{counted, view_keep}
 use Rattle.session.proofs.Sessions.{bound_none, bound_over, bound_under}
 use Rattle.session.proofs.session.Session.give_up.Goals as goal
 

@@ -1,6 +1,7 @@
 use Rattle.std.proofs.Common.{◌-◌, ◌<◌, ◌≤◌, ◌∙◌, arith, length}
 use Rattle.session.specs.Session.{largest_record}
-use Rattle.session.proofs.Insides.{counted, turn_size, turn_fits, header_base}
+use Rattle.session.proofs.Insides.{turn_fits}
+use Rattle.session.proofs.Views.{counted, turn_size, header_base}
 use Rattle.session.proofs.Sessions.{size_none, size_some}
 use Rattle.session.proofs.session.Session.last_cells.Goals as goal
 

@@ -1,5 +1,5 @@
 use Rattle.std.proofs.Common.{◌-◌, ◌<◌, ◌∙◌, arith, length}
-use Rattle.session.proofs.Insides.{counted, turn_text, view_given_up}
+use Rattle.session.proofs.Views.{counted, turn_text, view_given_up}
 use Rattle.session.proofs.Sessions.{text_none, text_some}
 use Rattle.session.proofs.session.Session.latest_text.Goals as goal
 

@@ -7,7 +7,7 @@ use Rattle.frames.proofs.Steps.{store_after}
 use Rattle.session.specs.Inside.{IsBetweenTurns, view_of}
 use Rattle.session.specs.Sessions.{IsSession}
 use Rattle.session.specs.Standing.{nothing}
-use Rattle.session.proofs.Turning.{opened_between, session_opened}
+use Rattle.session.proofs.Opening.{opened_between, session_opened}
 use Rattle.session.proofs.session.Session.open_with.Goals as goal
 
 pub invariant_of-result : goal.invariant_of-result

@@ -2,7 +2,7 @@ use Rattle.std.proofs.Common.{ap, ◌∙◌, arith, get_or}
 use Rattle.zcore.specs.declared.place.Place.TheVariants as places
 use Rattle.session.specs.Session.{Session}
 use Rattle.session.specs.Inside.{view_of}
-use Rattle.session.proofs.Insides.{first_place, later_place}
+use Rattle.session.proofs.Views.{first_place, later_place}
 use Rattle.session.proofs.Sessions.{session_place}
 use Rattle.session.proofs.session.Session.place.Goals as goal
 

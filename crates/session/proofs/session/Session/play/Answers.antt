@@ -1,7 +1,8 @@
 use Rattle.std.proofs.Common.{ℕ, ◌+◌, ◌∙◌, ap, sym, length, subst, drop, take, List, [], ◌∷◌, ◌++◌}
 use Rattle.session.specs.declared.turns.Turn.{Turn}
 use Rattle.session.specs.Inside.{IsBetweenTurns}
-use Rattle.session.proofs.Insides.{ready_now, view_place}
+use Rattle.session.proofs.Insides.{ready_now}
+use Rattle.session.proofs.Views.{view_place}
 use Rattle.session.proofs.Turning.{IsPlayed, played, taken_between, taken_turned}
 use Rattle.session.proofs.session.Session.play.Goals as goal
 

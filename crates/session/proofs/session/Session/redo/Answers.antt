@@ -4,7 +4,8 @@ use Rattle.frames.specs.Contents.{bound_of}
 use Rattle.session.specs.Session.{Session}
 use Rattle.session.specs.Sessions.{IsSession}
 use Rattle.session.specs.Standing.{Standing, redo_of}
-use Rattle.session.proofs.Insides.{turn_fits, DoneAgain, redo_view, redo_between, counted, turn_text, redone_text}
+use Rattle.session.proofs.Insides.{turn_fits, DoneAgain, redo_view, redo_between, redone_text}
+use Rattle.session.proofs.Views.{counted, turn_text}
 use Rattle.session.proofs.Sessions.{session_redo, forward_none, forward_some, session_undone, session_again}
 use Rattle.session.proofs.session.Session.redo.Goals as goal
 
