@@ -27,7 +27,7 @@ use Rattle.code.proofs.Steps.{point, first_held, one_operand, two_operands, smal
 use Rattle.code.proofs.Fitting.{Shaped}
 use Rattle.code.proofs.ItemOperands.{Gives, with_first, by_operands, gives_count, gives_length, few_pushed}
 use Rattle.code.proofs.ItemOperands.{operands_length}
-use Rattle.code.proofs.Lengths.{one_length}
+use Rattle.code.proofs.AddressLengths.{one_length}
 use Rattle.code.proofs.Arriving.{Running, at, around, here, LedFrom, Stands, code_here, code_held, situation_here}
 use Rattle.code.proofs.Temporaries.{scratch_here}
 use Rattle.code.proofs.Taking.{after_takes, taken, apart}

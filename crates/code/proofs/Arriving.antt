@@ -1,24 +1,21 @@
 -- What holds of a running routine of a program that stands in a story, and how an item leads to the next.
-use Rattle.std.proofs.Common.{◌≡◌, ℕ, zero, suc, ◌+◌, ◌-◌, ◌*◌, ◌^◌, ◌<◌, ◌≤◌, List, [], ◌∷◌, length, drop}
-use Rattle.std.proofs.Common.{slice_index, Option, None, Bool, true, false, refl, sym, ap, ◌∙◌, subst, arith}
-use Rattle.std.specs.Prelude.{nat_le, nat_eq, if◌then◌else◌, slice_index_or, map}
-use Rattle.std.specs.List.{All, flat_map}
+use Rattle.std.proofs.Common.{◌≡◌, ℕ, ◌+◌, ◌<◌, ◌≤◌, List, [], length, drop}
+use Rattle.std.proofs.Common.{Option, None, Bool, true, false, refl, ◌∙◌, subst, arith}
+use Rattle.std.specs.Prelude.{nat_le, if◌then◌else◌, map}
+use Rattle.std.specs.List.{flat_map}
 use Rattle.std.proofs.lemmas.Bool.{leb-true}
-use Rattle.std.proofs.lemmas.List.{length-reverse, get_or-drop}
-use Rattle.zcore.specs.Header.{globals_of, static_base_of}
+use Rattle.zcore.specs.Header.{static_base_of}
 use Rattle.zcore.specs.Instruction.{Instruction, bytes_of}
 use Rattle.zcore.specs.State.{words}
 use Rattle.zcore.specs.Text as text
 use Rattle.zcore.proofs.Holding.{holds_append}
-use Rattle.meaning.specs.Resolved.{RoutineOf, ProgramOf}
+use Rattle.meaning.specs.Resolved.{ProgramOf}
 use Rattle.meaning.specs.World.{World, Situation}
-use Rattle.meaning.specs.Meaning.{no_routine, routine_at}
 use Rattle.meaning.specs.Accepted.{IsAccepted}
 use Rattle.values.specs.Items.{Item}
 use Rattle.items.specs.Stack.{Caller}
 use Rattle.items.specs.Stack as stack
 use Rattle.code.proofs.Behind.{Holds}
-use Rattle.meaning.specs.Objects.{Objects}
 use Rattle.instructions.specs.Addresses.{Addresses}
 use Rattle.selection.specs.ItemCode.{item_code}
 use Rattle.selection.specs.ItemBytes.{text_bytes, item_bytes}
@@ -26,80 +23,11 @@ use Rattle.instructions.specs.Places.{offset_of}
 use Rattle.code.specs.Bytes.{place_of}
 use Rattle.code.specs.HeldProgram.{sizes_of, HoldsProgram}
 use Rattle.code.proofs.Play.{Leads, Stored, items_in, address, frames_of, back_of, result_of, state_of, next_of}
-use Rattle.code.proofs.Play.{IsCaller, Good, Led, IsChosen, none_chosen, other_counts}
+use Rattle.code.proofs.Play.{Good, Led, IsChosen, none_chosen}
 use Rattle.code.proofs.Memory.{Ground}
 use Rattle.code.proofs.Parts.{Around, machine as at_words}
-use Rattle.code.proofs.Places.{ends_by}
 use Rattle.code.proofs.Steps.{point}
-
--- a routine by its number, in the words of lists
-routine_is : (rs : List RoutineOf) (n : ℕ) → routine_at rs n ≡ slice_index_or rs n no_routine
-routine_is [] n = refl
-routine_is (r ∷ rs) zero = refl
-routine_is (r ∷ rs) (suc n) = routine_is rs n
-
--- the address of a packed address that is a word
-pub unpacked_low : (b : Bool) (k : ℕ) → k < 65536 → (if b then 8 else 4) * k < 524288
-unpacked_low true k h = omega (arith, h)
-unpacked_low false k h = omega (arith, h)
-
-module _ (story : List ℕ) (a : Addresses) (p : ProgramOf) (accepted : IsAccepted p) (holds : HoldsProgram story a p)
-  where
-    -- a routine of the program has at most 15 locals
-    pub few_locals : (r : ℕ) → r < length p.routines → (routine_at p.routines r).locals ≤ 15
-    few_locals r known =
-        subst (λ (x : RoutineOf). x.locals ≤ 15) (sym (routine_is p.routines r))
-        (accepted.routines r no_routine known).0
-
-    -- calls that wait have at most 63 words each
-    pub caller_words : (cs : List Caller) (counts : List ℕ) → All (IsCaller story a p) cs
-        → words (frames_of story a p cs counts) ≤ 63 * length cs
-    caller_words [] counts all = omega arith
-    caller_words (c ∷ cs) counts all =
-        let here : IsCaller story a p c = all 0 c (omega arith) in
-        let rest = caller_words cs (other_counts counts) (λ k d h. all (suc k) d (omega (arith, h))) in
-        omega (arith, rest, here.room, here.locals, few_locals c.routine here.known, length-reverse c.stack)
-
-    -- bytes from static memory on are below 256
-    pub byte_small : (m : List ℕ) (x : ℕ) → drop (static_base_of story) m ≡ drop (static_base_of story) story
-        → static_base_of story ≤ x → x < length story → slice_index m x < 256
-    byte_small m x kept high within =
-        let e : static_base_of story + (x - static_base_of story) ≡ x = omega (arith, high) in
-        let same : slice_index m x ≡ slice_index story x =
-        ap (slice_index m) (sym e) ∙ sym (get_or-drop (static_base_of story) m (x - static_base_of story) 0)
-        ∙ ap (λ bs. slice_index bs (x - static_base_of story)) kept
-        ∙ get_or-drop (static_base_of story) story (x - static_base_of story) 0 ∙ ap (slice_index story) e in
-        omega (arith, same, holds.byte_each x 0 within)
-
-    -- where the code of a routine stands
-    pub address_high : (r n : ℕ) → r < length p.routines → static_base_of story ≤ address story a p r n
-    address_high r n known = omega (arith, (holds.routines r known).above)
-
-    -- and below the end of what can be read of texts
-    pub address_low : (r n : ℕ) → r < length p.routines → address story a p r n < 2 ^ 32
-    address_low r n known =
-        let routine = holds.routines r known in
-        let short = ends_by (sizes_of p) (items_in story a p r) n in
-        omega (
-          arith,
-          short,
-          routine.short,
-          unpacked_low (nat_eq (slice_index story 0) 8) (slice_index a.routines r) routine.word,
-        )
-
-    pub ground_is : (m globals : List ℕ) (arrays : List (List ℕ)) (objects : Objects)
-        → Stored story a p globals arrays objects m
-        → Ground (static_base_of story) m
-    ground_is m globals arrays objects stored =
-        let b = stored.header 12 (omega arith) in
-        let c = stored.header 13 (omega arith) in
-        let same : globals_of m ≡ globals_of story =
-        ap (λ x. x * 256 + slice_index m 13) b ∙ ap (λ x. slice_index story 12 * 256 + x) c in
-        record {
-          above = omega (arith, same, holds.globals_above);
-          below = omega (arith, same, holds.globals_below);
-          long = omega (arith, stored.size, holds.static_below);
-        }
+use Rattle.code.proofs.HeldRoutines.{few_locals, caller_words, address_high, ground_is}
 
 -- a routine that runs, with an empty stack, of a program that stands in a story
 pub record Running : Type 0 where

@@ -25,8 +25,9 @@ use Rattle.code.proofs.ItemOperands.{constant_value}
 use Rattle.code.proofs.Arriving.{Running, around, here}
 use Rattle.code.proofs.Alone.{IsOperandHere, next_place}
 use Rattle.code.proofs.Tests.{branching_some}
-use Rattle.code.proofs.Indexing.{between_tests}
-use Rattle.code.proofs.Working.{Works, Fails, Passed, HoldsWord, word_value, branch_leads}
+use Rattle.code.proofs.TestedWords.{between_tests}
+use Rattle.code.proofs.Working.{Works, Fails, HoldsWord, word_value, branch_leads}
+use Rattle.code.proofs.FaultTests.{Passed}
 
 module _ (c : Running) where
   open c use {story, a, p, accepted, holds, full, m, count, counts, routine, place, callers, locals, world, good}

@@ -30,7 +30,7 @@ use Rattle.code.proofs.Fitting.{Shaped}
 use Rattle.code.proofs.ItemOperands.{Gives, with_first, values_then, by_operands, gives_count, gives_length, few_pushed}
 use Rattle.code.proofs.ItemOperands.{operands_length}
 use Rattle.code.proofs.Ends.{does_after}
-use Rattle.code.proofs.Lengths.{one_length}
+use Rattle.code.proofs.AddressLengths.{one_length}
 use Rattle.code.proofs.Entering.{enter_led}
 use Rattle.code.proofs.Arriving.{Running, at, around, here, LedFrom, Stands, code_here, code_held, situation_here}
 use Rattle.code.proofs.Temporaries.{made}

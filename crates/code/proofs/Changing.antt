@@ -23,7 +23,7 @@ use Rattle.code.proofs.Memory.{word_of}
 use Rattle.code.proofs.Parts.{machine as at_words, pushes}
 use Rattle.code.proofs.Steps.{point, leads_then, one_step, first_held, one_operand, two_operands, small_value}
 use Rattle.code.proofs.StoredEntries.{defaults_same, static_same}
-use Rattle.code.proofs.Lengths.{one_length}
+use Rattle.code.proofs.AddressLengths.{one_length}
 use Rattle.code.proofs.Fitting.{Shaped}
 use Rattle.code.proofs.Arriving.{Running, at, around, here, high, LedFrom, room_for, situation_here}
 use Rattle.code.proofs.Variables.{memory_with, variable_held}

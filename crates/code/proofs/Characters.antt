@@ -33,7 +33,7 @@ use Rattle.code.proofs.Fitting.{Shaped, held_bytes, encodable}
 use Rattle.code.proofs.Ends.{prints_on, prints_off}
 use Rattle.code.proofs.ItemOperands.{constant_value}
 use Rattle.code.proofs.Texts.{cause_line}
-use Rattle.code.proofs.Lengths.{one_length}
+use Rattle.code.proofs.AddressLengths.{one_length}
 use Rattle.code.proofs.Arriving.{Running, at, around, here, high, above, kept, LedFrom, Stands, code_held}
 use Rattle.code.proofs.Arriving.{situation_here}
 use Rattle.code.proofs.Variables.{variable_held}

@@ -1,7 +1,7 @@
--- Items that go over all objects, one after another.
-use Rattle.std.proofs.Common.{◌≡◌, ℕ, ◌+◌, ◌-◌, ◌%◌, ◌<◌, ◌≤◌, ◌⊎◌, inl, inr, List, [], ◌∷◌, length, Option, None, Bool}
-use Rattle.std.proofs.Common.{true, false, refl, sym, ap, ◌∙◌, subst, arith}
-use Rattle.std.specs.Prelude.{nat_le, nat_lt, map, not, ◌==◌, ◌&&◌, if◌then◌else◌}
+-- The item that goes on to the next object, in a loop over all objects.
+use Rattle.std.proofs.Common.{◌≡◌, ℕ, ◌+◌, ◌-◌, ◌%◌, ◌<◌, ◌≤◌, ◌⊎◌, inl, inr, List, [], ◌∷◌, length, Option, None}
+use Rattle.std.proofs.Common.{Bool, true, false, refl, sym, ap, ◌∙◌, subst, arith}
+use Rattle.std.specs.Prelude.{nat_le, nat_lt, not, ◌&&◌, if◌then◌else◌}
 use Rattle.std.specs.List.{flat_map}
 use Rattle.std.proofs.lemmas.Bool.{cases_lt, lt-ltb, le-ltb, ltb-true, and_parts}
 use Rattle.zcore.specs.declared.instruction.Operand.{Operand}
@@ -17,7 +17,7 @@ use Rattle.meaning.specs.World.{value_in, with_value, write_variable, give, ◌>
 use Rattle.values.specs.Items.{agrees}
 use Rattle.values.specs.Items as items
 use Rattle.items.specs.Stack as stack
-use Rattle.instructions.specs.Instructions.{branching, number_of, store, jump_offset, is_between}
+use Rattle.instructions.specs.Instructions.{branching, number_of, jump_offset, is_between}
 use Rattle.selection.specs.ItemCode.{jump_by}
 use Rattle.code.specs.Bytes.{place_of}
 use Rattle.code.specs.HeldProgram.{sizes_of}
@@ -27,18 +27,17 @@ use Rattle.code.proofs.Parts.{machine as at_words, Writes}
 use Rattle.code.proofs.Steps.{point, leads_then, one_step, first_held, others_held, two_operands, small_value}
 use Rattle.code.proofs.Steps.{large_value, variable_value, landing}
 use Rattle.code.proofs.SingleSteps.{increase, increment_step}
-use Rattle.code.proofs.Fitting.{Shaped}
 use Rattle.code.proofs.Places.{ends_by, offset_leads}
 use Rattle.code.proofs.Arriving.{Running, at_case, around, here, LedFrom, Stands, code_held, situation_here}
 use Rattle.code.proofs.Variables.{memory_with, Held, variable_held}
-use Rattle.code.proofs.Temporaries.{scratch_here, made}
-use Rattle.code.proofs.Delivering.{stored_step}
-use Rattle.code.proofs.Alone.{next_place, plain_length, single}
-use Rattle.code.proofs.Moving.{fuel_same, text_same, IsVariableHere, written_led}
-use Rattle.code.proofs.Jumping.{is_in, short, jump_to, jumps_led, jump_alone_led}
-use Rattle.code.proofs.Indexing.{between_tests}
+use Rattle.code.proofs.Temporaries.{scratch_here}
+use Rattle.code.proofs.Alone.{next_place, plain_length}
+use Rattle.code.proofs.Moving.{IsVariableHere}
+use Rattle.code.proofs.Jumping.{is_in, short, jumps_led}
+use Rattle.code.proofs.TestedWords.{between_tests}
 use Rattle.code.proofs.TestedObjects.{never, objects_here, objects_are}
 use Rattle.code.proofs.Working.{branch_leads}
+use Rattle.code.proofs.FirstObject.{variable_led}
 
 -- the object after it is one
 next_by : (n o : ℕ) → n ≤ 2000 → (o < n) ⊎ (n ≤ o) → is_between 1 n o ≡ (nat_le 1 o && nat_lt o n)
@@ -56,67 +55,6 @@ two_before next there long low = omega (arith, long, low)
 
 module _ (c : Running) where
   open c use {story, a, p, accepted, holds, full, m, count, counts, routine, place, callers, locals, world, good}
-
-  -- the machine comes to the next item, where a variable has another word
-  variable_led : (x : resolved.Variable) (word end : ℕ) (words : List ℕ) → IsVariableHere c x → length words ≤ 48
-      → end ≡ next_place c
-      → Leads (point (here c) world.fuel) (at_words (around c) m locals words world.text) (point end world.fuel)
-      (at_words (around c) (memory_with c m x word) (with_value x word (situation_here c)).locals words world.text)
-      → LedFrom c words (stack.goes (stack.after (at_case c None words) words (with_value x word (situation_here c))))
-  variable_led x word end words is room to leads =
-      let held = variable_held c m x (scratch_here c) is in
-      let situation = with_value x word (situation_here c) in
-      written_led c words words (memory_with c m x word) situation end to room (held.stored word)
-      (held.locals_same word) (held.globals_same word) (ap (map length) (held.arrays_same word))
-      (fuel_same x word (situation_here c)) (text_same x word (situation_here c)) leads
-
-  -- The first object
-
-  abbrev First : Bool → resolved.Variable → ℕ → Option ℕ → List ℕ → stack.Next
-  First b x target chosen words =
-      stack.after_part
-      ((if b then give false else (write_variable x 1 >>= λ _. give true)) (situation_here c))
-      (λ so situation. stack.branch (agrees so false) target words
-      (record (at_case c chosen words) { situation = situation }))
-
-  pub first_object_led : (x : resolved.Variable) (target : ℕ) (chosen : Option ℕ) (words : List ℕ)
-      → IsVariableHere c x → length words ≤ 48 → Stands c (items.first_object x target)
-      → LedFrom c words (stack.decides (stack.begins_objects p x) false target words (at_case c chosen words))
-  unfolding perform
-  first_object_led x target chosen words is room stands = go (length p.objects == 0) refl
-    where
-      count_same : (objects_here c == 0) ≡ (length p.objects == 0)
-      count_same = ap (λ (n : ℕ). n == 0) (objects_are c)
-
-      go : (b : Bool) → (length p.objects == 0) ≡ b → LedFrom c words (First b x target chosen words)
-      go true e =
-          let is_jump = ap (λ (b : Bool). (if b then jump_to c target else store (number_of x) (Small 1)) ∷ [])
-          (count_same ∙ e) in
-          jump_alone_led c target None words room (none_chosen story m)
-          (single c (items.first_object x target) (jump_to c target) is_jump refl stands)
-      go false e =
-          let i = store (number_of x) (Small 1) in
-          let is_store = ap (λ (b : Bool). (if b then jump_to c target else i) ∷ []) (count_same ∙ e) in
-          let there = single c (items.first_object x target) i is_store refl stands in
-          let st = at_words (around c) m locals words world.text in
-          let held = variable_held c m x (scratch_here c) is in
-          let end = here c + length (bytes_of i) in
-          let to = at_words (around c) (memory_with c m x 1) (with_value x 1 (situation_here c)).locals words
-          world.text in
-          let shaped : Shaped i = record {
-            least = omega arith;
-            most = omega arith;
-            result_fits = tt;
-            branch_fits = tt;
-          } in
-          variable_led x 1 end words is room there.end
-          (one_step (point (here c) world.fuel) (point end world.fuel) st to
-          (made c m words words world.text (here c) i (number_of x ∷ 1 ∷ []) (scratch_here c) (omega arith) shaped
-          there.held
-          (two_operands st st st (Small (number_of x)) (Small 1) (number_of x) 1 (small_value st (number_of x))
-          (small_value st 1))
-          ∙ stored_step c (point (here c) world.fuel) end (number_of x) 1 words world.text m (memory_with c m x 1)
-          (with_value x 1 (situation_here c)).locals (held.writes 1)))
 
   -- The next object
 
@@ -270,7 +208,7 @@ module _ (c : Running) where
         world.text in
         let leads = subst (λ b. Leads (point (here c) world.fuel) st
         (point (if b then q else here c + 4 + away) world.fuel) st) e t.tests in
-        variable_led x word (q + 2) words is room t.end
+        variable_led c x word (q + 2) words is room t.end
         (leads_then (point (here c) world.fuel) (point q world.fuel) (point (q + 2) world.fuel) st st to leads
         (one_step (point q world.fuel) (point (q + 2) world.fuel) st to
         (increment_step (around c) world.fuel m locals words world.text (memory_with c m x word)

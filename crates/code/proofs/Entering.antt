@@ -31,7 +31,7 @@ use Rattle.code.proofs.Memory.{holds_on}
 use Rattle.code.proofs.Steps.{point, one_step}
 use Rattle.code.proofs.Places.{starts}
 use Rattle.code.proofs.Ends.{does_halt}
-use Rattle.code.proofs.Arriving.{few_locals, caller_words}
+use Rattle.code.proofs.HeldRoutines.{few_locals, caller_words}
 
 -- Locals
 

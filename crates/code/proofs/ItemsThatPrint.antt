@@ -39,7 +39,8 @@ use Rattle.code.proofs.Fitting.{Shaped}
 use Rattle.code.proofs.Ends.{does_after, does_halt, prints, prints_part, prints_on, prints_off, quits}
 use Rattle.code.proofs.Texts.{number_prints, text_prints, text_read, printable_kept, IsLine, line_read}
 use Rattle.code.proofs.Shortened.{has_all}
-use Rattle.code.proofs.Arriving.{unpacked_low, address_low, Running, at, around, here, LedFrom, Stands, kept, code_held}
+use Rattle.code.proofs.HeldRoutines.{unpacked_low, address_low}
+use Rattle.code.proofs.Arriving.{Running, at, around, here, LedFrom, Stands, kept, code_held}
 use Rattle.code.proofs.Arriving.{arrives_on, situation_here}
 use Rattle.code.proofs.Temporaries.{Scratch, scratch_here, held_in, made, made_at}
 use Rattle.code.proofs.Alone.{by_operand, alone_count, alone_value, IsOperandHere, next_place, single}
@@ -139,7 +140,8 @@ module _ (c : Running) where
 
   pub print_text_led : (bytes : List ℕ) (s : List ℕ)
       → All (λ (t : List ℕ). list_all is_printable t ≡ true) p.abbreviations → All IsPrintable bytes
-      → length s ≤ 48 → Stands c (items.print_text bytes) → LedFrom c s (stack.prints (put (map shown bytes)) s (at c s))
+      → length s ≤ 48 → Stands c (items.print_text bytes)
+      → LedFrom c s (stack.prints (put (map shown bytes)) s (at c s))
   unfolding bytes_of perform print_inline text_at
   print_text_led bytes s texts printable short stands =
       let st = at_words (around c) m locals s world.text in

@@ -41,7 +41,7 @@ use Rattle.code.proofs.Alone.{by_operand, alone_count, IsOperandHere, next_place
 use Rattle.code.proofs.Jumping.{is_in, short}
 use Rattle.code.proofs.Tests.{labelled_fit, branching_some}
 use Rattle.code.proofs.Branching.{over, lands_led}
-use Rattle.code.proofs.Indexing.{Reached, AtIndex}
+use Rattle.code.proofs.TestedWords.{Reached, AtIndex}
 use Rattle.code.proofs.TestedObjects.{acts_in, begins, begun_end, label_tests, tests_led, objects_here, IsObjectHere}
 use Rattle.code.proofs.Working.{writes, word_value, word_still}
 use Rattle.code.proofs.Pulling.{pulls, works_at}

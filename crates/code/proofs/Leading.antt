@@ -34,7 +34,8 @@ use Rattle.code.proofs.Places.{next_place, ends_by, starts, follow, item_holds}
 use Rattle.code.proofs.Ends.{quits}
 use Rattle.code.proofs.Arriving.{Running, around, here, Stands}
 use Rattle.code.proofs.Alone.{single}
-use Rattle.code.proofs.PrintedTexts.{HasPrintableText, texts_printable}
+use Rattle.code.proofs.PrintedLists.{HasPrintableText}
+use Rattle.code.proofs.PrintedTexts.{texts_printable}
 use Rattle.code.proofs.Moving.{move_led, keep_led, drop_below_led}
 use Rattle.code.proofs.Stepping.{step_led}
 use Rattle.code.proofs.Operating.{operate_led}
@@ -52,15 +53,17 @@ use Rattle.code.proofs.Returning.{return_led}
 use Rattle.code.proofs.Reading.{read_led}
 use Rattle.code.proofs.Relatives.{relative_led}
 use Rattle.code.proofs.NamedObjects.{name_printable, print_name_led}
-use Rattle.code.proofs.PropertyReads.{property_led, property_size_led}
+use Rattle.code.proofs.PropertySizes.{property_size_led}
+use Rattle.code.proofs.PropertyReads.{property_led}
 use Rattle.code.proofs.RemovedObjects.{remove_object_led}
 use Rattle.code.proofs.PropertyWords.{property_word_led}
 use Rattle.code.proofs.Giving.{give_led}
 use Rattle.code.proofs.MovingObjects.{move_object_led}
 use Rattle.code.proofs.AssigningProperties.{assign_property_led, assign_property_word_led}
-use Rattle.code.proofs.EachObject.{first_object_led, next_object_led}
+use Rattle.code.proofs.FirstObject.{first_object_led}
+use Rattle.code.proofs.EachObject.{next_object_led}
 use Rattle.code.proofs.LabelledObjects.{has_led, is_in_led, provides_led}
-use Rattle.code.proofs.Keeps.{is_read}
+use Rattle.code.proofs.KeptWorld.{is_read}
 use Rattle.code.proofs.Sim.{ItemsLead}
 use Rattle.code.proofs.Opening.{plays_it}
 

@@ -29,7 +29,7 @@ use Rattle.code.proofs.Flat.{size_at}
 use Rattle.code.proofs.StoredEntries.{entry_address, read_at, last_byte, entry_inside, entry_is}
 use Rattle.code.proofs.Parts.{machine as at_words}
 use Rattle.code.proofs.Steps.{point, first_held, two_operands, large_value}
-use Rattle.code.proofs.Lengths.{one_length}
+use Rattle.code.proofs.AddressLengths.{one_length}
 use Rattle.code.proofs.Texts.{cause_line}
 use Rattle.code.proofs.Fitting.{Shaped}
 use Rattle.code.proofs.Arriving.{Running, at, around, here, LedFrom, Stands, code_here, code_held, situation_here}
@@ -37,7 +37,8 @@ use Rattle.code.proofs.Temporaries.{scratch_here}
 use Rattle.code.proofs.Delivering.{result_small}
 use Rattle.code.proofs.Alone.{by_operand, alone_count, IsOperandHere, IsHere, plain_length, gives_here_led}
 use Rattle.code.proofs.ItemsThatPrint.{fails_led}
-use Rattle.code.proofs.Indexing.{Reached, AtIndex, Indexed, indexed}
+use Rattle.code.proofs.TestedWords.{Reached, AtIndex, Indexed}
+use Rattle.code.proofs.Indexing.{indexed}
 
 -- an entry is loaded
 pub loads : (width : Width) (here : Next) (after : ℕ) (result : Option ℕ) (place i : ℕ) (st : State)

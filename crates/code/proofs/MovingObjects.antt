@@ -24,12 +24,12 @@ use Rattle.code.proofs.Parts.{machine as at_words}
 use Rattle.code.proofs.Steps.{point, leads_then, one_step, first_held, two_operands, variable_value}
 use Rattle.code.proofs.Ends.{does_after, does_halt}
 use Rattle.code.proofs.Texts.{cause_line}
-use Rattle.code.proofs.Lengths.{one_length}
+use Rattle.code.proofs.AddressLengths.{one_length}
 use Rattle.code.proofs.Arriving.{Running, at, around, here, LedFrom, Stands, arrives_on, situation_here}
 use Rattle.code.proofs.Temporaries.{word_written, word_unwritten, made_at}
 use Rattle.code.proofs.Alone.{by_operand, alone_count, IsOperandHere, next_place}
 use Rattle.code.proofs.ItemsThatPrint.{fails_at}
-use Rattle.code.proofs.Storing.{after_bound}
+use Rattle.code.proofs.StoringSteps.{after_bound}
 use Rattle.code.proofs.TestedObjects.{IsObjectHere, objects_here, objects_are, object_same, object_is, object_tests}
 use Rattle.code.proofs.TestedObjects.{tests_led}
 use Rattle.code.proofs.Working.{Works, HoldsWord, fault_led, reads_word, word_value, word_still, sets}
@@ -37,7 +37,8 @@ use Rattle.code.proofs.Changing.{stored_objects}
 use Rattle.code.proofs.Providing.{acts_on}
 use Rattle.code.proofs.Bounding.{Bounded, operand_bounds}
 use Rattle.code.proofs.Pulling.{opens, pulls, works_at}
-use Rattle.code.proofs.Climbing.{turning, Turns, turns, Rose, Climbs, climbs}
+use Rattle.code.proofs.ClimbingSteps.{turning, Turns, turns}
+use Rattle.code.proofs.Climbing.{Rose, Climbs, climbs}
 
 module _ (c : Running) where
   open c use {story, a, p, accepted, holds, full, m, count, counts, routine, place, callers, locals, world, good}

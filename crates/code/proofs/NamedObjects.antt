@@ -20,13 +20,13 @@ use Rattle.code.proofs.Parts.{machine as at_words}
 use Rattle.code.proofs.Steps.{point, first_held, one_operand}
 use Rattle.code.proofs.Ends.{prints_on, prints_off}
 use Rattle.code.proofs.Texts.{text_prints}
-use Rattle.code.proofs.Lengths.{one_length}
+use Rattle.code.proofs.AddressLengths.{one_length}
 use Rattle.code.proofs.Fitting.{Shaped}
 use Rattle.code.proofs.Arriving.{Running, at, around, LedFrom, Stands, situation_here}
 use Rattle.code.proofs.Temporaries.{made}
 use Rattle.code.proofs.Alone.{alone_count, IsOperandHere}
 use Rattle.code.proofs.ItemsThatPrint.{printed_led}
-use Rattle.code.proofs.Indexing.{AtIndex}
+use Rattle.code.proofs.TestedWords.{AtIndex}
 use Rattle.code.proofs.TestedObjects.{IsObjectHere, acts_in, begins, begun_end, object_tests, tests_led}
 
 -- each object has a name that can be printed

@@ -66,8 +66,8 @@ means_moved = refl
 
 moved : texts (plays (story_of [] [] moves sum_of_two) 100 [])
     ≡ (codes "ball17" ++ 10 ∷ codes "[Fault: object inside itself]" ++ 10 ∷ []) ∷ []
-unfolding bytes_of encoded encoded_with packed spelling_of opening turn_from weight step perform give_result divide load increment
-    decrement push_word pull store jump call_packed print_characters print_packed text_at print_address
+unfolding bytes_of encoded encoded_with packed spelling_of opening turn_from weight step perform give_result divide
+    load increment decrement push_word pull store jump call_packed print_characters print_packed text_at print_address
     read_in_place write_in_place push pop read_local write_local read_global write_global
     read_variable write_variable test_variable test_pull operand_value operand_values test_result store_result
     test_target spend go test_routine test_calls enter call test_return leave give_back take_branch branch_on print

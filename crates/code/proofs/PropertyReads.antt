@@ -1,27 +1,23 @@
--- Items that read a property of one word, and how many bytes its words have.
+-- Items that read a property of one word.
 use Rattle.std.proofs.Common.{◌≡◌, ℕ, suc, ◌+◌, ◌-◌, ◌*◌, ◌%◌, ◌<◌, ◌≤◌, List, [], ◌∷◌, ◌++◌, length, Option}
-use Rattle.std.proofs.Common.{slice_index, Some, None, Bool, true, false, refl, sym, ap, ◌∙◌, subst}
-use Rattle.std.proofs.Common.{arith}
+use Rattle.std.proofs.Common.{slice_index, Some, None, Bool, true, false, refl, sym, ap, ◌∙◌, subst, arith}
 use Rattle.std.specs.Prelude.{◌==◌, ◌||◌, if◌then◌else◌}
 use Rattle.std.specs.List.{flat_map}
-use Rattle.std.proofs.lemmas.Bool.{ne_eqb, eqb-true}
+use Rattle.std.proofs.lemmas.Bool.{eqb-true}
 use Rattle.zcore.specs.declared.instruction.Operand.{Operand}
 use Rattle.zcore.specs.declared.instruction.Operand.TheVariants.{Small, Variable}
 use Rattle.zcore.specs.declared.instruction.Operation.TheVariants as operations
-use Rattle.zcore.specs.declared.next.Next.{Next}
 use Rattle.zcore.specs.Instruction.{Instruction, bytes_of}
-use Rattle.zcore.specs.ObjectProperties.{get_property, get_property_address, get_property_length, property_length}
-use Rattle.zcore.specs.State.{State}
+use Rattle.zcore.specs.ObjectProperties.{get_property}
 use Rattle.zcore.specs.Execution.{perform, give_result}
 use Rattle.meaning.specs.declared.cause.Cause.TheVariants as causes
 use Rattle.meaning.specs.Accepted.{IsProperty}
-use Rattle.meaning.specs.World.{Situation, Comes, bound, single_word, size_of, test_single}
+use Rattle.meaning.specs.World.{bound, single_word}
 use Rattle.meaning.specs.World as source
 use Rattle.values.specs.Items.{Destination}
 use Rattle.values.specs.Items as items
 use Rattle.items.specs.Stack as stack
-use Rattle.region.specs.Region.{tables_base}
-use Rattle.region.specs.Tables.{Table, words_place}
+use Rattle.region.specs.Tables.{Table}
 use Rattle.instructions.specs.Addresses.{fault_address}
 use Rattle.instructions.specs.Instructions.{giving, branching, fail, result_in}
 use Rattle.selection.specs.ItemCode.{property_address, length_at}
@@ -31,24 +27,20 @@ use Rattle.code.proofs.Memory.{word_of, with_variable}
 use Rattle.code.proofs.Parts.{machine as at_words}
 use Rattle.code.proofs.Steps.{point, leads_then, first_held, others_held, one_operand, two_operands, small_value}
 use Rattle.code.proofs.Steps.{variable_value, landing}
-use Rattle.code.proofs.Lengths.{one_length}
-use Rattle.code.proofs.Fitting.{Shaped}
+use Rattle.code.proofs.AddressLengths.{one_length}
 use Rattle.code.proofs.Arriving.{Running, at, around, here, LedFrom, Stands, situation_here}
 use Rattle.code.proofs.Temporaries.{reads_written, word_unwritten}
 use Rattle.code.proofs.Delivering.{result_small}
 use Rattle.code.proofs.Alone.{alone_count, IsOperandHere, IsHere, next_place, gives_here_led}
-use Rattle.code.proofs.Storing.{after_bound}
-use Rattle.code.proofs.Indexing.{AtIndex}
+use Rattle.code.proofs.StoringSteps.{after_bound}
+use Rattle.code.proofs.TestedWords.{AtIndex}
 use Rattle.code.proofs.TestedObjects.{IsObjectHere, acts_in, begins, begun_end, object_tests, tests_led}
-use Rattle.code.proofs.Working.{Works, Passed, writes, tests, branch_leads, fault_led, same_base}
-use Rattle.code.proofs.Pulling.{works_at}
-use Rattle.code.proofs.Providing.{words_at, acts_on, placed_on, double_single}
-
--- no bytes stand at no address
-none_long : (here : Next) (after : ℕ) (result : Option ℕ) (s : State)
-    → get_property_length here after result 0 s ≡ give_result here after result 0 s
-unfolding get_property_length property_length
-none_long here after result s = refl
+use Rattle.code.proofs.Working.{Works, writes, branch_leads, fault_led}
+use Rattle.code.proofs.FaultTests.{Passed, tests}
+use Rattle.code.proofs.Providing.{words_at}
+use Rattle.code.proofs.CountedWords.{double_single}
+use Rattle.code.proofs.PropertySizes.{Delivered, tables, behind, none_found, some_found, some_there, operand_stays}
+use Rattle.code.proofs.PropertySizes.{bytes_counted}
 
 -- words of which there is one
 only_word : (words : List ℕ) → (length words == 1) ≡ true → words ≡ slice_index words 0 ∷ []
@@ -58,158 +50,6 @@ only_word (w ∷ x ∷ ws) e = absurd (omega (arith, eqb-true (suc (suc (length 
 
 module _ (c : Running) where
   open c use {story, a, p, accepted, holds, full, m, count, counts, routine, place, callers, locals, world, good}
-
-  abbrev Delivered : Destination → List ℕ → List ℕ → ℕ → Situation → stack.Next
-  Delivered d before rest w situation = stack.delivered d w (stack.after (at c before) rest situation)
-
-  -- An object's property is found: its address is in a variable of the compiler
-  module _ (n : ℕ) (before rest : List ℕ) (v : ℕ) (named : IsProperty n) (object : IsObjectHere c v)
-      (next : Operand → List Instruction)
-      (t : AtIndex c v before rest m (λ x. property_address x (n % 256) 249 ∷ next x)) where
-    abbrev pub tables : List Table
-    tables = t.reached.scratch.stored.tables
-
-    abbrev pub old : List ℕ
-    old = t.reached.memory
-
-    abbrev st : State
-    st = at_words (around c) old locals rest world.text
-
-    abbrev pub behind : ℕ
-    behind = t.reached.q + length (bytes_of (property_address t.operand (n % 256) 249))
-
-    address_written : (w : ℕ)
-        → ((after : ℕ) → get_property_address (point t.reached.q world.fuel) after (Some 249) v n st
-        ≡ give_result (point t.reached.q world.fuel) after (Some 249) w st)
-        → Works c tables before rest (with_variable old 249 w) behind (next t.operand)
-    unfolding perform
-    address_written w does =
-        let r = t.reached in
-        let same : n % 256 ≡ n = omega (arith, named.1) in
-        let i = property_address t.operand (n % 256) 249 in
-        let shaped : Shaped i = record {
-          least = omega arith;
-          most = omega arith;
-          result_fits = omega arith;
-          branch_fits = tt;
-        } in
-        writes c tables before rest old r.q 249 w operations.GetPropertyAddress
-        (t.operand ∷ Small (n % 256) ∷ []) (v ∷ n % 256 ∷ []) (next t.operand) (omega arith) (omega arith) shaped
-        (two_operands st st st t.operand (Small (n % 256)) v (n % 256) t.value (small_value st (n % 256)))
-        (λ after. ap (λ (k : ℕ). get_property_address (point r.q world.fuel) after (Some 249) v k st) same ∙ does after)
-        (works_at c v before rest m (λ x. property_address x (n % 256) 249 ∷ next x) t)
-
-    -- there is none
-    pub none_found : world.objects.properties v n ≡ None
-        → Works c tables before rest (with_variable old 249 0) behind (next t.operand)
-    none_found e = address_written 0 (λ after.
-        (acts_on c tables old rest t.reached.scratch.stored.has).absent (point t.reached.q world.fuel) after (Some 249)
-        v n object named.0 named.1 e)
-
-    pub some_found : (words : List ℕ) → world.objects.properties v n ≡ Some words
-        → Works c tables before rest (with_variable old 249 (words_at c tables v n)) behind (next t.operand)
-    some_found words e =
-        let r = t.reached in
-        let same : words_place (tables_base (length p.objects) old) tables v n ≡ words_at c tables v n =
-        ap (λ k. words_place k tables v n) (same_base c (length p.objects) old r.scratch) in
-        address_written (words_at c tables v n) (λ after.
-        (acts_on c tables old rest r.scratch.stored.has).present (point r.q world.fuel) after (Some 249) v n words
-        object
-        e ∙ ap (λ (k : ℕ). give_result (point r.q world.fuel) after (Some 249) k st) same)
-
-    -- it is not 0
-    pub some_there : (words : List ℕ) → world.objects.properties v n ≡ Some words
-        → (words_at c tables v n == 0) ≡ false
-    some_there words e =
-        let r = t.reached in
-        let same : words_place (tables_base (length p.objects) old) tables v n ≡ words_at c tables v n =
-        ap (λ k. words_place k tables v n) (same_base c (length p.objects) old r.scratch) in
-        let low = ((placed_on c tables old r.scratch.stored.has).within v n words object e).2 in
-        ne_eqb _ _ (λ f. omega (arith, f, same, low))
-
-    -- the operand is what it was
-    pub operand_stays : (w : ℕ) → word_of (with_variable old 249 w) 248 ≡ word_of old 248
-    operand_stays w = word_unwritten c old 249 w 248 t.reached.scratch (omega arith) (omega arith) (omega arith)
-        (λ e. omega (arith, e))
-
-  -- how many bytes the words have
-  bytes_counted : (tables : List Table) (before rest memory : List ℕ) (q : ℕ) (is : List Instruction)
-      (v n : ℕ) (words : List ℕ) → Works c tables before rest memory q is → IsObjectHere c v
-      → world.objects.properties v n ≡ Some words → (after : ℕ) (result : Option ℕ)
-      → get_property_length (point q world.fuel) after result (words_at c tables v n)
-      (at_words (around c) memory locals rest world.text)
-      ≡ give_result (point q world.fuel) after result (2 * length words)
-      (at_words (around c) memory locals rest world.text)
-  bytes_counted tables before rest memory q is v n words w object e after result =
-      let st = at_words (around c) memory locals rest world.text in
-      let same : words_place (tables_base (length p.objects) memory) tables v n ≡ words_at c tables v n =
-      ap (λ k. words_place k tables v n) (same_base c (length p.objects) memory w.scratch) in
-      ap (λ k. get_property_length (point q world.fuel) after result k st) (sym same)
-      ∙ (acts_on c tables memory rest w.has).long (point q world.fuel) after result v n words object e
-
-  -- How many bytes
-
-  module _ (n : ℕ) (d : Destination) (before rest : List ℕ) (v : ℕ) (named : IsProperty n) (is_d : IsHere c d)
-      (room : length rest ≤ 48) (object : IsObjectHere c v)
-      (t : AtIndex c v before rest m (λ x. property_address x (n % 256) 249 ∷ length_at 249 (result_in d) ∷ [])) where
-    abbrev then_size : Operand → List Instruction
-    then_size x = length_at 249 (result_in d) ∷ []
-
-    abbrev size_tables : List Table
-    size_tables = tables n before rest v named object then_size t
-
-    size_given : (w size : ℕ)
-        → Works c size_tables before rest (with_variable t.reached.memory 249 w)
-        (behind n before rest v named object then_size t) (then_size t.operand)
-        → ((after : ℕ) → get_property_length (point (behind n before rest v named object then_size t) world.fuel) after
-        (Some (result_in d)) w (at_words (around c) (with_variable t.reached.memory 249 w) locals rest world.text)
-        ≡ give_result (point (behind n before rest v named object then_size t) world.fuel) after (Some (result_in d))
-        size (at_words (around c) (with_variable t.reached.memory 249 w) locals rest world.text))
-        → LedFrom c before (Delivered d before rest size (situation_here c))
-    unfolding perform
-    size_given w size next does =
-        let m1 = with_variable t.reached.memory 249 w in
-        let q = behind n before rest v named object then_size t in
-        let i = length_at 249 (result_in d) in
-        let st1 = at_words (around c) m1 locals rest world.text in
-        gives_here_led c operations.GetPropertyLength (Variable 249 ∷ []) d size q before rest rest m1 (w ∷ []) is_d
-        next.scratch room next.from
-        (record { least = omega arith; most = omega arith; result_fits = result_small d; branch_fits = tt })
-        (first_held m q i [] next.held) (omega (arith, next.end, one_length i))
-        (one_operand st1 st1 (Variable 249) w
-        (variable_value (around c) m1 locals rest world.text 249 w
-        (reads_written c t.reached.memory 249 w t.reached.scratch (omega arith) (omega arith)))) does next.leads
-
-    size_by : (words : Option (List ℕ)) → world.objects.properties v n ≡ words
-        → LedFrom c before (Delivered d before rest (size_of words) (situation_here c))
-    size_by None e =
-        size_given 0 0 (none_found n before rest v named object then_size t e)
-        (λ after. none_long (point (behind n before rest v named object then_size t) world.fuel) after
-        (Some (result_in d))
-        (at_words (around c) (with_variable t.reached.memory 249 0) locals rest world.text))
-    size_by (Some words) e =
-        let w = words_at c size_tables v n in
-        let next = some_found n before rest v named object then_size t words e in
-        size_given w (2 * length words) next
-        (λ after. bytes_counted size_tables before rest (with_variable t.reached.memory 249 w)
-        (behind n before rest v named object then_size t) (then_size t.operand) v n words next object e after
-        (Some (result_in d)))
-
-  pub property_size_led : (o : items.Operand) (n : ℕ) (d : Destination) (s : List ℕ) → IsProperty n → IsOperandHere c o
-      → IsHere c d → length s ≤ 48 → Stands c (items.property_size o n d)
-      → LedFrom c s (stack.with_operand o (situation_here c) s
-      (λ v rest. stack.gives (stack.property_bytes p v n) d rest (at c s)))
-  property_size_led o n d s named is is_d room stands =
-      let item = items.property_size o n d in
-      let act : Operand → List Instruction =
-      λ x. property_address x (n % 256) 249 ∷ length_at 249 (result_in d) ∷ [] in
-      tests_led c o s s m act
-      (λ v situation. source.to (size_of (situation.world.objects.properties v n)) situation)
-      (λ rest w situation. Delivered d s rest w situation)
-      (object_tests c o act s s m is (begins c item s stands) (begun_end c item s refl stands) stands.followed)
-      (λ v rest alone object t.
-      size_by n d s rest v named is_d (omega (arith, room, alone_count o (situation_here c) s v rest alone)) object t
-      (world.objects.properties v n) refl)
 
   -- A property of one word
 
@@ -235,10 +75,10 @@ module _ (c : Running) where
     then_read x = zero_test ∷ counting n d x
 
     abbrev read_tables : List Table
-    read_tables = tables n before rest v named object then_read t
+    read_tables = tables c n before rest v named object then_read t
 
     abbrev from_here : ℕ
-    from_here = behind n before rest v named object then_read t
+    from_here = behind c n before rest v named object then_read t
 
     -- the last instruction gives the word
     read_given : (memory : List ℕ) (q w : ℕ) → word_of memory 248 ≡ word_of t.reached.memory 248
@@ -247,7 +87,7 @@ module _ (c : Running) where
         (at_words (around c) memory locals rest world.text)
         ≡ give_result (point q world.fuel) after (Some (result_in d)) w
         (at_words (around c) memory locals rest world.text))
-        → LedFrom c before (Delivered d before rest w (situation_here c))
+        → LedFrom c before (Delivered c d before rest w (situation_here c))
     unfolding perform
     read_given memory q w still next does =
         let same : n % 256 ≡ n = omega (arith, named.1) in
@@ -300,13 +140,13 @@ module _ (c : Running) where
         subst (λ k. Holds m k (flat_map bytes_of last)) number both.1
 
     none_read : world.objects.properties v n ≡ None
-        → LedFrom c before (Delivered d before rest (slice_index p.defaults (n - 1)) (situation_here c))
+        → LedFrom c before (Delivered c d before rest (slice_index p.defaults (n - 1)) (situation_here c))
     unfolding bytes_of
     none_read e =
-        let next = none_found n before rest v named object then_read t e in
+        let next = none_found c n before rest v named object then_read t e in
         let m1 = with_variable t.reached.memory 249 0 in
         read_given m1 (from_here + 3 + 11) (slice_index p.defaults (n - 1))
-        (operand_stays n before rest v named object then_read t 0)
+        (operand_stays c n before rest v named object then_read t 0)
         (record {
           scratch = next.scratch;
           has = next.has;
@@ -329,10 +169,10 @@ module _ (c : Running) where
         let k = 2 * length words in
         let m1 = with_variable t.reached.memory 249 w in
         let m2 = with_variable m1 249 k in
-        let next = some_found n before rest v named object then_read t words e in
+        let next = some_found c n before rest v named object then_read t words e in
         let st1 = at_words (around c) m1 locals rest world.text in
         let st2 = at_words (around c) m2 locals rest world.text in
-        let some = some_there n before rest v named object then_read t words e in
+        let some = some_there c n before rest v named object then_read t words e in
         let there : Works c read_tables before rest m1 (from_here + 3) (counting n d t.operand) = record {
           scratch = next.scratch;
           has = next.has;
@@ -349,7 +189,7 @@ module _ (c : Running) where
         (one_operand st1 st1 (Variable 249) w
         (variable_value (around c) m1 locals rest world.text 249 w
         (reads_written c t.reached.memory 249 w t.reached.scratch (omega arith) (omega arith))))
-        (λ after. bytes_counted read_tables before rest m1 (from_here + 3) (counting n d t.operand) v n words there
+        (λ after. bytes_counted c read_tables before rest m1 (from_here + 3) (counting n d t.operand) v n words there
         object e after (Some 249)) there in
         subst (λ b. Passed c b causes.PropertyOfManyWords read_tables before rest m2 (from_here + 3 + 3 + 4 + 4)
         (last_read n d t.operand ∷ [])) (double_single c (length words))
@@ -367,7 +207,7 @@ module _ (c : Running) where
         stack.after_part
         (bound {A = Unit {0}}
         ((if b then source.give tt else source.fault causes.PropertyOfManyWords) (situation_here c))
-        (λ _. source.give (slice_index words 0))) (λ w situation. Delivered d before rest w situation)
+        (λ _. source.give (slice_index words 0))) (λ w situation. Delivered c d before rest w situation)
 
     single_by : (b : Bool) (words : List ℕ) → (length words == 1) ≡ b → world.objects.properties v n ≡ Some words
         → Passed c b causes.PropertyOfManyWords read_tables before rest
@@ -379,23 +219,23 @@ module _ (c : Running) where
         let k = 2 * length words in
         let m1 = with_variable t.reached.memory 249 w in
         let m2 = with_variable m1 249 k in
-        let found = some_found n before rest v named object then_read t words e in
+        let found = some_found c n before rest v named object then_read t words e in
         read_given m2 (from_here + 3 + 3 + 4 + 4) (slice_index words 0)
         (word_unwritten c m1 249 k 248 found.scratch (omega arith) (omega arith) (omega arith) (λ f. omega (arith, f))
-        ∙ operand_stays n before rest v named object then_read t w) next
+        ∙ operand_stays c n before rest v named object then_read t w) next
         (λ after. (acts_in c m2 rest world.text next.scratch).single (point (from_here + 3 + 3 + 4 + 4) world.fuel)
         after (Some (result_in d)) v n (slice_index words 0) object (e ∙ ap Some (only_word words one)))
     single_by false words one e next =
         subst (LedFrom c before)
         (sym (after_bound {A = Unit {0}} (source.fault causes.PropertyOfManyWords (situation_here c))
-        (λ _. source.give (slice_index words 0)) (λ w situation. Delivered d before rest w situation)))
+        (λ _. source.give (slice_index words 0)) (λ w situation. Delivered c d before rest w situation)))
         (fault_led c causes.PropertyOfManyWords before
-        (λ _ situation. Delivered d before rest (slice_index words 0) situation) next)
+        (λ _ situation. Delivered c d before rest (slice_index words 0) situation) next)
 
     read_by : (words : Option (List ℕ)) → world.objects.properties v n ≡ words
         → LedFrom c before (stack.after_part
         (single_word (slice_index p.defaults (n - 1)) words (situation_here c))
-        (λ w situation. Delivered d before rest w situation))
+        (λ w situation. Delivered c d before rest w situation))
     read_by None e = none_read e
     read_by (Some words) e = single_by (length words == 1) words refl e (words_counted words e)
 
@@ -408,7 +248,7 @@ module _ (c : Running) where
       let act : Operand → List Instruction = λ x. property_address x (n % 256) 249 ∷ zero_test ∷ counting n d x in
       tests_led c o s s m act
       (λ v situation. single_word (slice_index p.defaults (n - 1)) (situation.world.objects.properties v n) situation)
-      (λ rest w situation. Delivered d s rest w situation)
+      (λ rest w situation. Delivered c d s rest w situation)
       (object_tests c o act s s m is (begins c item s stands) (begun_end c item s refl stands) stands.followed)
       (λ v rest alone object t.
       read_by n d s rest v named is_d (omega (arith, room, alone_count o (situation_here c) s v rest alone))

@@ -22,14 +22,15 @@ use Rattle.selection.specs.ItemCode.{provided, tested_word, assigned_word, is_en
 use Rattle.code.proofs.Memory.{word_of}
 use Rattle.code.proofs.Parts.{machine as at_words}
 use Rattle.code.proofs.Steps.{point, first_held, two_operands, variable_value}
-use Rattle.code.proofs.Lengths.{one_length}
+use Rattle.code.proofs.AddressLengths.{one_length}
 use Rattle.code.proofs.Arriving.{Running, at, around, LedFrom, Stands, situation_here}
 use Rattle.code.proofs.Delivering.{result_small}
 use Rattle.code.proofs.Alone.{by_operand, alone_count, IsOperandHere, IsHere, next_place, gives_here_led}
-use Rattle.code.proofs.Storing.{after_bound}
+use Rattle.code.proofs.StoringSteps.{after_bound}
 use Rattle.code.proofs.TestedObjects.{IsObjectHere, objects_here, object_tests, tests_led}
 use Rattle.code.proofs.Working.{Works, HoldsWord, fault_led, reads_word, word_value, word_still, same_base}
-use Rattle.code.proofs.Providing.{words_at, acts_on, Finds, finds, WordTested, word_tests}
+use Rattle.code.proofs.Providing.{words_at, acts_on, Finds, finds}
+use Rattle.code.proofs.CountedWords.{WordTested, word_tests}
 use Rattle.code.proofs.Pulling.{opens, pulls, works_at}
 
 module _ (c : Running) where

@@ -15,7 +15,7 @@ use Rattle.code.proofs.Arriving.{Running, around, here, Stands, code_here, code_
 use Rattle.code.proofs.Temporaries.{scratch_here, scratch_with, word_written, word_unwritten, pull_temporary}
 use Rattle.code.proofs.Temporaries.{others_held_pull}
 use Rattle.code.proofs.Alone.{Alone, next_place}
-use Rattle.code.proofs.Indexing.{Reached, AtIndex}
+use Rattle.code.proofs.TestedWords.{Reached, AtIndex}
 use Rattle.code.proofs.TestedObjects.{begins_end}
 use Rattle.code.proofs.Working.{Works, HoldsWord}
 

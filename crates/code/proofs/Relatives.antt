@@ -29,14 +29,14 @@ use Rattle.selection.specs.ItemCode.{giving_on, relative_of}
 use Rattle.code.proofs.Memory.{with_variable}
 use Rattle.code.proofs.Parts.{room_is, Around, machine as at_words, pushes, Writes, global_writes}
 use Rattle.code.proofs.Steps.{point, leads_then, one_step, first_held, one_operand, landing, branches}
-use Rattle.code.proofs.Lengths.{one_length}
+use Rattle.code.proofs.AddressLengths.{one_length}
 use Rattle.code.proofs.Fitting.{Shaped}
 use Rattle.code.proofs.Arriving.{Running, at, around, here, above, LedFrom, Stands, situation_here, room_for}
 use Rattle.code.proofs.Variables.{memory_with, variable_held}
 use Rattle.code.proofs.Temporaries.{Scratch, scratch_with, made}
 use Rattle.code.proofs.Delivering.{result_small, memory_after, locals_after, stack_after, delivered_led}
 use Rattle.code.proofs.Alone.{alone_count, IsOperandHere, IsHere, next_place, gives_here_led}
-use Rattle.code.proofs.Indexing.{AtIndex}
+use Rattle.code.proofs.TestedWords.{AtIndex}
 use Rattle.code.proofs.TestedObjects.{IsObjectHere, acts_in, begins, begun_end, object_tests, tests_led}
 
 -- a branch to the next instruction

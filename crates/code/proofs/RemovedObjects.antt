@@ -12,12 +12,12 @@ use Rattle.items.specs.Stack as stack
 use Rattle.instructions.specs.Instructions.{plain}
 use Rattle.code.proofs.Parts.{machine as at_words}
 use Rattle.code.proofs.Steps.{point, leads_then, one_step, first_held, one_operand}
-use Rattle.code.proofs.Lengths.{one_length}
+use Rattle.code.proofs.AddressLengths.{one_length}
 use Rattle.code.proofs.Fitting.{Shaped}
 use Rattle.code.proofs.Arriving.{Running, at, around, here, LedFrom, Stands, situation_here, arrives_on}
 use Rattle.code.proofs.Temporaries.{made}
 use Rattle.code.proofs.Alone.{alone_count, IsOperandHere}
-use Rattle.code.proofs.Indexing.{AtIndex}
+use Rattle.code.proofs.TestedWords.{AtIndex}
 use Rattle.code.proofs.TestedObjects.{IsObjectHere, acts_in, begins, begun_end, object_tests, tests_led}
 use Rattle.code.proofs.Changing.{stored_objects}
 

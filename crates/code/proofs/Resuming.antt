@@ -1,9 +1,9 @@
 -- What is done with the word that a routine gives back.
-use Rattle.std.proofs.Common.{◌≡◌, ℕ, suc, ◌+◌, ◌<◌, ◌≤◌, List, [], ◌∷◌, ◌++◌, length, Option, Some, None, Bool, true}
+use Rattle.std.proofs.Common.{◌≡◌, ℕ, suc, ◌+◌, ◌<◌, ◌≤◌, List, [], ◌∷◌, ◌++◌, length, Option, None, Bool, true}
 use Rattle.std.proofs.Common.{false, refl, sym, ap, ◌∙◌, subst, arith}
-use Rattle.std.specs.Prelude.{slice_index, nat_lt, nat_le, nat_eq, if◌then◌else◌, ◌||◌, map}
+use Rattle.std.specs.Prelude.{slice_index, nat_le, if◌then◌else◌, map}
 use Rattle.std.specs.List.{All}
-use Rattle.std.proofs.lemmas.Bool.{lt-ltb, le-leb, leb-true, ne_eqb}
+use Rattle.std.proofs.lemmas.Bool.{leb-true}
 use Rattle.std.proofs.lemmas.List.{length-reverse}
 use Rattle.zcore.specs.declared.instruction.Operand.TheVariants.{Large}
 use Rattle.zcore.specs.declared.instruction.Operation.TheVariants as operations
@@ -13,7 +13,7 @@ use Rattle.zcore.specs.Header.{static_base_of}
 use Rattle.zcore.specs.Instruction.{bytes_of}
 use Rattle.zcore.specs.State.{Frame, State, Out, done, bound}
 use Rattle.zcore.specs.State as state
-use Rattle.zcore.specs.Parts.{push, goes_on, test_return, leave, give_back, store_result, write_variable}
+use Rattle.zcore.specs.Parts.{push, goes_on, give_back}
 use Rattle.zcore.specs.Execution.{step}
 use Rattle.zcore.specs.Turn.{first_environment}
 use Rattle.zcore.proofs.Holding.{holds_byte}
@@ -35,44 +35,12 @@ use Rattle.code.proofs.Steps.{point, one_step, first_held, others_held}
 use Rattle.code.proofs.Ends.{does_after, quits}
 use Rattle.code.proofs.Places.{ends_by}
 use Rattle.code.proofs.Entering.{in_frames}
-use Rattle.code.proofs.Arriving.{caller_words, Running, around, here, situation_here}
+use Rattle.code.proofs.HeldRoutines.{caller_words}
+use Rattle.code.proofs.Arriving.{Running, around, here, situation_here}
 use Rattle.code.proofs.Variables.{memory_with, variable_held}
 use Rattle.code.proofs.Temporaries.{scratch_here}
 use Rattle.code.proofs.Moving.{fuel_same, text_same}
-
-abbrev inner : ℕ → ℕ → Option ℕ → List Frame → Around
-inner count back result others = record { count = count; back = back; result = result; others = others }
-
--- What a return does, by where its result goes
-module _ (m l s t : List ℕ) (fuel v count back : ℕ) (g : Frame) (fs : List Frame) (above : 64 ≤ back)
-    (within : back < length m) where
-  back_none : give_back fuel v (at_words (inner count back None (g ∷ fs)) m l s t)
-      ≡ done (point back fuel) (in_frames m (g ∷ fs) t)
-  unfolding give_back test_return leave store_result
-  back_none =
-      let a : nat_le 64 back ≡ true = le-leb _ _ above in
-      let b : nat_lt back (length m) ≡ true = lt-ltb _ _ within in
-      rw a (rw b refl)
-
-  back_top : state.words (g ∷ fs) < 65536
-      → give_back fuel v (at_words (inner count back (Some 0) (g ∷ fs)) m l s t)
-      ≡ bound (push v (in_frames m (g ∷ fs) t)) (λ _ u. goes_on back fuel u)
-  unfolding give_back test_return leave store_result write_variable
-  back_top room =
-      let a : nat_le 64 back ≡ true = le-leb _ _ above in
-      let b : nat_lt back (length m) ≡ true = lt-ltb _ _ within in
-      let d : nat_lt (state.words (g ∷ fs)) 65536 ≡ true = lt-ltb _ _ room in
-      rw d (rw a (rw b refl))
-
-  back_into : (n : ℕ) → 0 < n → (nat_le n (length g.locals) || nat_le 16 n) ≡ true
-      → give_back fuel v (at_words (inner count back (Some n) (g ∷ fs)) m l s t)
-      ≡ bound (write_variable n v (in_frames m (g ∷ fs) t)) (λ _ u. goes_on back fuel u)
-  unfolding give_back test_return leave store_result
-  back_into n named can =
-      let a : nat_le 64 back ≡ true = le-leb _ _ above in
-      let b : nat_lt back (length m) ≡ true = lt-ltb _ _ within in
-      let d : nat_eq n 0 ≡ false = ne_eqb _ _ (λ h. omega (arith, h, named)) in
-      rw d (rw can (rw a (rw b refl)))
+use Rattle.code.proofs.ReturnSteps.{inner, back_none, back_top, back_into}
 
 module _ (c : Running) where
   open c use {story, a, p, accepted, holds, full, m, count, counts, routine, place, callers, locals, world, good}

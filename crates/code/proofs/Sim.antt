@@ -14,7 +14,8 @@ use Rattle.items.specs.Stack as stack
 use Rattle.instructions.specs.Addresses.{Addresses}
 use Rattle.code.proofs.Play.{Does, Good, Led, LedOn, LedBy, items_in, next_of, state_of}
 use Rattle.code.proofs.Ends.{does_after}
-use Rattle.code.proofs.Keeps.{Same, Keeps, Bounded, KeepsBy, is_read, act_keeps}
+use Rattle.code.proofs.KeptWorld.{Same, Keeps, Bounded, KeepsBy, is_read}
+use Rattle.code.proofs.Keeps.{act_keeps}
 
 -- a turn goes on in the same way for worlds with the same lines and texts
 pub does_same : (full : ℕ) (here : Next) (t : State) (w v : World) (o : Outcome) → Same w v → Does full here t v o

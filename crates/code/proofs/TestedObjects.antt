@@ -28,8 +28,9 @@ use Rattle.code.proofs.Arriving.{Running, around, here, LedFrom, Stands, code_he
 use Rattle.code.proofs.Temporaries.{Scratch, scratch_here}
 use Rattle.code.proofs.Alone.{Alone, by_operand, IsOperandHere, next_place, plain_length}
 use Rattle.code.proofs.ItemsThatPrint.{fails_led}
-use Rattle.code.proofs.Indexing.{Reached, AtIndex, Tested, between, between_labelled}
-use Rattle.code.proofs.Storing.{after_bound}
+use Rattle.code.proofs.TestedWords.{Reached, AtIndex, Tested}
+use Rattle.code.proofs.Indexing.{between, between_labelled}
+use Rattle.code.proofs.StoringSteps.{after_bound}
 
 -- the test of the code is that of the source
 

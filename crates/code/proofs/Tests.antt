@@ -26,7 +26,7 @@ use Rattle.instructions.specs.Instructions.{plain, branching, labelled, test_ope
 use Rattle.instructions.specs.Instructions.{branch_code}
 use Rattle.code.proofs.Fitting.{AreBytes, first_part, all_fit}
 use Rattle.code.proofs.ItemOperands.{Gives, gives_length}
-use Rattle.code.proofs.Lengths.{branching_length}
+use Rattle.code.proofs.BranchLengths.{branching_length}
 
 -- the operands of a branch with a label
 pub labelled_fit : (op : Operation) (os : List Operand) (when : Bool) (offset : ℕ)

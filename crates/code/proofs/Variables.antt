@@ -12,7 +12,8 @@ use Rattle.instructions.specs.Instructions.{number_of}
 use Rattle.code.proofs.Play.{Stored}
 use Rattle.code.proofs.Memory.{with_variable, writes_ground, stored_global, global_is}
 use Rattle.code.proofs.Parts.{Reads, Writes, local_reads, local_writes, global_reads, global_writes}
-use Rattle.code.proofs.Arriving.{few_locals, Running, around, few, situation_here}
+use Rattle.code.proofs.HeldRoutines.{few_locals}
+use Rattle.code.proofs.Arriving.{Running, around, few, situation_here}
 use Rattle.code.proofs.Temporaries.{Scratch}
 
 module _ (c : Running) where

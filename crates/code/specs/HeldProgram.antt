@@ -1,5 +1,6 @@
 -- A program that stands in a story.
-use Rattle.std.specs.Prelude.{◌≡◌, ◌+◌, ◌*◌, ◌^◌, ◌<◌, ◌≤◌, ℕ, List, [], ◌∷◌, ◌++◌, codes, length, map, take, slice_index}
+use Rattle.std.specs.Prelude.{◌≡◌, ◌+◌, ◌*◌, ◌^◌, ◌<◌, ◌≤◌, ℕ, List, [], ◌∷◌, ◌++◌, codes, length, map, take}
+use Rattle.std.specs.Prelude.{slice_index}
 use Rattle.std.specs.List.{All, concat}
 use Rattle.zcore.specs.declared.instruction.Operand.TheVariants.{Large}
 use Rattle.zcore.specs.declared.instruction.Operation.TheVariants.{Call1n, Quit}
@@ -48,8 +49,8 @@ pub record HoldsText (story : List ℕ) (packed : ℕ) (text : List ℕ) : Type 
   pub word : packed < 65536
   pub above : static_base_of story ≤ unpacked story packed
 
--- the abbreviation of a number: the table names the place of its text, halved (3.3), which is in static memory or behind,
--- and which ends where texts can be read
+-- the abbreviation of a number: the table names the place of its text, halved (3.3), which is in static memory or
+-- behind, and which ends where texts can be read
 pub record HoldsAbbreviation (story : List ℕ) (number : ℕ) (text : List ℕ) : Type 0 where
   pub bytes : Holds story (2 * word_at story (abbreviations_of story + 2 * number)) (encoded text)
   pub above : static_base_of story ≤ 2 * word_at story (abbreviations_of story + 2 * number)

@@ -8,6 +8,7 @@ pub mod Frames
 pub mod Doing
 pub mod Moving
 pub mod LinkActs
+pub mod AttributeBits
 pub mod AttributeActs
 pub mod Listed
 pub mod HeldTables
@@ -16,6 +17,7 @@ pub mod StoredWords
 pub mod StoreActs
 pub mod NameActs
 pub mod Flags
+pub mod ObjectEntries
 pub mod Begins
 pub mod Written
 pub mod Together

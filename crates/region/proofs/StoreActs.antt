@@ -24,7 +24,7 @@ use Rattle.region.specs.Links.{links_of}
 use Rattle.region.specs.Region.{HasObjects, HasTables, KeepsRest, tables_base}
 use Rattle.region.specs.Tables.{Table, no_table, list_bytes, table_bytes, IsTable, table_at, table_place, list_place}
 use Rattle.region.specs.Tables.{data_place, words_place}
-use Rattle.region.proofs.AttributeActs.{if_both, if_not_first, if_not_second}
+use Rattle.region.proofs.AttributeBits.{if_both, if_not_first, if_not_second}
 use Rattle.region.proofs.Bytes.{length_with, byte_other, holds_with}
 use Rattle.region.proofs.Doing.{Does, then_is, writes_word}
 use Rattle.region.proofs.Frames.{SameHead, head_from, word_stays, attribute_stays, rest_kept}

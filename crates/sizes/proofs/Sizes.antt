@@ -43,7 +43,8 @@ use Rattle.selection.specs.ItemCode.{assign_property_code, assign_property_word_
 use Rattle.selection.specs.ItemCode.{first_object_code, next_object_code}
 use Rattle.code.specs.Bytes.{no_addresses, part_of, parts_of, code_size}
 use Rattle.sizes.proofs.Most.{most, most_of}
-use Rattle.code.proofs.Lengths.{all_length, one_length, labelled_length}
+use Rattle.code.proofs.AddressLengths.{all_length, one_length}
+use Rattle.code.proofs.BranchLengths.{labelled_length}
 use Rattle.sizes.proofs.SizesOfInstructions.{opcode_most, operand_count, parts_length, few_bytes}
 use Rattle.sizes.proofs.SizesOfInstructions.{constant_few, operand_few, one_count, two_count, three_count, taken_few}
 use Rattle.sizes.proofs.SizesOfOperands.{giving_few, plain_few, store_few, fail_size, either_all, pulled_into_few}

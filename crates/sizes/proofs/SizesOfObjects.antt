@@ -24,7 +24,7 @@ use Rattle.selection.specs.ItemCode.{tested_word, loaded_at, property_word_code,
 use Rattle.selection.specs.ItemCode.{assigned_at, assign_property_word_code, climbing, moved_into, move_object_code}
 use Rattle.selection.specs.ItemCode.{first_object_code, next_object_code, tested_in, jump_by}
 use Rattle.code.specs.Bytes.{no_addresses}
-use Rattle.code.proofs.Lengths.{all_length, one_length}
+use Rattle.code.proofs.AddressLengths.{all_length, one_length}
 use Rattle.sizes.proofs.SizesOfInstructions.{few_bytes, one_count, two_count, three_count}
 use Rattle.sizes.proofs.SizesOfOperands.{giving_few, plain_few, store_few, pulled_into_few}
 use Rattle.sizes.proofs.SizesOfOperands.{word_in_few, passed_few, FewAt, in_few, at_few, tests_in_few, labelled_few}

@@ -22,7 +22,8 @@ use Rattle.instructions.specs.Instructions.{tested_between, pulled_into, word_in
 use Rattle.instructions.specs.Bytes.{bytes_of_all}
 use Rattle.selection.specs.ItemCode.{tests_in, tested_in, at_tested, passed_on}
 use Rattle.code.specs.Bytes.{no_addresses}
-use Rattle.code.proofs.Lengths.{all_length, one_length, labelled_length, beside}
+use Rattle.code.proofs.AddressLengths.{all_length, one_length}
+use Rattle.code.proofs.BranchLengths.{labelled_length, beside}
 use Rattle.sizes.proofs.SizesOfInstructions.{opcode_few, operand_count, few_bytes, constant_few, one_count, two_count}
 
 -- Instructions of one operand or two

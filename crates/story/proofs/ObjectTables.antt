@@ -20,7 +20,8 @@ use Rattle.region.specs.Laws.{AreProper}
 use Rattle.region.specs.Rows.{RowOf, view_of, row_of, rows_from, rows_of, table_of, entries_bytes, tables_bytes}
 use Rattle.region.specs.Rows.{rows_length}
 use Rattle.region.specs.Tables.{IsTable, IsListed, property_bytes, list_bytes, table_bytes}
-use Rattle.region.proofs.Begins.{table_for, same_tables, same_count, length_entries, proper_table}
+use Rattle.region.proofs.ObjectEntries.{table_for, same_tables, same_count, length_entries}
+use Rattle.region.proofs.Begins.{proper_table}
 use Rattle.region.proofs.Written.{written_length}
 use Rattle.story.specs.Layout.{greatest_word, object_bytes}
 

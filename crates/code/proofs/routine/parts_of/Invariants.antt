@@ -7,6 +7,7 @@ use Rattle.code.proofs.routine.parts_of.Given as goal
 
 abbrev pub invariant-loop-item : goal.invariant-loop-item
 invariant-loop-item l =
-    (l.parts.items ++ parts_of (sizes_in l.sizes) (items_of (drop l.item-index l.items)) ≡ parts_of (sizes_in l.sizes) (items_of l.items))
+    (l.parts.items ++ parts_of (sizes_in l.sizes) (items_of (drop l.item-index l.items))
+    ≡ parts_of (sizes_in l.sizes) (items_of l.items))
     × (length l.bytes.items + least_sum (sizes_in l.sizes) (items_of (drop l.item-index l.items))
     ≡ least_sum (sizes_in l.sizes) (items_of l.items))

@@ -1,0 +1,119 @@
+-- The items of an operation, and of an entry of an array, print no texts.
+use Rattle.std.proofs.Common.{ℕ, ◌+◌, List, [], ◌∷◌, ◌++◌, Bool, true, false}
+use Rattle.std.specs.Prelude.{not}
+use Rattle.expressions.specs.declared.tree.Binary.{Binary}
+use Rattle.expressions.specs.declared.tree.Binary.TheVariants as binaries
+use Rattle.expressions.specs.declared.tree.Equality.{Equality}
+use Rattle.expressions.specs.declared.tree.Prefix.{Prefix}
+use Rattle.expressions.specs.declared.tree.Prefix.TheVariants as prefixes
+use Rattle.expressions.specs.declared.tree.Width.{Width}
+use Rattle.meaning.specs.Resolved.{Value, Values}
+use Rattle.meaning.specs.Resolved as source
+use Rattle.values.specs.Items.{Item, Destination, push, operand_of}
+use Rattle.values.specs.Items.{alone, left_of, if_pushed, is_few, value_count, operand_count, operands_count}
+use Rattle.values.specs.Items.{branch_count, many_count, value_items}
+use Rattle.values.specs.Items.{operands_items, branch_items, many_items, also_items}
+use Rattle.values.specs.Items as items
+use Rattle.code.proofs.PrintedLists.{Fine, nothing, first, joined, last, pushed_fine, either_fine, truth_fine}
+use Rattle.code.proofs.PrintedLists.{two_fine}
+
+-- Expressions
+
+pub record ValueFine (v : Value) : Type 0 where
+  pub value : (at : ℕ) (d : Destination) → Fine (value_items at v d)
+  pub branch : (at : ℕ) (when : Bool) (t : ℕ) → Fine (branch_items at v when t)
+
+pub record ValuesFine (vs : Values) : Type 0 where
+  pub all : (at : ℕ) → Fine (operands_items at vs)
+  pub also : (at : ℕ) (op : Equality) (when : Bool) (t : ℕ) → Fine (also_items at op vs when t)
+  pub many : (at : ℕ) (op : Equality) (when : Bool) (t : ℕ) → Fine (many_items at op vs when t)
+
+pub prefixed_fine : (op : Prefix) (v : Value) → ValueFine v → ValueFine (source.prefixed op v)
+prefixed_fine prefixes.Not v f = record {
+  value = λ at d. truth_fine at (branch_count v false) d (λ t. branch_items at v false t) (λ t. f.branch at false t);
+  branch = λ at when t. f.branch at (not when) t;
+}
+prefixed_fine op v f = record {
+  value = λ at d. last (if_pushed (alone v) (value_items at v push) []) _ (pushed_fine (alone v) _ (f.value at push))
+      tt;
+  branch = λ at when t. joined (if_pushed (alone v) (value_items at v push) []) _
+      (pushed_fine (alone v) _ (f.value at push)) (first _ _ tt (first _ _ tt nothing));
+}
+
+pub binary_fine : (op : Binary) (a b : Value) → ValueFine a → ValueFine b → ValueFine (source.binary op a b)
+binary_fine binaries.AndAlso a b f g = record {
+  value = λ at d. truth_fine at (branch_count a false + branch_count b true) d
+      (λ t. branch_items at (source.binary binaries.AndAlso a b) true t)
+      (λ t. joined (branch_items at a false _) _ (f.branch at false _) (g.branch (at + branch_count a false) true t));
+  branch = λ at when t. joined (branch_items at a false _) _ (f.branch at false _)
+      (g.branch (at + branch_count a false) when t);
+}
+binary_fine binaries.OrElse a b f g = record {
+  value = λ at d. truth_fine at (branch_count a true + branch_count b true) d
+      (λ t. branch_items at (source.binary binaries.OrElse a b) true t)
+      (λ t. joined (branch_items at a true _) _ (f.branch at true _) (g.branch (at + branch_count a true) true t));
+  branch = λ at when t. joined (branch_items at a true _) _ (f.branch at true _)
+      (g.branch (at + branch_count a true) when t);
+}
+binary_fine op a b f g = record {
+  value = λ at d. two_fine (left_of a b) (alone b) _ _ _ (f.value at push)
+      (g.value (at + operand_count a (left_of a b)) push) (first _ _ tt nothing);
+  branch = λ at when t. two_fine (left_of a b) (alone b) _ _ _ (f.value at push)
+      (g.value (at + operand_count a (left_of a b)) push) (first _ _ tt (first _ _ tt nothing));
+}
+
+pub compare_fine : (op : _) (a b : Value) → ValueFine a → ValueFine b → ValueFine (source.compare op a b)
+compare_fine op a b f g =
+    let branches : (at : ℕ) (when : Bool) (t : ℕ) → Fine (branch_items at (source.compare op a b) when t) =
+    λ at when t. two_fine (left_of a b) (alone b) _ _ _ (f.value at push)
+    (g.value (at + operand_count a (left_of a b)) push) (first _ _ tt nothing) in
+    record {
+      value = λ at d. truth_fine at (operand_count a (left_of a b) + operand_count b (alone b) + 1) d
+          (λ t. branch_items at (source.compare op a b) true t) (λ t. branches at true t);
+      branch = branches;
+    }
+
+pub equal_fine : (op : Equality) (a : Value) (bs : Values) → ValueFine a → ValuesFine bs
+    → ValueFine (source.equal op a bs)
+equal_fine op a bs f g = record {
+  value = λ at d. either_fine (is_few bs) _ _
+      (truth_fine at (operand_count a (operand_of a bs) + operands_count bs + 1) d (few_items at true) (few at true))
+      (truth_fine at (value_count a push + many_count bs) d (several_items at true) (several at true));
+  branch = λ at when t. either_fine (is_few bs) _ _ (few at when t) (several at when t);
+}
+  where
+    few_items : ℕ → Bool → ℕ → List Item
+    few_items at when t = if_pushed (operand_of a bs) (value_items at a push) []
+        ++ (operands_items (at + operand_count a (operand_of a bs)) bs
+        ++ items.branch items.same (operand_of a bs ∷ items.operands_of bs) (items.equality_when op when) t ∷ [])
+
+    several_items : ℕ → Bool → ℕ → List Item
+    several_items at when t = value_items at a push ++ many_items (at + value_count a push) op bs when t
+
+    few : (at : ℕ) (when : Bool) (t : ℕ) → Fine (few_items at when t)
+    few at when t =
+        joined (if_pushed (operand_of a bs) (value_items at a push) []) _
+        (pushed_fine (operand_of a bs) _ (f.value at push))
+        (last (operands_items (at + operand_count a (operand_of a bs)) bs) _
+        (g.all (at + operand_count a (operand_of a bs))) tt)
+
+    several : (at : ℕ) (when : Bool) (t : ℕ) → Fine (several_items at when t)
+    several at when t = joined (value_items at a push) _ (f.value at push)
+        (g.many (at + value_count a push) op when t)
+
+pub entry_fine : (width : Width) (n : ℕ) (i : Value) → ValueFine i → ValueFine (source.entry width n i)
+entry_fine width n i f = record {
+  value = λ at d. last (if_pushed (alone i) (value_items at i push) []) _ (pushed_fine (alone i) _ (f.value at push))
+      tt;
+  branch = λ at when t. joined (if_pushed (alone i) (value_items at i push) []) _
+      (pushed_fine (alone i) _ (f.value at push)) (first _ _ tt (first _ _ tt nothing));
+}
+
+pub assign_entry_fine : (width : Width) (n : ℕ) (i v : Value) → ValueFine i → ValueFine v
+    → ValueFine (source.assign_entry width n i v)
+assign_entry_fine width n i v f g = record {
+  value = λ at d. two_fine (left_of i v) (alone v) _ _ _ (f.value at push)
+      (g.value (at + operand_count i (left_of i v)) push) (first _ _ tt nothing);
+  branch = λ at when t. two_fine (left_of i v) (alone v) _ _ _ (f.value at push)
+      (g.value (at + operand_count i (left_of i v)) push) (first _ _ tt (first _ _ tt nothing));
+}
