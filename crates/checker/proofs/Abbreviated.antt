@@ -8,7 +8,7 @@ use Rattle.std.specs.Str.{bytes_eq}
 use Rattle.std.proofs.lemmas.Bool.Decides.{nat_tests}
 use Rattle.std.proofs.lemmas.List.{length-map}
 use Rattle.std.proofs.lemmas.List.Elements.{All-nil, All-cons, All-head, All-tail}
-use Rattle.zcore.specs.Alphabets.{is_printable}
+use Rattle.ztext.specs.Alphabets.{is_printable}
 use Rattle.lexer.specs.Printable.{IsPrintable}
 use Rattle.lexer.specs.declared.token.Position.{Position}
 use Rattle.syntax.specs.declared.tree.Text.{Text}

@@ -1,6 +1,6 @@
 -- A program that breaks no rule resolves to one within the limits.
-use Rattle.std.proofs.Common.{◌≡◌, ℕ, ◌+◌, ◌^◌, ◌<◌, ◌≤◌, nat_le, List, [], ◌∷◌, ◌++◌, length, Option, Some, None}
-use Rattle.std.proofs.Common.{cond, refl, sym, subst, length-append, arith}
+use Rattle.std.proofs.Common.{◌≡◌, ℕ, ◌+◌, ◌^◌, ◌<◌, ◌≤◌, nat_le, List, [], ◌∷◌, ◌++◌, length, Option, Some, None, refl}
+use Rattle.std.proofs.Common.{sym, subst, arith}
 use Rattle.std.specs.Prelude.{map}
 use Rattle.std.specs.List.{All}
 use Rattle.std.specs.List.Sorted.{IsStrictlyIncreasing}
@@ -11,25 +11,21 @@ use Rattle.syntax.specs.Tree.{RoutineTree, DirectiveTree, global, constant, arra
 use Rattle.syntax.specs.Tree.{TextTree}
 use Rattle.names.specs.declared.binding.Binding.{Binding}
 use Rattle.names.specs.declared.binding.Binding.TheVariants as bindings
-use Rattle.names.specs.Breaches.{at}
 use Rattle.names.specs.declared.counts.Counts.{Counts}
-use Rattle.names.specs.Names.{Table, in_table, first_table, no_counts, counts_after, with_directive, table_of}
-use Rattle.names.specs.Names.{File, look_up, seen_from}
+use Rattle.names.specs.Names.{Table, in_table, first_table, no_counts, counts_after, with_directive, table_of, File}
+use Rattle.names.specs.Names.{look_up, seen_from}
 use Rattle.names.specs.Keys.{keys_of}
 use Rattle.meaning.specs.Resolved.{ProgramOf}
 use Rattle.meaning.specs.Meaning.{routine_at}
 use Rattle.rules.specs.Statements.{statements_breaches}
 use Rattle.meaning.specs.Around.{outside}
-use Rattle.rules.specs.Literals.{initial_breaches}
 use Rattle.checker.specs.Arrays.{array_breaches, array_bytes}
-use Rattle.checker.specs.Repeated.{has_name}
 use Rattle.checker.specs.Objects.{object_breaches, standing_breaches, parents_of, object_in, placed, all_defaults}
-use Rattle.checker.specs.Programs.{limit_breaches, object_trees, defaults_in, objects_in, objects_of}
-use Rattle.checker.specs.Programs.{twice, locals_breaches, routine_breaches}
-use Rattle.checker.specs.Programs.{directive_breaches, directives_breaches, main_key, first_routine, position_or}
-use Rattle.checker.specs.Programs.{main_breaches, program_breaches, globals_of, arrays_of, resolve_routine}
-use Rattle.checker.specs.Programs.{routines_of, abbreviations_breaches}
-use Rattle.checker.specs.Programs.{routine_number, resolve_with, file_of, resolve_program}
+use Rattle.checker.specs.Programs.{limit_breaches, object_trees, defaults_in, objects_in, objects_of, twice}
+use Rattle.checker.specs.Programs.{locals_breaches, routine_breaches, directive_breaches, directives_breaches, main_key}
+use Rattle.checker.specs.Programs.{first_routine, position_or, main_breaches, program_breaches, globals_of, arrays_of}
+use Rattle.checker.specs.Programs.{resolve_routine, routines_of, abbreviations_breaches, routine_number, resolve_with}
+use Rattle.checker.specs.Programs.{file_of, resolve_program}
 use Rattle.meaning.specs.Objects.{object_at}
 use Rattle.meaning.specs.Accepted.{IsRoutine, IsArray, IsObject, IsAccepted}
 use Rattle.checker.specs.Laws.{AcceptedPrograms}
@@ -37,208 +33,16 @@ use Rattle.checker.proofs.Whole.{characters_of, made}
 use Rattle.checker.proofs.Abbreviated.{texts_few, texts_long}
 use Rattle.names.proofs.Gathered.{keys_ascend}
 use Rattle.names.proofs.SmallKeys.{keys_small}
-use Rattle.checker.proofs.ArrayBytes.{array_short}
+use Rattle.checker.proofs.ArraySizes.{array_short}
 use Rattle.checker.proofs.Kept.{left_empty, right_empty, kept, below}
 use Rattle.checker.proofs.Chains.{placed_many}
 use Rattle.checker.proofs.Placed.{IsAlone, object_within, objects_placed, parents_rise, defaults_many, defaults_small}
-use Rattle.checker.proofs.Unbroken.{IsMeant, statements_within}
-use Rattle.checker.proofs.Unbroken.{statements_stand}
+use Rattle.checker.proofs.MeantNames.{IsMeant}
+use Rattle.checker.proofs.Unbroken.{statements_within}
+use Rattle.checker.proofs.BreaksStand.{statements_stand}
 use Rattle.checker.proofs.Bindings.{attributes_in, AreEntries, file_entries, found_meant, name_meant}
-
--- Counts
-
-locals_few : (before ls : List NameTree) → length before ≤ 15 → locals_breaches before ls ≡ []
-    → length before + length ls ≤ 15
-locals_few before [] few h = omega (arith, few)
-locals_few before (l ∷ ls) few h =
-    let same = cond (has_name before l) (at l.position 22) [] in
-    let many = cond (nat_le 15 (length before)) (at l.position 24) [] in
-    let rest = right_empty same (many ++ locals_breaches (before ++ l ∷ []) ls) h in
-    let room = below 15 (length before)
-    (kept (nat_le 15 (length before)) l.position 24 (left_empty many (locals_breaches (before ++ l ∷ []) ls) rest)) in
-    let longer = length-append before (l ∷ []) in
-    let all = locals_few (before ++ l ∷ []) ls (omega (arith, room, longer))
-    (right_empty many (locals_breaches (before ++ l ∷ []) ls) rest) in
-    omega (arith, all, longer)
-
-globals_few : (file : File) (t : Table) (counts : Counts) (ds : List DirectiveTree) → counts.globals ≤ 232
-    → directives_breaches file.table t counts ds ≡ [] → counts.globals + length (globals_of file ds) ≤ 232
-globals_few file t counts [] few h = omega (arith, few)
-globals_few file t counts (global n v ∷ ds) few h =
-    let d = global n v in
-    let own = directive_breaches file.table t counts d in
-    let rest = directives_breaches file.table (with_directive file.table t counts d) (counts_after counts d) ds in
-    let many = limit_breaches 232 counts.globals n in
-    let here = left_empty many (initial_breaches file.table v)
-    (right_empty (twice t n) (many ++ initial_breaches file.table v) (left_empty own rest h)) in
-    let room = below 232 counts.globals (kept (nat_le 232 counts.globals) (n).position 24 here) in
-    let all = globals_few file (with_directive file.table t counts d) (counts_after counts d) ds (omega (arith, room))
-    (right_empty own rest h) in
-    omega (arith, all)
-globals_few file t counts (constant n v ∷ ds) few h =
-    let d = constant n v in
-    globals_few file (with_directive file.table t counts d) (counts_after counts d) ds few
-    (right_empty (directive_breaches file.table t counts d)
-    (directives_breaches file.table (with_directive file.table t counts d) (counts_after counts d) ds) h)
-globals_few file t counts (array a ∷ ds) few h =
-    let d = array a in
-    globals_few file (with_directive file.table t counts d) (counts_after counts d) ds few
-    (right_empty (directive_breaches file.table t counts d)
-    (directives_breaches file.table (with_directive file.table t counts d) (counts_after counts d) ds) h)
-globals_few file t counts (attribute n ∷ ds) few h =
-    let d = attribute n in
-    globals_few file (with_directive file.table t counts d) (counts_after counts d) ds few
-    (right_empty (directive_breaches file.table t counts d)
-    (directives_breaches file.table (with_directive file.table t counts d) (counts_after counts d) ds) h)
-globals_few file t counts (property n v ∷ ds) few h =
-    let d = property n v in
-    globals_few file (with_directive file.table t counts d) (counts_after counts d) ds few
-    (right_empty (directive_breaches file.table t counts d)
-    (directives_breaches file.table (with_directive file.table t counts d) (counts_after counts d) ds) h)
-globals_few file t counts (object o ∷ ds) few h =
-    let d = object o in
-    globals_few file (with_directive file.table t counts d) (counts_after counts d) ds few
-    (right_empty (directive_breaches file.table t counts d)
-    (directives_breaches file.table (with_directive file.table t counts d) (counts_after counts d) ds) h)
-globals_few file t counts (routine r ∷ ds) few h =
-    let d = routine r in
-    globals_few file (with_directive file.table t counts d) (counts_after counts d) ds few
-    (right_empty (directive_breaches file.table t counts d)
-    (directives_breaches file.table (with_directive file.table t counts d) (counts_after counts d) ds) h)
-
-attributes_few : (file : File) (t : Table) (counts : Counts) (ds : List DirectiveTree) → counts.attributes ≤ 48
-    → directives_breaches file.table t counts ds ≡ [] → counts.attributes + attributes_in ds ≤ 48
-attributes_few file t counts [] few h = omega (arith, few)
-attributes_few file t counts (global n v ∷ ds) few h =
-    let d = global n v in
-    attributes_few file (with_directive file.table t counts d) (counts_after counts d) ds few
-    (right_empty (directive_breaches file.table t counts d)
-    (directives_breaches file.table (with_directive file.table t counts d) (counts_after counts d) ds) h)
-attributes_few file t counts (constant n v ∷ ds) few h =
-    let d = constant n v in
-    attributes_few file (with_directive file.table t counts d) (counts_after counts d) ds few
-    (right_empty (directive_breaches file.table t counts d)
-    (directives_breaches file.table (with_directive file.table t counts d) (counts_after counts d) ds) h)
-attributes_few file t counts (array a ∷ ds) few h =
-    let d = array a in
-    attributes_few file (with_directive file.table t counts d) (counts_after counts d) ds few
-    (right_empty (directive_breaches file.table t counts d)
-    (directives_breaches file.table (with_directive file.table t counts d) (counts_after counts d) ds) h)
-attributes_few file t counts (attribute n ∷ ds) few h =
-    let d = attribute n in
-    let own = directive_breaches file.table t counts d in
-    let rest = directives_breaches file.table (with_directive file.table t counts d) (counts_after counts d) ds in
-    let many = limit_breaches 48 counts.attributes n in
-    let here = right_empty (twice t n) many (left_empty own rest h) in
-    let room = below 48 counts.attributes (kept (nat_le 48 counts.attributes) (n).position 24 here) in
-    let all = attributes_few file (with_directive file.table t counts d) (counts_after counts d) ds (omega (arith, room))
-    (right_empty own rest h) in
-    omega (arith, all)
-attributes_few file t counts (property n v ∷ ds) few h =
-    let d = property n v in
-    attributes_few file (with_directive file.table t counts d) (counts_after counts d) ds few
-    (right_empty (directive_breaches file.table t counts d)
-    (directives_breaches file.table (with_directive file.table t counts d) (counts_after counts d) ds) h)
-attributes_few file t counts (object o ∷ ds) few h =
-    let d = object o in
-    attributes_few file (with_directive file.table t counts d) (counts_after counts d) ds few
-    (right_empty (directive_breaches file.table t counts d)
-    (directives_breaches file.table (with_directive file.table t counts d) (counts_after counts d) ds) h)
-attributes_few file t counts (routine r ∷ ds) few h =
-    let d = routine r in
-    attributes_few file (with_directive file.table t counts d) (counts_after counts d) ds few
-    (right_empty (directive_breaches file.table t counts d)
-    (directives_breaches file.table (with_directive file.table t counts d) (counts_after counts d) ds) h)
-
-properties_few : (file : File) (t : Table) (counts : Counts) (ds : List DirectiveTree) → counts.properties ≤ 62
-    → directives_breaches file.table t counts ds ≡ [] → counts.properties + length (defaults_in file ds) ≤ 62
-properties_few file t counts [] few h = omega (arith, few)
-properties_few file t counts (global n v ∷ ds) few h =
-    let d = global n v in
-    properties_few file (with_directive file.table t counts d) (counts_after counts d) ds few
-    (right_empty (directive_breaches file.table t counts d)
-    (directives_breaches file.table (with_directive file.table t counts d) (counts_after counts d) ds) h)
-properties_few file t counts (constant n v ∷ ds) few h =
-    let d = constant n v in
-    properties_few file (with_directive file.table t counts d) (counts_after counts d) ds few
-    (right_empty (directive_breaches file.table t counts d)
-    (directives_breaches file.table (with_directive file.table t counts d) (counts_after counts d) ds) h)
-properties_few file t counts (array a ∷ ds) few h =
-    let d = array a in
-    properties_few file (with_directive file.table t counts d) (counts_after counts d) ds few
-    (right_empty (directive_breaches file.table t counts d)
-    (directives_breaches file.table (with_directive file.table t counts d) (counts_after counts d) ds) h)
-properties_few file t counts (attribute n ∷ ds) few h =
-    let d = attribute n in
-    properties_few file (with_directive file.table t counts d) (counts_after counts d) ds few
-    (right_empty (directive_breaches file.table t counts d)
-    (directives_breaches file.table (with_directive file.table t counts d) (counts_after counts d) ds) h)
-properties_few file t counts (property n v ∷ ds) few h =
-    let d = property n v in
-    let own = directive_breaches file.table t counts d in
-    let rest = directives_breaches file.table (with_directive file.table t counts d) (counts_after counts d) ds in
-    let many = limit_breaches 62 counts.properties n in
-    let here = left_empty many (initial_breaches file.table v)
-    (right_empty (twice t n) (many ++ initial_breaches file.table v) (left_empty own rest h)) in
-    let room = below 62 counts.properties (kept (nat_le 62 counts.properties) (n).position 24 here) in
-    let all = properties_few file (with_directive file.table t counts d) (counts_after counts d) ds (omega (arith, room))
-    (right_empty own rest h) in
-    omega (arith, all)
-properties_few file t counts (object o ∷ ds) few h =
-    let d = object o in
-    properties_few file (with_directive file.table t counts d) (counts_after counts d) ds few
-    (right_empty (directive_breaches file.table t counts d)
-    (directives_breaches file.table (with_directive file.table t counts d) (counts_after counts d) ds) h)
-properties_few file t counts (routine r ∷ ds) few h =
-    let d = routine r in
-    properties_few file (with_directive file.table t counts d) (counts_after counts d) ds few
-    (right_empty (directive_breaches file.table t counts d)
-    (directives_breaches file.table (with_directive file.table t counts d) (counts_after counts d) ds) h)
-
-objects_few : (file : File) (t : Table) (counts : Counts) (ds : List DirectiveTree) → counts.objects ≤ 2000
-    → directives_breaches file.table t counts ds ≡ [] → counts.objects + length (objects_in file ds) ≤ 2000
-objects_few file t counts [] few h = omega (arith, few)
-objects_few file t counts (global n v ∷ ds) few h =
-    let d = global n v in
-    objects_few file (with_directive file.table t counts d) (counts_after counts d) ds few
-    (right_empty (directive_breaches file.table t counts d)
-    (directives_breaches file.table (with_directive file.table t counts d) (counts_after counts d) ds) h)
-objects_few file t counts (constant n v ∷ ds) few h =
-    let d = constant n v in
-    objects_few file (with_directive file.table t counts d) (counts_after counts d) ds few
-    (right_empty (directive_breaches file.table t counts d)
-    (directives_breaches file.table (with_directive file.table t counts d) (counts_after counts d) ds) h)
-objects_few file t counts (array a ∷ ds) few h =
-    let d = array a in
-    objects_few file (with_directive file.table t counts d) (counts_after counts d) ds few
-    (right_empty (directive_breaches file.table t counts d)
-    (directives_breaches file.table (with_directive file.table t counts d) (counts_after counts d) ds) h)
-objects_few file t counts (attribute n ∷ ds) few h =
-    let d = attribute n in
-    objects_few file (with_directive file.table t counts d) (counts_after counts d) ds few
-    (right_empty (directive_breaches file.table t counts d)
-    (directives_breaches file.table (with_directive file.table t counts d) (counts_after counts d) ds) h)
-objects_few file t counts (property n v ∷ ds) few h =
-    let d = property n v in
-    objects_few file (with_directive file.table t counts d) (counts_after counts d) ds few
-    (right_empty (directive_breaches file.table t counts d)
-    (directives_breaches file.table (with_directive file.table t counts d) (counts_after counts d) ds) h)
-objects_few file t counts (object o ∷ ds) few h =
-    let d = object o in
-    let own = directive_breaches file.table t counts d in
-    let rest = directives_breaches file.table (with_directive file.table t counts d) (counts_after counts d) ds in
-    let many = limit_breaches 2000 counts.objects o.name in
-    let here = left_empty many (object_breaches file.table o)
-    (right_empty (twice t o.name) (many ++ object_breaches file.table o) (left_empty own rest h)) in
-    let room = below 2000 counts.objects (kept (nat_le 2000 counts.objects) (o.name).position 24 here) in
-    let all = objects_few file (with_directive file.table t counts d) (counts_after counts d) ds (omega (arith, room))
-    (right_empty own rest h) in
-    omega (arith, all)
-objects_few file t counts (routine r ∷ ds) few h =
-    let d = routine r in
-    objects_few file (with_directive file.table t counts d) (counts_after counts d) ds few
-    (right_empty (directive_breaches file.table t counts d)
-    (directives_breaches file.table (with_directive file.table t counts d) (counts_after counts d) ds) h)
+use Rattle.checker.proofs.FewDirectives.{behind_kept, locals_few, globals_few, attributes_few, properties_few}
+use Rattle.checker.proofs.FewDirectives.{objects_few}
 
 -- Arrays
 
@@ -248,13 +52,11 @@ arrays_within file t counts [] h = All-nil IsArray
 arrays_within file t counts (global n v ∷ ds) h =
     let d = global n v in
     arrays_within file (with_directive file.table t counts d) (counts_after counts d) ds
-    (right_empty (directive_breaches file.table t counts d)
-    (directives_breaches file.table (with_directive file.table t counts d) (counts_after counts d) ds) h)
+    (behind_kept file t counts d ds h)
 arrays_within file t counts (constant n v ∷ ds) h =
     let d = constant n v in
     arrays_within file (with_directive file.table t counts d) (counts_after counts d) ds
-    (right_empty (directive_breaches file.table t counts d)
-    (directives_breaches file.table (with_directive file.table t counts d) (counts_after counts d) ds) h)
+    (behind_kept file t counts d ds h)
 arrays_within file t counts (array a ∷ ds) h =
     let d = array a in
     let own = directive_breaches file.table t counts d in
@@ -265,23 +67,19 @@ arrays_within file t counts (array a ∷ ds) h =
 arrays_within file t counts (attribute n ∷ ds) h =
     let d = attribute n in
     arrays_within file (with_directive file.table t counts d) (counts_after counts d) ds
-    (right_empty (directive_breaches file.table t counts d)
-    (directives_breaches file.table (with_directive file.table t counts d) (counts_after counts d) ds) h)
+    (behind_kept file t counts d ds h)
 arrays_within file t counts (property n v ∷ ds) h =
     let d = property n v in
     arrays_within file (with_directive file.table t counts d) (counts_after counts d) ds
-    (right_empty (directive_breaches file.table t counts d)
-    (directives_breaches file.table (with_directive file.table t counts d) (counts_after counts d) ds) h)
+    (behind_kept file t counts d ds h)
 arrays_within file t counts (object o ∷ ds) h =
     let d = object o in
     arrays_within file (with_directive file.table t counts d) (counts_after counts d) ds
-    (right_empty (directive_breaches file.table t counts d)
-    (directives_breaches file.table (with_directive file.table t counts d) (counts_after counts d) ds) h)
+    (behind_kept file t counts d ds h)
 arrays_within file t counts (routine r ∷ ds) h =
     let d = routine r in
     arrays_within file (with_directive file.table t counts d) (counts_after counts d) ds
-    (right_empty (directive_breaches file.table t counts d)
-    (directives_breaches file.table (with_directive file.table t counts d) (counts_after counts d) ds) h)
+    (behind_kept file t counts d ds h)
 
 -- Routines
 
@@ -294,7 +92,8 @@ module _ (p : ProgramOf) (file : File) (attributes properties : ℕ) (few : attr
       let brief = locals_few [] r.locals (omega arith) (left_empty names body h) in (
         omega (arith, brief),
         statements_within p (length r.locals) (seen_from file r.locals)
-            (λ name. name_meant p attributes properties few short file.table r.locals name entries) outside r.body (right_empty names body h),
+            (λ name. name_meant p attributes properties few short file.table r.locals name entries) outside r.body
+            (right_empty names body h),
         statements_stand (seen_from file r.locals) outside r.body (right_empty names body h),
       )
 
@@ -304,33 +103,27 @@ module _ (p : ProgramOf) (file : File) (attributes properties : ℕ) (few : attr
   routines_within t counts (global n v ∷ ds) h =
       let d = global n v in
       routines_within (with_directive file.table t counts d) (counts_after counts d) ds
-      (right_empty (directive_breaches file.table t counts d)
-      (directives_breaches file.table (with_directive file.table t counts d) (counts_after counts d) ds) h)
+      (behind_kept file t counts d ds h)
   routines_within t counts (constant n v ∷ ds) h =
       let d = constant n v in
       routines_within (with_directive file.table t counts d) (counts_after counts d) ds
-      (right_empty (directive_breaches file.table t counts d)
-      (directives_breaches file.table (with_directive file.table t counts d) (counts_after counts d) ds) h)
+      (behind_kept file t counts d ds h)
   routines_within t counts (array a ∷ ds) h =
       let d = array a in
       routines_within (with_directive file.table t counts d) (counts_after counts d) ds
-      (right_empty (directive_breaches file.table t counts d)
-      (directives_breaches file.table (with_directive file.table t counts d) (counts_after counts d) ds) h)
+      (behind_kept file t counts d ds h)
   routines_within t counts (attribute n ∷ ds) h =
       let d = attribute n in
       routines_within (with_directive file.table t counts d) (counts_after counts d) ds
-      (right_empty (directive_breaches file.table t counts d)
-      (directives_breaches file.table (with_directive file.table t counts d) (counts_after counts d) ds) h)
+      (behind_kept file t counts d ds h)
   routines_within t counts (property n v ∷ ds) h =
       let d = property n v in
       routines_within (with_directive file.table t counts d) (counts_after counts d) ds
-      (right_empty (directive_breaches file.table t counts d)
-      (directives_breaches file.table (with_directive file.table t counts d) (counts_after counts d) ds) h)
+      (behind_kept file t counts d ds h)
   routines_within t counts (object o ∷ ds) h =
       let d = object o in
       routines_within (with_directive file.table t counts d) (counts_after counts d) ds
-      (right_empty (directive_breaches file.table t counts d)
-      (directives_breaches file.table (with_directive file.table t counts d) (counts_after counts d) ds) h)
+      (behind_kept file t counts d ds h)
   routines_within t counts (routine r ∷ ds) h =
       let d = routine r in
       let own = directive_breaches file.table t counts d in
@@ -347,28 +140,23 @@ module _ (p : ProgramOf) (file : File) (attributes properties : ℕ) (few : attr
   objects_within t counts (global n v ∷ ds) h =
       let d = global n v in
       objects_within (with_directive file.table t counts d) (counts_after counts d) ds
-      (right_empty (directive_breaches file.table t counts d)
-      (directives_breaches file.table (with_directive file.table t counts d) (counts_after counts d) ds) h)
+      (behind_kept file t counts d ds h)
   objects_within t counts (constant n v ∷ ds) h =
       let d = constant n v in
       objects_within (with_directive file.table t counts d) (counts_after counts d) ds
-      (right_empty (directive_breaches file.table t counts d)
-      (directives_breaches file.table (with_directive file.table t counts d) (counts_after counts d) ds) h)
+      (behind_kept file t counts d ds h)
   objects_within t counts (array a ∷ ds) h =
       let d = array a in
       objects_within (with_directive file.table t counts d) (counts_after counts d) ds
-      (right_empty (directive_breaches file.table t counts d)
-      (directives_breaches file.table (with_directive file.table t counts d) (counts_after counts d) ds) h)
+      (behind_kept file t counts d ds h)
   objects_within t counts (attribute n ∷ ds) h =
       let d = attribute n in
       objects_within (with_directive file.table t counts d) (counts_after counts d) ds
-      (right_empty (directive_breaches file.table t counts d)
-      (directives_breaches file.table (with_directive file.table t counts d) (counts_after counts d) ds) h)
+      (behind_kept file t counts d ds h)
   objects_within t counts (property n v ∷ ds) h =
       let d = property n v in
       objects_within (with_directive file.table t counts d) (counts_after counts d) ds
-      (right_empty (directive_breaches file.table t counts d)
-      (directives_breaches file.table (with_directive file.table t counts d) (counts_after counts d) ds) h)
+      (behind_kept file t counts d ds h)
   objects_within t counts (object o ∷ ds) h =
       let d = object o in
       let own = directive_breaches file.table t counts d in
@@ -382,8 +170,7 @@ module _ (p : ProgramOf) (file : File) (attributes properties : ℕ) (few : attr
   objects_within t counts (routine r ∷ ds) h =
       let d = routine r in
       objects_within (with_directive file.table t counts d) (counts_after counts d) ds
-      (right_empty (directive_breaches file.table t counts d)
-      (directives_breaches file.table (with_directive file.table t counts d) (counts_after counts d) ds) h)
+      (behind_kept file t counts d ds h)
 
   -- Main
 
@@ -439,7 +226,8 @@ accepted ds ts end name keys file small ascending is h =
     let many = objects_few file first_table no_counts ds (omega arith) own in
     let entries : AreEntries (length p.globals) (length p.arrays) attributes properties p.routines file.table = subst
     (λ (t : Table). AreEntries (length p.globals) (length p.arrays) attributes properties p.routines t) (sym is)
-    (file_entries (length p.globals) (length p.arrays) attributes properties p.routines file ds refl refl refl refl refl) in
+    (file_entries (length p.globals)
+    (length p.arrays) attributes properties p.routines file ds refl refl refl refl refl) in
     let parents : List ℕ = parents_of file.table (object_trees ds) in
     let as_many = placed_many parents (objects_in file ds) in
     let kept_main = main_within p file attributes properties few short entries end name (in_table file.table main_key)
@@ -465,5 +253,6 @@ accepted ds ts end name keys file small ascending is h =
 
 pub accepted_programs : AcceptedPrograms
 unfolding program_breaches resolve_program resolve_with file_of
-accepted_programs p h = accepted p.directives p.abbreviations p.end (first_routine p.directives main_key) (keys_of p.words) (file_of p)
+accepted_programs p h = accepted p.directives p.abbreviations p.end (first_routine p.directives main_key)
+    (keys_of p.words) (file_of p)
     (keys_small p.words) (keys_ascend p.words) refl h

@@ -12,7 +12,7 @@ use Rattle.names.specs.Names.{counts_after, with_directive, table_from, table_of
 use Rattle.meaning.specs.Resolved.{RoutineOf, ProgramOf}
 use Rattle.meaning.specs.Meaning.{routine_at}
 use Rattle.checker.specs.Programs.{globals_of, arrays_of, defaults_in, resolve_routine, routines_of}
-use Rattle.checker.proofs.Unbroken.{IsMeant}
+use Rattle.checker.proofs.MeantNames.{IsMeant}
 
 routine_here : (front : List RoutineOf) (r : RoutineOf) (rest : List RoutineOf)
     → routine_at (front ++ r ∷ rest) (length front) ≡ r
@@ -84,7 +84,8 @@ module _ (globals arrays attributes properties : ℕ) (routines : List RoutineOf
   table_entries file whole t counts front (property name v ∷ ds) h g a b p n r =
       let d = property name v in
       table_entries file whole (with_directive whole t counts d) (counts_after counts d) front ds
-      (name_more t name (bindings.Property (counts.properties + 2)) h (omega arith, omega (arith, p))) g a b (omega (arith, p)) n r
+      (name_more t name (bindings.Property (counts.properties + 2)) h (omega arith, omega (arith, p))) g a b
+      (omega (arith, p)) n r
   table_entries file whole t counts front (object x ∷ ds) h g a b p n r =
       let d = object x in
       table_entries file whole (with_directive whole t counts d) (counts_after counts d) front ds
@@ -109,7 +110,8 @@ module _ (globals arrays attributes properties : ℕ) (routines : List RoutineOf
   unfolding table_of
   file_entries file ds g a b p r =
       table_entries file (table_from [] first_table no_counts ds) first_table no_counts [] ds
-      ((omega arith, omega arith), tt) (omega (arith, g)) (omega (arith, a)) (omega (arith, b)) (omega (arith, p)) refl r
+      ((omega arith, omega arith), tt) (omega (arith, g)) (omega (arith, a)) (omega (arith, b))
+      (omega (arith, p)) refl r
 
 -- What is found
 
@@ -127,7 +129,8 @@ locals_below limit n [] key h = tt
 locals_below limit n (l ∷ ls) key h = below_either (same_key (key_of l.text) key) n limit (local_from (n + 1) ls key)
     (omega (arith, h)) (locals_below limit (n + 1) ls key (omega (arith, h)))
 
-module _ (p : ProgramOf) (attributes properties : ℕ) (few : attributes ≤ 48) (short : properties ≤ 62) (locals : ℕ) where
+module _ (p : ProgramOf) (attributes properties : ℕ) (few : attributes ≤ 48) (short : properties ≤ 62)
+    (locals : ℕ) where
   abbrev AreNames : Table → Type 0
   AreNames t = AreEntries (length p.globals) (length p.arrays) attributes properties p.routines t
 

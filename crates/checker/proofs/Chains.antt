@@ -1,6 +1,7 @@
 -- Objects that are open, and the parents of objects.
 use Rattle.std.proofs.Common.{◌≡◌, ◌==◌, ◌<◌, ◌≤◌, ◌+◌, ◌-◌, ℕ, zero, suc, nat_lt, Bool, true, false, cond, List, []}
-use Rattle.std.proofs.Common.{◌∷◌, ◌++◌, length, take, drop, slice_index_or, slice_set, append_assoc, nat_le, Option, refl, sym, ap, ◌∙◌, arith}
+use Rattle.std.proofs.Common.{◌∷◌, ◌++◌, length, take, drop, slice_index_or, slice_set, append_assoc, nat_le, Option}
+use Rattle.std.proofs.Common.{refl, sym, ap, ◌∙◌, arith}
 use Rattle.std.specs.Prelude.{◌&&◌, ◌%◌, map}
 use Rattle.std.proofs.lemmas.Bool.Decides.{nat_tests}
 use Rattle.syntax.specs.declared.tree.Object.{Object}
@@ -18,6 +19,7 @@ use Rattle.meaning.specs.Objects.{ObjectOf}
 use Rattle.checker.specs.Programs.{object_trees, objects_in}
 use Rattle.checker.specs.Objects.{Open, open_to, opened, above_of, stand_breaches, standing_from, parent_number}
 use Rattle.checker.specs.Objects.{parents_from, placed, exactly, object_in}
+use Rattle.checker.proofs.Mapped.{nothing_more, map_push}
 
 -- those that stay open come first
 pub open_taken : (n : ℕ) (chain : Open) → take (length (open_to n chain)) chain ≡ open_to n chain
@@ -35,7 +37,8 @@ one_less m n = grind (arith, nat_tests)
 -- how many stay open, one after another
 
 open_from : (n : ℕ) (xs : Open) (i : ℕ) (d : ℕ × ℕ) → i < length xs
-    → length (open_to n (drop i xs)) ≡ cond (nat_lt (slice_index_or xs i d).0 n) (suc (length (open_to n (drop (suc i) xs)))) 0
+    → length (open_to n (drop i xs))
+    ≡ cond (nat_lt (slice_index_or xs i d).0 n) (suc (length (open_to n (drop (suc i) xs)))) 0
 open_from n [] i d lt = absurd (omega (arith, lt))
 open_from n (x ∷ xs) zero d lt = go (nat_lt x.0 n)
   where
@@ -62,7 +65,8 @@ open_here n xs i whole d lt is h =
     ∙ ap (λ (b : Bool). cond b (suc (length (open_to n (drop (suc i) xs)))) 0) c in
     omega (arith, e, h)
 
-pub open_end : (n : ℕ) (xs : Open) (i whole : ℕ) → i ≡ length xs → i + length (open_to n (drop i xs)) ≡ whole → i ≡ whole
+pub open_end : (n : ℕ) (xs : Open) (i whole : ℕ) → i ≡ length xs → i + length (open_to n (drop i xs)) ≡ whole
+    → i ≡ whole
 open_end n xs i whole end h =
     let e : length (open_to n (drop i xs)) ≡ 0 =
     ap (λ (z : Open). length (open_to n z)) (drop_end xs i (omega (arith, end))) in
@@ -70,35 +74,19 @@ open_end n xs i whole end h =
 
 -- The objects of directives
 
--- what a directive adds that is one of them, and what one that is not
+-- what a directive adds that is one of them
 
 trees_one : (d : Directive) (ds : List Directive) (o : Object) → d ≡ directives.Object o
     → object_trees (map directive_tree (d ∷ ds)) ≡ object_tree o ∷ object_trees (map directive_tree ds)
 trees_one d ds o is = rw is refl
 
-trees_other : (d : Directive) (ds : List Directive) → ((o : Object) → d ≡ directives.Object o → ⊥)
-    → object_trees (map directive_tree (d ∷ ds)) ≡ object_trees (map directive_tree ds)
-trees_other (directives.Global n v) ds h = refl
-trees_other (directives.Constant n v) ds h = refl
-trees_other (directives.Array a) ds h = refl
-trees_other (directives.Attribute n) ds h = refl
-trees_other (directives.Property n v) ds h = refl
-trees_other (directives.Object o) ds h = absurd (h o refl)
-trees_other (directives.Routine r) ds h = refl
-
 pub trees_next : (ds : List Directive) (i : ℕ) (x : Directive) (o : Object) → i < length ds → x ≡ slice_index_or ds i x
     → x ≡ directives.Object o
-    → object_trees (map directive_tree (drop i ds)) ≡ object_tree o ∷ object_trees (map directive_tree (drop (i + 1) ds))
+    → object_trees (map directive_tree (drop i ds))
+    ≡ object_tree o ∷ object_trees (map directive_tree (drop (i + 1) ds))
 trees_next ds i x o lt is one =
     ap (λ (z : List Directive). object_trees (map directive_tree z)) (drop_here ds i x lt is)
     ∙ trees_one x (drop (i + 1) ds) o one
-
-pub trees_skip : (ds : List Directive) (i : ℕ) (x : Directive) → i < length ds → x ≡ slice_index_or ds i x
-    → ((o : Object) → x ≡ directives.Object o → ⊥)
-    → object_trees (map directive_tree (drop i ds)) ≡ object_trees (map directive_tree (drop (i + 1) ds))
-trees_skip ds i x lt is other =
-    ap (λ (z : List Directive). object_trees (map directive_tree z)) (drop_here ds i x lt is)
-    ∙ trees_other x (drop (i + 1) ds) other
 
 pub trees_end : (ds : List Directive) (i : ℕ) → length ds ≤ i → object_trees (map directive_tree (drop i ds)) ≡ []
 trees_end ds i end = ap (λ (z : List Directive). object_trees (map directive_tree z)) (drop_end ds i end)
@@ -110,21 +98,6 @@ made_one : (file : File) (d : Directive) (ds : List Directive) (o : Object) → 
     ≡ object_in file (object_tree o) ∷ objects_in file (map directive_tree ds)
 made_one file d ds o is = rw is refl
 
-made_other : (file : File) (d : Directive) (ds : List Directive) → ((o : Object) → d ≡ directives.Object o → ⊥)
-    → objects_in file (map directive_tree (d ∷ ds)) ≡ objects_in file (map directive_tree ds)
-made_other file (directives.Global n v) ds h = refl
-made_other file (directives.Constant n v) ds h = refl
-made_other file (directives.Array a) ds h = refl
-made_other file (directives.Attribute n) ds h = refl
-made_other file (directives.Property n v) ds h = refl
-made_other file (directives.Object o) ds h = absurd (h o refl)
-made_other file (directives.Routine r) ds h = refl
-
-made_push : (xs : List CheckedObject) (x : CheckedObject)
-    → map object_of (xs ++ x ∷ []) ≡ map object_of xs ++ object_of x ∷ []
-made_push [] x = refl
-made_push (y ∷ ys) x = ap (λ (r : List ObjectOf). object_of y ∷ r) (made_push ys x)
-
 pub made_next : (file : File) (ds : List Directive) (i : ℕ) (x : Directive) (o : Object) (old new : List CheckedObject)
     (c : CheckedObject) (all : List ObjectOf) → i < length ds → x ≡ slice_index_or ds i x → x ≡ directives.Object o
     → new ≡ old ++ c ∷ [] → object_of c ≡ object_in file (object_tree o)
@@ -133,36 +106,26 @@ pub made_next : (file : File) (ds : List Directive) (i : ℕ) (x : Directive) (o
 made_next file ds i x o old new c all lt is one more value h =
     let rest : List ObjectOf = objects_in file (map directive_tree (drop (i + 1) ds)) in
     ap (λ (z : List CheckedObject). map object_of z ++ rest) more
-    ∙ ap (λ (z : List ObjectOf). z ++ rest) (made_push old c)
+    ∙ ap (λ (z : List ObjectOf). z ++ rest) (map_push object_of old c)
     ∙ append_assoc (map object_of old) (object_of c ∷ []) rest
     ∙ ap (λ (y : ObjectOf). map object_of old ++ y ∷ rest) value
     ∙ ap (λ (z : List ObjectOf). map object_of old ++ z) (sym (made_one file x (drop (i + 1) ds) o one))
     ∙ ap (λ (z : List Directive). map object_of old ++ objects_in file (map directive_tree z))
     (sym (drop_here ds i x lt is)) ∙ h
 
-pub made_skip : (file : File) (ds : List Directive) (i : ℕ) (x : Directive) (old : List CheckedObject)
-    (all : List ObjectOf) → i < length ds → x ≡ slice_index_or ds i x
-    → ((o : Object) → x ≡ directives.Object o → ⊥)
-    → map object_of old ++ objects_in file (map directive_tree (drop i ds)) ≡ all
-    → map object_of old ++ objects_in file (map directive_tree (drop (i + 1) ds)) ≡ all
-made_skip file ds i x old all lt is other h =
-    ap (λ (z : List ObjectOf). map object_of old ++ z) (sym (made_other file x (drop (i + 1) ds) other))
-    ∙ ap (λ (z : List Directive). map object_of old ++ objects_in file (map directive_tree z))
-    (sym (drop_here ds i x lt is)) ∙ h
-
-nothing_made : (xs : List ObjectOf) → xs ≡ xs ++ []
-nothing_made [] = refl
-nothing_made (x ∷ xs) = ap (λ (r : List ObjectOf). x ∷ r) (nothing_made xs)
-
 pub made_end : (file : File) (ds : List Directive) (i : ℕ) (old : List CheckedObject) (all : List ObjectOf)
     → length ds ≤ i → map object_of old ++ objects_in file (map directive_tree (drop i ds)) ≡ all
     → map object_of old ≡ all
 made_end file ds i old all end h =
-    nothing_made (map object_of old)
+    nothing_more (map object_of old)
     ∙ ap (λ (z : List Directive). map object_of old ++ objects_in file (map directive_tree z)) (sym (drop_end ds i end))
     ∙ h
 
 -- Parents
+
+length_push : (xs : List ℕ) (x : ℕ) → length (xs ++ x ∷ []) ≡ length xs + 1
+length_push [] x = refl
+length_push (y ∷ ys) x = let h = length_push ys x in omega (arith, h)
 
 pub parents_next : (whole : Table) (chain next : Open) (old new all : List ℕ) (p n : ℕ) (o : ObjectTree)
     (os rest : List ObjectTree) → os ≡ o ∷ rest → n ≡ length old → new ≡ old ++ p ∷ []
@@ -179,24 +142,6 @@ parents_next whole chain next old new all p n o os rest is many more value after
     ∙ ap (λ (c : Open). old ++ parent_number whole (above_of (length o.arrows) chain) o.parent % 65536
     ∷ parents_from whole c (length old + 1) rest) (after ∙ ap (λ (k : ℕ). opened (length o.arrows) k chain) many)
     ∙ ap (λ (z : List ObjectTree). old ++ parents_from whole chain (length old) z) (sym is) ∙ h
-  where
-    length_push : (xs : List ℕ) (x : ℕ) → length (xs ++ x ∷ []) ≡ length xs + 1
-    length_push [] x = refl
-    length_push (y ∷ ys) x = let h = length_push ys x in omega (arith, h)
-
-pub parents_skip : (whole : Table) (chain : Open) (old all : List ℕ) (os rest : List ObjectTree) → os ≡ rest
-    → old ++ parents_from whole chain (length old) os ≡ all → old ++ parents_from whole chain (length old) rest ≡ all
-parents_skip whole chain old all os rest is h =
-    ap (λ (z : List ObjectTree). old ++ parents_from whole chain (length old) z) (sym is) ∙ h
-
-nothing_more : (xs : List ℕ) → xs ≡ xs ++ []
-nothing_more [] = refl
-nothing_more (x ∷ xs) = ap (λ r. x ∷ r) (nothing_more xs)
-
-pub parents_end : (whole : Table) (chain : Open) (old all : List ℕ) (os : List ObjectTree) → os ≡ []
-    → old ++ parents_from whole chain (length old) os ≡ all → old ≡ all
-parents_end whole chain old all os is h =
-    nothing_more old ∙ ap (λ (z : List ObjectTree). old ++ parents_from whole chain (length old) z) (sym is) ∙ h
 
 pub standing_next : (whole : Table) (chain next : Open) (old new : List ℕ) (p n : ℕ) (m q all : Option Breach)
     (o : ObjectTree) (os rest : List ObjectTree) → os ≡ o ∷ rest → n ≡ length old → new ≡ old ++ p ∷ []
@@ -212,15 +157,6 @@ standing_next whole chain next old new p n m q all o os rest is many more after 
     ∙ sym (noted_append m (stand_breaches whole chain n o) tail)
     ∙ ap (λ (z : List ObjectTree). noted m (standing_from whole chain n z)) (sym is)
     ∙ ap (λ (k : ℕ). noted m (standing_from whole chain k os)) many ∙ h
-  where
-    length_push : (xs : List ℕ) (x : ℕ) → length (xs ++ x ∷ []) ≡ length xs + 1
-    length_push [] x = refl
-    length_push (y ∷ ys) x = let h = length_push ys x in omega (arith, h)
-
-pub standing_skip : (whole : Table) (chain : Open) (n : ℕ) (m all : Option Breach) (os rest : List ObjectTree)
-    → os ≡ rest → noted m (standing_from whole chain n os) ≡ all → noted m (standing_from whole chain n rest) ≡ all
-standing_skip whole chain n m all os rest is h =
-    ap (λ (z : List ObjectTree). noted m (standing_from whole chain n z)) (sym is) ∙ h
 
 pub standing_end : (whole : Table) (chain : Open) (n : ℕ) (m all : Option Breach) (os : List ObjectTree) → os ≡ []
     → noted m (standing_from whole chain n os) ≡ all → m ≡ all
@@ -267,7 +203,8 @@ place_all : (ps : List ℕ) (xs : List CheckedObject) (i : ℕ) → length xs �
 place_all ps [] zero h = refl
 place_all ps [] (suc i) h = refl
 place_all ps (x ∷ xs) zero h = absurd (omega (arith, h))
-place_all ps (x ∷ xs) (suc i) h = ap (λ (r : List ObjectOf). object_of x ∷ r) (place_all (tail_of ps) xs i (omega (arith, h)))
+place_all ps (x ∷ xs) (suc i) h = ap (λ (r : List ObjectOf). object_of x ∷ r)
+    (place_all (tail_of ps) xs i (omega (arith, h)))
 
 pub place_end : (ps : List ℕ) (xs : List CheckedObject) (i : ℕ) (all : List ObjectOf) → length xs ≤ i
     → placing i ps xs ≡ all → map object_of xs ≡ all

@@ -1,6 +1,6 @@
 -- Directives, one at a time.
-use Rattle.std.proofs.Common.{◌≡◌, ℕ, ◌+◌, ◌%◌, ◌<◌, ◌≤◌, List, [], ◌∷◌, ◌++◌, length, drop, slice_index_or}
-use Rattle.std.proofs.Common.{Option, append_assoc, refl, sym, subst, ap, ◌∙◌}
+use Rattle.std.proofs.Common.{◌≡◌, ℕ, ◌+◌, ◌%◌, ◌<◌, ◌≤◌, List, [], ◌∷◌, ◌++◌, length, drop, slice_index_or, Option}
+use Rattle.std.proofs.Common.{refl, sym, subst, ap, ◌∙◌}
 use Rattle.std.specs.Prelude.{map}
 use Rattle.std.specs.List.{concat}
 use Rattle.std.specs.Global.{Vec}
@@ -8,8 +8,7 @@ use Rattle.syntax.specs.declared.tree.Directive.{Directive}
 use Rattle.expressions.specs.Tree.{NameTree}
 use Rattle.statements.specs.Tree.{LiteralTree}
 use Rattle.syntax.specs.Tree.{ArrayTree, ObjectTree, RoutineTree, DirectiveTree, global, constant, array, attribute}
-use Rattle.syntax.specs.Tree.{property, object, routine}
-use Rattle.syntax.specs.Tree.{directive_tree}
+use Rattle.syntax.specs.Tree.{property, object, routine, directive_tree}
 use Rattle.meaning.specs.declared.arrays.Arrays.{Arrays}
 use Rattle.names.specs.declared.breach.Breach.{Breach}
 use Rattle.meaning.specs.declared.checked.CheckedObject.{CheckedObject}
@@ -23,90 +22,14 @@ use Rattle.names.proofs.Noted.{noted_append}
 use Rattle.meaning.specs.Objects.{ObjectOf}
 use Rattle.meaning.specs.Resolved.{RoutineOf, object_of, routine_of, title_of}
 use Rattle.checker.specs.Arrays.{array_bytes}
-use Rattle.rules.specs.Literals.{initial_value}
+use Rattle.value_rules.specs.Literals.{initial_value}
 use Rattle.checker.specs.Found.{IsArrayAdded, IsAdded, IsAdding}
 use Rattle.checker.specs.Objects.{object_in}
-use Rattle.checker.specs.Programs.{globals_of, arrays_of, defaults_in, objects_in, routines_of, resolve_routine, routine_trees, title}
-use Rattle.checker.specs.Programs.{directive_breaches, directives_breaches}
-
-pub nothing_more : {A : Type 0} (xs : List A) → xs ≡ xs ++ []
-nothing_more [] = refl
-nothing_more (x ∷ xs) = ap (λ r. x ∷ r) (nothing_more xs)
-
-map_push : {A B : Type 0} (f : A → B) (xs : List A) (x : A) → map f (xs ++ x ∷ []) ≡ map f xs ++ f x ∷ []
-map_push f [] x = refl
-map_push f (y ∷ ys) x = ap (λ r. f y ∷ r) (map_push f ys x)
-
-globals_more : (file : File) (d : DirectiveTree) (ds : List DirectiveTree)
-    → globals_of file (d ∷ ds) ≡ globals_of file (d ∷ []) ++ globals_of file ds
-globals_more file (global n v) ds = refl
-globals_more file (constant n v) ds = refl
-globals_more file (attribute n) ds = refl
-globals_more file (property n v) ds = refl
-globals_more file (object o) ds = refl
-globals_more file (array a) ds = refl
-globals_more file (routine r) ds = refl
-
-routines_more : (file : File) (d : DirectiveTree) (ds : List DirectiveTree)
-    → routines_of file (d ∷ ds) ≡ routines_of file (d ∷ []) ++ routines_of file ds
-routines_more file (global n v) ds = refl
-routines_more file (constant n v) ds = refl
-routines_more file (attribute n) ds = refl
-routines_more file (property n v) ds = refl
-routines_more file (object o) ds = refl
-routines_more file (array a) ds = refl
-routines_more file (routine r) ds = refl
-
-titles_more : (d : DirectiveTree) (ds : List DirectiveTree)
-    → map title (routine_trees (d ∷ ds)) ≡ map title (routine_trees (d ∷ [])) ++ map title (routine_trees ds)
-titles_more (global n v) ds = refl
-titles_more (constant n v) ds = refl
-titles_more (attribute n) ds = refl
-titles_more (property n v) ds = refl
-titles_more (object o) ds = refl
-titles_more (array a) ds = refl
-titles_more (routine r) ds = refl
-
-pub bytes_more : (file : File) (d : DirectiveTree) (ds : List DirectiveTree)
-    → concat (arrays_of file (d ∷ ds)) ≡ concat (arrays_of file (d ∷ [])) ++ concat (arrays_of file ds)
-bytes_more file (global n v) ds = refl
-bytes_more file (constant n v) ds = refl
-bytes_more file (attribute n) ds = refl
-bytes_more file (property n v) ds = refl
-bytes_more file (object o) ds = refl
-bytes_more file (array a) ds = ap (λ (x : List ℕ). x ++ concat (arrays_of file ds))
-    (nothing_more (array_bytes file a))
-bytes_more file (routine r) ds = refl
-
-sizes_more : (file : File) (d : DirectiveTree) (ds : List DirectiveTree)
-    → map length (arrays_of file (d ∷ ds)) ≡ map length (arrays_of file (d ∷ [])) ++ map length (arrays_of file ds)
-sizes_more file (global n v) ds = refl
-sizes_more file (constant n v) ds = refl
-sizes_more file (attribute n) ds = refl
-sizes_more file (property n v) ds = refl
-sizes_more file (object o) ds = refl
-sizes_more file (array a) ds = refl
-sizes_more file (routine r) ds = refl
-
-defaults_more : (file : File) (d : DirectiveTree) (ds : List DirectiveTree)
-    → defaults_in file (d ∷ ds) ≡ defaults_in file (d ∷ []) ++ defaults_in file ds
-defaults_more file (global n v) ds = refl
-defaults_more file (constant n v) ds = refl
-defaults_more file (array a) ds = refl
-defaults_more file (attribute n) ds = refl
-defaults_more file (property n v) ds = refl
-defaults_more file (object o) ds = refl
-defaults_more file (routine r) ds = refl
-
-pub objects_more : (file : File) (d : DirectiveTree) (ds : List DirectiveTree)
-    → objects_in file (d ∷ ds) ≡ objects_in file (d ∷ []) ++ objects_in file ds
-objects_more file (global n v) ds = refl
-objects_more file (constant n v) ds = refl
-objects_more file (array a) ds = refl
-objects_more file (attribute n) ds = refl
-objects_more file (property n v) ds = refl
-objects_more file (object o) ds = refl
-objects_more file (routine r) ds = refl
+use Rattle.checker.specs.Programs.{globals_of, arrays_of, defaults_in, objects_in, routines_of, resolve_routine}
+use Rattle.checker.specs.Programs.{routine_trees, title, directive_breaches, directives_breaches}
+use Rattle.checker.proofs.Mapped.{nothing_more, map_push}
+use Rattle.checker.proofs.DirectiveLists.{bytes_more, defaults_more, globals_more, list_step, objects_more}
+use Rattle.checker.proofs.DirectiveLists.{routines_more, sizes_more, titles_more}
 
 -- what one directive adds
 
@@ -156,9 +79,12 @@ added_global file d n v old new x is more value keeps = rw is (record {
   bytes = same_bytes old.arrays new.arrays keeps.arrays;
   sizes = same_sizes old.arrays new.arrays keeps.arrays;
   defaults = ap (λ (ws : Vec ℕ). ws.items) keeps.defaults ∙ nothing_more old.defaults.items;
-  objects = ap (λ (os : Vec CheckedObject). map object_of os.items) keeps.objects ∙ nothing_more (map object_of old.objects.items);
-  routines = ap (λ (rs : Vec CheckedRoutine). map routine_of rs.items) keeps.routines ∙ nothing_more (map routine_of old.routines.items);
-  titles = ap (λ (rs : Vec CheckedRoutine). map title_of rs.items) keeps.routines ∙ nothing_more (map title_of old.routines.items);
+  objects = ap (λ (os : Vec CheckedObject). map object_of os.items) keeps.objects
+      ∙ nothing_more (map object_of old.objects.items);
+  routines = ap (λ (rs : Vec CheckedRoutine). map routine_of rs.items) keeps.routines
+      ∙ nothing_more (map routine_of old.routines.items);
+  titles = ap (λ (rs : Vec CheckedRoutine). map title_of rs.items) keeps.routines
+      ∙ nothing_more (map title_of old.routines.items);
 })
 
 -- nothing is added
@@ -171,7 +97,8 @@ nothing_added file ds old g b s w o r t = record {
   sizes = nothing_more old.arrays.sizes.items ∙ ap (λ x. old.arrays.sizes.items ++ x) (sym s);
   defaults = nothing_more old.defaults.items ∙ ap (λ x. old.defaults.items ++ x) (sym w);
   objects = nothing_more (map object_of old.objects.items) ∙ ap (λ x. map object_of old.objects.items ++ x) (sym o);
-  routines = nothing_more (map routine_of old.routines.items) ∙ ap (λ x. map routine_of old.routines.items ++ x) (sym r);
+  routines = nothing_more (map routine_of old.routines.items)
+      ∙ ap (λ x. map routine_of old.routines.items ++ x) (sym r);
   titles = nothing_more (map title_of old.routines.items) ∙ ap (λ x. map title_of old.routines.items ++ x) (sym t);
 }
 
@@ -192,9 +119,12 @@ added_array file d a old new is more keeps = rw is (record {
       ∙ ap (λ (x : List ℕ). old.arrays.bytes.items ++ x) (nothing_more (array_bytes file a));
   sizes = more.size_added;
   defaults = ap (λ (ws : Vec ℕ). ws.items) keeps.defaults ∙ nothing_more old.defaults.items;
-  objects = ap (λ (os : Vec CheckedObject). map object_of os.items) keeps.objects ∙ nothing_more (map object_of old.objects.items);
-  routines = ap (λ (rs : Vec CheckedRoutine). map routine_of rs.items) keeps.routines ∙ nothing_more (map routine_of old.routines.items);
-  titles = ap (λ (rs : Vec CheckedRoutine). map title_of rs.items) keeps.routines ∙ nothing_more (map title_of old.routines.items);
+  objects = ap (λ (os : Vec CheckedObject). map object_of os.items) keeps.objects
+      ∙ nothing_more (map object_of old.objects.items);
+  routines = ap (λ (rs : Vec CheckedRoutine). map routine_of rs.items) keeps.routines
+      ∙ nothing_more (map routine_of old.routines.items);
+  titles = ap (λ (rs : Vec CheckedRoutine). map title_of rs.items) keeps.routines
+      ∙ nothing_more (map title_of old.routines.items);
 })
 
 pub added_property : (file : File) (d : DirectiveTree) (n : NameTree) (v : Option LiteralTree) (old new : Found) (x : ℕ)
@@ -205,9 +135,12 @@ added_property file d n v old new x is more value keeps = rw is (record {
   bytes = same_bytes old.arrays new.arrays keeps.arrays;
   sizes = same_sizes old.arrays new.arrays keeps.arrays;
   defaults = more ∙ ap (λ y. old.defaults.items ++ y ∷ []) value;
-  objects = ap (λ (os : Vec CheckedObject). map object_of os.items) keeps.objects ∙ nothing_more (map object_of old.objects.items);
-  routines = ap (λ (rs : Vec CheckedRoutine). map routine_of rs.items) keeps.routines ∙ nothing_more (map routine_of old.routines.items);
-  titles = ap (λ (rs : Vec CheckedRoutine). map title_of rs.items) keeps.routines ∙ nothing_more (map title_of old.routines.items);
+  objects = ap (λ (os : Vec CheckedObject). map object_of os.items) keeps.objects
+      ∙ nothing_more (map object_of old.objects.items);
+  routines = ap (λ (rs : Vec CheckedRoutine). map routine_of rs.items) keeps.routines
+      ∙ nothing_more (map routine_of old.routines.items);
+  titles = ap (λ (rs : Vec CheckedRoutine). map title_of rs.items) keeps.routines
+      ∙ nothing_more (map title_of old.routines.items);
 })
 
 pub added_object : (file : File) (d : DirectiveTree) (o : ObjectTree) (old new : Found) (c : CheckedObject)
@@ -220,41 +153,11 @@ added_object file d o old new c is more value keeps = rw is (record {
   defaults = ap (λ (ws : Vec ℕ). ws.items) keeps.defaults ∙ nothing_more old.defaults.items;
   objects = ap (λ os. map object_of os) more ∙ map_push object_of old.objects.items c
       ∙ ap (λ (x : ObjectOf). map object_of old.objects.items ++ x ∷ []) value;
-  routines = ap (λ (rs : Vec CheckedRoutine). map routine_of rs.items) keeps.routines ∙ nothing_more (map routine_of old.routines.items);
-  titles = ap (λ (rs : Vec CheckedRoutine). map title_of rs.items) keeps.routines ∙ nothing_more (map title_of old.routines.items);
+  routines = ap (λ (rs : Vec CheckedRoutine). map routine_of rs.items) keeps.routines
+      ∙ nothing_more (map routine_of old.routines.items);
+  titles = ap (λ (rs : Vec CheckedRoutine). map title_of rs.items) keeps.routines
+      ∙ nothing_more (map title_of old.routines.items);
 })
-
--- the bytes of one directive alone
-
-pub bytes_array : (file : File) (d : DirectiveTree) (a : ArrayTree) (old new : Arrays) → d ≡ array a
-    → IsArrayAdded (array_bytes file a) old new
-    → new.bytes.items ≡ old.bytes.items ++ concat (arrays_of file (d ∷ []))
-bytes_array file d a old new is more = rw is
-    (more.bytes_added ∙ ap (λ (x : List ℕ). old.bytes.items ++ x) (nothing_more (array_bytes file a)))
-
-pub bytes_global : (file : File) (d : DirectiveTree) (n : NameTree) (v : Option LiteralTree) (bytes : List ℕ)
-    → d ≡ global n v → bytes ≡ bytes ++ concat (arrays_of file (d ∷ []))
-bytes_global file d n v bytes is = rw is (nothing_more bytes)
-
-pub bytes_constant : (file : File) (d : DirectiveTree) (n : NameTree) (v : LiteralTree) (bytes : List ℕ)
-    → d ≡ constant n v → bytes ≡ bytes ++ concat (arrays_of file (d ∷ []))
-bytes_constant file d n v bytes is = rw is (nothing_more bytes)
-
-pub bytes_attribute : (file : File) (d : DirectiveTree) (n : NameTree) (bytes : List ℕ)
-    → d ≡ attribute n → bytes ≡ bytes ++ concat (arrays_of file (d ∷ []))
-bytes_attribute file d n bytes is = rw is (nothing_more bytes)
-
-pub bytes_property : (file : File) (d : DirectiveTree) (n : NameTree) (v : Option LiteralTree) (bytes : List ℕ)
-    → d ≡ property n v → bytes ≡ bytes ++ concat (arrays_of file (d ∷ []))
-bytes_property file d n v bytes is = rw is (nothing_more bytes)
-
-pub bytes_object : (file : File) (d : DirectiveTree) (o : ObjectTree) (bytes : List ℕ)
-    → d ≡ object o → bytes ≡ bytes ++ concat (arrays_of file (d ∷ []))
-bytes_object file d o bytes is = rw is (nothing_more bytes)
-
-pub bytes_routine : (file : File) (d : DirectiveTree) (r : RoutineTree) (bytes : List ℕ)
-    → d ≡ routine r → bytes ≡ bytes ++ concat (arrays_of file (d ∷ []))
-bytes_routine file d r bytes is = rw is (nothing_more bytes)
 
 abbrev pub IsSame : RoutineOf × (NameTree × ℕ) → RoutineOf × (NameTree × ℕ) → Type 0
 IsSame p q = p ≡ q
@@ -268,7 +171,8 @@ added_routine file d r old new c is more value keeps = rw is (record {
   bytes = same_bytes old.arrays new.arrays keeps.arrays;
   sizes = same_sizes old.arrays new.arrays keeps.arrays;
   defaults = ap (λ (ws : Vec ℕ). ws.items) keeps.defaults ∙ nothing_more old.defaults.items;
-  objects = ap (λ (os : Vec CheckedObject). map object_of os.items) keeps.objects ∙ nothing_more (map object_of old.objects.items);
+  objects = ap (λ (os : Vec CheckedObject). map object_of os.items) keeps.objects
+      ∙ nothing_more (map object_of old.objects.items);
   routines =
       ap (λ rs. map routine_of rs) more ∙ map_push routine_of old.routines.items c
       ∙ ap (λ (p : RoutineOf × (NameTree × ℕ)). map routine_of old.routines.items ++ p.0 ∷ []) value;
@@ -278,17 +182,6 @@ added_routine file d r old new c is more value keeps = rw is (record {
 })
 
 -- one more directive
-
-pub list_step : {A : Type 0} (f : List DirectiveTree → List A)
-    → ((d : DirectiveTree) (ds : List DirectiveTree) → f (d ∷ ds) ≡ f (d ∷ []) ++ f ds)
-    → (old new : List A) (ds : List Directive) (i : ℕ) (x : Directive) → i < length ds → x ≡ slice_index_or ds i x
-    → new ≡ old ++ f (directive_tree x ∷ [])
-    → new ++ f (map directive_tree (drop (i + 1) ds)) ≡ old ++ f (map directive_tree (drop i ds))
-list_step {A = A} f more old new ds i x lt is h =
-    ap (λ (q : List A). q ++ f (map directive_tree (drop (i + 1) ds))) h
-    ∙ append_assoc old (f (directive_tree x ∷ [])) (f (map directive_tree (drop (i + 1) ds)))
-    ∙ ap (λ (q : List A). old ++ q) (sym (more (directive_tree x) (map directive_tree (drop (i + 1) ds))))
-    ∙ ap (λ (q : List Directive). old ++ f (map directive_tree q)) (sym (drop_here ds i x lt is))
 
 pub adding_more : (file : File) (ds : List Directive) (i : ℕ) (x : Directive) (first old new : Found)
     → i < length ds → x ≡ slice_index_or ds i x

@@ -21,10 +21,11 @@ use Rattle.names.specs.Scope.{either, number_at, file_in, look_in, local_binding
 use Rattle.meaning.specs.Resolved.{Action, Actions, RoutineOf, actions_of, routine_of, title_of}
 use Rattle.rules.specs.Statements.{statements_breaches}
 use Rattle.meaning.specs.Around.{outside}
-use Rattle.rules.specs.Walk.{IsWalked, AreActions}
+use Rattle.value_rules.specs.Walk.{IsWalked}
+use Rattle.rules.specs.Walk.{AreActions}
 use Rattle.checker.specs.Found.{IsRoutineIn, IsRoutineOf}
 use Rattle.checker.specs.Programs.{locals_breaches, title, resolve_body, resolve_routine}
-use Rattle.rules.proofs.Walks.{before}
+use Rattle.value_rules.proofs.Walks.{before}
 use Rattle.rules.proofs.Forms.{statements_walked}
 
 -- What a routine sees

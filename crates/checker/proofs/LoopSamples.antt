@@ -23,7 +23,8 @@ abbrev from_to : ℕ → ℕ → RangeTree
 from_to a b = record { low = s.number_value a; high = Some (s.number_value b) }
 
 -- Global g; Global i;
--- [ Main; for (i = 0 : i < 5 : i++) continue; do break; until (i); switch (i) { 1, 2 to 4: break; default: new_line; } ];
+-- [ Main; for (i = 0 : i < 5 : i++) continue; do break; until (i);
+--   switch (i) { 1, 2 to 4: break; default: new_line; } ];
 abbrev loops : ProgramTree
 loops = program
     (d.global (the 0 (codes "g")) None ∷ d.global (the 1 (codes "i")) None

@@ -8,7 +8,7 @@ use Rattle.names.specs.Noted.{noted}
 use Rattle.names.proofs.Noted.{noted_none, noted_append}
 use Rattle.names.proofs.Dropped.{drop_here, drop_end}
 
-nothing_more : {A : Type 0} (xs : List A) → xs ≡ xs ++ []
+pub nothing_more : {A : Type 0} (xs : List A) → xs ≡ xs ++ []
 nothing_more [] = refl
 nothing_more (x ∷ xs) = ap (λ r. x ∷ r) (nothing_more xs)
 
@@ -25,7 +25,8 @@ same_here (y ∷ xs) (suc i) d e h = same_here xs i d e (omega (arith, h))
 module _ {A T : Type 0} (tree : A → T) where
   -- one more is made, and nothing is left at the end
 
-  pub list_next : {R : Type 0} (g : T → R) (old new whole : List R) (r : R) (xs : List A) (i : ℕ) (x : A) → i < length xs
+  pub list_next : {R : Type 0} (g : T → R) (old new whole : List R) (r : R) (xs : List A) (i : ℕ) (x : A)
+      → i < length xs
       → x ≡ slice_index_or xs i x → new ≡ old ++ r ∷ [] → r ≡ g (tree x)
       → old ++ map g (map tree (drop i xs)) ≡ whole → new ++ map g (map tree (drop (i + 1) xs)) ≡ whole
   list_next {R = R} g old new whole r xs i x lt is more value h =
@@ -41,7 +42,8 @@ module _ {A T : Type 0} (tree : A → T) where
       → i < length xs → new ≡ old ++ r ∷ [] → r ≡ g (tree (slice_index_or xs i d))
       → old ++ map g (map tree (drop i xs)) ≡ whole → new ++ map g (map tree (drop (i + 1) xs)) ≡ whole
   list_there g old new whole r xs i d lt more value h =
-      list_next g old new whole r xs i (slice_index_or xs i d) lt (same_here xs i d (slice_index_or xs i d) lt) more value h
+      list_next g old new whole r xs i (slice_index_or xs i d) lt
+      (same_here xs i d (slice_index_or xs i d) lt) more value h
 
   pub list_end : {R : Type 0} (g : T → R) (old whole : List R) (xs : List A) (i : ℕ) → length xs ≤ i
       → old ++ map g (map tree (drop i xs)) ≡ whole → old ≡ whole

@@ -1,14 +1,12 @@
 -- The numbers of keys: where the dictionary stands does not rest on them.
-use Rattle.std.proofs.Common.{◌≡◌, ◌==◌, ◌<◌, ◌≤◌, ◌⊎◌, inl, inr, ℕ, suc, nat_lt, ◌+◌, ◌*◌, ◌%◌, Bool, true, false, cond}
-use Rattle.std.proofs.Common.{if◌then◌else◌, List, [], ◌∷◌, length, Bor, refl, sym, ap, ◌∙◌, length-append}
-use Rattle.std.proofs.Common.{arith}
+use Rattle.std.proofs.Common.{◌≡◌, ◌==◌, ◌<◌, ◌≤◌, ◌⊎◌, inl, inr, ℕ, suc, nat_lt, ◌+◌, ◌*◌, ◌%◌, Bool, true, false}
+use Rattle.std.proofs.Common.{cond, if◌then◌else◌, List, [], ◌∷◌, length, Bor, refl, sym, ap, ◌∙◌, length-append, arith}
 use Rattle.std.specs.Prelude.{map}
 use Rattle.std.specs.List.{concat}
 use Rattle.syntax.specs.declared.tree.Directive.{Directive}
 use Rattle.syntax.specs.declared.tree.Program.{Program}
-use Rattle.syntax.specs.Tree.{DirectiveTree, global, constant, array, attribute, property, object, routine}
-use Rattle.syntax.specs.Tree.{ValueTree, PropertyTree, ObjectTree, directive_tree, ProgramTree}
-use Rattle.syntax.specs.Tree.{program_tree}
+use Rattle.syntax.specs.Tree.{DirectiveTree, global, constant, array, attribute, property, object, routine, ValueTree}
+use Rattle.syntax.specs.Tree.{PropertyTree, ObjectTree, directive_tree, ProgramTree, program_tree}
 use Rattle.std.proofs.Math.Path.{fun_ext}
 use Rattle.std.proofs.lemmas.Bool.{cases_lt}
 use Rattle.tables.specs.Dictionary.{key_number, place_in}
@@ -20,9 +18,10 @@ use Rattle.meaning.specs.Places.{dictionary_place, folded, name_words, property_
 use Rattle.meaning.proofs.Folding.{fold_small, fold_great, fold_part}
 use Rattle.checker.specs.Objects.{word_of, with_property, with_properties, provided_of, short_name, object_in, placed}
 use Rattle.checker.specs.Objects.{parents_of}
-use Rattle.checker.specs.Programs.{arrays_of, objects_in, object_trees, resolve_with, no_numbers, file_of, resolve_program}
+use Rattle.checker.specs.Programs.{arrays_of, objects_in, object_trees, resolve_with, no_numbers, file_of}
+use Rattle.checker.specs.Programs.{resolve_program}
 use Rattle.checker.specs.Laws.{WordsAreNumbered}
-use Rattle.checker.proofs.ArrayBytes.{array_alike}
+use Rattle.checker.proofs.ArraySizes.{array_alike}
 use Rattle.checker.proofs.Chains.{placed_many}
 
 abbrev pub numbered : Table → (ℕ → ℕ) → File
@@ -69,7 +68,8 @@ one_put false a b r x y ys zs p q s t = omega (arith, p, q, t)
 one_size : (x : ℕ × List ℕ) (ys : List (ℕ × List ℕ)) → sizes_of (with_property x ys) ≡ property_size x + sizes_of ys
 one_size x [] = refl
 one_size x (y ∷ ys) =
-    one_put (nat_lt y.0 x.0) (property_size x) (property_size y) (sizes_of ys) x y ys (with_property x ys) refl refl refl
+    one_put (nat_lt y.0 x.0) (property_size x) (property_size y) (sizes_of ys) x y ys
+    (with_property x ys) refl refl refl
     (one_size x ys)
 
 abbrev values_size : List PropertyTree → ℕ
@@ -170,7 +170,8 @@ pub file_numbered : (p : Program) (given again : List Directive) (words : List (
     → keys ≡ keys_of (map (λ (w : Bor (List ℕ)). w.now) words)
     → numbered table (numbers_by place keys) ≡ file_of (program_tree p)
 unfolding file_of resolve_with
-file_numbered p given again words first table keys n size place os none names same twice long made much at spoken found =
+file_numbered p given again words first table keys n size place os none names same twice long made much at spoken
+    found =
     let tree = program_tree p in
     let real : ℕ = dictionary_place (resolve_with (no_numbers tree) tree) in
     let arrays : n ≡ length (concat (arrays_of (no_numbers tree) tree.directives)) =

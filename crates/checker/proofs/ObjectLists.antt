@@ -16,7 +16,8 @@ use Rattle.names.proofs.Dropped.{drop_here, drop_end}
 use Rattle.checker.specs.Objects.{with_property, with_properties, provided_of, place_below, count_breaches}
 use Rattle.checker.specs.Objects.{excess_breaches}
 
-pub get_mapped : {A B : Type 0} (f : A → B) (xs : List A) (n : ℕ) → slice_get (map f xs) n ≡ option_map f (slice_get xs n)
+pub get_mapped : {A B : Type 0} (f : A → B) (xs : List A) (n : ℕ)
+    → slice_get (map f xs) n ≡ option_map f (slice_get xs n)
 get_mapped f [] n = refl
 get_mapped f (x ∷ xs) zero = refl
 get_mapped f (x ∷ xs) (suc n) = get_mapped f xs n

@@ -8,9 +8,9 @@ use Rattle.syntax.specs.Tree as d
 use Rattle.syntax.specs.Tree.{DirectiveTree, ObjectTree, ProgramTree}
 use Rattle.names.specs.Breaches.{at}
 use Rattle.names.specs.Names.{table_of, key_of, look_up}
-use Rattle.zcore.specs.Text.{encoded}
-use Rattle.zcore.specs.Words.{packed}
-use Rattle.zcore.specs.Alphabets.{spelling_of}
+use Rattle.ztext.specs.Text.{encoded}
+use Rattle.ztext.specs.Words.{packed}
+use Rattle.ztext.specs.Alphabets.{spelling_of}
 use Rattle.meaning.specs.Objects.{ObjectOf}
 use Rattle.checker.specs.Programs.{program_breaches, resolve_with, file_of, resolve_program}
 use Rattle.checker.proofs.Samples.{p, the, routine, program}
@@ -98,7 +98,8 @@ values (suc k) n = value n 7 ∷ values k (n + 1)
 
 -- Object a with name and 33 values
 many_words : program_breaches
-    (whole (d.object (record (alone 1 (codes "a")) { properties = with (the 2 (codes "name")) (values 33 3) ∷ [] }) ∷ []))
+    (whole
+    (d.object (record (alone 1 (codes "a")) { properties = with (the 2 (codes "name")) (values 33 3) ∷ [] }) ∷ []))
     ≡ at (p 35) 24
 unfolding program_breaches table_of key_of look_up
 many_words = refl
@@ -114,7 +115,8 @@ box = whole
     ∷ d.object (record (alone 4 (codes "box")) {
       short = Some (record { bytes = codes "box"; position = p 5 });
       properties = with (the 6 (codes "name")) (value 7 1 ∷ value 8 2 ∷ [])
-          ∷ with (the 9 (codes "size")) (record { position = p 10; value = s.named_value (the 10 (codes "first")) } ∷ []) ∷ [];
+          ∷ with (the 9 (codes "size"))
+          (record { position = p 10; value = s.named_value (the 10 (codes "first")) } ∷ []) ∷ [];
       attributes = the 11 (codes "light") ∷ [];
     })
     ∷ d.object (below (p 12 ∷ []) 13 (codes "a")) ∷ d.object (below (p 14 ∷ []) 15 (codes "b"))

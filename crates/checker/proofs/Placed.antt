@@ -1,6 +1,6 @@
 -- Objects of a program that breaks no rule are within their limits.
-use Rattle.std.proofs.Common.{◌≡◌, ◌<◌, ◌≤◌, ◌+◌, ◌-◌, ◌%◌, ℕ, zero, suc, nat_le, nat_lt, Bool, true, false, cond}
-use Rattle.std.proofs.Common.{List, [], ◌∷◌, ◌++◌, length, slice_index_or, Option, Some, None, refl, sym, ap, subst, arith}
+use Rattle.std.proofs.Common.{◌≡◌, ◌<◌, ◌≤◌, ◌+◌, ◌-◌, ◌%◌, ℕ, zero, suc, nat_le, nat_lt, Bool, true, false, cond, List}
+use Rattle.std.proofs.Common.{[], ◌∷◌, ◌++◌, length, slice_index_or, Option, Some, None, refl, sym, ap, subst, arith}
 use Rattle.std.specs.Prelude.{map, slice_get}
 use Rattle.std.specs.List.{flat_map, All}
 use Rattle.std.proofs.lemmas.Bool.{leb-true}
@@ -13,8 +13,8 @@ use Rattle.names.specs.declared.binding.Binding.{Binding}
 use Rattle.names.specs.declared.binding.Binding.TheVariants as bindings
 use Rattle.names.specs.Breaches.{at}
 use Rattle.names.specs.Names.{Table, File, key_of, in_table}
-use Rattle.rules.specs.Literals.{initial_value}
-use Rattle.rules.specs.Expressions.{property_breaches}
+use Rattle.value_rules.specs.Literals.{initial_value}
+use Rattle.value_rules.specs.Expressions.{property_breaches}
 use Rattle.meaning.specs.Resolved.{ProgramOf}
 use Rattle.meaning.specs.Objects.{ObjectOf, no_object, object_at}
 use Rattle.meaning.specs.Places.{name_words}
@@ -28,7 +28,7 @@ use Rattle.checker.specs.Objects.{above_number, object_of_binding, parent_number
 use Rattle.checker.specs.Objects.{all_defaults}
 use Rattle.checker.specs.Programs.{defaults_in}
 use Rattle.checker.proofs.Kept.{left_empty, right_empty}
-use Rattle.checker.proofs.Unbroken.{attribute_within, property_within}
+use Rattle.checker.proofs.MeantNames.{attribute_within, property_within}
 use Rattle.checker.proofs.Bindings.{AreEntries, found_meant}
 
 is_kept : (c : Bool) (p : Position) (n : ℕ) → cond c [] (at p n) ≡ [] → c ≡ true

@@ -17,7 +17,7 @@ use Rattle.names.specs.Breaches.{at}
 use Rattle.checker.specs.Programs.{program_breaches, resolve_with, file_of, resolve_program}
 use Rattle.names.specs.Names.{table_of, key_of, look_up}
 use Rattle.zcore.specs.Arithmetic.{signed_text, decimal, quotient, remainder}
-use Rattle.rules.specs.Temporaries.{need}
+use Rattle.value_rules.specs.Temporaries.{need}
 use Rattle.meaning.specs.World.{Outcome}
 use Rattle.meaning.specs.Meaning.{meaning}
 

@@ -42,7 +42,8 @@ made gs arrays ws os keys texts rs n = record {
   main = n;
 }
 
-pub program_value : (p : Program) (file : File) (gs : List ℕ) (arrays : List (List ℕ)) (ws : List ℕ) (os : List ObjectOf)
+pub program_value : (p : Program) (file : File) (gs : List ℕ) (arrays : List (List ℕ)) (ws : List ℕ)
+    (os : List ObjectOf)
     (keys : List ℕ) (texts : List (List ℕ)) (rs : List RoutineOf) (n : ℕ)
     → file ≡ file_of (program_tree p)
     → gs ≡ globals_of file (map directive_tree p.directives.items)

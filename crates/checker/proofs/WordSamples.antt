@@ -9,11 +9,11 @@ use Rattle.syntax.specs.declared.tree.ArrayKind.{ArrayKind}
 use Rattle.syntax.specs.declared.tree.ArrayKind.TheVariants as kinds
 use Rattle.syntax.specs.Tree as d
 use Rattle.syntax.specs.Tree.{DirectiveTree, ProgramTree}
-use Rattle.zcore.specs.Alphabets.{spelling_of}
+use Rattle.ztext.specs.Alphabets.{spelling_of}
 use Rattle.zcore.specs.Arithmetic.{signed_text, decimal, quotient, remainder}
 use Rattle.zcore.specs.Dictionary.{number_of_key}
-use Rattle.zcore.specs.Text as text
-use Rattle.zcore.specs.Words.{packed}
+use Rattle.ztext.specs.Text as text
+use Rattle.ztext.specs.Words.{packed}
 use Rattle.names.specs.Breaches.{at}
 use Rattle.names.specs.Keys.{key_of_word}
 use Rattle.names.specs.Names.{table_of, key_of, look_up}

@@ -17,7 +17,7 @@ use Rattle.names.specs.declared.known.Known.{Known}
 use Rattle.names.specs.declared.known.Known.TheVariants as knowns
 use Rattle.names.specs.Keys.{or_zero}
 use Rattle.names.specs.Names.{Table, File, literal_known, literal_value}
-use Rattle.rules.specs.Literals.{literal_breaches}
+use Rattle.value_rules.specs.Literals.{literal_breaches}
 
 abbrev pub width_of : ArrayKind → Width
 width_of kinds.Bytes = widths.Byte

@@ -19,7 +19,7 @@ use Rattle.rules.specs.Statements.{statements_breaches}
 use Rattle.meaning.specs.Around.{outside}
 use Rattle.checker.specs.Programs.{routine_breaches, resolve_body, resolve_routine, routine_trees, title, globals_of}
 use Rattle.checker.specs.Programs.{arrays_of, defaults_in, objects_in, routines_of}
-use Rattle.rules.specs.Walk.{IsWalked}
+use Rattle.value_rules.specs.Walk.{IsWalked}
 
 -- in a routine that sees so much of the file
 module _ (seen : Seen) where

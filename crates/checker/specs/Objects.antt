@@ -1,6 +1,6 @@
 -- Definitions of objects: the rules that they can break, and what they are.
-use Rattle.std.specs.Prelude.{◌==◌, ◌+◌, ◌-◌, ◌%◌, ℕ, zero, suc, nat_le, nat_lt, Bool, false, if◌then◌else◌, List, [], ◌∷◌, ◌++◌, map}
-use Rattle.std.specs.Prelude.{length, slice_get, Option, Some, None}
+use Rattle.std.specs.Prelude.{◌==◌, ◌+◌, ◌-◌, ◌%◌, ℕ, zero, suc, nat_le, nat_lt, Bool, false, if◌then◌else◌, List, []}
+use Rattle.std.specs.Prelude.{◌∷◌, ◌++◌, map, length, slice_get, Option, Some, None}
 use Rattle.std.specs.List.{flat_map}
 use Rattle.lexer.specs.declared.fault.TheConstants.{TOO_MANY, UNKNOWN_NAME, WRONG_KIND}
 use Rattle.lexer.specs.declared.token.Position.{Position}
@@ -11,8 +11,9 @@ use Rattle.names.specs.declared.binding.Binding.TheVariants as bindings
 use Rattle.names.specs.declared.breach.Breach.{Breach}
 use Rattle.names.specs.Breaches.{at}
 use Rattle.names.specs.Names.{Table, File, key_of, in_table, literal_value}
-use Rattle.rules.specs.Literals.{literal_breaches}
-use Rattle.rules.specs.Expressions.{attribute_breaches, property_breaches, attribute_of_binding, property_of_binding}
+use Rattle.value_rules.specs.Literals.{literal_breaches}
+use Rattle.value_rules.specs.Expressions.{attribute_breaches, property_breaches, attribute_of_binding}
+use Rattle.value_rules.specs.Expressions.{property_of_binding}
 use Rattle.meaning.specs.Objects.{ObjectOf}
 use Rattle.meaning.specs.Places.{name_words}
 use Rattle.checker.specs.Repeated.{repeated_breaches}
@@ -58,8 +59,8 @@ object_breaches whole o =
 
 -- Where an object stands
 --
--- Objects are numbered from 1. Of those so far, an object is open if none after it has as few arrows as it or fewer. The
--- open ones stand with the outermost first, each with its arrows and its number.
+-- Objects are numbered from 1. Of those so far, an object is open if none after it has as few arrows as it or fewer.
+-- The open ones stand with the outermost first, each with its arrows and its number.
 
 abbrev pub Open : Type 0
 Open = List (ℕ × ℕ)

@@ -17,8 +17,8 @@ use Rattle.names.specs.Keys.{keys_of}
 use Rattle.names.specs.Names.{Table, File, key_of, same_key, in_table, first_table, no_counts, with_directive}
 use Rattle.names.specs.Names.{counts_after, table_of, look_up, Seen, seen_from}
 use Rattle.meaning.specs.Places.{machine_character, number_in}
-use Rattle.zcore.specs.Abbreviations.{most_abbreviations}
-use Rattle.rules.specs.Literals.{initial_breaches, named_breaches, initial_value}
+use Rattle.ztext.specs.Abbreviations.{most_abbreviations}
+use Rattle.value_rules.specs.Literals.{initial_breaches, named_breaches, initial_value}
 use Rattle.checker.specs.Arrays.{array_breaches, array_bytes}
 use Rattle.checker.specs.Repeated.{has_name}
 use Rattle.checker.specs.Objects.{object_breaches, standing_breaches, parents_of, object_in, placed, all_defaults}
@@ -246,8 +246,8 @@ resolve_with file p = record {
 abbrev pub no_numbers : ProgramTree → File
 no_numbers p = record { table = table_of p.directives; number = λ key. 0 }
 
--- The numbers of keys rest on the sizes of arrays and of the tables of objects, and on how many keys there are. These do
--- not rest on the numbers of keys: they are the same where every key has the number 0.
+-- The numbers of keys rest on the sizes of arrays and of the tables of objects, and on how many keys there are. These
+-- do not rest on the numbers of keys: they are the same where every key has the number 0.
 unfoldable pub file_of : ProgramTree → File
 file_of p = record { table = table_of p.directives; number = number_in (resolve_with (no_numbers p) p) }
 

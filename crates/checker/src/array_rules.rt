@@ -13,9 +13,9 @@ use expressions::Width;
 use lexer::{BAD_ARRAY, Position};
 use meaning::Arrays;
 use names::{Breach, File, Known, note, or_zero};
-use rules::literal;
 use std::alloc::AllocError;
 use syntax::{Array, ArrayKind, ArrayValue};
+use value_rules::literal;
 
 fn width_of(kind: ArrayKind) -> Width
     ensures { result ≡ spec.width_of kind }
@@ -40,7 +40,7 @@ fn most_entries(kind: ArrayKind) -> usize
     }
 }
 
-#[tactic(auto, using(crate::proofs::ArrayBytes::size_is))]
+#[tactic(auto, using(crate::proofs::ArraySizes::size_is))]
 fn is_size(kind: ArrayKind, count: usize) -> bool
     ensures { result ≡ spec.is_size kind count }
 {

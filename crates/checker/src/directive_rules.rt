@@ -5,7 +5,7 @@ ghost use Rattle.expressions.specs.Tree.{name_tree};
 ghost use Rattle.syntax.specs.Tree.{optional_tree, object_tree, routine_tree, directive_tree};
 ghost use Rattle.names.specs.Names.{in_table, local_from, first_table, no_counts};
 ghost use Rattle.names.specs.Breaches.{at};
-ghost use Rattle.rules.specs.Literals.{initial_value};
+ghost use Rattle.value_rules.specs.Literals.{initial_value};
 ghost use Rattle.names.specs.Noted.{noted};
 ghost use Rattle.names.specs.Scope.{file_in, seen_in, local_binding};
 ghost use Rattle.checker.specs.Found.{IsRoutineIn, IsRoutineOf, IsAdded, IsFound};
@@ -21,9 +21,10 @@ use indexmap::IndexMap;
 use lexer::{Position, TOO_MANY};
 use meaning::{Arrays, CheckedObject, CheckedRoutine, OUTSIDE};
 use names::{Binding, Breach, File, Names, Scope, Table, define, note};
-use rules::{all_statements, constant_value, initial};
+use rules::all_statements;
 use std::alloc::{AllocError, Global};
 use syntax::{Directive, Literal, Object, Routine, Statement};
+use value_rules::{constant_value, initial};
 
 // What there may be of each kind; of properties, beside `name`.
 const MOST_GLOBALS: usize = 232;

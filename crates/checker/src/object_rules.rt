@@ -18,9 +18,9 @@ use indexmap::IndexMap;
 use lexer::TOO_MANY;
 use meaning::{CheckedObject, name_words};
 use names::{Binding, Breach, File, Table, define, find, note, or_zero};
-use rules::{attribute, literal, property};
 use std::alloc::{AllocError, Global};
 use syntax::{ArrayValue, Object, Property, Text};
+use value_rules::{attribute, literal, property};
 
 // The most words of a property.
 const MOST_WORDS: usize = 32;

@@ -11,7 +11,7 @@ use Rattle.zcore.specs.Header.{dictionary_of, static_base_of}
 use Rattle.zcore.specs.Parsing.{separators_of, first_words, entry_for, parsed}
 use Rattle.zcore.specs.Parsing as machine
 use Rattle.zcore.specs.Parts.{is_text_buffer, is_parse_buffer}
-use Rattle.zcore.specs.Text.{lower_case, key_of}
+use Rattle.ztext.specs.Text.{lower_case, key_of}
 use Rattle.zcore.specs.Turn.{with_bytes, with_letters, letters_for}
 use Rattle.zcore.specs.Turn as turn
 use Rattle.meaning.specs.World.{array_at}

@@ -1,7 +1,7 @@
 -- Code that stands at an address behind the header, where the machine can do it.
 use Rattle.std.proofs.Common.{◌≡◌, ℕ, ◌+◌, ◌≤◌, List, ◌++◌, drop, length, arith}
-use Rattle.zcore.specs.Text as text
-use Rattle.zcore.proofs.Holding as holding
+use Rattle.ztext.specs.Text as text
+use Rattle.ztext.proofs.Holding as holding
 use Rattle.code.proofs.Memory as memory
 
 abbrev pub Holds : List ℕ → ℕ → List ℕ → Type 0

@@ -7,7 +7,7 @@ use Rattle.std.proofs.lemmas.List.{take_all, length-map}
 use Rattle.zcore.specs.declared.instruction.Operand.{Operand}
 use Rattle.zcore.specs.declared.instruction.Operand.TheVariants.{Small, Variable}
 use Rattle.zcore.specs.declared.instruction.Operation.{Operation}
-use Rattle.zcore.specs.Bytes.{word_at}
+use Rattle.ztext.specs.Bytes.{word_at}
 use Rattle.zcore.specs.Header.{globals_of}
 use Rattle.zcore.specs.Instruction.{bytes_of, FitsOperand}
 use Rattle.zcore.specs.State.{State, done}

@@ -6,7 +6,7 @@ use Rattle.std.specs.Prelude.{if◌then◌else◌}
 use Rattle.std.proofs.Math.Nat.{suc-mul}
 use Rattle.std.proofs.lemmas.List.{get_or-drop}
 use Rattle.byteorder.specs.Endian.{big_number}
-use Rattle.zcore.specs.Bytes.{word_at}
+use Rattle.ztext.specs.Bytes.{word_at}
 use Rattle.zcore.specs.Header.{key_at, first_entry, entry_length_of, entry_count, IsDictionary}
 use Rattle.zcore.specs.Dictionary.{entry_in, entry_of}
 use Rattle.zcore.specs.Parsing.{separators_of}

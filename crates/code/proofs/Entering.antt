@@ -13,8 +13,8 @@ use Rattle.zcore.specs.State.{Frame, State, done, halt, words}
 use Rattle.zcore.specs.Parts as machine
 use Rattle.zcore.specs.Parts.{unpacked, scale_in, call, test_routine, test_calls, spend}
 use Rattle.zcore.specs.Execution.{step, call_packed}
-use Rattle.zcore.specs.Text.{Holds}
-use Rattle.zcore.proofs.Holding.{holds_byte}
+use Rattle.ztext.specs.Text.{Holds}
+use Rattle.ztext.proofs.Holding.{holds_byte}
 use Rattle.meaning.specs.Resolved.{ProgramOf}
 use Rattle.meaning.specs.World.{Situation, ended, spend_from}
 use Rattle.meaning.specs.Meaning.{locals_of, routine_at}

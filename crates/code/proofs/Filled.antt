@@ -6,14 +6,14 @@ use Rattle.std.specs.List.{All, list_all}
 use Rattle.std.proofs.lemmas.Bool.{ltb-true, leb-true}
 use Rattle.std.proofs.lemmas.List.Elements.{All-nil, All-cons}
 use Rattle.std.proofs.lemmas.List.Sums.{AllPass-from_list_all}
-use Rattle.zcore.specs.Bytes.{word_at}
+use Rattle.ztext.specs.Bytes.{word_at}
 use Rattle.zcore.specs.Dictionary.{entry_of}
 use Rattle.zcore.specs.Header.{globals_of, entry_count}
-use Rattle.zcore.specs.Alphabets.{is_printable, spelling_of}
+use Rattle.ztext.specs.Alphabets.{is_printable, spelling_of}
 use Rattle.zcore.specs.Instruction.{bytes_of}
-use Rattle.zcore.specs.Text.{encoded}
-use Rattle.zcore.specs.Abbreviations.{encoded_with}
-use Rattle.zcore.specs.Words.{packed}
+use Rattle.ztext.specs.Text.{encoded}
+use Rattle.ztext.specs.Abbreviations.{encoded_with}
+use Rattle.ztext.specs.Words.{packed}
 use Rattle.tables.specs.Dictionary.{ReadsKeys}
 use Rattle.meaning.specs.declared.cause.Cause.{Cause}
 use Rattle.meaning.specs.declared.cause.Cause.TheVariants as causes

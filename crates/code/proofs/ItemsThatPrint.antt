@@ -13,11 +13,11 @@ use Rattle.zcore.specs.Instruction.{bytes_of}
 use Rattle.zcore.specs.State.{done, halt}
 use Rattle.zcore.specs.Parts.{unpacked}
 use Rattle.zcore.specs.Execution.{perform, step, text_at, print_inline, print_packed}
-use Rattle.zcore.specs.Text.{encoded}
-use Rattle.zcore.specs.Alphabets.{is_printable}
-use Rattle.zcore.specs.Abbreviations.{encoded_with}
-use Rattle.zcore.specs.Text as machine_text
-use Rattle.zcore.proofs.Holding.{holds_append}
+use Rattle.ztext.specs.Text.{encoded}
+use Rattle.ztext.specs.Alphabets.{is_printable}
+use Rattle.ztext.specs.Abbreviations.{encoded_with}
+use Rattle.ztext.specs.Text as machine_text
+use Rattle.ztext.proofs.Holding.{holds_append}
 use Rattle.meaning.specs.declared.cause.Cause.{Cause}
 use Rattle.meaning.specs.World.{World, Situation, Outcome, Comes, to, over, bound, put, shown, words_of}
 use Rattle.meaning.specs.World as source

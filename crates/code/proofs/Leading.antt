@@ -9,8 +9,8 @@ use Rattle.std.proofs.lemmas.List.Elements.{All-head, All-tail}
 use Rattle.zcore.specs.declared.instruction.Operation.TheVariants as operations
 use Rattle.zcore.specs.Header.{static_base_of}
 use Rattle.zcore.specs.Parts.{unpacked}
-use Rattle.zcore.specs.Text.{Holds}
-use Rattle.zcore.proofs.Holding.{holds_byte}
+use Rattle.ztext.specs.Text.{Holds}
+use Rattle.ztext.proofs.Holding.{holds_byte}
 use Rattle.expressions.specs.declared.tree.Binary.TheVariants as binaries
 use Rattle.expressions.specs.declared.tree.Prefix.TheVariants as prefixes
 use Rattle.meaning.specs.Resolved.{RoutineOf, ProgramOf}

@@ -4,10 +4,10 @@ use Rattle.std.proofs.Common.{slice_index, slice_set, sym, ap, ◌∙◌, arith}
 use Rattle.std.specs.List.{concat}
 use Rattle.std.proofs.lemmas.Bool.{cases_eq, cases_lt}
 use Rattle.std.proofs.lemmas.List.{length-set, drop-set-lt, get_or-set_same, get_or-set_other}
-use Rattle.zcore.specs.Bytes.{word_at}
+use Rattle.ztext.specs.Bytes.{word_at}
 use Rattle.zcore.specs.Header.{defaults_of, globals_of, static_base_of}
 use Rattle.zcore.specs.Parts.{global_address, with_word}
-use Rattle.zcore.specs.Text.{Holds}
+use Rattle.ztext.specs.Text.{Holds}
 use Rattle.meaning.specs.Objects.{Objects}
 use Rattle.meaning.specs.Resolved.{ProgramOf}
 use Rattle.region.specs.Region.{HasObjects}

@@ -23,11 +23,11 @@ use Rattle.zcore.specs.Objects.{unlink, link_first, remove_object, insert_object
 use Rattle.zcore.specs.ObjectProperties.{test_property_number, property_list, property_at, search_list, find_property}
 use Rattle.zcore.specs.ObjectProperties.{tested_property, property_value, get_property, get_property_address}
 use Rattle.zcore.specs.ObjectProperties.{property_length, get_property_length}
-use Rattle.zcore.specs.Abbreviations.{encoded_with}
-use Rattle.zcore.specs.Text.{decoded, abbreviation, encoded}
-use Rattle.zcore.specs.Reading.{reads}
-use Rattle.zcore.specs.Words.{packed, unpacked_text}
-use Rattle.zcore.specs.Alphabets.{spelling_of}
+use Rattle.ztext.specs.Abbreviations.{encoded_with}
+use Rattle.ztext.specs.Text.{decoded, abbreviation, encoded}
+use Rattle.ztext.specs.Reading.{reads}
+use Rattle.ztext.specs.Words.{packed, unpacked_text}
+use Rattle.ztext.specs.Alphabets.{spelling_of}
 use Rattle.zcore.specs.Arithmetic.{quotient, decimal, signed_text}
 use Rattle.meaning.specs.Resolved as source
 use Rattle.meaning.specs.Resolved.{RoutineOf, ProgramOf}

@@ -6,7 +6,7 @@ use Rattle.std.proofs.lemmas.List.{get_or-set_same, get_or-set_other, length-set
 use Rattle.std.proofs.lemmas.List.{get_or-take}
 use Rattle.zcore.specs.Parts.{with_word}
 use Rattle.zcore.specs.Turn.{with_bytes}
-use Rattle.zcore.specs.Text.{Holds}
+use Rattle.ztext.specs.Text.{Holds}
 
 -- these bytes stand in memory from an address on
 pub record Stands (memory : List ℕ) (base : ℕ) (bytes : List ℕ) : Type 0 where

@@ -8,7 +8,7 @@ use Rattle.std.proofs.lemmas.List.{length-reverse}
 use Rattle.zcore.specs.declared.instruction.Operand.TheVariants.{Large}
 use Rattle.zcore.specs.declared.instruction.Operation.TheVariants as operations
 use Rattle.zcore.specs.declared.place.Place.TheVariants as places
-use Rattle.zcore.specs.Bytes.{word_at}
+use Rattle.ztext.specs.Bytes.{word_at}
 use Rattle.zcore.specs.Header.{static_base_of}
 use Rattle.zcore.specs.Instruction.{bytes_of}
 use Rattle.zcore.specs.State.{Frame, State, Out, done, bound}
@@ -16,7 +16,7 @@ use Rattle.zcore.specs.State as state
 use Rattle.zcore.specs.Parts.{push, goes_on, give_back}
 use Rattle.zcore.specs.Execution.{step}
 use Rattle.zcore.specs.Turn.{first_environment}
-use Rattle.zcore.proofs.Holding.{holds_byte}
+use Rattle.ztext.proofs.Holding.{holds_byte}
 use Rattle.meaning.specs.declared.resolved.Variable as source
 use Rattle.meaning.specs.World.{Situation, with_value}
 use Rattle.meaning.specs.Meaning.{routine_at}

@@ -7,9 +7,9 @@ use Rattle.expressions.specs.declared.tree.Width.TheVariants as widths
 use Rattle.meaning.specs.declared.resolved.Variable.{Variable}
 use Rattle.meaning.specs.declared.resolved.Variable.TheVariants as variables
 use Rattle.zcore.specs.Instruction.{bytes_of}
-use Rattle.zcore.specs.Alphabets.{spelling_of}
-use Rattle.zcore.specs.Words.{packed}
-use Rattle.zcore.specs.Abbreviations.{encoded_with}
+use Rattle.ztext.specs.Alphabets.{spelling_of}
+use Rattle.ztext.specs.Words.{packed}
+use Rattle.ztext.specs.Abbreviations.{encoded_with}
 use Rattle.forms.specs.declared.layout.Form.TheVariants.{One, Two, Far}
 use Rattle.forms.specs.declared.layout.Part.{Part}
 use Rattle.forms.specs.declared.layout.BranchUse.{BranchUse}

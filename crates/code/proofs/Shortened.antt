@@ -4,12 +4,12 @@ use Rattle.std.proofs.Common.{ap, ◌∙◌, arith}
 use Rattle.std.specs.Prelude.{nat_le, ◌&&◌}
 use Rattle.std.specs.List.{All, list_all}
 use Rattle.std.proofs.lemmas.Bool.{le-leb}
-use Rattle.zcore.specs.Bytes.{word_at}
-use Rattle.zcore.specs.Alphabets.{is_printable}
+use Rattle.ztext.specs.Bytes.{word_at}
+use Rattle.ztext.specs.Alphabets.{is_printable}
 use Rattle.zcore.specs.Header.{abbreviations_of, globals_of, static_base_of}
-use Rattle.zcore.specs.Text.{has_abbreviations, abbreviation_address, encoded}
-use Rattle.zcore.specs.Abbreviations.{abbreviation_at, HasAbbreviations}
-use Rattle.zcore.proofs.Shortening.{plain_abbreviation}
+use Rattle.ztext.specs.Text.{has_abbreviations, abbreviation_address, encoded}
+use Rattle.ztext.specs.Abbreviations.{abbreviation_at, HasAbbreviations}
+use Rattle.ztext.proofs.Expanding.{plain_abbreviation}
 use Rattle.meaning.specs.Objects.{Objects}
 use Rattle.meaning.specs.Resolved.{ProgramOf}
 use Rattle.instructions.specs.Addresses.{Addresses}

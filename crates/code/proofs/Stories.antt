@@ -18,11 +18,11 @@ use Rattle.zcore.specs.Parts.{read_in_place, write_in_place, push, pop, read_loc
 use Rattle.zcore.specs.Parts.{write_global, read_variable, write_variable, test_variable, test_pull, operand_value}
 use Rattle.zcore.specs.Parts.{operand_values, test_result, store_result, test_target, spend, go, test_routine}
 use Rattle.zcore.specs.Parts.{test_calls, enter, call, test_return, leave, give_back, take_branch, branch_on, print}
-use Rattle.zcore.specs.Abbreviations.{encoded_with}
-use Rattle.zcore.specs.Text.{decoded, abbreviation, encoded}
-use Rattle.zcore.specs.Reading.{reads}
-use Rattle.zcore.specs.Words.{packed, unpacked_text}
-use Rattle.zcore.specs.Alphabets.{spelling_of}
+use Rattle.ztext.specs.Abbreviations.{encoded_with}
+use Rattle.ztext.specs.Text.{decoded, abbreviation, encoded}
+use Rattle.ztext.specs.Reading.{reads}
+use Rattle.ztext.specs.Words.{packed, unpacked_text}
+use Rattle.ztext.specs.Alphabets.{spelling_of}
 use Rattle.zcore.specs.Arithmetic.{quotient, decimal, signed_text}
 use Rattle.std.specs.List.{flat_map}
 use Rattle.tables.specs.Dictionary.{dictionary_bytes}

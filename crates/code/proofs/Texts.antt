@@ -4,15 +4,15 @@ use Rattle.std.proofs.Common.{false, Ok, refl, ap, ◌∙◌, arith}
 use Rattle.std.specs.Prelude.{nat_lt, nat_le, nat_eq, if◌then◌else◌, map, ◌&&◌, ◌||◌}
 use Rattle.std.specs.List.{All, flat_map, filter, list_all}
 use Rattle.std.proofs.lemmas.Bool.{le-leb, ne_eqb, ltb-true, leb-true, and_parts}
-use Rattle.zcore.specs.Alphabets.{is_printable, spelling_of}
-use Rattle.zcore.specs.Words.{packed}
+use Rattle.ztext.specs.Alphabets.{is_printable, spelling_of}
+use Rattle.ztext.specs.Words.{packed}
 use Rattle.zcore.specs.Arithmetic.{digit, decimal, signed_text}
 use Rattle.zcore.specs.Parts.{transcribed}
-use Rattle.zcore.specs.Abbreviations.{encoded_with, HasAbbreviations}
-use Rattle.zcore.specs.Text.{Holds, decoded, encoded}
-use Rattle.zcore.proofs.Spelling.{AreBytes}
-use Rattle.zcore.proofs.RoundTrip.{round_trip}
-use Rattle.zcore.proofs.Shortening.{round_trip_with, some_if_two}
+use Rattle.ztext.specs.Abbreviations.{encoded_with, HasAbbreviations}
+use Rattle.ztext.specs.Text.{Holds, decoded, encoded}
+use Rattle.ztext.proofs.Spelling.{AreBytes}
+use Rattle.ztext.proofs.RoundTrip.{round_trip}
+use Rattle.ztext.proofs.Expanding.{round_trip_with, some_if_two}
 use Rattle.meaning.specs.World.{shown}
 use Rattle.meaning.specs.declared.cause.Cause.{Cause}
 use Rattle.meaning.specs.declared.cause.Cause.TheVariants as causes

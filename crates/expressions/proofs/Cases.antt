@@ -21,8 +21,9 @@ use Rattle.expressions.specs.Tree.{parenthesised, relative_of, property_entry, p
 use Rattle.expressions.specs.Nesting.{begins_expression}
 use Rattle.expressions.specs.Parse.{◌>>=◌, Fails, whole, negation, complement, prefix, operand, arguments, after_name}
 use Rattle.expressions.specs.Parse.{head, tail, is_sign, is_word, list, closed, properties, entry_of, tested_next}
-use Rattle.expressions.specs.Parse.{word_value, valued, suffixed, nested, enclosed, related, word_on, atom, primary, stepped, unary}
-use Rattle.expressions.specs.Parse.{array_at, entry, owned, unindexed, indexed, complemented, sum, equated, comparison, negated}
+use Rattle.expressions.specs.Parse.{word_value, valued, suffixed, nested, enclosed, related, word_on, atom, primary}
+use Rattle.expressions.specs.Parse.{stepped, unary, array_at, entry, owned, unindexed, indexed, complemented, sum}
+use Rattle.expressions.specs.Parse.{equated, comparison, negated}
 use Rattle.expressions.specs.Parse.{condition, assigned, expression, called}
 use Rattle.expressions.proofs.Nested.{nested_zero, nested_arguments, nested_negation, nested_complement}
 use Rattle.expressions.proofs.Nested.{nested_prefix, nested_operand}

@@ -9,10 +9,13 @@ pub mod Cases
 pub mod Limited
 pub mod Properties
 pub mod Repeated
+pub mod SoundOperands
 pub mod Sound
 pub mod Short
 pub mod Follow
+pub mod Begins
 pub mod Arrays
+pub mod Alternatives
 pub mod Complete
 pub mod Given
 mod Samples

@@ -1,5 +1,6 @@
 -- What stands behind an object: properties, the length of one, and a test.
-use Rattle.std.proofs.Common.{◌≡◌, ℕ, zero, suc, ◌+◌, ◌-◌, ◌<◌, ◌≤◌, ◌⊎◌, inl, inr, true, false, List, [], ◌∷◌, ◌++◌, length}
+use Rattle.std.proofs.Common.{◌≡◌, ℕ, zero, suc, ◌+◌, ◌-◌, ◌<◌, ◌≤◌, ◌⊎◌}
+use Rattle.std.proofs.Common.{inl, inr, true, false, List, [], ◌∷◌, ◌++◌, length}
 use Rattle.std.proofs.Common.{Some, None, Result, Ok, Err, refl, sym, ◌∙◌, arith}
 use Rattle.std.proofs.lemmas.List.{length-map}
 use Rattle.lexer.specs.declared.token.Position.{Position}
@@ -177,7 +178,8 @@ owner_begins {m = m} h = record {
 }
 
 owner_turn : (n : ℕ) (e : ExpressionTree) (p q : Position) (f : List ℕ) (r : List Lexeme) → 0 < n
-    → properties n e (sign s.Dot q ∷ name f p ∷ r) ≡ properties (n - 1) (property e (record { text = f; position = p })) r
+    → properties n e (sign s.Dot q ∷ name f p ∷ r)
+    ≡ properties (n - 1) (property e (record { text = f; position = p })) r
 unfolding properties property_next expect_name
 owner_turn zero e p q f r lt = absurd (omega arith)
 owner_turn (suc n) e p q f r lt = let k : suc n - 1 ≡ n = omega arith in rw k refl

@@ -6,3 +6,4 @@ pub mod Parse
 pub mod Levels
 pub mod Errors
 pub mod Laws
+pub mod Returned

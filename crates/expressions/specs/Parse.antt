@@ -20,7 +20,8 @@ use Rattle.expressions.specs.declared.error.Fault.{Fault}
 use Rattle.expressions.specs.declared.error.Fault.TheVariants.{Grammar, Deep}
 use Rattle.expressions.specs.declared.error.ParseError.{ParseError}
 use Rattle.expressions.specs.declared.error.ParseError.TheVariants as errors
-use Rattle.expressions.specs.Tree.{NameTree, ExpressionTree, constant, word, named, call, index, parenthesised, prefixed}
+use Rattle.expressions.specs.Tree.{NameTree, ExpressionTree, constant, word, named, call, index, parenthesised}
+use Rattle.expressions.specs.Tree.{prefixed}
 use Rattle.expressions.specs.Tree.{relative_of, property, property_length, property_entry, step_before, step_after}
 use Rattle.expressions.specs.Tree.{binary, compare, equal, contained, tested, assign, none, trees_of}
 use Rattle.expressions.specs.Operators.{logical, comparing, equating, containing, testing, adding, scaling, stepping}

@@ -1,7 +1,8 @@
 //! Laws of expressions. The functions do nothing: they carry the laws as their contracts.
 
-ghost use Rattle.expressions.specs.Laws.{ReadsWhatDerives, DerivesWhatIsRead, DeepWhereDeep, OneTree};
-ghost use Rattle.expressions.specs.Laws.{ReadsUnassigned, UnassignedIsRead, UnassignedDeep, OneUnassigned};
+ghost use Rattle.expressions.specs.Laws.{ReadsWhatDerives, DerivesWhatIsRead, DeepWhereDeep};
+ghost use Rattle.expressions.specs.Laws.{OneTree, ReadsUnassigned, UnassignedIsRead};
+ghost use Rattle.expressions.specs.Laws.{UnassignedDeep, OneUnassigned};
 
 /// What `expression` gives is what the grammar says: the function on lists that its contract cites reads the trees of the
 /// grammar, each list of tokens has one, and a fault of depth comes only where a token stands too deep.

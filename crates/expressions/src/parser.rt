@@ -3,12 +3,13 @@
 //! Each takes how many nestings more may be opened and the tokens from a place on, and gives the tree and the tokens after
 //! it. A token that opens a nesting is tested where it stands.
 
-ghost use Rattle.std.specs.Prelude.{◌≡◌, ◌∷◌, map};
+ghost use Rattle.std.specs.Prelude.{map};
 ghost use Rattle.lexer.specs.Token.{lexemes};
 ghost use Rattle.expressions.specs.Tree.{name_tree, expression_tree};
 ghost use Rattle.expressions.specs.Parse as spec;
 ghost use Rattle.expressions.specs.Operators as operators;
 ghost use Rattle.expressions.specs.Parse.{Gives, tail};
+ghost use Rattle.expressions.specs.Returned.{Reads, ReadsExpression, values_tree};
 ghost use Rattle.expressions.specs.Levels.{operand_of, chain_of};
 
 use crate::error::{Fault, ParseError};
@@ -40,8 +41,7 @@ pub fn expression<'t, 'a>(
     depth: usize,
     tokens: &'t [Token<'a>],
 ) -> Result<(Box<Expression<'a>>, &'t [Token<'a>]), ParseError>
-    ensures { Gives (λ x. (expression_tree x.0.value, lexemes x.1.now)) result
-        (spec.expression (spec.nested depth) (lexemes tokens.now)) }
+    ensures { ReadsExpression result (spec.expression (spec.nested depth) (lexemes tokens.now)) }
 {
     let (left, rest) = chain(alloc, depth, Operators::Logical, tokens)?;
     if !is_sign(peek(rest), Sign::Assign) {
@@ -58,8 +58,7 @@ pub fn unassigned<'t, 'a>(
     depth: usize,
     tokens: &'t [Token<'a>],
 ) -> Result<(Box<Expression<'a>>, &'t [Token<'a>]), ParseError>
-    ensures { Gives (λ x. (expression_tree x.0.value, lexemes x.1.now)) result
-        (spec.condition (spec.nested depth) (lexemes tokens.now)) }
+    ensures { ReadsExpression result (spec.condition (spec.nested depth) (lexemes tokens.now)) }
 {
     chain(alloc, depth, Operators::Logical, tokens)
 }
@@ -72,8 +71,7 @@ fn assigned<'t, 'a>(
     depth: usize,
     tokens: &'t [Token<'a>],
 ) -> Result<(Box<Expression<'a>>, &'t [Token<'a>]), ParseError>
-    ensures { Gives (λ x. (expression_tree x.0.value, lexemes x.1.now)) result
-        (spec.assigned (spec.nested depth) (lexemes tokens.now)) }
+    ensures { ReadsExpression result (spec.assigned (spec.nested depth) (lexemes tokens.now)) }
 {
     if !begins_expression(peek(tokens)) {
         return Err(fault_at(Fault::Grammar, tokens));
@@ -90,8 +88,7 @@ fn within<'t, 'a>(
     opening: &[Token<'a>],
     tokens: &'t [Token<'a>],
 ) -> Result<(Box<Expression<'a>>, &'t [Token<'a>]), ParseError>
-    ensures { Gives (λ x. (expression_tree x.0.value, lexemes x.1.now)) result
-        (spec.nested depth spec.whole (lexemes tokens.now)) }
+    ensures { ReadsExpression result (spec.nested depth spec.whole (lexemes tokens.now)) }
 {
     let inside = open(depth, opening)?;
     expression(alloc, inside, tokens)
@@ -106,8 +103,7 @@ fn chain<'t, 'a>(
     operators: Operators,
     tokens: &'t [Token<'a>],
 ) -> Result<(Box<Expression<'a>>, &'t [Token<'a>]), ParseError>
-    ensures { Gives (λ x. (expression_tree x.0.value, lexemes x.1.now))
-        result (chain_of (spec.nested depth) operators (lexemes tokens.now)) }
+    ensures { ReadsExpression result (chain_of (spec.nested depth) operators (lexemes tokens.now)) }
 {
     let (first, at_operator) = operand(alloc, depth, operators, tokens)?;
     let Some(joining) = operator(operators, peek(at_operator)) else {
@@ -135,8 +131,8 @@ fn operand<'t, 'a>(
     operators: Operators,
     tokens: &'t [Token<'a>],
 ) -> Result<(Box<Expression<'a>>, &'t [Token<'a>]), ParseError>
-    ensures { Gives (λ x. (expression_tree x.0.value, lexemes x.1.now))
-        result (operand_of (spec.nested depth) operators (lexemes tokens.now)) }
+    ensures { ReadsExpression result
+        (operand_of (spec.nested depth) operators (lexemes tokens.now)) }
 {
     match operators {
         Operators::Logical => negated(alloc, depth, tokens),
@@ -153,8 +149,7 @@ fn negated<'t, 'a>(
     depth: usize,
     tokens: &'t [Token<'a>],
 ) -> Result<(Box<Expression<'a>>, &'t [Token<'a>]), ParseError>
-    ensures { Gives (λ x. (expression_tree x.0.value, lexemes x.1.now)) result
-        (spec.negated (spec.nested depth) (lexemes tokens.now)) }
+    ensures { ReadsExpression result (spec.negated (spec.nested depth) (lexemes tokens.now)) }
 {
     if !is_sign(peek(tokens), Sign::Not) {
         return comparison(alloc, depth, tokens);
@@ -172,8 +167,7 @@ fn comparison<'t, 'a>(
     depth: usize,
     tokens: &'t [Token<'a>],
 ) -> Result<(Box<Expression<'a>>, &'t [Token<'a>]), ParseError>
-    ensures { Gives (λ x. (expression_tree x.0.value, lexemes x.1.now)) result
-        (spec.comparison (spec.nested depth) (lexemes tokens.now)) }
+    ensures { ReadsExpression result (spec.comparison (spec.nested depth) (lexemes tokens.now)) }
 {
     let (left, rest) = chain(alloc, depth, Operators::Adding, tokens)?;
     if let Some(comparison) = comparing(peek(rest)) {
@@ -199,7 +193,7 @@ fn values<'t, 'a>(
     depth: usize,
     tokens: &'t [Token<'a>],
 ) -> Result<(Box<Expression<'a>>, Vec<Expression<'a>>, &'t [Token<'a>]), ParseError>
-    ensures { Gives (λ x. (expression_tree x.0.value ∷ map expression_tree x.1.items, lexemes x.2.now)) result
+    ensures { Gives values_tree result
         (spec.list (spec.is_word Word.Or) (spec.sum (spec.nested depth)) (lexemes tokens.now)) }
 {
     let (first, mut rest) = chain(alloc, depth, Operators::Adding, tokens)?;
@@ -223,8 +217,7 @@ fn complemented<'t, 'a>(
     depth: usize,
     tokens: &'t [Token<'a>],
 ) -> Result<(Box<Expression<'a>>, &'t [Token<'a>]), ParseError>
-    ensures { Gives (λ x. (expression_tree x.0.value, lexemes x.1.now)) result
-        (spec.complemented (spec.nested depth) (lexemes tokens.now)) }
+    ensures { ReadsExpression result (spec.complemented (spec.nested depth) (lexemes tokens.now)) }
 {
     if !is_sign(peek(tokens), Sign::Tilde) {
         return indexed(alloc, depth, tokens);
@@ -241,8 +234,7 @@ fn indexed<'t, 'a>(
     depth: usize,
     tokens: &'t [Token<'a>],
 ) -> Result<(Box<Expression<'a>>, &'t [Token<'a>]), ParseError>
-    ensures { Gives (λ x. (expression_tree x.0.value, lexemes x.1.now)) result
-        (spec.indexed (spec.nested depth) (lexemes tokens.now)) }
+    ensures { ReadsExpression result (spec.indexed (spec.nested depth) (lexemes tokens.now)) }
 {
     let Some((array, width)) = array(tokens) else {
         return unindexed(alloc, depth, tokens);
@@ -258,8 +250,7 @@ fn unindexed<'t, 'a>(
     depth: usize,
     tokens: &'t [Token<'a>],
 ) -> Result<(Box<Expression<'a>>, &'t [Token<'a>]), ParseError>
-    ensures { Gives (λ x. (expression_tree x.0.value, lexemes x.1.now)) result
-        (spec.unindexed (spec.nested depth) (lexemes tokens.now)) }
+    ensures { ReadsExpression result (spec.unindexed (spec.nested depth) (lexemes tokens.now)) }
 {
     if prefixes(peek(tokens)) {
         return unary(alloc, depth, tokens);
@@ -279,7 +270,7 @@ fn entry<'t, 'a>(
     owner: Box<Expression<'a>>,
     tokens: &'t [Token<'a>],
 ) -> Result<(Box<Expression<'a>>, &'t [Token<'a>]), ParseError>
-    ensures { Gives (λ x. (expression_tree x.0.value, lexemes x.1.now)) result
+    ensures { ReadsExpression result
         (spec.entry (spec.nested depth) (expression_tree owner.entry.value) (lexemes tokens.now)) }
 {
     let (name, rest) = property_name(tokens)?;
@@ -295,8 +286,7 @@ fn unary<'t, 'a>(
     depth: usize,
     tokens: &'t [Token<'a>],
 ) -> Result<(Box<Expression<'a>>, &'t [Token<'a>]), ParseError>
-    ensures { Gives (λ x. (expression_tree x.0.value, lexemes x.1.now)) result
-        (spec.unary (spec.nested depth) (lexemes tokens.now)) }
+    ensures { ReadsExpression result (spec.unary (spec.nested depth) (lexemes tokens.now)) }
 {
     let after = skip(tokens);
     if is_sign(peek(tokens), Sign::Minus) {
@@ -319,8 +309,7 @@ fn primary<'t, 'a>(
     depth: usize,
     tokens: &'t [Token<'a>],
 ) -> Result<(Box<Expression<'a>>, &'t [Token<'a>]), ParseError>
-    ensures { Gives (λ x. (expression_tree x.0.value, lexemes x.1.now)) result
-        (spec.primary (spec.nested depth) (lexemes tokens.now)) }
+    ensures { ReadsExpression result (spec.primary (spec.nested depth) (lexemes tokens.now)) }
 {
     parts::with_properties(alloc, atom(alloc, depth, tokens))
 }
@@ -333,8 +322,7 @@ fn atom<'t, 'a>(
     depth: usize,
     tokens: &'t [Token<'a>],
 ) -> Result<(Box<Expression<'a>>, &'t [Token<'a>]), ParseError>
-    ensures { Gives (λ x. (expression_tree x.0.value, lexemes x.1.now)) result
-        (spec.atom (spec.nested depth) (lexemes tokens.now)) }
+    ensures { ReadsExpression result (spec.atom (spec.nested depth) (lexemes tokens.now)) }
 {
     let token = peek(tokens);
     let rest = skip(tokens);
@@ -364,7 +352,7 @@ fn after_name<'t, 'a>(
     name: Name<'a>,
     tokens: &'t [Token<'a>],
 ) -> Result<(Box<Expression<'a>>, &'t [Token<'a>]), ParseError>
-    ensures { Gives (λ x. (expression_tree x.0.value, lexemes x.1.now)) result
+    ensures { ReadsExpression result
         (spec.after_name (spec.nested depth) (name_tree name.entry) (lexemes tokens.now)) }
 {
     if !is_sign(peek(tokens), Sign::OpenParenthesis) {
@@ -381,7 +369,7 @@ fn enclosed<'t, 'a>(
     depth: usize,
     tokens: &'t [Token<'a>],
 ) -> Result<(Box<Expression<'a>>, &'t [Token<'a>]), ParseError>
-    ensures { Gives (λ x. (expression_tree x.0.value, lexemes x.1.now)) result
+    ensures { ReadsExpression result
         (spec.enclosed (spec.nested depth) (tail (lexemes tokens.now))) }
 {
     let inside = within(alloc, depth, tokens, skip(tokens));
@@ -396,8 +384,8 @@ fn reserved<'t, 'a>(
     word: Word,
     tokens: &'t [Token<'a>],
 ) -> Result<(Box<Expression<'a>>, &'t [Token<'a>]), ParseError>
-    ensures { Gives (λ x. (expression_tree x.0.value, lexemes x.1.now)) result
-        (spec.word_on (spec.nested depth) word (operators.relating_word word) (tail (lexemes tokens.now))) }
+    ensures { ReadsExpression result (spec.word_on (spec.nested depth) word
+        (operators.relating_word word) (tail (lexemes tokens.now))) }
 {
     let Some(relative) = relating_word(word) else {
         return parts::word_constant(alloc, word, tokens);
@@ -414,7 +402,7 @@ fn related<'t, 'a>(
     relative: Relative,
     tokens: &'t [Token<'a>],
 ) -> Result<(Box<Expression<'a>>, &'t [Token<'a>]), ParseError>
-    ensures { Gives (λ x. (expression_tree x.0.value, lexemes x.1.now)) result
+    ensures { ReadsExpression result
         (spec.related (spec.nested depth) relative (lexemes tokens.now)) }
 {
     if !is_sign(peek(tokens), Sign::OpenParenthesis) {
@@ -433,7 +421,7 @@ fn called<'t, 'a>(
     name: Name<'a>,
     tokens: &'t [Token<'a>],
 ) -> Result<(Box<Expression<'a>>, &'t [Token<'a>]), ParseError>
-    ensures { Gives (λ x. (expression_tree x.0.value, lexemes x.1.now)) result
+    ensures { ReadsExpression result
         (spec.called (spec.nested depth) (name_tree name.entry) (lexemes tokens.now)) }
 {
     if is_sign(peek(tokens), Sign::CloseParenthesis) {
@@ -450,8 +438,8 @@ fn arguments<'t, 'a>(
     depth: usize,
     tokens: &'t [Token<'a>],
 ) -> Result<(Vec<Expression<'a>>, &'t [Token<'a>]), ParseError>
-    ensures { Gives (λ x. (map expression_tree x.0.items, lexemes x.1.now)) result
-        (spec.list (spec.is_sign Sign.Comma) (spec.expression (spec.nested depth)) (lexemes tokens.now)) }
+    ensures { Reads (λ xs. map expression_tree xs.items) result (spec.list
+        (spec.is_sign Sign.Comma) (spec.expression (spec.nested depth)) (lexemes tokens.now)) }
 {
     let mut arguments = Vec::new(alloc);
     let (first, mut rest) = expression(alloc, depth, tokens)?;

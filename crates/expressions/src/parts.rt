@@ -9,12 +9,14 @@
 //! Those of the part; `Memory` where a growth is refused; `Fault::Grammar` where a parenthesis is not closed, and where a
 //! name is to stand and does not.
 
-ghost use Rattle.std.specs.Prelude.{◌≡◌, ◌∷◌, IfErr, IfOk, Ok, Result, length, map, List, [], ◌++◌};
+ghost use Rattle.std.specs.Prelude.{◌≡◌, ◌∷◌, IfErr, IfOk, Ok, length, map, List, [], ◌++◌};
 ghost use Rattle.lexer.specs.Token.{Lexeme, lexeme, lexemes, position_of};
 ghost use Rattle.expressions.specs.Tree as tree;
-ghost use Rattle.expressions.specs.Tree.{ExpressionTree, chained, link, name_tree, expression_tree, trees_of};
+ghost use Rattle.expressions.specs.Tree.{ExpressionTree, chained, link, name_tree};
+ghost use Rattle.expressions.specs.Tree.{expression_tree, trees_of};
 ghost use Rattle.expressions.specs.Parse as spec;
-ghost use Rattle.expressions.specs.Parse.{Gives, GoesOn, ReadOne};
+ghost use Rattle.expressions.specs.Parse.{GoesOn, ReadOne};
+ghost use Rattle.expressions.specs.Returned.{ReadsExpression, BuildsOn, values_tree};
 
 use crate::error::{Fault, ParseError};
 use crate::operators::{stepping, testing, word_value};
@@ -31,7 +33,7 @@ fn in_box<'t, 'a>(
     tree: Expression<'a>,
     rest: &'t [Token<'a>],
 ) -> Result<(Box<Expression<'a>>, &'t [Token<'a>]), ParseError>
-    ensures { Gives {Y = ReadOne} (λ x. (expression_tree x.0.value, lexemes x.1.now)) result (Ok (expression_tree tree.entry, lexemes rest.now)) }
+    ensures { ReadsExpression result (Ok (expression_tree tree.entry, lexemes rest.now)) }
 {
     match Box::new(alloc, tree) {
         Ok(tree) => Ok((tree, rest)),
@@ -45,7 +47,7 @@ pub fn constant<'t, 'a>(
     value: u16,
     rest: &'t [Token<'a>],
 ) -> Result<(Box<Expression<'a>>, &'t [Token<'a>]), ParseError>
-    ensures { Gives {Y = ReadOne} (λ x. (expression_tree x.0.value, lexemes x.1.now)) result (Ok (tree.constant value, lexemes rest.now)) }
+    ensures { ReadsExpression result (Ok (tree.constant value, lexemes rest.now)) }
 {
     in_box(alloc, Expression::Constant(value), rest)
 }
@@ -56,7 +58,7 @@ pub fn word_constant<'t, 'a>(
     word: Word,
     tokens: &'t [Token<'a>],
 ) -> Result<(Box<Expression<'a>>, &'t [Token<'a>]), ParseError>
-    ensures { Gives (λ x. (expression_tree x.0.value, lexemes x.1.now)) result
+    ensures { ReadsExpression result
         (spec.valued (spec.word_value word) (spec.tail (lexemes tokens.now))) }
 {
     match word_value(word) {
@@ -71,7 +73,7 @@ pub fn word<'t, 'a>(
     word: &'a [u8],
     rest: &'t [Token<'a>],
 ) -> Result<(Box<Expression<'a>>, &'t [Token<'a>]), ParseError>
-    ensures { Gives {Y = ReadOne} (λ x. (expression_tree x.0.value, lexemes x.1.now)) result (Ok (tree.word word.entry.now, lexemes rest.now)) }
+    ensures { ReadsExpression result (Ok (tree.word word.entry.now, lexemes rest.now)) }
 {
     in_box(alloc, Expression::Word(word), rest)
 }
@@ -82,7 +84,7 @@ pub fn named<'t, 'a>(
     name: Name<'a>,
     rest: &'t [Token<'a>],
 ) -> Result<(Box<Expression<'a>>, &'t [Token<'a>]), ParseError>
-    ensures { Gives {Y = ReadOne} (λ x. (expression_tree x.0.value, lexemes x.1.now)) result (Ok (tree.named (name_tree name.entry), lexemes rest.now)) }
+    ensures { ReadsExpression result (Ok (tree.named (name_tree name.entry), lexemes rest.now)) }
 {
     in_box(alloc, Expression::Named(name), rest)
 }
@@ -96,9 +98,9 @@ pub fn chain<'t, 'a>(
     links: Vec<(Binary, Expression<'a>)>,
     rest: &'t [Token<'a>],
 ) -> Result<(Box<Expression<'a>>, &'t [Token<'a>]), ParseError>
-    ensures { Gives {Y = ReadOne} (λ x. (expression_tree x.0.value, lexemes x.1.now)) result (Ok (
-      chained
-          (tree.binary operator (expression_tree first.entry.value) (expression_tree second.entry.value)) (map link links.entry.items),
+    ensures { ReadsExpression result (Ok (
+      chained (tree.binary operator (expression_tree first.entry.value)
+          (expression_tree second.entry.value)) (map link links.entry.items),
       lexemes rest.now,
     )) }
 {
@@ -115,7 +117,8 @@ pub fn add_link<'a>(
     operator: Binary,
     operand: Box<Expression<'a>>,
 ) -> Result<(), ParseError>
-    ensures ok { IfOk result (λ _. links.new.items ≡ links.old.items ++ (operator, operand.entry.value) ∷ []) }
+    ensures ok { IfOk result (λ _. links.new.items
+        ≡ links.old.items ++ (operator, operand.entry.value) ∷ []) }
     ensures err { IfErr result (λ e. e ≡ ParseError.Memory) }
 {
     links.push((operator, Box::into_inner(operand)))?;
@@ -127,7 +130,8 @@ pub fn add<'a>(
     expressions: &mut Vec<Expression<'a>>,
     next: Box<Expression<'a>>,
 ) -> Result<(), ParseError>
-    ensures ok { IfOk result (λ _. expressions.new.items ≡ expressions.old.items ++ next.entry.value ∷ []) }
+    ensures ok { IfOk result (λ _. expressions.new.items
+        ≡ expressions.old.items ++ next.entry.value ∷ []) }
     ensures err { IfErr result (λ e. e ≡ ParseError.Memory) }
 {
     expressions.push(Box::into_inner(next))?;
@@ -141,8 +145,7 @@ pub fn prefixed<'t, 'a>(
     operator: Prefix,
     operand: Result<(Box<Expression<'a>>, &'t [Token<'a>]), ParseError>,
 ) -> Result<(Box<Expression<'a>>, &'t [Token<'a>]), ParseError>
-    ensures { GoesOn {A = ReadOne} {B = ReadOne} (λ x. (expression_tree x.0.value, lexemes x.1.now)) operand.entry
-        (λ x. (expression_tree x.0.value, lexemes x.1.now)) result (λ x. Ok (tree.prefixed operator x.0, x.1)) }
+    ensures { BuildsOn operand.entry result (λ x. Ok (tree.prefixed operator x.0, x.1)) }
 {
     match operand {
         Ok((operand, rest)) => in_box(alloc, Expression::Prefixed(operator, operand), rest),
@@ -158,8 +161,7 @@ pub fn index<'t, 'a>(
     width: Width,
     index: Result<(Box<Expression<'a>>, &'t [Token<'a>]), ParseError>,
 ) -> Result<(Box<Expression<'a>>, &'t [Token<'a>]), ParseError>
-    ensures { GoesOn {A = ReadOne} {B = ReadOne} (λ x. (expression_tree x.0.value, lexemes x.1.now)) index.entry
-        (λ x. (expression_tree x.0.value, lexemes x.1.now)) result
+    ensures { BuildsOn index.entry result
         (λ x. Ok (tree.index (name_tree array.entry) width x.0, x.1)) }
 {
     match index {
@@ -176,9 +178,12 @@ pub fn property_entry<'t, 'a>(
     name: Name<'a>,
     index: Result<(Box<Expression<'a>>, &'t [Token<'a>]), ParseError>,
 ) -> Result<(Box<Expression<'a>>, &'t [Token<'a>]), ParseError>
-    ensures { GoesOn {A = ReadOne} {B = ReadOne} (λ x. (expression_tree x.0.value, lexemes x.1.now)) index.entry
-        (λ x. (expression_tree x.0.value, lexemes x.1.now)) result
-        (λ x. Ok (tree.property_entry (expression_tree owner.entry.value) (name_tree name.entry) x.0, x.1)) }
+    ensures { BuildsOn index.entry result
+        (λ x. Ok (
+          tree.property_entry (expression_tree owner.entry.value)
+              (name_tree name.entry) x.0,
+          x.1,
+        )) }
 {
     match index {
         Ok((index, rest)) => in_box(alloc, Expression::PropertyEntry(owner, name, index), rest),
@@ -192,8 +197,8 @@ fn properties<'t, 'a>(
     owner: Box<Expression<'a>>,
     tokens: &'t [Token<'a>],
 ) -> Result<(Box<Expression<'a>>, &'t [Token<'a>]), ParseError>
-    ensures { Gives (λ x. (expression_tree x.0.value, lexemes x.1.now)) result
-        (spec.properties (length (lexemes tokens.now)) (expression_tree owner.entry.value) (lexemes tokens.now)) }
+    ensures { ReadsExpression result (spec.properties (length (lexemes tokens.now))
+        (expression_tree owner.entry.value) (lexemes tokens.now)) }
 {
     if !is_sign(peek(tokens), Sign::Dot) {
         return Ok((owner, tokens));
@@ -218,8 +223,7 @@ pub fn with_properties<'t, 'a>(
     alloc: Global,
     owner: Result<(Box<Expression<'a>>, &'t [Token<'a>]), ParseError>,
 ) -> Result<(Box<Expression<'a>>, &'t [Token<'a>]), ParseError>
-    ensures { GoesOn {A = ReadOne} {B = ReadOne} (λ x. (expression_tree x.0.value, lexemes x.1.now)) owner.entry
-        (λ x. (expression_tree x.0.value, lexemes x.1.now)) result (λ x. spec.properties (length x.1) x.0 x.1) }
+    ensures { BuildsOn owner.entry result (λ x. spec.properties (length x.1) x.0 x.1) }
 {
     match owner {
         Ok((owner, rest)) => properties(alloc, owner, rest),
@@ -235,8 +239,7 @@ pub fn step_before<'t, 'a>(
     position: Position,
     operand: Result<(Box<Expression<'a>>, &'t [Token<'a>]), ParseError>,
 ) -> Result<(Box<Expression<'a>>, &'t [Token<'a>]), ParseError>
-    ensures { GoesOn {A = ReadOne} {B = ReadOne} (λ x. (expression_tree x.0.value, lexemes x.1.now)) operand.entry
-        (λ x. (expression_tree x.0.value, lexemes x.1.now)) result (λ x. Ok (tree.step_before step position x.0, x.1)) }
+    ensures { BuildsOn operand.entry result (λ x. Ok (tree.step_before step position x.0, x.1)) }
 {
     match operand {
         Ok((operand, rest)) => in_box(alloc, Expression::StepBefore(step, position, operand), rest),
@@ -252,12 +255,11 @@ fn step_after<'t, 'a>(
     operand: Box<Expression<'a>>,
     tokens: &'t [Token<'a>],
 ) -> Result<(Box<Expression<'a>>, &'t [Token<'a>]), ParseError>
-    ensures { Gives {Y = ReadOne} (λ x. (expression_tree x.0.value, lexemes x.1.now))
-        result (Ok (
-          tree.step_after (expression_tree operand.entry.value) step (position_of
-              (spec.head (lexemes tokens.now))),
-          spec.tail (lexemes tokens.now),
-        )) }
+    ensures { ReadsExpression result (Ok (
+      tree.step_after (expression_tree operand.entry.value) step (position_of
+          (spec.head (lexemes tokens.now))),
+      spec.tail (lexemes tokens.now),
+    )) }
 {
     let tree = Expression::StepAfter(operand, step, position(tokens));
     in_box(alloc, tree, skip(tokens))
@@ -269,7 +271,7 @@ fn lengthened<'t, 'a>(
     operand: Box<Expression<'a>>,
     tokens: &'t [Token<'a>],
 ) -> Result<(Box<Expression<'a>>, &'t [Token<'a>]), ParseError>
-    ensures { Gives (λ x. (expression_tree x.0.value, lexemes x.1.now)) result
+    ensures { ReadsExpression result
         (spec.lengthened (expression_tree operand.entry.value) (lexemes tokens.now)) }
 {
     if !is_sign(peek(tokens), Sign::DotHash) {
@@ -288,7 +290,7 @@ pub fn suffix<'t, 'a>(
     operand: Box<Expression<'a>>,
     tokens: &'t [Token<'a>],
 ) -> Result<(Box<Expression<'a>>, &'t [Token<'a>]), ParseError>
-    ensures { Gives (λ x. (expression_tree x.0.value, lexemes x.1.now)) result
+    ensures { ReadsExpression result
         (spec.suffixed (expression_tree operand.entry.value) (lexemes tokens.now)) }
 {
     match stepping(peek(tokens)) {
@@ -303,8 +305,7 @@ pub fn suffixed<'t, 'a>(
     alloc: Global,
     operand: Result<(Box<Expression<'a>>, &'t [Token<'a>]), ParseError>,
 ) -> Result<(Box<Expression<'a>>, &'t [Token<'a>]), ParseError>
-    ensures { GoesOn {A = ReadOne} {B = ReadOne} (λ x. (expression_tree x.0.value, lexemes x.1.now)) operand.entry
-        (λ x. (expression_tree x.0.value, lexemes x.1.now)) result (λ x. spec.suffixed x.0 x.1) }
+    ensures { BuildsOn operand.entry result (λ x. spec.suffixed x.0 x.1) }
 {
     match operand {
         Ok((operand, rest)) => suffix(alloc, operand, rest),
@@ -318,8 +319,7 @@ pub fn parenthesised<'t, 'a>(
     alloc: Global,
     enclosed: Result<(Box<Expression<'a>>, &'t [Token<'a>]), ParseError>,
 ) -> Result<(Box<Expression<'a>>, &'t [Token<'a>]), ParseError>
-    ensures { GoesOn {A = ReadOne} {B = ReadOne} (λ x. (expression_tree x.0.value, lexemes x.1.now)) enclosed.entry
-        (λ x. (expression_tree x.0.value, lexemes x.1.now)) result (spec.closed tree.parenthesised) }
+    ensures { BuildsOn enclosed.entry result (spec.closed tree.parenthesised) }
 {
     match enclosed {
         Ok((enclosed, rest)) => match expect(Sign::CloseParenthesis, rest) {
@@ -337,8 +337,7 @@ pub fn relative_of<'t, 'a>(
     relative: Relative,
     enclosed: Result<(Box<Expression<'a>>, &'t [Token<'a>]), ParseError>,
 ) -> Result<(Box<Expression<'a>>, &'t [Token<'a>]), ParseError>
-    ensures { GoesOn {A = ReadOne} {B = ReadOne} (λ x. (expression_tree x.0.value, lexemes x.1.now)) enclosed.entry
-        (λ x. (expression_tree x.0.value, lexemes x.1.now)) result (spec.closed (tree.relative_of relative)) }
+    ensures { BuildsOn enclosed.entry result (spec.closed (tree.relative_of relative)) }
 {
     match enclosed {
         Ok((enclosed, rest)) => match expect(Sign::CloseParenthesis, rest) {
@@ -357,8 +356,7 @@ pub fn contained<'t, 'a>(
     operator: Containment,
     right: Result<(Box<Expression<'a>>, &'t [Token<'a>]), ParseError>,
 ) -> Result<(Box<Expression<'a>>, &'t [Token<'a>]), ParseError>
-    ensures { GoesOn {A = ReadOne} {B = ReadOne} (λ x. (expression_tree x.0.value, lexemes x.1.now)) right.entry
-        (λ x. (expression_tree x.0.value, lexemes x.1.now)) result
+    ensures { BuildsOn right.entry result
         (λ x. Ok (tree.contained operator (expression_tree left.entry.value) x.0, x.1)) }
 {
     match right {
@@ -373,7 +371,7 @@ pub fn tested<'t, 'a>(
     left: Box<Expression<'a>>,
     tokens: &'t [Token<'a>],
 ) -> Result<(Box<Expression<'a>>, &'t [Token<'a>]), ParseError>
-    ensures { Gives (λ x. (expression_tree x.0.value, lexemes x.1.now)) result
+    ensures { ReadsExpression result
         (spec.tested_next (expression_tree left.entry.value) (lexemes tokens.now)) }
 {
     let Some(test) = testing(peek(tokens)) else {
@@ -393,8 +391,7 @@ pub fn compare<'t, 'a>(
     operator: Comparison,
     right: Result<(Box<Expression<'a>>, &'t [Token<'a>]), ParseError>,
 ) -> Result<(Box<Expression<'a>>, &'t [Token<'a>]), ParseError>
-    ensures { GoesOn {A = ReadOne} {B = ReadOne} (λ x. (expression_tree x.0.value, lexemes x.1.now)) right.entry
-        (λ x. (expression_tree x.0.value, lexemes x.1.now)) result
+    ensures { BuildsOn right.entry result
         (λ x. Ok (tree.compare operator (expression_tree left.entry.value) x.0, x.1)) }
 {
     match right {
@@ -411,8 +408,7 @@ pub fn assign<'t, 'a>(
     position: Position,
     right: Result<(Box<Expression<'a>>, &'t [Token<'a>]), ParseError>,
 ) -> Result<(Box<Expression<'a>>, &'t [Token<'a>]), ParseError>
-    ensures { GoesOn {A = ReadOne} {B = ReadOne} (λ x. (expression_tree x.0.value, lexemes x.1.now)) right.entry
-        (λ x. (expression_tree x.0.value, lexemes x.1.now)) result
+    ensures { BuildsOn right.entry result
         (λ x. Ok (tree.assign (expression_tree left.entry.value) position x.0, x.1)) }
 {
     match right {
@@ -429,8 +425,7 @@ pub fn equal<'t, 'a>(
     operator: Equality,
     values: Result<(Box<Expression<'a>>, Vec<Expression<'a>>, &'t [Token<'a>]), ParseError>,
 ) -> Result<(Box<Expression<'a>>, &'t [Token<'a>]), ParseError>
-    ensures { GoesOn {A = List ExpressionTree × List Lexeme} {B = ReadOne}
-        (λ x. (expression_tree x.0.value ∷ map expression_tree x.1.items, lexemes x.2.now)) values.entry
+    ensures { GoesOn {B = ReadOne} values_tree values.entry
         (λ x. (expression_tree x.0.value, lexemes x.1.now)) result
         (λ x. Ok (tree.equal operator (expression_tree left.entry.value) (trees_of x.0), x.1)) }
 {
@@ -473,7 +468,8 @@ pub fn call_alone<'t, 'a>(
     name: Name<'a>,
     rest: &'t [Token<'a>],
 ) -> Result<(Box<Expression<'a>>, &'t [Token<'a>]), ParseError>
-    ensures { Gives {Y = ReadOne} (λ x. (expression_tree x.0.value, lexemes x.1.now)) result (Ok (tree.call (name_tree name.entry) tree.none, lexemes rest.now)) }
+    ensures { ReadsExpression result
+        (Ok (tree.call (name_tree name.entry) tree.none, lexemes rest.now)) }
 {
     in_box(alloc, Expression::Call(name, Vec::new(alloc)), rest)
 }

@@ -101,7 +101,8 @@ pub fn array<'a>(tokens: &[Token<'a>]) -> Option<(Name<'a>, Width)>
 pub fn expect_name<'t, 'a>(
     tokens: &'t [Token<'a>],
 ) -> Result<(Name<'a>, &'t [Token<'a>]), ParseError>
-    ensures { Gives (λ x. (name_tree x.0, lexemes x.1.now)) result (spec.expect_name (lexemes tokens.now)) }
+    ensures { Gives (λ x. (name_tree x.0, lexemes x.1.now)) result
+        (spec.expect_name (lexemes tokens.now)) }
 {
     let Some(name) = name_of(peek(tokens)) else {
         return Err(fault_at(Fault::Grammar, tokens));
@@ -118,7 +119,8 @@ pub fn expect_name<'t, 'a>(
 pub fn property_name<'t, 'a>(
     tokens: &'t [Token<'a>],
 ) -> Result<(Name<'a>, &'t [Token<'a>]), ParseError>
-    ensures { Gives (λ x. (name_tree x.0, lexemes x.1.now)) result (spec.entry_of (lexemes tokens.now)) }
+    ensures { Gives (λ x. (name_tree x.0, lexemes x.1.now)) result
+        (spec.entry_of (lexemes tokens.now)) }
 {
     match expect_name(tokens) {
         Ok((name, rest)) => match expect(Sign::LongArrow, rest) {
@@ -143,8 +145,8 @@ pub fn fault_at(fault: Fault, tokens: &[Token<'_>]) -> ParseError
 /// `Fault::Deep` at that token: no nesting is left.
 pub fn open<'a>(depth: usize, tokens: &[Token<'a>]) -> Result<usize, ParseError>
     ensures opened { IfOk result (λ inside. depth ≡ inside + 1) }
-    ensures refused { IfErr result
-        (λ e. (depth ≡ 0) × (e ≡ ParseError.Fault Fault.Deep (position_of (spec.head (lexemes tokens.now))).line)) }
+    ensures refused { IfErr result (λ e. (depth ≡ 0)
+        × (e ≡ ParseError.Fault Fault.Deep (position_of (spec.head (lexemes tokens.now))).line)) }
 {
     if depth == 0 {
         return Err(fault_at(Fault::Deep, tokens));

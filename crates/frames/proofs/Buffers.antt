@@ -11,7 +11,7 @@ use Rattle.zcore.specs.Parts.{test, store_result, goes_on, is_parse_buffer, test
 use Rattle.zcore.specs.declared.place.Fault.TheVariants as faults
 use Rattle.zcore.specs.declared.place.Place.TheVariants as places
 use Rattle.zcore.specs.State.{Pending, State, Out, ◌>>=◌}
-use Rattle.zcore.specs.Text.{lower_case}
+use Rattle.ztext.specs.Text.{lower_case}
 use Rattle.zcore.specs.Turn.{with_bytes, with_letters, letters_for, with_line, given}
 use Rattle.frames.specs.Contents.{Contents, memory_of}
 use Rattle.frames.specs.Lines.{Filled, WaitsNoMore}

@@ -9,6 +9,7 @@ pub mod InPlace
 pub mod Bytes
 pub mod Storing
 pub mod Entering
+pub mod Leaving
 pub mod Beginning
 pub mod Lines
 pub mod Filling

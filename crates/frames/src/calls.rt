@@ -86,7 +86,8 @@ pub fn enter(
     requires ready { CanEnter store.old.store routine }
     requires room { frame_count (slice_index store.old.store.cells) < record_count }
     requires few { length arguments.now ≤ 15 }
-    ensures { Went result store.old store.new (enter routine arguments.now result_variable return_address) }
+    ensures { Went result store.old store.new
+        (enter routine arguments.now result_variable return_address) }
 {
     let count = store.store().memory()[routine] as usize;
     let base = height(store);

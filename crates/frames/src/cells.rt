@@ -1,10 +1,9 @@
 //! Cells of a recorded store, by what they hold.
 
-ghost use Rattle.std.specs.Prelude.{◌≡◌, ℕ, ◌<◌, ◌≤◌, ◌+◌, ◌-◌, ◌*◌, ◌/◌, ◌%◌, [], ◌∷◌, List, length, slice_index, OnOk, OnErr};
+ghost use Rattle.std.specs.Prelude.{◌≡◌, ◌<◌, ◌≤◌, ◌+◌, length, slice_index, OnOk, OnErr};
 ghost use Rattle.frames.specs.Layout.{words_before_memory};
-ghost use Rattle.frames.specs.Contents.{Wrote};
-ghost use Rattle.frames.specs.States.{long_at, state_of, program_counter_of, IsSound};
-ghost use Rattle.frames.specs.Went.{GoesOn, GivenUp};
+ghost use Rattle.frames.specs.States.{long_at, two_cells, program_counter_of, IsSound};
+ghost use Rattle.frames.specs.Went.{Abandons, GivenUp, KeepsCounter, Puts};
 
 use crate::layout::PROGRAM_COUNTER;
 use crate::store::Store;
@@ -38,9 +37,9 @@ pub(crate) fn put_all(
 ) -> Result<(), NoMemory>
     requires size { at + length values.now ≤ length store.old.store.cells }
     requires words { at + length values.now ≤ words_before_memory }
-    ensures cells { OnOk result (Wrote store.old.store.cells store.new.store.cells at values.now) }
+    ensures cells { OnOk result (Puts store.old store.new at values.now) }
     ensures beginning { OnOk result (store.new.beginning ≡ store.old.beginning) }
-    ensures abandoned { OnErr result ((store.new.store.cells ≡ store.old.beginning) × (store.new.beginning ≡ store.old.beginning) × (store.new.kept ≡ [])) }
+    ensures abandoned { OnErr result (Abandons store.old store.new) }
     ensures fixed { store.new.store.fixed ≡ store.old.store.fixed }
 {
     for (i, value) in values.iter().enumerate() {
@@ -54,9 +53,9 @@ pub(crate) fn put_all(
 pub(crate) fn put_long(store: &mut Recorded<Store>, at: usize, number: u32) -> Result<(), NoMemory>
     requires size { at + 2 ≤ length store.old.store.cells }
     requires words { at + 2 ≤ words_before_memory }
-    ensures cells { OnOk result (Wrote store.old.store.cells store.new.store.cells at (number / 65536 ∷ number % 65536 ∷ [])) }
+    ensures cells { OnOk result (Puts store.old store.new at (two_cells number)) }
     ensures beginning { OnOk result (store.new.beginning ≡ store.old.beginning) }
-    ensures abandoned { OnErr result ((store.new.store.cells ≡ store.old.beginning) × (store.new.beginning ≡ store.old.beginning) × (store.new.kept ≡ [])) }
+    ensures abandoned { OnErr result (Abandons store.old store.new) }
     ensures fixed { store.new.store.fixed ≡ store.old.store.fixed }
 {
     let high = (number / 65_536) as u16;
@@ -84,7 +83,7 @@ pub fn set_program_counter(
     program_counter: u32,
 ) -> Result<(), NoMemory>
     requires { IsSound store.old.store }
-    ensures kept { OnOk result (GoesOn store.old store.new × ((text : List ℕ) → state_of store.new.store text ≡ state_of store.old.store text) × (program_counter_of (slice_index store.new.store.cells) ≡ program_counter)) }
+    ensures kept { OnOk result (KeepsCounter store.old store.new program_counter) }
     ensures given_up { OnErr result (GivenUp store.old store.new) }
 {
     put_long(store, PROGRAM_COUNTER, program_counter)?;

@@ -2,9 +2,8 @@
 
 ghost use Rattle.std.specs.Prelude.{◌≡◌, ◌+◌, ◌≤◌, ◌∷◌, length, take, OnOk, OnErr};
 ghost use Rattle.zcore.specs.Header.{static_base_of};
-ghost use Rattle.zcore.specs.Turn.{with_bytes};
 ghost use Rattle.frames.specs.Contents.{memory_of};
-ghost use Rattle.frames.specs.Lines.{Filled};
+ghost use Rattle.frames.specs.Lines.{Fills};
 ghost use Rattle.frames.specs.States.{IsSound};
 ghost use Rattle.frames.specs.Went.{GivenUp};
 
@@ -22,7 +21,7 @@ pub(crate) fn fill_counted(
     requires sound { IsSound store.old.store }
     requires behind_header { 64 ≤ at }
     requires room { at + 1 + length bytes.now ≤ static_base_of (memory_of store.old.store) }
-    ensures filled { OnOk result (Filled store.old store.new (with_bytes (memory_of store.old.store) at (count ∷ bytes.now))) }
+    ensures filled { OnOk result (Fills store.old store.new at (count ∷ bytes.now)) }
     ensures given_up { OnErr result (GivenUp store.old store.new) }
 {
     fill(store, at, &[count])?;
@@ -34,7 +33,7 @@ fn fill(store: &mut Recorded<Store>, at: usize, bytes: &[u8]) -> Result<(), NoMe
     requires sound { IsSound store.old.store }
     requires behind_header { 64 ≤ at }
     requires room { at + length bytes.now ≤ static_base_of (memory_of store.old.store) }
-    ensures filled { OnOk result (Filled store.old store.new (with_bytes (memory_of store.old.store) at bytes.now)) }
+    ensures filled { OnOk result (Fills store.old store.new at bytes.now) }
     ensures given_up { OnErr result (GivenUp store.old store.new) }
 {
     for (i, byte) in bytes.iter().enumerate() {

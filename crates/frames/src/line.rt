@@ -1,16 +1,13 @@
 //! Waiting for a line, and the line that is then given.
 
-ghost use Rattle.std.specs.Prelude.{◌≡◌, ◌≢◌, ◌≤◌, ◌+◌, ◌*◌, ℕ, [], Some, length, map, take, slice_index, OnOk, OnErr};
+ghost use Rattle.std.specs.Prelude.{◌≡◌, ◌≢◌, ◌≤◌, length, map, take, OnOk, OnErr};
 ghost use Rattle.zcore.specs.Header.{static_base_of};
 ghost use Rattle.zcore.specs.Parts.{is_text_buffer, test_text_buffer, is_parse_buffer, test_parse_buffer, wait};
-ghost use Rattle.zcore.specs.State.{Pending};
-ghost use Rattle.zcore.specs.Text as texts;
-ghost use Rattle.zcore.specs.Turn.{given, with_line};
-ghost use Rattle.frames.specs.Contents.{memory_of};
-ghost use Rattle.frames.specs.Lines.{Filled, WaitsNoMore};
-ghost use Rattle.frames.specs.Playing.{IsWaiting};
-ghost use Rattle.frames.specs.States.{pending_of, IsSound, IsStoreOf};
-ghost use Rattle.frames.specs.Went.{GivenUp, Went, Told};
+ghost use Rattle.ztext.specs.Text as texts;
+ghost use Rattle.frames.specs.Lines.{FillsBuffers, HasRoomForLetters, HasRoomForWords, WaitsNoMore};
+ghost use Rattle.frames.specs.Playing.{IsWaiting, TakesLine};
+ghost use Rattle.frames.specs.States.{IsSound, IsStoreOf};
+ghost use Rattle.frames.specs.Went.{GivenUp, Went};
 
 use crate::calls::{variable_cell, variable_in};
 use crate::cells::{cell, long, put_all};
@@ -114,7 +111,12 @@ pub fn wait(
     return_address: u32,
 ) -> Result<Next, End>
     requires { IsSound store.old.store }
-    ensures { Went result store.old store.new (wait (record { text_buffer = text_buffer; parse_buffer = parse_buffer; result = result_variable; return_address = return_address })) }
+    ensures { Went result store.old store.new (wait (record {
+      text_buffer = text_buffer;
+      parse_buffer = parse_buffer;
+      result = result_variable;
+      return_address = return_address;
+    })) }
 {
     let registers = [
         1,
@@ -144,7 +146,7 @@ pub fn give_line(
 ) -> Result<Next, End>
     requires store { IsStoreOf header.now store.old.store }
     requires waiting { IsWaiting store.old.store }
-    ensures { (pending : Pending) → pending_of (slice_index store.old.store.cells) ≡ Some pending → Told result store.old [] store.new [] (given pending line.now fuel) }
+    ensures { TakesLine result store.old store.new line.now fuel }
 {
     let text_buffer = cell(store, TEXT_BUFFER) as usize;
     let parse_buffer = cell(store, PARSE_BUFFER) as usize;
@@ -175,10 +177,11 @@ fn fill_buffers(
     requires store { IsStoreOf header.now store.old.store }
     requires few { length letters.now ≤ 255 }
     requires behind_header { 64 ≤ text_buffer }
-    requires room { text_buffer + 2 + length letters.now ≤ static_base_of (memory_of store.old.store) }
+    requires room { HasRoomForLetters store.old.store text_buffer (length letters.now) }
     requires words_behind_header { parse_buffer ≢ 0 → 64 ≤ parse_buffer }
-    requires words_room { parse_buffer ≢ 0 → parse_buffer + 2 + 4 * slice_index (memory_of store.old.store) parse_buffer ≤ static_base_of (memory_of store.old.store) }
-    ensures filled { OnOk result (Filled store.old store.new (with_line (memory_of store.old.store) text_buffer parse_buffer letters.now)) }
+    requires words_room { HasRoomForWords store.old.store parse_buffer }
+    ensures filled { OnOk result (FillsBuffers store.old store.new
+        text_buffer parse_buffer letters.now) }
     ensures given_up { OnErr result (GivenUp store.old store.new) }
 {
     if parse_buffer == 0 {

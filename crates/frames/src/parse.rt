@@ -1,9 +1,9 @@
 //! The words of a line as bytes for a parse buffer (Z-Machine Standards Document 1.1, section 13.6).
 
 ghost use Rattle.std.specs.Prelude.{◌≡◌, ◌≤◌, ◌+◌, ◌*◌, ◌++◌, length, take};
-ghost use Rattle.std.specs.List.{flat_map};
 ghost use Rattle.zcore.specs.Header.{IsDictionary};
 ghost use Rattle.zcore.specs.Parsing.{separators_of, first_words, word_bytes};
+ghost use Rattle.frames.specs.Lines.{words_parsed};
 ghost use Rattle.tables.specs.Placed.{word_of};
 
 use tables::{Word, cut_line, lookup};
@@ -25,7 +25,8 @@ pub(crate) fn parse(
     requires few { length letters.now ≤ 255 }
     ensures count { result ≡ length (first_words memory.now dictionary letters.now most) }
     ensures few { result ≤ most }
-    ensures bytes { take (4 * result) bytes.new ≡ flat_map (word_bytes memory.now dictionary) (first_words memory.now dictionary letters.now most) }
+    ensures bytes { take (4 * result) bytes.new
+        ≡ words_parsed memory.now dictionary letters.now most }
 {
     let mut words = cut_line(letters, separators(memory, dictionary));
     let mut count = 0;
@@ -55,7 +56,8 @@ fn put_word(memory: &[u8], dictionary: u16, word: Word, bytes: &mut [u8; 1020], 
     requires dictionary { IsDictionary memory.now dictionary }
     requires room { at + 4 ≤ 1020 }
     requires within { word.place + length word.bytes.now ≤ 255 }
-    ensures { take (at + 4) bytes.new ≡ take at bytes.old ++ word_bytes memory.now dictionary (word_of word.entry) }
+    ensures { take (at + 4) bytes.new
+        ≡ take at bytes.old ++ word_bytes memory.now dictionary (word_of word.entry) }
 {
     let entry = lookup(memory, dictionary, &word_key(word.bytes));
     bytes[at] = (entry / 256) as u8;

@@ -1,7 +1,7 @@
 //! Results of instructions.
 
-ghost use Rattle.std.specs.Prelude.{◌≡◌, ◌+◌, ◌-◌, ◌*◌, ◌<◌, drop, slice_index};
-ghost use Rattle.frames.specs.Layout.{base_cell, record_length};
+ghost use Rattle.std.specs.Prelude.{◌≡◌, ◌<◌, drop, slice_index};
+ghost use Rattle.frames.specs.Running.{running_record};
 ghost use Rattle.frames.specs.States.{frame_count, IsSound, IsStoreOf};
 ghost use Rattle.frames.specs.Went.{Went};
 ghost use Rattle.zcore.specs.Parts.{can_store, test_result, store_result};
@@ -75,7 +75,7 @@ pub(crate) fn test_caller(
 ) -> Result<(), End>
     requires sound { IsSound store.now.store }
     requires called { 1 < frame_count (slice_index store.now.store.cells) }
-    requires running { at ≡ base_cell + record_length * (frame_count (slice_index store.now.store.cells) - 1) }
+    requires running { at ≡ running_record store.now.store }
     ensures { Went result store.now store.now (λ s. can_store result_variable (drop 1 s.frames) s) }
 {
     match result_variable {

@@ -1,8 +1,8 @@
 //! The stack of the running frame.
 
-ghost use Rattle.std.specs.Prelude.{◌≡◌, ◌<◌, ◌≤◌, ◌+◌, ◌-◌, ◌*◌, slice_index, IfSome, IfNone};
-ghost use Rattle.frames.specs.Layout.{base_cell, record_length};
-ghost use Rattle.frames.specs.States.{base_of, local_count, frame_count, height_of, IsSound};
+ghost use Rattle.std.specs.Prelude.{◌≡◌, ◌≤◌, IfSome, IfNone};
+ghost use Rattle.frames.specs.Running.{running_bottom, running_record, stack_height, IsTopCell};
+ghost use Rattle.frames.specs.States.{IsSound};
 ghost use Rattle.frames.specs.Went.{Went};
 ghost use Rattle.zcore.specs.Parts.{push, pop, read_in_place, write_in_place};
 
@@ -17,7 +17,7 @@ use zcore::{Fault, Place};
 #[inline]
 pub(crate) fn running(store: &Recorded<Store>) -> usize
     requires { IsSound store.now.store }
-    ensures { result ≡ base_cell + record_length * (frame_count (slice_index store.now.store.cells) - 1) }
+    ensures { result ≡ running_record store.now.store }
 {
     RECORDS + RECORD * (cell(store, FRAME_COUNT) as usize - 1)
 }
@@ -26,7 +26,7 @@ pub(crate) fn running(store: &Recorded<Store>) -> usize
 #[inline]
 pub(crate) fn height(store: &Recorded<Store>) -> usize
     requires { IsSound store.now.store }
-    ensures same { result ≡ height_of (slice_index store.now.store.cells) }
+    ensures same { result ≡ stack_height store.now.store }
     ensures within { result ≤ 65536 }
 {
     long(store, HEIGHT) as usize
@@ -55,8 +55,8 @@ pub fn push(store: &mut Recorded<Store>, word: u16) -> Result<(), End>
 #[inline]
 pub(crate) fn bottom(store: &Recorded<Store>) -> usize
     requires { IsSound store.now.store }
-    ensures same { result ≡ base_of (slice_index store.now.store.cells) (frame_count (slice_index store.now.store.cells) - 1) + local_count (slice_index store.now.store.cells) (frame_count (slice_index store.now.store.cells) - 1) }
-    ensures within { result ≤ height_of (slice_index store.now.store.cells) }
+    ensures same { result ≡ running_bottom store.now.store }
+    ensures within { result ≤ stack_height store.now.store }
 {
     let record = running(store);
     long(store, record) as usize + cell(store, record + LOCAL_COUNT) as usize
@@ -66,9 +66,8 @@ pub(crate) fn bottom(store: &Recorded<Store>) -> usize
 #[inline]
 fn top_cell(store: &Recorded<Store>) -> Option<usize>
     requires { IsSound store.now.store }
-    ensures some { IfSome result (λ i. (base_of (slice_index store.now.store.cells) (frame_count (slice_index store.now.store.cells) - 1) + local_count (slice_index store.now.store.cells) (frame_count (slice_index store.now.store.cells) - 1) < height_of (slice_index store.now.store.cells))
-        × (i ≡ 7022 + height_of (slice_index store.now.store.cells))) }
-    ensures none { IfNone result (height_of (slice_index store.now.store.cells) ≡ base_of (slice_index store.now.store.cells) (frame_count (slice_index store.now.store.cells) - 1) + local_count (slice_index store.now.store.cells) (frame_count (slice_index store.now.store.cells) - 1)) }
+    ensures some { IfSome result (IsTopCell store.now.store) }
+    ensures none { IfNone result (stack_height store.now.store ≡ running_bottom store.now.store) }
 {
     let top = height(store);
     if bottom(store) == top {

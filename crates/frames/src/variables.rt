@@ -1,8 +1,8 @@
 //! Variables: the stack, locals and globals.
 
-ghost use Rattle.std.specs.Prelude.{◌≡◌, ◌<◌, ◌≤◌, ◌+◌, ◌-◌, ◌*◌, ◌^◌, slice_index, IfSome, IfNone};
-ghost use Rattle.frames.specs.Layout.{stack_offset};
-ghost use Rattle.frames.specs.States.{base_of, local_count, frame_count, IsSound, IsStoreOf};
+ghost use Rattle.std.specs.Prelude.{◌≡◌, ◌<◌, ◌≤◌, ◌+◌, ◌-◌, ◌*◌, ◌^◌, IfSome, IfNone};
+ghost use Rattle.frames.specs.Running.{running_locals, IsLocalCell};
+ghost use Rattle.frames.specs.States.{IsSound, IsStoreOf};
 ghost use Rattle.frames.specs.Went.{Went};
 ghost use Rattle.zcore.specs.Parts.{read_local, write_local, read_global, write_global, read_variable, write_variable, read_in_place, write_in_place, test_pull};
 
@@ -19,9 +19,8 @@ use zcore::{Fault, Header, Place};
 #[inline(always)]
 fn local_cell(store: &Recorded<Store>, number: usize) -> Option<usize>
     requires { IsSound store.now.store }
-    ensures some { IfSome result (λ i. (number < local_count (slice_index store.now.store.cells) (frame_count (slice_index store.now.store.cells) - 1))
-        × (i ≡ stack_offset + base_of (slice_index store.now.store.cells) (frame_count (slice_index store.now.store.cells) - 1) + number)) }
-    ensures none { IfNone result (local_count (slice_index store.now.store.cells) (frame_count (slice_index store.now.store.cells) - 1) ≤ number) }
+    ensures some { IfSome result (IsLocalCell store.now.store number) }
+    ensures none { IfNone result (running_locals store.now.store ≤ number) }
 {
     let record = running(store);
     if number < cell(store, record + LOCAL_COUNT) as usize {

@@ -1,10 +1,9 @@
 -- The instructions of items on words, of calls, branches and prints (Z-Machine Standards Document 1.1, sections 4 and
 -- 15). Numbers and variables stand in place in an instruction; the other operands are on the stack of the routine's
--- frame. Variables from 248 on are the compiler's; none keeps its value beyond an item but the last, which holds the word
--- of a `switch` for the tests of its cases.
+-- frame. Variables from 248 on are the compiler's; none keeps its value beyond an item but the last, which holds the
+-- word of a `switch` for the tests of its cases.
 use Rattle.std.specs.Prelude.{◌+◌, ◌-◌, ◌%◌, ◌==◌, ◌&&◌, not, ℕ, zero, suc, nat_le, nat_lt, Bool, true, false}
-use Rattle.std.specs.Prelude.{if◌then◌else◌, List, [], ◌∷◌, ◌++◌, map, take, length}
-use Rattle.std.specs.Prelude.{Option, Some, None}
+use Rattle.std.specs.Prelude.{if◌then◌else◌, List, [], ◌∷◌, ◌++◌, map, take, length, Option, Some, None}
 use Rattle.zcore.specs.declared.instruction.Operand.{Operand}
 use Rattle.zcore.specs.declared.instruction.Operand.TheVariants.{Large, Small, Variable}
 use Rattle.zcore.specs.declared.instruction.Operation.{Operation}
@@ -185,7 +184,8 @@ divided_by a operation x variable d =
 abbrev pub divided : Addresses → Operation → items.Operand → items.Operand → Destination → List Instruction
 divided a operation x items.pushed d = pull (temporary 0) ∷ divided_by a operation x (temporary 0) d
 divided a operation x (items.number n) d =
-    if n == 0 then fail (fault_address a causes.DivisionByZero) else giving operation (in_place x ∷ constant n ∷ []) (result_in d) ∷ []
+    if n == 0 then fail (fault_address a causes.DivisionByZero)
+    else giving operation (in_place x ∷ constant n ∷ []) (result_in d) ∷ []
 divided a operation x (items.variable y) d = divided_by a operation x (number_of y) d
 
 -- `&&` and `||` are branches, and no item

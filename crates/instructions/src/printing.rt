@@ -3,8 +3,8 @@
 ghost use Rattle.std.specs.Prelude.{◌≡◌, ◌++◌, [], ◌∷◌, map, true, IfOk, OnOk};
 ghost use Rattle.std.specs.List.{filter, list_all};
 ghost use Rattle.zcore.specs.declared.instruction.Operation.TheVariants.{Print};
-ghost use Rattle.zcore.specs.Alphabets.{is_printable};
-ghost use Rattle.zcore.specs.Abbreviations.{encoded_with};
+ghost use Rattle.ztext.specs.Alphabets.{is_printable};
+ghost use Rattle.ztext.specs.Abbreviations.{encoded_with};
 ghost use Rattle.meaning.specs.Meaning as meaning;
 ghost use Rattle.values.specs.Items as source_items;
 ghost use Rattle.values.specs.Code.{as_operand};

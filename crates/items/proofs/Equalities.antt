@@ -18,7 +18,8 @@ use Rattle.values.specs.Items.{operand_count, operands_count, many_count, truth_
 use Rattle.values.specs.Items.{branch_items, many_items, also_items}
 use Rattle.values.specs.Items as items
 use Rattle.items.specs.Stack.{stuck}
-use Rattle.values.proofs.Counts.{value_length, branch_length, if_length, operands_length, many_length}
+use Rattle.values.proofs.CountedForms.{if_length}
+use Rattle.values.proofs.Counts.{value_length, branch_length, operands_length, many_length}
 use Rattle.items.proofs.Unchanged.{all_unchanged}
 use Rattle.items.proofs.Running.{Running, code, setting}
 use Rattle.items.proofs.Standing.{HasAt, split}

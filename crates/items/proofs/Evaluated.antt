@@ -13,7 +13,8 @@ use Rattle.values.specs.Items.{left_of, first_of, if_pushed, changes, change, op
 use Rattle.values.specs.Items.{operands_items}
 use Rattle.values.specs.Items.{branch_items}
 use Rattle.items.specs.Stack.{Next}
-use Rattle.values.proofs.Counts.{value_length, if_length}
+use Rattle.values.proofs.CountedForms.{if_length}
+use Rattle.values.proofs.Counts.{value_length}
 use Rattle.items.proofs.Unchanged.{unchanged, all_unchanged, left, right}
 use Rattle.items.proofs.Acts.{came}
 use Rattle.items.proofs.Running.{Running, code, setting}

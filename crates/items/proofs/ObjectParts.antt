@@ -77,7 +77,8 @@ module _ (p : ProgramOf) (full : ℕ) where
   keeps_index : (i : ℕ) (words : List ℕ) → Keeps full (world.test_word i words)
   keeps_index i words =
       keeps_test full (nat_lt i 32768 && nat_lt i (length words)) (give {A = Unit {0}} tt)
-      (fault causes.IndexOutOfRange) (keeps_give full {A = Unit {0}} tt) (keeps_fault full (Unit {0}) causes.IndexOutOfRange)
+      (fault causes.IndexOutOfRange) (keeps_give full {A = Unit {0}} tt)
+      (keeps_fault full (Unit {0}) causes.IndexOutOfRange)
 
   -- what is done with the words of a property that the object provides
   keeps_own : (o q : ℕ) (g : List ℕ → Part ℕ) → ((words : List ℕ) → Keeps full (g words))

@@ -17,7 +17,8 @@ use Rattle.values.specs.declared.wanted.Wanted.TheVariants.{Branch}
 use Rattle.items.specs.declared.exits.Exits.{Exits}
 use Rattle.values.specs.Writing.{Written, wanted_items, pushes}
 use Rattle.items.specs.Writing.{exits_of}
-use Rattle.values.proofs.Counts.{branch_length, joined}
+use Rattle.values.proofs.CountedForms.{joined}
+use Rattle.values.proofs.Counts.{branch_length}
 use Rattle.items.proofs.StatementCounts.{action_length, once_length, test_length}
 use Rattle.values.proofs.WrittenItems.{one, counted, both, as_items, then_one}
 use Rattle.values.proofs.Values.{pushes_length}

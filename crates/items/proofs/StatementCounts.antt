@@ -20,7 +20,8 @@ use Rattle.items.specs.Statements.{exits_to}
 use Rattle.items.specs.Statements.{action_items, actions_items, cases_items, for_items, case_items}
 use Rattle.values.specs.Items as items
 use Rattle.items.specs.Statements as statements
-use Rattle.values.proofs.Counts.{joined, if_length, value_length, branch_length, alone_length}
+use Rattle.values.proofs.CountedForms.{joined, if_length}
+use Rattle.values.proofs.Counts.{value_length, branch_length, alone_length}
 
 pub printed_length : (i : Printed) (at : ℕ) → length (printed_items at i) ≡ printed_count i
 printed_length (source.text bytes) at = refl

@@ -17,7 +17,7 @@ use Rattle.values.specs.declared.draft.Draft.{Draft}
 use Rattle.items.specs.declared.exits.Exits.{Exits}
 use Rattle.values.specs.Writing.{written_in, Written}
 use Rattle.items.specs.Writing.{taken_items, exits_of, cases_before, LeavesCases}
-use Rattle.values.proofs.Counts.{joined}
+use Rattle.values.proofs.CountedForms.{joined}
 use Rattle.items.proofs.StatementCounts.{actions_length, cases_length, tests_length, over_length}
 use Rattle.values.proofs.WrittenItems.{counted, both, as_items}
 use Rattle.values.proofs.Values.{pushes_length}

@@ -1,7 +1,7 @@
 -- The machine of items: a place in a routine, a stack of words, and the world of the source.
-use Rattle.std.specs.Prelude.{◌||◌, ◌&&◌, ◌+◌, ◌-◌, ◌==◌, ℕ, zero, suc, nat_le, nat_lt, Bool, true, false, if◌then◌else◌, List}
-use Rattle.std.specs.Prelude.{[]}
-use Rattle.std.specs.Prelude.{◌∷◌, length, map, Option, Some, None, slice_get, slice_index, slice_set, is_some}
+use Rattle.std.specs.Prelude.{◌||◌, ◌&&◌, ◌+◌, ◌-◌, ◌==◌, ℕ, zero, suc, nat_le, nat_lt, Bool, true, false}
+use Rattle.std.specs.Prelude.{if◌then◌else◌, List, [], ◌∷◌, length, map, Option, Some, None, slice_get, slice_index}
+use Rattle.std.specs.Prelude.{slice_set, is_some}
 use Rattle.std.specs.List.{list_any}
 use Rattle.zcore.specs.Arithmetic.{signed_less, signed_text}
 use Rattle.zcore.specs.declared.place.Place.TheVariants as places
@@ -17,15 +17,13 @@ use Rattle.meaning.specs.World.{relative_of, has_attribute, words_provided, test
 use Rattle.meaning.specs.World.{single_word, size_of, write_words, remove_object, move_object}
 use Rattle.meaning.specs.World as world
 use Rattle.meaning.specs.Objects.{object_at}
-use Rattle.meaning.specs.Meaning.{truth, is_true, with_prefix, stepped, put_character, put_line, locals_of}
-use Rattle.meaning.specs.Meaning.{routine_at}
+use Rattle.meaning.specs.Meaning.{truth, is_true, with_prefix, stepped, put_character, put_line, locals_of, routine_at}
 use Rattle.meaning.specs.Meaning.{first_world}
 use Rattle.meaning.specs.Reading.{read_next}
 use Rattle.meaning.specs.Places.{number_in}
 use Rattle.meaning.specs.Meaning as meaning
 use Rattle.values.specs.Items.{Item, Operand, pushed, number, variable, Destination, push, into, nowhere, Test}
-use Rattle.values.specs.Items.{is_zero}
-use Rattle.values.specs.Items.{less, greater, same, agrees}
+use Rattle.values.specs.Items.{is_zero, less, greater, same, agrees}
 use Rattle.items.specs.Statements.{routine_items}
 use Rattle.values.specs.Items as items
 

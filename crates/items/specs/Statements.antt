@@ -190,8 +190,8 @@ each_items at x body run =
 abbrev pub relative_items : Relative → Operand → Variable → ℕ → List Item
 relative_items r o x end = relative r o push ∷ keep x ∷ branch_true pushed false end ∷ []
 
--- `objectloop` over children, from the first one on: the body, the sibling of the object that the variable then has, and
--- back to the body, which has so many items
+-- `objectloop` over children, from the first one on: the body, the sibling of the object that the variable then has,
+-- and back to the body, which has so many items
 abbrev pub children_items : ℕ → Variable → Operand → ℕ → (Exits → ℕ → List Item) → List Item
 children_items at x o body run =
     relative_items relatives.Child o x (at + 3 + body + 4)

@@ -2,7 +2,8 @@
 
 ghost use Rattle.std.specs.Prelude.{◌-◌, [], ◌∷◌, map, IfOk, OnOk};
 ghost use Rattle.std.specs.Option.{option_map};
-ghost use Rattle.meaning.specs.Resolved.{block, if_then, while_do, do_until, for_loop, switch_on, return_value, value_of};
+ghost use Rattle.meaning.specs.Resolved.{block, if_then, if_else, while_do, do_until, for_loop, switch_on};
+ghost use Rattle.meaning.specs.Resolved.{return_value, value_of};
 ghost use Rattle.meaning.specs.Resolved.{give_to, move_to, remove_from, each_object, each_where, each_in};
 ghost use Rattle.meaning.specs.Resolved.{printed_of, action_of, actions_of, case_of, cases_of, other_of};
 ghost use Rattle.values.specs.Code.{as_operand};
@@ -64,12 +65,7 @@ fn put_statement<'a>(
         Action::NewLine => put(draft, Item::NewLine)?,
         Action::If(test, then) => put_if(draft, exits, then, test)?,
         Action::IfElse(test, then, otherwise) => {
-            let end = written(draft);
-            put_statement(draft, exits, otherwise)?;
-            let next = written(draft);
-            put(draft, Item::Jump(end))?;
-            put_statement(draft, exits, then)?;
-            put_value(draft, test, Wanted::Branch(false, next))?;
+            put_if_else(draft, exits, then, otherwise, test)?;
         }
         Action::While(test, body) => put_while(draft, body, test)?,
         Action::Do(body, test) => put_do(draft, body, test)?,
@@ -108,6 +104,29 @@ fn put_if<'a>(
     let end = written(draft);
     put_statement(draft, exits, then)?;
     put_value(draft, test, Wanted::Branch(false, end))?;
+    Ok(())
+}
+
+/// `if` with `else`: a branch to what stands behind `else`, and behind what the test guards a jump
+/// over that.
+#[cycle(statements)]
+#[tactic(auto, using(crate::proofs::Actions::else_more))]
+fn put_if_else<'a>(
+    draft: &mut Draft<'a>,
+    exits: Exits,
+    then: &Action<'a>,
+    otherwise: &Action<'a>,
+    test: &Value,
+) -> Result<(), AllocError>
+    ensures { OnOk result (WritesAction draft.old draft.new exits
+        (if_else (value_of test.now) (action_of then.now) (action_of otherwise.now))) }
+{
+    let end = written(draft);
+    put_statement(draft, exits, otherwise)?;
+    let next = written(draft);
+    put(draft, Item::Jump(end))?;
+    put_statement(draft, exits, then)?;
+    put_value(draft, test, Wanted::Branch(false, next))?;
     Ok(())
 }
 

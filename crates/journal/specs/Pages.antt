@@ -32,6 +32,10 @@ page_entries p values = zip (range_with_len (p * 64) (length values)) values
 abbrev pub keeps : List ℕ → ℕ → Bool
 keeps pages p = list_any (eqb p) pages
 
+-- the first pages, whose flags stand in place
+abbrev pub pages_in_place : ℕ
+pages_in_place = 1728
+
 -- with page p among them
 abbrev pub with_page : List ℕ → ℕ → List ℕ
 with_page pages p = if keeps pages p then pages else pages ++ p ∷ []

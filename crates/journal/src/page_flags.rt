@@ -7,8 +7,8 @@ use std::alloc::{AllocError, Global};
 use std::marker::Model;
 
 /// For how many pages flags stand in place: those of frames, stack and the memory in front, in a store of the Z-machine. Where
-/// the compiler knows that a page is one of them, it need not ask for a length. More would be cleared byte by byte
-/// wherever a session is made.
+/// the compiler knows that a page is one of them, it need not ask for a length. With more of them in place a session takes
+/// longer to make.
 const IN_PLACE: usize = 1_728;
 
 /// Of each page, whether it is kept. Pages behind the last flag are not kept.
@@ -23,16 +23,17 @@ pub(crate) struct PageFlags {
 
 impl Model for PageFlags {
     ghost use Rattle.std.specs.Prelude.{◌≡◌, ◌++◌, Bool, List, length};
+    ghost use Rattle.journal.specs.Pages.{pages_in_place};
 
     ghost Value = { List Bool };
 
     ghost view = { λ f. f.first ++ f.more.items };
 
-    ghost invariant = { λ f. length f.first ≡ 1728 };
+    ghost invariant = { λ f. length f.first ≡ pages_in_place };
 }
 
 impl PageFlags {
-    /// PageFlags of which none is set. It takes no memory.
+    /// Flags of which none is set. It takes no memory.
     pub fn new(alloc: Global) -> PageFlags
         ensures { (p : ℕ) → slice_index_or result p false ≡ false }
     {

@@ -182,7 +182,8 @@ no_break b bs x (suc n) f.BadNumber p good (inr h) =
     elim h.4 [ inl lt ↦ omega (arith, lt, allowed.0) | inr more ↦ clash _ more allowed.1 ]
 no_break b bs x (suc n) f.NameTooLong p good h =
     let long = name_moved (b ∷ bs) h.0 h.1 h.2 (position_of x) h.3 in
-    let same : x ≡ name h.0 (position_of x) = same_token (b ∷ bs) x (name h.0 (position_of x)) (suc n) h.1 p long refl in
+    let same : x ≡ name h.0 (position_of x) = same_token (b ∷ bs) x (name h.0 (position_of x)) (suc n) h.1
+    p long refl in
     let allowed : length h.0 ≤ 32 = subst (λ y. IsAllowed y (drop (suc n) (b ∷ bs))) same good in
     omega (arith, allowed, h.4)
 

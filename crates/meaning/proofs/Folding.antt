@@ -5,7 +5,7 @@ use Rattle.std.specs.Prelude.{map}
 use Rattle.std.specs.Global.{Vec}
 use Rattle.std.proofs.lemmas.Bool.{lt-ltb, le-ltb, ltb-false, ltb-true}
 use Rattle.std.proofs.lemmas.List.{length-append, at_drop_more, at_drop_all}
-use Rattle.zcore.specs.Alphabets.{spelling_of, spelled}
+use Rattle.ztext.specs.Alphabets.{spelling_of, spelled}
 use Rattle.meaning.specs.declared.checked.CheckedObject.{CheckedObject}
 use Rattle.meaning.specs.declared.places.Places.{Places}
 use Rattle.meaning.specs.Resolved.{ProgramOf, object_of, property_of}

@@ -1,12 +1,12 @@
 -- What `read` does, computed on resolved programs.
 use Rattle.std.proofs.Common.{◌≡◌, ℕ, List, [], ◌∷◌, ◌++◌, refl}
 use Rattle.std.specs.Prelude.{codes, replicate}
-use Rattle.zcore.specs.Alphabets.{spelling_of}
+use Rattle.ztext.specs.Alphabets.{spelling_of}
 use Rattle.zcore.specs.Arithmetic.{signed_text, decimal, quotient, remainder}
 use Rattle.zcore.specs.Cutting.{words_of}
 use Rattle.zcore.specs.Dictionary.{number_of_key}
-use Rattle.zcore.specs.Text.{key_of}
-use Rattle.zcore.specs.Words.{packed}
+use Rattle.ztext.specs.Text.{key_of}
+use Rattle.ztext.specs.Words.{packed}
 use Rattle.zcore.specs.declared.place.Place.TheVariants as places
 use Rattle.expressions.specs.declared.tree.Step.TheVariants as steps
 use Rattle.meaning.specs.declared.resolved.Variable.TheVariants as variables
@@ -38,7 +38,15 @@ with_arrays letters most xs = record {
 abbrev stands : List (List ℕ) → ℕ → List (List ℕ) → List ℕ → List (List ℕ) → Situation
 stands arrays fuel lines words texts = record {
   locals = [];
-  world = record { globals = 0 ∷ []; arrays = arrays; objects = first_objects []; fuel = fuel; lines = lines; text = words; texts = texts };
+  world = record {
+    globals = 0 ∷ [];
+    arrays = arrays;
+    objects = first_objects [];
+    fuel = fuel;
+    lines = lines;
+    text = words;
+    texts = texts;
+  };
 }
 
 -- `read t p`, where a unit of fuel is left, the turn has printed `>`, and another line is to come

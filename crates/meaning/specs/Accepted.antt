@@ -1,6 +1,6 @@
 -- What the resolved tree of an accepted program satisfies: variables, arrays, routines and arguments are within their
--- limits, no expression needs more than 48 temporaries, no `break` or `continue` stands outside, the keys of words ascend, and
--- there are at most 96 abbreviations, of two characters or more.
+-- limits, no expression needs more than 48 temporaries, no `break` or `continue` stands outside, the keys of words
+-- ascend, and there are at most 96 abbreviations, of two characters or more.
 use Rattle.std.specs.Prelude.{◌≡◌, ◌≢◌, ◌+◌, ◌^◌, ◌<◌, ◌≤◌, ℕ, Bool, true, List, [], ◌∷◌, length, Option, Some, None}
 use Rattle.std.specs.List.{All}
 use Rattle.std.specs.List.Sorted.{IsStrictlyIncreasing}
@@ -13,7 +13,7 @@ use Rattle.meaning.specs.Resolved.{property, property_size, property_word, assig
 use Rattle.meaning.specs.Resolved.{name_of, give_to, move_to, remove_from, each_object, each_where, each_in}
 use Rattle.meaning.specs.Resolved.{none, more, Printed, text}
 use Rattle.meaning.specs.Objects.{ObjectOf, object_at}
-use Rattle.zcore.specs.Abbreviations.{most_abbreviations}
+use Rattle.ztext.specs.Abbreviations.{most_abbreviations}
 use Rattle.meaning.specs.Places.{name_words}
 use Rattle.meaning.specs.Resolved.{character_of, number_of, Action, Actions, CasesOf, empty, block, text_alone, print}
 use Rattle.meaning.specs.Resolved.{print_return, new_line, if_then, if_else, while_do, do_until, for_loop, switch_on}

@@ -29,10 +29,11 @@ use Rattle.meaning.specs.Resolved.{name_of, give_to, move_to, remove_from, each_
 use Rattle.meaning.specs.Resolved.{none, more, Printed, text}
 use Rattle.meaning.specs.declared.resolved.Variable.{Variable}
 use Rattle.meaning.specs.Objects.{ObjectOf, object_at, first_objects}
-use Rattle.meaning.specs.Resolved.{character_of, number_of, RangeOf, one, between, Action, Actions, CasesOf, empty, block}
-use Rattle.meaning.specs.Resolved.{text_alone, print, print_return, new_line, if_then, if_else, while_do, do_until}
-use Rattle.meaning.specs.Resolved.{for_loop, switch_on, break_out, continue_on, read_line, return_value, quit, effect, stop, next}
-use Rattle.meaning.specs.Resolved.{no_case, default_case, case, RoutineOf, ProgramOf}
+use Rattle.meaning.specs.Resolved.{character_of, number_of, RangeOf, one, between, Action, Actions, CasesOf, empty}
+use Rattle.meaning.specs.Resolved.{block, text_alone, print, print_return, new_line, if_then, if_else, while_do}
+use Rattle.meaning.specs.Resolved.{do_until}
+use Rattle.meaning.specs.Resolved.{for_loop, switch_on, break_out, continue_on, read_line, return_value, quit, effect}
+use Rattle.meaning.specs.Resolved.{stop, next, no_case, default_case, case, RoutineOf, ProgramOf}
 use Rattle.meaning.specs.World.{Outcome, World, Situation, Comes, to, over, Part, bound, ◌>>=◌, give, ended, put}
 use Rattle.meaning.specs.World.{shown, fault, spend, units, read_variable, write_variable, read_entry, write_entry}
 use Rattle.meaning.specs.World.{relative_of, has_attribute, give_attribute, words_provided, test_provided, test_single}
@@ -94,8 +95,8 @@ is_character c = c == 0 || c == 13 || (nat_le 32 c && nat_le c 126)
 abbrev pub put_character : ℕ → Part (Unit {0})
 put_character c = if is_character c then put (transcribed c) else fault causes.NotACharacter
 
--- What a running program asks of its source: what a call of a routine on its arguments comes to, the numbers of keys, the
--- fuel of a turn, the objects as they are defined, and the defaults of properties.
+-- What a running program asks of its source: what a call of a routine on its arguments comes to, the numbers of keys,
+-- the fuel of a turn, the objects as they are defined, and the defaults of properties.
 pub record Setting : Type 0 where
   pub call : ℕ → List ℕ → Part ℕ
   pub number : ℕ → ℕ

@@ -1,5 +1,5 @@
--- The objects of a running source: who stands in whom, attributes, and the words of properties. Objects are numbered from
--- 1; 0 is none.
+-- The objects of a running source: who stands in whom, attributes, and the words of properties. Objects are numbered
+-- from 1; 0 is none.
 use Rattle.std.specs.Prelude.{◌==◌, ◌&&◌, ℕ, zero, suc, Bool, if◌then◌else◌, List, [], ◌∷◌, Option, Some}
 use Rattle.std.specs.Prelude.{None, slice_index_or}
 use Rattle.std.specs.List.{list_any}

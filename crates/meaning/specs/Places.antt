@@ -1,19 +1,19 @@
 -- Where the parts of a story stand that come before its routines, one behind another:
 --
---     header; table of 96 abbreviations; empty text, which those name that the source has not; 240 words of globals; arrays;
---     63 words of property defaults; objects; property tables; dictionary, with which static memory begins; the texts of
---     abbreviations; and the code that begins the story, with which high memory begins.
+--     header; table of 96 abbreviations; empty text, which those name that the source has not; 240 words of globals;
+--     arrays; 63 words of property defaults; objects; property tables; dictionary, with which static memory begins; the
+--     texts of abbreviations; and the code that begins the story, with which high memory begins.
 use Rattle.std.specs.Prelude.{◌+◌, ◌*◌, ◌/◌, ◌%◌, ◌==◌, ℕ, nat_lt, if◌then◌else◌, List, [], ◌∷◌, length, map}
 use Rattle.std.specs.List.{concat}
 use Rattle.tables.specs.Dictionary.{key_number}
-use Rattle.zcore.specs.Abbreviations.{most_abbreviations}
-use Rattle.zcore.specs.Text.{encoded}
+use Rattle.ztext.specs.Abbreviations.{most_abbreviations}
+use Rattle.ztext.specs.Text.{encoded}
 use Rattle.meaning.specs.Objects.{ObjectOf}
 use Rattle.meaning.specs.Resolved.{ProgramOf}
 use Rattle.meaning.specs.declared.places.Places.{Places}
 
--- Nothing bounds how much a source lists, so sums of sizes are folded: up to 65,535 a size is itself; what a greater one
--- becomes is as well above 65,535, and has the same remainder by 65,536.
+-- Nothing bounds how much a source lists, so sums of sizes are folded: up to 65,535 a size is itself; what a greater
+-- one becomes is as well above 65,535, and has the same remainder by 65,536.
 unfoldable pub folded : ℕ → ℕ
 folded n = if nat_lt n 65536 then n else 65536 + n % 65536
 

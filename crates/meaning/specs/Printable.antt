@@ -1,8 +1,8 @@
--- Resolved programs whose texts print: each of their bytes is one of 32 to 126, and each character of an abbreviation is
--- one that the machine prints.
+-- Resolved programs whose texts print: each of their bytes is one of 32 to 126, and each character of an abbreviation
+-- is one that the machine prints.
 use Rattle.std.specs.Prelude.{◌≡◌, ℕ, List, true}
 use Rattle.std.specs.List.{All, list_all}
-use Rattle.zcore.specs.Alphabets.{is_printable}
+use Rattle.ztext.specs.Alphabets.{is_printable}
 use Rattle.lexer.specs.Printable.{IsPrintable}
 use Rattle.meaning.specs.Resolved.{Printed, text, character_of, number_of, Action, Actions, CasesOf, empty, block}
 use Rattle.meaning.specs.Objects.{ObjectOf}

@@ -6,13 +6,13 @@ use Rattle.std.specs.List.{flat_map}
 use Rattle.zcore.specs.declared.place.Place.TheVariants as places
 use Rattle.zcore.specs.Cutting.{Word, words_of}
 use Rattle.zcore.specs.Dictionary.{number_of_key}
-use Rattle.zcore.specs.Text.{key_of}
+use Rattle.ztext.specs.Text.{key_of}
 use Rattle.zcore.specs.Turn.{with_bytes, with_letters, letters_for}
 use Rattle.meaning.specs.declared.cause.Cause.TheVariants as causes
 use Rattle.meaning.specs.World.{Situation, Comes, to, over, Part, ended, fault, array_at}
 
--- byte 0 of the text array tells how many letters it takes, byte 0 of the parse array how many words: each at least one,
--- and no more than there is room for
+-- byte 0 of the text array tells how many letters it takes, byte 0 of the parse array how many words: each at least
+-- one, and no more than there is room for
 
 abbrev pub holds_letters : List ℕ → Bool
 holds_letters text = nat_le 1 (slice_index text 0) && nat_le (slice_index text 0 + 2) (length text)

@@ -69,8 +69,8 @@ impl<'a> Model for Checked<'a> {
 }
 
 impl<'a> Checked<'a> {
-    /// A program with these globals, arrays, objects, keys, abbreviations and routines, the number of `Main`, the weight of its source, and the line
-    /// where the source ends.
+    /// A program with these globals, arrays, objects, keys, abbreviations and routines, the number of `Main`, the
+    /// weight of its source, and the line where the source ends.
     pub fn new(
         globals: Vec<u16>,
         arrays: Arrays,
@@ -85,7 +85,18 @@ impl<'a> Checked<'a> {
     ) -> Self
         requires arrays { AreArrays arrays.sizes.items arrays.bytes.items }
         requires few { length keys.items ≤ 2 ^ 59 }
-        ensures { result ≡ record { globals = globals.items; arrays = cut arrays.sizes.items arrays.bytes.items; defaults = defaults.items; objects = objects.entry.items; keys = keys.items; abbreviations = abbreviations; routines = routines.entry.items; main = main; weight = weight; end_line = end_line } }
+        ensures { result ≡ record {
+          globals = globals.items;
+          arrays = cut arrays.sizes.items arrays.bytes.items;
+          defaults = defaults.items;
+          objects = objects.entry.items;
+          keys = keys.items;
+          abbreviations = abbreviations;
+          routines = routines.entry.items;
+          main = main;
+          weight = weight;
+          end_line = end_line;
+        } }
     {
         Checked {
             globals,
@@ -163,7 +174,8 @@ impl<'a> Checked<'a> {
     pub fn routine(&self, routine: usize) -> &CheckedRoutine<'a>
         requires { routine < length self.now.routines }
         ensures given { Some result.now ≡ slice_get self.now.routines routine }
-        ensures resolved { routine_of result.now ≡ routine_at (program_of self.now).routines routine }
+        ensures resolved { routine_of result.now
+            ≡ routine_at (program_of self.now).routines routine }
     {
         &self.routines[routine]
     }

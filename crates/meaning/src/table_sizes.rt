@@ -1,7 +1,7 @@
 //! How large the tables of objects are. Nothing bounds how much a source lists, so sums of sizes are folded.
 
 ghost use Rattle.std.specs.Prelude.{◌≡◌, ◌+◌, ◌*◌, ◌<◌, ◌≤◌, ◌^◌, ℕ, length, map};
-ghost use Rattle.zcore.specs.Alphabets.{spelled};
+ghost use Rattle.ztext.specs.Alphabets.{spelled};
 ghost use Rattle.meaning.specs.Resolved.{object_of, property_of};
 ghost use Rattle.meaning.specs.Places.{total};
 ghost use Rattle.meaning.specs.Places as spec;
@@ -72,7 +72,8 @@ fn text_size(text: &[u8]) -> u128
 
 /// The bytes of the Z-texts of texts, one behind another, folded.
 fn texts_size(texts: &[Vec<u8>]) -> usize
-    ensures size { result ≡ spec.folded (total (map spec.text_size (map (λ t. t.items) texts.now))) }
+    ensures size { result
+        ≡ spec.folded (total (map spec.text_size (map (λ t. t.items) texts.now))) }
     ensures few { result < 131072 }
 {
     let mut size = 0;
@@ -113,7 +114,8 @@ fn property_size(words: &[u16]) -> u128
 
 /// The bytes of all properties of an object, folded.
 fn properties_size(properties: &[(u8, Vec<u16>)]) -> usize
-    ensures size { result ≡ spec.folded (total (map spec.property_size (map property_of properties.now))) }
+    ensures size { result
+        ≡ spec.folded (total (map spec.property_size (map property_of properties.now))) }
     ensures few { result < 131072 }
 {
     let mut size = 0;

@@ -65,7 +65,8 @@ module _ {A B R : Type 0} (f : A → List Breach) (g : A → R) (v : B → R) wh
   -- The same for one that is named by where it stands
 
   pub each_there : (m o : Option Breach) (xs : List A) (i : ℕ) (d : A) → i < length xs
-      → o ≡ noted m (f (slice_index_or xs i d)) → noted o (flat_map f (drop (i + 1) xs)) ≡ noted m (flat_map f (drop i xs))
+      → o ≡ noted m (f (slice_index_or xs i d))
+      → noted o (flat_map f (drop (i + 1) xs)) ≡ noted m (flat_map f (drop i xs))
   each_there m o xs i d lt is =
       let x = slice_index_or xs i d in
       rw is (sym (each_next m xs i x lt (same_here xs i d x lt)))

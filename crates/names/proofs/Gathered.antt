@@ -1,5 +1,6 @@
 -- The keys of words are each once and ascend.
-use Rattle.std.proofs.Common.{◌≡◌, ℕ, zero, suc, ◌+◌, ◌<◌, ◌≤◌, ◌⊎◌, inl, inr, List, [], ◌∷◌, length, map, slice_index, refl, sym, ap, ◌∙◌, subst, arith}
+use Rattle.std.proofs.Common.{◌≡◌, ℕ, zero, suc, ◌+◌, ◌<◌, ◌≤◌, ◌⊎◌, inl, inr, List, [], ◌∷◌, length, map, slice_index}
+use Rattle.std.proofs.Common.{refl, sym, ap, ◌∙◌, subst, arith}
 use Rattle.std.specs.BTreeSet.{insert_key}
 use Rattle.std.specs.List.{AllByRecursion}
 use Rattle.std.specs.List.Sorted.{IsStrictlyIncreasing}
@@ -39,11 +40,13 @@ all_more a b (x ∷ xs) lt h =
     let first = h.0 in
     (omega (arith, lt, first), all_more a b xs lt h.1)
 
-all_insert : (a k : ℕ) (xs : List ℕ) → a < k → AllByRecursion (λ y. a < y) xs → AllByRecursion (λ y. a < y) (insert_key nat_cmp xs k)
+all_insert : (a k : ℕ) (xs : List ℕ) → a < k → AllByRecursion (λ y. a < y) xs
+    → AllByRecursion (λ y. a < y) (insert_key nat_cmp xs k)
 all_insert a k [] lt h = (lt, tt)
 all_insert a k (x ∷ xs) lt h = go (all_insert a k xs lt h.1) (cases_order k x)
   where
-    go : AllByRecursion (λ y. a < y) (insert_key nat_cmp xs k) → (k ≡ x) ⊎ ((k < x) ⊎ (x < k)) → AllByRecursion (λ y. a < y) (insert_key nat_cmp (x ∷ xs) k)
+    go : AllByRecursion (λ y. a < y) (insert_key nat_cmp xs k) → (k ≡ x) ⊎ ((k < x) ⊎ (x < k))
+        → AllByRecursion (λ y. a < y) (insert_key nat_cmp (x ∷ xs) k)
     go rest (inl e) = subst (AllByRecursion (λ y. a < y)) (sym (equal k x xs e)) h
     go rest (inr (inl l)) = subst (AllByRecursion (λ y. a < y)) (sym (less k x xs l)) (lt, h)
     go rest (inr (inr g)) = subst (AllByRecursion (λ y. a < y)) (sym (greater k x xs g)) (h.0, rest)
@@ -63,7 +66,8 @@ increasing (x ∷ []) h k lt = absurd (omega (arith, lt))
 increasing (x ∷ y ∷ ys) h zero lt = h.0.0
 increasing (x ∷ y ∷ ys) h (suc k) lt =
     let z : suc k + 1 ≡ suc (k + 1) = omega arith in
-    subst (λ n. slice_index (x ∷ y ∷ ys) (suc k) < slice_index (x ∷ y ∷ ys) n) (sym z) (increasing (y ∷ ys) h.1 k (omega (arith, lt)))
+    subst (λ n. slice_index (x ∷ y ∷ ys) (suc k) < slice_index (x ∷ y ∷ ys) n) (sym z)
+    (increasing (y ∷ ys) h.1 k (omega (arith, lt)))
 
 -- Members
 
@@ -75,11 +79,13 @@ among_insert key k (x ∷ xs) h = go (among_insert key k xs) (cases_order k x)
     after (inl e) = inl e
     after (inr m) = inr (inr m)
 
-    split : (IsAmong key (insert_key nat_cmp xs k) → (key ≡ k) ⊎ IsAmong key xs) → IsAmong key (x ∷ insert_key nat_cmp xs k) → (key ≡ k) ⊎ IsAmong key (x ∷ xs)
+    split : (IsAmong key (insert_key nat_cmp xs k) → (key ≡ k) ⊎ IsAmong key xs)
+        → IsAmong key (x ∷ insert_key nat_cmp xs k) → (key ≡ k) ⊎ IsAmong key (x ∷ xs)
     split rest (inl e) = inr (inl e)
     split rest (inr m) = after (rest m)
 
-    go : (IsAmong key (insert_key nat_cmp xs k) → (key ≡ k) ⊎ IsAmong key xs) → (k ≡ x) ⊎ ((k < x) ⊎ (x < k)) → (key ≡ k) ⊎ IsAmong key (x ∷ xs)
+    go : (IsAmong key (insert_key nat_cmp xs k) → (key ≡ k) ⊎ IsAmong key xs) → (k ≡ x) ⊎ ((k < x) ⊎ (x < k))
+        → (key ≡ k) ⊎ IsAmong key (x ∷ xs)
     go rest (inl e) = inr (subst (IsAmong key) (equal k x xs e) h)
     go rest (inr (inl l)) = subst (IsAmong key) (less k x xs l) h
     go rest (inr (inr g)) = split rest (subst (IsAmong key) (greater k x xs g) h)
@@ -88,7 +94,8 @@ insert_among : (key k : ℕ) (xs : List ℕ) → (key ≡ k) ⊎ IsAmong key xs 
 insert_among key k [] h = h
 insert_among key k (x ∷ xs) h = go (insert_among key k xs) h (cases_order k x)
   where
-    go : ((key ≡ k) ⊎ IsAmong key xs → IsAmong key (insert_key nat_cmp xs k)) → (key ≡ k) ⊎ IsAmong key (x ∷ xs) → (k ≡ x) ⊎ ((k < x) ⊎ (x < k)) → IsAmong key (insert_key nat_cmp (x ∷ xs) k)
+    go : ((key ≡ k) ⊎ IsAmong key xs → IsAmong key (insert_key nat_cmp xs k)) → (key ≡ k) ⊎ IsAmong key (x ∷ xs)
+        → (k ≡ x) ⊎ ((k < x) ⊎ (x < k)) → IsAmong key (insert_key nat_cmp (x ∷ xs) k)
     go rest (inl e) (inl s) = subst (IsAmong key) (sym (equal k x xs s)) (inl (e ∙ s))
     go rest (inr m) (inl s) = subst (IsAmong key) (sym (equal k x xs s)) m
     go rest m (inr (inl l)) = subst (IsAmong key) (sym (less k x xs l)) m
@@ -100,9 +107,11 @@ insert_among key k (x ∷ xs) h = go (insert_among key k xs) h (cases_order k x)
 
 ascends_with : (keys : List ℕ) (words : List (List ℕ)) → Ascends keys → Ascends (with_keys keys words)
 ascends_with keys [] h = h
-ascends_with keys (w ∷ ws) h = ascends_with (insert_key nat_cmp keys (key_of_word w)) ws (ascends_insert (key_of_word w) keys h)
+ascends_with keys (w ∷ ws) h = ascends_with (insert_key nat_cmp keys (key_of_word w)) ws
+    (ascends_insert (key_of_word w) keys h)
 
-from_words : (key : ℕ) (keys : List ℕ) (words : List (List ℕ)) → IsAmong key (with_keys keys words) → IsAmong key keys ⊎ IsAmong key (map key_of_word words)
+from_words : (key : ℕ) (keys : List ℕ) (words : List (List ℕ)) → IsAmong key (with_keys keys words)
+    → IsAmong key keys ⊎ IsAmong key (map key_of_word words)
 from_words key keys [] h = inl h
 from_words key keys (w ∷ ws) h = go (from_words key (insert_key nat_cmp keys (key_of_word w)) ws h)
   where
@@ -110,18 +119,23 @@ from_words key keys (w ∷ ws) h = go (from_words key (insert_key nat_cmp keys (
     first (inl e) = inr (inl e)
     first (inr m) = inl m
 
-    go : IsAmong key (insert_key nat_cmp keys (key_of_word w)) ⊎ IsAmong key (map key_of_word ws) → IsAmong key keys ⊎ IsAmong key (map key_of_word (w ∷ ws))
+    go : IsAmong key (insert_key nat_cmp keys (key_of_word w)) ⊎ IsAmong key (map key_of_word ws)
+        → IsAmong key keys ⊎ IsAmong key (map key_of_word (w ∷ ws))
     go (inl m) = first (among_insert key (key_of_word w) keys m)
     go (inr m) = inr (inr m)
 
-to_keys : (key : ℕ) (keys : List ℕ) (words : List (List ℕ)) → IsAmong key keys ⊎ IsAmong key (map key_of_word words) → IsAmong key (with_keys keys words)
+to_keys : (key : ℕ) (keys : List ℕ) (words : List (List ℕ)) → IsAmong key keys ⊎ IsAmong key (map key_of_word words)
+    → IsAmong key (with_keys keys words)
 to_keys key keys [] (inl m) = m
 to_keys key keys [] (inr m) = absurd m
-to_keys key keys (w ∷ ws) (inl m) = to_keys key (insert_key nat_cmp keys (key_of_word w)) ws (inl (insert_among key (key_of_word w) keys (inr m)))
-to_keys key keys (w ∷ ws) (inr (inl e)) = to_keys key (insert_key nat_cmp keys (key_of_word w)) ws (inl (insert_among key (key_of_word w) keys (inl e)))
+to_keys key keys (w ∷ ws) (inl m) = to_keys key (insert_key nat_cmp keys (key_of_word w)) ws
+    (inl (insert_among key (key_of_word w) keys (inr m)))
+to_keys key keys (w ∷ ws) (inr (inl e)) = to_keys key (insert_key nat_cmp keys (key_of_word w)) ws
+    (inl (insert_among key (key_of_word w) keys (inl e)))
 to_keys key keys (w ∷ ws) (inr (inr m)) = to_keys key (insert_key nat_cmp keys (key_of_word w)) ws (inr m)
 
-only_words : (key : ℕ) (words : List (List ℕ)) → IsAmong key [] ⊎ IsAmong key (map key_of_word words) → IsAmong key (map key_of_word words)
+only_words : (key : ℕ) (words : List (List ℕ)) → IsAmong key [] ⊎ IsAmong key (map key_of_word words)
+    → IsAmong key (map key_of_word words)
 only_words key words (inl m) = absurd m
 only_words key words (inr m) = m
 

@@ -1,13 +1,14 @@
 -- Only the first nine letters of a word count for its key.
-use Rattle.std.proofs.Common.{◌≡◌, ◌==◌, Bool, true, false, cond, Option, Some, None, ℕ, zero, suc, ◌+◌, ◌%◌, ◌^◌, ◌<◌, ◌≤◌, min, List, [], ◌∷◌, ◌++◌, length, take, get_or, set, refl}
-use Rattle.std.proofs.Common.{sym, ap, ◌∙◌, append_assoc, arith}
+use Rattle.std.proofs.Common.{◌≡◌, ◌==◌, Bool, true, false, cond, Option, Some, None, ℕ, zero, suc, ◌+◌, ◌%◌, ◌^◌, ◌<◌}
+use Rattle.std.proofs.Common.{◌≤◌, min, List, [], ◌∷◌, ◌++◌, length, take, get_or, set, refl, sym, ap, ◌∙◌}
+use Rattle.std.proofs.Common.{append_assoc, arith}
 use Rattle.std.specs.Prelude.{map, replicate}
 use Rattle.std.specs.List.{flat_map}
 use Rattle.std.proofs.lemmas.List.{take-map, take_min, take_more, take_more_set, map-append}
-use Rattle.zcore.specs.Alphabets.{lower_letters, upper_letters, punctuation, place_in, spelling_in_punctuation}
-use Rattle.zcore.specs.Alphabets.{spelling_in_upper, spelling_in_lower, spelling_of, spelled}
-use Rattle.zcore.specs.Text.{lower_case, key_of}
-use Rattle.zcore.specs.Words.{packed}
+use Rattle.ztext.specs.Alphabets.{lower_letters, upper_letters, punctuation, place_in, spelling_in_punctuation}
+use Rattle.ztext.specs.Alphabets.{spelling_in_upper, spelling_in_lower, spelling_of, spelled}
+use Rattle.ztext.specs.Text.{lower_case, key_of}
+use Rattle.ztext.specs.Words.{packed}
 use Rattle.zcore.specs.Dictionary.{number_of_key}
 use Rattle.names.specs.Keys.{letter_of, key_of_word}
 

@@ -3,7 +3,7 @@
 use Rattle.std.specs.Prelude.{◌≡◌, ◌==◌, ◌%◌, ◌^◌, ◌⊎◌, ℕ, if◌then◌else◌, List, [], ◌∷◌, map, Option, Some, None}
 use Rattle.std.specs.BTreeSet.{insert_key}
 use Rattle.std.specs.Ordering.{nat_cmp}
-use Rattle.zcore.specs.Text.{key_of}
+use Rattle.ztext.specs.Text.{key_of}
 use Rattle.zcore.specs.Dictionary.{number_of_key}
 use Rattle.names.specs.declared.known.Known.{Known}
 use Rattle.names.specs.declared.known.Known.TheVariants as knowns

@@ -2,7 +2,7 @@
 use Rattle.std.proofs.Common.{◌≡◌, ◌==◌, ℕ, ◌+◌, ◌-◌, ◌<◌, suc, Bool, true, false, if◌then◌else◌, List, Option, Some}
 use Rattle.std.proofs.Common.{None, refl, ap, sym, ◌∙◌, arith}
 use Rattle.std.proofs.lemmas.Bool.{eq-eqb, ne_eqb}
-use Rattle.zcore.specs.Bytes.{word_at}
+use Rattle.ztext.specs.Bytes.{word_at}
 use Rattle.zcore.specs.Entries.{Sibling, has_entry, place_of, named_from}
 
 module _ (m : List ℕ) (table end object at steps word : ℕ) (is : word ≡ word_at m at) where

@@ -1,7 +1,7 @@
 //! Parts of the opcodes on objects: tests, and the links of objects (Z-Machine Standards Document 1.1, section 12.3).
 
 ghost use Rattle.std.specs.Prelude.{◌≡◌, ◌<◌, ◌≤◌, ◌+◌, length, OnOk, IfOk, IfSome};
-ghost use Rattle.zcore.specs.Bytes.{word_at};
+ghost use Rattle.ztext.specs.Bytes.{word_at};
 ghost use Rattle.zcore.specs.Entries.{owner, named_from};
 ghost use Rattle.zcore.specs.Objects.{test_object, read_link, write_link, test_link, test_removal};
 ghost use Rattle.objects.specs.Tested.{IsTested};

@@ -8,7 +8,7 @@ use Rattle.std.proofs.lemmas.Grind.{flat_map-append}
 use Rattle.std.proofs.lemmas.List.{length-append, length-take-le, length-take, take-append-drop, take_all}
 use Rattle.std.proofs.lemmas.List.Folds.{list_all-append}
 use Rattle.journal.specs.Recording.{Recording}
-use Rattle.zcore.specs.Alphabets.{is_printable}
+use Rattle.ztext.specs.Alphabets.{is_printable}
 use Rattle.zcore.specs.State.{State, bound}
 use Rattle.zcore.specs.Parts.{goes_on, transcribed, print}
 use Rattle.zcore.specs.Execution.{print_characters}

@@ -3,13 +3,13 @@ use Rattle.std.proofs.Common.{◌≡◌, ℕ, List, ap, sym, ◌∙◌, subst, B
 use Rattle.journal.specs.Recording.{Recording}
 use Rattle.zcore.specs.declared.next.Next.{Next}
 use Rattle.zcore.specs.declared.place.Place.TheVariants as places
-use Rattle.zcore.specs.Reading.{Cause}
+use Rattle.ztext.specs.Reading.{Cause}
 use Rattle.zcore.specs.State.{State, Out, bound, ◌>>=◌}
 use Rattle.zcore.specs.declared.place.Fault.{Fault}
 use Rattle.zcore.specs.Parts.{test, test_target, go, jump_target}
 use Rattle.zcore.specs.declared.instruction.Branch.{Branch}
 use Rattle.zcore.specs.Execution.{give_result, write_and_branch, jump, text_at, read_text, text_fault}
-use Rattle.zcore.specs.Text.{decoded}
+use Rattle.ztext.specs.Text.{decoded}
 use Rattle.frames.specs.Contents.{Contents, memory_of}
 use Rattle.frames.specs.States.{state_of, IsSound}
 use Rattle.frames.specs.Went.{Went}

@@ -2,7 +2,7 @@
 use Rattle.std.specs.Prelude.{◌+◌, ◌*◌, ◌%◌, ◌==◌, ◌&&◌, ℕ, nat_le, nat_lt, Bool, if◌then◌else◌, List, length}
 use Rattle.std.specs.Prelude.{slice_index, take, drop, Option, Some, None}
 use Rattle.std.specs.List.{list_all}
-use Rattle.zcore.specs.Bytes.{word_at}
+use Rattle.ztext.specs.Bytes.{word_at}
 use Rattle.zcore.specs.Header.{version_number, scale_of}
 use Rattle.zcore.specs.declared.header.Version.{Version}
 use Rattle.zcore.specs.declared.header.Version.TheVariants.{V5, V8}

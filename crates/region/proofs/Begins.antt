@@ -8,11 +8,11 @@ use Rattle.std.proofs.lemmas.Bool.{cases_eq, le-leb, and_from}
 use Rattle.std.proofs.lemmas.List.{length-append, length-map, get_or-map}
 use Rattle.std.proofs.lemmas.List.Elements.{All-head, All-tail}
 use Rattle.lexer.specs.Printable.{IsPrintable}
-use Rattle.zcore.specs.Alphabets.{is_printable}
+use Rattle.ztext.specs.Alphabets.{is_printable}
 use Rattle.zcore.specs.Entries.{object_entry, is_set}
 use Rattle.zcore.specs.Header.{defaults_of, static_base_of}
-use Rattle.zcore.specs.Text.{Holds}
-use Rattle.zcore.proofs.Holding.{holds_append}
+use Rattle.ztext.specs.Text.{Holds}
+use Rattle.ztext.proofs.Holding.{holds_append}
 use Rattle.tables.specs.Rows.{word}
 use Rattle.tables.proofs.Listed.{length_words}
 use Rattle.tables.proofs.Written.{byte_of}

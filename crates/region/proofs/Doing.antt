@@ -2,7 +2,7 @@
 use Rattle.std.proofs.Common.{◌≡◌, ◌≤◌, ◌<◌, ◌+◌, ℕ, nat_le, nat_lt, Bool, true, if◌then◌else◌, List, length}
 use Rattle.std.proofs.Common.{slice_index, slice_set, ap, ◌∙◌, arith}
 use Rattle.std.proofs.lemmas.Bool.{and_from, lt-ltb, le-leb}
-use Rattle.zcore.specs.Bytes.{word_at}
+use Rattle.ztext.specs.Bytes.{word_at}
 use Rattle.zcore.specs.Entries.{Link, owner, place_of}
 use Rattle.zcore.specs.Header.{defaults_of, static_base_of}
 use Rattle.zcore.specs.declared.place.Fault.TheVariants as faults

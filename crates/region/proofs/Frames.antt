@@ -3,10 +3,10 @@ use Rattle.std.proofs.Common.{◌≡◌, ◌≤◌, ◌<◌, ◌+◌, ◌-◌, �
 use Rattle.std.proofs.Common.{arith, subst, inl, inr, ◌⊎◌}
 use Rattle.std.specs.List.{flat_map}
 use Rattle.std.proofs.lemmas.Bool.{cases_order}
-use Rattle.zcore.specs.Bytes.{word_at}
+use Rattle.ztext.specs.Bytes.{word_at}
 use Rattle.zcore.specs.Entries.{owner, object_entry, place_of, properties_place, attribute_place, is_set}
 use Rattle.zcore.specs.Header.{defaults_of, static_base_of}
-use Rattle.zcore.specs.Text.{Holds}
+use Rattle.ztext.specs.Text.{Holds}
 use Rattle.meaning.specs.Forests.{IsObjectNumber}
 use Rattle.meaning.specs.Objects.{Objects, ObjectOf}
 use Rattle.region.specs.Links.{links_of}

@@ -6,11 +6,11 @@ use Rattle.std.specs.List.{flat_map}
 use Rattle.std.proofs.lemmas.List.{length-append}
 use Rattle.std.proofs.lemmas.List.Folds.{length-flat_map-take}
 use Rattle.std.proofs.lemmas.List.Elements.{All-get_or}
-use Rattle.zcore.specs.Bytes.{word_at}
+use Rattle.ztext.specs.Bytes.{word_at}
 use Rattle.zcore.specs.Entries.{properties_place}
 use Rattle.zcore.specs.Header.{defaults_of, static_base_of}
-use Rattle.zcore.specs.Text.{Holds}
-use Rattle.zcore.proofs.Holding.{holds_byte, holds_append}
+use Rattle.ztext.specs.Text.{Holds}
+use Rattle.ztext.proofs.Holding.{holds_byte, holds_append}
 use Rattle.tables.specs.Rows.{name_bytes, name_words}
 use Rattle.tables.proofs.Names.{name_even}
 use Rattle.meaning.specs.Forests.{IsObjectNumber}

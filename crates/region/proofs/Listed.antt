@@ -9,8 +9,8 @@ use Rattle.std.proofs.lemmas.List.Elements.{All-head, All-tail}
 use Rattle.zcore.specs.ObjectProperties.{size_before}
 use Rattle.zcore.specs.Properties.{Property, Standing, Terminator, Listed, long_size, standing, found_at}
 use Rattle.zcore.specs.Properties.{found_in}
-use Rattle.zcore.specs.Text.{Holds}
-use Rattle.zcore.proofs.Holding.{holds_byte, holds_append}
+use Rattle.ztext.specs.Text.{Holds}
+use Rattle.ztext.proofs.Holding.{holds_byte, holds_append}
 use Rattle.tables.specs.Rows.{word}
 use Rattle.tables.proofs.Listed.{length_words}
 use Rattle.meaning.specs.Objects.{words_in}

@@ -4,9 +4,9 @@ use Rattle.std.proofs.Common.{◌∙◌, arith, subst}
 use Rattle.std.specs.Prelude.{map, take}
 use Rattle.std.specs.List.{flat_map}
 use Rattle.std.proofs.lemmas.List.{length-append}
-use Rattle.zcore.specs.Bytes.{word_at}
-use Rattle.zcore.specs.Text.{Holds}
-use Rattle.zcore.proofs.Holding.{holds_append}
+use Rattle.ztext.specs.Bytes.{word_at}
+use Rattle.ztext.specs.Text.{Holds}
+use Rattle.ztext.proofs.Holding.{holds_append}
 use Rattle.tables.specs.Rows.{word}
 use Rattle.tables.proofs.Listed.{word_held}
 use Rattle.meaning.specs.Objects.{ObjectOf, no_object}

@@ -3,7 +3,7 @@ use Rattle.std.proofs.Common.{◌≡◌, ◌==◌, ◌≤◌, ◌<◌, ◌+◌, 
 use Rattle.std.proofs.Common.{List, length, slice_index, Option, Some, None, refl, ap, sym, ◌∙◌, arith, subst, inl}
 use Rattle.std.proofs.Common.{inr, ◌⊎◌}
 use Rattle.std.proofs.lemmas.Bool.{cases_order, and_from, le-leb}
-use Rattle.zcore.specs.Bytes.{word_at}
+use Rattle.ztext.specs.Bytes.{word_at}
 use Rattle.zcore.specs.Entries.{Link, Parent, Sibling, Child, owner, object_entry, has_entry, place_of, named_from}
 use Rattle.zcore.specs.Header.{defaults_of, static_base_of}
 use Rattle.zcore.specs.Parts.{with_word}

@@ -4,7 +4,7 @@ use Rattle.std.proofs.Common.{if◌then◌else◌, [], ◌∷◌, length, slice_
 use Rattle.std.proofs.Common.{subst, zero, suc}
 use Rattle.std.proofs.lemmas.Bool.{ne_eqb, le-leb, and_from}
 use Rattle.std.specs.List.{flat_map}
-use Rattle.zcore.specs.Bytes.{word_at}
+use Rattle.ztext.specs.Bytes.{word_at}
 use Rattle.zcore.specs.declared.next.Next.{Next}
 use Rattle.zcore.specs.declared.place.Fault.TheVariants as faults
 use Rattle.zcore.specs.Effects.{give_result}
@@ -18,8 +18,8 @@ use Rattle.zcore.specs.Objects.{property_table}
 use Rattle.zcore.specs.Parts.{test, read_byte, read_word}
 use Rattle.zcore.specs.Properties.{Property, list_start}
 use Rattle.zcore.specs.State.{State, done, ◌>>=◌}
-use Rattle.zcore.specs.Text.{Holds}
-use Rattle.zcore.proofs.Holding.{holds_append}
+use Rattle.ztext.specs.Text.{Holds}
+use Rattle.ztext.proofs.Holding.{holds_append}
 use Rattle.tables.specs.Rows.{word}
 use Rattle.tables.proofs.Listed.{word_held}
 use Rattle.meaning.specs.Forests.{IsObjectNumber}

@@ -14,7 +14,7 @@ use Rattle.zcore.specs.Execution.{store_word}
 use Rattle.zcore.specs.Header.{defaults_of, static_base_of}
 use Rattle.zcore.specs.Parts.{write_word, with_word}
 use Rattle.zcore.specs.State.{State}
-use Rattle.zcore.specs.Text.{Holds}
+use Rattle.ztext.specs.Text.{Holds}
 use Rattle.tables.specs.Rows.{name_bytes}
 use Rattle.tables.proofs.Names.{name_even}
 use Rattle.meaning.specs.Forests.{IsObjectNumber}

@@ -13,7 +13,7 @@ use Rattle.zcore.specs.Objects.{get_sibling, give_object, remove_object, insert_
 use Rattle.zcore.specs.ObjectProperties.{get_property, get_property_address, get_property_length}
 use Rattle.zcore.specs.Parts.{branch_on}
 use Rattle.zcore.specs.State.{State, Out, done}
-use Rattle.zcore.specs.Text.{Holds}
+use Rattle.ztext.specs.Text.{Holds}
 use Rattle.expressions.specs.declared.tree.Relative.TheVariants as relatives
 use Rattle.lexer.specs.Printable.{IsPrintable}
 use Rattle.meaning.specs.Accepted.{IsObject}

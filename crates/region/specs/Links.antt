@@ -1,7 +1,7 @@
 -- The links of the machine's objects, three numbers for each (Z-Machine Standards Document 1.1, section 12.3), and how
 -- they hold a tree.
 use Rattle.std.specs.Prelude.{◌≡◌, ℕ, List, [], ◌∷◌}
-use Rattle.zcore.specs.Bytes.{word_at}
+use Rattle.ztext.specs.Bytes.{word_at}
 use Rattle.zcore.specs.Entries.{Link, Parent, Sibling, Child, place_of}
 use Rattle.zcore.specs.Header.{defaults_of}
 use Rattle.meaning.specs.Objects.{Tree}

@@ -2,10 +2,10 @@
 -- behind them the property tables, one behind another (Z-Machine Standards Document 1.1, section 12).
 use Rattle.std.specs.Prelude.{◌≡◌, ◌+◌, ◌-◌, ◌*◌, ◌<◌, ◌≤◌, ℕ, List, length, map, drop, slice_index}
 use Rattle.std.specs.List.{All, flat_map}
-use Rattle.zcore.specs.Bytes.{word_at}
+use Rattle.ztext.specs.Bytes.{word_at}
 use Rattle.zcore.specs.Entries.{properties_place, attribute_place, is_set}
 use Rattle.zcore.specs.Header.{defaults_of, static_base_of}
-use Rattle.zcore.specs.Text.{Holds}
+use Rattle.ztext.specs.Text.{Holds}
 use Rattle.meaning.specs.Forests.{IsForest, IsObjectNumber}
 use Rattle.meaning.specs.Objects.{Objects, ObjectOf, object_at, words_in}
 use Rattle.meaning.specs.Places.{machine_character}

@@ -2,7 +2,7 @@
 use Rattle.std.specs.Prelude.{◌≡◌, ◌+◌, ◌-◌, ◌*◌, ◌<◌, ◌≤◌, ◌==◌, ℕ, true, if◌then◌else◌, List, [], ◌∷◌, ◌++◌, length}
 use Rattle.std.specs.Prelude.{take, slice_index_or}
 use Rattle.std.specs.List.{All, flat_map, list_all}
-use Rattle.zcore.specs.Alphabets.{is_printable}
+use Rattle.ztext.specs.Alphabets.{is_printable}
 use Rattle.tables.specs.Rows.{word, sizes, name_bytes, name_words}
 
 -- the characters of a short name, and properties, each by its number and its words

@@ -1,6 +1,6 @@
 pub mod Shapes
-pub mod Walks
-pub mod Needs
+pub mod MadeActions
+pub mod HeadingNeeds
 pub mod Forms
 pub mod ReadNames
 mod Samples

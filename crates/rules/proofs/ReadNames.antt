@@ -4,11 +4,11 @@ use Rattle.expressions.specs.Tree.{NameTree}
 use Rattle.names.specs.declared.binding.Binding.{Binding}
 use Rattle.names.specs.declared.breach.Breach.{Breach}
 use Rattle.rules.specs.Buffers.{buffer_breaches, same_breaches, read_breaches}
-use Rattle.rules.specs.Expressions.{array_of_binding}
+use Rattle.value_rules.specs.Expressions.{array_of_binding}
 use Rattle.names.specs.Names.{Seen}
 use Rattle.names.specs.Noted.{noted}
 use Rattle.meaning.specs.Resolved as values
-use Rattle.rules.specs.Walk.{IsWalked}
+use Rattle.value_rules.specs.Walk.{IsWalked}
 use Rattle.names.proofs.Noted.{noted_two}
 
 pub read_walked : (seen : Seen) (n m : NameTree) (first second : Option Binding) (a b : ℕ)

@@ -1,6 +1,5 @@
 -- The rules that a statement can break, and what it resolves to.
-use Rattle.std.specs.Prelude.{ℕ, nat_lt, Bool, if◌then◌else◌, List, [], ◌∷◌, ◌++◌, map, Option, Some}
-use Rattle.std.specs.Prelude.{None}
+use Rattle.std.specs.Prelude.{ℕ, nat_lt, Bool, if◌then◌else◌, List, [], ◌∷◌, ◌++◌, map, Option, Some, None}
 use Rattle.std.specs.List.{flat_map}
 use Rattle.std.specs.Option.{option_map}
 use Rattle.lexer.specs.declared.fault.TheConstants.{BREAK_OUTSIDE, EXPRESSION_TOO_LARGE, UNKNOWN_NAME, WRONG_KIND}
@@ -16,19 +15,19 @@ use Rattle.names.specs.declared.binding.Binding.{Binding}
 use Rattle.names.specs.declared.binding.Binding.TheVariants as bindings
 use Rattle.names.specs.declared.breach.Breach.{Breach}
 use Rattle.names.specs.Breaches.{at}
-use Rattle.rules.specs.Literals.{constant_breaches}
+use Rattle.value_rules.specs.Literals.{constant_breaches}
 use Rattle.names.specs.Keys.{key_of_word, value_of_known, or_zero}
 use Rattle.rules.specs.Buffers.{read_breaches}
 use Rattle.names.specs.Names.{constant_known, Seen}
-use Rattle.rules.specs.Temporaries.{need}
+use Rattle.value_rules.specs.Temporaries.{need}
 use Rattle.meaning.specs.Operands.{operands}
-use Rattle.meaning.specs.Resolved.{RangeOf, one, between, Printed, text, character_of, number_of, Action, Actions, CasesOf, empty}
-use Rattle.meaning.specs.Resolved.{block, text_alone, print, print_return, new_line, if_then, if_else, while_do}
-use Rattle.meaning.specs.Resolved.{do_until, for_loop, switch_on, break_out, continue_on, read_line, return_value, quit, effect}
-use Rattle.meaning.specs.Resolved.{stop, next, no_case, default_case, case, number, name_of, give_to, move_to}
-use Rattle.meaning.specs.Resolved.{remove_from, each_object, each_in, each_where}
-use Rattle.rules.specs.Expressions.{breaches, attribute_breaches, array_of_binding, attribute_of_binding}
-use Rattle.rules.specs.Expressions.{variable_of_binding, resolve}
+use Rattle.meaning.specs.Resolved.{RangeOf, one, between, Printed, text, character_of, number_of, Action, Actions}
+use Rattle.meaning.specs.Resolved.{CasesOf, empty, block, text_alone, print, print_return, new_line, if_then, if_else}
+use Rattle.meaning.specs.Resolved.{while_do, do_until, for_loop, switch_on, break_out, continue_on, read_line}
+use Rattle.meaning.specs.Resolved.{return_value, quit, effect, stop, next, no_case, default_case, case, number, name_of}
+use Rattle.meaning.specs.Resolved.{give_to, move_to, remove_from, each_object, each_in, each_where}
+use Rattle.value_rules.specs.Expressions.{breaches, attribute_breaches, array_of_binding, attribute_of_binding}
+use Rattle.value_rules.specs.Expressions.{variable_of_binding, resolve}
 
 -- `break` may stand in a loop or a `switch`, `continue` in a loop; in the body of a routine neither may
 

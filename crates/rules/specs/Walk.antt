@@ -1,14 +1,11 @@
--- Words of proofs: what a walk over a part of a tree finds, and what it notes.
-use Rattle.std.specs.Prelude.{◌≡◌, ℕ, Bool, List, [], ◌∷◌, ◌++◌, Option, Some, None, map, Result}
-use Rattle.std.specs.Prelude.{IfOk}
+-- Words of proofs: what a walk over a statement or a part of one finds, and what it notes.
+use Rattle.std.specs.Prelude.{ℕ, Bool, List, [], ◌++◌, Option, Some, None, map, Result, IfOk, true, ◌-◌, nat_le}
 use Rattle.std.specs.Global.{Vec}
 use Rattle.std.specs.List.{flat_map}
 use Rattle.std.specs.Option.{option_map}
 use Rattle.lexer.specs.declared.token.Position.{Position}
-use Rattle.expressions.specs.declared.tree.Binary.{Binary}
-use Rattle.expressions.specs.declared.tree.Expression.{Expression}
 use Rattle.expressions.specs.declared.tree.Name.{Name}
-use Rattle.expressions.specs.Tree.{ExpressionTree, expression_tree, name_tree}
+use Rattle.expressions.specs.Tree.{ExpressionTree}
 use Rattle.statements.specs.declared.tree.PrintItem.{PrintItem}
 use Rattle.statements.specs.declared.tree.Range.{Range}
 use Rattle.statements.specs.declared.tree.Statement.{Statement}
@@ -16,58 +13,33 @@ use Rattle.statements.specs.Tree.{HeadingTree, RangeTree, PrintItemTree, Stateme
 use Rattle.statements.specs.Tree.{flag_tree, item_tree, statement_tree, case_tree}
 use Rattle.meaning.specs.declared.around.Around.{Around}
 use Rattle.names.specs.declared.breach.Breach.{Breach}
-use Rattle.meaning.specs.declared.resolved.Variable.{Variable}
 use Rattle.meaning.specs.declared.resolved.Value as code_value
 use Rattle.meaning.specs.declared.resolved.Action as code_action
-use Rattle.names.specs.Names.{name_of, is_place, Seen}
-use Rattle.names.specs.Noted.{noted}
-use Rattle.meaning.specs.Resolved.{Value, RangeOf, Printed, Action, Actions, value_of, action_of, property}
-use Rattle.rules.specs.Expressions.{breaches, property_breaches, left_breaches, assigned_breaches, target}
-use Rattle.rules.specs.Expressions.{property_of_binding, resolve}
+use Rattle.names.specs.Names.{Seen}
+use Rattle.meaning.specs.Resolved.{Value, RangeOf, Printed, Action, Actions, value_of, action_of}
+use Rattle.value_rules.specs.Expressions.{resolve}
 use Rattle.rules.specs.Statements.{whole_breaches, part_breaches, heading_breaches, range_breaches, resolve_range}
 use Rattle.rules.specs.Statements.{flag_breaches, resolve_flag, item_breaches, resolve_item, statement_breaches}
-use Rattle.rules.specs.Statements.{statements_breaches}
-use Rattle.rules.specs.Statements.{resolve_statement, resolve_statements}
-
--- what is found is what is meant, and the broken rules are noted over what was noted before
-pub record IsWalked {A : Type 0} (broken : List Breach) (before after : Option Breach) (found meant : A) : Type 0
-  where
-    pub value : found ≡ meant
-    pub breaches : after ≡ noted before broken
-
-abbrev pub value_link : Binary × code_value.Value → Binary × Value
-value_link l = (l.0, value_of l.1)
+use Rattle.rules.specs.Statements.{statements_breaches, resolve_statement, resolve_statements}
+use Rattle.value_rules.specs.Temporaries.{need}
+use Rattle.value_rules.specs.Walk.{IsWalked}
 
 abbrev pub parts_of : Option code_value.Value × Option code_value.Value × Option code_value.Value
     → Option Value × Option Value × Option Value
 parts_of x = (option_map value_of x.0, option_map value_of x.1, option_map value_of x.2)
 
--- properties of these numbers, each of the value of the one before it
-abbrev pub properties_of : Value → List ℕ → Value
-properties_of v [] = v
-properties_of v (n ∷ ns) = properties_of (property v n) ns
+-- a part of a `for` that is there needs at most so many, and leaves one less to those behind it
+abbrev pub part_fits : Option ExpressionTree → ℕ → Bool
+part_fits None room = true
+part_fits (Some e) room = nat_le (need e) room
+
+abbrev pub room_behind : Option ExpressionTree → ℕ → ℕ
+room_behind None room = room
+room_behind (Some e) room = room - 1
 
 -- in a routine that sees so much of the file
 module _ (seen : Seen) where
   -- Parts of the code's trees
-
-  abbrev pub own_breaches : Expression → List Breach
-  own_breaches e = breaches seen.look (expression_tree e)
-
-  abbrev pub resolved : Expression → Value
-  resolved e = resolve seen (expression_tree e)
-
-  abbrev pub link_breaches : Binary × Expression → List Breach
-  link_breaches l = breaches seen.look (expression_tree l.1)
-
-  abbrev pub resolved_link : Binary × Expression → Binary × Value
-  resolved_link l = (l.0, resolve seen (expression_tree l.1))
-
-  abbrev pub own_property_breaches : Name → List Breach
-  own_property_breaches n = property_breaches n.position (seen.look (name_tree n).text)
-
-  abbrev pub resolved_property : Name → ℕ
-  resolved_property n = property_of_binding (seen.look (name_tree n).text)
 
   abbrev pub own_flag_breaches : Bool × Name → List Breach
   own_flag_breaches x = flag_breaches seen.look (flag_tree x)
@@ -116,36 +88,6 @@ module _ (seen : Seen) where
 
   -- Walks, from what was noted before to what is noted after
 
-  abbrev pub IsResolved : ExpressionTree → Option Breach → Option Breach → Value → Type 0
-  IsResolved e before after v = IsWalked (breaches seen.look e) before after v (resolve seen e)
-
-  -- what is answered, unless memory was refused: what the expression resolves to
-  abbrev pub GivesValue : {E : Type 0} → Result code_value.Value E → Option Breach → Option Breach → ExpressionTree
-      → Type 0
-  GivesValue result before after e = IfOk result (λ v. IsResolved e before after (value_of v))
-
-  abbrev pub AreResolved : List Expression → Option Breach → Option Breach → List Value → Type 0
-  AreResolved es before after vs = IsWalked (flat_map own_breaches es) before after vs (map resolved es)
-
-  abbrev pub AreLinks : List (Binary × Expression) → Option Breach → Option Breach → List (Binary × Value) → Type 0
-  AreLinks ls before after vs = IsWalked (flat_map link_breaches ls) before after vs (map resolved_link ls)
-
-  -- properties, behind what resolves to a value
-  abbrev pub AreProperties : List Name → Value → Option Breach → Option Breach → Value → Type 0
-  AreProperties ns first before after v =
-      IsWalked (flat_map own_property_breaches ns) before after v (properties_of first (map resolved_property ns))
-
-  -- what is stepped by an operator there
-  abbrev pub IsTarget : Position → ExpressionTree → Option Breach → Option Breach → Variable → Type 0
-  IsTarget operator e before after x =
-      IsWalked (left_breaches seen.look operator (name_of e) (breaches seen.look e)) before after x (target seen (name_of e))
-
-  -- the left side of an assignment there
-  abbrev pub IsAssigned : Position → ExpressionTree → Option Breach → Option Breach → Value → Type 0
-  IsAssigned operator e before after v =
-      IsWalked (assigned_breaches seen.look operator (name_of e) (is_place e) (breaches seen.look e)) before after v
-      (resolve seen e)
-
   -- a whole expression of what begins there
   abbrev pub IsWhole : Position → ExpressionTree → Option Breach → Option Breach → Value → Type 0
   IsWhole position e before after v = IsWalked (whole_breaches seen.look position e) before after v (resolve seen e)
@@ -165,7 +107,8 @@ module _ (seen : Seen) where
   abbrev pub AreParts : HeadingTree → Option Breach → Option Breach
       → Option Value × Option Value × Option Value → Type 0
   AreParts h before after x =
-      IsWalked (part_breaches seen.look h.before ++ (part_breaches seen.look h.test ++ part_breaches seen.look h.behind)) before after
+      IsWalked (part_breaches seen.look h.before
+      ++ (part_breaches seen.look h.test ++ part_breaches seen.look h.behind)) before after
       x (resolve_heading h)
 
   abbrev pub IsHeading : Position → HeadingTree → Option Breach → Option Breach

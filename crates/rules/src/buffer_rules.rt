@@ -4,7 +4,7 @@ ghost use Rattle.std.specs.Prelude.{◌≡◌};
 ghost use Rattle.expressions.specs.Tree.{name_tree};
 ghost use Rattle.statements.specs.Tree as trees;
 ghost use Rattle.rules.specs.Buffers as spec;
-ghost use Rattle.rules.specs.Expressions.{array_of_binding};
+ghost use Rattle.value_rules.specs.Expressions.{array_of_binding};
 ghost use Rattle.names.specs.Noted.{noted};
 ghost use Rattle.meaning.specs.Resolved.{action_of};
 ghost use Rattle.names.specs.Scope.{seen_in};

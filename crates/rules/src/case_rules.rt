@@ -9,11 +9,11 @@ ghost use Rattle.names.specs.Scope.{look_in, seen_in};
 ghost use Rattle.rules.specs.Statements as spec;
 ghost use Rattle.rules.specs.Walk.{IsRange, AreRanges};
 
-use crate::literal_rules::constant_name;
 use meaning::Span;
 use names::{Breach, Scope, constant_known, key_of_word, or_zero};
 use statements::{Literal, Range};
 use std::alloc::{AllocError, Global};
+use value_rules::constant_name;
 
 // A value, which is known before a story runs. A local hides a constant.
 #[tactic(auto, using(names::proofs::Noted::noted_none))]

@@ -7,17 +7,15 @@ ghost use Rattle.names.specs.Noted.{noted};
 ghost use Rattle.meaning.specs.Resolved.{value_of};
 ghost use Rattle.names.specs.Scope.{seen_in};
 ghost use Rattle.rules.specs.Statements as spec;
-ghost use Rattle.rules.specs.Temporaries.{part_fits, room_behind};
-ghost use Rattle.rules.specs.Walk.{IsPart, AreParts, IsHeading, parts_of};
+ghost use Rattle.rules.specs.Walk.{part_fits, room_behind, IsPart, AreParts, IsHeading, parts_of};
 
-use crate::expression_rules::expression;
-use crate::temporaries::fits;
 use expressions::Expression;
 use lexer::{EXPRESSION_TOO_LARGE, Position};
 use meaning::Value;
 use names::{Breach, Scope, note};
 use statements::Heading;
 use std::alloc::{AllocError, Global};
+use value_rules::{expression, fits};
 
 // Whether a part needs at most so many temporaries.
 fn fits_in(part: &Option<Box<Expression<'_>>>, room: u8) -> bool
@@ -57,7 +55,7 @@ fn all_fit(heading: &Heading<'_>) -> bool
     all_three(first_fits, second_fits, third_fits)
 }
 
-#[tactic(auto, using(names::proofs::Noted::noted_none, crate::proofs::Needs::fits_not))]
+#[tactic(auto, using(names::proofs::Noted::noted_none, value_rules::proofs::Needs::fits_not))]
 fn temporaries(position: Position, heading: &Heading<'_>, least: &mut Option<Breach>)
     ensures { least.new ≡ noted least.old
         (spec.room_breaches position (spec.need_of_heading (heading_tree heading.now))) }

@@ -1,288 +1,29 @@
-//! Statements: the rules that they can break, and what they resolve to.
+//! Statements, and those inside them: the rules that they can break, and what they resolve to.
 
 ghost use Rattle.std.specs.Prelude.{◌≡◌, IfOk, map};
 ghost use Rattle.expressions.specs.Tree.{expression_tree, name_tree};
 ghost use Rattle.statements.specs.Tree as trees;
-ghost use Rattle.statements.specs.Tree.{flag_tree, item_tree, statement_tree, trees_of, heading_tree, case_tree, other_tree};
-ghost use Rattle.rules.specs.Statements.{outside_breaches, room_breaches, move_need};
+ghost use Rattle.statements.specs.Tree.{statement_tree, trees_of, heading_tree, loop_tree, case_tree, other_tree};
 ghost use Rattle.meaning.specs.Around.{in_switch};
-ghost use Rattle.names.specs.Noted.{noted};
 ghost use Rattle.names.specs.Scope.{seen_in};
-ghost use Rattle.rules.specs.Temporaries.{need};
-ghost use Rattle.meaning.specs.Resolved.{value_of, printed_of, action_of, case_of, other_of};
-ghost use Rattle.rules.specs.Walk.{IsWhole, IsFlag, AreFlags, IsItem, AreItems, IsAction, GivesAction, AreActions, IsCase, AreCases, IsOther};
+ghost use Rattle.meaning.specs.Resolved.{action_of, case_of, other_of};
+ghost use Rattle.rules.specs.Walk.{IsAction, GivesAction, AreActions, IsCase, AreCases, IsOther};
 
-use crate::buffer_rules::read;
 use crate::case_rules::ranges;
-use crate::expression_rules::expression;
 use crate::heading_rules::heading;
-use crate::name_rules::{attribute, loop_variable};
-use crate::temporaries::{both_fit, fits};
+use crate::loop_rules::loop_variable;
+use crate::simple_rules::{simple, whole};
 use expressions::{Expression, Name};
-use lexer::{BREAK_OUTSIDE, EXPRESSION_TOO_LARGE, Position};
-use meaning::{Action, Around, IN_LOOP, Printed, Span, Value, in_switch};
-use names::{Breach, Scope, note};
-use statements::{Heading, PrintItem, Range, Statement};
+use lexer::Position;
+use meaning::{Action, Around, IN_LOOP, Span, in_switch};
+use names::{Breach, Scope};
+use statements::{Heading, Loop, Range, Statement};
 use std::alloc::{AllocError, Global};
 
-#[tactic(auto, using(names::proofs::Noted::noted_none, crate::proofs::Needs::fits_not))]
-fn temporaries(position: Position, e: &Expression<'_>, least: &mut Option<Breach>)
-    ensures { least.new ≡ noted least.old (room_breaches position (need (expression_tree e.now))) }
-{
-    if !fits(e, 48) {
-        note(least, EXPRESSION_TOO_LARGE, position);
-    }
-}
-
-// An expression of a statement or an item that begins at this position.
-fn whole(
-    alloc: Global,
-    scope: &Scope<'_>,
-    position: Position,
-    e: &Expression<'_>,
-    least: &mut Option<Breach>,
-) -> Result<Value, AllocError>
-    ensures { IfOk result (λ v. IsWhole (seen_in scope.now) position (expression_tree e.now)
-        least.old least.new (value_of v)) }
-{
-    temporaries(position, e, least);
-    expression(alloc, scope, e, least)
-}
-
-#[tactic(auto, using(names::proofs::Noted::noted_none))]
-fn item<'a>(
-    alloc: Global,
-    scope: &Scope<'_>,
-    printed: &PrintItem<'a>,
-    least: &mut Option<Breach>,
-) -> Result<Printed<'a>, AllocError>
-    ensures { IfOk result (λ x. IsItem (seen_in scope.now) (item_tree printed.now)
-        least.old least.new (printed_of x)) }
-{
-    match printed {
-        PrintItem::Text(text) => Ok(Printed::Text(text)),
-        PrintItem::Character(position, e) => {
-            let Ok(value) = whole(alloc, scope, *position, e, least) else {
-                return Err(AllocError);
-            };
-            Ok(Printed::Character(value))
-        }
-        PrintItem::Object(position, e) => {
-            let Ok(value) = whole(alloc, scope, *position, e, least) else {
-                return Err(AllocError);
-            };
-            Ok(Printed::Name(value))
-        }
-        PrintItem::Number(position, e) => {
-            let Ok(value) = whole(alloc, scope, *position, e, least) else {
-                return Err(AllocError);
-            };
-            Ok(Printed::Number(value))
-        }
-    }
-}
-
-fn items<'a>(
-    alloc: Global,
-    scope: &Scope<'_>,
-    printed: &[PrintItem<'a>],
-    least: &mut Option<Breach>,
-) -> Result<Vec<Printed<'a>>, AllocError>
-    ensures { IfOk result (λ v. AreItems (seen_in scope.now) printed.now
-        least.old least.new (map printed_of v.items)) }
-{
-    let mut found = Vec::new(alloc);
-    for x in printed {
-        let Ok(resolved) = item(alloc, scope, x, least) else {
-            return Err(AllocError);
-        };
-        found.push(resolved)?;
-    }
-    Ok(found)
-}
-
-fn print<'a>(
-    alloc: Global,
-    scope: &Scope<'_>,
-    printed: &[PrintItem<'a>],
-    least: &mut Option<Breach>,
-) -> Result<Action<'a>, AllocError>
-    ensures { (around : _) → GivesAction (seen_in scope.now) around result least.old least.new
-        (trees.print (map item_tree printed.now)) }
-{
-    let Ok(found) = items(alloc, scope, printed, least) else {
-        return Err(AllocError);
-    };
-    Ok(Action::Print(found))
-}
-
-fn print_return<'a>(
-    alloc: Global,
-    scope: &Scope<'_>,
-    printed: &[PrintItem<'a>],
-    least: &mut Option<Breach>,
-) -> Result<Action<'a>, AllocError>
-    ensures { (around : _) → GivesAction (seen_in scope.now) around result least.old least.new
-        (trees.print_return (map item_tree printed.now)) }
-{
-    let Ok(found) = items(alloc, scope, printed, least) else {
-        return Err(AllocError);
-    };
-    Ok(Action::PrintReturn(found))
-}
-
-fn return_value<'a>(
-    alloc: Global,
-    scope: &Scope<'_>,
-    position: Position,
-    e: &Expression<'_>,
-    least: &mut Option<Breach>,
-) -> Result<Action<'a>, AllocError>
-    ensures { (around : _) → GivesAction (seen_in scope.now) around result least.old least.new
-        (trees.return_value position (expression_tree e.now)) }
-{
-    let Ok(value) = whole(alloc, scope, position, e, least) else {
-        return Err(AllocError);
-    };
-    Ok(Action::ReturnValue(value))
-}
-
-fn effect<'a>(
-    alloc: Global,
-    scope: &Scope<'_>,
-    position: Position,
-    e: &Expression<'_>,
-    least: &mut Option<Breach>,
-) -> Result<Action<'a>, AllocError>
-    ensures { (around : _) → GivesAction (seen_in scope.now) around result least.old least.new
-        (trees.effect position (expression_tree e.now)) }
-{
-    let Ok(value) = whole(alloc, scope, position, e, least) else {
-        return Err(AllocError);
-    };
-    Ok(Action::Effect(value))
-}
-
-// An attribute of a `give`, and whether it is set.
-fn flag(scope: &Scope<'_>, given: &(bool, Name<'_>), least: &mut Option<Breach>) -> (bool, usize)
-    ensures { IsFlag (seen_in scope.now) given.now least.old least.new result }
-{
-    let (sets, name) = *given;
-    let number = attribute(name, scope.look(name.text), least);
-    (sets, number)
-}
-
-// The attributes of a `give`.
-fn flags(
-    alloc: Global,
-    scope: &Scope<'_>,
-    given: &[(bool, Name<'_>)],
-    least: &mut Option<Breach>,
-) -> Result<Vec<(bool, usize)>, AllocError>
-    ensures { IfOk result (λ v. AreFlags (seen_in scope.now) given.now
-        least.old least.new v.items) }
-{
-    let mut found = Vec::new(alloc);
-    for x in given {
-        let resolved = flag(scope, x, least);
-        found.push(resolved)?;
-    }
-    Ok(found)
-}
-
-fn give<'a>(
-    alloc: Global,
-    scope: &Scope<'_>,
-    position: Position,
-    e: &Expression<'_>,
-    given: &[(bool, Name<'_>)],
-    least: &mut Option<Breach>,
-) -> Result<Action<'a>, AllocError>
-    ensures { (around : _) → GivesAction (seen_in scope.now) around result least.old least.new
-        (trees.give position (expression_tree e.now) (map flag_tree given.now)) }
-{
-    let Ok(object) = whole(alloc, scope, position, e, least) else {
-        return Err(AllocError);
-    };
-    let Ok(changes) = flags(alloc, scope, given, least) else {
-        drop(object);
-        return Err(AllocError);
-    };
-    Ok(Action::Give(object, changes))
-}
-
-#[tactic(auto, using(names::proofs::Noted::noted_none, crate::proofs::Needs::fits_not))]
-fn move_temporaries(
-    position: Position,
-    object: &Expression<'_>,
-    parent: &Expression<'_>,
-    least: &mut Option<Breach>,
-)
-    ensures { least.new ≡ noted least.old (room_breaches position
-        (move_need (expression_tree object.now) (expression_tree parent.now))) }
-{
-    if !both_fit(object, parent, 48) {
-        note(least, EXPRESSION_TOO_LARGE, position);
-    }
-}
-
-fn move_to<'a>(
-    alloc: Global,
-    scope: &Scope<'_>,
-    position: Position,
-    object: &Expression<'_>,
-    parent: &Expression<'_>,
-    least: &mut Option<Breach>,
-) -> Result<Action<'a>, AllocError>
-    ensures { (around : _) → GivesAction (seen_in scope.now) around result least.old least.new
-        (trees.move position (expression_tree object.now) (expression_tree parent.now)) }
-{
-    move_temporaries(position, object, parent, least);
-    let Ok(object) = expression(alloc, scope, object, least) else {
-        return Err(AllocError);
-    };
-    let Ok(parent) = expression(alloc, scope, parent, least) else {
-        drop(object);
-        return Err(AllocError);
-    };
-    Ok(Action::Move(object, parent))
-}
-
-fn remove<'a>(
-    alloc: Global,
-    scope: &Scope<'_>,
-    position: Position,
-    e: &Expression<'_>,
-    least: &mut Option<Breach>,
-) -> Result<Action<'a>, AllocError>
-    ensures { (around : _) → GivesAction (seen_in scope.now) around result least.old least.new
-        (trees.remove position (expression_tree e.now)) }
-{
-    let Ok(object) = whole(alloc, scope, position, e, least) else {
-        return Err(AllocError);
-    };
-    Ok(Action::Remove(object))
-}
-
-// `break` or `continue`, which may stand there or not.
-#[tactic(auto, using(names::proofs::Noted::noted_none))]
-fn outside(stands: bool, position: Position, least: &mut Option<Breach>)
-    ensures { least.new ≡ noted least.old (outside_breaches stands position) }
-{
-    if !stands {
-        note(least, BREAK_OUTSIDE, position);
-    }
-}
-
-/// Resolves the names of a statement, and notes the rules that it breaks. The tree is the first argument here and where a
-/// vector of statements is lent: there its lifetime has the place that it has in what the vector is lent to, else the
-/// prover compares the types of these vectors part by part.
-///
-/// # Errors
-///
-/// `AllocError` where memory is refused.
+// A statement. The tree is the first argument of all these functions: there its lifetime has the place that it has where a
+// box or a vector lends it, else the prover compares the types of trees part by part.
 #[cycle(statement)]
-pub fn statement<'a>(
+fn statement<'a>(
     s: &Statement<'a>,
     alloc: Global,
     scope: &Scope<'_>,
@@ -293,76 +34,48 @@ pub fn statement<'a>(
         (statement_tree s.now) }
 {
     match s {
-        Statement::Empty => Ok(Action::Empty),
-        Statement::Block(all) => block(alloc, scope, around, all, least),
-        Statement::Text(text) => Ok(Action::Text(text)),
-        Statement::Print(all) => print(alloc, scope, all, least),
-        Statement::PrintReturn(all) => print_return(alloc, scope, all, least),
-        Statement::NewLine => Ok(Action::NewLine),
+        Statement::Simple(plain) => simple(plain, alloc, scope, around, least),
+        Statement::Block(all) => block(all, alloc, scope, around, least),
         Statement::If(position, condition, then) => {
-            if_then(alloc, scope, around, then, *position, condition, least)
+            if_then(then, alloc, scope, around, *position, condition, least)
         }
         Statement::IfElse(position, condition, then, otherwise) => {
             if_else(
-                alloc, scope, around, then, otherwise, *position, condition, least,
+                then, otherwise, alloc, scope, around, *position, condition, least,
             )
         }
         Statement::While(position, condition, body) => {
-            while_do(alloc, scope, body, *position, condition, least)
+            while_do(body, alloc, scope, *position, condition, least)
         }
         Statement::Do(position, body, condition) => {
-            do_until(alloc, scope, body, *position, condition, least)
+            do_until(body, alloc, scope, *position, condition, least)
         }
         Statement::For(position, parts, body) => {
-            for_loop(alloc, scope, body, *position, parts, least)
+            for_loop(body, alloc, scope, *position, parts, least)
+        }
+        Statement::Objectloop(position, over, body) => {
+            traversal(body, alloc, scope, *position, over, least)
         }
         Statement::Switch(position, value, cases, other) => switch_on(
+            cases,
+            other,
             alloc,
             scope,
             in_switch(around),
-            cases,
-            other,
             *position,
             value,
             least,
         ),
-        Statement::Break(position) => {
-            outside(around.can_break, *position, least);
-            Ok(Action::Break)
-        }
-        Statement::Continue(position) => {
-            outside(around.can_continue, *position, least);
-            Ok(Action::Continue)
-        }
-        Statement::Return => Ok(Action::ReturnValue(Value::Number(1))),
-        Statement::ReturnValue(position, e) => return_value(alloc, scope, *position, e, least),
-        Statement::ReturnTrue => Ok(Action::ReturnValue(Value::Number(1))),
-        Statement::ReturnFalse => Ok(Action::ReturnValue(Value::Number(0))),
-        Statement::Quit => Ok(Action::Quit),
-        Statement::Read(text, words) => Ok(read(scope, *text, *words, least)),
-        Statement::Give(position, e, given) => give(alloc, scope, *position, e, given, least),
-        Statement::Move(position, object, parent) => {
-            move_to(alloc, scope, *position, object, parent, least)
-        }
-        Statement::Remove(position, e) => remove(alloc, scope, *position, e, least),
-        Statement::Each(name, body) => each(alloc, scope, body, *name, least),
-        Statement::EachIn(position, name, parent, body) => {
-            each_in(alloc, scope, body, *position, *name, parent, least)
-        }
-        Statement::EachWhere(position, name, condition, body) => {
-            each_where(alloc, scope, body, *position, *name, condition, least)
-        }
-        Statement::Effect(position, e) => effect(alloc, scope, *position, e, least),
     }
 }
 
 // The same for a statement inside another, in its box.
 #[cycle(statement)]
 fn boxed<'a>(
+    s: &Box<Statement<'a>>,
     alloc: Global,
     scope: &Scope<'_>,
     around: Around,
-    s: &Box<Statement<'a>>,
     least: &mut Option<Breach>,
 ) -> Result<Box<Action<'a>>, AllocError>
     ensures { IfOk result (λ x. IsAction (seen_in scope.now) around (statement_tree s.now.value)
@@ -374,17 +87,13 @@ fn boxed<'a>(
     Ok(Box::new(alloc, found)?)
 }
 
-/// Resolves the names of statements in order, and notes the rules that they break.
-///
-/// # Errors
-///
-/// `AllocError` where memory is refused.
+// Statements in order.
 #[cycle(statement)]
-pub fn all_statements<'a>(
+fn sequence<'a>(
+    all: &[Statement<'a>],
     alloc: Global,
     scope: &Scope<'_>,
     around: Around,
-    all: &[Statement<'a>],
     least: &mut Option<Breach>,
 ) -> Result<Vec<Action<'a>>, AllocError>
     ensures { IfOk result (λ v. AreActions (seen_in scope.now) around all.now
@@ -402,16 +111,16 @@ pub fn all_statements<'a>(
 
 #[cycle(statement)]
 fn block<'a>(
+    all: &[Statement<'a>],
     alloc: Global,
     scope: &Scope<'_>,
     around: Around,
-    all: &[Statement<'a>],
     least: &mut Option<Breach>,
 ) -> Result<Action<'a>, AllocError>
     ensures { GivesAction (seen_in scope.now) around result least.old least.new
         (trees.block (trees_of (map statement_tree all.now))) }
 {
-    let Ok(found) = all_statements(alloc, scope, around, all, least) else {
+    let Ok(found) = sequence(all, alloc, scope, around, least) else {
         return Err(AllocError);
     };
     Ok(Action::Block(found))
@@ -419,10 +128,10 @@ fn block<'a>(
 
 #[cycle(statement)]
 fn if_then<'a>(
+    body: &Box<Statement<'a>>,
     alloc: Global,
     scope: &Scope<'_>,
     around: Around,
-    body: &Box<Statement<'a>>,
     position: Position,
     condition: &Expression<'_>,
     least: &mut Option<Breach>,
@@ -433,7 +142,7 @@ fn if_then<'a>(
     let Ok(condition) = whole(alloc, scope, position, condition, least) else {
         return Err(AllocError);
     };
-    let Ok(body) = boxed(alloc, scope, around, body, least) else {
+    let Ok(body) = boxed(body, alloc, scope, around, least) else {
         drop(condition);
         return Err(AllocError);
     };
@@ -442,11 +151,11 @@ fn if_then<'a>(
 
 #[cycle(statement)]
 fn if_else<'a>(
+    first: &Box<Statement<'a>>,
+    otherwise: &Box<Statement<'a>>,
     alloc: Global,
     scope: &Scope<'_>,
     around: Around,
-    first: &Box<Statement<'a>>,
-    otherwise: &Box<Statement<'a>>,
     position: Position,
     condition: &Expression<'_>,
     least: &mut Option<Breach>,
@@ -458,11 +167,11 @@ fn if_else<'a>(
     let Ok(condition) = whole(alloc, scope, position, condition, least) else {
         return Err(AllocError);
     };
-    let Ok(first) = boxed(alloc, scope, around, first, least) else {
+    let Ok(first) = boxed(first, alloc, scope, around, least) else {
         drop(condition);
         return Err(AllocError);
     };
-    let Ok(otherwise) = boxed(alloc, scope, around, otherwise, least) else {
+    let Ok(otherwise) = boxed(otherwise, alloc, scope, around, least) else {
         drop(condition);
         return Err(AllocError);
     };
@@ -471,9 +180,9 @@ fn if_else<'a>(
 
 #[cycle(statement)]
 fn while_do<'a>(
+    body: &Box<Statement<'a>>,
     alloc: Global,
     scope: &Scope<'_>,
-    body: &Box<Statement<'a>>,
     position: Position,
     condition: &Expression<'_>,
     least: &mut Option<Breach>,
@@ -484,7 +193,7 @@ fn while_do<'a>(
     let Ok(condition) = whole(alloc, scope, position, condition, least) else {
         return Err(AllocError);
     };
-    let Ok(body) = boxed(alloc, scope, IN_LOOP, body, least) else {
+    let Ok(body) = boxed(body, alloc, scope, IN_LOOP, least) else {
         drop(condition);
         return Err(AllocError);
     };
@@ -493,9 +202,9 @@ fn while_do<'a>(
 
 #[cycle(statement)]
 fn do_until<'a>(
+    body: &Box<Statement<'a>>,
     alloc: Global,
     scope: &Scope<'_>,
-    body: &Box<Statement<'a>>,
     position: Position,
     condition: &Expression<'_>,
     least: &mut Option<Breach>,
@@ -503,7 +212,7 @@ fn do_until<'a>(
     ensures { (around : _) → GivesAction (seen_in scope.now) around result least.old least.new
         (trees.do_until position (statement_tree body.now.value) (expression_tree condition.now)) }
 {
-    let Ok(body) = boxed(alloc, scope, IN_LOOP, body, least) else {
+    let Ok(body) = boxed(body, alloc, scope, IN_LOOP, least) else {
         return Err(AllocError);
     };
     let Ok(condition) = whole(alloc, scope, position, condition, least) else {
@@ -515,9 +224,9 @@ fn do_until<'a>(
 
 #[cycle(statement)]
 fn for_loop<'a>(
+    body: &Box<Statement<'a>>,
     alloc: Global,
     scope: &Scope<'_>,
-    body: &Box<Statement<'a>>,
     position: Position,
     given: &Heading<'_>,
     least: &mut Option<Breach>,
@@ -529,7 +238,7 @@ fn for_loop<'a>(
     let Ok((before, test, behind)) = heading(alloc, scope, position, given, least) else {
         return Err(AllocError);
     };
-    let Ok(body) = boxed(alloc, scope, IN_LOOP, body, least) else {
+    let Ok(body) = boxed(body, alloc, scope, IN_LOOP, least) else {
         drop(before);
         drop(test);
         drop(behind);
@@ -540,9 +249,9 @@ fn for_loop<'a>(
 
 #[cycle(statement)]
 fn each<'a>(
+    body: &Box<Statement<'a>>,
     alloc: Global,
     scope: &Scope<'_>,
-    body: &Box<Statement<'a>>,
     name: Name<'_>,
     least: &mut Option<Breach>,
 ) -> Result<Action<'a>, AllocError>
@@ -550,7 +259,7 @@ fn each<'a>(
         (trees.each (name_tree name.entry) (statement_tree body.now.value)) }
 {
     let variable = loop_variable(name, scope.look(name.text), least);
-    let Ok(body) = boxed(alloc, scope, IN_LOOP, body, least) else {
+    let Ok(body) = boxed(body, alloc, scope, IN_LOOP, least) else {
         return Err(AllocError);
     };
     Ok(Action::EachObject(variable, body))
@@ -558,9 +267,9 @@ fn each<'a>(
 
 #[cycle(statement)]
 fn each_in<'a>(
+    body: &Box<Statement<'a>>,
     alloc: Global,
     scope: &Scope<'_>,
-    body: &Box<Statement<'a>>,
     position: Position,
     name: Name<'_>,
     parent: &Expression<'_>,
@@ -574,7 +283,7 @@ fn each_in<'a>(
     let Ok(parent) = whole(alloc, scope, position, parent, least) else {
         return Err(AllocError);
     };
-    let Ok(body) = boxed(alloc, scope, IN_LOOP, body, least) else {
+    let Ok(body) = boxed(body, alloc, scope, IN_LOOP, least) else {
         drop(parent);
         return Err(AllocError);
     };
@@ -583,9 +292,9 @@ fn each_in<'a>(
 
 #[cycle(statement)]
 fn each_where<'a>(
+    body: &Box<Statement<'a>>,
     alloc: Global,
     scope: &Scope<'_>,
-    body: &Box<Statement<'a>>,
     position: Position,
     name: Name<'_>,
     condition: &Expression<'_>,
@@ -599,11 +308,33 @@ fn each_where<'a>(
     let Ok(condition) = whole(alloc, scope, position, condition, least) else {
         return Err(AllocError);
     };
-    let Ok(body) = boxed(alloc, scope, IN_LOOP, body, least) else {
+    let Ok(body) = boxed(body, alloc, scope, IN_LOOP, least) else {
         drop(condition);
         return Err(AllocError);
     };
     Ok(Action::EachWhere(variable, condition, body))
+}
+
+// An `objectloop`, by what it goes over.
+#[cycle(statement)]
+fn traversal<'a>(
+    body: &Box<Statement<'a>>,
+    alloc: Global,
+    scope: &Scope<'_>,
+    position: Position,
+    over: &Loop<'_>,
+    least: &mut Option<Breach>,
+) -> Result<Action<'a>, AllocError>
+    ensures { (around : _) → GivesAction (seen_in scope.now) around result least.old least.new
+        (trees.loop_over position (loop_tree over.now) (statement_tree body.now.value)) }
+{
+    match over {
+        Loop::All(name) => each(body, alloc, scope, *name, least),
+        Loop::In(name, parent) => each_in(body, alloc, scope, position, *name, parent, least),
+        Loop::Where(name, condition) => {
+            each_where(body, alloc, scope, position, *name, condition, least)
+        }
+    }
 }
 
 // A case of a `switch`.
@@ -621,7 +352,7 @@ fn one_case<'a>(
     let Ok(spans) = ranges(alloc, scope, &given.0, least) else {
         return Err(AllocError);
     };
-    let Ok(body) = all_statements(alloc, scope, around, &given.1, least) else {
+    let Ok(body) = sequence(&given.1, alloc, scope, around, least) else {
         return Err(AllocError);
     };
     Ok((spans, body))
@@ -629,10 +360,10 @@ fn one_case<'a>(
 
 #[cycle(statement)]
 fn all_cases<'a>(
+    given: &[(Vec<Range<'a>>, Vec<Statement<'a>>)],
     alloc: Global,
     scope: &Scope<'_>,
     around: Around,
-    given: &[(Vec<Range<'a>>, Vec<Statement<'a>>)],
     least: &mut Option<Breach>,
 ) -> Result<Vec<(Vec<Span>, Vec<Action<'a>>)>, AllocError>
     ensures { IfOk result (λ v. AreCases (seen_in scope.now) around given.now
@@ -663,7 +394,7 @@ fn otherwise<'a>(
     match other {
         None => Ok(None),
         Some(all) => {
-            let Ok(found) = all_statements(alloc, scope, around, all, least) else {
+            let Ok(found) = sequence(all, alloc, scope, around, least) else {
                 return Err(AllocError);
             };
             Ok(Some(found))
@@ -673,11 +404,11 @@ fn otherwise<'a>(
 
 #[cycle(statement)]
 fn switch_on<'a>(
+    cases: &[(Vec<Range<'a>>, Vec<Statement<'a>>)],
+    other: &Option<Vec<Statement<'a>>>,
     alloc: Global,
     scope: &Scope<'_>,
     inside: Around,
-    cases: &[(Vec<Range<'a>>, Vec<Statement<'a>>)],
-    other: &Option<Vec<Statement<'a>>>,
     position: Position,
     value: &Expression<'_>,
     least: &mut Option<Breach>,
@@ -690,7 +421,7 @@ fn switch_on<'a>(
     let Ok(value) = whole(alloc, scope, position, value, least) else {
         return Err(AllocError);
     };
-    let Ok(cases) = all_cases(alloc, scope, inside, cases, least) else {
+    let Ok(cases) = all_cases(cases, alloc, scope, inside, least) else {
         drop(value);
         return Err(AllocError);
     };
@@ -700,4 +431,22 @@ fn switch_on<'a>(
         return Err(AllocError);
     };
     Ok(Action::Switch(value, cases, other))
+}
+
+/// Resolves the names of statements in order, and notes the rules that they break.
+///
+/// # Errors
+///
+/// `AllocError` where memory is refused.
+pub fn all_statements<'a>(
+    alloc: Global,
+    scope: &Scope<'_>,
+    around: Around,
+    all: &[Statement<'a>],
+    least: &mut Option<Breach>,
+) -> Result<Vec<Action<'a>>, AllocError>
+    ensures { IfOk result (λ v. AreActions (seen_in scope.now) around all.now
+        least.old least.new (map action_of v.items)) }
+{
+    sequence(all, alloc, scope, around, least)
 }

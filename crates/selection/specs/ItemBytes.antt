@@ -1,8 +1,8 @@
 -- The bytes of an item.
 use Rattle.std.specs.Prelude.{ℕ, List, [], ◌++◌, map}
 use Rattle.std.specs.List.{filter}
-use Rattle.zcore.specs.Alphabets.{is_printable}
-use Rattle.zcore.specs.Abbreviations.{encoded_with}
+use Rattle.ztext.specs.Alphabets.{is_printable}
+use Rattle.ztext.specs.Abbreviations.{encoded_with}
 use Rattle.values.specs.Items.{Item}
 use Rattle.values.specs.Items as items
 use Rattle.instructions.specs.Addresses.{Addresses, Sizes}

@@ -1,16 +1,12 @@
--- The instructions of each item (Z-Machine Standards Document 1.1, sections 4 and 15): those on arrays, lines and objects
--- beside those on words.
+-- The instructions of each item (Z-Machine Standards Document 1.1, sections 4 and 15): those on arrays, lines and
+-- objects beside those on words.
 use Rattle.std.specs.Prelude.{◌+◌, ◌-◌, ◌/◌, ◌%◌, ◌==◌, ◌&&◌, not, ℕ, nat_lt, Bool, true, false}
-use Rattle.std.specs.Prelude.{if◌then◌else◌, List, [], ◌∷◌, ◌++◌, map, take, slice_index}
-use Rattle.std.specs.Prelude.{Some}
+use Rattle.std.specs.Prelude.{if◌then◌else◌, List, [], ◌∷◌, ◌++◌, map, take, slice_index, Some}
 use Rattle.zcore.specs.declared.instruction.Operand.{Operand}
 use Rattle.zcore.specs.declared.instruction.Operand.TheVariants.{Large, Small, Variable}
 use Rattle.zcore.specs.declared.instruction.Operation.{Operation}
-use Rattle.zcore.specs.declared.instruction.Operation.TheVariants.{JumpIfEqual, JumpIfLess}
-use Rattle.zcore.specs.declared.instruction.Operation.TheVariants.{Div, JumpIfZero}
-use Rattle.zcore.specs.declared.instruction.Operation.TheVariants.{Increment, Jump}
-use Rattle.zcore.specs.declared.instruction.Operation.TheVariants.{Print, Quit, NewLine}
-use Rattle.zcore.specs.declared.instruction.Operation.TheVariants.{PrintNumber}
+use Rattle.zcore.specs.declared.instruction.Operation.TheVariants.{JumpIfEqual, JumpIfLess, Div, JumpIfZero}
+use Rattle.zcore.specs.declared.instruction.Operation.TheVariants.{Increment, Jump, Print, Quit, NewLine, PrintNumber}
 use Rattle.zcore.specs.declared.instruction.Operation.TheVariants.{LoadWord, LoadByte}
 use Rattle.zcore.specs.declared.instruction.Operation.TheVariants.{StoreWord, StoreByte, Read, JumpIfIn, GetParent}
 use Rattle.zcore.specs.declared.instruction.Operation.TheVariants.{GetChild, GetSibling, TestAttribute, SetAttribute}

@@ -23,11 +23,11 @@ use Rattle.names.specs.Names.{table_of, key_of, look_up}
 use Rattle.meaning.specs.Resolved as source
 use Rattle.meaning.specs.World.{Outcome}
 use Rattle.meaning.specs.Reading.{words_for}
-use Rattle.zcore.specs.Alphabets.{spelling_of}
+use Rattle.ztext.specs.Alphabets.{spelling_of}
 use Rattle.zcore.specs.Cutting.{words_of}
 use Rattle.zcore.specs.Dictionary.{number_of_key}
-use Rattle.zcore.specs.Text.{key_of as word_key}
-use Rattle.zcore.specs.Words.{packed}
+use Rattle.ztext.specs.Text.{key_of as word_key}
+use Rattle.ztext.specs.Words.{packed}
 use Rattle.items.specs.Stack.{from, exec, start}
 
 -- the position of a token, by its number

@@ -1,5 +1,5 @@
 -- The code of an expression is shorter than its tree weighs.
-use Rattle.std.proofs.Common.{◌≡◌, ◌≤◌, ◌+◌, ◌*◌, ℕ, List, [], ◌++◌, Option, Some, None, Bool, refl, arith}
+use Rattle.std.proofs.Common.{◌≤◌, ◌+◌, ◌*◌, ℕ, List, [], ◌++◌, Bool, arith}
 use Rattle.lexer.specs.declared.token.Position.{Position}
 use Rattle.lexer.specs.Token.{Lexeme}
 use Rattle.expressions.specs.declared.tree.Binary.{Binary}
@@ -7,7 +7,6 @@ use Rattle.expressions.specs.declared.tree.Equality.{Equality}
 use Rattle.expressions.specs.declared.tree.Comparison.{Comparison}
 use Rattle.expressions.specs.declared.tree.Containment.{Containment}
 use Rattle.expressions.specs.declared.tree.ObjectTest.{ObjectTest}
-use Rattle.expressions.specs.declared.tree.ObjectTest.TheVariants as tests
 use Rattle.expressions.specs.declared.tree.Prefix.{Prefix}
 use Rattle.expressions.specs.declared.tree.Relative.{Relative}
 use Rattle.expressions.specs.declared.tree.Step.{Step}
@@ -22,84 +21,15 @@ use Rattle.expressions.specs.Grammar.{u_minus, u_before, u_after, u_length, IsP,
 use Rattle.expressions.specs.Grammar.{p_word, p_true, p_false, p_nothing, p_name, p_call, p_call_with, p_relative}
 use Rattle.expressions.specs.Grammar.{p_parenthesised, IsArguments, arguments_last, arguments_comma}
 use Rattle.syntax.specs.Weight.{expression_weight, expression_weights}
-use Rattle.names.specs.declared.binding.Binding.{Binding}
-use Rattle.names.specs.declared.binding.Binding.TheVariants as bindings
 use Rattle.names.specs.Names.{Seen}
 use Rattle.meaning.specs.Accepted.{count_of}
-use Rattle.rules.specs.Expressions.{value_of_binding, tested_for, assigned, resolve, resolve_all}
-use Rattle.meaning.specs.Resolved.{Value}
-use Rattle.meaning.specs.Resolved as source
+use Rattle.value_rules.specs.Expressions.{resolve, resolve_all}
 use Rattle.values.specs.Items.{Item, Destination, push, alone, left_of, if_pushed, operand_count, value_items}
 use Rattle.values.specs.Items.{branch_items, alone_items}
 use Rattle.sizes.proofs.Most.{most_of, tokens, list_tokens, alternative_tokens, or_tokens, if_small}
-use Rattle.sizes.proofs.Most.{alternatives_are}
-use Rattle.sizes.proofs.Bounds.{small, two_small}
-
--- what a name stands for
-binding_few : (numbers : ℕ → ℕ) (b : Option Binding) → tokens (value_of_binding numbers b) ≤ 1
-binding_few numbers None = omega arith
-binding_few numbers (Some (bindings.Constant known)) = omega arith
-binding_few numbers (Some (bindings.Global g)) = omega arith
-binding_few numbers (Some (bindings.Array a kind)) = omega arith
-binding_few numbers (Some (bindings.Local l)) = omega arith
-binding_few numbers (Some (bindings.Routine r n)) = omega arith
-binding_few numbers (Some (bindings.Attribute a)) = omega arith
-binding_few numbers (Some (bindings.Property n)) = omega arith
-binding_few numbers (Some (bindings.Object o)) = omega arith
-
-some_tokens : (v : Value) → 1 ≤ tokens v
-some_tokens (source.number n) = omega arith
-some_tokens (source.read x) = omega arith
-some_tokens (source.call r vs) = omega arith
-some_tokens (source.prefixed op v) = omega arith
-some_tokens (source.step_before op x) = omega arith
-some_tokens (source.step_after x op) = omega arith
-some_tokens (source.binary op a b) = omega arith
-some_tokens (source.compare op a b) = omega arith
-some_tokens (source.equal op a bs) = omega (arith, alternatives_are bs)
-some_tokens (source.assign x v) = omega arith
-some_tokens (source.entry width a i) = omega arith
-some_tokens (source.assign_entry width a i v) = omega arith
-some_tokens (source.relative r v) = omega arith
-some_tokens (source.contained op a b) = omega arith
-some_tokens (source.has positive v n) = omega arith
-some_tokens (source.provides v p) = omega arith
-some_tokens (source.property v p) = omega arith
-some_tokens (source.property_size v p) = omega arith
-some_tokens (source.property_word v p i) = omega arith
-some_tokens (source.assign_property v p w) = omega arith
-some_tokens (source.assign_property_word v p i w) = omega arith
-
--- an assignment, by its left side
-assigned_tokens : (w v : Value) → tokens (assigned w v) ≤ tokens w + (1 + tokens v)
-assigned_tokens (source.entry width a i) v = omega arith
-assigned_tokens (source.number n) v = omega arith
-assigned_tokens (source.read x) v = omega arith
-assigned_tokens (source.call r vs) v = omega arith
-assigned_tokens (source.prefixed op w) v = omega (arith, some_tokens w)
-assigned_tokens (source.step_before op x) v = omega arith
-assigned_tokens (source.step_after x op) v = omega arith
-assigned_tokens (source.binary op a b) v = omega (arith, some_tokens a)
-assigned_tokens (source.compare op a b) v = omega (arith, some_tokens a)
-assigned_tokens (source.equal op a bs) v = omega (arith, some_tokens a)
-assigned_tokens (source.assign x w) v = omega arith
-assigned_tokens (source.assign_entry width a i w) v = omega arith
-assigned_tokens (source.relative r w) v = omega arith
-assigned_tokens (source.contained op a b) v = omega (arith, some_tokens a)
-assigned_tokens (source.has positive w n) v = omega arith
-assigned_tokens (source.provides w p) v = omega arith
-assigned_tokens (source.property w p) v = omega arith
-assigned_tokens (source.property_size w p) v = omega arith
-assigned_tokens (source.property_word w p i) v = omega arith
-assigned_tokens (source.assign_property w p x) v = omega arith
-assigned_tokens (source.assign_property_word w p i x) v = omega arith
-
--- what an object is tested for
-tested_tokens : (test : ObjectTest) (v : Value) (found : Option Binding)
-    → tokens (tested_for test v found) ≡ tokens v + 2
-tested_tokens tests.Has v found = refl
-tested_tokens tests.HasNot v found = refl
-tested_tokens tests.Provides v found = refl
+use Rattle.sizes.proofs.BoundsOfForms.{two_small}
+use Rattle.sizes.proofs.Bounds.{small}
+use Rattle.sizes.proofs.SizesOfNames.{binding_few, assigned_tokens, tested_tokens}
 
 -- in a routine that sees so much of the file
 module _ (seen : Seen) where

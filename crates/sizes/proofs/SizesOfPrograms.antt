@@ -11,8 +11,10 @@ use Rattle.statements.specs.Grammar.{IsSs}
 use Rattle.syntax.specs.Tree.{RoutineTree, TextTree, DirectiveTree, EntryTree, directives_of, ProgramTree}
 use Rattle.syntax.specs.Grammar.{weight_of, IsNames, IsDirective, d_global, d_global_value, d_constant, d_array}
 use Rattle.syntax.specs.Grammar.{d_attribute, d_property, d_property_value, d_object, d_routine, IsTexts, texts_stop}
-use Rattle.syntax.specs.Grammar.{texts_next, e_directive, e_abbreviate, IsEntries, entries_stop, entries_next, IsProgram, program}
-use Rattle.syntax.proofs.Spelled.{weight_Ss, spelled_Names, weighs}
+use Rattle.syntax.specs.Grammar.{texts_next, e_directive, e_abbreviate, IsEntries, entries_stop, entries_next}
+use Rattle.syntax.specs.Grammar.{IsProgram, program}
+use Rattle.syntax.proofs.SpelledStatements.{weight_Ss, spelled_Names}
+use Rattle.syntax.proofs.Spelled.{weighs}
 use Rattle.names.specs.Names.{File, seen_from}
 use Rattle.checker.specs.Programs.{resolve_routine, routines_of, routine_trees}
 use Rattle.rules.specs.Statements.{resolve_statements}

@@ -25,9 +25,9 @@ use Rattle.meaning.specs.declared.resolved.Variable.{Variable}
 use Rattle.meaning.specs.declared.resolved.Variable.TheVariants as variables
 use Rattle.meaning.specs.Resolved as source
 use Rattle.zcore.specs.Instruction.{bytes_of}
-use Rattle.zcore.specs.Alphabets.{spelling_of}
-use Rattle.zcore.specs.Words.{packed}
-use Rattle.zcore.specs.Abbreviations.{encoded_with}
+use Rattle.ztext.specs.Alphabets.{spelling_of}
+use Rattle.ztext.specs.Words.{packed}
+use Rattle.ztext.specs.Abbreviations.{encoded_with}
 use Rattle.values.specs.Items as items
 use Rattle.instructions.specs.Addresses.{Sizes}
 use Rattle.code.specs.Bytes.{least_size}

@@ -15,7 +15,7 @@ use Rattle.expressions.specs.Grammar.{p_property, p_number, p_character, p_word,
 use Rattle.expressions.specs.Grammar.{p_call, p_call_with, p_relative, p_parenthesised}
 use Rattle.expressions.specs.Nesting.{begins_expression}
 use Rattle.expressions.specs.Parse.{head, tail, is_sign, is_word}
-use Rattle.expressions.proofs.Follow.{first_E}
+use Rattle.expressions.proofs.Begins.{first_E}
 use Rattle.expressions.proofs.Short.{short_E}
 use Rattle.statements.specs.Tree.{PrintItemTree, StatementTree, StatementTrees, CaseTrees}
 use Rattle.statements.specs.Grammar.{IsOptional, optional_none, optional_some, IsItem, item_text, item_character}

@@ -1,5 +1,5 @@
--- Values that are known before a story runs, and the ranges of a case: what is read derives, and what has a tree is read
--- as that tree. In them no token stands too deep.
+-- Values that are known before a story runs, and the ranges of a case: what is read derives, and what has a tree is
+-- read as that tree. In them no token stands too deep.
 use Rattle.std.proofs.Common.{◌≡◌, ◌-◌, ◌%◌, ℕ, zero, suc, ◌<◌, ◌≤◌, true, false, List, ◌∷◌, length, Some}
 use Rattle.std.proofs.Common.{None, Result, Ok, refl, subst, arith}
 use Rattle.lexer.specs.declared.token.Position.{Position}

@@ -6,7 +6,16 @@ pub mod Loops
 pub mod Roots
 pub mod KnownValues
 pub mod Labels
+pub mod LoopForms
 pub mod LoopHeads
+pub mod SoundRows
+pub mod SoundSimple
+pub mod SoundHeads
+pub mod SoundNested
 pub mod Sound
 pub mod Follow
+pub mod ItemsRead
+pub mod Deepest
+pub mod Alternatives
+pub mod PartsRead
 pub mod Complete

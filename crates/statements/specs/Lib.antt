@@ -2,3 +2,4 @@ pub mod Tree
 pub mod Grammar
 pub mod Nesting
 pub mod Parse
+pub mod Returned

@@ -14,6 +14,8 @@ use Rattle.statements.specs.declared.tree.Loop.{Loop}
 use Rattle.statements.specs.declared.tree.Loop.TheVariants as loops
 use Rattle.statements.specs.declared.tree.PrintItem.{PrintItem}
 use Rattle.statements.specs.declared.tree.PrintItem.TheVariants as items
+use Rattle.statements.specs.declared.tree.SimpleStatement.{SimpleStatement}
+use Rattle.statements.specs.declared.tree.SimpleStatement.TheVariants as simple
 use Rattle.statements.specs.declared.tree.Statement.{Statement, fold-Statement}
 use Rattle.statements.specs.declared.tree.Statement.TheOpen.{Statement-F}
 
@@ -134,6 +136,25 @@ item_tree (items.Character p e) = character_item p (expression_tree e.value)
 item_tree (items.Object p e) = object_item p (expression_tree e.value)
 item_tree (items.Number p e) = number_item p (expression_tree e.value)
 
+abbrev pub simple_tree : SimpleStatement → StatementTree
+simple_tree simple.Empty = empty
+simple_tree (simple.Text s) = text_alone s.now
+simple_tree (simple.Print items) = print (map item_tree items.items)
+simple_tree (simple.PrintReturn items) = print_return (map item_tree items.items)
+simple_tree simple.NewLine = new_line
+simple_tree (simple.Break p) = break_at p
+simple_tree (simple.Continue p) = continue_at p
+simple_tree simple.Return = return_alone
+simple_tree (simple.ReturnValue p e) = return_value p (expression_tree e.value)
+simple_tree simple.ReturnTrue = return_true
+simple_tree simple.ReturnFalse = return_false
+simple_tree simple.Quit = quit
+simple_tree (simple.Read a b) = read_line (name_tree a) (name_tree b)
+simple_tree (simple.Give p e xs) = give p (expression_tree e.value) (map flag_tree xs.items)
+simple_tree (simple.Move p a b) = move p (expression_tree a.value) (expression_tree b.value)
+simple_tree (simple.Remove p e) = remove p (expression_tree e.value)
+simple_tree (simple.Effect p e) = effect p (expression_tree e.value)
+
 abbrev pub trees_of : List StatementTree → StatementTrees
 trees_of [] = stop
 trees_of (x ∷ xs) = next x (trees_of xs)
@@ -145,35 +166,18 @@ cases_of [] (Some xs) = default_case (trees_of xs)
 cases_of (c ∷ cs) other = case c.0 c.1 (cases_of cs other)
 
 abbrev pub layer : Statement-F StatementTree → StatementTree
-layer Statement-F.Empty = empty
+layer (Statement-F.Simple s) = simple_tree s.value
 layer (Statement-F.Block xs) = block (trees_of xs.items)
-layer (Statement-F.Text s) = text_alone s.now
-layer (Statement-F.Print items) = print (map item_tree items.items)
-layer (Statement-F.PrintReturn items) = print_return (map item_tree items.items)
-layer Statement-F.NewLine = new_line
 layer (Statement-F.If p c x) = if_then p (expression_tree c.value) x.value
 layer (Statement-F.IfElse p c x y) = if_else p (expression_tree c.value) x.value y.value
 layer (Statement-F.While p c x) = while_do p (expression_tree c.value) x.value
 layer (Statement-F.Do p x c) = do_until p x.value (expression_tree c.value)
-layer (Statement-F.For p h x) = for_loop p (part_tree h.before) (part_tree h.test) (part_tree h.behind) x.value
+layer (Statement-F.For p h x) = for_loop p (part_tree h.value.before) (part_tree h.value.test)
+    (part_tree h.value.behind) x.value
+layer (Statement-F.Objectloop p l x) = loop_over p (loop_tree l.value) x.value
 layer (Statement-F.Switch p e cases other) = switch_on p (expression_tree e.value)
     (cases_of (map (λ c. (map range_tree c.0.items, trees_of c.1.items)) cases.items)
     (option_map (λ xs. xs.items) other))
-layer (Statement-F.Break p) = break_at p
-layer (Statement-F.Continue p) = continue_at p
-layer Statement-F.Return = return_alone
-layer (Statement-F.ReturnValue p e) = return_value p (expression_tree e.value)
-layer Statement-F.ReturnTrue = return_true
-layer Statement-F.ReturnFalse = return_false
-layer Statement-F.Quit = quit
-layer (Statement-F.Read a b) = read_line (name_tree a) (name_tree b)
-layer (Statement-F.Give p e xs) = give p (expression_tree e.value) (map flag_tree xs.items)
-layer (Statement-F.Move p a b) = move p (expression_tree a.value) (expression_tree b.value)
-layer (Statement-F.Remove p e) = remove p (expression_tree e.value)
-layer (Statement-F.Each n x) = each (name_tree n) x.value
-layer (Statement-F.EachIn p n e x) = each_in p (name_tree n) (expression_tree e.value) x.value
-layer (Statement-F.EachWhere p n e x) = each_where p (name_tree n) (expression_tree e.value) x.value
-layer (Statement-F.Effect p e) = effect p (expression_tree e.value)
 
 abbrev pub statement_tree : Statement → StatementTree
 statement_tree = fold-Statement StatementTree layer

@@ -2,7 +2,7 @@
 
 ghost use Rattle.std.specs.Prelude.{◌≡◌, ◌<◌, IfOk};
 ghost use Rattle.lexer.specs.Token.{lexemes};
-ghost use Rattle.expressions.specs.Parse.{Gives};
+ghost use Rattle.expressions.specs.Returned.{Reads};
 ghost use Rattle.statements.specs.Grammar as grammar;
 ghost use Rattle.statements.specs.Tree.{part_tree, heading_tree};
 ghost use Rattle.statements.specs.Parse as spec;
@@ -23,7 +23,7 @@ fn optional<'t, 'a>(
     behind: Sign,
     tokens: &'t [Token<'a>],
 ) -> Result<(Option<Box<Expression<'a>>>, &'t [Token<'a>]), ParseError>
-    ensures { Gives (λ x. (part_tree x.0, lexemes x.1.now)) result (spec.optional depth behind (lexemes tokens.now)) }
+    ensures { Reads part_tree result (spec.optional depth behind (lexemes tokens.now)) }
 {
     if is_sign(peek(tokens), behind) {
         return Ok((None, tokens));
@@ -52,7 +52,7 @@ fn optional_effect<'t, 'a>(
     behind: Sign,
     tokens: &'t [Token<'a>],
 ) -> Result<(Option<Box<Expression<'a>>>, &'t [Token<'a>]), ParseError>
-    ensures { Gives (λ x. (part_tree x.0, lexemes x.1.now)) result (spec.optional_effect depth behind (lexemes tokens.now)) }
+    ensures { Reads part_tree result (spec.optional_effect depth behind (lexemes tokens.now)) }
 {
     match optional(alloc, depth, behind, tokens) {
         Ok((found, rest)) => {
@@ -71,8 +71,8 @@ fn heading<'t, 'a>(
     alloc: Global,
     depth: usize,
     tokens: &'t [Token<'a>],
-) -> Result<(Heading<'a>, &'t [Token<'a>]), ParseError>
-    ensures { Gives (λ x. (heading_tree x.0, lexemes x.1.now)) result (spec.heading depth (lexemes tokens.now)) }
+) -> Result<(Box<Heading<'a>>, &'t [Token<'a>]), ParseError>
+    ensures { Reads (λ x. heading_tree x.value) result (spec.heading depth (lexemes tokens.now)) }
 {
     let (before, rest) = optional_effect(alloc, depth, Sign::Colon, tokens)?;
     let rest = expect(Sign::Colon, rest)?;
@@ -85,7 +85,7 @@ fn heading<'t, 'a>(
         test,
         behind,
     };
-    Ok((found, rest))
+    Ok((Box::new(alloc, found)?, rest))
 }
 
 /// The parts of a `for` in parentheses, which are a nesting.
@@ -99,8 +99,9 @@ pub fn enclosed_heading<'t, 'a>(
     alloc: Global,
     depth: usize,
     tokens: &'t [Token<'a>],
-) -> Result<(Heading<'a>, &'t [Token<'a>]), ParseError>
-    ensures gives { Gives (λ x. (heading_tree x.0, lexemes x.1.now)) result (spec.enclosed_heading depth (lexemes tokens.now)) }
+) -> Result<(Box<Heading<'a>>, &'t [Token<'a>]), ParseError>
+    ensures gives { Reads (λ x. heading_tree x.value) result
+        (spec.enclosed_heading depth (lexemes tokens.now)) }
     ensures open { IfOk result (λ x. 0 < depth) }
 {
     let rest = expect(Sign::OpenParenthesis, tokens)?;

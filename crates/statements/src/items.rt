@@ -2,7 +2,7 @@
 
 ghost use Rattle.std.specs.Prelude.{◌≡◌, map};
 ghost use Rattle.lexer.specs.Token.{lexeme, lexemes};
-ghost use Rattle.expressions.specs.Parse.{Gives};
+ghost use Rattle.expressions.specs.Returned.{Reads};
 ghost use Rattle.statements.specs.Tree as tree;
 ghost use Rattle.statements.specs.Tree.{item_tree};
 ghost use Rattle.statements.specs.Parse as spec;
@@ -19,7 +19,7 @@ fn character<'t, 'a>(
     depth: usize,
     tokens: &'t [Token<'a>],
 ) -> Result<(PrintItem<'a>, &'t [Token<'a>]), ParseError>
-    ensures { Gives (λ x. (item_tree x.0, lexemes x.1.now)) result (spec.cast depth tree.character_item (lexemes tokens.now)) }
+    ensures { Reads item_tree result (spec.cast depth tree.character_item (lexemes tokens.now)) }
 {
     open(depth, tokens)?;
     let begin = expect(Sign::CloseParenthesis, skip(skip(tokens)))?;
@@ -36,7 +36,7 @@ fn object<'t, 'a>(
     depth: usize,
     tokens: &'t [Token<'a>],
 ) -> Result<(PrintItem<'a>, &'t [Token<'a>]), ParseError>
-    ensures { Gives (λ x. (item_tree x.0, lexemes x.1.now)) result (spec.cast depth tree.object_item (lexemes tokens.now)) }
+    ensures { Reads item_tree result (spec.cast depth tree.object_item (lexemes tokens.now)) }
 {
     open(depth, tokens)?;
     let begin = expect(Sign::CloseParenthesis, skip(skip(tokens)))?;
@@ -52,7 +52,7 @@ fn item<'t, 'a>(
     depth: usize,
     tokens: &'t [Token<'a>],
 ) -> Result<(PrintItem<'a>, &'t [Token<'a>]), ParseError>
-    ensures { Gives (λ x. (item_tree x.0, lexemes x.1.now)) result (spec.item depth (lexemes tokens.now)) }
+    ensures { Reads item_tree result (spec.item depth (lexemes tokens.now)) }
 {
     let first = peek(tokens);
     if let Kind::Text(bytes) = first.kind {
@@ -81,7 +81,7 @@ pub fn items<'t, 'a>(
     depth: usize,
     tokens: &'t [Token<'a>],
 ) -> Result<(Vec<PrintItem<'a>>, &'t [Token<'a>]), ParseError>
-    ensures { Gives (λ x. (map item_tree x.0.items, lexemes x.1.now)) result (spec.items depth (lexemes tokens.now)) }
+    ensures { Reads (λ xs. map item_tree xs.items) result (spec.items depth (lexemes tokens.now)) }
 {
     let mut found = Vec::new(alloc);
     let (first, mut rest) = item(alloc, depth, tokens)?;

@@ -1,6 +1,7 @@
 //! Statements: their trees, and the parser that reads them.
 #![tactic(auto)]
 
+mod conditions;
 mod headings;
 mod items;
 mod names;
@@ -13,5 +14,5 @@ mod values;
 
 pub use names::named;
 pub use nested::statements;
-pub use tree::{Heading, Literal, PrintItem, Range, Statement};
+pub use tree::{Heading, Literal, Loop, PrintItem, Range, SimpleStatement, Statement};
 pub use values::{begins_value, known_value};

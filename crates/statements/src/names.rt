@@ -3,7 +3,7 @@
 ghost use Rattle.std.specs.Prelude.{◌≡◌, map};
 ghost use Rattle.lexer.specs.Token.{lexeme, lexemes};
 ghost use Rattle.expressions.specs.Tree.{name_tree};
-ghost use Rattle.expressions.specs.Parse.{Gives};
+ghost use Rattle.expressions.specs.Returned.{Reads};
 ghost use Rattle.statements.specs.Tree.{flag_tree};
 ghost use Rattle.statements.specs.Parse as spec;
 
@@ -18,7 +18,7 @@ use std::alloc::Global;
 /// `Fault::Grammar` at the next token: it is no name.
 #[tactic(auto, using(crate::proofs::NamesRead::named_at, crate::proofs::NamesRead::named_none))]
 pub fn named<'t, 'a>(tokens: &'t [Token<'a>]) -> Result<(Name<'a>, &'t [Token<'a>]), ParseError>
-    ensures { Gives (λ x. (name_tree x.0, lexemes x.1.now)) result (spec.named (lexemes tokens.now)) }
+    ensures { Reads name_tree result (spec.named (lexemes tokens.now)) }
 {
     let Some(name) = name_of(peek(tokens)) else {
         return Err(fault_at(Fault::Grammar, tokens));
@@ -40,7 +40,7 @@ fn begins_flag(token: Token<'_>) -> bool
 // An attribute that is given, or behind `~` one that is taken.
 #[tactic(auto, unfolding(crate::specs::Parse::flag))]
 fn flag<'t, 'a>(tokens: &'t [Token<'a>]) -> Result<((bool, Name<'a>), &'t [Token<'a>]), ParseError>
-    ensures { Gives (λ x. (flag_tree x.0, lexemes x.1.now)) result (spec.flag (lexemes tokens.now)) }
+    ensures { Reads flag_tree result (spec.flag (lexemes tokens.now)) }
 {
     if is_sign(peek(tokens), Sign::Tilde) {
         let (name, rest) = named(skip(tokens))?;
@@ -60,7 +60,7 @@ pub fn flags<'t, 'a>(
     alloc: Global,
     tokens: &'t [Token<'a>],
 ) -> Result<(Vec<(bool, Name<'a>)>, &'t [Token<'a>]), ParseError>
-    ensures { Gives (λ x. (map flag_tree x.0.items, lexemes x.1.now)) result (spec.flags (lexemes tokens.now)) }
+    ensures { Reads (λ xs. map flag_tree xs.items) result (spec.flags (lexemes tokens.now)) }
 {
     let mut found = Vec::new(alloc);
     let (first, mut rest) = flag(tokens)?;

@@ -2,16 +2,19 @@
 
 ghost use Rattle.std.specs.Prelude.{◌≡◌, ◌<◌, map};
 ghost use Rattle.lexer.specs.Token.{lexeme, lexemes};
-ghost use Rattle.expressions.specs.Parse.{Gives, tail};
+ghost use Rattle.expressions.specs.Parse.{tail};
+ghost use Rattle.expressions.specs.Returned.{Reads};
 ghost use Rattle.statements.specs.Grammar as grammar;
 ghost use Rattle.statements.specs.Nesting as nesting;
 ghost use Rattle.statements.specs.Tree.{statement_tree, case_tree, other_tree};
+ghost use Rattle.statements.specs.Returned.{ReadsStatement};
 ghost use Rattle.statements.specs.Parse as spec;
 
+use crate::conditions::enclosed_condition;
 use crate::headings::enclosed_heading;
 use crate::objectloop::enclosed_loop;
 use crate::parts;
-use crate::simple::{enclosed_condition, plain};
+use crate::parts::plain;
 use crate::tree::{Range, Statement};
 use crate::values::{begins_case, begins_value, ranges};
 use expressions::{
@@ -125,7 +128,8 @@ pub fn statements<'t, 'a>(
     depth: usize,
     tokens: &'t [Token<'a>],
 ) -> Result<(Vec<Statement<'a>>, &'t [Token<'a>]), ParseError>
-    ensures { Gives (λ x. (map statement_tree x.0.items, lexemes x.1.now)) result (spec.statements depth (lexemes tokens.now)) }
+    ensures { Reads (λ xs. map statement_tree xs.items) result
+        (spec.statements depth (lexemes tokens.now)) }
 {
     let mut found = Vec::new(alloc);
     let mut rest = tokens;
@@ -133,9 +137,13 @@ pub fn statements<'t, 'a>(
         if !begins_statement(peek(rest)) {
             break;
         }
-        let (next, after) = statement(alloc, depth, rest)?;
-        parts::add(&mut found, next)?;
-        rest = same(after);
+        match statement(alloc, depth, rest) {
+            Ok((next, after)) => {
+                parts::add(&mut found, next)?;
+                rest = same(after);
+            }
+            Err(e) => return Err(e),
+        }
     }
     Ok((found, rest))
 }
@@ -149,7 +157,8 @@ fn braces<'t, 'a>(
     depth: usize,
     tokens: &'t [Token<'a>],
 ) -> Result<(Vec<Statement<'a>>, &'t [Token<'a>]), ParseError>
-    ensures { Gives (λ x. (map statement_tree x.0.items, lexemes x.1.now)) result (spec.braces depth (tail (lexemes tokens.now))) }
+    ensures { Reads (λ xs. map statement_tree xs.items) result
+        (spec.braces depth (tail (lexemes tokens.now))) }
 {
     let inside = open(depth, tokens)?;
     let rest = skip(tokens);
@@ -167,9 +176,12 @@ fn block<'t, 'a>(
     depth: usize,
     tokens: &'t [Token<'a>],
 ) -> Result<(Box<Statement<'a>>, &'t [Token<'a>]), ParseError>
-    ensures { Gives (λ x. (statement_tree x.0.value, lexemes x.1.now)) result (spec.braced (spec.braces depth) (tail (lexemes tokens.now))) }
+    ensures { ReadsStatement result (spec.braced (spec.braces depth) (tail (lexemes tokens.now))) }
 {
-    parts::block(alloc, braces(alloc, depth, tokens))
+    match braces(alloc, depth, tokens) {
+        Ok((found, rest)) => parts::block(rest, alloc, found),
+        Err(e) => Err(e),
+    }
 }
 
 // A statement one nesting further in than where `depth` may be opened.
@@ -180,7 +192,7 @@ fn further_in<'t, 'a>(
     depth: usize,
     tokens: &'t [Token<'a>],
 ) -> Result<(Box<Statement<'a>>, &'t [Token<'a>]), ParseError>
-    ensures { Gives (λ x. (statement_tree x.0.value, lexemes x.1.now)) result (spec.inside depth (lexemes tokens.now)) }
+    ensures { ReadsStatement result (spec.inside depth (lexemes tokens.now)) }
 {
     let inside = open(depth, tokens)?;
     statement(alloc, inside, tokens)
@@ -195,15 +207,24 @@ fn choice<'t, 'a>(
     position: Position,
     tokens: &'t [Token<'a>],
 ) -> Result<(Box<Statement<'a>>, &'t [Token<'a>]), ParseError>
-    ensures { Gives (λ x. (statement_tree x.0.value, lexemes x.1.now)) result (spec.choice depth (spec.inside depth) position (lexemes tokens.now)) }
+    ensures { ReadsStatement result
+        (spec.choice depth (spec.inside depth) position (lexemes tokens.now)) }
 {
     let (condition, rest) = enclosed_condition(alloc, depth, tokens)?;
-    let (first, rest) = further_in(alloc, depth, rest)?;
-    if !else_follows(rest) {
-        return parts::if_then(alloc, position, condition, first, rest);
+    match further_in(alloc, depth, rest) {
+        Ok((first, rest)) => {
+            if !else_follows(rest) {
+                return parts::if_then(rest, alloc, position, condition, first);
+            }
+            match further_in(alloc, depth, skip(rest)) {
+                Ok((second, rest)) => {
+                    parts::if_else(rest, alloc, position, condition, first, second)
+                }
+                Err(e) => Err(e),
+            }
+        }
+        Err(e) => Err(e),
     }
-    let second = further_in(alloc, depth, skip(rest));
-    parts::if_else(alloc, position, condition, first, second)
 }
 
 // What follows `while`, which stands at `position`.
@@ -215,11 +236,14 @@ fn repetition<'t, 'a>(
     position: Position,
     tokens: &'t [Token<'a>],
 ) -> Result<(Box<Statement<'a>>, &'t [Token<'a>]), ParseError>
-    ensures { Gives (λ x. (statement_tree x.0.value, lexemes x.1.now)) result (spec.repetition depth (spec.inside depth) position (lexemes tokens.now)) }
+    ensures { ReadsStatement result
+        (spec.repetition depth (spec.inside depth) position (lexemes tokens.now)) }
 {
     let (condition, rest) = enclosed_condition(alloc, depth, tokens)?;
-    let body = further_in(alloc, depth, rest);
-    parts::while_do(alloc, position, condition, body)
+    match further_in(alloc, depth, rest) {
+        Ok((body, rest)) => parts::while_do(rest, alloc, position, condition, body),
+        Err(e) => Err(e),
+    }
 }
 
 // The statement behind `do`.
@@ -230,7 +254,7 @@ fn entered<'t, 'a>(
     depth: usize,
     tokens: &'t [Token<'a>],
 ) -> Result<(Box<Statement<'a>>, &'t [Token<'a>]), ParseError>
-    ensures { Gives (λ x. (statement_tree x.0.value, lexemes x.1.now)) result (spec.entered (spec.inside depth) (lexemes tokens.now)) }
+    ensures { ReadsStatement result (spec.entered (spec.inside depth) (lexemes tokens.now)) }
 {
     if !begins_statement(peek(tokens)) {
         return Err(fault_at(Fault::Grammar, tokens));
@@ -247,12 +271,17 @@ fn until<'t, 'a>(
     position: Position,
     tokens: &'t [Token<'a>],
 ) -> Result<(Box<Statement<'a>>, &'t [Token<'a>]), ParseError>
-    ensures { Gives (λ x. (statement_tree x.0.value, lexemes x.1.now)) result (spec.until depth (spec.inside depth) position (lexemes tokens.now)) }
+    ensures { ReadsStatement result
+        (spec.until depth (spec.inside depth) position (lexemes tokens.now)) }
 {
-    let (body, rest) = entered(alloc, depth, tokens)?;
-    let rest = expect_word(Word::Until, rest)?;
-    let condition = enclosed_condition(alloc, depth, rest);
-    parts::do_until(alloc, position, body, condition)
+    match entered(alloc, depth, tokens) {
+        Ok((body, rest)) => {
+            let rest = expect_word(Word::Until, rest)?;
+            let (condition, rest) = enclosed_condition(alloc, depth, rest)?;
+            parts::do_until(rest, alloc, position, body, condition)
+        }
+        Err(e) => Err(e),
+    }
 }
 
 // What follows `for`, which stands at `position`.
@@ -264,11 +293,14 @@ fn iteration<'t, 'a>(
     position: Position,
     tokens: &'t [Token<'a>],
 ) -> Result<(Box<Statement<'a>>, &'t [Token<'a>]), ParseError>
-    ensures { Gives (λ x. (statement_tree x.0.value, lexemes x.1.now)) result (spec.iteration depth (spec.inside depth) position (lexemes tokens.now)) }
+    ensures { ReadsStatement result
+        (spec.iteration depth (spec.inside depth) position (lexemes tokens.now)) }
 {
     let (heading, rest) = enclosed_heading(alloc, depth, tokens)?;
-    let body = further_in(alloc, depth, rest);
-    parts::for_loop(alloc, position, heading, body)
+    match further_in(alloc, depth, rest) {
+        Ok((body, rest)) => parts::for_loop(rest, alloc, position, heading, body),
+        Err(e) => Err(e),
+    }
 }
 
 // What follows `objectloop`, which stands at `position`.
@@ -280,11 +312,14 @@ fn traversal<'t, 'a>(
     position: Position,
     tokens: &'t [Token<'a>],
 ) -> Result<(Box<Statement<'a>>, &'t [Token<'a>]), ParseError>
-    ensures { Gives (λ x. (statement_tree x.0.value, lexemes x.1.now)) result (spec.traversal depth (spec.inside depth) position (lexemes tokens.now)) }
+    ensures { ReadsStatement result
+        (spec.traversal depth (spec.inside depth) position (lexemes tokens.now)) }
 {
     let (over, rest) = enclosed_loop(alloc, depth, tokens)?;
-    let body = further_in(alloc, depth, rest);
-    parts::loop_over(alloc, position, over, body)
+    match further_in(alloc, depth, rest) {
+        Ok((body, rest)) => parts::loop_over(rest, alloc, position, over, body),
+        Err(e) => Err(e),
+    }
 }
 
 // The statements of a case, up to the next case. The brace of its `switch` is a nesting, and so is each statement.
@@ -295,7 +330,8 @@ fn bodies<'t, 'a>(
     depth: usize,
     tokens: &'t [Token<'a>],
 ) -> Result<(Vec<Statement<'a>>, &'t [Token<'a>]), ParseError>
-    ensures { Gives (λ x. (map statement_tree x.0.items, lexemes x.1.now)) result (spec.bodies depth (lexemes tokens.now)) }
+    ensures { Reads (λ xs. map statement_tree xs.items) result
+        (spec.bodies depth (lexemes tokens.now)) }
 {
     let inside = open(depth, tokens)?;
     let mut found = Vec::new(alloc);
@@ -304,9 +340,13 @@ fn bodies<'t, 'a>(
         if !begins_in_case(rest) {
             break;
         }
-        let (next, after) = further_in(alloc, inside, rest)?;
-        parts::add(&mut found, next)?;
-        rest = same(after);
+        match further_in(alloc, inside, rest) {
+            Ok((next, after)) => {
+                parts::add(&mut found, next)?;
+                rest = same(after);
+            }
+            Err(e) => return Err(e),
+        }
     }
     Ok((found, rest))
 }
@@ -319,12 +359,14 @@ fn one_case<'t, 'a>(
     depth: usize,
     tokens: &'t [Token<'a>],
 ) -> Result<((Vec<Range<'a>>, Vec<Statement<'a>>), &'t [Token<'a>]), ParseError>
-    ensures { Gives (λ x. (case_tree x.0, lexemes x.1.now)) result (spec.one_case (spec.bodies depth) (lexemes tokens.now)) }
+    ensures { Reads case_tree result (spec.one_case (spec.bodies depth) (lexemes tokens.now)) }
 {
     let (ranges, rest) = ranges(alloc, tokens)?;
     let rest = expect(Sign::Colon, rest)?;
-    let (body, rest) = bodies(alloc, depth, rest)?;
-    Ok(((ranges, body), rest))
+    match bodies(alloc, depth, rest) {
+        Ok((body, rest)) => Ok(((ranges, body), rest)),
+        Err(e) => Err(e),
+    }
 }
 
 // Cases, up to `default` or a brace.
@@ -335,7 +377,8 @@ fn cases<'t, 'a>(
     depth: usize,
     tokens: &'t [Token<'a>],
 ) -> Result<(Vec<(Vec<Range<'a>>, Vec<Statement<'a>>)>, &'t [Token<'a>]), ParseError>
-    ensures { Gives (λ x. (map case_tree x.0.items, lexemes x.1.now)) result (spec.cases (spec.bodies depth) (lexemes tokens.now)) }
+    ensures { Reads (λ xs. map case_tree xs.items) result
+        (spec.cases (spec.bodies depth) (lexemes tokens.now)) }
 {
     let mut found = Vec::new(alloc);
     let mut rest = tokens;
@@ -362,14 +405,17 @@ fn otherwise<'t, 'a>(
     depth: usize,
     tokens: &'t [Token<'a>],
 ) -> Result<(Option<Vec<Statement<'a>>>, &'t [Token<'a>]), ParseError>
-    ensures { Gives (λ x. (other_tree x.0, lexemes x.1.now)) result (spec.otherwise (spec.braces depth) (lexemes tokens.now)) }
+    ensures { Reads other_tree result (spec.otherwise (spec.braces depth) (lexemes tokens.now)) }
 {
     if !is_word(peek(tokens), Word::Default) {
         return Ok((None, tokens));
     }
     let colon = skip(tokens);
     expect(Sign::Colon, colon)?;
-    parts::default_case(braces(alloc, depth, colon))
+    match braces(alloc, depth, colon) {
+        Ok((found, rest)) => Ok((Some(found), rest)),
+        Err(e) => Err(e),
+    }
 }
 
 // What follows `switch`, which stands at `position`.
@@ -381,13 +427,18 @@ fn selection<'t, 'a>(
     position: Position,
     tokens: &'t [Token<'a>],
 ) -> Result<(Box<Statement<'a>>, &'t [Token<'a>]), ParseError>
-    ensures { Gives (λ x. (statement_tree x.0.value, lexemes x.1.now)) result (spec.selection depth (spec.braces depth) (spec.bodies depth) position (lexemes tokens.now)) }
+    ensures { ReadsStatement result (spec.selection depth (spec.braces depth)
+        (spec.bodies depth) position (lexemes tokens.now)) }
 {
     let (value, rest) = enclosed_condition(alloc, depth, tokens)?;
     let rest = expect(Sign::OpenBrace, rest)?;
-    let (cases, rest) = cases(alloc, depth, rest)?;
-    let other = otherwise(alloc, depth, rest);
-    parts::switch_on(alloc, position, value, cases, other)
+    match cases(alloc, depth, rest) {
+        Ok((cases, rest)) => match otherwise(alloc, depth, rest) {
+            Ok((other, rest)) => parts::switch_on(rest, alloc, position, value, cases, other),
+            Err(e) => Err(e),
+        },
+        Err(e) => Err(e),
+    }
 }
 
 // A statement in which `depth` nestings more may be opened, and the tokens after it.
@@ -398,7 +449,7 @@ fn statement<'t, 'a>(
     depth: usize,
     tokens: &'t [Token<'a>],
 ) -> Result<(Box<Statement<'a>>, &'t [Token<'a>]), ParseError>
-    ensures { Gives (λ x. (statement_tree x.0.value, lexemes x.1.now)) result (spec.statement depth (lexemes tokens.now)) }
+    ensures { ReadsStatement result (spec.statement depth (lexemes tokens.now)) }
 {
     let first = peek(tokens);
     let rest = skip(tokens);

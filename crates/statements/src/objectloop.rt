@@ -4,7 +4,7 @@ ghost use Rattle.std.specs.Prelude.{◌≡◌, ◌<◌, IfOk};
 ghost use Rattle.std.specs.Option.{option_map};
 ghost use Rattle.lexer.specs.Token.{lexemes};
 ghost use Rattle.expressions.specs.Tree.{name_tree, expression_tree};
-ghost use Rattle.expressions.specs.Parse.{Gives};
+ghost use Rattle.expressions.specs.Returned.{Reads};
 ghost use Rattle.statements.specs.Tree.{part_tree, loop_tree};
 ghost use Rattle.statements.specs.Parse as spec;
 
@@ -99,7 +99,8 @@ fn holder<'a>(e: Expression<'a>) -> Option<Box<Expression<'a>>>
 // Over what the loop goes, by the expression in its parentheses; the variable of a condition is the name that it begins
 // with.
 fn loop_of<'a>(variable: Name<'a>, found: Box<Expression<'a>>) -> Loop<'a>
-    ensures { loop_tree result ≡ spec.loop_of (name_tree variable.entry) (expression_tree found.entry.value) }
+    ensures { loop_tree result
+        ≡ spec.loop_of (name_tree variable.entry) (expression_tree found.entry.value) }
 {
     if let Some(name) = name_alone(&found) {
         return Loop::All(name);
@@ -120,13 +121,13 @@ fn looped<'t, 'a>(
     alloc: Global,
     depth: usize,
     tokens: &'t [Token<'a>],
-) -> Result<(Loop<'a>, &'t [Token<'a>]), ParseError>
-    ensures { Gives (λ x. (loop_tree x.0, lexemes x.1.now)) result (spec.looped depth (lexemes tokens.now)) }
+) -> Result<(Box<Loop<'a>>, &'t [Token<'a>]), ParseError>
+    ensures { Reads (λ x. loop_tree x.value) result (spec.looped depth (lexemes tokens.now)) }
 {
     let (variable, _) = named(tokens)?;
     let (found, rest) = unassigned(alloc, depth, tokens)?;
     let rest = expect(Sign::CloseParenthesis, rest)?;
-    Ok((loop_of(variable, found), rest))
+    Ok((Box::new(alloc, loop_of(variable, found))?, rest))
 }
 
 /// What an `objectloop` goes over, in parentheses, which are a nesting.
@@ -140,8 +141,9 @@ pub fn enclosed_loop<'t, 'a>(
     alloc: Global,
     depth: usize,
     tokens: &'t [Token<'a>],
-) -> Result<(Loop<'a>, &'t [Token<'a>]), ParseError>
-    ensures gives { Gives (λ x. (loop_tree x.0, lexemes x.1.now)) result (spec.enclosed_loop depth (lexemes tokens.now)) }
+) -> Result<(Box<Loop<'a>>, &'t [Token<'a>]), ParseError>
+    ensures gives { Reads (λ x. loop_tree x.value) result
+        (spec.enclosed_loop depth (lexemes tokens.now)) }
     ensures open { IfOk result (λ x. 0 < depth) }
 {
     let rest = expect(Sign::OpenParenthesis, tokens)?;

@@ -1,32 +1,54 @@
-//! Statements made of parts. Each function takes what reading a part gave, and gives what reading the whole gives: the
-//! part's fault, or the tree that the part belongs to and the tokens after it. Trees come and go in boxes, and a kind of
-//! statement is spelled here and in `simple` alone.
+//! Statements made of their parts. Each function takes the tokens after the last part, and gives the tree and the tokens
+//! after it, or the fault there. Trees come and go in boxes, and a kind of statement is spelled here and in `simple` alone.
 
-ghost use Rattle.std.specs.Prelude.{◌≡◌, IfErr, IfOk, Ok, map, List, Option, Some, [], ◌∷◌, ◌++◌};
-ghost use Rattle.lexer.specs.Token.{Lexeme, lexemes};
+ghost use Rattle.std.specs.Prelude.{◌≡◌, IfErr, IfOk, Ok, map, [], ◌∷◌, ◌++◌};
+ghost use Rattle.lexer.specs.Token.{lexemes};
 ghost use Rattle.expressions.specs.Tree.{expression_tree};
-ghost use Rattle.expressions.specs.Parse.{Gives, GoesOn, ReadOne};
+ghost use Rattle.expressions.specs.Parse as reading;
 ghost use Rattle.statements.specs.Tree as tree;
-ghost use Rattle.statements.specs.Tree.{StatementTree, statement_tree, case_tree, other_tree, heading_tree, loop_tree};
+ghost use Rattle.statements.specs.Tree.{statement_tree, case_tree, other_tree};
+ghost use Rattle.statements.specs.Tree.{heading_tree, loop_tree};
+ghost use Rattle.statements.specs.Returned.{ReadsStatement};
 ghost use Rattle.statements.specs.Parse as spec;
 
-use crate::simple::ended;
+use crate::simple::simple;
 use crate::tree::{Heading, Loop, Range, Statement};
 use expressions::{Expression, ParseError, expect};
 use lexer::{Position, Sign, Token};
 use std::alloc::Global;
 
-/// A statement in a box, and the tokens after it. Where memory is refused the statement is dropped here.
+/// A statement in a box, and the tokens after it. Where memory is refused the statement is dropped here. The tokens come
+/// first here and in what follows: so the lifetimes of the arguments have the places that they have in the callers, else
+/// the prover compares their types part by part.
 pub fn in_box<'t, 'a>(
+    rest: &'t [Token<'a>],
     alloc: Global,
     statement: Statement<'a>,
-    rest: &'t [Token<'a>],
 ) -> Result<(Box<Statement<'a>>, &'t [Token<'a>]), ParseError>
-    ensures { Gives {Y = StatementTree × List Lexeme} (λ x. (statement_tree x.0.value, lexemes x.1.now)) result (Ok (statement_tree statement.entry, lexemes rest.now)) }
+    ensures { ReadsStatement result (Ok (statement_tree statement.entry, lexemes rest.now)) }
 {
     match Box::new(alloc, statement) {
         Ok(statement) => Ok((statement, rest)),
         Err(refused) => Err(ParseError::from(refused)),
+    }
+}
+
+/// A statement in which no other stands.
+///
+/// # Errors
+///
+/// Those of `simple`.
+pub fn plain<'t, 'a>(
+    alloc: Global,
+    depth: usize,
+    tokens: &'t [Token<'a>],
+) -> Result<(Box<Statement<'a>>, &'t [Token<'a>]), ParseError>
+    ensures { ReadsStatement result
+        (spec.plain_on depth (reading.head (lexemes tokens.now)) (lexemes tokens.now)) }
+{
+    match simple(alloc, depth, tokens) {
+        Ok((found, rest)) => in_box(rest, alloc, Statement::Simple(found)),
+        Err(e) => Err(e),
     }
 }
 
@@ -35,7 +57,8 @@ pub fn add<'a>(
     statements: &mut Vec<Statement<'a>>,
     next: Box<Statement<'a>>,
 ) -> Result<(), ParseError>
-    ensures ok { IfOk result (λ _. statements.new.items ≡ statements.old.items ++ next.entry.value ∷ []) }
+    ensures ok { IfOk result (λ _. statements.new.items
+        ≡ statements.old.items ++ next.entry.value ∷ []) }
     ensures err { IfErr result (λ e. e ≡ ParseError.Memory) }
 {
     statements.push(Box::into_inner(next))?;
@@ -43,131 +66,128 @@ pub fn add<'a>(
 }
 
 /// A block, with its second brace.
-#[tactic(auto, using(expressions::proofs::GoesOn::part_fails, expressions::proofs::GoesOn::part_made))]
 pub fn block<'t, 'a>(
+    rest: &'t [Token<'a>],
     alloc: Global,
-    statements: Result<(Vec<Statement<'a>>, &'t [Token<'a>]), ParseError>,
+    found: Vec<Statement<'a>>,
 ) -> Result<(Box<Statement<'a>>, &'t [Token<'a>]), ParseError>
-    ensures { GoesOn {A = List StatementTree × List Lexeme} {B = StatementTree × List Lexeme} (λ x. (map statement_tree x.0.items, lexemes x.1.now)) statements.entry (λ x. (statement_tree x.0.value, lexemes x.1.now)) result (λ x. spec.block_of x.0 x.1) }
+    ensures { ReadsStatement result
+        (spec.block_of (map statement_tree found.entry.items) (lexemes rest.now)) }
 {
-    match statements {
-        Ok((found, rest)) => match expect(Sign::CloseBrace, rest) {
-            Ok(rest) => in_box(alloc, Statement::Block(found), rest),
-            Err(e) => Err(e),
-        },
+    match expect(Sign::CloseBrace, rest) {
+        Ok(rest) => in_box(rest, alloc, Statement::Block(found)),
         Err(e) => Err(e),
     }
 }
 
 /// `if` without an `else`, made of its parts.
 pub fn if_then<'t, 'a>(
+    rest: &'t [Token<'a>],
     alloc: Global,
     position: Position,
     condition: Box<Expression<'a>>,
     first: Box<Statement<'a>>,
-    rest: &'t [Token<'a>],
 ) -> Result<(Box<Statement<'a>>, &'t [Token<'a>]), ParseError>
-    ensures { Gives {Y = StatementTree × List Lexeme} (λ x. (statement_tree x.0.value, lexemes x.1.now)) result (Ok (tree.if_then position (expression_tree condition.entry.value) (statement_tree first.entry.value), lexemes rest.now)) }
+    ensures { ReadsStatement result (Ok (
+      tree.if_then position (expression_tree condition.entry.value)
+          (statement_tree first.entry.value),
+      lexemes rest.now,
+    )) }
 {
-    in_box(alloc, Statement::If(position, condition, first), rest)
+    in_box(rest, alloc, Statement::If(position, condition, first))
 }
 
 /// `if` with an `else`.
-#[tactic(auto, using(expressions::proofs::GoesOn::part_fails, expressions::proofs::GoesOn::part_made))]
 pub fn if_else<'t, 'a>(
+    rest: &'t [Token<'a>],
     alloc: Global,
     position: Position,
     condition: Box<Expression<'a>>,
     first: Box<Statement<'a>>,
-    second: Result<(Box<Statement<'a>>, &'t [Token<'a>]), ParseError>,
+    second: Box<Statement<'a>>,
 ) -> Result<(Box<Statement<'a>>, &'t [Token<'a>]), ParseError>
-    ensures { GoesOn {A = StatementTree × List Lexeme} {B = StatementTree × List Lexeme} (λ x. (statement_tree x.0.value, lexemes x.1.now)) second.entry (λ x. (statement_tree x.0.value, lexemes x.1.now)) result (λ x. Ok (tree.if_else position (expression_tree condition.entry.value) (statement_tree first.entry.value) x.0, x.1)) }
+    ensures { ReadsStatement result (Ok (
+      tree.if_else position (expression_tree condition.entry.value)
+          (statement_tree first.entry.value) (statement_tree second.entry.value),
+      lexemes rest.now,
+    )) }
 {
-    match second {
-        Ok((second, rest)) => in_box(
-            alloc,
-            Statement::IfElse(position, condition, first, second),
-            rest,
-        ),
-        Err(e) => Err(e),
-    }
+    in_box(
+        rest,
+        alloc,
+        Statement::IfElse(position, condition, first, second),
+    )
 }
 
 /// `while`.
-#[tactic(auto, using(expressions::proofs::GoesOn::part_fails, expressions::proofs::GoesOn::part_made))]
 pub fn while_do<'t, 'a>(
+    rest: &'t [Token<'a>],
     alloc: Global,
     position: Position,
     condition: Box<Expression<'a>>,
-    body: Result<(Box<Statement<'a>>, &'t [Token<'a>]), ParseError>,
+    body: Box<Statement<'a>>,
 ) -> Result<(Box<Statement<'a>>, &'t [Token<'a>]), ParseError>
-    ensures { GoesOn {A = StatementTree × List Lexeme} {B = StatementTree × List Lexeme} (λ x. (statement_tree x.0.value, lexemes x.1.now)) body.entry (λ x. (statement_tree x.0.value, lexemes x.1.now)) result (λ x. Ok (tree.while_do position (expression_tree condition.entry.value) x.0, x.1)) }
+    ensures { ReadsStatement result (Ok (
+      tree.while_do position (expression_tree condition.entry.value)
+          (statement_tree body.entry.value),
+      lexemes rest.now,
+    )) }
 {
-    match body {
-        Ok((body, rest)) => in_box(alloc, Statement::While(position, condition, body), rest),
-        Err(e) => Err(e),
-    }
+    in_box(rest, alloc, Statement::While(position, condition, body))
 }
 
-/// `do`, behind its condition.
-#[tactic(auto, using(expressions::proofs::GoesOn::part_fails, expressions::proofs::GoesOn::part_made))]
+/// `do`, with its `;`.
+#[tactic(auto, unfolding(crate::specs::Parse::ended))]
 pub fn do_until<'t, 'a>(
+    rest: &'t [Token<'a>],
     alloc: Global,
     position: Position,
     body: Box<Statement<'a>>,
-    condition: Result<(Box<Expression<'a>>, &'t [Token<'a>]), ParseError>,
+    condition: Box<Expression<'a>>,
 ) -> Result<(Box<Statement<'a>>, &'t [Token<'a>]), ParseError>
-    ensures { GoesOn {A = ReadOne} {B = StatementTree × List Lexeme} (λ x. (expression_tree x.0.value, lexemes x.1.now)) condition.entry (λ x. (statement_tree x.0.value, lexemes x.1.now)) result (λ x. spec.ended (tree.do_until position (statement_tree body.entry.value) x.0) x.1) }
+    ensures { ReadsStatement result (spec.ended
+        (tree.do_until position (statement_tree body.entry.value)
+        (expression_tree condition.entry.value)) (lexemes rest.now)) }
 {
-    match condition {
-        Ok((condition, rest)) => ended(alloc, Statement::Do(position, body, condition), rest),
+    match expect(Sign::Semicolon, rest) {
+        Ok(rest) => in_box(rest, alloc, Statement::Do(position, body, condition)),
         Err(e) => Err(e),
     }
 }
 
 /// `for`.
-#[tactic(auto, using(expressions::proofs::GoesOn::part_fails, expressions::proofs::GoesOn::part_made))]
 pub fn for_loop<'t, 'a>(
+    rest: &'t [Token<'a>],
     alloc: Global,
     position: Position,
-    heading: Heading<'a>,
-    body: Result<(Box<Statement<'a>>, &'t [Token<'a>]), ParseError>,
+    heading: Box<Heading<'a>>,
+    body: Box<Statement<'a>>,
 ) -> Result<(Box<Statement<'a>>, &'t [Token<'a>]), ParseError>
-    ensures { GoesOn {A = StatementTree × List Lexeme} {B = StatementTree × List Lexeme} (λ x. (statement_tree x.0.value, lexemes x.1.now)) body.entry (λ x. (statement_tree x.0.value, lexemes x.1.now)) result (λ x. Ok (tree.for_loop position (heading_tree heading.entry).before (heading_tree heading.entry).test (heading_tree heading.entry).behind x.0, x.1)) }
+    ensures { ReadsStatement result (Ok (
+      tree.for_loop position (heading_tree heading.entry.value).before
+          (heading_tree heading.entry.value).test (heading_tree heading.entry.value).behind
+          (statement_tree body.entry.value),
+      lexemes rest.now,
+    )) }
 {
-    match body {
-        Ok((body, rest)) => in_box(alloc, Statement::For(position, heading, body), rest),
-        Err(e) => Err(e),
-    }
-}
-
-// `objectloop`, behind the statement inside it.
-fn object_loop<'a>(position: Position, over: Loop<'a>, body: Box<Statement<'a>>) -> Statement<'a>
-    ensures { statement_tree result ≡ tree.loop_over position (loop_tree over.entry) (statement_tree body.entry.value) }
-{
-    match over {
-        Loop::All(variable) => Statement::Each(variable, body),
-        Loop::In(variable, holder) => Statement::EachIn(position, variable, holder, body),
-        Loop::Where(variable, condition) => {
-            Statement::EachWhere(position, variable, condition, body)
-        }
-    }
+    in_box(rest, alloc, Statement::For(position, heading, body))
 }
 
 /// `objectloop`.
-#[tactic(auto, using(expressions::proofs::GoesOn::part_fails, expressions::proofs::GoesOn::part_made))]
 pub fn loop_over<'t, 'a>(
+    rest: &'t [Token<'a>],
     alloc: Global,
     position: Position,
-    over: Loop<'a>,
-    body: Result<(Box<Statement<'a>>, &'t [Token<'a>]), ParseError>,
+    over: Box<Loop<'a>>,
+    body: Box<Statement<'a>>,
 ) -> Result<(Box<Statement<'a>>, &'t [Token<'a>]), ParseError>
-    ensures { GoesOn {A = StatementTree × List Lexeme} {B = StatementTree × List Lexeme} (λ x. (statement_tree x.0.value, lexemes x.1.now)) body.entry (λ x. (statement_tree x.0.value, lexemes x.1.now)) result (λ x. Ok (tree.loop_over position (loop_tree over.entry) x.0, x.1)) }
+    ensures { ReadsStatement result (Ok (
+      tree.loop_over position (loop_tree over.entry.value)
+          (statement_tree body.entry.value),
+      lexemes rest.now,
+    )) }
 {
-    match body {
-        Ok((body, rest)) => in_box(alloc, object_loop(position, over, body), rest),
-        Err(e) => Err(e),
-    }
+    in_box(rest, alloc, Statement::Objectloop(position, over, body))
 }
 
 /// One more case in a row.
@@ -182,39 +202,24 @@ pub fn add_case<'a>(
     Ok(())
 }
 
-/// The statements of `default`.
-#[tactic(auto, using(expressions::proofs::GoesOn::part_fails, expressions::proofs::GoesOn::part_made))]
-pub fn default_case<'t, 'a>(
-    statements: Result<(Vec<Statement<'a>>, &'t [Token<'a>]), ParseError>,
-) -> Result<(Option<Vec<Statement<'a>>>, &'t [Token<'a>]), ParseError>
-    ensures { GoesOn {A = List StatementTree × List Lexeme} {B = Option (List StatementTree) × List Lexeme} (λ x. (map statement_tree x.0.items, lexemes x.1.now)) statements.entry (λ x. (other_tree x.0, lexemes x.1.now)) result (λ x. Ok (Some x.0, x.1)) }
-{
-    match statements {
-        Ok((found, rest)) => Ok((Some(found), rest)),
-        Err(e) => Err(e),
-    }
-}
-
 /// `switch`, with its second brace.
-#[tactic(auto, using(expressions::proofs::GoesOn::part_fails, expressions::proofs::GoesOn::part_made))]
 pub fn switch_on<'t, 'a>(
+    rest: &'t [Token<'a>],
     alloc: Global,
     position: Position,
     value: Box<Expression<'a>>,
     cases: Vec<(Vec<Range<'a>>, Vec<Statement<'a>>)>,
-    other: Result<(Option<Vec<Statement<'a>>>, &'t [Token<'a>]), ParseError>,
+    other: Option<Vec<Statement<'a>>>,
 ) -> Result<(Box<Statement<'a>>, &'t [Token<'a>]), ParseError>
-    ensures { GoesOn {A = Option (List StatementTree) × List Lexeme} {B = StatementTree × List Lexeme} (λ x. (other_tree x.0, lexemes x.1.now)) other.entry (λ x. (statement_tree x.0.value, lexemes x.1.now)) result (λ x. spec.switch_of position (expression_tree value.entry.value) (map case_tree cases.entry.items) x.0 x.1) }
+    ensures { ReadsStatement result (spec.switch_of position (expression_tree value.entry.value)
+        (map case_tree cases.entry.items) (other_tree other.entry) (lexemes rest.now)) }
 {
-    match other {
-        Ok((other, rest)) => match expect(Sign::CloseBrace, rest) {
-            Ok(rest) => in_box(
-                alloc,
-                Statement::Switch(position, value, cases, other),
-                rest,
-            ),
-            Err(e) => Err(e),
-        },
+    match expect(Sign::CloseBrace, rest) {
+        Ok(rest) => in_box(
+            rest,
+            alloc,
+            Statement::Switch(position, value, cases, other),
+        ),
         Err(e) => Err(e),
     }
 }

@@ -1,83 +1,57 @@
 //! Statements without statements inside them, read from tokens.
 
-ghost use Rattle.std.specs.Prelude.{◌≡◌, ◌<◌, IfOk, Ok, Result};
+ghost use Rattle.std.specs.Prelude.{◌≡◌, Ok};
 ghost use Rattle.lexer.specs.Token.{lexemes};
-ghost use Rattle.expressions.specs.declared.error.Fault.{Fault};
 ghost use Rattle.expressions.specs.Tree.{expression_tree};
 ghost use Rattle.expressions.specs.Parse as reading;
-ghost use Rattle.expressions.specs.Parse.{Gives, GoesOn, ReadOne};
 ghost use Rattle.statements.specs.Grammar as grammar;
 ghost use Rattle.statements.specs.Tree as tree;
-ghost use Rattle.statements.specs.Tree.{statement_tree};
+ghost use Rattle.statements.specs.Tree.{simple_tree};
+ghost use Rattle.statements.specs.Returned.{ReadsSimple};
 ghost use Rattle.statements.specs.Parse as spec;
 
 use crate::items::items;
 use crate::names::{flags, named};
-use crate::parts::in_box;
-use crate::tree::Statement;
+use crate::tree::SimpleStatement;
 use expressions::{
-    Expression, Fault, ParseError, expect, expect_word, expression, fault_at, is_sign, open, peek,
+    Expression, Fault, ParseError, expect, expect_word, expression, fault_at, is_sign, peek,
     position, skip,
 };
 use lexer::{Kind, Position, Sign, Token, Word};
 use std::alloc::Global;
 
-/// The statement, behind its `;`.
-///
-/// # Errors
-///
-/// `Fault::Grammar` at the next token: it is no `;`.
-#[tactic(auto, unfolding(crate::specs::Parse::ended))]
-pub fn ended<'t, 'a>(
+// The statement in a box, and the tokens after it. The tokens come first here and in `ended`: so the lifetimes of the
+// arguments have the places that they have in the callers, else the prover compares their types part by part.
+fn in_box<'t, 'a>(
+    rest: &'t [Token<'a>],
     alloc: Global,
-    statement: Statement<'a>,
+    statement: SimpleStatement<'a>,
+) -> Result<(Box<SimpleStatement<'a>>, &'t [Token<'a>]), ParseError>
+    ensures { ReadsSimple result (Ok (simple_tree statement.entry, lexemes rest.now)) }
+{
+    match Box::new(alloc, statement) {
+        Ok(statement) => Ok((statement, rest)),
+        Err(refused) => Err(ParseError::from(refused)),
+    }
+}
+
+// The statement, behind its `;`.
+#[tactic(auto, unfolding(crate::specs::Parse::ended))]
+fn ended<'t, 'a>(
     tokens: &'t [Token<'a>],
-) -> Result<(Box<Statement<'a>>, &'t [Token<'a>]), ParseError>
-    ensures { Gives (λ x. (statement_tree x.0.value, lexemes x.1.now)) result (spec.ended (statement_tree statement.entry) (lexemes tokens.now)) }
+    alloc: Global,
+    statement: SimpleStatement<'a>,
+) -> Result<(Box<SimpleStatement<'a>>, &'t [Token<'a>]), ParseError>
+    ensures { ReadsSimple result (spec.ended (simple_tree statement.entry) (lexemes tokens.now)) }
 {
     match expect(Sign::Semicolon, tokens) {
-        Ok(rest) => in_box(alloc, statement, rest),
+        Ok(rest) => in_box(rest, alloc, statement),
         Err(e) => {
             // By a call, so that the proof here does not go through each kind of statement.
             drop(statement);
             Err(e)
         }
     }
-}
-
-// An expression, with the parenthesis after it.
-#[tactic(auto, using(expressions::proofs::GoesOn::part_fails, expressions::proofs::GoesOn::part_made))]
-fn closed<'t, 'a>(
-    enclosed: Result<(Box<Expression<'a>>, &'t [Token<'a>]), ParseError>,
-) -> Result<(Box<Expression<'a>>, &'t [Token<'a>]), ParseError>
-    ensures { GoesOn {A = ReadOne} {B = ReadOne} (λ x. (expression_tree x.0.value, lexemes x.1.now)) enclosed.entry (λ x. (expression_tree x.0.value, lexemes x.1.now)) result (reading.closed (λ e. e)) }
-{
-    match enclosed {
-        Ok((found, rest)) => match expect(Sign::CloseParenthesis, rest) {
-            Ok(rest) => Ok((found, rest)),
-            Err(e) => Err(e),
-        },
-        Err(e) => Err(e),
-    }
-}
-
-/// A condition in parentheses, which are a nesting.
-///
-/// # Errors
-///
-/// Those of `expression`; `Fault::Grammar` where a parenthesis is missing, `Fault::Deep` where no nesting is left for it.
-#[tactic(auto, unfolding(crate::specs::Parse::enclosed_condition), using(expressions::proofs::Nested::nested_zero, expressions::proofs::Nested::nested_whole))]
-pub fn enclosed_condition<'t, 'a>(
-    alloc: Global,
-    depth: usize,
-    tokens: &'t [Token<'a>],
-) -> Result<(Box<Expression<'a>>, &'t [Token<'a>]), ParseError>
-    ensures gives { Gives (λ x. (expression_tree x.0.value, lexemes x.1.now)) result (spec.enclosed_condition depth (lexemes tokens.now)) }
-    ensures open { IfOk result (λ x. 0 < depth) }
-{
-    let rest = expect(Sign::OpenParenthesis, tokens)?;
-    let inside = open(depth, tokens)?;
-    closed(expression(alloc, inside, rest))
 }
 
 /// What follows `print`.
@@ -90,11 +64,11 @@ fn print<'t, 'a>(
     alloc: Global,
     depth: usize,
     tokens: &'t [Token<'a>],
-) -> Result<(Box<Statement<'a>>, &'t [Token<'a>]), ParseError>
-    ensures { Gives (λ x. (statement_tree x.0.value, lexemes x.1.now)) result (spec.printed depth tree.print (lexemes tokens.now)) }
+) -> Result<(Box<SimpleStatement<'a>>, &'t [Token<'a>]), ParseError>
+    ensures { ReadsSimple result (spec.printed depth tree.print (lexemes tokens.now)) }
 {
     match items(alloc, depth, tokens) {
-        Ok((found, rest)) => ended(alloc, Statement::Print(found), rest),
+        Ok((found, rest)) => ended(rest, alloc, SimpleStatement::Print(found)),
         Err(e) => Err(e),
     }
 }
@@ -109,11 +83,11 @@ fn print_return<'t, 'a>(
     alloc: Global,
     depth: usize,
     tokens: &'t [Token<'a>],
-) -> Result<(Box<Statement<'a>>, &'t [Token<'a>]), ParseError>
-    ensures { Gives (λ x. (statement_tree x.0.value, lexemes x.1.now)) result (spec.printed depth tree.print_return (lexemes tokens.now)) }
+) -> Result<(Box<SimpleStatement<'a>>, &'t [Token<'a>]), ParseError>
+    ensures { ReadsSimple result (spec.printed depth tree.print_return (lexemes tokens.now)) }
 {
     match items(alloc, depth, tokens) {
-        Ok((found, rest)) => ended(alloc, Statement::PrintReturn(found), rest),
+        Ok((found, rest)) => ended(rest, alloc, SimpleStatement::PrintReturn(found)),
         Err(e) => Err(e),
     }
 }
@@ -129,14 +103,14 @@ fn returned<'t, 'a>(
     depth: usize,
     position: Position,
     tokens: &'t [Token<'a>],
-) -> Result<(Box<Statement<'a>>, &'t [Token<'a>]), ParseError>
-    ensures { Gives (λ x. (statement_tree x.0.value, lexemes x.1.now)) result (spec.returned depth position (lexemes tokens.now)) }
+) -> Result<(Box<SimpleStatement<'a>>, &'t [Token<'a>]), ParseError>
+    ensures { ReadsSimple result (spec.returned depth position (lexemes tokens.now)) }
 {
     if is_sign(peek(tokens), Sign::Semicolon) {
-        return in_box(alloc, Statement::Return, skip(tokens));
+        return in_box(skip(tokens), alloc, SimpleStatement::Return);
     }
     match expression(alloc, depth, tokens) {
-        Ok((value, rest)) => ended(alloc, Statement::ReturnValue(position, value), rest),
+        Ok((value, rest)) => ended(rest, alloc, SimpleStatement::ReturnValue(position, value)),
         Err(e) => Err(e),
     }
 }
@@ -150,12 +124,12 @@ fn returned<'t, 'a>(
 fn read<'t, 'a>(
     alloc: Global,
     tokens: &'t [Token<'a>],
-) -> Result<(Box<Statement<'a>>, &'t [Token<'a>]), ParseError>
-    ensures { Gives (λ x. (statement_tree x.0.value, lexemes x.1.now)) result (spec.line_read (lexemes tokens.now)) }
+) -> Result<(Box<SimpleStatement<'a>>, &'t [Token<'a>]), ParseError>
+    ensures { ReadsSimple result (spec.line_read (lexemes tokens.now)) }
 {
     let (text, rest) = named(tokens)?;
     let (words, rest) = named(rest)?;
-    ended(alloc, Statement::Read(text, words), rest)
+    ended(rest, alloc, SimpleStatement::Read(text, words))
 }
 
 /// What follows `give`, which stands at `position`.
@@ -169,12 +143,12 @@ fn given<'t, 'a>(
     depth: usize,
     position: Position,
     tokens: &'t [Token<'a>],
-) -> Result<(Box<Statement<'a>>, &'t [Token<'a>]), ParseError>
-    ensures { Gives (λ x. (statement_tree x.0.value, lexemes x.1.now)) result (spec.given depth position (lexemes tokens.now)) }
+) -> Result<(Box<SimpleStatement<'a>>, &'t [Token<'a>]), ParseError>
+    ensures { ReadsSimple result (spec.given depth position (lexemes tokens.now)) }
 {
     let (object, rest) = expression(alloc, depth, tokens)?;
     match flags(alloc, rest) {
-        Ok((found, rest)) => ended(alloc, Statement::Give(position, object, found), rest),
+        Ok((found, rest)) => ended(rest, alloc, SimpleStatement::Give(position, object, found)),
         Err(e) => Err(e),
     }
 }
@@ -190,13 +164,13 @@ fn moved<'t, 'a>(
     depth: usize,
     position: Position,
     tokens: &'t [Token<'a>],
-) -> Result<(Box<Statement<'a>>, &'t [Token<'a>]), ParseError>
-    ensures { Gives (λ x. (statement_tree x.0.value, lexemes x.1.now)) result (spec.moved depth position (lexemes tokens.now)) }
+) -> Result<(Box<SimpleStatement<'a>>, &'t [Token<'a>]), ParseError>
+    ensures { ReadsSimple result (spec.moved depth position (lexemes tokens.now)) }
 {
     let (object, rest) = expression(alloc, depth, tokens)?;
     let rest = expect_word(Word::To, rest)?;
     match expression(alloc, depth, rest) {
-        Ok((parent, rest)) => ended(alloc, Statement::Move(position, object, parent), rest),
+        Ok((parent, rest)) => ended(rest, alloc, SimpleStatement::Move(position, object, parent)),
         Err(e) => Err(e),
     }
 }
@@ -212,11 +186,11 @@ fn removed<'t, 'a>(
     depth: usize,
     position: Position,
     tokens: &'t [Token<'a>],
-) -> Result<(Box<Statement<'a>>, &'t [Token<'a>]), ParseError>
-    ensures { Gives (λ x. (statement_tree x.0.value, lexemes x.1.now)) result (spec.removed depth position (lexemes tokens.now)) }
+) -> Result<(Box<SimpleStatement<'a>>, &'t [Token<'a>]), ParseError>
+    ensures { ReadsSimple result (spec.removed depth position (lexemes tokens.now)) }
 {
     match expression(alloc, depth, tokens) {
-        Ok((object, rest)) => ended(alloc, Statement::Remove(position, object), rest),
+        Ok((object, rest)) => ended(rest, alloc, SimpleStatement::Remove(position, object)),
         Err(e) => Err(e),
     }
 }
@@ -258,8 +232,8 @@ fn alone<'t, 'a>(
     alloc: Global,
     depth: usize,
     tokens: &'t [Token<'a>],
-) -> Result<(Box<Statement<'a>>, &'t [Token<'a>]), ParseError>
-    ensures { Gives (λ x. (statement_tree x.0.value, lexemes x.1.now)) result (spec.alone depth (lexemes tokens.now)) }
+) -> Result<(Box<SimpleStatement<'a>>, &'t [Token<'a>]), ParseError>
+    ensures { ReadsSimple result (spec.alone depth (lexemes tokens.now)) }
 {
     let begin = position(tokens);
     match expression(alloc, depth, tokens) {
@@ -267,38 +241,43 @@ fn alone<'t, 'a>(
             if !has_effect(&value) {
                 return Err(fault_at(Fault::Grammar, rest));
             }
-            ended(alloc, Statement::Effect(begin, value), rest)
+            ended(rest, alloc, SimpleStatement::Effect(begin, value))
         }
         Err(e) => Err(e),
     }
 }
 
-/// A statement that no other statement stands in.
+/// A statement in which no other stands.
 ///
 /// # Errors
 ///
 /// Those of `expression` and of `items`, and `Fault::Grammar` at the first token with which no such statement goes on.
-pub fn plain<'t, 'a>(
+pub fn simple<'t, 'a>(
     alloc: Global,
     depth: usize,
     tokens: &'t [Token<'a>],
-) -> Result<(Box<Statement<'a>>, &'t [Token<'a>]), ParseError>
-    ensures { Gives (λ x. (statement_tree x.0.value, lexemes x.1.now)) result (spec.plain_on depth (reading.head (lexemes tokens.now)) (lexemes tokens.now)) }
+) -> Result<(Box<SimpleStatement<'a>>, &'t [Token<'a>]), ParseError>
+    ensures { ReadsSimple result
+        (spec.plain_on depth (reading.head (lexemes tokens.now)) (lexemes tokens.now)) }
 {
     let first = peek(tokens);
     let rest = skip(tokens);
     match first.kind {
-        Kind::Sign(Sign::Semicolon) => in_box(alloc, Statement::Empty, rest),
-        Kind::Text(bytes) => ended(alloc, Statement::Text(bytes), rest),
+        Kind::Sign(Sign::Semicolon) => in_box(rest, alloc, SimpleStatement::Empty),
+        Kind::Text(bytes) => ended(rest, alloc, SimpleStatement::Text(bytes)),
         Kind::Reserved(Word::Print) => print(alloc, depth, rest),
         Kind::Reserved(Word::PrintRet) => print_return(alloc, depth, rest),
-        Kind::Reserved(Word::NewLine) => ended(alloc, Statement::NewLine, rest),
-        Kind::Reserved(Word::Break) => ended(alloc, Statement::Break(first.position), rest),
-        Kind::Reserved(Word::Continue) => ended(alloc, Statement::Continue(first.position), rest),
+        Kind::Reserved(Word::NewLine) => ended(rest, alloc, SimpleStatement::NewLine),
+        Kind::Reserved(Word::Break) => ended(rest, alloc, SimpleStatement::Break(first.position)),
+        Kind::Reserved(Word::Continue) => ended(
+            rest,
+            alloc,
+            SimpleStatement::Continue(first.position),
+        ),
         Kind::Reserved(Word::Return) => returned(alloc, depth, first.position, rest),
-        Kind::Reserved(Word::Rtrue) => ended(alloc, Statement::ReturnTrue, rest),
-        Kind::Reserved(Word::Rfalse) => ended(alloc, Statement::ReturnFalse, rest),
-        Kind::Reserved(Word::Quit) => ended(alloc, Statement::Quit, rest),
+        Kind::Reserved(Word::Rtrue) => ended(rest, alloc, SimpleStatement::ReturnTrue),
+        Kind::Reserved(Word::Rfalse) => ended(rest, alloc, SimpleStatement::ReturnFalse),
+        Kind::Reserved(Word::Quit) => ended(rest, alloc, SimpleStatement::Quit),
         Kind::Reserved(Word::Read) => read(alloc, rest),
         Kind::Reserved(Word::Give) => given(alloc, depth, first.position, rest),
         Kind::Reserved(Word::Move) => moved(alloc, depth, first.position, rest),

@@ -61,13 +61,12 @@ pub enum PrintItem<'a> {
     Number(Position, Box<Expression<'a>>),
 }
 
-/// A statement. Where it has expressions, and for `break` and `continue`, the position of its first token stands with it.
+/// A statement in which no other stands. Where it has expressions, and for `break` and `continue`, the position of its first
+/// token stands with it.
 #[derive(Drop)]
-pub enum Statement<'a> {
+pub enum SimpleStatement<'a> {
     /// `;` alone.
     Empty,
-
-    Block(Vec<Statement<'a>>),
 
     /// A text alone: it is printed with a new line, and the routine returns true.
     Text(&'a [u8]),
@@ -75,20 +74,6 @@ pub enum Statement<'a> {
     Print(Vec<PrintItem<'a>>),
     PrintReturn(Vec<PrintItem<'a>>),
     NewLine,
-    If(Position, Box<Expression<'a>>, Box<Statement<'a>>),
-    IfElse(Position, Box<Expression<'a>>, Box<Statement<'a>>, Box<Statement<'a>>),
-    While(Position, Box<Expression<'a>>, Box<Statement<'a>>),
-    Do(Position, Box<Statement<'a>>, Box<Expression<'a>>),
-    For(Position, Heading<'a>, Box<Statement<'a>>),
-
-    /// A `switch`: its value, its cases, and the statements of its `default`.
-    Switch(
-        Position,
-        Box<Expression<'a>>,
-        Vec<(Vec<Range<'a>>, Vec<Statement<'a>>)>,
-        Option<Vec<Statement<'a>>>,
-    ),
-
     Break(Position),
     Continue(Position),
 
@@ -110,15 +95,30 @@ pub enum Statement<'a> {
 
     Remove(Position, Box<Expression<'a>>),
 
-    /// `objectloop` over all objects: its variable, and what is done in each round.
-    Each(Name<'a>, Box<Statement<'a>>),
-
-    /// `objectloop` over the objects that stand in one: its variable, that object, and what is done in each round.
-    EachIn(Position, Name<'a>, Box<Expression<'a>>, Box<Statement<'a>>),
-
-    /// `objectloop` over all objects for which a condition holds, which begins with the name of its variable.
-    EachWhere(Position, Name<'a>, Box<Expression<'a>>, Box<Statement<'a>>),
-
     /// An assignment, a step or a call.
     Effect(Position, Box<Expression<'a>>),
+}
+
+/// A statement. Where it has expressions, the position of its first token stands with it. Those in which no other
+/// stands are a type of their own, since a function that has a statement in hand is proved for each of its kinds.
+#[derive(Drop)]
+pub enum Statement<'a> {
+    Simple(Box<SimpleStatement<'a>>),
+    Block(Vec<Statement<'a>>),
+    If(Position, Box<Expression<'a>>, Box<Statement<'a>>),
+    IfElse(Position, Box<Expression<'a>>, Box<Statement<'a>>, Box<Statement<'a>>),
+    While(Position, Box<Expression<'a>>, Box<Statement<'a>>),
+    Do(Position, Box<Statement<'a>>, Box<Expression<'a>>),
+    For(Position, Box<Heading<'a>>, Box<Statement<'a>>),
+
+    /// `objectloop`: over what it goes, and what is done in each round.
+    Objectloop(Position, Box<Loop<'a>>, Box<Statement<'a>>),
+
+    /// A `switch`: its value, its cases, and the statements of its `default`.
+    Switch(
+        Position,
+        Box<Expression<'a>>,
+        Vec<(Vec<Range<'a>>, Vec<Statement<'a>>)>,
+        Option<Vec<Statement<'a>>>,
+    ),
 }

@@ -2,7 +2,8 @@
 
 ghost use Rattle.std.specs.Prelude.{◌≡◌, map};
 ghost use Rattle.lexer.specs.Token.{lexeme, lexemes};
-ghost use Rattle.expressions.specs.Parse.{Gives, head, tail};
+ghost use Rattle.expressions.specs.Parse.{head, tail};
+ghost use Rattle.expressions.specs.Returned.{Reads};
 ghost use Rattle.statements.specs.Nesting as nesting;
 ghost use Rattle.statements.specs.Tree.{literal_tree, range_tree};
 ghost use Rattle.statements.specs.Parse as spec;
@@ -14,7 +15,7 @@ use std::alloc::Global;
 
 // The number behind a `-`.
 fn negative<'t, 'a>(tokens: &'t [Token<'a>]) -> Result<(Literal<'a>, &'t [Token<'a>]), ParseError>
-    ensures { Gives (λ x. (literal_tree x.0, lexemes x.1.now)) result
+    ensures { Reads literal_tree result
         (spec.negative_on (head (lexemes tokens.now)) (tail (lexemes tokens.now))) }
 {
     match peek(tokens).kind {
@@ -32,7 +33,7 @@ fn negative<'t, 'a>(tokens: &'t [Token<'a>]) -> Result<(Literal<'a>, &'t [Token<
 pub fn known_value<'t, 'a>(
     tokens: &'t [Token<'a>],
 ) -> Result<(Literal<'a>, &'t [Token<'a>]), ParseError>
-    ensures { Gives (λ x. (literal_tree x.0, lexemes x.1.now)) result (spec.known_value (lexemes tokens.now)) }
+    ensures { Reads literal_tree result (spec.known_value (lexemes tokens.now)) }
 {
     let first = peek(tokens);
     let rest = skip(tokens);
@@ -80,7 +81,8 @@ fn goes_on_in_case(token: Token<'_>) -> bool
 
 // Whether a case can begin with these three tokens.
 fn case_begins(first: Token<'_>, second: Token<'_>, third: Token<'_>) -> bool
-    ensures { result ≡ nesting.case_begins (lexeme first.entry) (lexeme second.entry) (lexeme third.entry) }
+    ensures { result
+        ≡ nesting.case_begins (lexeme first.entry) (lexeme second.entry) (lexeme third.entry) }
 {
     match first.kind {
         Kind::Number(_) | Kind::Character(_) | Kind::Name(_) => goes_on_in_case(second),
@@ -106,7 +108,7 @@ pub fn begins_case(tokens: &[Token<'_>]) -> bool
 // The values for which a case is meant: one alone, or those from one to another.
 #[tactic(auto, unfolding(crate::specs::Parse::range))]
 fn range<'t, 'a>(tokens: &'t [Token<'a>]) -> Result<(Range<'a>, &'t [Token<'a>]), ParseError>
-    ensures { Gives (λ x. (range_tree x.0, lexemes x.1.now)) result (spec.range (lexemes tokens.now)) }
+    ensures { Reads range_tree result (spec.range (lexemes tokens.now)) }
 {
     let (low, rest) = known_value(tokens)?;
     if !is_word(peek(rest), Word::To) {
@@ -130,7 +132,7 @@ pub fn ranges<'t, 'a>(
     alloc: Global,
     tokens: &'t [Token<'a>],
 ) -> Result<(Vec<Range<'a>>, &'t [Token<'a>]), ParseError>
-    ensures { Gives (λ x. (map range_tree x.0.items, lexemes x.1.now)) result (spec.ranges (lexemes tokens.now)) }
+    ensures { Reads (λ xs. map range_tree xs.items) result (spec.ranges (lexemes tokens.now)) }
 {
     let mut found = Vec::new(alloc);
     let (first, mut rest) = range(tokens)?;

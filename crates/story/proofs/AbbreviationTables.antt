@@ -1,18 +1,17 @@
 -- The table of abbreviations, and their texts.
 use Rattle.std.proofs.Common.{◌≡◌, ℕ, zero, suc, ◌+◌, ◌-◌, ◌*◌, ◌/◌, ◌%◌, ◌<◌, ◌≤◌, List, [], ◌∷◌, ◌++◌, length, take}
 use Rattle.std.proofs.Common.{drop, map, refl, sym, ap, ◌∙◌, subst, arith, append_assoc, length-append, sum}
-use Rattle.std.specs.Prelude.{replicate, slice_index}
-use Rattle.std.specs.Prelude.{slice_index_or, true}
+use Rattle.std.specs.Prelude.{replicate, slice_index, slice_index_or, true}
 use Rattle.std.specs.List.{All, concat, flat_map, list_all}
 use Rattle.std.specs.Global.{Vec}
 use Rattle.std.proofs.lemmas.List.{length-map, length-replicate}
 use Rattle.std.proofs.lemmas.List.Elements.{All-head, All-tail}
 use Rattle.std.specs.List.{sum_by}
 use Rattle.std.proofs.lemmas.List.Sums.{sum-map, sum_by-cons}
-use Rattle.zcore.specs.Abbreviations.{abbreviation_at}
-use Rattle.zcore.specs.Alphabets.{is_printable, spelled}
-use Rattle.zcore.specs.Text.{Holds, encoded}
-use Rattle.zcore.specs.Words.{packed, padded}
+use Rattle.ztext.specs.Abbreviations.{abbreviation_at}
+use Rattle.ztext.specs.Alphabets.{is_printable, spelled}
+use Rattle.ztext.specs.Text.{Holds, encoded}
+use Rattle.ztext.specs.Words.{packed, padded}
 use Rattle.meaning.specs.Places.{total, text_size as size_of, abbreviations_size, filling_before, dictionary_end}
 use Rattle.meaning.specs.Places.{texts_place}
 use Rattle.meaning.specs.Resolved.{ProgramOf}
@@ -177,7 +176,8 @@ table_is p texts place few here e =
     length-map p.abbreviations size_of ∙ sym (place_count (texts_place p) p.abbreviations) in
     ap (λ at. table_bytes at (map text_size texts)) here
     ∙ ap (table_bytes (texts_place p)) (sizes_are texts p.abbreviations e)
-    ∙ ap (λ ns. flat_map word (map half ns) ++ flat_map word (replicate {A = ℕ} (96 - length (map size_of p.abbreviations)) 128))
+    ∙ ap (λ ns. flat_map word (map half ns)
+    ++ flat_map word (replicate {A = ℕ} (96 - length (map size_of p.abbreviations)) 128))
     (addresses_are (texts_place p) p.abbreviations)
     ∙ ap (λ n. flat_map word (map half places) ++ flat_map word (replicate {A = ℕ} (96 - n) 128)) count
     ∙ sym (filled 96 96 places (omega (arith, place_count (texts_place p) p.abbreviations, few)) (omega arith))

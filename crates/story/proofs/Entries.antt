@@ -9,7 +9,7 @@ use Rattle.std.proofs.lemmas.List.Elements.{All-head, All-tail}
 use Rattle.byteorder.specs.Numbers.{length-bytes_high_first, big_number-reads_back}
 use Rattle.zcore.specs.Header.{static_end}
 use Rattle.zcore.specs.Dictionary.{number_of_key}
-use Rattle.zcore.specs.Text.{Holds}
+use Rattle.ztext.specs.Text.{Holds}
 use Rattle.tables.specs.Dictionary.{ReadsKeys}
 use Rattle.tables.proofs.Written.{AreKeys, length_dictionary, reads_back}
 use Rattle.story.specs.Layout.{key_bytes, dictionary_bytes}

@@ -1,164 +1,42 @@
 -- Stories hold their programs.
-use Rattle.std.proofs.Common.{◌≡◌, ℕ, zero, suc, ◌+◌, ◌*◌, ◌/◌, ◌==◌, ◌<◌, ◌≤◌, List, [], ◌∷◌, ◌++◌, length, take, drop}
-use Rattle.std.proofs.Common.{refl, sym, ap, ◌∙◌, subst, arith}
-use Rattle.std.specs.Prelude.{map, if◌then◌else◌, slice_index, slice_index_or}
-use Rattle.std.specs.List.{All, concat}
-use Rattle.std.proofs.lemmas.List.{length-append, length-map, get_or-append-add, get_or-drop}
+use Rattle.std.proofs.Common.{◌≡◌, ℕ, suc, ◌+◌, ◌*◌, ◌/◌, ◌<◌, ◌≤◌, List, [], ◌++◌, length, drop}
+use Rattle.std.proofs.Common.{sym, ap, ◌∙◌, subst, arith}
+use Rattle.std.specs.Prelude.{map, slice_index, slice_index_or}
+use Rattle.std.specs.List.{All}
+use Rattle.std.proofs.lemmas.List.{length-map, get_or-drop}
 use Rattle.zcore.specs.declared.header.Version.{Version}
-use Rattle.zcore.specs.declared.header.Version.TheVariants.{V5, V8}
-use Rattle.zcore.specs.Alphabets.{spelling_of}
-use Rattle.zcore.specs.Bytes.{word_at}
-use Rattle.zcore.specs.Abbreviations.{abbreviation_at}
-use Rattle.zcore.specs.Header.{abbreviations_of, scale_of, version_number}
-use Rattle.zcore.specs.Parts.{scale_in, unpacked}
-use Rattle.zcore.specs.Text.{Holds, encoded}
-use Rattle.zcore.specs.Words.{packed}
+use Rattle.ztext.specs.Bytes.{word_at}
+use Rattle.ztext.specs.Abbreviations.{abbreviation_at}
+use Rattle.zcore.specs.Header.{abbreviations_of, scale_of}
+use Rattle.zcore.specs.Parts.{unpacked}
+use Rattle.ztext.specs.Text.{Holds, encoded}
+use Rattle.ztext.specs.Words.{packed}
 use Rattle.tables.specs.Dictionary.{ReadsKeys}
-use Rattle.meaning.specs.Resolved.{RoutineOf, ProgramOf}
+use Rattle.meaning.specs.Resolved.{ProgramOf}
 use Rattle.meaning.specs.Accepted.{IsAccepted}
 use Rattle.meaning.specs.Places.{arrays_place, start_place, routines_place, texts_place}
 use Rattle.meaning.specs.Meaning.{routine_at}
 use Rattle.items.specs.Statements.{routine_items}
 use Rattle.meaning.specs.World.{words_of}
-use Rattle.meaning.specs.declared.cause.Cause.{Cause}
-use Rattle.meaning.specs.declared.cause.Cause.TheVariants as causes
 use Rattle.region.specs.Laws.{HoldsRows}
 use Rattle.region.specs.Rows.{rows_of, rows_bytes}
-use Rattle.instructions.specs.Addresses.{Addresses, Sizes, number_of}
+use Rattle.instructions.specs.Addresses.{Addresses, number_of}
 use Rattle.code.specs.Bytes.{code_size}
 use Rattle.code.specs.HeldProgram.{HoldsProgram, HoldsAbbreviation, HoldsRoutine, HoldsText, fault_line, start_code}
-use Rattle.code.specs.HeldProgram.{sizes_of, offset_in}
+use Rattle.code.specs.HeldProgram.{sizes_of}
 use Rattle.code.specs.Sizes.{routine_size}
-use Rattle.story.specs.Layout.{addresses_in, fault_texts, packed_addresses, parts_from, addresses_from, aligned}
+use Rattle.story.specs.Layout.{addresses_in, fault_texts, packed_addresses, parts_from, addresses_from}
 use Rattle.story.specs.Layout.{greatest_word, low_bytes, routine_bytes, story_of, text_places}
 use Rattle.story.specs.Laws.{IsShort, StoriesHold}
-use Rattle.story.proofs.Parts.{whole, HasPartAt, holds_first, parts_rise, parts_stand, addresses_count}
+use Rattle.story.proofs.Parts.{HasPartAt, holds_first, parts_rise, parts_stand, addresses_count}
 use Rattle.story.proofs.Lengths.{routine_length, sizes_are}
 use Rattle.story.proofs.AbbreviationTables.{texts_above, texts_below}
 use Rattle.story.proofs.Low.{global_stands, arrays_hold, objects_hold, high_stands, start_stands}
 use Rattle.story.proofs.Low.{place_stands, abbreviation_stands}
 use Rattle.story.proofs.ObjectTables.{rows_sized}
 use Rattle.story.proofs.Reading.{Says, behind_header, says, header_read, laid_length, laid_out, laid_read, laid_keys}
-
--- Packed addresses
-
-packed_is : (version : Version) (addresses : List ℕ) (k : ℕ) → k < length addresses
-    → slice_index (map (λ address. address / scale_of version) addresses) k
-    ≡ slice_index addresses k / scale_of version
-packed_is version [] k within = absurd (omega (arith, within))
-packed_is version (address ∷ addresses) zero within = refl
-packed_is version (address ∷ addresses) (suc k) within = packed_is version addresses k (omega (arith, within))
-
-scale_is : (version : Version) (story : List ℕ) → slice_index story 0 ≡ version_number version
-    → scale_in story ≡ scale_of version
-scale_is V5 story e = ap (λ n. if n == 8 then 8 else 4) e
-scale_is V8 story e = ap (λ n. if n == 8 then 8 else 4) e
-
--- what the packed address of an address in a story is
-pub record IsPacked (version : Version) (address : ℕ) : Type 0 where
-  pub back : scale_of version * (address / scale_of version) ≡ address
-  pub named : 0 < address / scale_of version
-  pub word : address / scale_of version < 65536
-
-is_packed : (version : Version) (address end : ℕ) → whole version address → 875 ≤ address → address ≤ end
-    → end ≤ 65535 * scale_of version → IsPacked version address
-is_packed V5 address end multiple low below within =
-    record { back = omega (arith, multiple); named = omega (arith, low); word = omega (arith, below, within) }
-is_packed V8 address end multiple low below within =
-    record { back = omega (arith, multiple); named = omega (arith, low); word = omega (arith, below, within) }
-
--- Parts by their numbers
-
-size_at : (parts : List (List ℕ)) (k : ℕ) → k < length parts
-    → slice_index (map length parts) k ≡ length (slice_index_or parts k [])
-size_at [] k within = absurd (omega (arith, within))
-size_at (part ∷ parts) zero within = refl
-size_at (part ∷ parts) (suc k) within = size_at parts k (omega (arith, within))
-
-routine_is : (rs : List RoutineOf) (k : ℕ) (d : RoutineOf) → k < length rs → slice_index_or rs k d ≡ routine_at rs k
-routine_is [] k d within = absurd (omega (arith, within))
-routine_is (r ∷ rs) zero d within = refl
-routine_is (r ∷ rs) (suc k) d within = routine_is rs k d (omega (arith, within))
-
-pub text_lengths : map length fault_texts ≡ 26 ∷ 24 ∷ 26 ∷ 26 ∷ 30 ∷ 28 ∷ 24 ∷ 26 ∷ []
-unfolding encoded packed spelling_of
-text_lengths = refl
-
--- each text stands by its number
-few_causes : (cause : Cause) → number_of cause < 8
-few_causes causes.DivisionByZero = omega arith
-few_causes causes.NotAnObject = omega arith
-few_causes causes.IndexOutOfRange = omega arith
-few_causes causes.NoSuchProperty = omega arith
-few_causes causes.PropertyOfManyWords = omega arith
-few_causes causes.ObjectInsideItself = omega arith
-few_causes causes.NotACharacter = omega arith
-few_causes causes.BufferTooSmall = omega arith
-
-text_of : (cause : Cause) → slice_index_or fault_texts (number_of cause) [] ≡ encoded (fault_line (words_of cause))
-text_of causes.DivisionByZero = refl
-text_of causes.NotAnObject = refl
-text_of causes.IndexOutOfRange = refl
-text_of causes.NoSuchProperty = refl
-text_of causes.PropertyOfManyWords = refl
-text_of causes.ObjectInsideItself = refl
-text_of causes.NotACharacter = refl
-text_of causes.BufferTooSmall = refl
-
-text_long : (k : ℕ) → k < 8 → 0 < slice_index (map length fault_texts) k
-text_long k within = subst (λ (ns : List ℕ). 0 < slice_index ns k) (sym text_lengths) (go k within)
-  where
-    go : (k : ℕ) → k < 8 → 0 < slice_index (26 ∷ 24 ∷ 26 ∷ 26 ∷ 30 ∷ 28 ∷ 24 ∷ 26 ∷ []) k
-    go zero h = omega arith
-    go (suc zero) h = omega arith
-    go (suc (suc zero)) h = omega arith
-    go (suc (suc (suc zero))) h = omega arith
-    go (suc (suc (suc (suc zero)))) h = omega arith
-    go (suc (suc (suc (suc (suc zero))))) h = omega arith
-    go (suc (suc (suc (suc (suc (suc zero)))))) h = omega arith
-    go (suc (suc (suc (suc (suc (suc (suc zero))))))) h = omega arith
-    go (suc (suc (suc (suc (suc (suc (suc (suc k)))))))) h = absurd (omega (arith, h))
-
-module _ (sizes : Sizes) (a : Addresses) where
-  abbrev pub parts_of : List RoutineOf → List (List ℕ)
-  parts_of rs = map (routine_bytes sizes a) rs ++ fault_texts
-
-  parts_count : (rs : List RoutineOf) → length (parts_of rs) ≡ length rs + 8
-  parts_count rs =
-      let b : length (map (routine_bytes sizes a) rs) ≡ length rs = length-map rs (routine_bytes sizes a) in
-      omega (arith, length-append (map (routine_bytes sizes a) rs) fault_texts, b)
-
-  routine_part : (rs : List RoutineOf) (k : ℕ) → k < length rs
-      → slice_index_or (parts_of rs) k [] ≡ routine_bytes sizes a (routine_at rs k)
-  routine_part [] k within = absurd (omega (arith, within))
-  routine_part (r ∷ rs) zero within = refl
-  routine_part (r ∷ rs) (suc k) within = routine_part rs k (omega (arith, within))
-
-  text_part : (rs : List RoutineOf) (n : ℕ)
-      → slice_index_or (parts_of rs) (length rs + n) [] ≡ slice_index_or fault_texts n []
-  text_part rs n =
-      ap (λ k. slice_index_or (parts_of rs) (k + n) []) (sym (length-map rs (routine_bytes sizes a)))
-      ∙ get_or-append-add (map (routine_bytes sizes a) rs) fault_texts n []
-
-  -- no part is empty
-  part_long : (rs : List RoutineOf) (k : ℕ) → k < length (parts_of rs) → 0 < slice_index (map length (parts_of rs)) k
-  part_long [] k within = text_long k within
-  part_long (r ∷ rs) zero within = omega arith
-  part_long (r ∷ rs) (suc k) within = part_long rs k (omega (arith, within))
-
--- Arrays
-
--- an array may stand at every address, and so they stand one behind another
-array_found : (at : ℕ) (arrays : List (List ℕ)) (n : ℕ) → n < length arrays
-    → slice_index (addresses_from 1 at (map length arrays)) n ≡ at + offset_in arrays n
-array_found at [] n within = absurd (omega (arith, within))
-array_found at (bytes ∷ arrays) zero within = omega arith
-array_found at (bytes ∷ arrays) (suc n) within =
-    let more : slice_index (addresses_from 1 (aligned 1 at + length bytes) (map length arrays)) n
-    ≡ aligned 1 at + length bytes + offset_in arrays n =
-    array_found (aligned 1 at + length bytes) arrays n (omega (arith, within)) in
-    let all = length-append bytes (concat (take n arrays)) in
-    omega (arith, more, all)
+use Rattle.story.proofs.PackedParts.{packed_is, scale_is, is_packed, size_at, routine_is, few_causes, text_of}
+use Rattle.story.proofs.PackedParts.{parts_of, parts_count, routine_part, text_part, part_long, array_found}
 
 -- Programs
 
@@ -215,7 +93,8 @@ module _ (version : Version) (p : ProgramOf) (story : List ℕ)
       ∙ fits.back
 
   part_lies : (k : ℕ) → k < length (parts_in version p)
-      → Lies (routines_place p) version story (slice_index (packed_in version p) k) (slice_index_or (parts_in version p) k [])
+      → Lies (routines_place p) version story
+      (slice_index (packed_in version p) k) (slice_index_or (parts_in version p) k [])
   part_lies k within =
       let stands = part_stands k within in
       let e : unpacked story (slice_index (packed_in version p) k) ≡ slice_index (addresses_at version p) k =
@@ -277,10 +156,12 @@ module _ (version : Version) (p : ProgramOf) (story : List ℕ)
       let count : length (parts_in version p) ≡ length p.routines + 8 =
       parts_count (sizes_of p) (addresses_in (scale_of version) p) p.routines in
       let lies = part_lies k (omega (arith, within, count)) in
-      let part : slice_index_or (parts_in version p) k [] ≡ routine_bytes (sizes_of p) (addresses_in (scale_of version) p)
+      let part : slice_index_or (parts_in version p) k []
+      ≡ routine_bytes (sizes_of p) (addresses_in (scale_of version) p)
       (routine_at p.routines k) =
       routine_part (sizes_of p) (addresses_in (scale_of version) p) p.routines k within in
-      let size : length (slice_index_or (parts_in version p) k []) ≡ routine_size (sizes_of p) (routine_at p.routines k) =
+      let size : length (slice_index_or (parts_in version p) k [])
+      ≡ routine_size (sizes_of p) (routine_at p.routines k) =
       ap length part ∙ routine_length (sizes_of p) (addresses_in (scale_of version) p) (routine_at p.routines k) in
       record {
         bytes = subst (Holds story (unpacked story (slice_index (packed_in version p) k))) part lies.bytes;
@@ -358,7 +239,8 @@ module _ (version : Version) (p : ProgramOf) (accepted : IsAccepted p) where
             (text_lies version p story said long short high_is (number_of cause) (fault_line (words_of cause))
             (few_causes cause) (text_of cause));
         start = subst (λ at. Holds story at (start_code main)) (sym said.first_instruction)
-            (holds_first (start_place p) story (start_code main) high (start_stands story p high main words body_stands));
+            (holds_first (start_place p) story (start_code main) high
+            (start_stands story p high main words body_stands));
         start_above = omega (arith, said.first_instruction, said.static_base);
         globals_above = omega (arith, said.globals);
         globals_below = omega (arith, said.globals, said.static_base);

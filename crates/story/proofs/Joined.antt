@@ -1,13 +1,13 @@
 -- Bytes that follow one another make up the parts of a story.
-use Rattle.std.proofs.Common.{◌≡◌, ℕ, zero, suc, ◌+◌, ◌-◌, ◌*◌, ◌<◌, ◌≤◌, List, [], ◌∷◌, ◌++◌, length, take, drop, map, refl}
-use Rattle.std.proofs.Common.{sym, ap, ◌∙◌, arith, append_assoc, append-nil}
+use Rattle.std.proofs.Common.{◌≡◌, ℕ, zero, suc, ◌+◌, ◌-◌, ◌*◌, ◌<◌, ◌≤◌, List, [], ◌∷◌, ◌++◌, length, take, drop, map}
+use Rattle.std.proofs.Common.{refl, sym, ap, ◌∙◌, arith, append_assoc, append-nil}
 use Rattle.std.specs.Prelude.{◌/◌, ◌%◌, codes, replicate, slice_index_or, sum}
 use Rattle.std.proofs.lemmas.List.{length-append, length-replicate}
 use Rattle.std.specs.List.{flat_map, concat}
 use Rattle.std.specs.Global.{Vec}
 use Rattle.zcore.specs.Instruction.{bytes_of}
-use Rattle.zcore.specs.Text.{encoded}
-use Rattle.zcore.specs.Words.{packed}
+use Rattle.ztext.specs.Text.{encoded}
+use Rattle.ztext.specs.Words.{packed}
 use Rattle.zcore.specs.declared.header.Version.{Version}
 use Rattle.zcore.specs.Header.{scale_of, version_number}
 use Rattle.meaning.specs.declared.places.Places.{Places}

@@ -194,7 +194,8 @@ pub body_within : (version : Version) (p : ProgramOf) (body : List ℕ) → Fits
 unfolding story_of
 body_within version p body fits e =
     let whole = length-append (header_of version (places_of p) (body_of version p)) (body_of version p) in
-    let within : length (header_of version (places_of p) (body_of version p) ++ body_of version p) ≤ 65535 * scale_of version =
+    let within : length (header_of version (places_of p) (body_of version p) ++ body_of version p)
+    ≤ 65535 * scale_of version =
     fits.within in
     omega (arith, ap length e, whole, within)
 
@@ -293,4 +294,5 @@ pub story_laid : (version : Version) (p : ProgramOf) (body s s1 s2 : List ℕ) �
     → s1 ≡ s ++ header_of version (places_of p) body → s2 ≡ s1 ++ body → s2 ≡ story_of version p
 unfolding story_of
 story_laid version p body s s1 s2 e e0 e1 e2 =
-    e2 ∙ ap (λ z. z ++ body) (e1 ∙ ap (λ z. z ++ header_of version (places_of p) body) e0) ∙ ap (λ b. header_of version (places_of p) b ++ b) e
+    e2 ∙ ap (λ z. z ++ body) (e1 ∙ ap (λ z. z ++ header_of version (places_of p) body) e0)
+    ∙ ap (λ b. header_of version (places_of p) b ++ b) e

@@ -6,7 +6,10 @@ mod AbbreviationTables
 mod Low
 mod Lengths
 mod Samples
+mod PlayedSamples
+mod LaidSamples
 mod Reading
+mod PackedParts
 mod Holding
 pub mod Sizes
 pub mod Faults

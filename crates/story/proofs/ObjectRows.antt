@@ -1,6 +1,6 @@
 -- The rows of the object table of a program, one after another.
-use Rattle.std.proofs.Common.{◌≡◌, ◌≢◌, ◌⊎◌, inl, inr, ◌+◌, ◌<◌, ◌≤◌, ◌==◌, ℕ, zero, suc, List, [], ◌∷◌, ◌++◌, length, drop}
-use Rattle.std.proofs.Common.{slice_index_or, if◌then◌else◌, refl, ap, sym, ◌∙◌, arith, append_assoc}
+use Rattle.std.proofs.Common.{◌≡◌, ◌≢◌, ◌⊎◌, inl, inr, ◌+◌, ◌<◌, ◌≤◌, ◌==◌, ℕ, zero, suc, List, [], ◌∷◌, ◌++◌, length}
+use Rattle.std.proofs.Common.{drop, slice_index_or, if◌then◌else◌, refl, ap, sym, ◌∙◌, arith, append_assoc}
 use Rattle.std.specs.Prelude.{map}
 use Rattle.std.specs.Global.{Vec}
 use Rattle.std.proofs.lemmas.Bool.{cases_eq}
@@ -11,8 +11,7 @@ use Rattle.meaning.specs.Objects.{ObjectOf, object_at, no_object, standing_in, f
 use Rattle.meaning.specs.Places.{machine_character}
 use Rattle.meaning.specs.Resolved.{object_of, property_of}
 use Rattle.meaning.proofs.ObjectLists.{if_same, if_other}
-use Rattle.region.specs.Rows.{RowOf, view_of, row_of, rows_from, rows_of, attribute_byte}
-use Rattle.region.specs.Rows.{attribute_bytes}
+use Rattle.region.specs.Rows.{RowOf, view_of, row_of, rows_from, rows_of, attribute_byte, attribute_bytes}
 
 -- Searching
 
@@ -127,8 +126,9 @@ module _ (xs : List CheckedObject) (i : ℕ) (x : CheckedObject) (lt : i < lengt
     child_is : first_of (standing_in (i + 1) 1 objects) ≡ (row_in xs (i + 1)).child
     child_is = ap first_of (sym (if_other (i + 1) 0 [] (standing_in (i + 1) 1 objects) (λ e. omega (arith, e))))
 
-    pub row_made : (a : List ℕ) (p s c : ℕ) (n : List ℕ) (ps : List (ℕ × Vec ℕ)) → a ≡ attribute_bytes x.attributes.items
-        → p ≡ x.parent → s ≡ (row_in xs (i + 1)).sibling → c ≡ first_of (standing_in (i + 1) 1 objects)
+    pub row_made : (a : List ℕ) (p s c : ℕ) (n : List ℕ) (ps : List (ℕ × Vec ℕ))
+        → a ≡ attribute_bytes x.attributes.items → p ≡ x.parent → s ≡ (row_in xs (i + 1)).sibling
+        → c ≡ first_of (standing_in (i + 1) 1 objects)
         → n ≡ map machine_character x.name.now → map property_of ps ≡ map property_of x.properties.items
         → made a p s c n (map property_of ps) ≡ row_in xs (i + 1)
     row_made a p s c n ps ea ep es ec en eps =

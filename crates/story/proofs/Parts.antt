@@ -7,7 +7,7 @@ use Rattle.std.proofs.lemmas.List.{take_at}
 use Rattle.zcore.specs.declared.header.Version.{Version}
 use Rattle.zcore.specs.declared.header.Version.TheVariants.{V5, V8}
 use Rattle.zcore.specs.Header.{scale_of}
-use Rattle.zcore.specs.Text.{Holds}
+use Rattle.ztext.specs.Text.{Holds}
 use Rattle.story.specs.Layout.{aligned, addresses_from, parts_from}
 
 -- Lists

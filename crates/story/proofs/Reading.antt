@@ -1,13 +1,13 @@
 -- Stories are read.
-use Rattle.std.proofs.Common.{◌≡◌, inr, ℕ, ◌+◌, ◌*◌, ◌/◌, ◌%◌, ◌^◌, ◌<◌, ◌≤◌, List, ◌++◌, length, drop, Ok, refl, sym, ap}
-use Rattle.std.proofs.Common.{◌∙◌, subst, arith}
+use Rattle.std.proofs.Common.{◌≡◌, inr, ℕ, ◌+◌, ◌*◌, ◌/◌, ◌%◌, ◌^◌, ◌<◌, ◌≤◌, List, ◌++◌, length, drop, Ok, refl, sym}
+use Rattle.std.proofs.Common.{ap, ◌∙◌, subst, arith}
 use Rattle.std.specs.Prelude.{map, slice_index, sum}
 use Rattle.std.specs.List.{All}
 use Rattle.std.specs.List.Sorted.{IsStrictlyIncreasing}
 use Rattle.std.proofs.lemmas.List.{length-append, length-map, drop_at}
 use Rattle.zcore.specs.declared.header.Version.{Version}
 use Rattle.zcore.specs.declared.header.Header.{Header}
-use Rattle.zcore.specs.Bytes.{word_at}
+use Rattle.ztext.specs.Bytes.{word_at}
 use Rattle.zcore.specs.Header.{IsDictionary, IsDictionaryOf, IsPlaced, Reads, StatesSum, abbreviations_of}
 use Rattle.zcore.specs.Header.{defaults_of, dictionary_of, first_instruction_of, globals_of, high_memory_of, scale_of}
 use Rattle.zcore.specs.Header.{separator_count, entry_length_of, entry_count, static_base_of, version_number}
@@ -16,7 +16,8 @@ use Rattle.meaning.specs.Accepted.{IsAccepted}
 use Rattle.meaning.specs.Places.{defaults_place, dictionary_place, start_place, routines_place, places_of}
 use Rattle.meaning.specs.Resolved.{ProgramOf}
 use Rattle.code.specs.HeldProgram.{start_code}
-use Rattle.story.specs.Layout.{abbreviation_texts, greatest_word, header_of, low_bytes, key_bytes, dictionary_bytes, parts_from}
+use Rattle.story.specs.Layout.{abbreviation_texts, greatest_word, header_of, low_bytes, key_bytes, dictionary_bytes}
+use Rattle.story.specs.Layout.{parts_from}
 use Rattle.story.proofs.Parts.{whole, holds_first, parts_end}
 use Rattle.story.proofs.Entries.{keys_read}
 use Rattle.story.proofs.Low.{word_is, byte_behind, word_behind, low_length, dictionary_stands}
@@ -175,12 +176,14 @@ module _ (version : Version) (p : ProgramOf) (main : ℕ) (parts : List (List �
   pub laid_read : routines_place p ≤ greatest_word → IsAccepted p → Reads laid_out (Ok (header_read version p))
   laid_read placed accepted =
       is_read version p laid_out behind (says version p body)
-      (laid_multiple accepted.defaults.0) placed (omega (arith, laid_length accepted.defaults.0)) accepted.keys accepted.ascending
+      (laid_multiple accepted.defaults.0) placed (omega (arith, laid_length accepted.defaults.0))
+      accepted.keys accepted.ascending
       (dictionary_stands laid_out p high main accepted.defaults.0 (behind_header version p body))
 
   -- the keys of the program
   pub laid_keys : routines_place p ≤ greatest_word → IsAccepted p → ReadsKeys laid_out (dictionary_place p) p.keys
   laid_keys placed accepted =
       are_keys_read version p laid_out behind (says version p body)
-      (laid_multiple accepted.defaults.0) placed (omega (arith, laid_length accepted.defaults.0)) accepted.keys accepted.ascending
+      (laid_multiple accepted.defaults.0) placed (omega (arith, laid_length accepted.defaults.0))
+      accepted.keys accepted.ascending
       (dictionary_stands laid_out p high main accepted.defaults.0 (behind_header version p body))

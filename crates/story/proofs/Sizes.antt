@@ -17,7 +17,7 @@ use Rattle.story.specs.Laws.{IsShort, IsStory, StoriesAreShort}
 use Rattle.story.proofs.Parts.{parts_short, room_for}
 use Rattle.story.proofs.Lengths.{sizes_are}
 use Rattle.story.proofs.Reading.{laid_length}
-use Rattle.story.proofs.Holding.{parts_of, text_lengths}
+use Rattle.story.proofs.PackedParts.{parts_of, text_lengths}
 
 -- room for routines and then for the texts of faults
 room_is : (sizes : Sizes) (rs : List RoutineOf)

@@ -6,10 +6,10 @@ use Rattle.std.specs.Prelude.{◌+◌, ◌-◌, ◌*◌, ◌/◌, ◌%◌, ℕ, 
 use Rattle.std.specs.Prelude.{drop, slice_index, sum}
 use Rattle.std.specs.List.{flat_map, concat}
 use Rattle.byteorder.specs.Endian.{big_bytes}
-use Rattle.zcore.specs.Abbreviations.{most_abbreviations}
+use Rattle.ztext.specs.Abbreviations.{most_abbreviations}
 use Rattle.zcore.specs.declared.header.Version.{Version}
 use Rattle.zcore.specs.Header.{version_number, scale_of}
-use Rattle.zcore.specs.Text.{encoded}
+use Rattle.ztext.specs.Text.{encoded}
 use Rattle.tables.specs.Dictionary as tables
 use Rattle.meaning.specs.declared.places.Places.{Places}
 use Rattle.meaning.specs.Places.{header_size, abbreviations_place, empty_text_place, global_count}
@@ -104,8 +104,9 @@ routine_bytes sizes a r = r.locals ∷ code_bytes sizes a (routine_items r)
 
 abbrev pub packed_addresses : ℕ → ProgramOf → List ℕ
 packed_addresses scale p =
-    map (λ address. address / scale) (addresses_from scale (routines_place p) (map (routine_size (sizes_of p)) p.routines
-    ++ map length fault_texts))
+    map (λ address. address / scale)
+    (addresses_from scale (routines_place p)
+    (map (routine_size (sizes_of p)) p.routines ++ map length fault_texts))
 
 -- an array may stand at every address
 abbrev pub array_addresses : ProgramOf → List ℕ
@@ -119,7 +120,8 @@ addresses_in scale p = record {
 }
 
 abbrev pub high_bytes : ℕ → Addresses → ProgramOf → List ℕ
-high_bytes scale a p = parts_from scale (routines_place p) (map (routine_bytes (sizes_of p) a) p.routines ++ fault_texts)
+high_bytes scale a p =
+    parts_from scale (routines_place p) (map (routine_bytes (sizes_of p) a) p.routines ++ fault_texts)
 
 -- The story
 

@@ -2,9 +2,9 @@
 
 ghost use Rattle.std.specs.Prelude.{◌≡◌, ◌≤◌, ◌+◌, true, IfOk, OnOk, length, map, sum};
 ghost use Rattle.std.specs.List.{All, concat, flat_map, list_all};
-ghost use Rattle.zcore.specs.Abbreviations.{most_abbreviations};
-ghost use Rattle.zcore.specs.Alphabets.{is_printable};
-ghost use Rattle.zcore.specs.Text.{encoded};
+ghost use Rattle.ztext.specs.Abbreviations.{most_abbreviations};
+ghost use Rattle.ztext.specs.Alphabets.{is_printable};
+ghost use Rattle.ztext.specs.Text.{encoded};
 ghost use Rattle.tables.specs.Dictionary.{entry_bytes};
 ghost use Rattle.code.specs.HeldProgram.{start_code};
 ghost use Rattle.meaning.specs.Places as places;

@@ -2,9 +2,9 @@
 
 ghost use Rattle.std.specs.Prelude.{◌≡◌, ◌+◌, ◌-◌, ◌++◌, [], ◌∷◌, true, IfOk, OnOk, length, map, replicate, ℕ, List};
 ghost use Rattle.std.specs.List.{All, list_all};
-ghost use Rattle.zcore.specs.Alphabets.{is_printable};
+ghost use Rattle.ztext.specs.Alphabets.{is_printable};
 ghost use Rattle.zcore.specs.Header.{scale_of};
-ghost use Rattle.zcore.specs.Text.{encoded};
+ghost use Rattle.ztext.specs.Text.{encoded};
 ghost use Rattle.instructions.specs.Written.{addresses_of};
 ghost use Rattle.meaning.specs.Places.{header_size};
 ghost use Rattle.story.specs.Layout as layout;

@@ -13,7 +13,9 @@ use Rattle.expressions.proofs.Limited.{Limited, then, at_once}
 use Rattle.statements.specs.Tree.{LiteralTree, StatementTrees}
 use Rattle.statements.specs.Nesting.{begins_statement}
 use Rattle.statements.specs.Parse.{repeated, named, known_value, begins_value, statements}
-use Rattle.statements.proofs.Complete.{listed, listed_back, at_Ss, repeated_stop, repeated_next}
+use Rattle.statements.proofs.Deepest.{listed, listed_back}
+use Rattle.statements.proofs.Complete.{at_Ss}
+use Rattle.statements.proofs.PartsRead.{repeated_stop, repeated_next}
 use Rattle.statements.proofs.Follow.{short_Ss}
 use Rattle.statements.proofs.KnownValues.{known_read, short_K, begins_K}
 use Rattle.syntax.specs.declared.tree.ArrayKind.{ArrayKind}
@@ -24,10 +26,11 @@ use Rattle.syntax.specs.Grammar.{d_attribute, d_property, d_property_value, d_ob
 use Rattle.syntax.specs.Grammar.{e_abbreviate, IsEntries, entries_stop, entries_next, IsProgram, program as program_is}
 use Rattle.syntax.specs.Grammar.{directive_nesting, directives_nesting, program_nesting}
 use Rattle.syntax.specs.Parse.{names, values, kind, array_behind, ended, global_behind, constant_behind}
-use Rattle.syntax.specs.Parse.{attribute_behind, property_behind, object_behind, worded, goes_on, routine_at, directive}
-use Rattle.syntax.specs.Parse.{parts_of, one_entry, all_entries, entries, program}
+use Rattle.syntax.specs.Parse.{attribute_behind, property_behind, object_behind, worded, goes_on, routine_at}
+use Rattle.syntax.specs.Parse.{directive, parts_of, one_entry, all_entries, entries, program}
 use Rattle.syntax.proofs.Lists.{names_read, short_Names, short_Values, values_read}
-use Rattle.syntax.proofs.ObjectsRead.{short_Head, short_Properties, short_Attributes, object_read}
+use Rattle.syntax.proofs.ObjectsRead.{short_Head, short_Properties, short_Attributes}
+use Rattle.syntax.proofs.ObjectsComplete.{object_read}
 use Rattle.syntax.proofs.TextsRead.{short_Texts, abbreviate_read}
 
 -- ---- directives

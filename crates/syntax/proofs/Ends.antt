@@ -15,7 +15,7 @@ use Rattle.statements.proofs.Sound.{judged_Ss}
 use Rattle.syntax.specs.Answers.{EndsWith}
 use Rattle.syntax.specs.Grammar.{weight_of}
 use Rattle.syntax.specs.Parse.{names}
-use Rattle.syntax.proofs.Spelled.{spelled_Names, spelled_Ss}
+use Rattle.syntax.proofs.SpelledStatements.{spelled_Names, spelled_Ss}
 use Rattle.syntax.proofs.Lists.{names_judged}
 
 count : (ts : List Token) → length (lexemes ts) ≡ length ts

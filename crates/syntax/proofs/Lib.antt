@@ -2,8 +2,11 @@ pub mod NamesRead
 pub mod Arrows
 pub mod Weights
 pub mod Spelled
+pub mod SpelledExpressions
+pub mod SpelledStatements
 pub mod Lists
 pub mod ObjectsRead
+pub mod ObjectsComplete
 pub mod TextsRead
 pub mod EntriesRead
 pub mod Sound

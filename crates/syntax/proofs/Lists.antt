@@ -9,7 +9,7 @@ use Rattle.expressions.proofs.Judged.{Judged, judged_read, judged_grammar, judge
 use Rattle.statements.specs.Parse.{as_long, repeated, named, known_value, begins_value}
 use Rattle.statements.proofs.KnownValues.{known_judged, known_read, short_K, begins_K}
 use Rattle.statements.proofs.NamesRead.{named_judged}
-use Rattle.statements.proofs.Sound.{repeated_judged}
+use Rattle.statements.proofs.SoundRows.{repeated_judged}
 use Rattle.syntax.specs.Tree.{ValueTree}
 use Rattle.syntax.specs.Grammar.{IsNames, names_stop, names_next, IsValue, v_value, IsValues, values_stop, values_next}
 use Rattle.syntax.specs.Parse.{names, some_on, some_names, placed, values}

@@ -8,29 +8,30 @@ use Rattle.lexer.specs.Printable.{IsPrintable, HasPrintableText}
 use Rattle.expressions.specs.Tree.{NameTree, ExpressionTree}
 use Rattle.statements.specs.Tree.{LiteralTree, PrintItemTree, StatementTree, StatementTrees, CaseTrees, LoopTree}
 use Rattle.statements.specs.Tree.{over_all, over_in, over_where, loop_over}
-use Rattle.statements.specs.Grammar.{IsK, k_number, k_negative, k_character, k_word, k_true, k_false, k_nothing, k_name}
-use Rattle.statements.specs.Grammar.{IsOptional, optional_none, optional_some, IsItem, item_text, item_character}
-use Rattle.statements.specs.Grammar.{item_object, item_number, IsItems, items_last, items_comma, IsS, s_empty, s_block}
-use Rattle.statements.specs.Grammar.{s_text, s_print, s_print_ret, s_new_line, s_if, s_if_else, s_while, s_do, s_for}
-use Rattle.statements.specs.Grammar.{s_switch, s_break, s_continue, s_return, s_return_value, s_rtrue, s_rfalse, s_quit}
-use Rattle.statements.specs.Grammar.{s_read, s_give, s_move, s_remove, s_objectloop, s_effect, IsSs, ss_stop, ss_next}
-use Rattle.statements.specs.Grammar.{IsCases, cases_none, cases_default, cases_next}
+use Rattle.statements.specs.Grammar.{IsK, k_number, k_negative, k_character, k_word, k_true, k_false, k_nothing}
+use Rattle.statements.specs.Grammar.{k_name, IsOptional, optional_none, optional_some, IsItem, item_text}
+use Rattle.statements.specs.Grammar.{item_character, item_object, item_number, IsItems, items_last, items_comma, IsS}
+use Rattle.statements.specs.Grammar.{s_empty, s_block, s_text, s_print, s_print_ret, s_new_line, s_if, s_if_else}
+use Rattle.statements.specs.Grammar.{s_while, s_do, s_for, s_switch, s_break, s_continue, s_return, s_return_value}
+use Rattle.statements.specs.Grammar.{s_rtrue, s_rfalse, s_quit, s_read, s_give, s_move, s_remove, s_objectloop}
+use Rattle.statements.specs.Grammar.{s_effect, IsSs, ss_stop, ss_next, IsCases, cases_none, cases_default, cases_next}
 use Rattle.syntax.specs.Tree.{ValueTree, TextTree, PropertyTree, HeadTree, DirectiveTree, EntryTree, directives_of}
 use Rattle.syntax.specs.Tree.{abbreviations_of, ProgramTree}
-use Rattle.syntax.specs.Grammar.{IsNames, IsValue, v_value, IsValues, values_stop, values_next}
-use Rattle.syntax.specs.Grammar.{IsArrows, arrows_stop, arrows_next, IsShort, short_none, short_text, IsHead}
-use Rattle.syntax.specs.Grammar.{head_arrows, head_parent, IsProp, prop_values, IsProps, props_last, props_comma}
-use Rattle.syntax.specs.Grammar.{IsComma, comma_none, comma_one, IsProperties, properties_none, properties_with}
-use Rattle.syntax.specs.Grammar.{IsAttributes, attributes_none, attributes_has, IsDirective, d_global, d_global_value}
-use Rattle.syntax.specs.Grammar.{d_constant, d_array, d_attribute, d_property, d_property_value, d_object, d_routine}
-use Rattle.syntax.specs.Grammar.{IsTexts, texts_stop, texts_next, IsEntry, e_directive, e_abbreviate, IsEntries}
-use Rattle.syntax.specs.Grammar.{entries_stop, entries_next, IsProgram, program}
-use Rattle.syntax.specs.Printable.{IsPrintableItem, IsPrintableStatement, ArePrintableStatements}
-use Rattle.syntax.specs.Printable.{ArePrintableCases, IsPrintableText, IsPrintableName, IsPrintableDirective}
-use Rattle.syntax.specs.Printable.{HasPrintableTexts}
+use Rattle.syntax.specs.Grammar.{IsNames, IsValue, v_value, IsValues, values_stop, values_next, IsArrows, arrows_stop}
+use Rattle.syntax.specs.Grammar.{arrows_next, IsShort, short_none, short_text, IsHead, head_arrows, head_parent}
+use Rattle.syntax.specs.Grammar.{IsProp, prop_values, IsProps, props_last, props_comma, IsComma, comma_none, comma_one}
+use Rattle.syntax.specs.Grammar.{IsProperties, properties_none, properties_with, IsAttributes, attributes_none}
+use Rattle.syntax.specs.Grammar.{attributes_has, IsDirective, d_global, d_global_value, d_constant, d_array}
+use Rattle.syntax.specs.Grammar.{d_attribute, d_property, d_property_value, d_object, d_routine, IsTexts, texts_stop}
+use Rattle.syntax.specs.Grammar.{texts_next, IsEntry, e_directive, e_abbreviate, IsEntries, entries_stop, entries_next}
+use Rattle.syntax.specs.Grammar.{IsProgram, program}
+use Rattle.syntax.specs.Printable.{IsPrintableItem, IsPrintableStatement, ArePrintableStatements, ArePrintableCases}
+use Rattle.syntax.specs.Printable.{IsPrintableText, IsPrintableName, IsPrintableDirective, HasPrintableTexts}
 use Rattle.syntax.specs.Laws.{PrintableTrees}
-use Rattle.syntax.proofs.Spelled.{Spelled, SpelledAbout, spelled_E, spelled_Item, spelled_Labels, spelled_S}
-use Rattle.syntax.proofs.Spelled.{spelled_Ss, spelled_Names, spelled_Loop}
+use Rattle.syntax.proofs.Spelled.{Spelled, SpelledAbout}
+use Rattle.syntax.proofs.SpelledExpressions.{spelled_E}
+use Rattle.syntax.proofs.SpelledStatements.{spelled_Item, spelled_Labels, spelled_S, spelled_Ss, spelled_Names}
+use Rattle.syntax.proofs.SpelledStatements.{spelled_Loop}
 
 -- the texts of tokens print
 record Prints (ts : List Lexeme) : Type 0 where

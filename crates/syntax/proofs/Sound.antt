@@ -15,7 +15,8 @@ use Rattle.statements.specs.Grammar.{IsK, IsSs, body_nesting}
 use Rattle.statements.specs.Parse.{begins_value}
 use Rattle.statements.proofs.KnownValues.{known_judged}
 use Rattle.statements.proofs.NamesRead.{named_judged}
-use Rattle.statements.proofs.Sound.{repeated_judged, judged_Ss}
+use Rattle.statements.proofs.SoundRows.{repeated_judged}
+use Rattle.statements.proofs.Sound.{judged_Ss}
 use Rattle.syntax.specs.declared.tree.ArrayKind.{ArrayKind}
 use Rattle.syntax.specs.Tree.{DirectiveTree, global, constant, array, attribute, property, object, routine}
 use Rattle.syntax.specs.Tree.{EntryTree, entry, abbreviate, directives_of}

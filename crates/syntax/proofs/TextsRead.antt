@@ -8,7 +8,7 @@ use Rattle.expressions.specs.Parse.{head, expect}
 use Rattle.expressions.proofs.Judged.{Judged, judged_read, judged_grammar, judged_then, judged_after}
 use Rattle.expressions.proofs.Tokens.{expect_ok, expect_not_deep}
 use Rattle.statements.specs.Parse.{as_long, repeated}
-use Rattle.statements.proofs.Sound.{repeated_judged}
+use Rattle.statements.proofs.SoundRows.{repeated_judged}
 use Rattle.syntax.specs.Tree.{TextTree, abbreviate}
 use Rattle.syntax.specs.Grammar.{IsTexts, texts_stop, texts_next, IsEntry, e_abbreviate}
 use Rattle.syntax.specs.Parse.{is_text, one_text, texts, abbreviate_behind}

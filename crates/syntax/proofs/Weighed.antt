@@ -8,7 +8,8 @@ use Rattle.syntax.specs.Grammar.{IsDirective, d_global, d_global_value, d_consta
 use Rattle.syntax.specs.Grammar.{d_property_value, d_object, d_routine, e_directive, e_abbreviate, IsEntries}
 use Rattle.syntax.specs.Grammar.{entries_stop, entries_next, IsProgram, program}
 use Rattle.syntax.specs.Laws.{IsWeighed, WeighedRoutines}
-use Rattle.syntax.proofs.Spelled.{spelled_Names, weighs, spelled_Ss, weighs_about}
+use Rattle.syntax.proofs.SpelledStatements.{spelled_Names, spelled_Ss}
+use Rattle.syntax.proofs.Spelled.{weighs, weighs_about}
 
 directive_weighed : {ts r : List Lexeme} {d : DirectiveTree} → IsDirective ts d r → IsWeighed d
 directive_weighed d_global = tt

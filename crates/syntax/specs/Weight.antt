@@ -9,7 +9,8 @@ use Rattle.expressions.specs.Tree.{step_before, step_after, binary, compare, equ
 use Rattle.expressions.specs.Tree.{more}
 use Rattle.statements.specs.Tree.{LiteralTree, RangeTree, PrintItemTree, text_item, character_item, object_item}
 use Rattle.statements.specs.Tree.{number_item, StatementTree, StatementTrees, CaseTrees, empty, block, text_alone}
-use Rattle.statements.specs.Tree.{print, print_return, new_line, if_then, if_else, while_do, do_until, for_loop, switch_on}
+use Rattle.statements.specs.Tree.{print, print_return, new_line, if_then, if_else, while_do, do_until, for_loop}
+use Rattle.statements.specs.Tree.{switch_on}
 use Rattle.statements.specs.Tree.{break_at, continue_at, return_alone, return_value, return_true, return_false, quit}
 use Rattle.statements.specs.Tree.{read_line, give, move, remove, each, each_in, each_where, effect, stop, next, no_case}
 use Rattle.statements.specs.Tree.{default_case, case}

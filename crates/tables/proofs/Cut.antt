@@ -150,8 +150,11 @@ words_cut separators run (c ∷ cs) from letters =
         let e : words_from separators from run (c ∷ cs)
         ≡ with_run from run (w ∷ words_from separators (from + length run + 1) [] cs) = rw (a, b) refl in
         let cut : IsCut separators (from + length run) (c ∷ cs)
-        (w ∷ words_from separators (from + length run + 1) [] cs) =
-        (cs, record { spaces = []; blank = tt; parts = refl; place = omega arith; word = inl (c, refl, a, b) }, after) in
+        (w ∷ words_from separators (from + length run + 1) [] cs) = (
+          cs,
+          record { spaces = []; blank = tt; parts = refl; place = omega arith; word = inl (c, refl, a, b) },
+          after,
+        ) in
         subst (IsCut separators from (run ++ c ∷ cs)) (sym e)
         (cut_run separators run (c ∷ cs) from _ letters (or_right (c == 32) (is_among separators c) b) cut)
     by_kind after on (inr a) (inr b) =

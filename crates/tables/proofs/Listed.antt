@@ -7,11 +7,11 @@ use Rattle.std.specs.List.{All, flat_map}
 use Rattle.std.proofs.lemmas.Bool.{cases_eq, eq-eqb, ne_eqb, lt-ltb, le-ltb, le-leb}
 use Rattle.std.proofs.lemmas.List.{length-take, length-drop}
 use Rattle.std.proofs.lemmas.List.Elements.{All-head, All-tail}
-use Rattle.zcore.specs.Bytes.{word_at}
-use Rattle.zcore.specs.Text.{Holds}
+use Rattle.ztext.specs.Bytes.{word_at}
+use Rattle.ztext.specs.Text.{Holds}
 use Rattle.zcore.specs.Properties.{Property, Standing, Terminator, Listed, Beyond, long_size, standing, found_at}
 use Rattle.zcore.specs.Properties.{found_in}
-use Rattle.zcore.proofs.Holding.{holds_byte, holds_append}
+use Rattle.ztext.proofs.Holding.{holds_byte, holds_append}
 use Rattle.tables.specs.declared.fault.TableRead.TheVariants.{Outside}
 use Rattle.tables.specs.Objects.{data_of, counted_at, counted_in}
 use Rattle.tables.specs.Rows.{RowProperty, word, property_bytes, list_bytes, IsProperty, data_written}

@@ -4,11 +4,11 @@ use Rattle.std.proofs.Common.{Some, Ok, refl, ap, ◌∙◌, arith}
 use Rattle.std.specs.Prelude.{slice_get}
 use Rattle.std.specs.List.{list_all}
 use Rattle.std.proofs.lemmas.Bool.{and_parts}
-use Rattle.zcore.specs.Alphabets.{is_printable}
-use Rattle.zcore.specs.Text.{Holds, encoded}
-use Rattle.zcore.specs.Words.{packed}
-use Rattle.zcore.proofs.Spelling.{AreBytes}
-use Rattle.zcore.proofs.RoundTrip.{round_trip}
+use Rattle.ztext.specs.Alphabets.{is_printable}
+use Rattle.ztext.specs.Text.{Holds, encoded}
+use Rattle.ztext.specs.Words.{packed}
+use Rattle.ztext.proofs.Spelling.{AreBytes}
+use Rattle.ztext.proofs.RoundTrip.{round_trip}
 use Rattle.tables.specs.declared.fault.TableFault.{TableFault}
 use Rattle.tables.specs.declared.fault.TableFault.TheVariants.{NameTooLong, TooLarge, Memory}
 use Rattle.tables.specs.declared.row.ObjectRow.{ObjectRow}

@@ -7,11 +7,11 @@ use Rattle.std.specs.List.{All, flat_map}
 use Rattle.std.proofs.lemmas.Bool.{lt-ltb, le-leb, and_from}
 use Rattle.std.proofs.lemmas.List.{length-append}
 use Rattle.std.proofs.lemmas.List.Elements.{All-head, All-tail}
-use Rattle.zcore.specs.Bytes.{word_at}
-use Rattle.zcore.specs.Text.{Holds}
+use Rattle.ztext.specs.Bytes.{word_at}
+use Rattle.ztext.specs.Text.{Holds}
 use Rattle.zcore.specs.Entries.{object_entry, has_entry, attribute_place, is_set}
 use Rattle.zcore.specs.Properties.{list_start}
-use Rattle.zcore.proofs.Holding.{holds_byte, holds_append}
+use Rattle.ztext.proofs.Holding.{holds_byte, holds_append}
 use Rattle.tables.specs.declared.fault.TableRead.TheVariants.{Object, Outside}
 use Rattle.tables.specs.declared.row.ObjectRow.{ObjectRow}
 use Rattle.tables.specs.Objects.{property_from, count_from, start_at, start_of}
@@ -129,7 +129,8 @@ row_read story table i row h =
     (le-leb (at + 14) (length story) f.inside) in
     let name = holds_byte story h.place (name_words row.name.items)
     (name_bytes row.name.items ++ list_bytes row.properties.items) h.table in
-    let list = holds_append story (h.place + 1) (name_bytes row.name.items) (list_bytes row.properties.items) name.rest in
+    let list = holds_append story (h.place + 1) (name_bytes row.name.items) (list_bytes row.properties.items)
+    name.rest in
     let is_list : h.place + 1 + length (name_bytes row.name.items) ≡ list_start story h.place =
     ap (λ n. h.place + 1 + n) (sym (name_even row.name.items)) ∙ ap (λ n. h.place + 1 + 2 * n) (sym name.here) in
     let held = subst (λ k. Holds story k (list_bytes row.properties.items)) is_list list.1 in

@@ -1,9 +1,9 @@
 -- The definitions at worked examples.
 use Rattle.std.proofs.Common.{◌≡◌, ◌++◌, ℕ, List, [], ◌∷◌, true, Some, None, refl}
 use Rattle.std.specs.Prelude.{codes, replicate}
-use Rattle.zcore.specs.Alphabets.{spelling_of}
-use Rattle.zcore.specs.Words.{packed}
-use Rattle.zcore.specs.Text.{encoded, key_of}
+use Rattle.ztext.specs.Alphabets.{spelling_of}
+use Rattle.ztext.specs.Words.{packed}
+use Rattle.ztext.specs.Text.{encoded, key_of}
 use Rattle.zcore.specs.Cutting.{words_of}
 use Rattle.zcore.specs.Dictionary.{number_of_key}
 use Rattle.zcore.specs.Entries.{Child, place_of, is_set, named_from}

@@ -8,10 +8,10 @@ use Rattle.std.specs.List.Sorted.{IsStrictlyIncreasing}
 use Rattle.std.proofs.lemmas.Bool.{eq-eqb, ne_eqb}
 use Rattle.std.proofs.lemmas.List.{get_or-take, get_or-drop, length-map, get_or_append_left, length-append}
 use Rattle.byteorder.specs.Endian.{big_from}
-use Rattle.zcore.specs.Bytes.{word_at}
+use Rattle.ztext.specs.Bytes.{word_at}
 use Rattle.zcore.specs.Header.{separator_count, entry_length_of, entry_count, first_entry, static_end, key_at}
-use Rattle.zcore.specs.Text.{Holds}
-use Rattle.zcore.proofs.Holding.{holds_append}
+use Rattle.ztext.specs.Text.{Holds}
+use Rattle.ztext.proofs.Holding.{holds_append}
 use Rattle.zcore.specs.Dictionary.{number_of_key, entry_in, entry_of}
 use Rattle.tables.specs.Dictionary.{head_bytes, entry_bytes, dictionary_bytes, place_in, ReadsKeys}
 use Rattle.tables.specs.Laws.{NumbersAreByRank}

@@ -6,7 +6,7 @@ use Rattle.std.specs.List.{flat_map}
 use Rattle.zcore.specs.Dictionary.{entry_of}
 use Rattle.zcore.specs.Header.{separator_count, entry_length_of, entry_count, first_entry, key_at, static_end}
 use Rattle.zcore.specs.Header.{IsDictionary}
-use Rattle.zcore.specs.Text.{Holds}
+use Rattle.ztext.specs.Text.{Holds}
 use Rattle.tables.specs.declared.fault.TableFault.{TableFault}
 use Rattle.tables.specs.declared.fault.TableFault.TheVariants.{NameTooLong, TooLarge, Memory}
 

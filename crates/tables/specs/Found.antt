@@ -2,7 +2,7 @@
 use Rattle.std.specs.Prelude.{◌≡◌, ◌+◌, ◌<◌, ◌≤◌, ◌⊎◌, ℕ, true, false, List, length, slice_range, Option, Some, None}
 use Rattle.std.specs.Prelude.{Result, Ok, Err}
 use Rattle.std.specs.List.{All}
-use Rattle.zcore.specs.Bytes.{word_at}
+use Rattle.ztext.specs.Bytes.{word_at}
 use Rattle.zcore.specs.Entries.{has_entry, properties_place}
 use Rattle.zcore.specs.Properties.{Property, Standing, Terminator, Listed, Beyond, standing, list_start, AreListed}
 use Rattle.tables.specs.declared.fault.TableRead.{TableRead}

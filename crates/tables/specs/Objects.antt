@@ -1,7 +1,7 @@
 -- Object tables as they are read (Z-Machine Standards Document 1.1, section 12).
 use Rattle.std.specs.Prelude.{◌+◌, ℕ, zero, suc, nat_le, nat_lt, Bool, if◌then◌else◌, List, length, slice_index}
 use Rattle.std.specs.Prelude.{slice_range, Option, Some, None, Result, Ok, Err}
-use Rattle.zcore.specs.Bytes.{word_at}
+use Rattle.ztext.specs.Bytes.{word_at}
 use Rattle.zcore.specs.Entries.{Link, owner, place_of, object_entry, has_entry, properties_place}
 use Rattle.zcore.specs.Entries.{attribute_place, is_set}
 use Rattle.zcore.specs.Properties.{Standing, Terminator, Listed, Beyond, standing, list_start, property_in}

@@ -3,9 +3,9 @@ use Rattle.std.specs.Prelude.{◌≡◌, ◌==◌, ◌+◌, ◌*◌, ◌/◌, �
 use Rattle.std.specs.Prelude.{length, slice_get, slice_index, Option, Some, None, Ok}
 use Rattle.std.specs.Global.{Vec}
 use Rattle.std.specs.List.{All, flat_map, list_all}
-use Rattle.zcore.specs.Alphabets.{is_printable}
-use Rattle.zcore.specs.Bytes.{word_at}
-use Rattle.zcore.specs.Text.{encoded, decoded}
+use Rattle.ztext.specs.Alphabets.{is_printable}
+use Rattle.ztext.specs.Bytes.{word_at}
+use Rattle.ztext.specs.Text.{encoded, decoded}
 use Rattle.zcore.specs.Entries.{Parent, Sibling, Child, properties_place, is_set}
 use Rattle.tables.specs.declared.fault.TableFault.{TableFault}
 use Rattle.tables.specs.declared.fault.TableFault.TheVariants.{NameTooLong, TooLarge, Memory}

@@ -1,7 +1,7 @@
 //! The entries of an object table (Z-Machine Standards Document 1.1, section 12.3).
 
 ghost use Rattle.std.specs.Prelude.{◌≡◌, ◌<◌, ◌≤◌, ◌+◌, ℕ, length};
-ghost use Rattle.zcore.specs.Bytes.{word_at};
+ghost use Rattle.ztext.specs.Bytes.{word_at};
 ghost use Rattle.zcore.specs.Entries.{Parent, Sibling, Child, object_entry, has_entry, place_of, properties_place, attribute_place, is_set};
 ghost use Rattle.tables.specs.Links.{as_link};
 ghost use Rattle.tables.specs.Objects.{word_of_entry, link_of, attribute_of};

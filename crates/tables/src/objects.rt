@@ -2,8 +2,8 @@
 
 ghost use Rattle.std.specs.Prelude.{◌≡◌, ◌≤◌, ◌<◌, ◌+◌, ◌++◌, ℕ, List, true, OnOk, IfOk, IfErr, length};
 ghost use Rattle.std.specs.List.{All, flat_map, list_all};
-ghost use Rattle.zcore.specs.Alphabets.{is_printable};
-ghost use Rattle.zcore.specs.Text.{Holds};
+ghost use Rattle.ztext.specs.Alphabets.{is_printable};
+ghost use Rattle.ztext.specs.Text.{Holds};
 ghost use Rattle.tables.specs.Rows as written;
 ghost use Rattle.tables.specs.Rows.{IsProperty, IsRow, RefusesName, RefusesRows, HasShortName, ReadsRows, objects_length};
 

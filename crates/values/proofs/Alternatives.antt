@@ -23,7 +23,8 @@ use Rattle.values.specs.Writing.{Written, wanted_items, pushes, first_operand, s
 use Rattle.values.specs.Writing.{link_of, IsCondition, ReducesTruth, ReducesLinks, ReducesLink, ReducesEquality}
 use Rattle.values.proofs.Counts.{value_length, operands_length}
 use Rattle.values.proofs.WrittenItems.{one, both, as_items, then_one, after_one}
-use Rattle.values.proofs.Values.{pushes_length, links_next}
+use Rattle.values.proofs.OperationForms.{links_next}
+use Rattle.values.proofs.Values.{pushes_length}
 
 -- one instruction does, or it does not
 few_or_not : (n : ℕ) → nat_lt n 3 ≡ nat_le (n + 1) 3

@@ -1,9 +1,11 @@
+pub mod CountedForms
 pub mod Counts
 pub mod Trees
 pub mod Drafts
 pub mod Operands
 pub mod WrittenItems
 pub mod Reductions
+pub mod OperationForms
 pub mod Values
 pub mod Assigned
 pub mod Alternatives

@@ -13,15 +13,15 @@ use Rattle.zcore.specs.declared.place.Fault.TheVariants as faults
 use Rattle.zcore.specs.declared.instruction.Operation.{Operation}
 use Rattle.zcore.specs.declared.instruction.Operand.{Operand}
 use Rattle.zcore.specs.declared.instruction.Operand.TheVariants.{Large, Small, Variable}
-use Rattle.zcore.specs.Text.{Holds}
+use Rattle.ztext.specs.Text.{Holds}
 use Rattle.zcore.specs.Operations.{two_operand, one_operand, no_operand, several_operand}
 use Rattle.zcore.specs.Operations.{least_operands, most_operands, has_more_types}
-use Rattle.zcore.specs.Results.{◌>>=◌}
+use Rattle.ztext.specs.Results.{◌>>=◌}
 use Rattle.zcore.specs.Instruction.{Opcode, byte, large, operand, operands, types_of, given_types}
 use Rattle.zcore.specs.Instruction.{opcode_of, long_form, short_form, variable_types, variable_form, opcode}
 use Rattle.zcore.specs.Instruction.{type_of, operand_bytes, types_byte}
 use Rattle.zcore.specs.Instruction.{types_to_write, types_bytes, variable_bytes}
-use Rattle.zcore.proofs.Holding.{holds_byte, holds_append}
+use Rattle.ztext.proofs.Holding.{holds_byte, holds_append}
 
 -- a part that was read, and what is read after it
 pub then_ok : {A B : Type 0} (r : Result A Fault) (a : A) (k : A → Result B Fault) (z : Result B Fault) → r ≡ Ok a

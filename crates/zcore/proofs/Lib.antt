@@ -1,16 +1,3 @@
-pub mod Packing
-pub mod TextSizes
-pub mod Longest
-pub mod Spelling
-pub mod Causes
-pub mod Fronts
-pub mod Loops
-pub mod Keys
-pub mod RoundTrip
-pub mod Shortening
-pub mod Printable
-mod Samples
-mod AbbreviationSamples
 mod ObjectSamples
 pub mod KeepingReads
 pub mod Keeping
@@ -20,16 +7,21 @@ pub mod TextAhead
 pub mod FallsOfParts
 pub mod FallsOfEffects
 pub mod FallsOfObjects
+pub mod FallsOfOperations
 pub mod Falls
 pub mod Turning
+pub mod WaitingTests
 pub mod WaitingParts
 pub mod WaitingEffects
+pub mod WaitingObjectParts
 pub mod WaitingObjects
+pub mod WaitingOperations
 pub mod Waiting
-pub mod Holding
 pub mod Searching
 pub mod EncodingParts
+pub mod EncodingOpcodes
 pub mod Encoding
 mod SmallRuns
+mod BranchRuns
 mod Runs
 mod LineSamples

@@ -1,9 +1,9 @@
 -- A line that is given to a machine, computed.
 use Rattle.std.proofs.Common.{◌≡◌, List, [], ◌∷◌, ◌++◌, take, drop, refl, true, false}
 use Rattle.std.specs.Prelude.{ℕ, codes, replicate}
-use Rattle.zcore.specs.Alphabets.{spelling_of}
-use Rattle.zcore.specs.Words.{packed}
-use Rattle.zcore.specs.Text.{key_of}
+use Rattle.ztext.specs.Alphabets.{spelling_of}
+use Rattle.ztext.specs.Words.{packed}
+use Rattle.ztext.specs.Text.{key_of}
 use Rattle.zcore.specs.Header.{key_at}
 use Rattle.zcore.specs.Cutting.{words_of}
 use Rattle.zcore.specs.Dictionary.{number_of_key, entry_of}

@@ -22,9 +22,9 @@ use Rattle.zcore.specs.Parts.{read_global, write_global, read_variable, write_va
 use Rattle.zcore.specs.Parts.{operand_value, operand_values, test_result, store_result, test_target, spend, go}
 use Rattle.zcore.specs.Parts.{test_return, give_back}
 use Rattle.zcore.specs.Parts.{print}
-use Rattle.zcore.specs.Text.{decoded, abbreviation}
-use Rattle.zcore.specs.Reading.{reads}
-use Rattle.zcore.specs.Words.{unpacked_text}
+use Rattle.ztext.specs.Text.{decoded, abbreviation}
+use Rattle.ztext.specs.Reading.{reads}
+use Rattle.ztext.specs.Words.{unpacked_text}
 use Rattle.zcore.specs.Arithmetic.{remainder, decimal, signed_text}
 
 -- Version 5; globals at 64, defaults at 544, the dictionary at 670, code from 677 on.
@@ -208,6 +208,10 @@ with_words stack = record { memory = []; frames = frame_with stack ∷ []; pendi
 
 abbrev one_word : ℕ → State
 one_word word = with_words (word ∷ [])
+
+-- with 100 bytes of memory, and one word on the stack of the first environment
+abbrev pub one_top : ℕ → State
+one_top word = record { memory = replicate 100 0; frames = frame_with (word ∷ []) ∷ []; pending = None; text = [] }
 
 -- a routine runs, whose result goes to the stack of its caller, at address 99
 abbrev pub in_routine : State

@@ -1,12 +1,3 @@
-pub mod Bytes
-pub mod Alphabets
-pub mod Results
-pub mod Reading
-pub mod Words
-pub mod Text
-pub mod Abbreviations
-pub mod Faults
-pub mod Fronts
 pub mod Header
 pub mod Operations
 pub mod Instruction
@@ -24,4 +15,3 @@ pub mod Dictionary
 pub mod Parsing
 pub mod Turn
 pub mod Laws
-pub mod TextParts

@@ -2,7 +2,7 @@
 use Rattle.std.specs.Prelude.{◌+◌, ◌/◌, ◌%◌, ℕ, List, [], ◌∷◌, length, take, slice_range}
 use Rattle.std.specs.List.{flat_map}
 use Rattle.zcore.specs.Header.{separator_count}
-use Rattle.zcore.specs.Text.{key_of}
+use Rattle.ztext.specs.Text.{key_of}
 use Rattle.zcore.specs.Cutting.{Word, words_of}
 use Rattle.zcore.specs.Dictionary.{number_of_key, entry_of}
 

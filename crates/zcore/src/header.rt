@@ -3,9 +3,9 @@
 ghost use Rattle.std.specs.Prelude.{◌≡◌, ℕ, ◌+◌, ◌*◌, ◌%◌, ◌<◌, ◌≤◌, ◌↔◌, IsTrue, MatchOption, length, drop, sum};
 ghost use Rattle.zcore.specs.Header.{scale_of, static_end, key_at, HasHeader, IsOfVersion, IsKnownVersion, StatesLength, StatesSum, IsWithin, IsPlaced, AreAscending, IsDictionary, IsDictionaryOf, Reads};
 
-use crate::bytes::read_word;
 use byteorder::{BigEndian, ByteOrder};
 use thiserror::Error;
+use ztext::read_word;
 
 /// Where the header ends and a story's tables may begin (Z-Machine Standards Document 1.1, section 1.1.1.1).
 const HEADER_LENGTH: usize = 64;

@@ -26,7 +26,8 @@ returns-clause-value c =
     c.in_ok-found.ensures.found
     (c.in_ok-defaults.ensures ∙ ap (λ (ws : List ℕ). all_defaults ws) c.deref-4.ensures.value)
     c.in_ok-parents.ensures.value
-    (ap (λ (os : List CheckedObject). map object_of os) (take_exact c.place.new.objects _ c.in_ok-found.found.objects.len count)
+    (ap (λ (os : List CheckedObject). map object_of os)
+    (take_exact c.place.new.objects _ c.in_ok-found.found.objects.len count)
     ∙ c.place.ensures
     ∙ ap (λ (ps : List ℕ). placed ps (map object_of c.deref_mut.result.now)) c.deref-3.ensures.value
     ∙ ap (λ (os : List CheckedObject). placed c.in_ok-parents.parents.items (map object_of os))
@@ -41,7 +42,8 @@ returns-clause-breaches c =
     (ap (λ (f : File). f.table) c.requires.file ∙ file_table (program_tree c.args.program.now))
     (c.in_ok-found.ensures.breaches
     ∙ ap (λ (ds : List Directive). noted c.args.least.now
-    (directives_breaches c.args.file.table.entries first_table no_counts (map directive_tree ds))) c.deref.ensures.value)
+    (directives_breaches c.args.file.table.entries first_table no_counts (map directive_tree ds)))
+    c.deref.ensures.value)
     (c.in_ok-parents.ensures.breaches
     ∙ ap (λ (ds : List Directive). noted c.all_directives.new.least
     (standing_breaches c.args.file.table.entries (object_trees (map directive_tree ds)))) c.deref-2.ensures.value)

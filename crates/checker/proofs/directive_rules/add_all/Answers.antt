@@ -20,9 +20,11 @@ loop-one-preserved c = record {
       c.args.found.now c.loop-one.found c.directive.new.found c.loop-one-test.true c.one-item.is
       c.in_ok-directive.ensures.added c.loop-one.invariant.adding;
   least = breaches_step c.args.file.now.table.entries c.loop-one.names.table.entries c.add.new.self.table.entries
-      c.loop-one.names.counts c.add.new.self.counts c.loop-one.least c.directive.new.least c.args.directives.now c.loop-one.one-index c.one-item.result
+      c.loop-one.names.counts c.add.new.self.counts c.loop-one.least c.directive.new.least c.args.directives.now
+      c.loop-one.one-index c.one-item.result
       c.loop-one-test.true c.one-item.is
-      c.in_ok-directive.ensures.breaches c.in_ok-add.ensures.table c.in_ok-add.ensures.counts ∙ c.loop-one.invariant.least;
+      c.in_ok-directive.ensures.breaches c.in_ok-add.ensures.table c.in_ok-add.ensures.counts
+      ∙ c.loop-one.invariant.least;
 }
 
 pub returns-clause-added : goal.returns-clause-added

@@ -5,7 +5,7 @@ use Rattle.syntax.specs.Tree.{directive_tree, optional_tree}
 use Rattle.statements.specs.Tree.{literal_tree}
 use Rattle.syntax.specs.Tree.{array_tree, object_tree, routine_tree}
 use Rattle.names.specs.Noted.{noted}
-use Rattle.rules.specs.Literals.{named_breaches}
+use Rattle.value_rules.specs.Literals.{named_breaches}
 use Rattle.checker.specs.Arrays.{array_breaches}
 use Rattle.checker.specs.Programs.{twice, routine_breaches, directive_breaches}
 use Rattle.names.specs.Scope.{file_in}

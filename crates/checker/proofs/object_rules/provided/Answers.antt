@@ -7,7 +7,7 @@ use Rattle.names.specs.declared.binding.Binding.{Binding}
 use Rattle.names.specs.Names.{key_of, in_table}
 use Rattle.names.specs.Noted.{noted}
 use Rattle.names.proofs.Noted.{noted_two}
-use Rattle.rules.specs.Expressions.{property_breaches}
+use Rattle.value_rules.specs.Expressions.{property_breaches}
 use Rattle.checker.specs.Objects.{count_breaches, value_breaches}
 use Rattle.checker.proofs.object_rules.provided.Goals as goal
 

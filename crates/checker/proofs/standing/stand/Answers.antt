@@ -12,7 +12,8 @@ pub returns-clause-breaches : goal.returns-clause-breaches
 returns-clause-breaches c =
     let arrows : List Position = c.args.object.now.arrows.items in
     let chain : Open = c.args.chain.now.items in
-    let count : c.len-arrows.result ≡ length arrows = omega (arith, c.len-arrows.ensures, c.args.object.now.arrows.ok.0) in
+    let count : c.len-arrows.result ≡ length arrows =
+    omega (arith, c.len-arrows.ensures, c.args.object.now.arrows.ok.0) in
     let above : c.copied-above.result ≡ above_of (length arrows) chain = c.copied-above.ensures ∙ c.last.ensures.value
     ∙ ap (λ (z : Open). slice_get z (length z - 1))
     (c.deref.ensures.value ∙ c.close.ensures ∙ ap (λ (k : ℕ). open_to k chain) count) in

@@ -6,7 +6,8 @@ use Rattle.syntax.specs.Tree.{DirectiveTree, directive_tree}
 use Rattle.names.specs.Scope.{file_in}
 use Rattle.checker.specs.Programs.{arrays_of}
 use Rattle.names.proofs.Dropped.{drop_end}
-use Rattle.checker.proofs.Directives.{bytes_more, list_step, nothing_more}
+use Rattle.checker.proofs.Mapped.{nothing_more}
+use Rattle.checker.proofs.DirectiveLists.{bytes_more, list_step}
 use Rattle.checker.proofs.table_bytes.add_arrays.Goals as goal
 
 pub loop-one-preserved : goal.loop-one-preserved

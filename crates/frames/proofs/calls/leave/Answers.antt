@@ -1,6 +1,6 @@
 use Rattle.std.proofs.Common.{◌<◌, ◌∙◌, length, arith}
 use Rattle.frames.proofs.Lists.{wrote_three}
-use Rattle.frames.proofs.Entering.{leave_went}
+use Rattle.frames.proofs.Leaving.{leave_went}
 use Rattle.frames.proofs.calls.leave.Goals as goal
 
 pub returns : goal.returns

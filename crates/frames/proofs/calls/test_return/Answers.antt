@@ -1,7 +1,7 @@
 use Rattle.std.proofs.Common.{ap, sym, ◌∙◌}
 use Rattle.zcore.specs.Parts.{is_code}
 use Rattle.frames.specs.Contents.{memory_of}
-use Rattle.frames.proofs.Entering.{Backs, returns_none, back_stopped, back_outside, back_went}
+use Rattle.frames.proofs.Leaving.{Backs, returns_none, back_stopped, back_outside, back_went}
 use Rattle.frames.proofs.Steps.{went_err}
 use Rattle.frames.proofs.calls.test_return.Goals as goal
 

@@ -1,7 +1,7 @@
 use Rattle.std.proofs.Common.{◌≡◌, ap, ◌∙◌, arith, length, take, map, slice_index}
 use Rattle.std.proofs.lemmas.List.{length-take-le, take_min, length-map}
 use Rattle.zcore.specs.State.{Pending}
-use Rattle.zcore.specs.Text.{lower_case}
+use Rattle.ztext.specs.Text.{lower_case}
 use Rattle.frames.specs.Contents.{memory_of}
 use Rattle.frames.specs.States.{variable_of}
 use Rattle.frames.proofs.Kept.{length-memory}

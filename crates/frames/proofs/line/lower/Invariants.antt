@@ -1,5 +1,5 @@
 use Rattle.std.proofs.Common.{◌≡◌, take, map, length}
-use Rattle.zcore.specs.Text.{lower_case}
+use Rattle.ztext.specs.Text.{lower_case}
 use Rattle.frames.proofs.line.lower.Given as goal
 
 abbrev pub invariant-loop-i : goal.invariant-loop-i

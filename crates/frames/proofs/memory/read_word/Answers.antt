@@ -1,5 +1,5 @@
 use Rattle.std.proofs.Common.{ap, sym, ◌∙◌, ◌+◌, ◌&&◌}
-use Rattle.zcore.specs.Bytes.{word_at}
+use Rattle.ztext.specs.Bytes.{word_at}
 use Rattle.zcore.specs.Parts.{is_readable}
 use Rattle.frames.specs.Contents.{memory_of}
 use Rattle.frames.proofs.Bytes.{read_word_went, read_word_none, word_inside}

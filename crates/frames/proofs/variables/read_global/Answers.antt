@@ -1,5 +1,5 @@
 use Rattle.std.proofs.Common.{◌+◌, ◌-◌, ◌*◌, ◌∙◌, ap, arith, length}
-use Rattle.zcore.specs.Bytes.{word_at}
+use Rattle.ztext.specs.Bytes.{word_at}
 use Rattle.frames.specs.Contents.{memory_of}
 use Rattle.frames.proofs.Bytes.{global_inside, read_global_went}
 use Rattle.frames.proofs.variables.read_global.Goals as goal

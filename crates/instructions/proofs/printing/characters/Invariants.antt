@@ -1,7 +1,7 @@
 use Rattle.std.proofs.Common.{◌≡◌, ◌++◌, drop}
 use Rattle.std.specs.Prelude.{map}
 use Rattle.std.specs.List.{filter}
-use Rattle.zcore.specs.Alphabets.{is_printable}
+use Rattle.ztext.specs.Alphabets.{is_printable}
 use Rattle.instructions.specs.Bytes.{character_of}
 use Rattle.instructions.proofs.printing.characters.Given as goal
 

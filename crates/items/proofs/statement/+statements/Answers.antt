@@ -64,24 +64,11 @@ put_statement-returns-in_ok-put_prints-in-PrintReturn t c =
     (map printed_of c.in-PrintReturn.items.items) c.in_ok-put_end_of_line-in-PrintReturn.ensures
     (subst Q c.deref-in-PrintReturn.ensures.value c.in_ok-put_prints-in-PrintReturn.ensures))
 
-pub put_statement-returns-in_ok-put_value-in-IfElse : goal.put_statement-returns-in_ok-put_value-in-IfElse
-put_statement-returns-in_ok-put_value-in-IfElse t c =
-    let x = c.in-IfElse in
-    let P : Action → Type 0 = λ a. Written (written_in c.args.draft.now) (written_in c.put_value.new.draft)
-    (λ n at. action_items (exits_of n c.args.exits) at a) in
-    let Q : code_action.Action → Type 0 =
-    λ s. Written (written_in c.args.draft.now) (written_in c.put_statement.new.draft)
-    (λ n at. action_items (exits_of n c.args.exits) at (action_of s)) in
-    let R : code_action.Action → Type 0 = λ s. Written (written_in c.put-in-IfElse.new.draft)
-    (written_in c.put_statement-in-IfElse.new.draft)
-    (λ n at. action_items (exits_of n c.args.exits) at (action_of s)) in
-    subst P (sym (if_else_is _ _ _ _ x.is))
-    (else_more _ _ _ _ _ c.args.exits (value_of x.test) (action_of x.then.value)
-    (action_of x.otherwise.value) c.written-end.result c.written-next.result
-    c.written-end.ensures (subst Q c.deref-in-IfElse.ensures c.in_ok-put_statement-in-IfElse.ensures)
-    c.written-next.ensures c.in_ok-put-in-IfElse.ensures
-    (subst R c.deref-in-IfElse-2.ensures c.in_ok-put_statement-in-IfElse-2.ensures)
-    c.in_ok-put_value-in-IfElse.ensures)
+pub put_if_else-returns : goal.put_if_else-returns
+put_if_else-returns t c = else_more _ _ _ _ _ c.args.exits (value_of c.args.test.now) (action_of c.args.then.now)
+    (action_of c.args.otherwise.now) c.written-end.result c.written-next.result c.written-end.ensures
+    c.in_ok-put_statement.ensures c.written-next.ensures c.in_ok-put.ensures c.in_ok-put_statement-2.ensures
+    c.in_ok-put_value.ensures
 
 pub put_statement-returns-in_ok-put_while-in-While : goal.put_statement-returns-in_ok-put_while-in-While
 put_statement-returns-in_ok-put_while-in-While t c =

@@ -20,6 +20,14 @@ decreases-put_statement l = 8 * goal.size-put_statement l
 abbrev pub decreases-put_if : goal.decreases-put_if
 decreases-put_if l = 8 * goal.size-put_if l + 2
 
+-- the measure that is offered goes by what the test guards alone
+abbrev pub decreases-put_if_else : goal.decreases-put_if_else
+decreases-put_if_else l = 8 * max
+    (goal.size-put_statement
+    (record { the-lifetimes = ([], ([], ([], tt))); draft = l.draft; exits = l.exits; statement = l.then }))
+    (goal.size-put_statement
+    (record { the-lifetimes = ([], ([], ([], tt))); draft = l.draft; exits = l.exits; statement = l.otherwise })) + 2
+
 abbrev pub decreases-put_while : goal.decreases-put_while
 decreases-put_while l = 8 * goal.size-put_while l + 2
 

@@ -1,6 +1,6 @@
 use Rattle.std.proofs.Common.{◌≡◌, ◌≤◌, ◌+◌, ◌*◌, drop, length}
 use Rattle.std.specs.Prelude.{map}
-use Rattle.zcore.specs.Alphabets.{spelled}
+use Rattle.ztext.specs.Alphabets.{spelled}
 use Rattle.meaning.specs.Places.{machine_character}
 use Rattle.meaning.proofs.table_sizes.name_characters.Given as goal
 

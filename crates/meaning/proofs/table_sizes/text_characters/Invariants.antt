@@ -1,5 +1,5 @@
 use Rattle.std.proofs.Common.{◌≡◌, ◌≤◌, ◌+◌, ◌*◌, drop, length}
-use Rattle.zcore.specs.Alphabets.{spelled}
+use Rattle.ztext.specs.Alphabets.{spelled}
 use Rattle.meaning.proofs.table_sizes.text_characters.Given as goal
 
 abbrev pub invariant-loop-character : goal.invariant-loop-character

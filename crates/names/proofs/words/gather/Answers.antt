@@ -33,7 +33,8 @@ returns c =
     ∙ c.loop-word.invariant in
     let made = subst (λ keys. IfOk c.collect.result (λ v. v.items ≡ keys)) all
     (items_from_collect c.collect.result c.collect.ensures.ran
-    (YieldsList-from_copied (YieldsList-from_rest set (ap (λ s. s) (c.copied.ensures.source ∙ c.iter.ensures.rest))))) in
+    (YieldsList-from_copied
+    (YieldsList-from_rest set (ap (λ s. s) (c.copied.ensures.source ∙ c.iter.ensures.rest))))) in
     let long = length-map c.args.words.now (λ (w : Bor (List ℕ)). w.now) in
     record {
       keys = made;

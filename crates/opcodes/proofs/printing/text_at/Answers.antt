@@ -1,8 +1,8 @@
 use Rattle.std.proofs.Common.{ap, ◌∙◌}
-use Rattle.zcore.specs.declared.fault.TextFault.TheVariants as faults
-use Rattle.zcore.specs.Reading.{End, Character, Abbreviation}
-use Rattle.zcore.specs.Text.{decoded}
-use Rattle.zcore.proofs.Fronts.{front_read, front_fails}
+use Rattle.ztext.specs.declared.fault.TextFault.TheVariants as faults
+use Rattle.ztext.specs.Reading.{End, Character, Abbreviation}
+use Rattle.ztext.specs.Text.{decoded}
+use Rattle.ztext.proofs.Fronts.{front_read, front_fails}
 use Rattle.frames.specs.Contents.{memory_of}
 use Rattle.opcodes.proofs.Operating.{text_read, text_unread}
 use Rattle.opcodes.proofs.Fronts.{front_stands}

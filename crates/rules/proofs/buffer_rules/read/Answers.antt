@@ -1,7 +1,7 @@
 use Rattle.expressions.specs.Tree.{name_tree}
 use Rattle.names.specs.Scope.{seen_in}
 use Rattle.rules.proofs.ReadNames.{read_walked}
-use Rattle.rules.proofs.Walks.{made_read}
+use Rattle.rules.proofs.MadeActions.{made_read}
 use Rattle.rules.proofs.buffer_rules.read.Goals as goal
 
 pub returns : goal.returns

@@ -4,7 +4,7 @@ use Rattle.statements.specs.Tree.{literal_tree}
 use Rattle.meaning.specs.Resolved.{RangeOf}
 use Rattle.names.specs.Scope.{seen_in}
 use Rattle.rules.specs.Statements.{range_to}
-use Rattle.rules.proofs.Walks.{two, walked}
+use Rattle.value_rules.proofs.Walks.{two, walked}
 use Rattle.rules.proofs.case_rules.range.Goals as goal
 
 pub returns : goal.returns
@@ -13,5 +13,6 @@ returns c =
     two (λ (low : ℕ) (found : RangeOf). found)
     (walked c.case_value-low.ensures.value c.case_value-low.ensures.breaches)
     (walked
-    (c.span.ensures.value ∙ ap (λ (low : ℕ). range_to (seen_in c.args.scope.now) low high) c.case_value-low.ensures.value)
+    (c.span.ensures.value
+    ∙ ap (λ (low : ℕ). range_to (seen_in c.args.scope.now) low high) c.case_value-low.ensures.value)
     c.span.ensures.breaches)

@@ -1,6 +1,6 @@
 use Rattle.std.proofs.Common.{◌∙◌}
 use Rattle.statements.specs.Tree.{part_tree}
-use Rattle.rules.proofs.Needs.{parts_fit}
+use Rattle.rules.proofs.HeadingNeeds.{parts_fit}
 use Rattle.rules.proofs.heading_rules.all_fit.Goals as goal
 
 pub returns : goal.returns

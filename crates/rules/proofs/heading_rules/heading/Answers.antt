@@ -1,5 +1,5 @@
 use Rattle.rules.specs.Walk.{parts_of}
-use Rattle.rules.proofs.Walks.{before}
+use Rattle.value_rules.proofs.Walks.{before}
 use Rattle.rules.proofs.heading_rules.heading.Goals as goal
 
 pub returns : goal.returns

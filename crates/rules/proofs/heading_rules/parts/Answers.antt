@@ -1,6 +1,6 @@
 use Rattle.std.proofs.Common.{Option}
 use Rattle.meaning.specs.Resolved.{Value}
-use Rattle.rules.proofs.Walks.{three}
+use Rattle.value_rules.proofs.Walks.{three}
 use Rattle.rules.proofs.heading_rules.parts.Goals as goal
 
 abbrev together : Option Value → Option Value → Option Value → Option Value × Option Value × Option Value

@@ -1,37 +1,31 @@
-use Rattle.std.proofs.Common.{Option, None, refl, sym, ◌∙◌}
+use Rattle.std.proofs.Common.{◌≡◌, Option, None, sym, ap, ◌∙◌}
 use Rattle.std.specs.Global.{Vec}
 use Rattle.std.specs.Prelude.{map}
-use Rattle.expressions.specs.Tree.{expression_tree}
+use Rattle.expressions.specs.Tree.{name_tree, expression_tree}
 use Rattle.statements.specs.declared.tree.Range.{Range}
 use Rattle.statements.specs.declared.tree.Statement.{Statement}
-use Rattle.statements.specs.Tree.{other_tree}
-use Rattle.meaning.specs.declared.resolved.Value.TheVariants as made
+use Rattle.statements.specs.Tree.{other_tree, loop_tree, over_in, over_where}
 use Rattle.meaning.specs.Resolved as values
 use Rattle.meaning.specs.Resolved.{Value, Action, value_of, action_of, case_of, other_of}
 use Rattle.names.specs.Scope.{seen_in}
-use Rattle.rules.specs.Expressions.{variable_of_binding}
+use Rattle.value_rules.specs.Expressions.{variable_of_binding}
 use Rattle.rules.specs.Statements.{loop_breaches}
 use Rattle.rules.specs.Walk.{resolved_statement, own_statement_breaches, resolved_case, own_case_breaches}
 use Rattle.names.proofs.Each.{each_next, each_end, value_next, value_end}
-use Rattle.rules.proofs.Shapes.{is_empty_statement, is_text_statement, is_new_line_statement, is_quit_statement, is_read_statement}
-use Rattle.rules.proofs.Shapes.{is_block_statement, is_print_statement, is_print_return_statement, is_if_statement}
-use Rattle.rules.proofs.Shapes.{is_if_else_statement, is_while_statement, is_return_value_statement}
-use Rattle.rules.proofs.Shapes.{is_effect_statement, is_return_statement, is_return_true_statement}
-use Rattle.rules.proofs.Shapes.{is_return_false_statement, is_do_statement, is_for_statement, is_switch_statement}
-use Rattle.rules.proofs.Shapes.{is_break_statement, is_continue_statement, is_give_statement, is_move_statement}
-use Rattle.rules.proofs.Shapes.{is_remove_statement, is_each_statement, is_each_in_statement, is_each_where_statement}
-use Rattle.rules.proofs.Walks.{leaf, named_part, one, two, three, made_number, made_empty, made_text, made_new_line, made_quit}
-use Rattle.rules.proofs.Walks.{made_return_value, made_block, made_if_then, made_if_else, made_while_do, made_do}
-use Rattle.rules.proofs.Walks.{made_for, made_switch, made_break, made_continue, made_each_object, made_each_in}
-use Rattle.rules.proofs.Walks.{made_each_where}
+use Rattle.rules.proofs.Shapes.{is_simple_statement, is_block_statement, is_if_statement, is_if_else_statement}
+use Rattle.rules.proofs.Shapes.{is_while_statement, is_do_statement, is_for_statement, is_objectloop_statement}
+use Rattle.rules.proofs.Shapes.{is_switch_statement}
+use Rattle.value_rules.proofs.Walks.{leaf, named_part, one, two, three}
+use Rattle.rules.proofs.MadeActions.{made_block, made_if_then, made_if_else, made_while_do}
+use Rattle.rules.proofs.MadeActions.{made_do, made_for, made_switch, made_each_object, made_each_in, made_each_where}
 use Rattle.rules.proofs.Forms.{statements_walked, case_walked, other_walked, switch_walked}
 use Rattle.rules.proofs.statement_rules.+statement.Goals as goal
 
 abbrev pair : Action → Action → Action × Action
 pair a b = (a, b)
 
-pub all_statements-loop-s-preserved : goal.all_statements-loop-s-preserved
-all_statements-loop-s-preserved t c =
+pub sequence-loop-s-preserved : goal.sequence-loop-s-preserved
+sequence-loop-s-preserved t c =
     let f = λ (x : Statement). own_statement_breaches (seen_in c.args.scope.now) c.args.around x in
     let g = λ (x : Statement). resolved_statement (seen_in c.args.scope.now) x in
     record {
@@ -43,8 +37,8 @@ all_statements-loop-s-preserved t c =
           c.loop-s-test.true c.s-item.is) ∙ c.loop-s.invariant.least);
     }
 
-pub all_statements-returns : goal.all_statements-returns
-all_statements-returns t c =
+pub sequence-returns : goal.sequence-returns
+sequence-returns t c =
     let f = λ (x : Statement). own_statement_breaches (seen_in c.args.scope.now) c.args.around x in
     let g = λ (x : Statement). resolved_statement (seen_in c.args.scope.now) x in
     record {
@@ -85,8 +79,8 @@ for_loop-returns t c around = rw (made_for c.in-Ok.before c.in-Ok.test c.in-Ok.b
 
 pub one_case-returns : goal.one_case-returns
 one_case-returns t c = case_walked (seen_in c.args.scope.now) c.args.around c.args.given.now c.in-Ok.spans
-    c.in-Ok-all_statements.body c.deref.result.now c.deref-2.result.now c.deref.ensures.value c.deref-2.ensures.value
-    c.in-Ok.ensures c.in-Ok-all_statements.ensures
+    c.in-Ok-sequence.body c.deref.result.now c.deref-2.result.now c.deref.ensures.value c.deref-2.ensures.value
+    c.in-Ok.ensures c.in-Ok-sequence.ensures
 
 pub all_cases-loop-c-preserved : goal.all_cases-loop-c-preserved
 all_cases-loop-c-preserved t c =
@@ -148,43 +142,6 @@ each_where-returns t c around =
     c.look.ensures c.loop_variable-variable.ensures.value c.loop_variable-variable.ensures.breaches)
     c.in-Ok.ensures c.in-Ok-boxed.ensures)
 
-pub statement-returns-in-Give : goal.statement-returns-in-Give
-statement-returns-in-Give t c = let v = c.in-Give in
-    rw (
-      is_give_statement c.args.s.now v.position v.e v.given v.is,
-      ← c.deref-in-Give.ensures,
-      ← c.deref-in-Give-2.ensures.value,
-    ) (c.give.ensures c.args.around)
-
-pub statement-returns-in-Move : goal.statement-returns-in-Move
-statement-returns-in-Move t c = let v = c.in-Move in
-    rw (
-      is_move_statement c.args.s.now v.position v.object v.parent v.is,
-      ← c.deref-in-Move.ensures,
-      ← c.deref-in-Move-2.ensures,
-    ) (c.move_to.ensures c.args.around)
-
-pub statement-returns-in-Remove : goal.statement-returns-in-Remove
-statement-returns-in-Remove t c = let v = c.in-Remove in
-    rw (is_remove_statement c.args.s.now v.position v.e v.is, ← c.deref-in-Remove.ensures)
-    (c.remove.ensures c.args.around)
-
-pub statement-returns-in-Each : goal.statement-returns-in-Each
-statement-returns-in-Each t c = let v = c.in-Each in
-    rw (is_each_statement c.args.s.now v.name v.body v.is) (c.each.ensures c.args.around)
-
-pub statement-returns-in-EachIn : goal.statement-returns-in-EachIn
-statement-returns-in-EachIn t c = let v = c.in-EachIn in
-    rw (is_each_in_statement c.args.s.now v.position v.name v.parent v.body v.is, ← c.deref-in-EachIn.ensures)
-    (c.each_in.ensures c.args.around)
-
-pub statement-returns-in-EachWhere : goal.statement-returns-in-EachWhere
-statement-returns-in-EachWhere t c = let v = c.in-EachWhere in
-    rw (
-      is_each_where_statement c.args.s.now v.position v.name v.condition v.body v.is,
-      ← c.deref-in-EachWhere.ensures,
-    ) (c.each_where.ensures c.args.around)
-
 pub statement-returns-in-Do : goal.statement-returns-in-Do
 statement-returns-in-Do t c = let v = c.in-Do in
     rw (is_do_statement c.args.s.now v.position v.body v.condition v.is, ← c.deref-in-Do.ensures)
@@ -192,7 +149,8 @@ statement-returns-in-Do t c = let v = c.in-Do in
 
 pub statement-returns-in-For : goal.statement-returns-in-For
 statement-returns-in-For t c = let v = c.in-For in
-    rw (is_for_statement c.args.s.now v.position v.parts v.body v.is) (c.for_loop.ensures c.args.around)
+    rw (is_for_statement c.args.s.now v.position v.parts v.body v.is, ← c.deref-in-For.ensures)
+    (c.for_loop.ensures c.args.around)
 
 pub statement-returns-in-Switch : goal.statement-returns-in-Switch
 statement-returns-in-Switch t c = let v = c.in-Switch in
@@ -203,27 +161,9 @@ statement-returns-in-Switch t c = let v = c.in-Switch in
     )
     (c.switch_on.ensures c.args.around c.in_switch.ensures)
 
-pub statement-returns-in-Break : goal.statement-returns-in-Break
-statement-returns-in-Break t c = rw (is_break_statement c.args.s.now c.in-Break.position c.in-Break.is, made_break)
-    (record { value = refl; breaches = c.outside.ensures })
-
-pub statement-returns-in-Continue : goal.statement-returns-in-Continue
-statement-returns-in-Continue t c = rw
-    (is_continue_statement c.args.s.now c.in-Continue.position c.in-Continue.is, made_continue)
-    (record { value = refl; breaches = c.outside-in-Continue.ensures })
-
 pub statement-returns-in-Block : goal.statement-returns-in-Block
 statement-returns-in-Block t c = let v = c.in-Block in
-    rw (is_block_statement c.args.s.now v.all v.is, ← c.deref.ensures.value) c.block.ensures
-
-pub statement-returns-in-Print : goal.statement-returns-in-Print
-statement-returns-in-Print t c = let v = c.in-Print in
-    rw (is_print_statement c.args.s.now v.all v.is, ← c.deref-in-Print.ensures.value) (c.print.ensures c.args.around)
-
-pub statement-returns-in-PrintReturn : goal.statement-returns-in-PrintReturn
-statement-returns-in-PrintReturn t c = let v = c.in-PrintReturn in
-    rw (is_print_return_statement c.args.s.now v.all v.is, ← c.deref-in-PrintReturn.ensures.value)
-    (c.print_return.ensures c.args.around)
+    rw (is_block_statement c.args.s.now v.all v.is, ← c.deref-in-Block.ensures.value) c.block.ensures
 
 pub statement-returns-in-If : goal.statement-returns-in-If
 statement-returns-in-If t c = let v = c.in-If in
@@ -239,48 +179,26 @@ statement-returns-in-While t c = let v = c.in-While in
     rw (is_while_statement c.args.s.now v.position v.condition v.body v.is, ← c.deref-in-While.ensures)
     (c.while_do.ensures c.args.around)
 
-pub statement-returns-in-ReturnValue : goal.statement-returns-in-ReturnValue
-statement-returns-in-ReturnValue t c = let v = c.in-ReturnValue in
-    rw (is_return_value_statement c.args.s.now v.position v.e v.is, ← c.deref-in-ReturnValue.ensures)
-    (c.return_value.ensures c.args.around)
+pub statement-returns-in-Simple : goal.statement-returns-in-Simple
+statement-returns-in-Simple t c = rw
+    (is_simple_statement c.args.s.now c.in-Simple.plain c.in-Simple.is, ← c.deref.ensures) c.simple.ensures
 
-pub statement-returns-in-Effect : goal.statement-returns-in-Effect
-statement-returns-in-Effect t c = let v = c.in-Effect in
-    rw (is_effect_statement c.args.s.now v.position v.e v.is, ← c.deref-in-Effect.ensures)
-    (c.effect.ensures c.args.around)
+pub statement-returns-in-Objectloop : goal.statement-returns-in-Objectloop
+statement-returns-in-Objectloop t c = let v = c.in-Objectloop in
+    rw (is_objectloop_statement c.args.s.now v.position v.over v.body v.is, ← c.deref-in-Objectloop.ensures)
+    (c.traversal.ensures c.args.around)
 
-pub statement-returns-in-Empty : goal.statement-returns-in-Empty
-statement-returns-in-Empty t c = rw (is_empty_statement c.args.s.now c.in-Empty.is, made_empty)
-    (leaf c.args.least.now values.empty)
+pub traversal-returns-in-All : goal.traversal-returns-in-All
+traversal-returns-in-All t c around = rw c.in-All.is (c.each.ensures around)
 
-pub statement-returns-in-NewLine : goal.statement-returns-in-NewLine
-statement-returns-in-NewLine t c = rw (is_new_line_statement c.args.s.now c.in-NewLine.is, made_new_line)
-    (leaf c.args.least.now values.new_line)
+pub traversal-returns-in-In : goal.traversal-returns-in-In
+traversal-returns-in-In t c around = let v = c.in-In in
+    let is : loop_tree c.args.over.now ≡ over_in (name_tree v.name) (expression_tree v.parent.value)
+    = ap loop_tree v.is in
+    rw (is, ← c.deref.ensures) (c.each_in.ensures around)
 
-pub statement-returns-in-Quit : goal.statement-returns-in-Quit
-statement-returns-in-Quit t c = rw (is_quit_statement c.args.s.now c.in-Quit.is, made_quit)
-    (leaf c.args.least.now values.quit)
-
-pub statement-returns-in-Read : goal.statement-returns-in-Read
-statement-returns-in-Read t c = rw
-    (is_read_statement c.args.s.now c.in-Read.text c.in-Read.words c.in-Read.is) (c.read.ensures c.args.around)
-
-pub statement-returns-in-Text : goal.statement-returns-in-Text
-statement-returns-in-Text t c = rw
-    (is_text_statement c.args.s.now c.in-Text.text c.in-Text.is, made_text c.in-Text.text)
-    (leaf c.args.least.now (values.text_alone c.in-Text.text.now))
-
-pub statement-returns-in-Return : goal.statement-returns-in-Return
-statement-returns-in-Return t c = rw
-    (is_return_statement c.args.s.now c.in-Return.is, made_return_value (made.Number 1), made_number 1)
-    (leaf c.args.least.now (values.return_value (values.number 1)))
-
-pub statement-returns-in-ReturnTrue : goal.statement-returns-in-ReturnTrue
-statement-returns-in-ReturnTrue t c = rw
-    (is_return_true_statement c.args.s.now c.in-ReturnTrue.is, made_return_value (made.Number 1), made_number 1)
-    (leaf c.args.least.now (values.return_value (values.number 1)))
-
-pub statement-returns-in-ReturnFalse : goal.statement-returns-in-ReturnFalse
-statement-returns-in-ReturnFalse t c = rw
-    (is_return_false_statement c.args.s.now c.in-ReturnFalse.is, made_return_value (made.Number 0), made_number 0)
-    (leaf c.args.least.now (values.return_value (values.number 0)))
+pub traversal-returns-in-Where : goal.traversal-returns-in-Where
+traversal-returns-in-Where t c around = let v = c.in-Where in
+    let is : loop_tree c.args.over.now ≡ over_where (name_tree v.name) (expression_tree v.condition.value)
+    = ap loop_tree v.is in
+    rw (is, ← c.deref-in-Where.ensures) (c.each_where.ensures around)

@@ -15,8 +15,8 @@ decreases-statement l = 8 * goal.size-statement l
 abbrev pub decreases-boxed : goal.decreases-boxed
 decreases-boxed l = 8 * goal.size-boxed l + 1
 
-abbrev pub decreases-all_statements : goal.decreases-all_statements
-decreases-all_statements l = 8 * goal.size-all_statements l + 1
+abbrev pub decreases-sequence : goal.decreases-sequence
+decreases-sequence l = 8 * goal.size-sequence l + 1
 
 abbrev pub decreases-block : goal.decreases-block
 decreases-block l = 8 * goal.size-block l + 2
@@ -45,6 +45,9 @@ decreases-each_in l = 8 * goal.size-each_in l + 2
 abbrev pub decreases-each_where : goal.decreases-each_where
 decreases-each_where l = 8 * goal.size-each_where l + 2
 
+abbrev pub decreases-traversal : goal.decreases-traversal
+decreases-traversal l = 8 * goal.size-traversal l + 3
+
 abbrev pub decreases-one_case : goal.decreases-one_case
 decreases-one_case l = 8 * goal.size-one_case l + 2
 
@@ -64,8 +67,8 @@ invariant-all_cases-loop-c l = record {
       ≡ noted l.fn.least (flat_map (own_case_breaches (seen_in l.scope) l.around) l.given);
 }
 
-abbrev pub invariant-all_statements-loop-s : goal.invariant-all_statements-loop-s
-invariant-all_statements-loop-s l = record {
+abbrev pub invariant-sequence-loop-s : goal.invariant-sequence-loop-s
+invariant-sequence-loop-s l = record {
   value : map action_of l.found.items ≡ map (resolved_statement (seen_in l.scope)) (take l.s-index l.all);
   least : noted l.least (flat_map (own_statement_breaches (seen_in l.scope) l.around) (drop l.s-index l.all))
       ≡ noted l.fn.least (flat_map (own_statement_breaches (seen_in l.scope) l.around) l.all);

@@ -17,5 +17,5 @@ returns-in_ok-put_read_line-in-Read c =
     subst (λ (i : code.Item). c.put_read_line.new.bytes.items ≡ c.args.bytes.now.items
     ++ item_bytes sizes a c.args.offset (item_of i)) (sym c.in-Read.is)
     (no_text c.args.bytes.now.items c.put_read_line.new.bytes.items
-    (bytes_of_all (read_code a (slice_index sizes.arrays t % 65536) (slice_index a.arrays t) (slice_index sizes.arrays q % 65536)
-    (slice_index a.arrays q))) c.in_ok-put_read_line-in-Read.ensures)
+    (bytes_of_all (read_code a (slice_index sizes.arrays t % 65536) (slice_index a.arrays t)
+    (slice_index sizes.arrays q % 65536) (slice_index a.arrays q))) c.in_ok-put_read_line-in-Read.ensures)

@@ -1,53 +1,83 @@
-use Rattle.std.proofs.Common.{◌-◌, length, refl, sym, ap, ◌∙◌, arith}
+use Rattle.std.proofs.Common.{◌-◌, length, sym, ap, ◌∙◌, arith}
 use Rattle.lexer.specs.Token.{lexemes}
-use Rattle.statements.specs.Tree.{case_tree}
-use Rattle.statements.specs.Parse.{begins_value, braced, one_case, inside, braces, bodies}
-use Rattle.statements.proofs.Loops.{repeated_out, repeated_done, repeated_more, repeated_fails}
-use Rattle.statements.proofs.Cases.{choice_else, repetition_body, until_condition, iteration_body}
-use Rattle.statements.proofs.Cases.{traversal_body, otherwise_default, selection_other}
+use Rattle.expressions.specs.Parse.{tail}
+use Rattle.expressions.proofs.GoesOn.{part_fails}
+use Rattle.statements.specs.Nesting.{begins_statement, begins_in_case}
+use Rattle.statements.specs.Tree.{statement_tree, case_tree}
+use Rattle.statements.specs.Parse.{begins_value, one_case, statement, inside, braces, bodies}
+use Rattle.statements.proofs.Loops.{repeated_out, repeated_done, repeated_more, repeated_fails, as_long_more}
+use Rattle.statements.proofs.Loops.{as_long_fails}
+use Rattle.statements.proofs.Cases.{block_behind, block_read, repetition_made, iteration_made}
+use Rattle.statements.proofs.Cases.{traversal_made, otherwise_default, otherwise_made, selection_made}
 use Rattle.statements.proofs.Inside.{bodies_begun}
 use Rattle.statements.proofs.nested.+statement.Goals as goal
-use Rattle.statements.proofs.nested.+statement.Goals.{cases-else-loop-turn-test, cases-then-loop-turn-test+then-not-begins_value}
+use Rattle.statements.proofs.nested.+statement.Goals.{cases-else-loop-turn-test}
+use Rattle.statements.proofs.nested.+statement.Goals.{cases-then-loop-turn-test+then-not-begins_value}
 
-pub block-returns : goal.block-returns
-unfolding braced
-block-returns t c = c.block.ensures _ _ c.braces.ensures refl
+pub block-returns-in-Ok : goal.block-returns-in-Ok
+block-returns-in-Ok t c = rw (block_read (braces c.args.depth) _ _ _ c.in-Ok.ensures) c.block.ensures
 
-pub choice-returns : goal.choice-returns
-choice-returns t c = c.if_else.ensures _ _ c.further_in-second.ensures
-    (choice_else c.args.depth (inside c.args.depth) c.args.position (lexemes c.args.tokens.now) _ _
-    c.in_ok-condition.ensures.gives _ (lexemes c.in_ok-first.rest.now) (lexemes c.skip.result.now)
-    c.in_ok-first.ensures (grind arith) c.skip.ensures)
+pub block-returns-in-Err : goal.block-returns-in-Err
+block-returns-in-Err t c = part_fails c.in-Err.e _ _ _ c.in-Err.ensures
+    (block_behind (braces c.args.depth) (tail (lexemes c.args.tokens.now)))
 
-pub repetition-returns : goal.repetition-returns
-repetition-returns t c = c.while_do.ensures _ _ c.further_in-body.ensures
-    (repetition_body c.args.depth (inside c.args.depth) c.args.position (lexemes c.args.tokens.now) _ _
-    c.in_ok-condition.ensures.gives)
+pub repetition-returns-in-Ok : goal.repetition-returns-in-Ok
+repetition-returns-in-Ok t c = rw
+    (repetition_made c.args.depth (inside c.args.depth) c.args.position (lexemes c.args.tokens.now) _ _
+    c.in_ok-condition.ensures.gives _ _ c.in-Ok.ensures) c.while_do.ensures
 
-pub until-returns : goal.until-returns
-until-returns t c = c.do_until.ensures _ _ c.enclosed_condition-condition.ensures.gives
-    (until_condition c.args.depth (inside c.args.depth) c.args.position (lexemes c.args.tokens.now) _ _ _
-    c.in_ok-body.ensures c.in_ok-rest.ensures)
+pub iteration-returns-in-Ok : goal.iteration-returns-in-Ok
+iteration-returns-in-Ok t c = rw
+    (iteration_made c.args.depth (inside c.args.depth) c.args.position (lexemes c.args.tokens.now) _ _ _ _
+    c.in_ok-heading.ensures.gives c.in-Ok.ensures) c.for_loop.ensures
 
-pub iteration-returns : goal.iteration-returns
-iteration-returns t c = c.for_loop.ensures _ _ c.further_in-body.ensures
-    (iteration_body c.args.depth (inside c.args.depth) c.args.position (lexemes c.args.tokens.now) _ _
-    c.in_ok-heading.ensures.gives)
+pub traversal-returns-in-Ok : goal.traversal-returns-in-Ok
+traversal-returns-in-Ok t c = rw
+    (traversal_made c.args.depth (inside c.args.depth) c.args.position (lexemes c.args.tokens.now) _ _ _ _
+    c.in_ok-over.ensures.gives c.in-Ok.ensures) c.loop_over.ensures
 
-pub traversal-returns : goal.traversal-returns
-traversal-returns t c = c.loop_over.ensures _ _ c.further_in-body.ensures
-    (traversal_body c.args.depth (inside c.args.depth) c.args.position (lexemes c.args.tokens.now) _ _
-    c.in_ok-over.ensures.gives)
+pub otherwise-returns-in-Ok : goal.otherwise-returns-in-Ok
+otherwise-returns-in-Ok t c = otherwise_made (braces c.args.depth) (lexemes c.args.tokens.now) _ _ _ _ (grind arith)
+    c.skip-colon.ensures c.in_ok-expect.ensures c.in-Ok.ensures
 
-pub otherwise-returns : goal.otherwise-returns
-otherwise-returns t c = c.default_case.ensures _ _ c.braces.ensures
+pub otherwise-returns-in-Err : goal.otherwise-returns-in-Err
+otherwise-returns-in-Err t c = part_fails c.in-Err.e _ _ _ c.in-Err.ensures
     (otherwise_default (braces c.args.depth) (lexemes c.args.tokens.now) _ _ (grind arith) c.skip-colon.ensures
     c.in_ok-expect.ensures)
 
-pub selection-returns : goal.selection-returns
-selection-returns t c = c.switch_on.ensures _ _ c.otherwise-other.ensures
-    (selection_other c.args.depth (braces c.args.depth) (bodies c.args.depth) c.args.position
-    (lexemes c.args.tokens.now) _ _ _ _ _ c.in_ok-value.ensures.gives c.in_ok-rest.ensures c.in_ok-cases.ensures)
+pub selection-returns-in-Ok-otherwise : goal.selection-returns-in-Ok-otherwise
+selection-returns-in-Ok-otherwise t c = rw
+    (selection_made c.args.depth (braces c.args.depth) (bodies c.args.depth) c.args.position
+    (lexemes c.args.tokens.now) _ _ _ _ _ _ _ c.in_ok-value.ensures.gives c.in_ok-rest.ensures c.in-Ok.ensures
+    c.in-Ok-otherwise.ensures) c.switch_on.ensures
+
+pub statements-loop-turn-preserved : goal.statements-loop-turn-preserved
+statements-loop-turn-preserved t c = rw (c.in_ok-add-in-Ok.ensures.ok, c.same-rest.ensures)
+    (sym (repeated_more statement_tree begins_statement (statement c.args.depth) (length c.args.tokens.now)
+    c.loop-turn._turn c.loop-turn.found.items (lexemes c.loop-turn.rest.now) c.in-Ok.next.value
+    (lexemes c.in-Ok.after.now) c.loop-turn-test.true
+    (ap begins_statement (sym c.peek.ensures) ∙ sym c.begins_statement.ensures ∙ c.if-not-begins_statement.false)
+    c.in-Ok.ensures) ∙ c.loop-turn.invariant)
+
+pub statements-returns-in-Err : goal.statements-returns-in-Err
+statements-returns-in-Err t c = repeated_fails statement_tree begins_statement (statement c.args.depth) c.in-Err.e
+    (length c.args.tokens.now) c.loop-turn._turn c.loop-turn.found.items (lexemes c.loop-turn.rest.now) _
+    c.loop-turn-test.true
+    (ap begins_statement (sym c.peek.ensures) ∙ sym c.begins_statement.ensures ∙ c.if-not-begins_statement.false)
+    c.in-Err.ensures c.loop-turn.invariant
+
+pub bodies-loop-turn-preserved : goal.bodies-loop-turn-preserved
+bodies-loop-turn-preserved t c = rw (c.in_ok-add-in-Ok.ensures.ok, c.same-rest.ensures)
+    (sym (as_long_more statement_tree begins_in_case (inside c.in_ok-inside.inside) (length c.args.tokens.now)
+    c.loop-turn._turn c.loop-turn.found.items (lexemes c.loop-turn.rest.now) c.in-Ok.next.value
+    (lexemes c.in-Ok.after.now) c.loop-turn-test.true
+    (sym c.begins_in_case.ensures ∙ c.if-not-begins_in_case.false) c.in-Ok.ensures) ∙ c.loop-turn.invariant)
+
+pub bodies-returns-in-Err : goal.bodies-returns-in-Err
+bodies-returns-in-Err t c = as_long_fails statement_tree begins_in_case (inside c.in_ok-inside.inside) c.in-Err.e
+    (length c.args.tokens.now) c.loop-turn._turn c.loop-turn.found.items (lexemes c.loop-turn.rest.now) _
+    c.loop-turn-test.true (sym c.begins_in_case.ensures ∙ c.if-not-begins_in_case.false)
+    c.in-Err.ensures c.loop-turn.invariant
 
 pub bodies-loop-turn-init : goal.bodies-loop-turn-init
 bodies-loop-turn-init t c = bodies_begun c.args.depth c.in_ok-inside.inside c.new-found.result.items
@@ -58,7 +88,8 @@ cases-loop-turn-preserved t c = rw (c.in_ok-add_case-in-Ok.ensures.ok, c.same-re
     (sym (repeated_more case_tree begins_value (one_case (bodies c.args.depth)) (length c.args.tokens.now)
     c.loop-turn._turn c.loop-turn.found.items (lexemes c.loop-turn.rest.now) c.in-Ok.next
     (lexemes c.in-Ok.after.now) c.loop-turn-test.true
-    (ap begins_value (sym c.peek.ensures) ∙ sym c.begins_value.ensures ∙ c.if-not-begins_value.false) c.in-Ok.ensures) ∙ c.loop-turn.invariant)
+    (ap begins_value (sym c.peek.ensures) ∙ sym c.begins_value.ensures ∙ c.if-not-begins_value.false) c.in-Ok.ensures)
+    ∙ c.loop-turn.invariant)
 
 pub cases-returns-in-Err : goal.cases-returns-in-Err
 cases-returns-in-Err t c = repeated_fails case_tree begins_value (one_case (bodies c.args.depth)) c.in-Err.e

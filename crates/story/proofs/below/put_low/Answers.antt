@@ -1,6 +1,6 @@
 use Rattle.std.proofs.Common.{◌≡◌, ◌++◌, ℕ, List, map, arith, ap, replicate, ◌∙◌}
 use Rattle.std.specs.Global.{Vec}
-use Rattle.zcore.specs.Text.{encoded}
+use Rattle.ztext.specs.Text.{encoded}
 use Rattle.meaning.specs.declared.places.Places.{Places}
 use Rattle.meaning.specs.Resolved.{program_of}
 use Rattle.story.specs.Layout.{dictionary_bytes, global_bytes}
@@ -40,7 +40,9 @@ returns c =
     (c.in_ok-put_globals.ensures ∙ ap (λ gs. c.put_word.new.bytes.items ++ global_bytes gs) c.globals.ensures)
     (c.in_ok-extend_from_slice.ensures.items ∙ ap (λ z. c.put_globals.new.bytes.items ++ z) c.array_bytes.ensures)
     c.in_ok-put_objects.ensures
-    (c.in_ok-put_dictionary.ensures ∙ ap (λ keys. c.put_objects.new.bytes.items ++ dictionary_bytes keys) c.keys.ensures.keys)
+    (c.in_ok-put_dictionary.ensures
+    ∙ ap (λ keys. c.put_objects.new.bytes.items ++ dictionary_bytes keys) c.keys.ensures.keys)
     (c.in_ok-put_zeros.ensures ∙ ap (λ n. c.put_dictionary.new.bytes.items ++ replicate {A = ℕ} n 0) c.filling.ensures)
-    (c.in_ok-put_all.ensures ∙ ap (λ z. c.put_zeros.new.bytes.items ++ z) (texts_are c.deref-2.result.now p.abbreviations again))
+    (c.in_ok-put_all.ensures
+    ∙ ap (λ z. c.put_zeros.new.bytes.items ++ z) (texts_are c.deref-2.result.now p.abbreviations again))
     c.in_ok-put_start.ensures

@@ -1,5 +1,5 @@
 use Rattle.std.proofs.Common.{◌≡◌, ◌++◌, drop, map}
-use Rattle.zcore.specs.Text.{encoded}
+use Rattle.ztext.specs.Text.{encoded}
 use Rattle.story.specs.Written.{bytes_in}
 use Rattle.story.proofs.below.z_texts.Given as goal
 

@@ -6,7 +6,8 @@ use Rattle.story.proofs.objects.row.Goals as goal
 
 pub returns : goal.returns
 returns c =
-    row_made c.args.objects.now c.args.index c.index-objects-index.result c.requires.within c.index-objects-index.is _ _ _ _
+    row_made c.args.objects.now c.args.index c.index-objects-index.result c.requires.within c.index-objects-index.is
+    _ _ _ _
     c.in_ok-name.name.items c.in_ok-properties.properties.items
     (attributes_are c.index-objects-index.result.attributes.items _ _ _ _ _ _
     (c.attribute_byte.ensures ∙ ap (λ xs. attribute_byte xs 0) c.deref-2.ensures.value)

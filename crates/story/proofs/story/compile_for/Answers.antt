@@ -12,7 +12,8 @@ returns-in_err-program c =
     subst (λ ts. Lexes 0 1 c.args.source.now (Ok (source_tokens ts))) (sym c.deref.ensures.value)
     c.in_ok-tokens.ensures.meets in
     let refused : Refuses c.args.version c.args.source.now c.in_err-program.field-0.0 =
-    unparsed c.args.source.now c.deref.result.now lexed c.args.version c.in_err-program.field-0.0 c.in_err-program.ensures.grammar
+    unparsed c.args.source.now c.deref.result.now lexed c.args.version c.in_err-program.field-0.0
+    c.in_err-program.ensures.grammar
     c.in_err-program.ensures.deep c.in_err-program.ensures.numbers in
     answered c.args.version c.args.source.now c.from_residual-in_err-program.result c.in_err-program.field-0.0
     c.from_residual-in_err-program.ensures refused
@@ -54,9 +55,8 @@ write_story-requires c =
     let checked = c.in_ok-checked.ensures in
     fits c.accepted_programs.ensures c.printable_tokens.ensures c.printable_trees.ensures c.printable_programs.ensures
     c.small_sources_have_small_code.ensures
-    c.args.version c.args.source.now c.deref.result.now (program_tree c.in_ok-program.program) c.in_ok-checked.checked lexed
-    found.0
-    checked.0 checked.1 (sym c.in_ok-test_sizes.ensures)
+    c.args.version c.args.source.now c.deref.result.now (program_tree c.in_ok-program.program) c.in_ok-checked.checked
+    lexed found.0 checked.0 checked.1 (sym c.in_ok-test_sizes.ensures)
 
 pub returns : goal.returns
 returns c =
@@ -67,8 +67,7 @@ returns c =
     let checked = c.in_ok-checked.ensures in
     compiled c.accepted_programs.ensures c.printable_tokens.ensures c.printable_trees.ensures
     c.printable_programs.ensures c.small_sources_have_small_code.ensures
-    c.args.version c.args.source.now c.deref.result.now (program_tree c.in_ok-program.program) c.in_ok-checked.checked lexed
-    found.0
-    checked.0 checked.1 (sym c.in_ok-test_sizes.ensures)
+    c.args.version c.args.source.now c.deref.result.now (program_tree c.in_ok-program.program) c.in_ok-checked.checked
+    lexed found.0 checked.0 checked.1 (sym c.in_ok-test_sizes.ensures)
     c.stories_hold.ensures c.code_plays.ensures c.of_bytes.result c.of_bytes.ensures.small (c.of_bytes.ensures.value
     ∙ c.in_ok-bytes.ensures) found.1

@@ -83,7 +83,8 @@ returns c =
     c.part_places.ensures in
     let packed : c.in_ok-packed.packed.items ≡ packed_addresses (scale_of c.args.version) p =
     packed_are c.args.version p c.deref.result.now texts c.deref-3.result.now c.in_ok-packed.packed.items codes
-    c.in_ok-texts.ensures (c.deref-3.ensures.value ∙ sizes_of_texts c.deref.result.now c.in_ok-texts.texts.items c.deref-2.result.now
+    c.in_ok-texts.ensures
+    (c.deref-3.ensures.value ∙ sizes_of_texts c.deref.result.now c.in_ok-texts.texts.items c.deref-2.result.now
     c.in_ok-sizes.sizes.items c.add_text_sizes.new.sizes.items c.deref-2.ensures.value c.in_ok-sizes.ensures
     c.in_ok-add_text_sizes.ensures) from_place in
     let count : c.len.result ≡ length p.routines =
@@ -114,4 +115,5 @@ returns c =
     body_laid c.args.version p c.deref-6.result.now a (map bytes_in c.deref-7.result.now)
     c.new-body.result.items c.put_low.new.bytes.items c.put_routines.new.body.items c.put_texts.new.body.items
     c.index.result.now c.requires.accepted.defaults.0
-    again printed addresses main c.new-body.ensures.items c.in_ok-put_low.ensures c.in_ok-put_routines.ensures c.in_ok-put_texts.ensures
+    again printed addresses main c.new-body.ensures.items c.in_ok-put_low.ensures c.in_ok-put_routines.ensures
+    c.in_ok-put_texts.ensures

@@ -10,7 +10,8 @@ loop-routine-preserved c =
     let count = length-map c.args.checked.now.routines routine_of in
     let within : c.loop-routine.routine < length (program_of c.args.checked.now).routines =
     omega (arith, count, c.loop-routine-test.true, c.routines-routine-end.ensures) in
-    let next = code_next (sizes_of (program_of c.args.checked.now)) (program_of c.args.checked.now).routines c.loop-routine.routine within in
+    let next = code_next (sizes_of (program_of c.args.checked.now)) (program_of c.args.checked.now).routines
+    c.loop-routine.routine within in
     let code = c.in_ok-code_at.ensures in
     c.in_ok-push.ensures.items
     ∙ ap (λ z. z ++ c.in_ok-code_at.field-0 ∷ []) c.loop-routine.invariant

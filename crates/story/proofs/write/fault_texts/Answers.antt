@@ -17,4 +17,5 @@ returns c =
     ∙ ap (λ (z : List (List ℕ)). z ++ line 4) (c.in_ok-add_text-4.ensures
     ∙ ap (λ (z : List (List ℕ)). z ++ line 3) (c.in_ok-add_text-3.ensures
     ∙ ap (λ (z : List (List ℕ)). z ++ line 2) (c.in_ok-add_text-2.ensures
-    ∙ ap (λ (z : List (List ℕ)). z ++ line 1) (c.in_ok-add_text.ensures ∙ ap (λ (xs : List (Vec ℕ)). map bytes_in xs ++ line 0) c.new-texts.ensures.items)))))))
+    ∙ ap (λ (z : List (List ℕ)). z ++ line 1)
+    (c.in_ok-add_text.ensures ∙ ap (λ (xs : List (Vec ℕ)). map bytes_in xs ++ line 0) c.new-texts.ensures.items)))))))

@@ -3,7 +3,7 @@ use Rattle.std.specs.Prelude.{map}
 use Rattle.std.specs.List.{flat_map}
 use Rattle.std.proofs.lemmas.List.{take_all}
 use Rattle.zcore.specs.Header.{static_end}
-use Rattle.zcore.specs.Text.{Holds}
+use Rattle.ztext.specs.Text.{Holds}
 use Rattle.zcore.specs.Dictionary.{number_of_key}
 use Rattle.tables.specs.Dictionary.{head_bytes, entry_bytes, dictionary_bytes, ReadsKeys}
 use Rattle.tables.proofs.Written.{keys_each, length_dictionary, reads_back}

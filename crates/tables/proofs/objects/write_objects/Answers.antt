@@ -4,7 +4,7 @@ use Rattle.std.proofs.lemmas.List.{take_all}
 use Rattle.std.proofs.lemmas.List.Elements.{All-more}
 use Rattle.std.proofs.lemmas.Option.{slice_get_read}
 use Rattle.std.proofs.lemmas.Result.{err_from_is_err_and}
-use Rattle.zcore.specs.Text.{Holds}
+use Rattle.ztext.specs.Text.{Holds}
 use Rattle.tables.specs.Rows.{word, table_bytes, entry_bytes, entries_bytes, objects_bytes, objects_length}
 use Rattle.tables.proofs.Names.{row_refuses}
 use Rattle.tables.proofs.ReadBack.{rows_back}

@@ -17,7 +17,8 @@ changes-returns-in-Chain t c =
     let second = c.changes-second.ensures
     ∙ ap (λ (e : code_value.Value). items.changes z (value_of e)) c.deref-in-Chain-2.ensures in
     let behind = c.links_change-behind.ensures
-    ∙ ap (λ (ls : List (Binary × code_value.Value)). change_links z (map link_of ls)) c.deref-in-Chain-3.ensures.value in
+    ∙ ap (λ (ls : List (Binary × code_value.Value)). change_links z (map link_of ls))
+    c.deref-in-Chain-3.ensures.value in
     c.any_of.ensures ∙ ap (λ b. (b || c.changes-second.result) || c.links_change-behind.result) first
     ∙ ap (λ b. (items.changes z (value_of c.in-Chain.first.value) || b) || c.links_change-behind.result) second
     ∙ ap (λ b. (items.changes z (value_of c.in-Chain.first.value) || items.changes z

@@ -18,8 +18,9 @@ use Rattle.values.proofs.Trees.{chain_is, equal_is, step_before_is, assign_prope
 use Rattle.values.proofs.Trees.{call_is, prefixed_is, step_after_is, compare_is, assign_is, entry_is, assign_entry_is}
 use Rattle.values.proofs.Trees.{relative_is, contained_is, has_is, provides_is, property_is, property_size_is}
 use Rattle.values.proofs.Trees.{property_word_is, assign_property_is}
-use Rattle.values.proofs.Values.{call_more, prefix_more, not_more_at, and_link_at, or_link_at, not_logical}
-use Rattle.values.proofs.Values.{operate_link, chain_more, compare_link, entry_more, assigned_entry_link}
+use Rattle.values.proofs.OperationForms.{not_logical}
+use Rattle.values.proofs.Values.{call_more, prefix_more, not_more_at, and_link_at, or_link_at}
+use Rattle.values.proofs.OperationForms.{operate_link, chain_more, compare_link, entry_more, assigned_entry_link}
 use Rattle.values.proofs.Assigned.{assign_nowhere, assign_pushed, assign_kept}
 use Rattle.values.proofs.Alternatives.{few_link, many_link, equal_more, operand_next, folded_next, link_next}
 use Rattle.values.proofs.ObjectForms.{one_word, one_condition, two_word, two_condition, assigned_word_link}

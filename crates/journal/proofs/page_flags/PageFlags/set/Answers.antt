@@ -1,5 +1,6 @@
 use Rattle.std.proofs.Common.{◌∙◌, ap, sym, arith, set}
 use Rattle.std.proofs.lemmas.List.{set-append_left, set-append_right}
+use Rattle.journal.specs.Pages.{pages_in_place}
 use Rattle.journal.proofs.page_flags.PageFlags.set.Goals as goal
 
 pub returns-then-page-lt-IN_PLACE : goal.returns-then-page-lt-IN_PLACE
@@ -10,6 +11,6 @@ returns-then-page-lt-IN_PLACE c =
 
 pub returns-else-page-lt-IN_PLACE : goal.returns-else-page-lt-IN_PLACE
 returns-else-page-lt-IN_PLACE c =
-    sym (set-append_right c.self.inside.first c.self.inside.more.items 1728 c.args.page c.args.kept
+    sym (set-append_right c.self.inside.first c.self.inside.more.items pages_in_place c.args.page c.args.kept
     c.self.invariant (omega (arith, c.if-page-lt-IN_PLACE.false)))
     ∙ ap (λ flags. set flags c.args.page c.args.kept) c.self.view_is

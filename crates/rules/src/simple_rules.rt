@@ -1,0 +1,323 @@
+//! Statements in which no other stands: the rules that they can break, and what they resolve to.
+
+ghost use Rattle.std.specs.Prelude.{◌≡◌, IfOk, map};
+ghost use Rattle.expressions.specs.Tree.{expression_tree};
+ghost use Rattle.statements.specs.Tree as trees;
+ghost use Rattle.statements.specs.Tree.{flag_tree, item_tree, simple_tree};
+ghost use Rattle.rules.specs.Statements.{outside_breaches, room_breaches, move_need};
+ghost use Rattle.names.specs.Noted.{noted};
+ghost use Rattle.names.specs.Scope.{seen_in};
+ghost use Rattle.value_rules.specs.Temporaries.{need};
+ghost use Rattle.meaning.specs.Resolved.{value_of, printed_of};
+ghost use Rattle.rules.specs.Walk.{IsWhole, IsFlag, AreFlags, IsItem, AreItems, GivesAction};
+
+use crate::buffer_rules::read;
+use expressions::{Expression, Name};
+use lexer::{BREAK_OUTSIDE, EXPRESSION_TOO_LARGE, Position};
+use meaning::{Action, Around, Printed, Value};
+use names::{Breach, Scope, note};
+use statements::{PrintItem, SimpleStatement};
+use std::alloc::{AllocError, Global};
+use value_rules::{attribute, both_fit, expression, fits};
+
+#[tactic(auto, using(names::proofs::Noted::noted_none, value_rules::proofs::Needs::fits_not))]
+fn temporaries(position: Position, e: &Expression<'_>, least: &mut Option<Breach>)
+    ensures { least.new ≡ noted least.old (room_breaches position (need (expression_tree e.now))) }
+{
+    if !fits(e, 48) {
+        note(least, EXPRESSION_TOO_LARGE, position);
+    }
+}
+
+/// Resolves the names of an expression of a statement or an item that begins at this position, and notes the rules that it
+/// breaks.
+///
+/// # Errors
+///
+/// `AllocError` where memory is refused.
+pub fn whole(
+    alloc: Global,
+    scope: &Scope<'_>,
+    position: Position,
+    e: &Expression<'_>,
+    least: &mut Option<Breach>,
+) -> Result<Value, AllocError>
+    ensures { IfOk result (λ v. IsWhole (seen_in scope.now) position (expression_tree e.now)
+        least.old least.new (value_of v)) }
+{
+    temporaries(position, e, least);
+    expression(alloc, scope, e, least)
+}
+
+#[tactic(auto, using(names::proofs::Noted::noted_none))]
+fn item<'a>(
+    alloc: Global,
+    scope: &Scope<'_>,
+    printed: &PrintItem<'a>,
+    least: &mut Option<Breach>,
+) -> Result<Printed<'a>, AllocError>
+    ensures { IfOk result (λ x. IsItem (seen_in scope.now) (item_tree printed.now)
+        least.old least.new (printed_of x)) }
+{
+    match printed {
+        PrintItem::Text(text) => Ok(Printed::Text(text)),
+        PrintItem::Character(position, e) => {
+            let Ok(value) = whole(alloc, scope, *position, e, least) else {
+                return Err(AllocError);
+            };
+            Ok(Printed::Character(value))
+        }
+        PrintItem::Object(position, e) => {
+            let Ok(value) = whole(alloc, scope, *position, e, least) else {
+                return Err(AllocError);
+            };
+            Ok(Printed::Name(value))
+        }
+        PrintItem::Number(position, e) => {
+            let Ok(value) = whole(alloc, scope, *position, e, least) else {
+                return Err(AllocError);
+            };
+            Ok(Printed::Number(value))
+        }
+    }
+}
+
+fn items<'a>(
+    alloc: Global,
+    scope: &Scope<'_>,
+    printed: &[PrintItem<'a>],
+    least: &mut Option<Breach>,
+) -> Result<Vec<Printed<'a>>, AllocError>
+    ensures { IfOk result (λ v. AreItems (seen_in scope.now) printed.now
+        least.old least.new (map printed_of v.items)) }
+{
+    let mut found = Vec::new(alloc);
+    for x in printed {
+        let Ok(resolved) = item(alloc, scope, x, least) else {
+            return Err(AllocError);
+        };
+        found.push(resolved)?;
+    }
+    Ok(found)
+}
+
+fn print<'a>(
+    alloc: Global,
+    scope: &Scope<'_>,
+    printed: &[PrintItem<'a>],
+    least: &mut Option<Breach>,
+) -> Result<Action<'a>, AllocError>
+    ensures { (around : _) → GivesAction (seen_in scope.now) around result least.old least.new
+        (trees.print (map item_tree printed.now)) }
+{
+    let Ok(found) = items(alloc, scope, printed, least) else {
+        return Err(AllocError);
+    };
+    Ok(Action::Print(found))
+}
+
+fn print_return<'a>(
+    alloc: Global,
+    scope: &Scope<'_>,
+    printed: &[PrintItem<'a>],
+    least: &mut Option<Breach>,
+) -> Result<Action<'a>, AllocError>
+    ensures { (around : _) → GivesAction (seen_in scope.now) around result least.old least.new
+        (trees.print_return (map item_tree printed.now)) }
+{
+    let Ok(found) = items(alloc, scope, printed, least) else {
+        return Err(AllocError);
+    };
+    Ok(Action::PrintReturn(found))
+}
+
+fn return_value<'a>(
+    alloc: Global,
+    scope: &Scope<'_>,
+    position: Position,
+    e: &Expression<'_>,
+    least: &mut Option<Breach>,
+) -> Result<Action<'a>, AllocError>
+    ensures { (around : _) → GivesAction (seen_in scope.now) around result least.old least.new
+        (trees.return_value position (expression_tree e.now)) }
+{
+    let Ok(value) = whole(alloc, scope, position, e, least) else {
+        return Err(AllocError);
+    };
+    Ok(Action::ReturnValue(value))
+}
+
+fn effect<'a>(
+    alloc: Global,
+    scope: &Scope<'_>,
+    position: Position,
+    e: &Expression<'_>,
+    least: &mut Option<Breach>,
+) -> Result<Action<'a>, AllocError>
+    ensures { (around : _) → GivesAction (seen_in scope.now) around result least.old least.new
+        (trees.effect position (expression_tree e.now)) }
+{
+    let Ok(value) = whole(alloc, scope, position, e, least) else {
+        return Err(AllocError);
+    };
+    Ok(Action::Effect(value))
+}
+
+// An attribute of a `give`, and whether it is set.
+fn flag(scope: &Scope<'_>, given: &(bool, Name<'_>), least: &mut Option<Breach>) -> (bool, usize)
+    ensures { IsFlag (seen_in scope.now) given.now least.old least.new result }
+{
+    let (sets, name) = *given;
+    let number = attribute(name, scope.look(name.text), least);
+    (sets, number)
+}
+
+// The attributes of a `give`.
+fn flags(
+    alloc: Global,
+    scope: &Scope<'_>,
+    given: &[(bool, Name<'_>)],
+    least: &mut Option<Breach>,
+) -> Result<Vec<(bool, usize)>, AllocError>
+    ensures { IfOk result (λ v. AreFlags (seen_in scope.now) given.now
+        least.old least.new v.items) }
+{
+    let mut found = Vec::new(alloc);
+    for x in given {
+        let resolved = flag(scope, x, least);
+        found.push(resolved)?;
+    }
+    Ok(found)
+}
+
+fn give<'a>(
+    alloc: Global,
+    scope: &Scope<'_>,
+    position: Position,
+    e: &Expression<'_>,
+    given: &[(bool, Name<'_>)],
+    least: &mut Option<Breach>,
+) -> Result<Action<'a>, AllocError>
+    ensures { (around : _) → GivesAction (seen_in scope.now) around result least.old least.new
+        (trees.give position (expression_tree e.now) (map flag_tree given.now)) }
+{
+    let Ok(object) = whole(alloc, scope, position, e, least) else {
+        return Err(AllocError);
+    };
+    let Ok(changes) = flags(alloc, scope, given, least) else {
+        drop(object);
+        return Err(AllocError);
+    };
+    Ok(Action::Give(object, changes))
+}
+
+#[tactic(auto, using(names::proofs::Noted::noted_none, value_rules::proofs::Needs::fits_not))]
+fn move_temporaries(
+    position: Position,
+    object: &Expression<'_>,
+    parent: &Expression<'_>,
+    least: &mut Option<Breach>,
+)
+    ensures { least.new ≡ noted least.old (room_breaches position
+        (move_need (expression_tree object.now) (expression_tree parent.now))) }
+{
+    if !both_fit(object, parent, 48) {
+        note(least, EXPRESSION_TOO_LARGE, position);
+    }
+}
+
+fn move_to<'a>(
+    alloc: Global,
+    scope: &Scope<'_>,
+    position: Position,
+    object: &Expression<'_>,
+    parent: &Expression<'_>,
+    least: &mut Option<Breach>,
+) -> Result<Action<'a>, AllocError>
+    ensures { (around : _) → GivesAction (seen_in scope.now) around result least.old least.new
+        (trees.move position (expression_tree object.now) (expression_tree parent.now)) }
+{
+    move_temporaries(position, object, parent, least);
+    let Ok(object) = expression(alloc, scope, object, least) else {
+        return Err(AllocError);
+    };
+    let Ok(parent) = expression(alloc, scope, parent, least) else {
+        drop(object);
+        return Err(AllocError);
+    };
+    Ok(Action::Move(object, parent))
+}
+
+fn remove<'a>(
+    alloc: Global,
+    scope: &Scope<'_>,
+    position: Position,
+    e: &Expression<'_>,
+    least: &mut Option<Breach>,
+) -> Result<Action<'a>, AllocError>
+    ensures { (around : _) → GivesAction (seen_in scope.now) around result least.old least.new
+        (trees.remove position (expression_tree e.now)) }
+{
+    let Ok(object) = whole(alloc, scope, position, e, least) else {
+        return Err(AllocError);
+    };
+    Ok(Action::Remove(object))
+}
+
+// `break` or `continue`, which may stand there or not.
+#[tactic(auto, using(names::proofs::Noted::noted_none))]
+fn outside(stands: bool, position: Position, least: &mut Option<Breach>)
+    ensures { least.new ≡ noted least.old (outside_breaches stands position) }
+{
+    if !stands {
+        note(least, BREAK_OUTSIDE, position);
+    }
+}
+
+/// Resolves the names of a statement in which no other stands, and notes the rules that it breaks.
+///
+/// # Errors
+///
+/// `AllocError` where memory is refused.
+pub fn simple<'a>(
+    s: &SimpleStatement<'a>,
+    alloc: Global,
+    scope: &Scope<'_>,
+    around: Around,
+    least: &mut Option<Breach>,
+) -> Result<Action<'a>, AllocError>
+    ensures { GivesAction (seen_in scope.now) around result least.old least.new
+        (simple_tree s.now) }
+{
+    match s {
+        SimpleStatement::Empty => Ok(Action::Empty),
+        SimpleStatement::Text(text) => Ok(Action::Text(text)),
+        SimpleStatement::Print(all) => print(alloc, scope, all, least),
+        SimpleStatement::PrintReturn(all) => print_return(alloc, scope, all, least),
+        SimpleStatement::NewLine => Ok(Action::NewLine),
+        SimpleStatement::Break(position) => {
+            outside(around.can_break, *position, least);
+            Ok(Action::Break)
+        }
+        SimpleStatement::Continue(position) => {
+            outside(around.can_continue, *position, least);
+            Ok(Action::Continue)
+        }
+        SimpleStatement::Return => Ok(Action::ReturnValue(Value::Number(1))),
+        SimpleStatement::ReturnValue(position, e) => {
+            return_value(alloc, scope, *position, e, least)
+        }
+        SimpleStatement::ReturnTrue => Ok(Action::ReturnValue(Value::Number(1))),
+        SimpleStatement::ReturnFalse => Ok(Action::ReturnValue(Value::Number(0))),
+        SimpleStatement::Quit => Ok(Action::Quit),
+        SimpleStatement::Read(text, words) => Ok(read(scope, *text, *words, least)),
+        SimpleStatement::Give(position, e, given) => {
+            give(alloc, scope, *position, e, given, least)
+        }
+        SimpleStatement::Move(position, object, parent) => {
+            move_to(alloc, scope, *position, object, parent, least)
+        }
+        SimpleStatement::Remove(position, e) => remove(alloc, scope, *position, e, least),
+        SimpleStatement::Effect(position, e) => effect(alloc, scope, *position, e, least),
+    }
+}

@@ -1,0 +1,4 @@
+pub mod Temporaries
+pub mod Expressions
+pub mod Literals
+pub mod Walk

@@ -1,0 +1,628 @@
+//! Expressions: the rules that they can break, and what they resolve to.
+
+ghost use Rattle.std.specs.Prelude.{◌≡◌, ◌++◌, [], if◌then◌else◌, IfOk, map};
+ghost use Rattle.std.specs.Option.{option_map};
+ghost use Rattle.expressions.specs.Tree as trees;
+ghost use Rattle.expressions.specs.Tree.{expression_tree, name_tree, trees_of, propertied, link};
+ghost use Rattle.names.specs.Breaches.{at};
+ghost use Rattle.names.specs.Noted.{noted};
+ghost use Rattle.names.specs.Scope.{seen_in};
+ghost use Rattle.meaning.specs.Resolved.{value_of};
+ghost use Rattle.value_rules.specs.Expressions.{tested_breaches, tested_for, assigned};
+ghost use Rattle.names.specs.Names as names;
+ghost use Rattle.value_rules.specs.Walk.{IsResolved, GivesValue, AreResolved, AreLinks, AreProperties, IsTarget, IsAssigned, value_link};
+
+use crate::name_rules::{array, attribute, named, property, routine, target_of, value};
+use expressions::{
+    Binary, Comparison, Containment, Equality, Expression, Name, ObjectTest, Prefix, Relative,
+    Step, Width,
+};
+use lexer::{NOT_ASSIGNABLE, Position};
+use meaning::{Value, Variable};
+use names::{Binding, Breach, Scope, key_of_word, note};
+use std::alloc::{AllocError, Global};
+
+/// The name that an expression is, parentheses apart.
+pub fn name_of<'a>(e: &Expression<'a>) -> Option<Name<'a>>
+    ensures { option_map name_tree result ≡ names.name_of (expression_tree e.now) }
+{
+    match e {
+        Expression::Named(name) => Some(*name),
+        Expression::Parenthesised(inside) => name_of(inside),
+        Expression::Constant(_) => None,
+        Expression::Word(_) => None,
+        Expression::Call(_, _) => None,
+        Expression::Index(_, _, _) => None,
+        Expression::RelativeOf(_, _) => None,
+        Expression::Property(_, _, _) => None,
+        Expression::PropertyLength(_, _) => None,
+        Expression::PropertyEntry(_, _, _) => None,
+        Expression::Prefixed(_, _) => None,
+        Expression::StepBefore(_, _, _) => None,
+        Expression::StepAfter(_, _, _) => None,
+        Expression::Chain(_, _, _, _) => None,
+        Expression::Compare(_, _, _) => None,
+        Expression::Equal(_, _, _, _) => None,
+        Expression::Contained(_, _, _) => None,
+        Expression::Tested(_, _, _) => None,
+        Expression::Assign(_, _, _) => None,
+    }
+}
+
+// Whether an expression is an entry of an array, a property or a word of a property, parentheses apart.
+fn is_place(e: &Expression<'_>) -> bool
+    ensures { result ≡ names.is_place (expression_tree e.now) }
+{
+    match e {
+        Expression::Index(_, _, _) => true,
+        Expression::Property(_, _, _) => true,
+        Expression::PropertyEntry(_, _, _) => true,
+        Expression::Parenthesised(inside) => is_place(inside),
+        Expression::Named(_) => false,
+        Expression::Constant(_) => false,
+        Expression::Word(_) => false,
+        Expression::Call(_, _) => false,
+        Expression::RelativeOf(_, _) => false,
+        Expression::PropertyLength(_, _) => false,
+        Expression::Prefixed(_, _) => false,
+        Expression::StepBefore(_, _, _) => false,
+        Expression::StepAfter(_, _, _) => false,
+        Expression::Chain(_, _, _, _) => false,
+        Expression::Compare(_, _, _) => false,
+        Expression::Equal(_, _, _, _) => false,
+        Expression::Contained(_, _, _) => false,
+        Expression::Tested(_, _, _) => false,
+        Expression::Assign(_, _, _) => false,
+    }
+}
+
+// What is assigned to and is no name, by whether it may be assigned to.
+#[tactic(auto, using(names::proofs::Noted::noted_none))]
+fn not_place(place: bool, operator: Position, least: &mut Option<Breach>)
+    ensures { least.new ≡ noted least.old (if place then [] else at operator 26) }
+{
+    if !place {
+        note(least, NOT_ASSIGNABLE, operator);
+    }
+}
+
+// An assignment to what the left side was resolved to; where that is no place, any will do.
+fn assignment(left: Value, right: Box<Value>) -> Value
+    ensures { value_of result ≡ assigned (value_of left) (value_of right.value) }
+{
+    match left {
+        Value::Read(variable) => Value::Assign(variable, right),
+        Value::Entry(width, array, index) => Value::AssignEntry(width, array, index, right),
+        Value::Property(object, number) => Value::AssignProperty(object, number, right),
+        Value::PropertyWord(object, number, index) => {
+            Value::AssignPropertyWord(object, number, index, right)
+        }
+        Value::Number(_) => Value::Assign(Variable::Local(0), right),
+        Value::Call(_, _) => Value::Assign(Variable::Local(0), right),
+        Value::Prefixed(_, _) => Value::Assign(Variable::Local(0), right),
+        Value::StepBefore(_, _) => Value::Assign(Variable::Local(0), right),
+        Value::StepAfter(_, _) => Value::Assign(Variable::Local(0), right),
+        Value::Chain(_, _, _, _) => Value::Assign(Variable::Local(0), right),
+        Value::Compare(_, _, _) => Value::Assign(Variable::Local(0), right),
+        Value::Equal(_, _, _, _) => Value::Assign(Variable::Local(0), right),
+        Value::Assign(_, _) => Value::Assign(Variable::Local(0), right),
+        Value::AssignEntry(_, _, _, _) => Value::Assign(Variable::Local(0), right),
+        Value::Relative(_, _) => Value::Assign(Variable::Local(0), right),
+        Value::Contained(_, _, _) => Value::Assign(Variable::Local(0), right),
+        Value::Has(_, _, _) => Value::Assign(Variable::Local(0), right),
+        Value::Provides(_, _) => Value::Assign(Variable::Local(0), right),
+        Value::PropertySize(_, _) => Value::Assign(Variable::Local(0), right),
+        Value::AssignProperty(_, _, _) => Value::Assign(Variable::Local(0), right),
+        Value::AssignPropertyWord(_, _, _, _) => Value::Assign(Variable::Local(0), right),
+    }
+}
+
+// What an object is tested for, by a name there that stands for this.
+#[tactic(auto, using(names::proofs::Noted::noted_none))]
+fn tested_value(
+    object: Box<Value>,
+    test: ObjectTest,
+    name: Name<'_>,
+    found: Option<Binding>,
+    least: &mut Option<Breach>,
+) -> Value
+    ensures value { value_of result ≡ tested_for test (value_of object.value) found }
+    ensures breaches { least.new ≡ noted least.old
+        (tested_breaches test name.entry.position found) }
+{
+    match test {
+        ObjectTest::Has => Value::Has(true, object, attribute(name, found, least)),
+        ObjectTest::HasNot => Value::Has(false, object, attribute(name, found, least)),
+        ObjectTest::Provides => Value::Provides(object, property(name, found, least)),
+    }
+}
+
+// A name as an expression.
+fn named_value(scope: &Scope<'_>, name: Name<'_>, least: &mut Option<Breach>) -> Value
+    ensures { IsResolved (seen_in scope.now) (trees.named (name_tree name.entry))
+        least.old least.new (value_of result) }
+{
+    let found = scope.look(name.text);
+    value(&scope.file.numbers, name, found, least)
+}
+
+// The properties behind what resolved to a value.
+fn further_properties(
+    alloc: Global,
+    scope: &Scope<'_>,
+    first: Value,
+    others: &[Name<'_>],
+    least: &mut Option<Breach>,
+) -> Result<Value, AllocError>
+    ensures { IfOk result (λ v. AreProperties (seen_in scope.now) others.now (value_of first)
+        least.old least.new (value_of v)) }
+{
+    let mut found = first;
+    for name in others {
+        let number = property(*name, scope.look(name.text), least);
+        found = Value::Property(Box::new(alloc, found)?, number);
+    }
+    Ok(found)
+}
+
+/// Resolves the names of an expression, and notes the rules that it breaks.
+///
+/// # Errors
+///
+/// `AllocError` where memory is refused.
+#[cycle(expression)]
+pub fn expression(
+    alloc: Global,
+    scope: &Scope<'_>,
+    e: &Expression<'_>,
+    least: &mut Option<Breach>,
+) -> Result<Value, AllocError>
+    ensures { GivesValue (seen_in scope.now) result least.old least.new (expression_tree e.now) }
+{
+    match e {
+        Expression::Constant(number) => Ok(Value::Number(*number)),
+        Expression::Word(word) => Ok(Value::Number(scope.file.numbers.number(key_of_word(word)))),
+        Expression::Named(name) => Ok(named_value(scope, *name, least)),
+        Expression::Call(name, given) => call(alloc, scope, given, *name, least),
+        Expression::Index(name, width, inside) => index(alloc, scope, inside, *name, *width, least),
+        Expression::Parenthesised(inside) => expression(alloc, scope, inside, least),
+        Expression::RelativeOf(which, object) => relative_of(alloc, scope, object, *which, least),
+        Expression::Property(object, name, others) => {
+            properties(alloc, scope, object, *name, others, least)
+        }
+        Expression::PropertyLength(object, name) => length_of(alloc, scope, object, *name, least),
+        Expression::PropertyEntry(object, name, index) => {
+            property_entry(alloc, scope, object, *name, index, least)
+        }
+        Expression::Prefixed(prefix, operand) => prefixed(alloc, scope, operand, *prefix, least),
+        Expression::StepBefore(step, position, operand) => {
+            step_before(alloc, scope, operand, *step, *position, least)
+        }
+        Expression::StepAfter(operand, step, position) => {
+            step_after(alloc, scope, operand, *step, *position, least)
+        }
+        Expression::Chain(first, operator, second, links) => {
+            chain(alloc, scope, links, first, *operator, second, least)
+        }
+        Expression::Compare(left, comparison, right) => {
+            compare(alloc, scope, left, *comparison, right, least)
+        }
+        Expression::Equal(left, equality, right, others) => {
+            equal(alloc, scope, others, left, *equality, right, least)
+        }
+        Expression::Contained(left, containment, right) => {
+            contained(alloc, scope, left, *containment, right, least)
+        }
+        Expression::Tested(object, test, name) => tested(alloc, scope, object, *test, *name, least),
+        Expression::Assign(left, at, right) => assign(alloc, scope, left, *at, right, least),
+    }
+}
+
+// The same for an expression inside another, in its box.
+#[cycle(expression)]
+fn boxed(
+    alloc: Global,
+    scope: &Scope<'_>,
+    e: &Expression<'_>,
+    least: &mut Option<Breach>,
+) -> Result<Box<Value>, AllocError>
+    ensures { IfOk result (λ v. IsResolved (seen_in scope.now) (expression_tree e.now)
+        least.old least.new (value_of v.value)) }
+{
+    let Ok(found) = expression(alloc, scope, e, least) else {
+        return Err(AllocError);
+    };
+    Ok(Box::new(alloc, found)?)
+}
+
+#[cycle(expression)]
+fn all_expressions(
+    alloc: Global,
+    scope: &Scope<'_>,
+    given: &[Expression<'_>],
+    least: &mut Option<Breach>,
+) -> Result<Vec<Value>, AllocError>
+    ensures { IfOk result (λ v. AreResolved (seen_in scope.now) given.now
+        least.old least.new (map value_of v.items)) }
+{
+    let mut found = Vec::new(alloc);
+    for e in given {
+        let Ok(resolved) = expression(alloc, scope, e, least) else {
+            return Err(AllocError);
+        };
+        found.push(resolved)?;
+    }
+    Ok(found)
+}
+
+// The operators and operands that follow in a chain.
+#[cycle(expression)]
+fn chain_links(
+    alloc: Global,
+    scope: &Scope<'_>,
+    links: &[(Binary, Expression<'_>)],
+    least: &mut Option<Breach>,
+) -> Result<Vec<(Binary, Value)>, AllocError>
+    ensures { IfOk result (λ v. AreLinks (seen_in scope.now) links.now
+        least.old least.new (map value_link v.items)) }
+{
+    let mut found = Vec::new(alloc);
+    for link in links {
+        let Ok(operand) = expression(alloc, scope, &link.1, least) else {
+            return Err(AllocError);
+        };
+        found.push((link.0, operand))?;
+    }
+    Ok(found)
+}
+
+// What is stepped, by an operator at this position.
+#[cycle(expression)]
+fn variable(
+    alloc: Global,
+    scope: &Scope<'_>,
+    e: &Expression<'_>,
+    operator: Position,
+    least: &mut Option<Breach>,
+) -> Result<Variable, AllocError>
+    ensures { IfOk result (λ x. IsTarget (seen_in scope.now) operator (expression_tree e.now)
+        least.old least.new x) }
+{
+    match name_of(e) {
+        Some(name) => Ok(target_of(name, operator, scope.look(name.text), least)),
+        None => {
+            drop(expression(alloc, scope, e, least)?);
+            note(least, NOT_ASSIGNABLE, operator);
+            Ok(Variable::Local(0))
+        }
+    }
+}
+
+#[cycle(expression)]
+fn call(
+    alloc: Global,
+    scope: &Scope<'_>,
+    given: &[Expression<'_>],
+    name: Name<'_>,
+    least: &mut Option<Breach>,
+) -> Result<Value, AllocError>
+    ensures { GivesValue (seen_in scope.now) result least.old least.new
+        (trees.call (name_tree name.entry) (trees_of (map expression_tree given.now))) }
+{
+    let number = routine(name, given.len(), scope.look(name.text), least);
+    let Ok(given) = all_expressions(alloc, scope, given, least) else {
+        return Err(AllocError);
+    };
+    Ok(Value::Call(number, given))
+}
+
+#[cycle(expression)]
+fn index(
+    alloc: Global,
+    scope: &Scope<'_>,
+    operand: &Expression<'_>,
+    name: Name<'_>,
+    width: Width,
+    least: &mut Option<Breach>,
+) -> Result<Value, AllocError>
+    ensures { GivesValue (seen_in scope.now) result least.old least.new
+        (trees.index (name_tree name.entry) width (expression_tree operand.now)) }
+{
+    let number = array(name, scope.look(name.text), least);
+    let Ok(operand) = boxed(alloc, scope, operand, least) else {
+        return Err(AllocError);
+    };
+    Ok(Value::Entry(width, number, operand))
+}
+
+#[cycle(expression)]
+fn relative_of(
+    alloc: Global,
+    scope: &Scope<'_>,
+    object: &Expression<'_>,
+    relative: Relative,
+    least: &mut Option<Breach>,
+) -> Result<Value, AllocError>
+    ensures { GivesValue (seen_in scope.now) result least.old least.new
+        (trees.relative_of relative (expression_tree object.now)) }
+{
+    let Ok(object) = boxed(alloc, scope, object, least) else {
+        return Err(AllocError);
+    };
+    Ok(Value::Relative(relative, object))
+}
+
+#[cycle(expression)]
+fn properties(
+    alloc: Global,
+    scope: &Scope<'_>,
+    object: &Expression<'_>,
+    name: Name<'_>,
+    others: &[Name<'_>],
+    least: &mut Option<Breach>,
+) -> Result<Value, AllocError>
+    ensures { GivesValue (seen_in scope.now) result least.old least.new
+        (propertied (trees.property (expression_tree object.now) (name_tree name.entry))
+        others.now) }
+{
+    let Ok(object) = boxed(alloc, scope, object, least) else {
+        return Err(AllocError);
+    };
+    let number = property(name, scope.look(name.text), least);
+    further_properties(alloc, scope, Value::Property(object, number), others, least)
+}
+
+#[cycle(expression)]
+fn length_of(
+    alloc: Global,
+    scope: &Scope<'_>,
+    object: &Expression<'_>,
+    name: Name<'_>,
+    least: &mut Option<Breach>,
+) -> Result<Value, AllocError>
+    ensures { GivesValue (seen_in scope.now) result least.old least.new
+        (trees.property_length (expression_tree object.now) (name_tree name.entry)) }
+{
+    let Ok(object) = boxed(alloc, scope, object, least) else {
+        return Err(AllocError);
+    };
+    let number = property(name, scope.look(name.text), least);
+    Ok(Value::PropertySize(object, number))
+}
+
+#[cycle(expression)]
+fn property_entry(
+    alloc: Global,
+    scope: &Scope<'_>,
+    object: &Expression<'_>,
+    name: Name<'_>,
+    index: &Expression<'_>,
+    least: &mut Option<Breach>,
+) -> Result<Value, AllocError>
+    ensures { GivesValue (seen_in scope.now) result least.old least.new
+        (trees.property_entry (expression_tree object.now) (name_tree name.entry)
+        (expression_tree index.now)) }
+{
+    let Ok(object) = boxed(alloc, scope, object, least) else {
+        return Err(AllocError);
+    };
+    let number = property(name, scope.look(name.text), least);
+    let Ok(index) = boxed(alloc, scope, index, least) else {
+        return Err(AllocError);
+    };
+    Ok(Value::PropertyWord(object, number, index))
+}
+
+#[cycle(expression)]
+fn prefixed(
+    alloc: Global,
+    scope: &Scope<'_>,
+    operand: &Expression<'_>,
+    prefix: Prefix,
+    least: &mut Option<Breach>,
+) -> Result<Value, AllocError>
+    ensures { GivesValue (seen_in scope.now) result least.old least.new
+        (trees.prefixed prefix (expression_tree operand.now)) }
+{
+    let Ok(operand) = boxed(alloc, scope, operand, least) else {
+        return Err(AllocError);
+    };
+    Ok(Value::Prefixed(prefix, operand))
+}
+
+#[cycle(expression)]
+fn step_before(
+    alloc: Global,
+    scope: &Scope<'_>,
+    operand: &Expression<'_>,
+    step: Step,
+    position: Position,
+    least: &mut Option<Breach>,
+) -> Result<Value, AllocError>
+    ensures { GivesValue (seen_in scope.now) result least.old least.new
+        (trees.step_before step position (expression_tree operand.now)) }
+{
+    let Ok(variable) = variable(alloc, scope, operand, position, least) else {
+        return Err(AllocError);
+    };
+    Ok(Value::StepBefore(step, variable))
+}
+
+#[cycle(expression)]
+fn step_after(
+    alloc: Global,
+    scope: &Scope<'_>,
+    operand: &Expression<'_>,
+    step: Step,
+    position: Position,
+    least: &mut Option<Breach>,
+) -> Result<Value, AllocError>
+    ensures { GivesValue (seen_in scope.now) result least.old least.new
+        (trees.step_after (expression_tree operand.now) step position) }
+{
+    let Ok(variable) = variable(alloc, scope, operand, position, least) else {
+        return Err(AllocError);
+    };
+    Ok(Value::StepAfter(variable, step))
+}
+
+#[cycle(expression)]
+fn chain(
+    alloc: Global,
+    scope: &Scope<'_>,
+    links: &[(Binary, Expression<'_>)],
+    first: &Expression<'_>,
+    operator: Binary,
+    second: &Expression<'_>,
+    least: &mut Option<Breach>,
+) -> Result<Value, AllocError>
+    ensures { GivesValue (seen_in scope.now) result least.old least.new
+        (trees.chained
+        (trees.binary operator (expression_tree first.now) (expression_tree second.now))
+        (map link links.now)) }
+{
+    let Ok(first) = boxed(alloc, scope, first, least) else {
+        return Err(AllocError);
+    };
+    let Ok(second) = boxed(alloc, scope, second, least) else {
+        return Err(AllocError);
+    };
+    let Ok(links) = chain_links(alloc, scope, links, least) else {
+        return Err(AllocError);
+    };
+    Ok(Value::Chain(first, operator, second, links))
+}
+
+#[cycle(expression)]
+fn compare(
+    alloc: Global,
+    scope: &Scope<'_>,
+    left: &Expression<'_>,
+    comparison: Comparison,
+    right: &Expression<'_>,
+    least: &mut Option<Breach>,
+) -> Result<Value, AllocError>
+    ensures { GivesValue (seen_in scope.now) result least.old least.new
+        (trees.compare comparison (expression_tree left.now) (expression_tree right.now)) }
+{
+    let Ok(left) = boxed(alloc, scope, left, least) else {
+        return Err(AllocError);
+    };
+    let Ok(right) = boxed(alloc, scope, right, least) else {
+        return Err(AllocError);
+    };
+    Ok(Value::Compare(left, comparison, right))
+}
+
+#[cycle(expression)]
+fn equal(
+    alloc: Global,
+    scope: &Scope<'_>,
+    others: &[Expression<'_>],
+    left: &Expression<'_>,
+    equality: Equality,
+    right: &Expression<'_>,
+    least: &mut Option<Breach>,
+) -> Result<Value, AllocError>
+    ensures { GivesValue (seen_in scope.now) result least.old least.new
+        (trees.equal equality (expression_tree left.now)
+        (trees.more (expression_tree right.now) (trees_of (map expression_tree others.now)))) }
+{
+    let Ok(left) = boxed(alloc, scope, left, least) else {
+        return Err(AllocError);
+    };
+    let Ok(right) = boxed(alloc, scope, right, least) else {
+        return Err(AllocError);
+    };
+    let Ok(others) = all_expressions(alloc, scope, others, least) else {
+        return Err(AllocError);
+    };
+    Ok(Value::Equal(left, equality, right, others))
+}
+
+#[cycle(expression)]
+fn contained(
+    alloc: Global,
+    scope: &Scope<'_>,
+    left: &Expression<'_>,
+    containment: Containment,
+    right: &Expression<'_>,
+    least: &mut Option<Breach>,
+) -> Result<Value, AllocError>
+    ensures { GivesValue (seen_in scope.now) result least.old least.new
+        (trees.contained containment (expression_tree left.now) (expression_tree right.now)) }
+{
+    let Ok(left) = boxed(alloc, scope, left, least) else {
+        return Err(AllocError);
+    };
+    let Ok(right) = boxed(alloc, scope, right, least) else {
+        return Err(AllocError);
+    };
+    Ok(Value::Contained(left, containment, right))
+}
+
+#[cycle(expression)]
+fn tested(
+    alloc: Global,
+    scope: &Scope<'_>,
+    object: &Expression<'_>,
+    test: ObjectTest,
+    name: Name<'_>,
+    least: &mut Option<Breach>,
+) -> Result<Value, AllocError>
+    ensures { GivesValue (seen_in scope.now) result least.old least.new
+        (trees.tested test (expression_tree object.now) (name_tree name.entry)) }
+{
+    let Ok(object) = boxed(alloc, scope, object, least) else {
+        return Err(AllocError);
+    };
+    Ok(tested_value(object, test, name, scope.look(name.text), least))
+}
+
+// The left side of an assignment, whose operator stands at this position.
+#[cycle(expression)]
+fn left_side(
+    alloc: Global,
+    scope: &Scope<'_>,
+    e: &Expression<'_>,
+    operator: Position,
+    least: &mut Option<Breach>,
+) -> Result<Value, AllocError>
+    ensures { IfOk result (λ v. IsAssigned (seen_in scope.now) operator (expression_tree e.now)
+        least.old least.new (value_of v)) }
+{
+    match name_of(e) {
+        Some(name) => {
+            let found = scope.look(name.text);
+            target_of(name, operator, found, least);
+            Ok(named(&scope.file.numbers, found))
+        }
+        None => {
+            let left = expression(alloc, scope, e, least)?;
+            not_place(is_place(e), operator, least);
+            Ok(left)
+        }
+    }
+}
+
+#[cycle(expression)]
+fn assign(
+    alloc: Global,
+    scope: &Scope<'_>,
+    left: &Expression<'_>,
+    position: Position,
+    right: &Expression<'_>,
+    least: &mut Option<Breach>,
+) -> Result<Value, AllocError>
+    ensures { GivesValue (seen_in scope.now) result least.old least.new
+        (trees.assign (expression_tree left.now) position (expression_tree right.now)) }
+{
+    let Ok(left) = left_side(alloc, scope, left, position, least) else {
+        return Err(AllocError);
+    };
+    let Ok(right) = boxed(alloc, scope, right, least) else {
+        drop(left);
+        return Err(AllocError);
+    };
+    Ok(assignment(left, right))
+}

@@ -1,0 +1,213 @@
+//! Names: the rules that they can break by what they are used for, and what they resolve to.
+
+ghost use Rattle.std.specs.Prelude.{◌≡◌, ◌++◌, [], if◌then◌else◌};
+ghost use Rattle.names.specs.Breaches.{at};
+ghost use Rattle.names.specs.Noted.{noted};
+ghost use Rattle.names.specs.Scope.{number_at};
+ghost use Rattle.meaning.specs.Resolved.{value_of};
+ghost use Rattle.value_rules.specs.Expressions.{value_breaches, argument_breaches, call_breaches, array_name_breaches, attribute_breaches, property_breaches, target_breaches, value_of_binding, variable_of_binding, routine_of_binding, array_of_binding, attribute_of_binding, property_of_binding};
+
+use expressions::Name;
+use lexer::{NOT_ASSIGNABLE, Position, TOO_MANY, TOO_MANY_ARGUMENTS, UNKNOWN_NAME, WRONG_KIND};
+use meaning::{Value, Variable};
+use names::{Binding, Breach, Numbers, note};
+
+/// What a name is as a value; any number will do where it is none.
+pub fn named(numbers: &Numbers, found: Option<Binding>) -> Value
+    ensures { value_of result ≡ value_of_binding (number_at numbers.now) found }
+{
+    match found {
+        None => Value::Number(0),
+        Some(Binding::Constant(known)) => Value::Number(numbers.value(known)),
+        Some(Binding::Global(number)) => Value::Read(Variable::Global(number)),
+        Some(Binding::Array(_, _)) => Value::Number(0),
+        Some(Binding::Routine(_, _)) => Value::Number(0),
+        Some(Binding::Attribute(_)) => Value::Number(0),
+        Some(Binding::Property(_)) => Value::Number(0),
+        Some(Binding::Object(number)) => Value::Number((number % 65_536) as u16),
+        Some(Binding::Local(number)) => Value::Read(Variable::Local(number)),
+    }
+}
+
+#[tactic(auto, using(names::proofs::Noted::noted_none))]
+fn value_rules(position: Position, found: Option<Binding>, least: &mut Option<Breach>)
+    ensures { least.new ≡ noted least.old (value_breaches position found) }
+{
+    match found {
+        None => note(least, UNKNOWN_NAME, position),
+        Some(Binding::Constant(_)) => {}
+        Some(Binding::Global(_)) => {}
+        Some(Binding::Array(_, _)) => note(least, WRONG_KIND, position),
+        Some(Binding::Routine(_, _)) => note(least, WRONG_KIND, position),
+        Some(Binding::Attribute(_)) => note(least, WRONG_KIND, position),
+        Some(Binding::Property(_)) => note(least, WRONG_KIND, position),
+        Some(Binding::Object(_)) => {}
+        Some(Binding::Local(_)) => {}
+    }
+}
+
+/// A name as a value.
+pub fn value(
+    numbers: &Numbers,
+    name: Name<'_>,
+    found: Option<Binding>,
+    least: &mut Option<Breach>,
+) -> Value
+    ensures value { value_of result ≡ value_of_binding (number_at numbers.now) found }
+    ensures breaches { least.new ≡ noted least.old (value_breaches name.entry.position found) }
+{
+    value_rules(name.position, found, least);
+    named(numbers, found)
+}
+
+#[tactic(auto, using(names::proofs::Noted::noted_none, names::proofs::Noted::noted_append))]
+fn arguments(position: Position, given: usize, locals: usize, least: &mut Option<Breach>)
+    ensures { least.new ≡ noted least.old (argument_breaches position given locals) }
+{
+    if given > 7 {
+        note(least, TOO_MANY, position);
+    }
+    if given > locals {
+        note(least, TOO_MANY_ARGUMENTS, position);
+    }
+}
+
+// A name of another kind than is asked for; any number will do for it.
+#[tactic(auto, using(names::proofs::Noted::noted_none))]
+fn wrong_kind(position: Position, least: &mut Option<Breach>) -> usize
+    ensures value { result ≡ 0 }
+    ensures breaches { least.new ≡ noted least.old (at position 23) }
+{
+    note(least, WRONG_KIND, position);
+    0
+}
+
+/// A name that is called with so many arguments.
+#[tactic(auto, using(names::proofs::Noted::noted_none))]
+pub fn routine(
+    name: Name<'_>,
+    given: usize,
+    found: Option<Binding>,
+    least: &mut Option<Breach>,
+) -> usize
+    ensures value { result ≡ routine_of_binding found }
+    ensures breaches { least.new ≡ noted least.old (call_breaches name.entry.position given found) }
+{
+    match found {
+        None => {
+            note(least, UNKNOWN_NAME, name.position);
+            0
+        }
+        Some(Binding::Routine(number, locals)) => {
+            arguments(name.position, given, locals, least);
+            number
+        }
+        Some(Binding::Constant(_)) => wrong_kind(name.position, least),
+        Some(Binding::Global(_)) => wrong_kind(name.position, least),
+        Some(Binding::Array(_, _)) => wrong_kind(name.position, least),
+        Some(Binding::Attribute(_)) => wrong_kind(name.position, least),
+        Some(Binding::Property(_)) => wrong_kind(name.position, least),
+        Some(Binding::Object(_)) => wrong_kind(name.position, least),
+        Some(Binding::Local(_)) => wrong_kind(name.position, least),
+    }
+}
+
+/// A name before `->` or `-->`.
+#[tactic(auto, using(names::proofs::Noted::noted_none))]
+pub fn array(name: Name<'_>, found: Option<Binding>, least: &mut Option<Breach>) -> usize
+    ensures value { result ≡ array_of_binding found }
+    ensures breaches { least.new ≡ noted least.old (array_name_breaches name.entry.position found) }
+{
+    match found {
+        None => {
+            note(least, UNKNOWN_NAME, name.position);
+            0
+        }
+        Some(Binding::Array(number, _)) => number,
+        Some(Binding::Constant(_)) => wrong_kind(name.position, least),
+        Some(Binding::Global(_)) => wrong_kind(name.position, least),
+        Some(Binding::Routine(_, _)) => wrong_kind(name.position, least),
+        Some(Binding::Attribute(_)) => wrong_kind(name.position, least),
+        Some(Binding::Property(_)) => wrong_kind(name.position, least),
+        Some(Binding::Object(_)) => wrong_kind(name.position, least),
+        Some(Binding::Local(_)) => wrong_kind(name.position, least),
+    }
+}
+
+#[tactic(auto, using(names::proofs::Noted::noted_append))]
+fn no_target(position: Position, operator: Position, least: &mut Option<Breach>)
+    ensures { least.new ≡ noted least.old (at position 23 ++ at operator 26) }
+{
+    note(least, WRONG_KIND, position);
+    note(least, NOT_ASSIGNABLE, operator);
+}
+
+/// A name that is assigned to or stepped.
+#[tactic(auto, using(names::proofs::Noted::noted_none, names::proofs::Noted::noted_append))]
+pub fn target_of(
+    name: Name<'_>,
+    operator: Position,
+    found: Option<Binding>,
+    least: &mut Option<Breach>,
+) -> Variable
+    ensures value { result ≡ variable_of_binding found }
+    ensures breaches { least.new ≡ noted least.old
+        (target_breaches name.entry.position operator found) }
+{
+    match found {
+        None => note(least, UNKNOWN_NAME, name.position),
+        Some(Binding::Constant(_)) => note(least, NOT_ASSIGNABLE, operator),
+        Some(Binding::Array(_, _)) => no_target(name.position, operator, least),
+        Some(Binding::Routine(_, _)) => no_target(name.position, operator, least),
+        Some(Binding::Attribute(_)) => no_target(name.position, operator, least),
+        Some(Binding::Property(_)) => no_target(name.position, operator, least),
+        Some(Binding::Object(_)) => note(least, NOT_ASSIGNABLE, operator),
+        Some(Binding::Global(number)) => return Variable::Global(number),
+        Some(Binding::Local(number)) => return Variable::Local(number),
+    }
+    Variable::Local(0)
+}
+
+/// A name after `has` or `hasnt`, or in a `give`.
+#[tactic(auto, using(names::proofs::Noted::noted_none))]
+pub fn attribute(name: Name<'_>, found: Option<Binding>, least: &mut Option<Breach>) -> usize
+    ensures value { result ≡ attribute_of_binding found }
+    ensures breaches { least.new ≡ noted least.old (attribute_breaches name.entry.position found) }
+{
+    match found {
+        None => {
+            note(least, UNKNOWN_NAME, name.position);
+            0
+        }
+        Some(Binding::Attribute(number)) => number,
+        Some(Binding::Constant(_)) => wrong_kind(name.position, least),
+        Some(Binding::Global(_)) => wrong_kind(name.position, least),
+        Some(Binding::Array(_, _)) => wrong_kind(name.position, least),
+        Some(Binding::Routine(_, _)) => wrong_kind(name.position, least),
+        Some(Binding::Property(_)) => wrong_kind(name.position, least),
+        Some(Binding::Object(_)) => wrong_kind(name.position, least),
+        Some(Binding::Local(_)) => wrong_kind(name.position, least),
+    }
+}
+
+/// A name after `.`, `.#`, `.&` or `provides`.
+#[tactic(auto, using(names::proofs::Noted::noted_none))]
+pub fn property(name: Name<'_>, found: Option<Binding>, least: &mut Option<Breach>) -> usize
+    ensures value { result ≡ property_of_binding found }
+    ensures breaches { least.new ≡ noted least.old (property_breaches name.entry.position found) }
+{
+    match found {
+        None => {
+            note(least, UNKNOWN_NAME, name.position);
+            0
+        }
+        Some(Binding::Property(number)) => number,
+        Some(Binding::Constant(_)) => wrong_kind(name.position, least),
+        Some(Binding::Global(_)) => wrong_kind(name.position, least),
+        Some(Binding::Array(_, _)) => wrong_kind(name.position, least),
+        Some(Binding::Routine(_, _)) => wrong_kind(name.position, least),
+        Some(Binding::Attribute(_)) => wrong_kind(name.position, least),
+        Some(Binding::Object(_)) => wrong_kind(name.position, least),
+        Some(Binding::Local(_)) => wrong_kind(name.position, least),
+    }
+}

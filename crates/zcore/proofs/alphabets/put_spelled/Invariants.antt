@@ -1,5 +1,0 @@
-use Rattle.std.proofs.Common.{◌≡◌, ◌++◌, take}
-use Rattle.zcore.proofs.alphabets.put_spelled.Given as goal
-
-abbrev pub invariant-loop-z : goal.invariant-loop-z
-invariant-loop-z l = l.characters.items ≡ l.initial.characters.items ++ take l.z-index l.z-items

@@ -1,9 +1,0 @@
-use Rattle.std.proofs.Common.{◌≤◌, ◌++◌, ℕ, List, take}
-use Rattle.zcore.specs.TextParts.{IsFilled}
-use Rattle.zcore.proofs.text.put_spelling.Given as goal
-
-abbrev pub invariant-loop-z : goal.invariant-loop-z
-invariant-loop-z l = record {
-  room : l.filled ≤ 9;
-  so_far : (zs : List ℕ) → IsFilled zs l.fn.count l.fn.key → IsFilled (zs ++ take l.z-index l.z-items) l.filled l.key;
-}

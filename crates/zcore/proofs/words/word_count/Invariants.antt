@@ -1,7 +1,0 @@
-use Rattle.std.proofs.Common.{◌≡◌}
-use Rattle.zcore.specs.Words.{unpacked_text}
-use Rattle.zcore.proofs.Packing.{unpacked_from}
-use Rattle.zcore.proofs.words.word_count.Given as goal
-
-abbrev pub invariant-loop-count : goal.invariant-loop-count
-invariant-loop-count l = unpacked_from l.at l.bytes l.count ≡ unpacked_text l.at l.bytes

@@ -1,0 +1,209 @@
+-- Texts that use abbreviations: whole words of bytes, and no longer than without.
+use Rattle.std.proofs.Common.{◌≡◌, ℕ, zero, suc, ◌+◌, ◌-◌, ◌*◌, ◌/◌, ◌%◌, ◌<◌, ◌≤◌, Bool, true, false}
+use Rattle.std.proofs.Common.{eqb, List, [], ◌∷◌, ◌++◌, length, drop, get_or, Option, Some, None}
+use Rattle.std.proofs.Common.{refl, sym, ap, subst, arith}
+use Rattle.std.specs.Prelude.{replicate, if◌then◌else◌}
+use Rattle.std.specs.List.{All, list_all}
+use Rattle.std.proofs.lemmas.Bool.{and_parts}
+use Rattle.std.proofs.lemmas.List.{length-append}
+use Rattle.std.proofs.lemmas.List.Elements.{All-nil, All-cons}
+use Rattle.ztext.specs.Alphabets.{is_printable, lower_letters, upper_letters, punctuation, place_in, spelling_of}
+use Rattle.ztext.specs.Alphabets.{spelling_in_lower, spelling_in_upper, spelling_in_punctuation, spelled}
+use Rattle.ztext.specs.Words.{packed, missing, padded}
+use Rattle.ztext.specs.Text.{encoded}
+use Rattle.ztext.specs.Abbreviations.{abbreviation_at, Found, spelled_behind, encoded_with}
+use Rattle.ztext.specs.TextParts.{AreSmall}
+use Rattle.ztext.proofs.Packing.{small_append}
+use Rattle.ztext.proofs.TextSizes.{none_packed, some_packed}
+use Rattle.ztext.proofs.Spelling.{AreBytes, spelling_small, fives_small, printable_below}
+use Rattle.ztext.proofs.Longest.{Stands, spelled_cases}
+
+-- ---- bytes
+
+pub printable_bytes : (text : List ℕ) → list_all is_printable text ≡ true → AreBytes text
+printable_bytes [] e = tt
+printable_bytes (c ∷ cs) e =
+    let p = and_parts (is_printable c) (list_all is_printable cs) e in
+    (omega (arith, printable_below c p.0), printable_bytes cs p.1)
+
+behind_small : (texts : List (List ℕ)) (spelled : ℕ) (text : List ℕ) → AreBytes text
+    → AreSmall (spelled_behind texts spelled text)
+behind_small texts spelled [] h = tt
+behind_small texts spelled (c ∷ cs) h =
+    spelled_cases AreSmall texts c cs spelled (λ k is. behind_small texts k cs h.1)
+    (λ is. small_append (spelling_of c) (spelled_behind texts 0 cs) (spelling_small c h.0)
+    (behind_small texts 0 cs h.1))
+    (λ is x s. let few = s.few in
+    (omega arith, (omega arith, behind_small texts (x.length - 1) cs h.1)))
+
+pub shortened_small : (texts : List (List ℕ)) (text : List ℕ) → AreBytes text
+    → AreSmall (padded (spelled_behind texts 0 text))
+shortened_small texts text h =
+    let zs = spelled_behind texts 0 text in
+    small_append zs (replicate (missing (length zs)) 5) (behind_small texts 0 text h)
+    (fives_small (missing (length zs)))
+
+packed_bytes : (zs : List ℕ) → AreSmall zs → All (λ b. b < 256) (packed zs)
+unfolding packed
+packed_bytes [] h = All-nil (λ b. b < 256)
+packed_bytes (a ∷ []) h = All-nil (λ b. b < 256)
+packed_bytes (a ∷ b ∷ []) h = All-nil (λ b. b < 256)
+packed_bytes (a ∷ b ∷ c ∷ []) h = All-cons (λ b. b < 256) (128 + a * 4 + b / 8) (((b % 8) * 32 + c) ∷ [])
+    (omega (arith, h.0, h.1.0))
+    (All-cons (λ b. b < 256) ((b % 8) * 32 + c) [] (omega (arith, h.1.1.0)) (All-nil (λ b. b < 256)))
+packed_bytes (a ∷ b ∷ c ∷ d ∷ zs) h =
+    All-cons (λ b. b < 256) (0 + a * 4 + b / 8) (((b % 8) * 32 + c) ∷ packed (d ∷ zs)) (omega (arith, h.0, h.1.0))
+    (All-cons (λ b. b < 256) ((b % 8) * 32 + c) (packed (d ∷ zs)) (omega (arith, h.1.1.0))
+    (packed_bytes (d ∷ zs) h.1.1.1))
+
+-- its bytes are bytes
+pub encoded_with_bytes : (abbreviations : List (List ℕ)) (text : List ℕ) → list_all is_printable text ≡ true
+    → All (λ b. b < 256) (encoded_with abbreviations text)
+unfolding encoded_with
+encoded_with_bytes abbreviations text e =
+    packed_bytes (padded (spelled_behind abbreviations 0 text))
+    (shortened_small abbreviations text (printable_bytes text e))
+
+-- ---- words
+
+-- how many words so many Z-characters need
+abbrev words_of_many : ℕ → ℕ
+words_of_many zero = 1
+words_of_many (suc n) = (suc n + 2) / 3
+
+packed_size : (zs : List ℕ) (n : ℕ) → length zs ≡ n → length (packed (padded zs)) ≡ 2 * words_of_many n
+packed_size zs zero many = sym (none_packed zs 0 many refl)
+packed_size zs (suc n) many = sym (some_packed zs (suc n) many (λ e. omega arith))
+
+words_some : (n : ℕ) → 1 ≤ words_of_many n
+words_some zero = omega arith
+words_some (suc n) = omega arith
+
+words_more : (m n : ℕ) → m ≤ n → words_of_many m ≤ words_of_many n
+words_more zero n le = words_some n
+words_more (suc m) zero le = absurd (omega arith)
+words_more (suc m) (suc n) le = omega arith
+
+-- whole words, at least one
+pub encoded_with_words : (abbreviations : List (List ℕ)) (text : List ℕ)
+    → (length (encoded_with abbreviations text) % 2 ≡ 0) × (2 ≤ length (encoded_with abbreviations text))
+unfolding encoded_with
+encoded_with_words abbreviations text =
+    let zs = spelled_behind abbreviations 0 text in
+    let size = packed_size zs (length zs) refl in
+    let some = words_some (length zs) in
+    (omega (arith, size), omega (arith, size))
+
+-- ---- without abbreviations
+
+plain_behind : (text : List ℕ) → spelled_behind [] 0 text ≡ spelled text
+plain_behind [] = refl
+plain_behind (c ∷ cs) = ap (λ zs. spelling_of c ++ zs) (plain_behind cs)
+
+pub plain_with : (text : List ℕ) → encoded_with [] text ≡ encoded text
+unfolding encoded_with encoded
+plain_with text = ap (λ zs. packed (padded zs)) (plain_behind text)
+
+-- ---- no longer than without
+
+abbreviation_is : (texts : List (List ℕ)) (n : ℕ) → abbreviation_at texts n ≡ get_or texts n []
+abbreviation_is [] n = refl
+abbreviation_is (a ∷ texts) zero = refl
+abbreviation_is (a ∷ texts) (suc n) = abbreviation_is texts n
+
+-- what is found is as long as each abbreviation is
+pub long_enough : (texts : List (List ℕ)) (text : List ℕ) (x : Found) (least : ℕ)
+    → All (λ (a : List ℕ). least ≤ length a) texts → Stands texts text x → least ≤ x.length
+long_enough texts text x least h s =
+    let here : least ≤ length (get_or texts x.number []) = h x.number [] s.within in
+    omega (arith, s.size, ap length (abbreviation_is texts x.number))
+
+-- and no longer than the text
+within_text : (texts : List (List ℕ)) (text : List ℕ) (x : Found) → Stands texts text x → x.length ≤ length text
+within_text texts text x s =
+    omega (
+      arith,
+      s.size,
+      ap length s.front,
+      length-append (abbreviation_at texts x.number) (drop x.length text),
+    )
+
+outside_some : (o : Option ℕ) (c : ℕ) → 1 ≤ length (spelling_in_punctuation o c)
+outside_some (Some place) c = omega arith
+outside_some None c = omega arith
+
+line_some : (b : Bool) (c : ℕ)
+    → 1 ≤ length (if b then 5 ∷ 7 ∷ [] else spelling_in_punctuation (place_in punctuation c) c)
+line_some true c = omega arith
+line_some false c = outside_some (place_in punctuation c) c
+
+upper_some : (o : Option ℕ) (c : ℕ) → 1 ≤ length (spelling_in_upper o c)
+upper_some (Some place) c = omega arith
+upper_some None c = line_some (eqb c 13) c
+
+lower_some : (o : Option ℕ) (c : ℕ) → 1 ≤ length (spelling_in_lower o c)
+lower_some (Some place) c = omega arith
+lower_some None c = upper_some (place_in upper_letters c) c
+
+space_some : (b : Bool) (c : ℕ)
+    → 1 ≤ length (if b then 0 ∷ [] else spelling_in_lower (place_in lower_letters c) c)
+space_some true c = omega arith
+space_some false c = lower_some (place_in lower_letters c) c
+
+spelling_some : (c : ℕ) → 1 ≤ length (spelling_of c)
+unfolding spelling_of
+spelling_some c = space_some (eqb c 32) c
+
+-- each character has a Z-character at least
+spelled_behind_front : (n : ℕ) (text : List ℕ) → n ≤ length text
+    → n + length (spelled (drop n text)) ≤ length (spelled text)
+spelled_behind_front zero text le = omega arith
+spelled_behind_front (suc n) [] le = absurd (omega arith)
+spelled_behind_front (suc n) (c ∷ cs) le =
+    omega (
+      arith,
+      spelled_behind_front n cs (omega arith),
+      spelling_some c,
+      length-append (spelling_of c) (spelled cs),
+    )
+
+pub drop_none : (n : ℕ) → drop {A = ℕ} n [] ≡ []
+drop_none zero = refl
+drop_none (suc n) = refl
+
+behind_shorter : (texts : List (List ℕ)) (spelled_ones : ℕ) (text : List ℕ)
+    → All (λ (a : List ℕ). 2 ≤ length a) texts
+    → length (spelled_behind texts spelled_ones text) ≤ length (spelled (drop spelled_ones text))
+behind_shorter texts n [] h = rw (drop_none n) (omega arith)
+behind_shorter texts n (c ∷ cs) h =
+    spelled_cases (λ zs. length zs ≤ length (spelled (drop n (c ∷ cs)))) texts c cs n
+    (λ k is. subst (λ m. length (spelled_behind texts k cs) ≤ length (spelled (drop m (c ∷ cs)))) (sym is)
+    (behind_shorter texts k cs h))
+    (λ is. subst
+    (λ m. length (spelling_of c ++ spelled_behind texts 0 cs) ≤ length (spelled (drop m (c ∷ cs)))) (sym is)
+    (omega (
+      arith,
+      behind_shorter texts 0 cs h,
+      length-append (spelling_of c) (spelled_behind texts 0 cs),
+      length-append (spelling_of c) (spelled cs),
+    )))
+    (λ is x s. subst
+    (λ m. suc (suc (length (spelled_behind texts (x.length - 1) cs))) ≤ length (spelled (drop m (c ∷ cs)))) (sym is)
+    (let two = long_enough texts (c ∷ cs) x 2 h s in
+    let most = within_text texts (c ∷ cs) x s in
+    omega (
+      arith,
+      behind_shorter texts (x.length - 1) cs h,
+      spelled_behind_front (x.length - 1) cs (omega arith),
+      spelling_some c,
+      length-append (spelling_of c) (spelled cs),
+    )))
+
+pub encoded_with_shorter : (abbreviations : List (List ℕ)) (text : List ℕ)
+    → All (λ (a : List ℕ). 2 ≤ length a) abbreviations
+    → length (encoded_with abbreviations text) ≤ length (encoded text)
+unfolding encoded_with encoded
+encoded_with_shorter abbreviations text h =
+    let zs = spelled_behind abbreviations 0 text in
+    let less = words_more (length zs) (length (spelled text)) (behind_shorter abbreviations 0 text h) in
+    omega (arith, packed_size zs (length zs) refl, packed_size (spelled text) (length (spelled text)) refl)

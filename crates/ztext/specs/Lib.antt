@@ -1,0 +1,10 @@
+pub mod Bytes
+pub mod Alphabets
+pub mod Results
+pub mod Reading
+pub mod Words
+pub mod Text
+pub mod Abbreviations
+pub mod Faults
+pub mod Fronts
+pub mod TextParts

@@ -1,0 +1,87 @@
+-- Words for the contracts of the functions within the crate.
+use Rattle.std.specs.Prelude.{◌≡◌, ◌+◌, ◌*◌, ◌/◌, ◌%◌, ◌<◌, ℕ, zero, suc, min, Bool, true, false, List, [], ◌∷◌, ◌++◌}
+use Rattle.std.specs.Prelude.{length, take, replicate, slice_index, if◌then◌else◌, Option, Some, None, Result, Ok, Err}
+use Rattle.std.specs.Prelude.{MatchResult}
+use Rattle.ztext.specs.declared.abbreviations.Found as declared_found
+use Rattle.ztext.specs.declared.fault.TextFault.{TextFault}
+use Rattle.ztext.specs.declared.fault.TextFault.TheVariants as faults
+use Rattle.ztext.specs.declared.reading.State.TheVariants as code
+use Rattle.ztext.specs.declared.reading.State as declared
+use Rattle.ztext.specs.declared.reading.Output.{Output}
+use Rattle.ztext.specs.declared.reading.Output.TheVariants as outputs
+use Rattle.ztext.specs.Results.{◌>>=◌}
+use Rattle.ztext.specs.Reading.{Cause, Character, State, Lower, Upper, Punctuation, EscapeHigh, EscapeLow}
+use Rattle.ztext.specs.Reading.{Abbreviated}
+use Rattle.ztext.specs.Words.{three_of}
+use Rattle.ztext.specs.Text.{refused, abbreviation, has_abbreviations, abbreviation_address}
+use Rattle.ztext.specs.Abbreviations.{Found, begins}
+
+-- Z-characters are of five bits
+abbrev pub AreSmall : List ℕ → Type 0
+AreSmall [] = Unit {0}
+AreSmall (z ∷ zs) = (z < 32) × AreSmall zs
+
+-- the Z-characters of the first words of bytes
+unfoldable pub words_of : ℕ → List ℕ → List ℕ
+words_of zero bytes = []
+words_of (suc n) bytes = words_of n bytes ++ three_of (slice_index bytes (2 * n)) (slice_index bytes (2 * n + 1))
+
+-- the Z-character at a place of a text that stands at the front of bytes
+abbrev pub z_character_at : List ℕ → ℕ → ℕ
+z_character_at bytes place = slice_index
+    (three_of (slice_index bytes (2 * (place / 3))) (slice_index bytes (2 * (place / 3) + 1))) (place % 3)
+
+-- the state of the definitions that a state of the code is
+abbrev pub state_of : declared.State → State
+state_of code.Lower = Lower
+state_of code.Upper = Upper
+state_of code.Punctuation = Punctuation
+state_of code.EscapeHigh = EscapeHigh
+state_of (code.EscapeLow high) = EscapeLow high
+state_of (code.Abbreviated row) = Abbreviated row
+
+-- an abbreviation begins with a Z-character 1 to 3
+abbrev pub HasRow : declared.State → Type 0
+HasRow (code.Abbreviated row) = (0 < row) × (row < 4)
+HasRow _ = Unit {0}
+
+-- what a Z-character prints is what the definition answers, where `expand` gives the texts of abbreviations
+abbrev pub Prints : (ℕ → Result (List ℕ) Cause) → Result (List ℕ) Cause → Result Output TextFault → Type 0
+Prints expand read (Ok outputs.Nothing) = read ≡ Ok []
+Prints expand read (Ok (outputs.Character c)) = read ≡ Ok (c ∷ [])
+Prints expand read (Ok (outputs.Abbreviation number)) = (read ≡ expand number) × (number < 96)
+Prints expand read (Err faults.Character) = read ≡ Err Character
+Prints expand read (Err _) = ⊥
+
+-- the address of an abbreviation's text, or the fault of a story that has no table
+abbrev pub FindsAbbreviation : List ℕ → ℕ → Result ℕ TextFault → Type 0
+FindsAbbreviation story number result = MatchResult result
+    (λ place. (has_abbreviations story ≡ true) × (place ≡ abbreviation_address story number))
+    (λ fault. (fault ≡ faults.Abbreviation) × (has_abbreviations story ≡ false))
+
+-- the texts of abbreviations, of which the text of an abbreviation has none
+abbrev pub expansion : Bool → List ℕ → ℕ → Result (List ℕ) Cause
+expansion true story = refused
+expansion false story = abbreviation story
+
+-- characters, then those of a text and the address after it
+abbrev pub after_text : List ℕ → Result (List ℕ × ℕ) Cause → Result (List ℕ × ℕ) Cause
+after_text text read = read >>= λ x. Ok (text ++ x.0, x.1)
+
+-- the first nine of Z-characters, filled with fives
+unfoldable pub filled : List ℕ → List ℕ
+filled zs = take 9 (zs ++ replicate 9 5)
+
+-- a key holds the first nine of Z-characters, `count` of them so far
+pub record IsFilled (zs : List ℕ) (count : ℕ) (key : List ℕ) : Type 0 where
+  pub characters : key ≡ filled zs
+  pub many : count ≡ min 9 (length zs)
+
+-- the abbreviation of the definitions that one of the code is
+abbrev pub found_of : Option declared_found.Found → Option Found
+found_of None = None
+found_of (Some x) = Some (record { number = x.number; length = x.length })
+
+-- the abbreviation of a number, where it stands at the beginning of a text
+abbrev pub at_front : ℕ → List ℕ → List ℕ → Option Found
+at_front number a text = if begins a text then Some (record { number = number; length = length a }) else None
