@@ -1,7 +1,8 @@
 -- Abbreviations, computed: the rules that they break, and what they resolve to.
 use Rattle.std.proofs.Common.{◌≡◌, ℕ, zero, suc, ◌+◌, List, [], ◌∷◌, ◌++◌, refl}
 use Rattle.std.specs.Prelude.{codes}
-use Rattle.syntax.specs.Tree.{TextTree, ProgramTree}
+use Rattle.directives.specs.Tree.{TextTree}
+use Rattle.syntax.specs.Tree.{ProgramTree}
 use Rattle.names.specs.Breaches.{at}
 use Rattle.names.specs.Names.{table_of, key_of, look_up}
 use Rattle.checker.specs.Programs.{program_breaches, resolve_with, file_of, resolve_program}

@@ -6,10 +6,11 @@ use Rattle.expressions.specs.declared.tree.Binary.TheVariants as op
 use Rattle.expressions.specs.declared.tree.Step.TheVariants as steps
 use Rattle.expressions.specs.declared.tree.Width.TheVariants as widths
 use Rattle.statements.specs.Tree as s
-use Rattle.syntax.specs.declared.tree.ArrayKind.{ArrayKind}
-use Rattle.syntax.specs.declared.tree.ArrayKind.TheVariants as kinds
-use Rattle.syntax.specs.Tree as d
-use Rattle.syntax.specs.Tree.{DirectiveTree, ProgramTree}
+use Rattle.directives.specs.declared.tree.ArrayKind.{ArrayKind}
+use Rattle.directives.specs.declared.tree.ArrayKind.TheVariants as kinds
+use Rattle.directives.specs.Tree as d
+use Rattle.directives.specs.Tree.{DirectiveTree}
+use Rattle.syntax.specs.Tree.{ProgramTree}
 use Rattle.names.specs.Breaches.{at}
 use Rattle.checker.specs.Programs.{program_breaches, resolve_with, file_of, resolve_program}
 use Rattle.names.specs.Names.{table_of, key_of, look_up}

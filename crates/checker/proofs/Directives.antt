@@ -4,11 +4,11 @@ use Rattle.std.proofs.Common.{refl, sym, subst, ap, ◌∙◌}
 use Rattle.std.specs.Prelude.{map}
 use Rattle.std.specs.List.{concat}
 use Rattle.std.specs.Global.{Vec}
-use Rattle.syntax.specs.declared.tree.Directive.{Directive}
+use Rattle.directives.specs.declared.tree.Directive.{Directive}
 use Rattle.expressions.specs.Tree.{NameTree}
 use Rattle.statements.specs.Tree.{LiteralTree}
-use Rattle.syntax.specs.Tree.{ArrayTree, ObjectTree, RoutineTree, DirectiveTree, global, constant, array, attribute}
-use Rattle.syntax.specs.Tree.{property, object, routine, directive_tree}
+use Rattle.directives.specs.Tree.{ArrayTree, ObjectTree, RoutineTree, DirectiveTree, global, constant, array, attribute}
+use Rattle.directives.specs.Tree.{property, object, routine, directive_tree}
 use Rattle.meaning.specs.declared.arrays.Arrays.{Arrays}
 use Rattle.names.specs.declared.breach.Breach.{Breach}
 use Rattle.meaning.specs.declared.checked.CheckedObject.{CheckedObject}
@@ -21,15 +21,17 @@ use Rattle.names.proofs.Dropped.{drop_here, drop_end}
 use Rattle.names.proofs.Noted.{noted_append}
 use Rattle.meaning.specs.Objects.{ObjectOf}
 use Rattle.meaning.specs.Resolved.{RoutineOf, object_of, routine_of, title_of}
-use Rattle.checker.specs.Arrays.{array_bytes}
+use Rattle.array_rules.specs.Arrays.{array_bytes, arrays_of}
 use Rattle.value_rules.specs.Literals.{initial_value}
-use Rattle.checker.specs.Found.{IsArrayAdded, IsAdded, IsAdding}
-use Rattle.checker.specs.Objects.{object_in}
-use Rattle.checker.specs.Programs.{globals_of, arrays_of, defaults_in, objects_in, routines_of, resolve_routine}
+use Rattle.array_rules.specs.Entries.{IsArrayAdded}
+use Rattle.checker.specs.Found.{IsAdded, IsAdding}
+use Rattle.object_rules.specs.Objects.{object_in}
+use Rattle.checker.specs.Programs.{globals_of, defaults_in, routines_of, resolve_routine}
+use Rattle.object_rules.specs.Files.{objects_in}
 use Rattle.checker.specs.Programs.{routine_trees, title, directive_breaches, directives_breaches}
-use Rattle.checker.proofs.Mapped.{nothing_more, map_push}
-use Rattle.checker.proofs.DirectiveLists.{bytes_more, defaults_more, globals_more, list_step, objects_more}
-use Rattle.checker.proofs.DirectiveLists.{routines_more, sizes_more, titles_more}
+use Rattle.names.proofs.Mapped.{nothing_more, map_push}
+use Rattle.array_rules.proofs.ArrayLists.{bytes_more, list_step, sizes_more}
+use Rattle.checker.proofs.DirectiveLists.{defaults_more, globals_more, objects_more, routines_more, titles_more}
 
 -- what one directive adds
 

@@ -8,8 +8,8 @@ use Rattle.std.proofs.Math.Path.{fun_ext}
 use Rattle.expressions.specs.declared.tree.Name.{Name}
 use Rattle.expressions.specs.Tree.{NameTree, name_tree}
 use Rattle.statements.specs.declared.tree.Statement.{Statement}
-use Rattle.syntax.specs.declared.tree.Routine.{Routine}
-use Rattle.syntax.specs.Tree.{routine_tree}
+use Rattle.directives.specs.declared.tree.Routine.{Routine}
+use Rattle.directives.specs.Tree.{routine_tree}
 use Rattle.names.specs.declared.binding.Binding.{Binding}
 use Rattle.names.specs.declared.breach.Breach.{Breach}
 use Rattle.names.specs.declared.table.Scope.{Scope}
@@ -19,7 +19,7 @@ use Rattle.names.specs.Names.{File, Seen, seen_from}
 use Rattle.names.specs.Noted.{noted}
 use Rattle.names.specs.Scope.{either, number_at, file_in, look_in, local_binding, seen_in}
 use Rattle.meaning.specs.Resolved.{Action, Actions, RoutineOf, actions_of, routine_of, title_of}
-use Rattle.rules.specs.Statements.{statements_breaches}
+use Rattle.simple_rules.specs.Statements.{statements_breaches}
 use Rattle.meaning.specs.Around.{outside}
 use Rattle.value_rules.specs.Walk.{IsWalked}
 use Rattle.rules.specs.Walk.{AreActions}

@@ -6,13 +6,13 @@ use Rattle.expressions.specs.declared.tree.Comparison.TheVariants as comparison
 use Rattle.expressions.specs.declared.tree.Step.TheVariants as steps
 use Rattle.statements.specs.Tree as s
 use Rattle.statements.specs.Tree.{RangeTree}
-use Rattle.syntax.specs.Tree as d
+use Rattle.directives.specs.Tree as d
 use Rattle.syntax.specs.Tree.{ProgramTree}
 use Rattle.meaning.specs.declared.resolved.Variable.TheVariants as variables
 use Rattle.meaning.specs.Resolved as r
 use Rattle.names.specs.Breaches.{at}
 use Rattle.names.specs.Names.{table_of, key_of, look_up}
-use Rattle.checker.specs.Objects.{all_defaults}
+use Rattle.object_rules.specs.Objects.{all_defaults}
 use Rattle.checker.specs.Programs.{program_breaches, resolve_with, file_of, resolve_program}
 use Rattle.checker.proofs.Samples.{p, the, routine, program}
 

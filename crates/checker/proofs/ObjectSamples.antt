@@ -4,8 +4,9 @@ use Rattle.std.specs.Prelude.{codes}
 use Rattle.lexer.specs.declared.token.Position.{Position}
 use Rattle.expressions.specs.Tree.{NameTree}
 use Rattle.statements.specs.Tree as s
-use Rattle.syntax.specs.Tree as d
-use Rattle.syntax.specs.Tree.{DirectiveTree, ObjectTree, ProgramTree}
+use Rattle.directives.specs.Tree as d
+use Rattle.directives.specs.Tree.{DirectiveTree, ObjectTree}
+use Rattle.syntax.specs.Tree.{ProgramTree}
 use Rattle.names.specs.Breaches.{at}
 use Rattle.names.specs.Names.{table_of, key_of, look_up}
 use Rattle.ztext.specs.Text.{encoded}

@@ -10,8 +10,9 @@ use Rattle.expressions.specs.declared.tree.Prefix.TheVariants as prefix
 use Rattle.expressions.specs.declared.tree.Step.TheVariants as steps
 use Rattle.statements.specs.Tree as s
 use Rattle.statements.specs.Tree.{StatementTree, StatementTrees}
-use Rattle.syntax.specs.Tree as d
-use Rattle.syntax.specs.Tree.{DirectiveTree, ProgramTree}
+use Rattle.directives.specs.Tree as d
+use Rattle.directives.specs.Tree.{DirectiveTree}
+use Rattle.syntax.specs.Tree.{ProgramTree}
 use Rattle.zcore.specs.declared.place.Place.TheVariants as places
 use Rattle.names.specs.Breaches.{at}
 use Rattle.checker.specs.Programs.{program_breaches, resolve_with, file_of, resolve_program}

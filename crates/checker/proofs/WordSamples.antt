@@ -5,10 +5,11 @@ use Rattle.expressions.specs.Tree.{constant, word, named, index, equal, more, no
 use Rattle.expressions.specs.declared.tree.Equality.TheVariants as equality
 use Rattle.expressions.specs.declared.tree.Width.TheVariants as widths
 use Rattle.statements.specs.Tree as s
-use Rattle.syntax.specs.declared.tree.ArrayKind.{ArrayKind}
-use Rattle.syntax.specs.declared.tree.ArrayKind.TheVariants as kinds
-use Rattle.syntax.specs.Tree as d
-use Rattle.syntax.specs.Tree.{DirectiveTree, ProgramTree}
+use Rattle.directives.specs.declared.tree.ArrayKind.{ArrayKind}
+use Rattle.directives.specs.declared.tree.ArrayKind.TheVariants as kinds
+use Rattle.directives.specs.Tree as d
+use Rattle.directives.specs.Tree.{DirectiveTree}
+use Rattle.syntax.specs.Tree.{ProgramTree}
 use Rattle.ztext.specs.Alphabets.{spelling_of}
 use Rattle.zcore.specs.Arithmetic.{signed_text, decimal, quotient, remainder}
 use Rattle.zcore.specs.Dictionary.{number_of_key}
@@ -17,7 +18,7 @@ use Rattle.ztext.specs.Words.{packed}
 use Rattle.names.specs.Breaches.{at}
 use Rattle.names.specs.Keys.{key_of_word}
 use Rattle.names.specs.Names.{table_of, key_of, look_up}
-use Rattle.checker.specs.Objects.{all_defaults}
+use Rattle.object_rules.specs.Objects.{all_defaults}
 use Rattle.checker.specs.Programs.{program_breaches, resolve_with, file_of, resolve_program}
 use Rattle.meaning.specs.Resolved as r
 use Rattle.meaning.specs.Meaning.{meaning}

@@ -1,24 +1,21 @@
 -- Words of proofs: what walks over directives find, and what they note.
-use Rattle.std.specs.Prelude.{◌≡◌, ℕ, List, [], ◌∷◌, ◌++◌, length, Option, map}
+use Rattle.std.specs.Prelude.{◌≡◌, ℕ, List, ◌++◌, length, Option, map}
 use Rattle.std.specs.List.{concat}
-use Rattle.expressions.specs.declared.tree.Width.{Width}
 use Rattle.expressions.specs.declared.tree.Width.TheVariants as widths
 use Rattle.expressions.specs.Tree.{NameTree}
-use Rattle.syntax.specs.declared.tree.ArrayKind.{ArrayKind}
-use Rattle.syntax.specs.declared.tree.ArrayKind.TheVariants as kinds
-use Rattle.syntax.specs.declared.tree.ArrayValue.{ArrayValue}
-use Rattle.syntax.specs.Tree.{RoutineTree, DirectiveTree, value_tree}
-use Rattle.meaning.specs.declared.arrays.Arrays.{Arrays}
+use Rattle.directives.specs.declared.tree.ArrayKind.TheVariants as kinds
+use Rattle.directives.specs.Tree.{RoutineTree, DirectiveTree}
 use Rattle.names.specs.declared.breach.Breach.{Breach}
 use Rattle.meaning.specs.declared.checked.CheckedRoutine.{CheckedRoutine}
 use Rattle.checker.specs.declared.directive_rules.Found.{Found}
-use Rattle.names.specs.Names.{Table, File, Seen}
-use Rattle.checker.specs.Arrays.{entry_bytes, entry_value, entry_breaches}
+use Rattle.names.specs.Names.{File, Seen}
 use Rattle.meaning.specs.Resolved.{RoutineOf, object_of, routine_of, title_of}
-use Rattle.rules.specs.Statements.{statements_breaches}
+use Rattle.simple_rules.specs.Statements.{statements_breaches}
 use Rattle.meaning.specs.Around.{outside}
 use Rattle.checker.specs.Programs.{routine_breaches, resolve_body, resolve_routine, routine_trees, title, globals_of}
-use Rattle.checker.specs.Programs.{arrays_of, defaults_in, objects_in, routines_of}
+use Rattle.array_rules.specs.Arrays.{arrays_of}
+use Rattle.checker.specs.Programs.{defaults_in, routines_of}
+use Rattle.object_rules.specs.Files.{objects_in}
 use Rattle.value_rules.specs.Walk.{IsWalked}
 
 -- in a routine that sees so much of the file
@@ -34,33 +31,6 @@ abbrev pub IsRoutineOf : File → RoutineTree → Option Breach → Option Breac
 IsRoutineOf file r before after c =
     IsWalked {A = RoutineOf × (NameTree × ℕ)} (routine_breaches file.table r) before after (routine_of c, title_of c)
     (resolve_routine file r, title r)
-
--- Arrays
-
--- the most entries that an array may have
-abbrev pub most : ArrayKind → ℕ
-most kinds.Bytes = 32000
-most kinds.Words = 16000
-most kinds.String = 255
-most kinds.Table = 15999
-
--- the number of the entries, where the kind has it in front
-abbrev pub number_bytes : ArrayKind → ℕ → List ℕ
-number_bytes kinds.Bytes n = []
-number_bytes kinds.Words n = []
-number_bytes kinds.String n = entry_bytes widths.Byte n
-number_bytes kinds.Table n = entry_bytes widths.Word n
-
-abbrev pub own_entry_bytes : File → Width → ArrayValue → List ℕ
-own_entry_bytes file width v = entry_bytes width (entry_value file (value_tree v))
-
-abbrev pub own_entry_breaches : Table → Width → ArrayValue → List Breach
-own_entry_breaches whole width v = entry_breaches whole width (value_tree v)
-
--- these bytes are added as one array
-pub record IsArrayAdded (bytes : List ℕ) (old new : Arrays) : Type 0 where
-  pub bytes_added : new.bytes.items ≡ old.bytes.items ++ bytes
-  pub size_added : new.sizes.items ≡ old.sizes.items ++ length bytes ∷ []
 
 -- what these directives resolve to
 pub record IsFound (file : File) (ds : List DirectiveTree) (found : Found) : Type 0 where

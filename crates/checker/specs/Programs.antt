@@ -1,13 +1,14 @@
 -- The rules that a program can break, and what it resolves to.
 use Rattle.std.specs.Prelude.{◌≡◌, ◌==◌, ◌||◌, ◌%◌, ℕ, nat_le, nat_lt, Bool, true, false, map, if◌then◌else◌, List, []}
 use Rattle.std.specs.Prelude.{◌∷◌, ◌++◌, codes}
-use Rattle.std.specs.Prelude.{length, Option, Some, None, is_some}
+use Rattle.std.specs.Prelude.{length, Option, Some, None}
 use Rattle.lexer.specs.declared.fault.TheConstants.{BAD_ABBREVIATION, DEFINED_TWICE, NO_PROPER_MAIN, TOO_MANY}
 use Rattle.lexer.specs.declared.token.Position.{Position}
 use Rattle.expressions.specs.Tree.{NameTree}
 use Rattle.statements.specs.Tree.{LiteralTree}
-use Rattle.syntax.specs.Tree.{RoutineTree, DirectiveTree, global, constant, array, attribute, property, object}
-use Rattle.syntax.specs.Tree.{routine, ObjectTree, TextTree, ProgramTree}
+use Rattle.directives.specs.Tree.{RoutineTree, DirectiveTree, global, constant, array, attribute, property, object}
+use Rattle.directives.specs.Tree.{routine, ObjectTree, TextTree}
+use Rattle.syntax.specs.Tree.{ProgramTree}
 use Rattle.names.specs.declared.binding.Binding.{Binding}
 use Rattle.names.specs.declared.binding.Binding.TheVariants as bindings
 use Rattle.names.specs.declared.breach.Breach.{Breach}
@@ -19,19 +20,16 @@ use Rattle.names.specs.Names.{counts_after, table_of, look_up, Seen, seen_from}
 use Rattle.meaning.specs.Places.{machine_character, number_in}
 use Rattle.ztext.specs.Abbreviations.{most_abbreviations}
 use Rattle.value_rules.specs.Literals.{initial_breaches, named_breaches, initial_value}
-use Rattle.checker.specs.Arrays.{array_breaches, array_bytes}
-use Rattle.checker.specs.Repeated.{has_name}
-use Rattle.checker.specs.Objects.{object_breaches, standing_breaches, parents_of, object_in, placed, all_defaults}
-use Rattle.meaning.specs.Objects.{ObjectOf}
-use Rattle.rules.specs.Statements.{statements_breaches, resolve_statements}
+use Rattle.array_rules.specs.Arrays.{array_breaches, arrays_of}
+use Rattle.object_rules.specs.Repeated.{has_name, twice}
+use Rattle.object_rules.specs.Objects.{object_breaches, standing_breaches, all_defaults}
+use Rattle.object_rules.specs.Files.{object_trees, objects_of}
+use Rattle.simple_rules.specs.Statements.{statements_breaches, resolve_statements}
 use Rattle.meaning.specs.Around.{outside}
 use Rattle.meaning.specs.Resolved.{RoutineOf, ProgramOf, CheckedProgram, program_of, title_of}
 
 -- Definitions: E22 at a name that is defined already; E24 at the 233rd global, the 49th attribute, the 63rd property
 -- beside `name` and the 2,001st object
-
-abbrev pub twice : Table → NameTree → List Breach
-twice table name = if is_some (in_table table (key_of name.text)) then at name.position DEFINED_TWICE else []
 
 -- of a kind of which there may be so many
 abbrev pub limit_breaches : ℕ → ℕ → NameTree → List Breach
@@ -80,17 +78,6 @@ directives_breaches whole table counts [] = []
 directives_breaches whole table counts (d ∷ ds) =
     directive_breaches whole table counts d
     ++ directives_breaches whole (with_directive whole table counts d) (counts_after counts d) ds
-
--- the objects of a file in order
-abbrev pub object_trees : List DirectiveTree → List ObjectTree
-object_trees [] = []
-object_trees (global n v ∷ ds) = object_trees ds
-object_trees (constant n v ∷ ds) = object_trees ds
-object_trees (array a ∷ ds) = object_trees ds
-object_trees (attribute n ∷ ds) = object_trees ds
-object_trees (property n v ∷ ds) = object_trees ds
-object_trees (object o ∷ ds) = o ∷ object_trees ds
-object_trees (routine r ∷ ds) = object_trees ds
 
 -- Main: E21 at the end of the source where no routine has this name, and at its name where it has locals
 
@@ -167,16 +154,6 @@ globals_of file (object o ∷ ds) = globals_of file ds
 globals_of file (array a ∷ ds) = globals_of file ds
 globals_of file (routine r ∷ ds) = globals_of file ds
 
-abbrev pub arrays_of : File → List DirectiveTree → List (List ℕ)
-arrays_of file [] = []
-arrays_of file (global n v ∷ ds) = arrays_of file ds
-arrays_of file (constant n v ∷ ds) = arrays_of file ds
-arrays_of file (attribute n ∷ ds) = arrays_of file ds
-arrays_of file (property n v ∷ ds) = arrays_of file ds
-arrays_of file (object o ∷ ds) = arrays_of file ds
-arrays_of file (array a ∷ ds) = array_bytes file a ∷ arrays_of file ds
-arrays_of file (routine r ∷ ds) = arrays_of file ds
-
 -- the defaults of the properties that are defined
 abbrev pub defaults_in : File → List DirectiveTree → List ℕ
 defaults_in file [] = []
@@ -187,20 +164,6 @@ defaults_in file (attribute n ∷ ds) = defaults_in file ds
 defaults_in file (property n v ∷ ds) = initial_value file v % 65536 ∷ defaults_in file ds
 defaults_in file (object o ∷ ds) = defaults_in file ds
 defaults_in file (routine r ∷ ds) = defaults_in file ds
-
--- the objects of a file, still without their parents
-abbrev pub objects_in : File → List DirectiveTree → List ObjectOf
-objects_in file [] = []
-objects_in file (global n v ∷ ds) = objects_in file ds
-objects_in file (constant n v ∷ ds) = objects_in file ds
-objects_in file (array a ∷ ds) = objects_in file ds
-objects_in file (attribute n ∷ ds) = objects_in file ds
-objects_in file (property n v ∷ ds) = objects_in file ds
-objects_in file (object o ∷ ds) = object_in file o ∷ objects_in file ds
-objects_in file (routine r ∷ ds) = objects_in file ds
-
-abbrev pub objects_of : File → List DirectiveTree → List ObjectOf
-objects_of file ds = placed (parents_of file.table (object_trees ds)) (objects_in file ds)
 
 -- where a routine sees so much of the file
 abbrev pub resolve_body : Seen → RoutineTree → RoutineOf

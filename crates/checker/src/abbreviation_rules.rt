@@ -1,7 +1,7 @@
 //! Abbreviations: the rules that they can break, and their characters.
 
 ghost use Rattle.std.specs.Prelude.{◌≡◌, [], IfOk, map};
-ghost use Rattle.syntax.specs.Tree.{TextTree, text_tree};
+ghost use Rattle.directives.specs.Tree.{TextTree, text_tree};
 ghost use Rattle.names.specs.Noted.{noted};
 ghost use Rattle.meaning.specs.Places as places;
 ghost use Rattle.checker.specs.Programs as spec;
@@ -62,7 +62,7 @@ fn characters(alloc: Global, text: &[u8]) -> Result<Vec<u8>, AllocError>
 /// # Errors
 ///
 /// `AllocError` where memory is refused.
-pub fn all_abbreviations(alloc: Global, texts: &[Text<'_>]) -> Result<Abbreviations, AllocError>
+pub fn all_abbreviations(texts: &[Text<'_>], alloc: Global) -> Result<Abbreviations, AllocError>
     ensures { IfOk result (λ a. a
         ≡ map (λ (t : TextTree). map places.machine_character t.bytes) (map text_tree texts.now)) }
 {

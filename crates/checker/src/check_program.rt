@@ -9,21 +9,20 @@ ghost use Rattle.names.specs.Scope.{file_in};
 ghost use Rattle.names.specs.Keys.{keys_of};
 
 use crate::abbreviation_rules::{abbreviation_rules, all_abbreviations};
-use crate::defaults::all_defaults;
 use crate::directive_rules::all_directives;
 use crate::main_rules::main_number;
-use crate::standing::{parents, place};
-use crate::table_bytes::{bytes_of_arrays, objects_alone};
+use array_rules::bytes_of_arrays;
 use lexer::{NO_MEMORY, SourceFault};
 use meaning::{Checked, dictionary_behind, objects_size};
 use names::{Breach, File, Numbers, gather, tabulate};
+use object_rules::{all_defaults, objects_alone, parents, place};
 use std::alloc::{AllocError, Global};
 use syntax::Program;
 
 // Resolves the names and words of a program, where these are those of its file, and notes the rules that it breaks.
 fn resolve_with<'a>(
-    alloc: Global,
     program: &Program<'a>,
+    alloc: Global,
     file: File,
     least: &mut Option<Breach>,
 ) -> Result<Checked<'a>, AllocError>
@@ -34,12 +33,12 @@ fn resolve_with<'a>(
     ensures breaches { OnOk result (least.new ≡ noted least.old
         (program_breaches (program_tree program.now))) }
 {
-    let mut found = all_directives(alloc, &file, &program.directives, least)?;
-    let parents = parents(alloc, &file.table, &program.directives, least)?;
+    let mut found = all_directives(&program.directives, alloc, &file, least)?;
+    let parents = parents(&program.directives, alloc, &file.table, least)?;
     place(&parents, &mut found.objects);
     let defaults = all_defaults(alloc, &found.defaults)?;
     abbreviation_rules(&program.abbreviations, least);
-    let abbreviations = all_abbreviations(alloc, &program.abbreviations)?;
+    let abbreviations = all_abbreviations(&program.abbreviations, alloc)?;
     let main = main_number(&program.directives, program.end, &file.table, least);
     Ok(Checked::new(
         found.globals,
@@ -56,24 +55,24 @@ fn resolve_with<'a>(
 }
 
 // The numbers of no words.
-fn unnumbered(alloc: Global, program: &Program<'_>) -> Result<File, AllocError>
+fn unnumbered(program: &Program<'_>, alloc: Global) -> Result<File, AllocError>
     ensures { IfOk result (λ f. file_in f ≡ no_numbers (program_tree program.now)) }
 {
-    let table = tabulate(alloc, &program.directives)?;
+    let table = tabulate(&program.directives, alloc)?;
     let numbers = Numbers::none(alloc);
     Ok(File { table, numbers })
 }
 
 // The names of a program and the numbers of its words, which rest on how many bytes its arrays and its objects have.
-fn numbered(alloc: Global, program: &Program<'_>) -> Result<File, AllocError>
+fn numbered(program: &Program<'_>, alloc: Global) -> Result<File, AllocError>
     ensures file { IfOk result (λ f. file_in f ≡ file_of (program_tree program.now)) }
     ensures keys { IfOk result (λ f. f.numbers.keys.items
         ≡ keys_of (program_tree program.now).words) }
     ensures few { IfOk result (λ f. length f.numbers.keys.items ≤ 2 ^ 59) }
 {
-    let first = unnumbered(alloc, program)?;
-    let bytes = bytes_of_arrays(alloc, &first, &program.directives)?;
-    let objects = objects_alone(alloc, &first, &program.directives)?;
+    let first = unnumbered(program, alloc)?;
+    let bytes = bytes_of_arrays(&program.directives, alloc, &first)?;
+    let objects = objects_alone(&program.directives, alloc, &first)?;
     let keys = gather(alloc, &program.words)?;
     let File { table, numbers } = first;
     drop(numbers);
@@ -87,16 +86,16 @@ fn numbered(alloc: Global, program: &Program<'_>) -> Result<File, AllocError>
 }
 
 fn resolve<'a>(
-    alloc: Global,
     program: &Program<'a>,
+    alloc: Global,
     least: &mut Option<Breach>,
 ) -> Result<Checked<'a>, AllocError>
     ensures value { IfOk result (λ c. IsCheckedOf (program_tree program.now) c) }
     ensures breaches { OnOk result (least.new ≡ noted least.old
         (program_breaches (program_tree program.now))) }
 {
-    let file = numbered(alloc, program)?;
-    resolve_with(alloc, program, file, least)
+    let file = numbered(program, alloc)?;
+    resolve_with(program, alloc, file, least)
 }
 
 /// Checks the names, kinds and limits of a program, and resolves its names.
@@ -114,13 +113,10 @@ pub fn check<'a>(alloc: Global, program: Program<'a>) -> Result<Checked<'a>, Sou
         (λ c. IsCheckedOf (program_tree program.entry) c) }
 {
     let mut least = None;
-    match resolve(alloc, &program, &mut least) {
+    match resolve(&program, alloc, &mut least) {
         Ok(checked) => match least {
             None => Ok(checked),
-            Some(breach) => Err(SourceFault {
-                number: breach.number,
-                line: breach.position.line,
-            }),
+            Some(breach) => Err(breach.fault()),
         },
         Err(_) => Err(SourceFault {
             number: NO_MEMORY,

@@ -2,7 +2,7 @@
 
 ghost use Rattle.std.specs.Prelude.{◌≡◌, ◌%◌, ◌∷◌, ◌++◌, [], ℕ, List, IfOk, OnOk, length, map, nat_le, if◌then◌else◌};
 ghost use Rattle.expressions.specs.Tree.{name_tree};
-ghost use Rattle.syntax.specs.Tree.{optional_tree, object_tree, routine_tree, directive_tree};
+ghost use Rattle.directives.specs.Tree.{optional_tree, object_tree, routine_tree, directive_tree};
 ghost use Rattle.names.specs.Names.{in_table, local_from, first_table, no_counts};
 ghost use Rattle.names.specs.Breaches.{at};
 ghost use Rattle.value_rules.specs.Literals.{initial_value};
@@ -10,17 +10,16 @@ ghost use Rattle.names.specs.Noted.{noted};
 ghost use Rattle.names.specs.Scope.{file_in, seen_in, local_binding};
 ghost use Rattle.checker.specs.Found.{IsRoutineIn, IsRoutineOf, IsAdded, IsFound};
 ghost use Rattle.meaning.specs.Resolved.{object_of};
-ghost use Rattle.checker.specs.Objects.{object_in};
+ghost use Rattle.object_rules.specs.Objects.{object_in};
 ghost use Rattle.checker.specs.Programs as spec;
 
-use crate::array_rules::array;
-use crate::object_rules::object;
-use crate::twice::twice;
+use array_rules::array;
 use expressions::Name;
 use indexmap::IndexMap;
 use lexer::{Position, TOO_MANY};
 use meaning::{Arrays, CheckedObject, CheckedRoutine, OUTSIDE};
 use names::{Binding, Breach, File, Names, Scope, Table, define, note};
+use object_rules::{object, twice};
 use rules::all_statements;
 use std::alloc::{AllocError, Global};
 use syntax::{Directive, Literal, Object, Routine, Statement};
@@ -46,8 +45,8 @@ fn count_locals(number: usize, position: Position, least: &mut Option<Breach>)
 
 // The locals of a routine, by their keys.
 fn locals(
-    alloc: Global,
     names: &[Name<'_>],
+    alloc: Global,
     least: &mut Option<Breach>,
 ) -> Result<Table, AllocError>
     ensures table { IfOk result (λ t. (key : List ℕ)
@@ -58,9 +57,9 @@ fn locals(
     let mut table = IndexMap::new(alloc);
     for number in 0..names.len() {
         let name = names[number];
-        twice(&table, name, least);
+        twice(name, &table, least);
         count_locals(number, name.position, least);
-        define(&mut table, name, Binding::Local(number))?;
+        define(name, &mut table, Binding::Local(number))?;
     }
     Ok(table)
 }
@@ -73,9 +72,9 @@ fn body_of<'r, 'a>(routine: &'r Routine<'a>) -> &'r [Statement<'a>]
 
 // A routine whose names this scope has.
 fn routine_in<'a>(
+    routine: &Routine<'a>,
     alloc: Global,
     scope: &Scope<'_>,
-    routine: &Routine<'a>,
     least: &mut Option<Breach>,
 ) -> Result<CheckedRoutine<'a>, AllocError>
     ensures { IfOk result (λ r. IsRoutineIn (seen_in scope.now) (routine_tree routine.now)
@@ -84,7 +83,7 @@ fn routine_in<'a>(
     let name = routine.name;
     let locals = routine.locals.len();
     let weight = routine.weight;
-    let body = all_statements(alloc, scope, OUTSIDE, body_of(routine), least)?;
+    let body = all_statements(body_of(routine), alloc, scope, OUTSIDE, least)?;
     Ok(CheckedRoutine {
         name,
         locals,
@@ -94,20 +93,20 @@ fn routine_in<'a>(
 }
 
 fn routine<'a>(
+    routine: &Routine<'a>,
     alloc: Global,
     file: &File,
-    routine: &Routine<'a>,
     least: &mut Option<Breach>,
 ) -> Result<CheckedRoutine<'a>, AllocError>
     ensures { IfOk result (λ r. IsRoutineOf (file_in file.now) (routine_tree routine.now)
         least.old least.new r) }
 {
-    let locals = locals(alloc, &routine.locals, least)?;
+    let locals = locals(&routine.locals, alloc, least)?;
     let scope = Scope {
         file,
         locals: &locals,
     };
-    routine_in(alloc, &scope, routine, least)
+    routine_in(routine, alloc, &scope, least)
 }
 
 /// What the directives of a file resolve to.
@@ -131,7 +130,7 @@ pub struct Found<'a> {
 
 // A name of a kind of which there may be so many.
 #[tactic(auto, using(names::proofs::Noted::noted_none))]
-fn limit(most: usize, before: usize, name: Name<'_>, least: &mut Option<Breach>)
+fn limit(name: Name<'_>, most: usize, before: usize, least: &mut Option<Breach>)
     ensures { least.new ≡ noted least.old (spec.limit_breaches most before (name_tree name.entry)) }
 {
     if before >= most {
@@ -140,10 +139,10 @@ fn limit(most: usize, before: usize, name: Name<'_>, least: &mut Option<Breach>)
 }
 
 fn global(
-    file: &File,
-    names: &Names,
     name: Name<'_>,
     value: &Option<Literal<'_>>,
+    file: &File,
+    names: &Names,
     least: &mut Option<Breach>,
 ) -> u16
     ensures value { result ≡ initial_value (file_in file.now) (optional_tree value.now) }
@@ -151,26 +150,26 @@ fn global(
         (spec.global_directive_breaches file.now.table.entries names.now.table.entries
         names.now.counts (name_tree name.entry) (optional_tree value.now)) }
 {
-    twice(&names.table, name, least);
-    limit(MOST_GLOBALS, names.counts.globals, name, least);
+    twice(name, &names.table, least);
+    limit(name, MOST_GLOBALS, names.counts.globals, least);
     initial(value, file, least)
 }
 
-fn attribute(names: &Names, name: Name<'_>, least: &mut Option<Breach>)
+fn attribute(name: Name<'_>, names: &Names, least: &mut Option<Breach>)
     ensures { least.new ≡ noted least.old
         (spec.attribute_directive_breaches names.now.table.entries names.now.counts
         (name_tree name.entry)) }
 {
-    twice(&names.table, name, least);
-    limit(MOST_ATTRIBUTES, names.counts.attributes, name, least);
+    twice(name, &names.table, least);
+    limit(name, MOST_ATTRIBUTES, names.counts.attributes, least);
 }
 
 // The default of a property.
 fn property(
-    file: &File,
-    names: &Names,
     name: Name<'_>,
     value: &Option<Literal<'_>>,
+    file: &File,
+    names: &Names,
     least: &mut Option<Breach>,
 ) -> u16
     ensures value { result ≡ initial_value (file_in file.now) (optional_tree value.now) % 65536 }
@@ -178,16 +177,16 @@ fn property(
         (spec.property_directive_breaches file.now.table.entries names.now.table.entries
         names.now.counts (name_tree name.entry) (optional_tree value.now)) }
 {
-    twice(&names.table, name, least);
-    limit(MOST_PROPERTIES, names.counts.properties, name, least);
+    twice(name, &names.table, least);
+    limit(name, MOST_PROPERTIES, names.counts.properties, least);
     initial(value, file, least)
 }
 
 fn defined_object<'a>(
+    written: &Object<'a>,
     alloc: Global,
     file: &File,
     names: &Names,
-    written: &Object<'a>,
     least: &mut Option<Breach>,
 ) -> Result<CheckedObject<'a>, AllocError>
     ensures value { IfOk result (λ o. object_of o
@@ -196,18 +195,18 @@ fn defined_object<'a>(
         (spec.object_directive_breaches file.now.table.entries names.now.table.entries
         names.now.counts (object_tree written.now))) }
 {
-    twice(&names.table, written.name, least);
-    limit(MOST_OBJECTS, names.counts.objects, written.name, least);
-    let made = object(alloc, written, file, least)?;
+    twice(written.name, &names.table, least);
+    limit(written.name, MOST_OBJECTS, names.counts.objects, least);
+    let made = object(written, alloc, file, least)?;
     Ok(made)
 }
 
 // A directive that follows those of these names.
 fn directive<'a>(
+    directive: &Directive<'a>,
     alloc: Global,
     file: &File,
     names: &Names,
-    directive: &Directive<'a>,
     found: &mut Found<'a>,
     least: &mut Option<Breach>,
 ) -> Result<(), AllocError>
@@ -221,38 +220,38 @@ fn directive<'a>(
         Directive::Global(name, value) => {
             found
                 .globals
-                .push(global(file, names, *name, value, least))?;
+                .push(global(*name, value, file, names, least))?;
             Ok(())
         }
         Directive::Constant(name, value) => {
-            twice(&names.table, *name, least);
+            twice(*name, &names.table, least);
             constant_value(value, &file.table, &names.table, least);
             Ok(())
         }
         Directive::Array(written) => {
-            twice(&names.table, written.name, least);
+            twice(written.name, &names.table, least);
             array(written, file, &mut found.arrays, least)?;
             Ok(())
         }
         Directive::Attribute(name) => {
-            attribute(names, *name, least);
+            attribute(*name, names, least);
             Ok(())
         }
         Directive::Property(name, value) => {
             found
                 .defaults
-                .push(property(file, names, *name, value, least))?;
+                .push(property(*name, value, file, names, least))?;
             Ok(())
         }
         Directive::Object(written) => {
             found
                 .objects
-                .push(defined_object(alloc, file, names, written, least)?)?;
+                .push(defined_object(written, alloc, file, names, least)?)?;
             Ok(())
         }
         Directive::Routine(written) => {
-            twice(&names.table, written.name, least);
-            found.routines.push(routine(alloc, file, written, least)?)?;
+            twice(written.name, &names.table, least);
+            found.routines.push(routine(written, alloc, file, least)?)?;
             Ok(())
         }
     }
@@ -260,9 +259,9 @@ fn directive<'a>(
 
 // The directives of a file from its first, with the names that are there before it.
 fn add_all<'a>(
+    directives: &[Directive<'a>],
     alloc: Global,
     file: &File,
-    directives: &[Directive<'a>],
     names: &mut Names,
     found: &mut Found<'a>,
     least: &mut Option<Breach>,
@@ -275,8 +274,8 @@ fn add_all<'a>(
         (map directive_tree directives.now))) }
 {
     for one in directives {
-        directive(alloc, file, names, one, found, least)?;
-        names.add(&file.table, one)?;
+        directive(one, alloc, file, names, found, least)?;
+        names.add(one, &file.table)?;
     }
     Ok(())
 }
@@ -288,9 +287,9 @@ fn add_all<'a>(
 ///
 /// `AllocError` where memory is refused.
 pub fn all_directives<'a>(
+    directives: &[Directive<'a>],
     alloc: Global,
     file: &File,
-    directives: &[Directive<'a>],
     least: &mut Option<Breach>,
 ) -> Result<Found<'a>, AllocError>
     ensures found { IfOk result
@@ -307,6 +306,6 @@ pub fn all_directives<'a>(
         objects: Vec::new(alloc),
         routines: Vec::new(alloc),
     };
-    add_all(alloc, file, directives, &mut names, &mut found, least)?;
+    add_all(directives, alloc, file, &mut names, &mut found, least)?;
     Ok(found)
 }

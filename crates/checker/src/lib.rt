@@ -2,16 +2,8 @@
 #![tactic(auto)]
 
 mod abbreviation_rules;
-mod array_rules;
 mod check_program;
-mod defaults;
 mod directive_rules;
-mod laws;
 mod main_rules;
-mod object_rules;
-mod standing;
-mod table_bytes;
-mod twice;
 
 pub use check_program::check;
-pub use laws::{accepted_programs, printable_programs, words_are_numbered};

@@ -3,7 +3,7 @@
 ghost use Rattle.std.specs.Prelude.{◌≡◌, map};
 ghost use Rattle.std.specs.Option.{option_map};
 ghost use Rattle.expressions.specs.Tree.{name_tree};
-ghost use Rattle.syntax.specs.Tree.{directive_tree};
+ghost use Rattle.directives.specs.Tree.{directive_tree};
 ghost use Rattle.names.specs.Names.{in_table};
 ghost use Rattle.names.specs.Noted.{noted};
 ghost use Rattle.checker.specs.Programs.{main_key, position_or, main_breaches, routine_number};

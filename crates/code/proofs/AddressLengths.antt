@@ -1,7 +1,7 @@
 -- How long code is with an address in it: as long with one address as with another. Calls, faults, tests of words,
 -- arrays and lines.
-use Rattle.std.proofs.Common.{◌≡◌, ℕ, ◌+◌, List, [], ◌∷◌, ◌++◌, length, Option, Some, None, Bool, true}
-use Rattle.std.proofs.Common.{false, refl, sym, ap, ◌∙◌, arith, length-append, append_assoc, append-nil}
+use Rattle.std.proofs.Common.{◌≡◌, ℕ, ◌+◌, List, [], ◌∷◌, ◌++◌, length, Option, Some, None, Bool, true, false, refl}
+use Rattle.std.proofs.Common.{sym, ap, ◌∙◌, arith, length-append, append_assoc, append-nil}
 use Rattle.std.specs.Prelude.{◌==◌, if◌then◌else◌}
 use Rattle.std.specs.List.{flat_map}
 use Rattle.zcore.specs.declared.instruction.Operand.{Operand}
@@ -15,21 +15,19 @@ use Rattle.zcore.specs.Operations as numbers
 use Rattle.zcore.specs.Instruction.{Instruction, opcode_bytes, operand_bytes, result_bytes, bytes_of}
 use Rattle.expressions.specs.declared.tree.Width.{Width}
 use Rattle.meaning.specs.Meaning.{is_character}
-use Rattle.values.specs.Items.{Destination}
-use Rattle.values.specs.Items as items
+use Rattle.drafts.specs.Items.{Destination}
+use Rattle.drafts.specs.Items as items
 use Rattle.meaning.specs.declared.cause.Cause.{Cause}
 use Rattle.meaning.specs.declared.cause.Cause.TheVariants as causes
-use Rattle.instructions.specs.Addresses.{Addresses, fault_address}
-use Rattle.instructions.specs.Instructions.{plain, branching, fail, takes, operands}
+use Rattle.encoding.specs.Addresses.{Addresses, fault_address}
+use Rattle.encoding.specs.Instructions.{plain, branching, fail, takes, operands, number_of, temporary, constant}
+use Rattle.encoding.specs.Instructions.{giving, result_in, pulled_into, store}
 use Rattle.instructions.specs.Instructions.{calling, call_operation, call_result, call_code, divided, character_code}
-use Rattle.instructions.specs.Instructions.{number_of, temporary, constant, giving}
-use Rattle.instructions.specs.Instructions.{result_in, behind_comparison, tested_between, is_between, pulled_into}
-use Rattle.instructions.specs.Instructions.{store}
-use Rattle.instructions.specs.Bytes.{bytes_of_all}
-use Rattle.selection.specs.ItemCode.{entries_in, load_operation, store_operation, at_index, first_byte}
-use Rattle.selection.specs.ItemCode.{tested_first, letters_in, words_in, line_code, read_code, tests_in, tested_in}
-use Rattle.selection.specs.ItemCode.{at_tested, entry_code, assigned_takes, assigned_word}
-use Rattle.selection.specs.ItemCode.{passed_on, assign_entry_code}
+use Rattle.instructions.specs.Instructions.{behind_comparison, tested_between, is_between}
+use Rattle.encoding.specs.Bytes.{bytes_of_all}
+use Rattle.selection.specs.ItemCode.{entries_in, load_operation, store_operation, at_index, first_byte, tested_first}
+use Rattle.selection.specs.ItemCode.{letters_in, words_in, line_code, read_code, entry_code, assign_entry_code}
+use Rattle.object_selection.specs.ObjectCode.{tests_in, tested_in, at_tested, assigned_takes, assigned_word, passed_on}
 
 -- Lists of instructions
 

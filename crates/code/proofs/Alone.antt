@@ -11,11 +11,11 @@ use Rattle.zcore.specs.Parts.{operand_value, operand_values}
 use Rattle.zcore.specs.Execution.{give_result, perform}
 use Rattle.meaning.specs.World.{Situation, value_in}
 use Rattle.meaning.specs.Meaning.{routine_at}
-use Rattle.values.specs.Items.{Item, Destination}
-use Rattle.values.specs.Items as items
+use Rattle.drafts.specs.Items.{Item, Destination}
+use Rattle.drafts.specs.Items as items
 use Rattle.items.specs.Laws.{IsOperand, IsDestination}
 use Rattle.items.specs.Stack as stack
-use Rattle.instructions.specs.Instructions.{giving, in_place, result_in}
+use Rattle.encoding.specs.Instructions.{giving, in_place, result_in}
 use Rattle.selection.specs.ItemBytes.{text_bytes}
 use Rattle.code.proofs.Behind.{Holds}
 use Rattle.code.proofs.Play.{Leads, address}

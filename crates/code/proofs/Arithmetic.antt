@@ -1,6 +1,6 @@
 -- Items that operate on words, without a fault.
-use Rattle.std.proofs.Common.{◌≡◌, ◌≢◌, ℕ, ◌-◌, ◌%◌, ◌≤◌, List, [], ◌∷◌, ◌++◌, length, Some, None, true, refl, sym}
-use Rattle.std.proofs.Common.{ap, subst, arith}
+use Rattle.std.proofs.Common.{◌≡◌, ◌≢◌, ℕ, ◌-◌, ◌%◌, ◌≤◌, List, [], ◌∷◌, ◌++◌, length, Some, None, true, refl, sym, ap}
+use Rattle.std.proofs.Common.{subst, arith}
 use Rattle.std.specs.List.{All, flat_map}
 use Rattle.std.proofs.lemmas.List.Elements.{All-cons, All-nil}
 use Rattle.zcore.specs.declared.instruction.Operand.{Operand}
@@ -15,10 +15,10 @@ use Rattle.zcore.specs.Execution.{give_result, perform}
 use Rattle.expressions.specs.declared.tree.Prefix.{Prefix}
 use Rattle.expressions.specs.declared.tree.Prefix.TheVariants as prefixes
 use Rattle.meaning.specs.Meaning.{with_prefix}
-use Rattle.values.specs.Items.{Item, Destination}
-use Rattle.values.specs.Items as items
+use Rattle.drafts.specs.Items.{Item, Destination}
+use Rattle.drafts.specs.Items as items
 use Rattle.items.specs.Stack as stack
-use Rattle.instructions.specs.Instructions.{giving, in_place, result_in, operands, takes}
+use Rattle.encoding.specs.Instructions.{giving, in_place, result_in, operands, takes}
 use Rattle.selection.specs.ItemBytes.{text_bytes}
 use Rattle.code.proofs.Behind.{Holds}
 use Rattle.code.proofs.Play.{stays}

@@ -1,6 +1,6 @@
 -- What holds of a running routine of a program that stands in a story, and how an item leads to the next.
-use Rattle.std.proofs.Common.{◌≡◌, ℕ, ◌+◌, ◌<◌, ◌≤◌, List, [], length, drop}
-use Rattle.std.proofs.Common.{Option, None, Bool, true, false, refl, ◌∙◌, subst, arith}
+use Rattle.std.proofs.Common.{◌≡◌, ℕ, ◌+◌, ◌<◌, ◌≤◌, List, [], length, drop, Option, None, Bool, true, false, refl}
+use Rattle.std.proofs.Common.{◌∙◌, subst, arith}
 use Rattle.std.specs.Prelude.{nat_le, if◌then◌else◌, map}
 use Rattle.std.specs.List.{flat_map}
 use Rattle.std.proofs.lemmas.Bool.{leb-true}
@@ -12,18 +12,18 @@ use Rattle.ztext.proofs.Holding.{holds_append}
 use Rattle.meaning.specs.Resolved.{ProgramOf}
 use Rattle.meaning.specs.World.{World, Situation}
 use Rattle.meaning.specs.Accepted.{IsAccepted}
-use Rattle.values.specs.Items.{Item}
+use Rattle.drafts.specs.Items.{Item}
 use Rattle.items.specs.Stack.{Caller}
 use Rattle.items.specs.Stack as stack
 use Rattle.code.proofs.Behind.{Holds}
-use Rattle.instructions.specs.Addresses.{Addresses}
+use Rattle.encoding.specs.Addresses.{Addresses}
 use Rattle.selection.specs.ItemCode.{item_code}
 use Rattle.selection.specs.ItemBytes.{text_bytes, item_bytes}
 use Rattle.instructions.specs.Places.{offset_of}
 use Rattle.code.specs.Bytes.{place_of}
 use Rattle.code.specs.HeldProgram.{sizes_of, HoldsProgram}
-use Rattle.code.proofs.Play.{Leads, Stored, items_in, address, frames_of, back_of, result_of, state_of, next_of}
-use Rattle.code.proofs.Play.{Good, Led, IsChosen, none_chosen}
+use Rattle.code.proofs.Play.{Leads, Stored, items_in, address, frames_of, back_of, result_of, state_of, next_of, Good}
+use Rattle.code.proofs.Play.{Led, IsChosen, none_chosen}
 use Rattle.code.proofs.Memory.{Ground}
 use Rattle.code.proofs.Parts.{Around, machine as at_words}
 use Rattle.code.proofs.Steps.{point}

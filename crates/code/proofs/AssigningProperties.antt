@@ -6,11 +6,11 @@ use Rattle.zcore.specs.Instruction.{Instruction}
 use Rattle.meaning.specs.Accepted.{IsProperty}
 use Rattle.meaning.specs.World.{◌>>=◌, test_provided, test_word, test_single, write_words}
 use Rattle.meaning.specs.World as source
-use Rattle.values.specs.Items.{Destination}
-use Rattle.values.specs.Items as items
+use Rattle.drafts.specs.Items.{Destination}
+use Rattle.drafts.specs.Items as items
 use Rattle.items.specs.Stack as stack
-use Rattle.instructions.specs.Instructions.{pulled_into, word_in}
-use Rattle.selection.specs.ItemCode.{provided, tested_word, tested_single, at_object}
+use Rattle.encoding.specs.Instructions.{pulled_into, word_in}
+use Rattle.object_selection.specs.ObjectCode.{provided, tested_word, tested_single, at_object}
 use Rattle.code.proofs.Arriving.{Running, at, LedFrom, Stands, situation_here}
 use Rattle.code.proofs.Alone.{by_operand, alone_count, IsOperandHere, IsHere}
 use Rattle.code.proofs.TestedObjects.{objects_here, object_tests, tests_led}

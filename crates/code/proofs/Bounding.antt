@@ -12,11 +12,12 @@ use Rattle.zcore.specs.Parts.{operand_value}
 use Rattle.zcore.specs.State.{State, done}
 use Rattle.zcore.specs.Execution.{perform}
 use Rattle.meaning.specs.declared.cause.Cause.{Cause}
-use Rattle.values.specs.Items as items
+use Rattle.drafts.specs.Items as items
 use Rattle.region.specs.Tables.{Table}
-use Rattle.instructions.specs.Addresses.{fault_address}
-use Rattle.instructions.specs.Instructions.{branching, fail, constant, is_between, tested_between, word_in, number_of}
-use Rattle.selection.specs.ItemCode.{tested_in}
+use Rattle.encoding.specs.Addresses.{fault_address}
+use Rattle.encoding.specs.Instructions.{branching, fail, constant, word_in, number_of}
+use Rattle.instructions.specs.Instructions.{is_between, tested_between}
+use Rattle.object_selection.specs.ObjectCode.{tested_in}
 use Rattle.code.proofs.Behind.{Holds, holds_append}
 use Rattle.code.proofs.Play.{Leads}
 use Rattle.code.proofs.Parts.{machine as at_words}

@@ -1,6 +1,6 @@
 -- How long code is that ends in a branch: beside its label it has as many bytes in each form.
-use Rattle.std.proofs.Common.{◌≡◌, ℕ, ◌+◌, ◌%◌, ◌≤◌, List, [], ◌∷◌, ◌++◌, length, Some, Bool, true}
-use Rattle.std.proofs.Common.{false, refl, ap, ◌∙◌, arith, length-append}
+use Rattle.std.proofs.Common.{◌≡◌, ℕ, ◌+◌, ◌%◌, ◌≤◌, List, [], ◌∷◌, ◌++◌, length, Some, Bool, true, false, refl, ap}
+use Rattle.std.proofs.Common.{◌∙◌, arith, length-append}
 use Rattle.std.specs.Prelude.{nat_lt, if◌then◌else◌, not}
 use Rattle.std.specs.List.{flat_map}
 use Rattle.std.proofs.lemmas.Bool.{ltb-true, ltb-false}
@@ -13,15 +13,15 @@ use Rattle.zcore.specs.Operations as numbers
 use Rattle.zcore.specs.Instruction.{Instruction, opcode_bytes, operand_bytes, branch_bytes, bytes_of}
 use Rattle.forms.specs.declared.layout.Form.TheVariants as form
 use Rattle.forms.specs.Layout.{form_for, size_with}
-use Rattle.values.specs.Items.{Test}
-use Rattle.values.specs.Items as items
+use Rattle.drafts.specs.Items.{Test}
+use Rattle.drafts.specs.Items as items
 use Rattle.meaning.specs.declared.cause.Cause.TheVariants as causes
-use Rattle.instructions.specs.Addresses.{Addresses}
-use Rattle.instructions.specs.Instructions.{plain, branching, labelled, takes, operands, test_operation}
-use Rattle.instructions.specs.Instructions.{tested_code, asks_none, least_word, branch_code, compared, case_code}
-use Rattle.instructions.specs.Instructions.{pulled_into}
-use Rattle.instructions.specs.Bytes.{bytes_of_all}
-use Rattle.selection.specs.ItemCode.{tests_in}
+use Rattle.encoding.specs.Addresses.{Addresses}
+use Rattle.encoding.specs.Instructions.{plain, branching, takes, operands, pulled_into}
+use Rattle.instructions.specs.Instructions.{labelled, test_operation, tested_code, asks_none, least_word, branch_code}
+use Rattle.instructions.specs.Instructions.{compared, case_code}
+use Rattle.encoding.specs.Bytes.{bytes_of_all}
+use Rattle.object_selection.specs.ObjectCode.{tests_in}
 use Rattle.code.proofs.AddressLengths.{all_length, one_length, tests_same}
 
 -- Labels

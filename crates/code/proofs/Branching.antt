@@ -8,11 +8,12 @@ use Rattle.std.proofs.lemmas.List.{take_all}
 use Rattle.zcore.specs.declared.instruction.Operation.{Operation}
 use Rattle.zcore.specs.Instruction.{bytes_of, FitsOperand}
 use Rattle.meaning.specs.Meaning.{routine_at}
-use Rattle.values.specs.Items.{Item, Test, agrees}
-use Rattle.values.specs.Items as items
+use Rattle.drafts.specs.Items.{Item, Test, agrees}
+use Rattle.drafts.specs.Items as items
 use Rattle.items.specs.Laws.{IsTested}
 use Rattle.items.specs.Stack as stack
-use Rattle.instructions.specs.Instructions.{operands, labelled, test_operation, tested_code, branch_code, most_tested}
+use Rattle.encoding.specs.Instructions.{operands, most_tested}
+use Rattle.instructions.specs.Instructions.{labelled, test_operation, tested_code, branch_code}
 use Rattle.selection.specs.ItemBytes.{text_bytes}
 use Rattle.code.specs.Bytes.{place_of}
 use Rattle.code.specs.HeldProgram.{sizes_of}

@@ -15,20 +15,20 @@ use Rattle.zcore.specs.State.{State}
 use Rattle.zcore.specs.Execution.{step, perform, call_packed}
 use Rattle.meaning.specs.Resolved.{ProgramOf}
 use Rattle.meaning.specs.World.{World}
-use Rattle.values.specs.Items.{Item, Destination}
-use Rattle.values.specs.Items as items
+use Rattle.drafts.specs.Items.{Item, Destination}
+use Rattle.drafts.specs.Items as items
 use Rattle.items.specs.Stack.{Caller}
 use Rattle.items.specs.Stack as stack
-use Rattle.instructions.specs.Addresses.{Addresses}
-use Rattle.instructions.specs.Instructions.{number_of, operands, takes, call_operation, call_result, calling, call_code}
-use Rattle.instructions.specs.Instructions.{most_arguments}
+use Rattle.encoding.specs.Addresses.{Addresses}
+use Rattle.encoding.specs.Instructions.{number_of, operands, takes, most_arguments}
+use Rattle.instructions.specs.Instructions.{call_operation, call_result, calling, call_code}
 use Rattle.code.proofs.Behind.{Holds}
 use Rattle.code.proofs.Play.{Leads, next_of, state_of, IsCaller, Led}
 use Rattle.code.proofs.Parts.{machine as at_words}
 use Rattle.code.proofs.Steps.{point, leads_then, first_held, large_value}
 use Rattle.code.proofs.Fitting.{Shaped}
-use Rattle.code.proofs.ItemOperands.{Gives, with_first, values_then, by_operands, gives_count, gives_length, few_pushed}
-use Rattle.code.proofs.ItemOperands.{operands_length}
+use Rattle.code.proofs.ItemOperands.{Gives, with_first, values_then, by_operands, gives_count, gives_length}
+use Rattle.code.proofs.ItemOperands.{few_pushed, operands_length}
 use Rattle.code.proofs.Ends.{does_after}
 use Rattle.code.proofs.AddressLengths.{one_length}
 use Rattle.code.proofs.Entering.{enter_led}

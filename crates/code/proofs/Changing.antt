@@ -10,13 +10,13 @@ use Rattle.zcore.specs.Execution.{perform, push_word}
 use Rattle.meaning.specs.declared.resolved.Variable.TheVariants as variables
 use Rattle.meaning.specs.Objects.{Objects}
 use Rattle.meaning.specs.World.{Situation, with_value, with_objects}
-use Rattle.values.specs.Items.{Destination}
-use Rattle.values.specs.Items as items
+use Rattle.drafts.specs.Items.{Destination}
+use Rattle.drafts.specs.Items as items
 use Rattle.items.specs.Stack as stack
 use Rattle.region.specs.Region.{HasObjects, KeepsRest}
 use Rattle.region.specs.Tables.{Table}
-use Rattle.instructions.specs.Instructions.{number_of, push, store}
-use Rattle.selection.specs.ItemCode.{assigned_word, passed_on}
+use Rattle.encoding.specs.Instructions.{number_of, push, store}
+use Rattle.object_selection.specs.ObjectCode.{assigned_word, passed_on}
 use Rattle.code.proofs.Behind.{Holds, holds_on}
 use Rattle.code.proofs.Play.{Leads, Stored, none_chosen}
 use Rattle.code.proofs.Memory.{word_of}

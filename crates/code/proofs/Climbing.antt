@@ -1,6 +1,6 @@
 -- The loop of a move: from the object into which another is to go up to its parents, a unit for each step.
-use Rattle.std.proofs.Common.{◌≡◌, ◌≢◌, ℕ, zero, suc, ◌+◌, ◌<◌, ◌≤◌, List, [], ◌∷◌, length, Bool}
-use Rattle.std.proofs.Common.{true, false, refl, ◌∙◌, arith}
+use Rattle.std.proofs.Common.{◌≡◌, ◌≢◌, ℕ, zero, suc, ◌+◌, ◌<◌, ◌≤◌, List, [], ◌∷◌, length, Bool, true, false, refl}
+use Rattle.std.proofs.Common.{◌∙◌, arith}
 use Rattle.std.specs.Prelude.{◌==◌, if◌then◌else◌}
 use Rattle.std.specs.List.{flat_map}
 use Rattle.zcore.specs.declared.instruction.Operand.TheVariants.{Large}
@@ -14,7 +14,7 @@ use Rattle.zcore.specs.Execution.{step}
 use Rattle.meaning.specs.Objects.{Climbed, clear, inside, spent, climb}
 use Rattle.region.specs.Region.{HasObjects}
 use Rattle.region.specs.Tables.{Table}
-use Rattle.instructions.specs.Instructions.{plain}
+use Rattle.encoding.specs.Instructions.{plain}
 use Rattle.code.proofs.Behind.{Holds}
 use Rattle.code.proofs.Play.{Leads}
 use Rattle.code.proofs.Memory.{word_of, with_variable}

@@ -1,7 +1,7 @@
 -- The code of a routine from its items.
 use Rattle.std.proofs.Common.{◌≡◌, ℕ, suc, ◌+◌, ◌-◌, ◌*◌, ◌%◌, ◌<◌, ◌≤◌, List, [], ◌∷◌, ◌++◌, length, drop, reverse}
-use Rattle.std.proofs.Common.{slice_index, slice_index_or, Option, Some, None, refl, sym, ap, ◌∙◌, arith}
-use Rattle.std.proofs.Common.{append_assoc, length-append}
+use Rattle.std.proofs.Common.{slice_index, slice_index_or, Option, Some, None, refl, sym, ap, ◌∙◌, arith, append_assoc}
+use Rattle.std.proofs.Common.{length-append}
 use Rattle.std.specs.Prelude.{map}
 use Rattle.std.proofs.Math.Seq.{drop-cons}
 use Rattle.std.proofs.lemmas.List.{reverse-reverse, drop_all}
@@ -10,11 +10,11 @@ use Rattle.forms.specs.declared.layout.Form.TheVariants as form
 use Rattle.forms.specs.declared.layout.Part.{Part}
 use Rattle.forms.specs.declared.layout.BranchUse.{BranchUse}
 use Rattle.forms.specs.Layout.{first, size_with, form_for, offset_over, part_size, lefts, uses}
-use Rattle.values.specs.declared.item.Item as code
-use Rattle.values.specs.Items.{Item}
-use Rattle.values.specs.Items as items
-use Rattle.values.specs.Code.{item_of, items_of}
-use Rattle.instructions.specs.Addresses.{Addresses, Sizes}
+use Rattle.drafts.specs.declared.item.Item as code
+use Rattle.drafts.specs.Items.{Item}
+use Rattle.drafts.specs.Items as items
+use Rattle.drafts.specs.Code.{item_of, items_of}
+use Rattle.encoding.specs.Addresses.{Addresses, Sizes}
 use Rattle.selection.specs.ItemBytes.{item_bytes}
 use Rattle.instructions.specs.Places.{target_of, label_size, offset_of, place_in}
 use Rattle.code.specs.Bytes.{no_addresses, least_size, part_of, parts_of, lefts_of, place_of, items_bytes, code_bytes}

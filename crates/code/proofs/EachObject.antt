@@ -14,11 +14,12 @@ use Rattle.zcore.specs.State.{State, done}
 use Rattle.zcore.specs.Execution.{perform}
 use Rattle.meaning.specs.declared.resolved.Variable as resolved
 use Rattle.meaning.specs.World.{value_in, with_value, write_variable, give, ◌>>=◌}
-use Rattle.values.specs.Items.{agrees}
-use Rattle.values.specs.Items as items
+use Rattle.drafts.specs.Items.{agrees}
+use Rattle.drafts.specs.Items as items
 use Rattle.items.specs.Stack as stack
-use Rattle.instructions.specs.Instructions.{branching, number_of, jump_offset, is_between}
-use Rattle.selection.specs.ItemCode.{jump_by}
+use Rattle.encoding.specs.Instructions.{branching, number_of, jump_offset}
+use Rattle.instructions.specs.Instructions.{is_between}
+use Rattle.object_selection.specs.ObjectCode.{jump_by}
 use Rattle.code.specs.Bytes.{place_of}
 use Rattle.code.specs.HeldProgram.{sizes_of}
 use Rattle.code.proofs.Behind.{Holds}

@@ -14,7 +14,7 @@ use Rattle.zcore.specs.Parts.{transcribed, print}
 use Rattle.zcore.specs.Execution.{perform, print_characters, step}
 use Rattle.zcore.specs.Turn.{Whole, turn_in, after_step, ended, notice, is_waiting, plays_from, last_place}
 use Rattle.meaning.specs.World.{Outcome, World}
-use Rattle.instructions.specs.Instructions.{plain}
+use Rattle.encoding.specs.Instructions.{plain}
 use Rattle.code.proofs.Behind.{Holds}
 use Rattle.code.proofs.Play.{Leads, stays, moves, Does}
 use Rattle.code.proofs.Parts.{Around, machine as at_words}

@@ -10,9 +10,10 @@ use Rattle.zcore.specs.declared.instruction.Operation.TheVariants as operations
 use Rattle.zcore.specs.Instruction.{bytes_of, IsEncodable, FitsOperand}
 use Rattle.zcore.specs.Execution.{perform}
 use Rattle.meaning.specs.Meaning.{truth, is_true}
-use Rattle.values.specs.Items as items
+use Rattle.drafts.specs.Items as items
 use Rattle.items.specs.Stack as stack
-use Rattle.instructions.specs.Instructions.{branching, pull, copy, flag}
+use Rattle.encoding.specs.Instructions.{branching, pull, copy}
+use Rattle.instructions.specs.Instructions.{flag}
 use Rattle.code.proofs.Behind.{Holds}
 use Rattle.code.proofs.Play.{Leads, moves}
 use Rattle.code.proofs.Memory.{with_variable}

@@ -18,7 +18,7 @@ use Rattle.tables.specs.Dictionary.{ReadsKeys}
 use Rattle.meaning.specs.declared.cause.Cause.{Cause}
 use Rattle.meaning.specs.declared.cause.Cause.TheVariants as causes
 use Rattle.meaning.specs.World.{words_of}
-use Rattle.instructions.specs.Addresses.{fault_address}
+use Rattle.encoding.specs.Addresses.{fault_address}
 use Rattle.meaning.specs.Accepted.{IsArray, IsPrinted, IsProperty, IsObject, IsRoutine, IsAccepted}
 use Rattle.meaning.specs.Objects.{ObjectOf, object_at}
 use Rattle.meaning.specs.Meaning.{routine_at}

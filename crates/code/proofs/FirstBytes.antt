@@ -1,6 +1,6 @@
 -- The first byte of an array into which a line is read, and its tests: they are those of the source.
-use Rattle.std.proofs.Common.{◌≡◌, ◌⊎◌, inl, inr, ℕ, ◌+◌, ◌*◌, ◌<◌, ◌≤◌, List, [], ◌∷◌, ◌++◌, length}
-use Rattle.std.proofs.Common.{slice_index, Some, Bool, true, false, refl, sym, ◌∙◌, arith}
+use Rattle.std.proofs.Common.{◌≡◌, ◌⊎◌, inl, inr, ℕ, ◌+◌, ◌*◌, ◌<◌, ◌≤◌, List, [], ◌∷◌, ◌++◌, length, slice_index}
+use Rattle.std.proofs.Common.{Some, Bool, true, false, refl, sym, ◌∙◌, arith}
 use Rattle.std.specs.Prelude.{nat_lt, nat_le, not, ◌&&◌}
 use Rattle.std.specs.List.{flat_map}
 use Rattle.std.proofs.lemmas.Bool.{cases_lt, lt-ltb, le-ltb, le-leb, lt-leb, and_parts, and_from, leb-true, ltb-true}
@@ -12,7 +12,7 @@ use Rattle.expressions.specs.declared.tree.Width.TheVariants as widths
 use Rattle.meaning.specs.declared.cause.Cause.TheVariants as causes
 use Rattle.meaning.specs.Reading.{holds_letters, holds_words}
 use Rattle.meaning.specs.World.{to}
-use Rattle.values.specs.Items as items
+use Rattle.drafts.specs.Items as items
 use Rattle.items.specs.Stack as stack
 use Rattle.selection.specs.ItemCode.{first_byte, letters_in, words_in, tested_first}
 use Rattle.code.proofs.Play.{LedOn, next_of, state_of}
@@ -20,8 +20,8 @@ use Rattle.code.proofs.Memory.{with_variable}
 use Rattle.code.proofs.Flat.{array_within}
 use Rattle.code.proofs.StoredEntries.{entry_is}
 use Rattle.code.proofs.Parts.{machine as at_words}
-use Rattle.code.proofs.Steps.{point, leads_then, one_step, first_held, others_held, two_operands}
-use Rattle.code.proofs.Steps.{small_value, large_value}
+use Rattle.code.proofs.Steps.{point, leads_then, one_step, first_held, others_held, two_operands, small_value}
+use Rattle.code.proofs.Steps.{large_value}
 use Rattle.code.proofs.Fitting.{Shaped}
 use Rattle.code.proofs.HeldRoutines.{address_high}
 use Rattle.code.proofs.Arriving.{Running, at, around, here}

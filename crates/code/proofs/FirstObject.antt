@@ -1,16 +1,16 @@
 -- The item that begins a loop over all objects.
-use Rattle.std.proofs.Common.{◌≡◌, ℕ, ◌+◌, ◌≤◌, List, [], ◌∷◌, length, Option, None, Bool}
-use Rattle.std.proofs.Common.{true, false, refl, ap, ◌∙◌, arith}
+use Rattle.std.proofs.Common.{◌≡◌, ℕ, ◌+◌, ◌≤◌, List, [], ◌∷◌, length, Option, None, Bool, true, false, refl, ap, ◌∙◌}
+use Rattle.std.proofs.Common.{arith}
 use Rattle.std.specs.Prelude.{map, ◌==◌, if◌then◌else◌}
 use Rattle.zcore.specs.declared.instruction.Operand.TheVariants.{Small}
 use Rattle.zcore.specs.Instruction.{bytes_of}
 use Rattle.zcore.specs.Execution.{perform}
 use Rattle.meaning.specs.declared.resolved.Variable as resolved
 use Rattle.meaning.specs.World.{with_value, write_variable, give, ◌>>=◌}
-use Rattle.values.specs.Items.{agrees}
-use Rattle.values.specs.Items as items
+use Rattle.drafts.specs.Items.{agrees}
+use Rattle.drafts.specs.Items as items
 use Rattle.items.specs.Stack as stack
-use Rattle.instructions.specs.Instructions.{number_of, store}
+use Rattle.encoding.specs.Instructions.{number_of, store}
 use Rattle.code.proofs.Play.{Leads, none_chosen}
 use Rattle.code.proofs.Parts.{machine as at_words}
 use Rattle.code.proofs.Steps.{point, one_step, two_operands, small_value}

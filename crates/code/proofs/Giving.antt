@@ -1,6 +1,6 @@
 -- Items that give attributes to an object, one after another.
-use Rattle.std.proofs.Common.{◌≡◌, ℕ, ◌+◌, ◌-◌, ◌%◌, ◌<◌, ◌≤◌, inl, inr, List, [], ◌∷◌, length, None, Bool}
-use Rattle.std.proofs.Common.{true, false, slice_index, length-append, refl, sym, ap, ◌∙◌, subst, arith}
+use Rattle.std.proofs.Common.{◌≡◌, ℕ, ◌+◌, ◌-◌, ◌%◌, ◌<◌, ◌≤◌, inl, inr, List, [], ◌∷◌, length, None, Bool, true}
+use Rattle.std.proofs.Common.{false, slice_index, length-append, refl, sym, ap, ◌∙◌, subst, arith}
 use Rattle.std.specs.Prelude.{nat_lt, nat_eq, if◌then◌else◌, map}
 use Rattle.std.specs.List.{All, flat_map}
 use Rattle.std.proofs.lemmas.Bool.{cases_lt, cases_eq, lt-ltb, ne_eqb}
@@ -17,13 +17,13 @@ use Rattle.meaning.specs.Objects.{Objects, with_attribute}
 use Rattle.meaning.specs.Meaning.{give_all}
 use Rattle.meaning.specs.World.{Situation, to, with_objects}
 use Rattle.meaning.specs.World as source
-use Rattle.values.specs.Items as items
+use Rattle.drafts.specs.Items as items
 use Rattle.items.specs.Stack as stack
 use Rattle.region.specs.Laws.{Changes}
 use Rattle.region.specs.Region.{HasObjects}
 use Rattle.region.specs.Tables.{Table}
-use Rattle.instructions.specs.Instructions.{plain}
-use Rattle.selection.specs.ItemCode.{changing}
+use Rattle.encoding.specs.Instructions.{plain}
+use Rattle.object_selection.specs.ObjectCode.{changing}
 use Rattle.code.proofs.Behind.{Holds, holds_on}
 use Rattle.code.proofs.Play.{Leads, Stored, stays}
 use Rattle.code.proofs.Memory.{word_of}

@@ -8,11 +8,12 @@ use Rattle.zcore.specs.Instruction.{Instruction, bytes_of}
 use Rattle.meaning.specs.declared.cause.Cause.{Cause}
 use Rattle.meaning.specs.declared.cause.Cause.TheVariants as causes
 use Rattle.meaning.specs.World.{value_in}
-use Rattle.values.specs.Items as items
-use Rattle.instructions.specs.Addresses.{fault_address}
-use Rattle.instructions.specs.Instructions.{constant, pull, fail, number_of, tested_between, is_between}
-use Rattle.instructions.specs.Instructions.{pulled_into, word_in}
-use Rattle.selection.specs.ItemCode.{is_entry, at_index, at_tested, tests_in}
+use Rattle.drafts.specs.Items as items
+use Rattle.encoding.specs.Addresses.{fault_address}
+use Rattle.encoding.specs.Instructions.{constant, pull, fail, number_of, pulled_into, word_in}
+use Rattle.instructions.specs.Instructions.{tested_between, is_between}
+use Rattle.selection.specs.ItemCode.{is_entry, at_index}
+use Rattle.object_selection.specs.ObjectCode.{at_tested, tests_in}
 use Rattle.code.proofs.Behind.{holds_append}
 use Rattle.code.proofs.Play.{Leads}
 use Rattle.code.proofs.Memory.{word_of, with_variable}
@@ -21,8 +22,8 @@ use Rattle.code.proofs.Steps.{point, leads_then, one_step, first_held}
 use Rattle.code.proofs.ItemOperands.{constant_value}
 use Rattle.code.proofs.Arriving.{Running, around, here, situation_here}
 use Rattle.code.proofs.Variables.{variable_held}
-use Rattle.code.proofs.Temporaries.{Scratch, scratch_with, reads_written, word_unwritten}
-use Rattle.code.proofs.Temporaries.{pull_temporary, others_held_pull}
+use Rattle.code.proofs.Temporaries.{Scratch, scratch_with, reads_written, word_unwritten, pull_temporary}
+use Rattle.code.proofs.Temporaries.{others_held_pull}
 use Rattle.code.proofs.Alone.{Alone, IsOperandHere, next_place}
 use Rattle.code.proofs.TestedWords.{between_tests, entry_between, Reached, reads_still, Tested, Indexed, tested}
 

@@ -7,10 +7,10 @@ use Rattle.zcore.specs.declared.instruction.Operand.TheVariants as machine_opera
 use Rattle.zcore.specs.State.{State, done}
 use Rattle.zcore.specs.Parts.{operand_value, operand_values}
 use Rattle.meaning.specs.World.{Situation, value_in}
-use Rattle.values.specs.Items.{pushed, number, variable}
-use Rattle.values.specs.Items as items
+use Rattle.drafts.specs.Items.{pushed, number, variable}
+use Rattle.drafts.specs.Items as items
 use Rattle.items.specs.Stack.{Next, stuck, with_operand, with_operands}
-use Rattle.instructions.specs.Instructions.{number_of, temporary, constant, top, pushed_count, named_from, operands}
+use Rattle.encoding.specs.Instructions.{number_of, temporary, constant, top, pushed_count, named_from, operands}
 use Rattle.code.proofs.Parts.{Around, machine as at_words, Reads}
 use Rattle.code.proofs.Steps.{no_operand, small_value, large_value, top_value, variable_value}
 

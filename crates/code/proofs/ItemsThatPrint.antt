@@ -1,6 +1,6 @@
 -- Items that print, and faults, which print their line and quit.
-use Rattle.std.proofs.Common.{◌≡◌, ℕ, ◌+◌, ◌*◌, ◌≤◌, List, [], ◌∷◌, ◌++◌, codes, length, take, slice_index, Bool}
-use Rattle.std.proofs.Common.{true, false, refl, sym, ap, ◌∙◌, subst, arith}
+use Rattle.std.proofs.Common.{◌≡◌, ℕ, ◌+◌, ◌*◌, ◌≤◌, List, [], ◌∷◌, ◌++◌, codes, length, take, slice_index, Bool, true}
+use Rattle.std.proofs.Common.{false, refl, sym, ap, ◌∙◌, subst, arith}
 use Rattle.std.specs.Prelude.{nat_le, nat_eq, if◌then◌else◌, map, ◌==◌}
 use Rattle.std.specs.List.{All, flat_map, list_all}
 use Rattle.zcore.specs.declared.instruction.Operand.TheVariants.{Large}
@@ -21,11 +21,11 @@ use Rattle.ztext.proofs.Holding.{holds_append}
 use Rattle.meaning.specs.declared.cause.Cause.{Cause}
 use Rattle.meaning.specs.World.{World, Situation, Outcome, Comes, to, over, bound, put, shown, words_of}
 use Rattle.meaning.specs.World as source
-use Rattle.values.specs.Items.{Item}
-use Rattle.values.specs.Items as items
+use Rattle.drafts.specs.Items.{Item}
+use Rattle.drafts.specs.Items as items
 use Rattle.items.specs.Stack as stack
-use Rattle.instructions.specs.Instructions.{plain, in_place, fail}
-use Rattle.instructions.specs.Bytes.{character_of}
+use Rattle.encoding.specs.Instructions.{plain, in_place, fail}
+use Rattle.encoding.specs.Bytes.{character_of}
 use Rattle.selection.specs.ItemBytes.{text_bytes}
 use Rattle.code.proofs.Behind.{Holds}
 use Rattle.lexer.specs.Printable.{IsPrintable}
@@ -40,8 +40,8 @@ use Rattle.code.proofs.Ends.{does_after, does_halt, prints, prints_part, prints_
 use Rattle.code.proofs.Texts.{number_prints, text_prints, text_read, printable_kept, IsLine, line_read}
 use Rattle.code.proofs.Shortened.{has_all}
 use Rattle.code.proofs.HeldRoutines.{unpacked_low, address_low}
-use Rattle.code.proofs.Arriving.{Running, at, around, here, LedFrom, Stands, kept, code_held}
-use Rattle.code.proofs.Arriving.{arrives_on, situation_here}
+use Rattle.code.proofs.Arriving.{Running, at, around, here, LedFrom, Stands, kept, code_held, arrives_on}
+use Rattle.code.proofs.Arriving.{situation_here}
 use Rattle.code.proofs.Temporaries.{Scratch, scratch_here, held_in, made, made_at}
 use Rattle.code.proofs.Alone.{by_operand, alone_count, alone_value, IsOperandHere, next_place, single}
 

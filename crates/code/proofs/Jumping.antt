@@ -12,10 +12,10 @@ use Rattle.zcore.specs.State.{State, done, halt}
 use Rattle.zcore.specs.Parts.{jump_target, test_target, go, spend}
 use Rattle.zcore.specs.Execution.{step, perform, jump}
 use Rattle.meaning.specs.World.{spend_from}
-use Rattle.values.specs.Items.{Item}
-use Rattle.values.specs.Items as items
+use Rattle.drafts.specs.Items.{Item}
+use Rattle.drafts.specs.Items as items
 use Rattle.items.specs.Stack as stack
-use Rattle.instructions.specs.Instructions.{plain, jump_offset}
+use Rattle.encoding.specs.Instructions.{plain, jump_offset}
 use Rattle.code.specs.Bytes.{code_size, place_of}
 use Rattle.code.specs.HeldProgram.{sizes_of}
 use Rattle.code.proofs.Behind.{Holds}

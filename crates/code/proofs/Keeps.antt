@@ -1,20 +1,20 @@
 -- Items that read no line leave the lines to come and the texts of turns before as they were, and no run of items ends
 -- in a machine fault.
-use Rattle.std.proofs.Common.{arith, ◌≡◌, ℕ, zero, suc, List, [], ◌∷◌, length, Option, Some, None, Bool, true}
-use Rattle.std.proofs.Common.{false, refl, subst}
+use Rattle.std.proofs.Common.{arith, ◌≡◌, ℕ, zero, suc, List, [], ◌∷◌, length, Option, Some, None, Bool, true, false}
+use Rattle.std.proofs.Common.{refl, subst}
 use Rattle.std.specs.Prelude.{nat_lt, nat_le, if◌then◌else◌, slice_get, ◌&&◌, map}
 use Rattle.zcore.specs.Arithmetic.{signed_text}
 use Rattle.meaning.specs.Resolved.{ProgramOf}
 use Rattle.meaning.specs.declared.cause.Cause.TheVariants as causes
-use Rattle.meaning.specs.World.{Outcome, World, Situation, Part, put, shown, spend}
-use Rattle.meaning.specs.World.{spend_from, fault, array_at, read_entry}
+use Rattle.meaning.specs.World.{Outcome, World, Situation, Part, put, shown, spend, spend_from, fault, array_at}
+use Rattle.meaning.specs.World.{read_entry}
 use Rattle.meaning.specs.Objects.{object_at}
 use Rattle.meaning.specs.Meaning.{operate, put_character, put_line, routine_at}
 use Rattle.meaning.specs.Places.{number_in}
 use Rattle.meaning.specs.Reading.{holds_letters, holds_words, next_line}
-use Rattle.values.specs.Items.{Item, Test}
+use Rattle.drafts.specs.Items.{Item, Test}
 use Rattle.items.specs.Statements.{routine_items}
-use Rattle.values.specs.Items as items
+use Rattle.drafts.specs.Items as items
 use Rattle.items.specs.Stack as stack
 use Rattle.code.proofs.KeptWorld.{NoFault, Kept, Keeps, is_read, Faultless, Bounded, KeepsBy, keeps_bounded}
 use Rattle.code.proofs.KeptWorld.{keeps_faultless, faultless_by, same, put_keeps, fault_keeps, operate_keeps}

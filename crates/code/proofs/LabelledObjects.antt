@@ -1,6 +1,6 @@
 -- Items that branch by what holds of an object.
-use Rattle.std.proofs.Common.{◌≡◌, ℕ, ◌+◌, ◌%◌, ◌<◌, ◌≤◌, List, [], ◌∷◌, length, Option, Some, None, Bool}
-use Rattle.std.proofs.Common.{true, false, refl, sym, ap, ◌∙◌, subst, arith}
+use Rattle.std.proofs.Common.{◌≡◌, ℕ, ◌+◌, ◌%◌, ◌<◌, ◌≤◌, List, [], ◌∷◌, length, Option, Some, None, Bool, true, false}
+use Rattle.std.proofs.Common.{refl, sym, ap, ◌∙◌, subst, arith}
 use Rattle.std.specs.Prelude.{not, ◌==◌, is_some}
 use Rattle.std.specs.List.{All, flat_map}
 use Rattle.std.proofs.lemmas.Bool.{ne_eqb}
@@ -19,14 +19,14 @@ use Rattle.expressions.specs.declared.tree.Relative.TheVariants as relatives
 use Rattle.meaning.specs.Accepted.{IsProperty}
 use Rattle.meaning.specs.Objects.{relative_in}
 use Rattle.meaning.specs.World as source
-use Rattle.values.specs.Items.{agrees}
-use Rattle.values.specs.Items as items
+use Rattle.drafts.specs.Items.{agrees}
+use Rattle.drafts.specs.Items as items
 use Rattle.items.specs.Stack as stack
 use Rattle.region.specs.Region.{tables_base}
 use Rattle.region.specs.Tables.{words_place}
 use Rattle.region.proofs.Together.{region_laws}
 use Rattle.instructions.specs.Instructions.{labelled}
-use Rattle.selection.specs.ItemCode.{assigned_word, at_label, property_address}
+use Rattle.object_selection.specs.ObjectCode.{assigned_word, at_label, property_address}
 use Rattle.code.specs.HeldProgram.{sizes_of}
 use Rattle.code.proofs.Play.{Leads, none_chosen}
 use Rattle.code.proofs.Memory.{with_variable}
@@ -35,7 +35,8 @@ use Rattle.code.proofs.Steps.{point, leads_then, landing, one_operand, two_opera
 use Rattle.code.proofs.Fitting.{Shaped, held_bytes}
 use Rattle.code.proofs.Labels.{Branching, label_leads}
 use Rattle.code.proofs.Places.{ends_by}
-use Rattle.code.proofs.Arriving.{Running, at, at_case, around, here, high, above, kept, LedFrom, Stands, situation_here}
+use Rattle.code.proofs.Arriving.{Running, at, at_case, around, here, high, above, kept, LedFrom, Stands}
+use Rattle.code.proofs.Arriving.{situation_here}
 use Rattle.code.proofs.Temporaries.{reads_written, held_in}
 use Rattle.code.proofs.Alone.{by_operand, alone_count, IsOperandHere, next_place}
 use Rattle.code.proofs.Jumping.{is_in, short}

@@ -17,12 +17,12 @@ use Rattle.meaning.specs.Resolved.{RoutineOf, ProgramOf}
 use Rattle.meaning.specs.Meaning.{routine_at}
 use Rattle.meaning.specs.Accepted.{IsRoutine, IsAccepted}
 use Rattle.meaning.specs.Printable.{HasPrintableTexts, ArePrintableActions}
-use Rattle.values.specs.Items.{Item, Operand, Destination}
-use Rattle.values.specs.Items as items
+use Rattle.drafts.specs.Items.{Item, Operand, Destination}
+use Rattle.drafts.specs.Items as items
 use Rattle.items.specs.Laws.{IsItem, ItemsAreWithin, ItemsFollow}
 use Rattle.items.specs.Stack as stack
-use Rattle.instructions.specs.Addresses.{Addresses}
-use Rattle.instructions.specs.Instructions.{plain}
+use Rattle.encoding.specs.Addresses.{Addresses}
+use Rattle.encoding.specs.Instructions.{plain}
 use Rattle.selection.specs.ItemBytes.{item_bytes}
 use Rattle.instructions.specs.Places.{offset_of}
 use Rattle.code.specs.Bytes.{place_of, code_bytes}

@@ -1,20 +1,21 @@
 -- How long the bytes of an item are: it depends on no address, and of its branch on the form alone.
-use Rattle.std.proofs.Common.{◌≡◌, ℕ, ◌+◌, ◌-◌, ◌%◌, ◌≤◌, List, [], ◌∷◌, ◌++◌, length, Option, Some, Bool}
-use Rattle.std.proofs.Common.{refl, ap, ◌∙◌, arith, length-append, append-nil}
+use Rattle.std.proofs.Common.{◌≡◌, ℕ, ◌+◌, ◌-◌, ◌%◌, ◌≤◌, List, [], ◌∷◌, ◌++◌, length, Option, Some, Bool, refl, ap}
+use Rattle.std.proofs.Common.{◌∙◌, arith, length-append, append-nil}
 use Rattle.std.specs.Prelude.{not, take}
 use Rattle.zcore.specs.declared.instruction.Operand.{Operand}
 use Rattle.zcore.specs.declared.instruction.Operand.TheVariants.{Small, Variable}
 use Rattle.zcore.specs.declared.instruction.Operation.TheVariants as operations
 use Rattle.zcore.specs.Instruction.{Instruction}
 use Rattle.forms.specs.Layout.{form_for, size_with, part_size, offset_over}
-use Rattle.values.specs.Items.{Item, Test}
-use Rattle.values.specs.Items as items
+use Rattle.drafts.specs.Items.{Item, Test}
+use Rattle.drafts.specs.Items as items
 use Rattle.meaning.specs.declared.cause.Cause.TheVariants as causes
-use Rattle.instructions.specs.Addresses.{Addresses, Sizes}
-use Rattle.instructions.specs.Instructions.{labelled, branch_code, case_code, most_tested, temporary, pulled_into}
-use Rattle.instructions.specs.Instructions.{word_in}
-use Rattle.instructions.specs.Bytes.{bytes_of_all}
-use Rattle.selection.specs.ItemCode.{item_code, tests_in, objects_of, property_address, assigned_takes, assigned_word}
+use Rattle.encoding.specs.Addresses.{Addresses, Sizes}
+use Rattle.instructions.specs.Instructions.{labelled, branch_code, case_code}
+use Rattle.encoding.specs.Instructions.{most_tested, temporary, pulled_into, word_in}
+use Rattle.encoding.specs.Bytes.{bytes_of_all}
+use Rattle.selection.specs.ItemCode.{item_code}
+use Rattle.object_selection.specs.ObjectCode.{tests_in, objects_of, property_address, assigned_takes, assigned_word}
 use Rattle.selection.specs.ItemBytes.{item_bytes, text_bytes}
 use Rattle.instructions.specs.Places.{label_size, target_of}
 use Rattle.code.specs.Bytes.{no_addresses, least_size, part_of}

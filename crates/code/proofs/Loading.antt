@@ -17,11 +17,11 @@ use Rattle.expressions.specs.declared.tree.Width.TheVariants as widths
 use Rattle.meaning.specs.declared.cause.Cause.TheVariants as causes
 use Rattle.meaning.specs.World.{Comes, to, array_at, entry_count, is_index, entry_at, read_entry}
 use Rattle.meaning.specs.World as source
-use Rattle.values.specs.Items.{Destination}
-use Rattle.values.specs.Items as items
+use Rattle.drafts.specs.Items.{Destination}
+use Rattle.drafts.specs.Items as items
 use Rattle.items.specs.Stack as stack
-use Rattle.instructions.specs.Addresses.{fault_address}
-use Rattle.instructions.specs.Instructions.{giving, result_in}
+use Rattle.encoding.specs.Addresses.{fault_address}
+use Rattle.encoding.specs.Instructions.{giving, result_in}
 use Rattle.selection.specs.ItemCode.{entries_in, is_entry, load_operation}
 use Rattle.code.specs.HeldProgram.{sizes_of}
 use Rattle.code.proofs.Play.{stays}

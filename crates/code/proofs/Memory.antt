@@ -12,7 +12,7 @@ use Rattle.meaning.specs.Objects.{Objects}
 use Rattle.meaning.specs.Resolved.{ProgramOf}
 use Rattle.region.specs.Region.{HasObjects}
 use Rattle.region.proofs.Frames.{keeps}
-use Rattle.instructions.specs.Addresses.{Addresses}
+use Rattle.encoding.specs.Addresses.{Addresses}
 use Rattle.code.proofs.Regions.{stands_on, same_on}
 use Rattle.code.proofs.Play.{HoldsArrays, Stored}
 

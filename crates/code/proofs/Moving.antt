@@ -1,6 +1,6 @@
 -- Items that move, keep and drop words.
-use Rattle.std.proofs.Common.{◌≡◌, ℕ, ◌+◌, ◌≤◌, List, [], ◌∷◌, length, Bool, true, false, refl, sym, ap, ◌∙◌}
-use Rattle.std.proofs.Common.{Option, None, subst, arith}
+use Rattle.std.proofs.Common.{◌≡◌, ℕ, ◌+◌, ◌≤◌, List, [], ◌∷◌, length, Bool, true, false, refl, sym, ap, ◌∙◌, Option}
+use Rattle.std.proofs.Common.{None, subst, arith}
 use Rattle.std.specs.Prelude.{nat_le, if◌then◌else◌, map}
 use Rattle.std.proofs.lemmas.Bool.{leb-true}
 use Rattle.zcore.specs.declared.instruction.Operand.TheVariants.{Small}
@@ -11,10 +11,10 @@ use Rattle.meaning.specs.declared.resolved.Variable.TheVariants as variables
 use Rattle.meaning.specs.World.{Situation, with_value}
 use Rattle.meaning.specs.Meaning.{routine_at}
 use Rattle.meaning.specs.Accepted.{IsVariable}
-use Rattle.values.specs.Items.{Item, Destination}
-use Rattle.values.specs.Items as items
+use Rattle.drafts.specs.Items.{Item, Destination}
+use Rattle.drafts.specs.Items as items
 use Rattle.items.specs.Stack as stack
-use Rattle.instructions.specs.Instructions.{number_of, in_place, result_in, push, pull, copy, store}
+use Rattle.encoding.specs.Instructions.{number_of, in_place, result_in, push, pull, copy, store}
 use Rattle.code.proofs.Play.{Leads, Stored}
 use Rattle.code.proofs.Parts.{machine as at_words, pushes, Writes, global_writes}
 use Rattle.code.proofs.Steps.{point, one_step, one_operand, two_operands, small_value}

@@ -1,6 +1,6 @@
 -- Items that move an object into another.
-use Rattle.std.proofs.Common.{◌≡◌, ℕ, ◌+◌, ◌<◌, ◌≤◌, List, [], ◌∷◌, ◌++◌, length, Bool, true, false}
-use Rattle.std.proofs.Common.{refl, sym, ◌∙◌, subst, arith}
+use Rattle.std.proofs.Common.{◌≡◌, ℕ, ◌+◌, ◌<◌, ◌≤◌, List, [], ◌∷◌, ◌++◌, length, Bool, true, false, refl, sym, ◌∙◌}
+use Rattle.std.proofs.Common.{subst, arith}
 use Rattle.std.specs.Prelude.{if◌then◌else◌}
 use Rattle.zcore.specs.declared.instruction.Operand.{Operand}
 use Rattle.zcore.specs.declared.instruction.Operand.TheVariants.{Variable}
@@ -13,12 +13,12 @@ use Rattle.meaning.specs.declared.cause.Cause.TheVariants as causes
 use Rattle.meaning.specs.Objects.{Objects, Climbed, clear, inside, spent, climb, moved}
 use Rattle.meaning.specs.World.{Situation, bound, ◌>>=◌, move_by, with_tree}
 use Rattle.meaning.specs.World as source
-use Rattle.values.specs.Items as items
+use Rattle.drafts.specs.Items as items
 use Rattle.items.specs.Stack as stack
 use Rattle.region.specs.Tables.{Table}
-use Rattle.instructions.specs.Addresses.{fault_address}
-use Rattle.instructions.specs.Instructions.{plain, store, word_in}
-use Rattle.selection.specs.ItemCode.{tested_in, climbing, at_object}
+use Rattle.encoding.specs.Addresses.{fault_address}
+use Rattle.encoding.specs.Instructions.{plain, store, word_in}
+use Rattle.object_selection.specs.ObjectCode.{tested_in, climbing, at_object}
 use Rattle.code.proofs.Memory.{word_of, with_variable}
 use Rattle.code.proofs.Parts.{machine as at_words}
 use Rattle.code.proofs.Steps.{point, leads_then, one_step, first_held, two_operands, variable_value}

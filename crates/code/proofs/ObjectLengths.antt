@@ -6,18 +6,20 @@ use Rattle.zcore.specs.declared.instruction.Operand.TheVariants.{Large, Small, V
 use Rattle.zcore.specs.declared.instruction.Operation.TheVariants as operations
 use Rattle.zcore.specs.Instruction.{Instruction, bytes_of}
 use Rattle.meaning.specs.declared.resolved.Variable as source
-use Rattle.values.specs.Items.{Destination}
-use Rattle.values.specs.Items as items
+use Rattle.drafts.specs.Items.{Destination}
+use Rattle.drafts.specs.Items as items
 use Rattle.meaning.specs.declared.cause.Cause.TheVariants as causes
-use Rattle.instructions.specs.Addresses.{Addresses, fault_address}
-use Rattle.instructions.specs.Instructions.{plain, branching, fail, number_of, temporary, constant, giving}
-use Rattle.instructions.specs.Instructions.{result_in, behind_comparison, pulled_into, word_in, store}
-use Rattle.instructions.specs.Bytes.{bytes_of_all}
-use Rattle.selection.specs.ItemCode.{tested_in, at_object, property_address, length_at, branching_zero}
-use Rattle.selection.specs.ItemCode.{branching_single, property_value, provided, tested_word, tested_single}
-use Rattle.selection.specs.ItemCode.{behind_operand, loaded_at, assigned_single, assigned_at, property_word_code}
-use Rattle.selection.specs.ItemCode.{assign_property_code, assign_property_word_code, climbing, moved_into}
-use Rattle.selection.specs.ItemCode.{jump_by, next_object_code, assigned_takes, assigned_word, passed_on}
+use Rattle.encoding.specs.Addresses.{Addresses, fault_address}
+use Rattle.encoding.specs.Instructions.{plain, branching, fail, number_of, temporary, constant, giving, result_in}
+use Rattle.encoding.specs.Instructions.{pulled_into, word_in, store}
+use Rattle.instructions.specs.Instructions.{behind_comparison}
+use Rattle.encoding.specs.Bytes.{bytes_of_all}
+use Rattle.object_selection.specs.ObjectCode.{tested_in, at_object, property_address, length_at, branching_zero}
+use Rattle.object_selection.specs.ObjectCode.{branching_single, property_value, provided, tested_word, tested_single}
+use Rattle.object_selection.specs.ObjectCode.{behind_operand, loaded_at, assigned_single, assigned_at}
+use Rattle.object_selection.specs.ObjectCode.{property_word_code, assign_property_code, assign_property_word_code}
+use Rattle.object_selection.specs.ObjectCode.{climbing, moved_into, jump_by, next_object_code, assigned_takes}
+use Rattle.object_selection.specs.ObjectCode.{assigned_word, passed_on}
 use Rattle.code.proofs.AddressLengths.{all_length, fail_same, AsLong, in_same, at_same}
 
 -- Objects

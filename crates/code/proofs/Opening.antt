@@ -22,8 +22,8 @@ use Rattle.meaning.specs.Objects.{first_objects}
 use Rattle.region.specs.Region.{HasObjects}
 use Rattle.region.specs.Tables.{Table}
 use Rattle.region.proofs.Together.{region_laws}
-use Rattle.instructions.specs.Addresses.{Addresses}
-use Rattle.instructions.specs.Instructions.{plain}
+use Rattle.encoding.specs.Addresses.{Addresses}
+use Rattle.encoding.specs.Instructions.{plain}
 use Rattle.code.specs.Laws.{Plays}
 use Rattle.code.specs.HeldProgram.{HoldsProgram}
 use Rattle.code.proofs.Regions.{held_stands}

@@ -1,6 +1,6 @@
 -- Items that operate on words, with the fault of a division.
-use Rattle.std.proofs.Common.{◌≡◌, ◌≢◌, ℕ, zero, suc, ◌+◌, ◌-◌, ◌*◌, ◌%◌, ◌<◌, ◌≤◌, List, [], ◌∷◌, ◌++◌}
-use Rattle.std.proofs.Common.{length, Some, None, Bool, true, false, refl, ap, subst, arith, length-append}
+use Rattle.std.proofs.Common.{◌≡◌, ◌≢◌, ℕ, zero, suc, ◌+◌, ◌-◌, ◌*◌, ◌%◌, ◌<◌, ◌≤◌, List, [], ◌∷◌, ◌++◌, length, Some}
+use Rattle.std.proofs.Common.{None, Bool, true, false, refl, ap, subst, arith, length-append}
 use Rattle.std.specs.Prelude.{nat_le, if◌then◌else◌, ◌==◌, bit_and, bit_or}
 use Rattle.std.specs.List.{flat_map}
 use Rattle.std.proofs.lemmas.Bool.{le-leb}
@@ -17,16 +17,16 @@ use Rattle.zcore.specs.Execution.{give_result, divide, modulo, perform}
 use Rattle.expressions.specs.declared.tree.Binary.{Binary}
 use Rattle.expressions.specs.declared.tree.Binary.TheVariants as binaries
 use Rattle.meaning.specs.declared.cause.Cause.TheVariants as causes
-use Rattle.instructions.specs.Addresses.{fault_address}
+use Rattle.encoding.specs.Addresses.{fault_address}
 use Rattle.meaning.specs.World.{Part, value_in}
 use Rattle.meaning.specs.World as source
 use Rattle.meaning.specs.Meaning.{with_prefix}
 use Rattle.meaning.specs.Meaning as meaning
-use Rattle.values.specs.Items.{Item, Destination}
-use Rattle.values.specs.Items as items
+use Rattle.drafts.specs.Items.{Item, Destination}
+use Rattle.drafts.specs.Items as items
 use Rattle.items.specs.Stack as stack
-use Rattle.instructions.specs.Instructions.{giving, branching, in_place, result_in, number_of, pull, fail, divided_by}
-use Rattle.instructions.specs.Instructions.{divided}
+use Rattle.encoding.specs.Instructions.{giving, branching, in_place, result_in, number_of, pull, fail}
+use Rattle.instructions.specs.Instructions.{divided_by, divided}
 use Rattle.selection.specs.ItemBytes.{text_bytes}
 use Rattle.code.proofs.Behind.{Holds, holds_append}
 use Rattle.code.proofs.Play.{Leads, stays}

@@ -8,10 +8,10 @@ use Rattle.ztext.specs.Text.{Holds}
 use Rattle.ztext.proofs.Holding.{holds_append}
 use Rattle.forms.specs.declared.layout.Part.{Part}
 use Rattle.forms.specs.Layout.{first, offset_over, part_size, lefts}
-use Rattle.values.specs.Items.{Item}
-use Rattle.values.specs.Items as items
-use Rattle.instructions.specs.Addresses.{Addresses, Sizes}
-use Rattle.instructions.specs.Instructions.{jump_offset}
+use Rattle.drafts.specs.Items.{Item}
+use Rattle.drafts.specs.Items as items
+use Rattle.encoding.specs.Addresses.{Addresses, Sizes}
+use Rattle.encoding.specs.Instructions.{jump_offset}
 use Rattle.selection.specs.ItemBytes.{item_bytes}
 use Rattle.instructions.specs.Places.{target_of, offset_of}
 use Rattle.code.specs.Bytes.{part_of, parts_of, lefts_of, code_size, place_of, items_bytes, code_bytes}

@@ -6,14 +6,15 @@ use Rattle.zcore.specs.declared.instruction.Operation.TheVariants as operations
 use Rattle.zcore.specs.Instruction.{Instruction, bytes_of}
 use Rattle.expressions.specs.declared.tree.Binary.{Binary}
 use Rattle.expressions.specs.declared.tree.Binary.TheVariants as binaries
-use Rattle.values.specs.Items.{Item, Destination}
-use Rattle.values.specs.Items as items
-use Rattle.instructions.specs.Addresses.{Addresses, Sizes}
-use Rattle.instructions.specs.Instructions.{plain, divided, character_code, most_arguments, number_of, temporary}
-use Rattle.instructions.specs.Instructions.{result_in}
-use Rattle.instructions.specs.Bytes.{bytes_of_all}
-use Rattle.selection.specs.ItemCode.{item_code, objects_of, property_address, length_at, property_value}
-use Rattle.selection.specs.ItemCode.{moved_into, relative_of, changing, assigned_takes}
+use Rattle.drafts.specs.Items.{Item, Destination}
+use Rattle.drafts.specs.Items as items
+use Rattle.encoding.specs.Addresses.{Addresses, Sizes}
+use Rattle.encoding.specs.Instructions.{plain, most_arguments, number_of, temporary, result_in}
+use Rattle.instructions.specs.Instructions.{divided, character_code}
+use Rattle.encoding.specs.Bytes.{bytes_of_all}
+use Rattle.selection.specs.ItemCode.{item_code}
+use Rattle.object_selection.specs.ObjectCode.{objects_of, property_address, length_at, property_value, moved_into}
+use Rattle.object_selection.specs.ObjectCode.{relative_of, changing, assigned_takes}
 use Rattle.selection.specs.ItemBytes.{item_bytes}
 use Rattle.instructions.specs.Places.{target_of}
 use Rattle.code.specs.Bytes.{no_addresses, least_size}

@@ -16,12 +16,12 @@ use Rattle.meaning.specs.Objects.{Objects}
 use Rattle.meaning.specs.Resolved.{ProgramOf}
 use Rattle.meaning.specs.World.{Outcome, World}
 use Rattle.meaning.specs.Meaning.{routine_at}
-use Rattle.values.specs.Items.{Item}
+use Rattle.drafts.specs.Items.{Item}
 use Rattle.items.specs.Statements.{routine_items}
 use Rattle.items.specs.Laws.{IsDestination}
 use Rattle.items.specs.Stack.{Caller}
 use Rattle.items.specs.Stack as stack
-use Rattle.instructions.specs.Addresses.{Addresses}
+use Rattle.encoding.specs.Addresses.{Addresses}
 use Rattle.instructions.specs.Instructions.{call_result}
 use Rattle.code.specs.Bytes.{place_of}
 use Rattle.code.specs.HeldProgram.{sizes_of, offset_in}

@@ -6,9 +6,9 @@ use Rattle.std.proofs.lemmas.List.Elements.{All-nil, All-cons, All-append}
 use Rattle.expressions.specs.declared.tree.Step.{Step}
 use Rattle.meaning.specs.declared.resolved.Variable.{Variable}
 use Rattle.lexer.specs.Printable.{IsPrintable}
-use Rattle.values.specs.Items.{Item, Operand, pushed, number, variable, Destination, push, into, nowhere, if_pushed}
-use Rattle.values.specs.Items.{moved, truth_items, after_items, kept_items}
-use Rattle.values.specs.Items as items
+use Rattle.drafts.specs.Items.{Item, Operand, pushed, number, variable, Destination, push, into, nowhere, if_pushed}
+use Rattle.drafts.specs.Items.{moved, truth_items, after_items, kept_items}
+use Rattle.drafts.specs.Items as items
 
 -- a text that an item prints has only bytes from 32 to 126
 abbrev pub HasPrintableText : Item → Type 0

@@ -4,10 +4,9 @@ use Rattle.expressions.specs.declared.tree.Containment.{Containment}
 use Rattle.expressions.specs.declared.tree.Relative.{Relative}
 use Rattle.meaning.specs.Resolved.{Value}
 use Rattle.meaning.specs.Resolved as source
-use Rattle.values.specs.Items.{Item, Operand, pushed, Destination, push, first_of}
-use Rattle.values.specs.Items.{alone, left_of, if_pushed, agrees, operand_count, truth_items, value_items}
-use Rattle.values.specs.Items.{branch_items}
-use Rattle.values.specs.Items as items
+use Rattle.drafts.specs.Items.{Item, Operand, pushed, Destination, push, first_of, alone, left_of, if_pushed, agrees}
+use Rattle.drafts.specs.Items.{operand_count, truth_items, value_items, branch_items}
+use Rattle.drafts.specs.Items as items
 use Rattle.code.proofs.PrintedLists.{HasPrintableText, Fine, nothing, first, joined, last, pushed_fine, truth_fine}
 use Rattle.code.proofs.PrintedLists.{two_fine}
 use Rattle.code.proofs.PrintedOperations.{ValueFine}

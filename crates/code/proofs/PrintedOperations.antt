@@ -9,11 +9,10 @@ use Rattle.expressions.specs.declared.tree.Prefix.TheVariants as prefixes
 use Rattle.expressions.specs.declared.tree.Width.{Width}
 use Rattle.meaning.specs.Resolved.{Value, Values}
 use Rattle.meaning.specs.Resolved as source
-use Rattle.values.specs.Items.{Item, Destination, push, operand_of}
-use Rattle.values.specs.Items.{alone, left_of, if_pushed, is_few, value_count, operand_count, operands_count}
-use Rattle.values.specs.Items.{branch_count, many_count, value_items}
-use Rattle.values.specs.Items.{operands_items, branch_items, many_items, also_items}
-use Rattle.values.specs.Items as items
+use Rattle.drafts.specs.Items.{Item, Destination, push, operand_of, alone, left_of, if_pushed, is_few, value_count}
+use Rattle.drafts.specs.Items.{operand_count, operands_count, branch_count, many_count, value_items, operands_items}
+use Rattle.drafts.specs.Items.{branch_items, many_items, also_items}
+use Rattle.drafts.specs.Items as items
 use Rattle.code.proofs.PrintedLists.{Fine, nothing, first, joined, last, pushed_fine, either_fine, truth_fine}
 use Rattle.code.proofs.PrintedLists.{two_fine}
 

@@ -10,17 +10,15 @@ use Rattle.meaning.specs.Resolved.{Value, Values, none, more, Printed, Action, A
 use Rattle.meaning.specs.Resolved as source
 use Rattle.meaning.specs.Meaning.{is_true}
 use Rattle.meaning.specs.Printable.{IsPrintableItem, IsPrintableAction, ArePrintableActions, ArePrintableCases}
-use Rattle.values.specs.Items.{Item, Operand, number, variable, push, into, nowhere, operand_of}
-use Rattle.items.specs.Statements.{each_items, relative_items, children_items}
-use Rattle.values.specs.Items.{alone, left_of, if_pushed, agrees, value_count, operand_count}
-use Rattle.values.specs.Items.{branch_count, value_items, operands_items, branch_items}
-use Rattle.items.specs.Statements.{printed_count, action_count}
-use Rattle.values.specs.Items.{alone_items}
+use Rattle.drafts.specs.Items.{Item, Operand, number, variable, push, into, nowhere, operand_of, alone, left_of}
+use Rattle.drafts.specs.Items.{if_pushed, agrees, value_count, operand_count, branch_count, value_items}
+use Rattle.drafts.specs.Items.{operands_items, branch_items, alone_items}
+use Rattle.items.specs.Statements.{each_items, relative_items, children_items, printed_count, action_count}
 use Rattle.items.specs.Statements.{printed_items, prints_items, Exits, exits_to, action_items, actions_items}
 use Rattle.items.specs.Statements.{return_true, routine_items, once_count, once_items, test_count, test_items, Group}
 use Rattle.items.specs.Statements.{groups_of, group_count, group_items, last_items, tests_count, tests_items}
 use Rattle.items.specs.Statements.{over_count, over_items, actions_count, cases_count, cases_items}
-use Rattle.values.specs.Items as items
+use Rattle.drafts.specs.Items as items
 use Rattle.items.specs.Statements as statements
 use Rattle.code.proofs.PrintedLists.{HasPrintableText, Fine, nothing, first, joined, last, pushed_fine, either_fine}
 use Rattle.code.proofs.PrintedLists.{moved_fine, after_fine, kept_fine, two_fine}

@@ -14,13 +14,13 @@ use Rattle.meaning.specs.declared.cause.Cause.TheVariants as causes
 use Rattle.meaning.specs.Accepted.{IsProperty}
 use Rattle.meaning.specs.World.{bound, single_word}
 use Rattle.meaning.specs.World as source
-use Rattle.values.specs.Items.{Destination}
-use Rattle.values.specs.Items as items
+use Rattle.drafts.specs.Items.{Destination}
+use Rattle.drafts.specs.Items as items
 use Rattle.items.specs.Stack as stack
 use Rattle.region.specs.Tables.{Table}
-use Rattle.instructions.specs.Addresses.{fault_address}
-use Rattle.instructions.specs.Instructions.{giving, branching, fail, result_in}
-use Rattle.selection.specs.ItemCode.{property_address, length_at}
+use Rattle.encoding.specs.Addresses.{fault_address}
+use Rattle.encoding.specs.Instructions.{giving, branching, fail, result_in}
+use Rattle.object_selection.specs.ObjectCode.{property_address, length_at}
 use Rattle.code.proofs.Behind.{Holds, holds_append}
 use Rattle.code.proofs.Play.{Leads}
 use Rattle.code.proofs.Memory.{word_of, with_variable}

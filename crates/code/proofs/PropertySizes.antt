@@ -1,6 +1,6 @@
 -- Items that give how many bytes the words of a property have.
-use Rattle.std.proofs.Common.{◌≡◌, ℕ, ◌+◌, ◌*◌, ◌%◌, ◌≤◌, List, [], ◌∷◌, length, Option}
-use Rattle.std.proofs.Common.{Some, None, false, refl, sym, ap, ◌∙◌, arith}
+use Rattle.std.proofs.Common.{◌≡◌, ℕ, ◌+◌, ◌*◌, ◌%◌, ◌≤◌, List, [], ◌∷◌, length, Option, Some, None, false, refl, sym}
+use Rattle.std.proofs.Common.{ap, ◌∙◌, arith}
 use Rattle.std.specs.Prelude.{◌==◌}
 use Rattle.std.proofs.lemmas.Bool.{ne_eqb}
 use Rattle.zcore.specs.declared.instruction.Operand.{Operand}
@@ -14,13 +14,13 @@ use Rattle.zcore.specs.Execution.{perform, give_result}
 use Rattle.meaning.specs.Accepted.{IsProperty}
 use Rattle.meaning.specs.World.{Situation, size_of}
 use Rattle.meaning.specs.World as source
-use Rattle.values.specs.Items.{Destination}
-use Rattle.values.specs.Items as items
+use Rattle.drafts.specs.Items.{Destination}
+use Rattle.drafts.specs.Items as items
 use Rattle.items.specs.Stack as stack
 use Rattle.region.specs.Region.{tables_base}
 use Rattle.region.specs.Tables.{Table, words_place}
-use Rattle.instructions.specs.Instructions.{result_in}
-use Rattle.selection.specs.ItemCode.{property_address, length_at}
+use Rattle.encoding.specs.Instructions.{result_in}
+use Rattle.object_selection.specs.ObjectCode.{property_address, length_at}
 use Rattle.code.proofs.Memory.{word_of, with_variable}
 use Rattle.code.proofs.Parts.{machine as at_words}
 use Rattle.code.proofs.Steps.{point, first_held, one_operand, two_operands, small_value, variable_value}

@@ -12,13 +12,14 @@ use Rattle.meaning.specs.declared.cause.Cause.TheVariants as causes
 use Rattle.meaning.specs.Accepted.{IsProperty}
 use Rattle.meaning.specs.World.{Situation, Part, bound, ◌>>=◌, test_provided, test_word}
 use Rattle.meaning.specs.World as source
-use Rattle.values.specs.Items.{Destination}
-use Rattle.values.specs.Items as items
+use Rattle.drafts.specs.Items.{Destination}
+use Rattle.drafts.specs.Items as items
 use Rattle.items.specs.Stack as stack
 use Rattle.region.specs.Tables.{Table, words_place}
 use Rattle.region.specs.Region.{tables_base}
-use Rattle.instructions.specs.Instructions.{giving, result_in}
-use Rattle.selection.specs.ItemCode.{provided, tested_word, assigned_word, is_entry, at_object}
+use Rattle.encoding.specs.Instructions.{giving, result_in}
+use Rattle.object_selection.specs.ObjectCode.{provided, tested_word, assigned_word, at_object}
+use Rattle.selection.specs.ItemCode.{is_entry}
 use Rattle.code.proofs.Memory.{word_of}
 use Rattle.code.proofs.Parts.{machine as at_words}
 use Rattle.code.proofs.Steps.{point, first_held, two_operands, variable_value}

@@ -1,6 +1,6 @@
 -- The property of an object is found.
-use Rattle.std.proofs.Common.{◌≡◌, ◌≢◌, ℕ, ◌+◌, ◌<◌, ◌≤◌, List, [], ◌∷◌, ◌++◌, length}
-use Rattle.std.proofs.Common.{Option, Some, None, false, refl, ap, ◌∙◌, subst, arith}
+use Rattle.std.proofs.Common.{◌≡◌, ◌≢◌, ℕ, ◌+◌, ◌<◌, ◌≤◌, List, [], ◌∷◌, ◌++◌, length, Option, Some, None, false, refl}
+use Rattle.std.proofs.Common.{ap, ◌∙◌, subst, arith}
 use Rattle.std.specs.Prelude.{◌==◌, not}
 use Rattle.std.proofs.lemmas.Bool.{ne_eqb}
 use Rattle.zcore.specs.declared.instruction.Operand.{Operand}
@@ -17,9 +17,9 @@ use Rattle.region.specs.Laws.{Acts, Placed}
 use Rattle.region.specs.Region.{HasObjects, tables_base}
 use Rattle.region.specs.Tables.{Table, words_place}
 use Rattle.region.proofs.Together.{region_laws}
-use Rattle.instructions.specs.Addresses.{fault_address}
-use Rattle.instructions.specs.Instructions.{branching, fail}
-use Rattle.selection.specs.ItemCode.{property_address, provided}
+use Rattle.encoding.specs.Addresses.{fault_address}
+use Rattle.encoding.specs.Instructions.{branching, fail}
+use Rattle.object_selection.specs.ObjectCode.{property_address, provided}
 use Rattle.code.proofs.Memory.{word_of, with_variable}
 use Rattle.code.proofs.Parts.{machine as at_words}
 use Rattle.code.proofs.Steps.{point, one_operand, two_operands, small_value, variable_value}

@@ -3,9 +3,9 @@ use Rattle.std.proofs.Common.{◌≡◌, ◌≢◌, ℕ, ◌+◌, ◌<◌, ◌�
 use Rattle.std.specs.List.{flat_map}
 use Rattle.zcore.specs.declared.instruction.Operand.{Operand}
 use Rattle.zcore.specs.Instruction.{Instruction, bytes_of}
-use Rattle.values.specs.Items.{Item}
-use Rattle.values.specs.Items as items
-use Rattle.instructions.specs.Instructions.{pull, pulled_into}
+use Rattle.drafts.specs.Items.{Item}
+use Rattle.drafts.specs.Items as items
+use Rattle.encoding.specs.Instructions.{pull, pulled_into}
 use Rattle.selection.specs.ItemBytes.{text_bytes}
 use Rattle.code.proofs.Play.{Leads, stays}
 use Rattle.code.proofs.Memory.{word_of, with_variable}

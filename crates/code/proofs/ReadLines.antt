@@ -1,6 +1,6 @@
 -- The turn of a line: byte 1 of the text array is cleared, and the story waits until a line is given.
-use Rattle.std.proofs.Common.{◌≡◌, ◌≢◌, ℕ, ◌+◌, ◌<◌, ◌≤◌, List, [], ◌∷◌, ◌++◌, length}
-use Rattle.std.proofs.Common.{slice_index, set, Some, true, refl, sym, ap, ◌∙◌, subst, arith, append-nil}
+use Rattle.std.proofs.Common.{◌≡◌, ◌≢◌, ℕ, ◌+◌, ◌<◌, ◌≤◌, List, [], ◌∷◌, ◌++◌, length, slice_index, set, Some, true}
+use Rattle.std.proofs.Common.{refl, sym, ap, ◌∙◌, subst, arith, append-nil}
 use Rattle.std.specs.Prelude.{nat_le, map}
 use Rattle.std.specs.List.{flat_map}
 use Rattle.std.proofs.lemmas.List.{length-set, get_or-set_same}
@@ -23,7 +23,7 @@ use Rattle.meaning.specs.Reading.{holds_letters, holds_words, next_line, with_li
 use Rattle.meaning.specs.World.{Situation, array_at, is_index}
 use Rattle.meaning.specs.World as source
 use Rattle.items.specs.Stack as stack
-use Rattle.instructions.specs.Instructions.{plain, giving}
+use Rattle.encoding.specs.Instructions.{plain, giving}
 use Rattle.selection.specs.ItemCode.{line_code}
 use Rattle.code.proofs.Behind.{Holds, holds_on}
 use Rattle.code.proofs.Play.{Stored, Does, Good, next_of, state_of, none_chosen}

@@ -1,6 +1,6 @@
 -- The item that reads a line: its tests, and the turn of the line.
-use Rattle.std.proofs.Common.{◌≡◌, ◌≢◌, ℕ, ◌<◌, ◌≤◌, List, ◌∷◌, ◌++◌, length}
-use Rattle.std.proofs.Common.{Bool, true, false, refl, sym, ap, ◌∙◌, subst, arith}
+use Rattle.std.proofs.Common.{◌≡◌, ◌≢◌, ℕ, ◌<◌, ◌≤◌, List, ◌∷◌, ◌++◌, length, Bool, true, false, refl, sym, ap, ◌∙◌}
+use Rattle.std.proofs.Common.{subst, arith}
 use Rattle.std.specs.Prelude.{if◌then◌else◌, ◌&&◌}
 use Rattle.zcore.specs.declared.place.Place.TheVariants as places
 use Rattle.zcore.specs.Instruction.{Instruction}
@@ -10,10 +10,10 @@ use Rattle.meaning.specs.Places.{number_in}
 use Rattle.meaning.specs.Reading.{holds_letters, holds_words, next_line, read_next}
 use Rattle.meaning.specs.World.{Situation, Outcome, Comes, to, over, Part, bound}
 use Rattle.meaning.specs.World as source
-use Rattle.values.specs.Items as items
+use Rattle.drafts.specs.Items as items
 use Rattle.items.specs.Stack as stack
-use Rattle.instructions.specs.Addresses.{fault_address}
-use Rattle.instructions.specs.Instructions.{fail}
+use Rattle.encoding.specs.Addresses.{fault_address}
+use Rattle.encoding.specs.Instructions.{fail}
 use Rattle.selection.specs.ItemCode.{first_byte, letters_in, words_in, tested_first, line_code}
 use Rattle.code.proofs.Play.{Does, stays, next_of, state_of}
 use Rattle.code.proofs.Parts.{machine as at_words}

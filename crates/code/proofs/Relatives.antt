@@ -1,6 +1,5 @@
 -- Items that give a relative of an object.
-use Rattle.std.proofs.Common.{◌≡◌, ℕ, ◌+◌, ◌-◌, ◌<◌, ◌≤◌, List, [], ◌∷◌, length, Option, Some, Bool, true, false}
-use Rattle.std.proofs.Common.{refl}
+use Rattle.std.proofs.Common.{◌≡◌, ℕ, ◌+◌, ◌-◌, ◌<◌, ◌≤◌, List, [], ◌∷◌, length, Option, Some, Bool, true, false, refl}
 use Rattle.std.proofs.Common.{ap, ◌∙◌, arith}
 use Rattle.std.specs.Prelude.{nat_le, nat_lt, nat_eq}
 use Rattle.std.proofs.lemmas.Bool.{lt-ltb, le-leb, ne_eqb}
@@ -14,18 +13,18 @@ use Rattle.zcore.specs.Instruction.{Instruction, bytes_of}
 use Rattle.zcore.specs.State.{State, done}
 use Rattle.zcore.specs.State as state
 use Rattle.zcore.specs.Objects.{give_object}
-use Rattle.zcore.specs.Parts.{test_result, store_result, write_variable, test_branch, test_taken}
-use Rattle.zcore.specs.Parts.{test_target, branch_on}
+use Rattle.zcore.specs.Parts.{test_result, store_result, write_variable, test_branch, test_taken, test_target}
+use Rattle.zcore.specs.Parts.{branch_on}
 use Rattle.zcore.specs.Execution.{perform}
 use Rattle.expressions.specs.declared.tree.Relative.{Relative}
 use Rattle.expressions.specs.declared.tree.Relative.TheVariants as relatives
 use Rattle.meaning.specs.Objects.{relative_in}
 use Rattle.meaning.specs.World as source
-use Rattle.values.specs.Items.{Destination}
-use Rattle.values.specs.Items as items
+use Rattle.drafts.specs.Items.{Destination}
+use Rattle.drafts.specs.Items as items
 use Rattle.items.specs.Stack as stack
-use Rattle.instructions.specs.Instructions.{number_of, result_in}
-use Rattle.selection.specs.ItemCode.{giving_on, relative_of}
+use Rattle.encoding.specs.Instructions.{number_of, result_in}
+use Rattle.object_selection.specs.ObjectCode.{giving_on, relative_of}
 use Rattle.code.proofs.Memory.{with_variable}
 use Rattle.code.proofs.Parts.{room_is, Around, machine as at_words, pushes, Writes, global_writes}
 use Rattle.code.proofs.Steps.{point, leads_then, one_step, first_held, one_operand, landing, branches}

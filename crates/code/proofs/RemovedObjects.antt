@@ -7,9 +7,9 @@ use Rattle.zcore.specs.Execution.{perform}
 use Rattle.meaning.specs.Objects.{removed}
 use Rattle.meaning.specs.World.{with_objects}
 use Rattle.meaning.specs.World as source
-use Rattle.values.specs.Items as items
+use Rattle.drafts.specs.Items as items
 use Rattle.items.specs.Stack as stack
-use Rattle.instructions.specs.Instructions.{plain}
+use Rattle.encoding.specs.Instructions.{plain}
 use Rattle.code.proofs.Parts.{machine as at_words}
 use Rattle.code.proofs.Steps.{point, leads_then, one_step, first_held, one_operand}
 use Rattle.code.proofs.AddressLengths.{one_length}

@@ -1,6 +1,6 @@
 -- What is done with the word that a routine gives back.
-use Rattle.std.proofs.Common.{◌≡◌, ℕ, suc, ◌+◌, ◌<◌, ◌≤◌, List, [], ◌∷◌, ◌++◌, length, Option, None, Bool, true}
-use Rattle.std.proofs.Common.{false, refl, sym, ap, ◌∙◌, subst, arith}
+use Rattle.std.proofs.Common.{◌≡◌, ℕ, suc, ◌+◌, ◌<◌, ◌≤◌, List, [], ◌∷◌, ◌++◌, length, Option, None, Bool, true, false}
+use Rattle.std.proofs.Common.{refl, sym, ap, ◌∙◌, subst, arith}
 use Rattle.std.specs.Prelude.{slice_index, nat_le, if◌then◌else◌, map}
 use Rattle.std.specs.List.{All}
 use Rattle.std.proofs.lemmas.Bool.{leb-true}
@@ -20,12 +20,13 @@ use Rattle.ztext.proofs.Holding.{holds_byte}
 use Rattle.meaning.specs.declared.resolved.Variable as source
 use Rattle.meaning.specs.World.{Situation, with_value}
 use Rattle.meaning.specs.Meaning.{routine_at}
-use Rattle.values.specs.Items.{Destination}
-use Rattle.values.specs.Items as items
+use Rattle.drafts.specs.Items.{Destination}
+use Rattle.drafts.specs.Items as items
 use Rattle.items.specs.Laws.{IsDestination}
 use Rattle.items.specs.Stack.{Caller}
 use Rattle.items.specs.Stack as stack
-use Rattle.instructions.specs.Instructions.{plain, number_of, call_result}
+use Rattle.encoding.specs.Instructions.{plain, number_of}
+use Rattle.instructions.specs.Instructions.{call_result}
 use Rattle.code.specs.HeldProgram.{sizes_of}
 use Rattle.code.proofs.Behind.{Holds, holds_on}
 use Rattle.code.proofs.Play.{Leads, items_in, address, frames_of, frame_of, back_of, result_of, first_count}

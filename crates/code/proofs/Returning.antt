@@ -6,11 +6,12 @@ use Rattle.zcore.specs.declared.instruction.Operation.TheVariants as operations
 use Rattle.zcore.specs.Instruction.{bytes_of}
 use Rattle.zcore.specs.Parts.{give_back}
 use Rattle.zcore.specs.Execution.{perform, return_popped}
-use Rattle.values.specs.Items.{Destination}
-use Rattle.values.specs.Items as items
+use Rattle.drafts.specs.Items.{Destination}
+use Rattle.drafts.specs.Items as items
 use Rattle.items.specs.Stack.{Caller}
 use Rattle.items.specs.Stack as stack
-use Rattle.instructions.specs.Instructions.{plain, constant, in_place, return_code}
+use Rattle.encoding.specs.Instructions.{plain, constant, in_place}
+use Rattle.instructions.specs.Instructions.{return_code}
 use Rattle.code.proofs.Behind.{Holds}
 use Rattle.code.proofs.Parts.{machine as at_words, tops}
 use Rattle.code.proofs.Steps.{no_operand, one_operand}

@@ -14,10 +14,10 @@ use Rattle.forms.specs.declared.layout.Form.TheVariants.{One, Two, Far}
 use Rattle.forms.specs.declared.layout.Part.{Part}
 use Rattle.forms.specs.declared.layout.BranchUse.{BranchUse}
 use Rattle.forms.specs.Layout.{uses}
-use Rattle.values.specs.Items.{Item, pushed, number, variable, push, into, nowhere, is_zero, less, greater, same, move}
-use Rattle.values.specs.Items.{operate, step, entry, assign_entry, print_text, read_line, branch, choose, case, jump}
-use Rattle.values.specs.Items.{call, return}
-use Rattle.instructions.specs.Addresses.{Addresses, Sizes}
+use Rattle.drafts.specs.Items.{Item, pushed, number, variable, push, into, nowhere, is_zero, less, greater, same, move}
+use Rattle.drafts.specs.Items.{operate, step, entry, assign_entry, print_text, read_line, branch, choose, case, jump}
+use Rattle.drafts.specs.Items.{call, return}
+use Rattle.encoding.specs.Addresses.{Addresses, Sizes}
 use Rattle.selection.specs.ItemBytes.{item_bytes}
 use Rattle.code.specs.Bytes.{parts_of, code_bytes}
 use Rattle.code.specs.HeldProgram.{start_code}

@@ -1,7 +1,6 @@
 -- The machine does what the machine of items does, where it does what each item leads to.
 use Rattle.std.proofs.Common.{◌≡◌, ℕ, zero, suc, ◌≤◌, length, ◌++◌, List, [], ◌∷◌, Option, Some, None, Bool, true}
-use Rattle.std.proofs.Common.{false, refl}
-use Rattle.std.proofs.Common.{sym, ap, ◌∙◌, subst, append_assoc}
+use Rattle.std.proofs.Common.{false, refl, sym, ap, ◌∙◌, subst, append_assoc}
 use Rattle.std.specs.Prelude.{slice_get, map, if◌then◌else◌}
 use Rattle.zcore.specs.declared.next.Next.{Next}
 use Rattle.zcore.specs.State.{State}
@@ -9,9 +8,9 @@ use Rattle.zcore.specs.Turn.{Whole, Turns, turn_from, turn_on, is_waiting, entri
 use Rattle.zcore.proofs.Turning.{turns_is}
 use Rattle.meaning.specs.Resolved.{ProgramOf}
 use Rattle.meaning.specs.World.{Outcome, World}
-use Rattle.values.specs.Items.{Item}
+use Rattle.drafts.specs.Items.{Item}
 use Rattle.items.specs.Stack as stack
-use Rattle.instructions.specs.Addresses.{Addresses}
+use Rattle.encoding.specs.Addresses.{Addresses}
 use Rattle.code.proofs.Play.{Does, Good, Led, LedOn, LedBy, items_in, next_of, state_of}
 use Rattle.code.proofs.Ends.{does_after}
 use Rattle.code.proofs.KeptWorld.{Same, Keeps, Bounded, KeepsBy, is_read}

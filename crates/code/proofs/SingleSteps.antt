@@ -19,7 +19,8 @@ use Rattle.zcore.specs.Parts.{take_branch, branch_on, is_code}
 use Rattle.zcore.specs.Execution as machine
 use Rattle.zcore.specs.Execution.{give_result, divide, modulo, load, increment, decrement, push_word, jump, perform}
 use Rattle.zcore.specs.Execution.{execute, step}
-use Rattle.instructions.specs.Instructions.{plain, giving, branching, push, pull, copy, flag}
+use Rattle.encoding.specs.Instructions.{plain, giving, branching, push, pull, copy}
+use Rattle.instructions.specs.Instructions.{flag}
 use Rattle.code.proofs.Behind.{Holds}
 use Rattle.code.proofs.Play.{Leads, moves}
 use Rattle.code.proofs.Parts.{Around, machine as at_words, pushes, pops, tops, writes_top, can_pull_top, Reads, Writes}

@@ -1,6 +1,6 @@
 -- Items that step a variable.
-use Rattle.std.proofs.Common.{◌≡◌, ℕ, ◌+◌, ◌<◌, ◌≤◌, List, [], ◌∷◌, length, drop, refl, ap, ◌∙◌, subst}
-use Rattle.std.proofs.Common.{arith, length-append}
+use Rattle.std.proofs.Common.{◌≡◌, ℕ, ◌+◌, ◌<◌, ◌≤◌, List, [], ◌∷◌, length, drop, refl, ap, ◌∙◌, subst, arith}
+use Rattle.std.proofs.Common.{length-append}
 use Rattle.std.specs.Prelude.{map}
 use Rattle.std.specs.List.{flat_map}
 use Rattle.zcore.specs.declared.instruction.Operand.TheVariants.{Small, Variable}
@@ -14,10 +14,11 @@ use Rattle.expressions.specs.declared.tree.Step.TheVariants as steps
 use Rattle.meaning.specs.declared.resolved.Variable as source
 use Rattle.meaning.specs.World.{Situation, value_in, with_value}
 use Rattle.meaning.specs.Meaning.{stepped}
-use Rattle.values.specs.Items.{Item, Destination}
-use Rattle.values.specs.Items as items
+use Rattle.drafts.specs.Items.{Item, Destination}
+use Rattle.drafts.specs.Items as items
 use Rattle.items.specs.Stack as stack
-use Rattle.instructions.specs.Instructions.{number_of, push, store, stepping}
+use Rattle.encoding.specs.Instructions.{number_of, push, store}
+use Rattle.instructions.specs.Instructions.{stepping}
 use Rattle.selection.specs.ItemBytes.{text_bytes}
 use Rattle.code.proofs.Behind.{Holds, holds_on}
 use Rattle.code.proofs.Play.{moves, none_chosen}
@@ -26,8 +27,8 @@ use Rattle.code.proofs.Steps.{point, one_step, first_held, others_held, one_oper
 use Rattle.code.proofs.Steps.{variable_value, step_is}
 use Rattle.code.proofs.SingleSteps.{increment_step, decrement_step}
 use Rattle.code.proofs.Fitting.{Shaped, held_bytes, encodable}
-use Rattle.code.proofs.Arriving.{Running, at, around, here, high, kept, LedFrom, Stands, room_for, code_here, code_held}
-use Rattle.code.proofs.Arriving.{situation_here}
+use Rattle.code.proofs.Arriving.{Running, at, around, here, high, kept, LedFrom, Stands, room_for, code_here}
+use Rattle.code.proofs.Arriving.{code_held, situation_here}
 use Rattle.code.proofs.Variables.{memory_with, Held, variable_held}
 use Rattle.code.proofs.Temporaries.{scratch_here}
 use Rattle.code.proofs.Delivering.{stored_step}

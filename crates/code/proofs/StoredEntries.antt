@@ -1,6 +1,6 @@
 -- Entries of arrays in the memory of a story that runs.
-use Rattle.std.proofs.Common.{◌≡◌, ℕ, ◌+◌, ◌-◌, ◌*◌, ◌%◌, ◌<◌, ◌≤◌, List, length, drop, slice_index, slice_set}
-use Rattle.std.proofs.Common.{true, sym, ap, ◌∙◌, subst, arith}
+use Rattle.std.proofs.Common.{◌≡◌, ℕ, ◌+◌, ◌-◌, ◌*◌, ◌%◌, ◌<◌, ◌≤◌, List, length, drop, slice_index, slice_set, true}
+use Rattle.std.proofs.Common.{sym, ap, ◌∙◌, subst, arith}
 use Rattle.std.specs.Prelude.{nat_lt, map}
 use Rattle.std.specs.List.{concat}
 use Rattle.std.proofs.lemmas.Bool.{and_parts, ltb-true}
@@ -14,9 +14,10 @@ use Rattle.meaning.specs.World.{array_at, entry_count, is_index, entry_at, with_
 use Rattle.meaning.specs.Objects.{Objects}
 use Rattle.meaning.specs.Resolved.{ProgramOf}
 use Rattle.region.proofs.Frames as region
-use Rattle.instructions.specs.Addresses.{Addresses}
+use Rattle.encoding.specs.Addresses.{Addresses}
 use Rattle.code.specs.HeldProgram.{offset_in}
-use Rattle.code.proofs.Flat.{array_within, byte_at, byte_set, word_set, sizes_same, concat_same, place_same, count_same}
+use Rattle.code.proofs.Flat.{array_within, byte_at, byte_set, word_set, sizes_same, concat_same, place_same}
+use Rattle.code.proofs.Flat.{count_same}
 use Rattle.code.proofs.Regions.{Stands, stands_set, stands_word, KeepsOutside, keeps_set, keeps_word, byte_behind}
 use Rattle.code.proofs.Regions.{same_on}
 use Rattle.code.proofs.Play.{Stored}

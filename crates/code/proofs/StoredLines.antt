@@ -1,7 +1,6 @@
 -- A line that the machine reads, in the memory of a story that runs.
 use Rattle.std.proofs.Common.{◌≡◌, ◌≢◌, ℕ, ◌+◌, ◌*◌, ◌%◌, ◌<◌, ◌≤◌, List, [], ◌∷◌, length, set, slice_index, true, sym}
-use Rattle.std.proofs.Common.{ap}
-use Rattle.std.proofs.Common.{◌∙◌, subst, arith}
+use Rattle.std.proofs.Common.{ap, ◌∙◌, subst, arith}
 use Rattle.std.specs.Prelude.{map}
 use Rattle.std.proofs.lemmas.List.{get_or-set_other}
 use Rattle.std.proofs.Math.Nat.{mod-eq_of_lt}
@@ -17,7 +16,7 @@ use Rattle.meaning.specs.Resolved.{ProgramOf}
 use Rattle.meaning.specs.Places.{number_in}
 use Rattle.meaning.specs.World.{array_at}
 use Rattle.meaning.specs.Reading.{holds_letters, holds_words, words_for, words_bytes, with_line}
-use Rattle.instructions.specs.Addresses.{Addresses}
+use Rattle.encoding.specs.Addresses.{Addresses}
 use Rattle.code.specs.HeldProgram.{offset_in, HoldsProgram}
 use Rattle.code.proofs.Flat.{length_bytes, sizes_same}
 use Rattle.code.proofs.Regions.{keeps_wider}

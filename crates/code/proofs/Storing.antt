@@ -1,6 +1,6 @@
 -- Items that assign an entry of an array, with the fault of an index out of range.
-use Rattle.std.proofs.Common.{◌≡◌, ℕ, ◌+◌, ◌<◌, ◌≤◌, List, [], ◌∷◌, length, slice_index}
-use Rattle.std.proofs.Common.{Bool, true, false, refl, sym, ◌∙◌, subst, arith}
+use Rattle.std.proofs.Common.{◌≡◌, ℕ, ◌+◌, ◌<◌, ◌≤◌, List, [], ◌∷◌, length, slice_index, Bool, true, false, refl, sym}
+use Rattle.std.proofs.Common.{◌∙◌, subst, arith}
 use Rattle.std.specs.Prelude.{if◌then◌else◌}
 use Rattle.std.specs.List.{flat_map}
 use Rattle.zcore.specs.declared.instruction.Operand.{Operand}
@@ -10,12 +10,13 @@ use Rattle.expressions.specs.declared.tree.Width.{Width}
 use Rattle.meaning.specs.declared.cause.Cause.TheVariants as causes
 use Rattle.meaning.specs.World.{Situation, to, bound, is_index, with_entry, with_array}
 use Rattle.meaning.specs.World as source
-use Rattle.values.specs.Items.{Destination}
-use Rattle.values.specs.Items as items
+use Rattle.drafts.specs.Items.{Destination}
+use Rattle.drafts.specs.Items as items
 use Rattle.items.specs.Stack as stack
-use Rattle.instructions.specs.Addresses.{fault_address}
-use Rattle.instructions.specs.Instructions.{plain, pull}
-use Rattle.selection.specs.ItemCode.{entries_in, store_operation, assigned_word, passed_on, at_index}
+use Rattle.encoding.specs.Addresses.{fault_address}
+use Rattle.encoding.specs.Instructions.{plain, pull}
+use Rattle.selection.specs.ItemCode.{entries_in, store_operation, at_index}
+use Rattle.object_selection.specs.ObjectCode.{assigned_word, passed_on}
 use Rattle.code.proofs.Play.{Leads, stays}
 use Rattle.code.proofs.Memory.{word_of, with_variable}
 use Rattle.code.proofs.Parts.{machine as at_words}

@@ -1,6 +1,6 @@
 -- The code that assigns an entry of an array, where the index is one of it.
-use Rattle.std.proofs.Common.{◌≡◌, ℕ, ◌+◌, ◌<◌, ◌≤◌, List, [], ◌∷◌, length, slice_index}
-use Rattle.std.proofs.Common.{true, refl, ap, ◌∙◌, arith, length-append}
+use Rattle.std.proofs.Common.{◌≡◌, ℕ, ◌+◌, ◌<◌, ◌≤◌, List, [], ◌∷◌, length, slice_index, true, refl, ap, ◌∙◌, arith}
+use Rattle.std.proofs.Common.{length-append}
 use Rattle.std.specs.Prelude.{map}
 use Rattle.std.specs.List.{flat_map}
 use Rattle.zcore.specs.declared.instruction.Operand.{Operand}
@@ -13,11 +13,12 @@ use Rattle.zcore.specs.Execution.{perform, push_word}
 use Rattle.expressions.specs.declared.tree.Width.{Width}
 use Rattle.expressions.specs.declared.tree.Width.TheVariants as widths
 use Rattle.meaning.specs.World.{Situation, to, with_value, is_index, with_entry, with_array}
-use Rattle.values.specs.Items.{Destination}
-use Rattle.values.specs.Items as items
+use Rattle.drafts.specs.Items.{Destination}
+use Rattle.drafts.specs.Items as items
 use Rattle.items.specs.Stack as stack
-use Rattle.instructions.specs.Instructions.{number_of, plain, push, store}
-use Rattle.selection.specs.ItemCode.{store_operation, assigned_word, passed_on}
+use Rattle.encoding.specs.Instructions.{number_of, plain, push, store}
+use Rattle.selection.specs.ItemCode.{store_operation}
+use Rattle.object_selection.specs.ObjectCode.{assigned_word, passed_on}
 use Rattle.code.proofs.Behind.{Holds, holds_on}
 use Rattle.code.proofs.Play.{Leads, Stored, none_chosen}
 use Rattle.code.proofs.Regions.{KeepsOutside}

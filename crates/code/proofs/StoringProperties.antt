@@ -1,6 +1,6 @@
 -- The word of a property is stored where the object provides it.
-use Rattle.std.proofs.Common.{◌≡◌, ℕ, ◌+◌, ◌<◌, ◌≤◌, suc, List, [], ◌∷◌, ◌++◌, length, slice_set}
-use Rattle.std.proofs.Common.{Option, Some, None, Bool, true, false, length-append, refl, sym, ap, ◌∙◌, subst, arith}
+use Rattle.std.proofs.Common.{◌≡◌, ℕ, ◌+◌, ◌<◌, ◌≤◌, suc, List, [], ◌∷◌, ◌++◌, length, slice_set, Option, Some, None}
+use Rattle.std.proofs.Common.{Bool, true, false, length-append, refl, sym, ap, ◌∙◌, subst, arith}
 use Rattle.std.specs.Prelude.{nat_lt, if◌then◌else◌, ◌==◌}
 use Rattle.std.specs.List.{flat_map}
 use Rattle.std.proofs.lemmas.Bool.{and_parts, ltb-true, eqb-true}
@@ -13,16 +13,17 @@ use Rattle.zcore.specs.State.{done}
 use Rattle.zcore.specs.Execution.{perform, store_word}
 use Rattle.meaning.specs.declared.cause.Cause.TheVariants as causes
 use Rattle.meaning.specs.Objects.{Objects, with_words}
-use Rattle.meaning.specs.World.{Situation, Part, bound, ◌>>=◌, to, test_provided, test_word, test_single}
-use Rattle.meaning.specs.World.{write_words, with_objects}
+use Rattle.meaning.specs.World.{Situation, Part, bound, ◌>>=◌, to, test_provided, test_word, test_single, write_words}
+use Rattle.meaning.specs.World.{with_objects}
 use Rattle.meaning.specs.World as source
-use Rattle.values.specs.Items.{Destination}
-use Rattle.values.specs.Items as items
+use Rattle.drafts.specs.Items.{Destination}
+use Rattle.drafts.specs.Items as items
 use Rattle.items.specs.Stack as stack
 use Rattle.region.specs.Region.{tables_base}
 use Rattle.region.specs.Tables.{Table, words_place}
-use Rattle.instructions.specs.Instructions.{plain, word_in}
-use Rattle.selection.specs.ItemCode.{tested_word, tested_single, assigned_word, is_entry, passed_on}
+use Rattle.encoding.specs.Instructions.{plain, word_in}
+use Rattle.object_selection.specs.ObjectCode.{tested_word, tested_single, assigned_word, passed_on}
+use Rattle.selection.specs.ItemCode.{is_entry}
 use Rattle.code.proofs.Memory.{word_of}
 use Rattle.code.proofs.Parts.{machine as at_words}
 use Rattle.code.proofs.Steps.{point, leads_then, one_step, first_held, others_held, three_operands, small_value}

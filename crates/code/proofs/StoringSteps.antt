@@ -1,6 +1,6 @@
 -- The step that stores an entry of an array, and where the word to assign stands.
-use Rattle.std.proofs.Common.{◌≡◌, ℕ, ◌+◌, ◌*◌, ◌%◌, ◌<◌, ◌≤◌, List, [], ◌∷◌, slice_index}
-use Rattle.std.proofs.Common.{None, true, refl, ap, ◌∙◌, subst, arith}
+use Rattle.std.proofs.Common.{◌≡◌, ℕ, ◌+◌, ◌*◌, ◌%◌, ◌<◌, ◌≤◌, List, [], ◌∷◌, slice_index, None, true, refl, ap, ◌∙◌}
+use Rattle.std.proofs.Common.{subst, arith}
 use Rattle.std.specs.Prelude.{nat_lt, nat_le}
 use Rattle.std.proofs.lemmas.Bool.{lt-ltb, le-leb}
 use Rattle.zcore.specs.declared.next.Next.{Next}
@@ -13,10 +13,11 @@ use Rattle.expressions.specs.declared.tree.Width.TheVariants as widths
 use Rattle.meaning.specs.declared.resolved.Variable as resolved
 use Rattle.meaning.specs.declared.resolved.Variable.TheVariants as variables
 use Rattle.meaning.specs.World.{Situation, Comes, to, over, bound, Part, value_in, with_array}
-use Rattle.values.specs.Items as items
+use Rattle.drafts.specs.Items as items
 use Rattle.items.specs.Stack as stack
-use Rattle.instructions.specs.Instructions.{number_of}
-use Rattle.selection.specs.ItemCode.{store_operation, assigned_word}
+use Rattle.encoding.specs.Instructions.{number_of}
+use Rattle.selection.specs.ItemCode.{store_operation}
+use Rattle.object_selection.specs.ObjectCode.{assigned_word}
 use Rattle.code.proofs.Memory.{word_of}
 use Rattle.code.proofs.StoredEntries.{entry_address, written_at, last_byte}
 use Rattle.code.proofs.Parts.{machine as at_words, Reads, global_reads}

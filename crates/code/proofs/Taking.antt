@@ -8,10 +8,10 @@ use Rattle.zcore.specs.Instruction.{Instruction, bytes_of}
 use Rattle.zcore.specs.State.{done}
 use Rattle.zcore.specs.Parts.{operand_values}
 use Rattle.meaning.specs.Meaning.{routine_at}
-use Rattle.values.specs.Items.{pushed, number, variable}
-use Rattle.values.specs.Items as items
+use Rattle.drafts.specs.Items.{pushed, number, variable}
+use Rattle.drafts.specs.Items as items
 use Rattle.items.specs.Laws.{IsOperand}
-use Rattle.instructions.specs.Instructions.{temporary, pull, pushed_count, take_words, takes, operands}
+use Rattle.encoding.specs.Instructions.{temporary, pull, pushed_count, take_words, takes, operands}
 use Rattle.code.proofs.Behind.{Holds, holds_append}
 use Rattle.code.proofs.Play.{Leads, stays, moves}
 use Rattle.code.proofs.Memory.{word_of, with_variable}

@@ -1,6 +1,6 @@
 -- An object is tested, and memory then holds it; else the fault is printed.
-use Rattle.std.proofs.Common.{◌≡◌, ℕ, ◌+◌, ◌<◌, ◌≤◌, ◌⊎◌, inl, inr, List, [], length, Bool, true, false}
-use Rattle.std.proofs.Common.{refl, sym, ap, ◌∙◌, subst, arith}
+use Rattle.std.proofs.Common.{◌≡◌, ℕ, ◌+◌, ◌<◌, ◌≤◌, ◌⊎◌, inl, inr, List, [], length, Bool, true, false, refl, sym, ap}
+use Rattle.std.proofs.Common.{◌∙◌, subst, arith}
 use Rattle.std.specs.Prelude.{nat_lt, nat_le, if◌then◌else◌, ◌&&◌}
 use Rattle.std.specs.List.{flat_map}
 use Rattle.std.proofs.lemmas.Bool.{cases_lt, lt-ltb, le-ltb, le-leb, lt-leb, leb-true, and_parts}
@@ -10,14 +10,14 @@ use Rattle.meaning.specs.declared.cause.Cause.TheVariants as causes
 use Rattle.meaning.specs.Forests.{IsObjectNumber}
 use Rattle.meaning.specs.World.{Situation, Part, bound}
 use Rattle.meaning.specs.World as source
-use Rattle.values.specs.Items.{Item}
-use Rattle.values.specs.Items as items
+use Rattle.drafts.specs.Items.{Item}
+use Rattle.drafts.specs.Items as items
 use Rattle.items.specs.Stack as stack
 use Rattle.region.specs.Laws.{Acts}
 use Rattle.region.proofs.Together.{region_laws}
-use Rattle.instructions.specs.Addresses.{fault_address}
+use Rattle.encoding.specs.Addresses.{fault_address}
 use Rattle.instructions.specs.Instructions.{is_between}
-use Rattle.selection.specs.ItemCode.{at_object, at_label, objects_of}
+use Rattle.object_selection.specs.ObjectCode.{at_object, at_label, objects_of}
 use Rattle.selection.specs.ItemBytes.{text_bytes}
 use Rattle.code.specs.HeldProgram.{sizes_of}
 use Rattle.code.proofs.Play.{stays}

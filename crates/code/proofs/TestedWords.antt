@@ -1,6 +1,6 @@
 -- The two tests of a word that must lie between two numbers let through what lies there, and else lead to a fault.
-use Rattle.std.proofs.Common.{◌≡◌, ℕ, ◌+◌, ◌<◌, ◌≤◌, ◌⊎◌, inl, inr, List, [], ◌∷◌, ◌++◌, length, Bool, true}
-use Rattle.std.proofs.Common.{false, refl, ◌∙◌, subst, arith}
+use Rattle.std.proofs.Common.{◌≡◌, ℕ, ◌+◌, ◌<◌, ◌≤◌, ◌⊎◌, inl, inr, List, [], ◌∷◌, ◌++◌, length, Bool, true, false}
+use Rattle.std.proofs.Common.{refl, ◌∙◌, subst, arith}
 use Rattle.std.specs.Prelude.{nat_lt, nat_le, if◌then◌else◌, not, ◌&&◌}
 use Rattle.std.specs.List.{flat_map}
 use Rattle.std.proofs.lemmas.Bool.{cases_lt, lt-ltb, le-ltb, le-leb, lt-leb}
@@ -14,8 +14,9 @@ use Rattle.zcore.specs.Parts.{operand_value}
 use Rattle.zcore.specs.Execution.{perform}
 use Rattle.meaning.specs.declared.cause.Cause.{Cause}
 use Rattle.meaning.specs.declared.cause.Cause.TheVariants as causes
-use Rattle.instructions.specs.Addresses.{fault_address}
-use Rattle.instructions.specs.Instructions.{branching, fail, tested_between, is_between}
+use Rattle.encoding.specs.Addresses.{fault_address}
+use Rattle.encoding.specs.Instructions.{branching, fail}
+use Rattle.instructions.specs.Instructions.{tested_between, is_between}
 use Rattle.selection.specs.ItemCode.{is_entry}
 use Rattle.code.proofs.Behind.{Holds, holds_append}
 use Rattle.code.proofs.Play.{Leads}

@@ -1,6 +1,5 @@
 -- What a branch tests, and the instruction that tests it.
-use Rattle.std.proofs.Common.{◌≡◌, ℕ, ◌%◌, ◌<◌, ◌≤◌, List, [], ◌∷◌, length, Some, None, Bool, true, false, refl}
-use Rattle.std.proofs.Common.{arith}
+use Rattle.std.proofs.Common.{◌≡◌, ℕ, ◌%◌, ◌<◌, ◌≤◌, List, [], ◌∷◌, length, Some, None, Bool, true, false, refl, arith}
 use Rattle.std.specs.Prelude.{nat_lt, nat_le, if◌then◌else◌, not}
 use Rattle.std.specs.List.{All, flat_map}
 use Rattle.std.proofs.lemmas.Bool.{le-ltb, leb-true}
@@ -18,12 +17,12 @@ use Rattle.zcore.specs.Execution.{perform}
 use Rattle.zcore.specs.Arithmetic.{signed_less}
 use Rattle.meaning.specs.Resolved.{ProgramOf}
 use Rattle.meaning.specs.World.{Situation}
-use Rattle.values.specs.Items.{Item, Test, agrees}
-use Rattle.values.specs.Items as items
+use Rattle.drafts.specs.Items.{Item, Test, agrees}
+use Rattle.drafts.specs.Items as items
 use Rattle.items.specs.Laws.{IsOperand, IsTested}
 use Rattle.items.specs.Stack as stack
-use Rattle.instructions.specs.Instructions.{plain, branching, labelled, test_operation, tested_code, least_word}
-use Rattle.instructions.specs.Instructions.{branch_code}
+use Rattle.encoding.specs.Instructions.{plain, branching}
+use Rattle.instructions.specs.Instructions.{labelled, test_operation, tested_code, least_word, branch_code}
 use Rattle.code.proofs.Fitting.{AreBytes, first_part, all_fit}
 use Rattle.code.proofs.ItemOperands.{Gives, gives_length}
 use Rattle.code.proofs.BranchLengths.{branching_length}

@@ -13,11 +13,10 @@ use Rattle.ztext.specs.Text.{Holds, decoded, encoded}
 use Rattle.ztext.proofs.Spelling.{AreBytes}
 use Rattle.ztext.proofs.RoundTrip.{round_trip}
 use Rattle.ztext.proofs.Expanding.{round_trip_with, some_if_two}
-use Rattle.meaning.specs.World.{shown}
+use Rattle.meaning.specs.World.{shown, words_of}
 use Rattle.meaning.specs.declared.cause.Cause.{Cause}
 use Rattle.meaning.specs.declared.cause.Cause.TheVariants as causes
-use Rattle.meaning.specs.World.{words_of}
-use Rattle.instructions.specs.Bytes.{character_of}
+use Rattle.encoding.specs.Bytes.{character_of}
 use Rattle.lexer.specs.Printable.{IsPrintable}
 use Rattle.code.specs.HeldProgram.{fault_line}
 

@@ -1,7 +1,7 @@
 -- Instructions of an item that works on an object, one after another: some write variables of the compiler, some
 -- branch.
-use Rattle.std.proofs.Common.{◌≡◌, ℕ, ◌+◌, ◌*◌, ◌<◌, ◌≤◌, List, [], ◌∷◌, length, Some, None, Bool}
-use Rattle.std.proofs.Common.{slice_index, length-append, ap, ◌∙◌, subst, arith}
+use Rattle.std.proofs.Common.{◌≡◌, ℕ, ◌+◌, ◌*◌, ◌<◌, ◌≤◌, List, [], ◌∷◌, length, Some, None, Bool, slice_index}
+use Rattle.std.proofs.Common.{length-append, ap, ◌∙◌, subst, arith}
 use Rattle.std.specs.List.{flat_map}
 use Rattle.zcore.specs.declared.instruction.Operand.{Operand}
 use Rattle.zcore.specs.declared.instruction.Operand.TheVariants.{Small}
@@ -14,13 +14,13 @@ use Rattle.zcore.specs.Execution.{perform, give_result}
 use Rattle.meaning.specs.declared.cause.Cause.{Cause}
 use Rattle.meaning.specs.World.{Situation, value_in}
 use Rattle.meaning.specs.World as source
-use Rattle.values.specs.Items as items
+use Rattle.drafts.specs.Items as items
 use Rattle.items.specs.Stack as stack
 use Rattle.region.specs.Region.{HasObjects, tables_base}
 use Rattle.region.specs.Tables.{Table}
 use Rattle.region.proofs.Frames.{keeps}
-use Rattle.instructions.specs.Addresses.{fault_address}
-use Rattle.instructions.specs.Instructions.{giving, branching, fail, word_in, number_of, store}
+use Rattle.encoding.specs.Addresses.{fault_address}
+use Rattle.encoding.specs.Instructions.{giving, branching, fail, word_in, number_of, store}
 use Rattle.code.proofs.Behind.{Holds}
 use Rattle.code.proofs.Play.{Leads}
 use Rattle.code.proofs.Memory.{word_of, with_variable, length_with, byte_other}

@@ -2,8 +2,8 @@
 use Rattle.std.specs.Prelude.{◌+◌, ◌-◌, ℕ, List, [], ◌∷◌, ◌++◌, length, map, slice_index}
 use Rattle.forms.specs.declared.layout.Part.{Part}
 use Rattle.forms.specs.Layout.{first, lefts}
-use Rattle.values.specs.Items.{Item}
-use Rattle.instructions.specs.Addresses.{Addresses, Sizes}
+use Rattle.drafts.specs.Items.{Item}
+use Rattle.encoding.specs.Addresses.{Addresses, Sizes}
 use Rattle.selection.specs.ItemBytes.{item_bytes}
 use Rattle.instructions.specs.Places.{target_of, label_size, offset_of}
 

@@ -17,9 +17,9 @@ use Rattle.meaning.specs.Places.{dictionary_place}
 use Rattle.meaning.specs.declared.cause.Cause.{Cause}
 use Rattle.items.specs.Statements.{routine_items}
 use Rattle.region.specs.Laws.{HoldsRows}
-use Rattle.instructions.specs.Addresses.{Addresses, Sizes, fault_address}
-use Rattle.instructions.specs.Instructions.{plain}
-use Rattle.instructions.specs.Bytes.{bytes_of_all}
+use Rattle.encoding.specs.Addresses.{Addresses, Sizes, fault_address}
+use Rattle.encoding.specs.Instructions.{plain}
+use Rattle.encoding.specs.Bytes.{bytes_of_all}
 use Rattle.code.specs.Bytes.{code_size, code_bytes}
 
 -- the code that calls Main, and then ends the story

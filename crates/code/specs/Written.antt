@@ -1,8 +1,8 @@
 -- What the values of the code stand for.
 use Rattle.std.specs.Prelude.{◌+◌, List, [], ◌∷◌, ℕ}
-use Rattle.values.specs.Items.{Item}
-use Rattle.values.specs.Items as items
-use Rattle.instructions.specs.Addresses.{Sizes}
+use Rattle.drafts.specs.Items.{Item}
+use Rattle.drafts.specs.Items as items
+use Rattle.encoding.specs.Addresses.{Sizes}
 use Rattle.instructions.specs.Places.{offset_of}
 
 -- the offsets of the branches to labels, of items of which the first has this number

@@ -4,17 +4,18 @@ ghost use Rattle.std.specs.Prelude.{◌≡◌, ◌<◌, reverse, length, IfOk, O
 ghost use Rattle.forms.specs.Layout.{bytes_limit};
 ghost use Rattle.meaning.specs.Meaning.{routine_at};
 ghost use Rattle.meaning.specs.Resolved.{program_of};
-ghost use Rattle.values.specs.Code.{items_of};
+ghost use Rattle.drafts.specs.Code.{items_of};
 ghost use Rattle.items.specs.Statements as definitions;
-ghost use Rattle.instructions.specs.Bytes.{Adds};
-ghost use Rattle.instructions.specs.Written.{addresses_of, sizes_in};
+ghost use Rattle.encoding.specs.Bytes.{Adds};
+ghost use Rattle.encoding.specs.Written.{addresses_of, sizes_in};
 ghost use Rattle.code.specs.Bytes.{lefts_of, place_of, items_bytes};
 ghost use Rattle.code.specs.Bytes as spec;
 ghost use Rattle.code.specs.HeldProgram.{sizes_of};
 
 use crate::fault::CodeFault;
+use encoding::{Addresses, Sizes};
 use forms::{BranchUse, Part, branches, lay_out};
-use instructions::{Addresses, Sizes, label_size, offset_of, place, target_of};
+use instructions::{label_size, offset_of, place, target_of};
 use items::{Item, routine_items};
 use meaning::Checked;
 use selection::put_item;
@@ -45,8 +46,8 @@ pub struct Code<'a, 'b> {
 impl<'a, 'b> Model for Code<'a, 'b> {
     ghost use Rattle.std.specs.Prelude.{◌≡◌, ◌<◌, ◌+◌, reverse};
     ghost use Rattle.forms.specs.Layout.{bytes_limit, uses};
-    ghost use Rattle.values.specs.Code.{items_of};
-    ghost use Rattle.instructions.specs.Written.{sizes_in};
+    ghost use Rattle.drafts.specs.Code.{items_of};
+    ghost use Rattle.encoding.specs.Written.{sizes_in};
     ghost use Rattle.code.specs.Bytes.{parts_of, lefts_of, code_size};
     ghost use Rattle.code.specs.Written.{CodeOf};
 
@@ -165,8 +166,8 @@ impl Code<'_, '_> {
     ghost use Rattle.std.specs.List.{All};
     ghost use Rattle.forms.specs.Layout.{IsShortest};
     ghost use Rattle.forms.specs.declared.layout.BranchUse.{BranchUse};
-    ghost use Rattle.instructions.specs.Bytes.{Adds};
-    ghost use Rattle.instructions.specs.Written.{addresses_of};
+    ghost use Rattle.encoding.specs.Bytes.{Adds};
+    ghost use Rattle.encoding.specs.Written.{addresses_of};
     ghost use Rattle.code.specs.Bytes.{code_size, code_bytes, place_of};
     ghost use Rattle.code.specs.Written.{branch_offsets};
 

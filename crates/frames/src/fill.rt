@@ -1,7 +1,7 @@
 //! Bytes that are written to dynamic memory one behind another.
 
 ghost use Rattle.std.specs.Prelude.{◌≡◌, ◌+◌, ◌≤◌, ◌∷◌, length, take, OnOk, OnErr};
-ghost use Rattle.zcore.specs.Header.{static_base_of};
+ghost use Rattle.zcore.specs.Header.{static_base_of, header_size};
 ghost use Rattle.frames.specs.Contents.{memory_of};
 ghost use Rattle.frames.specs.Lines.{Fills};
 ghost use Rattle.frames.specs.States.{IsSound};
@@ -19,7 +19,7 @@ pub(crate) fn fill_counted(
     bytes: &[u8],
 ) -> Result<(), NoMemory>
     requires sound { IsSound store.old.store }
-    requires behind_header { 64 ≤ at }
+    requires behind_header { header_size ≤ at }
     requires room { at + 1 + length bytes.now ≤ static_base_of (memory_of store.old.store) }
     ensures filled { OnOk result (Fills store.old store.new at (count ∷ bytes.now)) }
     ensures given_up { OnErr result (GivenUp store.old store.new) }
@@ -31,7 +31,7 @@ pub(crate) fn fill_counted(
 /// Writes bytes one behind another to dynamic memory behind the header.
 fn fill(store: &mut Recorded<Store>, at: usize, bytes: &[u8]) -> Result<(), NoMemory>
     requires sound { IsSound store.old.store }
-    requires behind_header { 64 ≤ at }
+    requires behind_header { header_size ≤ at }
     requires room { at + length bytes.now ≤ static_base_of (memory_of store.old.store) }
     ensures filled { OnOk result (Fills store.old store.new at bytes.now) }
     ensures given_up { OnErr result (GivenUp store.old store.new) }

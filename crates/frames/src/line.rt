@@ -1,7 +1,7 @@
 //! Waiting for a line, and the line that is then given.
 
 ghost use Rattle.std.specs.Prelude.{◌≡◌, ◌≢◌, ◌≤◌, length, map, take, OnOk, OnErr};
-ghost use Rattle.zcore.specs.Header.{static_base_of};
+ghost use Rattle.zcore.specs.Header.{static_base_of, header_size};
 ghost use Rattle.zcore.specs.Parts.{is_text_buffer, test_text_buffer, is_parse_buffer, test_parse_buffer, wait};
 ghost use Rattle.ztext.specs.Text as texts;
 ghost use Rattle.frames.specs.Lines.{FillsBuffers, HasRoomForLetters, HasRoomForWords, WaitsNoMore};
@@ -176,9 +176,9 @@ fn fill_buffers(
 ) -> Result<(), NoMemory>
     requires store { IsStoreOf header.now store.old.store }
     requires few { length letters.now ≤ 255 }
-    requires behind_header { 64 ≤ text_buffer }
+    requires behind_header { header_size ≤ text_buffer }
     requires room { HasRoomForLetters store.old.store text_buffer (length letters.now) }
-    requires words_behind_header { parse_buffer ≢ 0 → 64 ≤ parse_buffer }
+    requires words_behind_header { parse_buffer ≢ 0 → header_size ≤ parse_buffer }
     requires words_room { HasRoomForWords store.old.store parse_buffer }
     ensures filled { OnOk result (FillsBuffers store.old store.new
         text_buffer parse_buffer letters.now) }

@@ -4,6 +4,7 @@ ghost use Rattle.std.specs.Prelude.{◌≡◌, ◌<◌, ◌≤◌, ◌+◌, ◌&
 ghost use Rattle.frames.specs.States.{IsSound, IsStoreOf};
 ghost use Rattle.frames.specs.Went.{Went};
 ghost use Rattle.zcore.specs.Parts.{is_readable, is_writable, read_byte, read_word, write_byte, write_word};
+ghost use Rattle.zcore.specs.Header.{header_size};
 
 use crate::end::End;
 use crate::layout::MEMORY;
@@ -34,7 +35,7 @@ pub fn is_readable_word(memory: &[u8], at: usize) -> bool
 /// Whether a byte can be written: it lies behind the header, below static base.
 #[inline]
 pub fn is_writable(header: &Header, at: usize) -> bool
-    ensures { result ≡ nat_le 64 at && nat_lt at header.now.static_base }
+    ensures { result ≡ nat_le header_size at && nat_lt at header.now.static_base }
 {
     64 <= at && at < header.static_base as usize
 }
@@ -43,7 +44,7 @@ pub fn is_writable(header: &Header, at: usize) -> bool
 #[inline]
 pub fn is_writable_word(header: &Header, at: usize) -> bool
     requires { at ≤ 65535 }
-    ensures { result ≡ nat_le 64 at && nat_lt (at + 1) header.now.static_base }
+    ensures { result ≡ nat_le header_size at && nat_lt (at + 1) header.now.static_base }
 {
     64 <= at && at + 1 < header.static_base as usize
 }

@@ -6,14 +6,15 @@ use Rattle.zcore.specs.declared.instruction.Operand.{Operand}
 use Rattle.zcore.specs.declared.instruction.Operand.TheVariants.{Large}
 use Rattle.zcore.specs.declared.instruction.Operation.{Operation}
 use Rattle.zcore.specs.Instruction.{bytes_of}
-use Rattle.values.specs.Items.{Destination, Test}
-use Rattle.values.specs.Items as items
-use Rattle.values.specs.declared.item.Operand as code_operand
-use Rattle.values.specs.Code.{as_operand, as_operands}
-use Rattle.instructions.specs.Instructions.{takes, operands, calling, call_code, call_operation, call_result, asks_none}
-use Rattle.instructions.specs.Instructions.{labelled, test_operation, least_word, tested_code, branch_code}
-use Rattle.instructions.specs.Bytes.{bytes_of_all}
-use Rattle.instructions.proofs.Chains.{one_joined, all_joined}
+use Rattle.drafts.specs.Items.{Destination, Test}
+use Rattle.drafts.specs.Items as items
+use Rattle.drafts.specs.declared.item.Operand as code_operand
+use Rattle.drafts.specs.Code.{as_operand, as_operands}
+use Rattle.encoding.specs.Instructions.{takes, operands}
+use Rattle.instructions.specs.Instructions.{calling, call_code, call_operation, call_result, asks_none, labelled}
+use Rattle.instructions.specs.Instructions.{test_operation, least_word, tested_code, branch_code}
+use Rattle.encoding.specs.Bytes.{bytes_of_all}
+use Rattle.encoding.proofs.Chains.{one_joined, all_joined}
 
 as_taken : (xs : List code_operand.Operand) (n : ℕ) → as_operands (take n xs) ≡ take n (as_operands xs)
 as_taken xs zero = refl

@@ -1,5 +1,2 @@
-pub mod Chains
 pub mod Givens
-pub mod Naming
 pub mod Printable
-pub mod Types

@@ -1,5 +1,2 @@
-pub mod Addresses
 pub mod Instructions
-pub mod Bytes
 pub mod Places
-pub mod Written

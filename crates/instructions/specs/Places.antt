@@ -1,9 +1,9 @@
 -- Where an item stands and leads.
 use Rattle.std.specs.Prelude.{◌+◌, ◌-◌, ℕ, List, slice_index, Option, Some, None}
 use Rattle.forms.specs.Layout.{first}
-use Rattle.values.specs.Items.{Item}
-use Rattle.values.specs.Items as items
-use Rattle.instructions.specs.Instructions.{jump_offset}
+use Rattle.drafts.specs.Items.{Item}
+use Rattle.drafts.specs.Items as items
+use Rattle.encoding.specs.Instructions.{jump_offset}
 
 -- the item to which one branches
 abbrev pub target_of : Item → Option ℕ

@@ -1,16 +1,19 @@
 //! Calls of routines, and returns.
 
 ghost use Rattle.std.specs.Prelude.{◌≡◌, [], ◌∷◌, take, OnOk};
-ghost use Rattle.values.specs.Items as source_items;
-ghost use Rattle.values.specs.Code.{as_operand, as_operands, as_destination};
+ghost use Rattle.drafts.specs.Items as source_items;
+ghost use Rattle.drafts.specs.Code.{as_operand, as_operands, as_destination};
 ghost use Rattle.instructions.specs.Instructions.{call_code, return_code};
+ghost use Rattle.encoding.specs.Instructions as basic;
 ghost use Rattle.instructions.specs.Instructions as spec;
-ghost use Rattle.instructions.specs.Bytes.{AddsCode};
-ghost use Rattle.instructions.specs.Written.{instruction_of};
+ghost use Rattle.encoding.specs.Bytes.{AddsCode};
+ghost use Rattle.encoding.specs.Written.{instruction_of};
 
-use crate::instruction::{Instruction, Operands, plain, put_all, put_instruction};
-use crate::operands::{constant, put_named, put_takes, variable_number};
-use items::Destination;
+use drafts::Destination;
+use encoding::{
+    Instruction, Operands, constant, plain, put_all, put_instruction, put_named, put_takes,
+    variable_number,
+};
 use std::alloc::{AllocError, Global};
 use zcore::{Operand, Operation};
 
@@ -57,16 +60,16 @@ fn call_result(destination: Destination) -> Option<u8>
 }
 
 /// A call of the routine at a packed address, with at most seven arguments.
-#[tactic(auto, using(crate::proofs::Chains::one_joined))]
+#[tactic(auto, using(encoding::proofs::Chains::one_joined))]
 pub fn put_call(
     bytes: &mut Vec<u8>,
     alloc: Global,
     address: u16,
-    operands: &[items::Operand],
+    operands: &[drafts::Operand],
     destination: Destination,
 ) -> Result<(), AllocError>
     ensures { OnOk result (AddsCode bytes.old bytes.new
-        (call_code address (take spec.most_arguments (as_operands operands.now))
+        (call_code address (take basic.most_arguments (as_operands operands.now))
         (as_destination destination))) }
 {
     let operands = &operands[..operands.len().min(MOST_ARGUMENTS)];
@@ -91,13 +94,13 @@ fn number_returned(number: u16) -> Instruction
 }
 
 /// A word is returned.
-pub fn put_return(bytes: &mut Vec<u8>, operand: items::Operand) -> Result<(), AllocError>
+pub fn put_return(bytes: &mut Vec<u8>, operand: drafts::Operand) -> Result<(), AllocError>
     ensures { OnOk result (AddsCode bytes.old bytes.new (return_code (as_operand operand) ∷ [])) }
 {
     let returned = match operand {
-        items::Operand::Pushed => plain(Operation::ReturnPopped, Operands::Zero),
-        items::Operand::Number(number) => number_returned(number),
-        items::Operand::Variable(variable) => {
+        drafts::Operand::Pushed => plain(Operation::ReturnPopped, Operands::Zero),
+        drafts::Operand::Number(number) => number_returned(number),
+        drafts::Operand::Variable(variable) => {
             let word = Operand::Variable(variable_number(variable));
             plain(Operation::Return, Operands::One(word))
         }

@@ -3,15 +3,16 @@
 ghost use Rattle.std.specs.Prelude.{◌≡◌, ◌≤◌, ◌+◌, ◌++◌, [], ◌∷◌, length, take, not, IfOk, OnOk};
 ghost use Rattle.zcore.specs.declared.instruction.Operation.TheVariants.{Jump};
 ghost use Rattle.zcore.specs.declared.instruction.Operand.TheVariants.{Large};
-ghost use Rattle.values.specs.Items as source_items;
-ghost use Rattle.values.specs.Code.{as_operands, as_test};
-ghost use Rattle.instructions.specs.Instructions.{plain, labelled, tested_code, branch_code, test_operation};
+ghost use Rattle.drafts.specs.Items as source_items;
+ghost use Rattle.drafts.specs.Code.{as_operands, as_test};
+ghost use Rattle.encoding.specs.Instructions.{plain};
+ghost use Rattle.instructions.specs.Instructions.{labelled, tested_code, branch_code, test_operation};
+ghost use Rattle.encoding.specs.Instructions as basic;
 ghost use Rattle.instructions.specs.Instructions as spec;
-ghost use Rattle.instructions.specs.Bytes.{AddsCode};
+ghost use Rattle.encoding.specs.Bytes.{AddsCode};
 
-use crate::instruction::{CHOSEN, Operands, plain, put_all, put_instruction};
-use crate::operands::{constant, put_named, put_takes};
-use items::Test;
+use drafts::Test;
+use encoding::{CHOSEN, Operands, constant, plain, put_all, put_instruction, put_named, put_takes};
 use std::alloc::{AllocError, Global};
 use zcore::{Branch, Operand, Operation};
 
@@ -32,7 +33,7 @@ const TWO_BYTE_LIMIT: usize = 8192;
 
 /// The offset of a jump that leads from the address after it to another.
 pub fn jump_offset(after: usize, target: usize) -> u16
-    ensures { result ≡ spec.jump_offset after target }
+    ensures { result ≡ basic.jump_offset after target }
 {
     ((target as u128 + 65538).saturating_sub(after as u128) % 65536) as u16
 }
@@ -48,7 +49,7 @@ pub fn put_jump(bytes: &mut Vec<u8>, offset: u16) -> Result<(), AllocError>
 }
 
 /// A branch by an offset of two bytes, or the opposite branch over a jump where it does not reach.
-#[tactic(auto, using(crate::proofs::Chains::one_there, crate::proofs::Chains::two_there))]
+#[tactic(auto, using(encoding::proofs::Chains::one_there, encoding::proofs::Chains::two_there))]
 pub fn put_labelled(
     bytes: &mut Vec<u8>,
     operation: Operation,
@@ -90,7 +91,7 @@ fn operation_of(test: Test) -> Operation
 
 /// Whether a test asks that a word equals one of none.
 #[tactic(auto, using(crate::proofs::Givens::asks_one))]
-fn asks_none(test: Test, operands: &[items::Operand]) -> bool
+fn asks_none(test: Test, operands: &[drafts::Operand]) -> bool
     ensures { result ≡ spec.asks_none (as_test test) (as_operands operands.now) }
 {
     match test {
@@ -105,11 +106,11 @@ fn put_tested(
     bytes: &mut Vec<u8>,
     alloc: Global,
     test: Test,
-    operands: &[items::Operand],
+    operands: &[drafts::Operand],
     when: bool,
     offset: usize,
 ) -> Result<(), AllocError>
-    requires { length operands.now ≤ spec.most_arguments }
+    requires { length operands.now ≤ basic.most_arguments }
     ensures { OnOk result (AddsCode bytes.old bytes.new
         (tested_code (as_test test) (as_operands operands.now) when offset)) }
 {
@@ -124,17 +125,17 @@ fn put_tested(
 fn put_never(
     bytes: &mut Vec<u8>,
     alloc: Global,
-    operands: &[items::Operand],
+    operands: &[drafts::Operand],
     when: bool,
     offset: usize,
 ) -> Result<(), AllocError>
-    requires { length operands.now ≤ spec.most_tested }
+    requires { length operands.now ≤ basic.most_tested }
     ensures { OnOk result (AddsCode bytes.old bytes.new
         (tested_code source_items.less (as_operands operands.now
         ++ source_items.number spec.least_word ∷ []) when offset)) }
 {
     let mut asked = Vec::from_slice(alloc, operands)?;
-    asked.push(items::Operand::Number(LEAST_WORD))?;
+    asked.push(drafts::Operand::Number(LEAST_WORD))?;
     put_tested(bytes, alloc, Test::Less, &asked, when, offset)?;
     Ok(())
 }
@@ -144,12 +145,12 @@ pub fn put_branch(
     bytes: &mut Vec<u8>,
     alloc: Global,
     test: Test,
-    operands: &[items::Operand],
+    operands: &[drafts::Operand],
     when: bool,
     offset: usize,
 ) -> Result<(), AllocError>
     ensures { OnOk result (AddsCode bytes.old bytes.new
-        (branch_code (as_test test) (take spec.most_tested (as_operands operands.now)) when offset)) }
+        (branch_code (as_test test) (take basic.most_tested (as_operands operands.now)) when offset)) }
 {
     let operands = &operands[..operands.len().min(MOST_TESTED)];
     if asks_none(test, operands) {

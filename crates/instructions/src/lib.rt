@@ -1,26 +1,16 @@
-//! Instructions and their bytes, and which do an item on words, a call, a branch or a print.
+//! Which instructions do an item on words, a call, a branch or a print.
 #![tactic(auto)]
 
-mod addresses;
 mod calls;
-mod instruction;
 mod jumps;
-mod opcode;
-mod operands;
 mod operators;
 mod places;
 mod printing;
 mod tested;
 mod words;
 
-pub use addresses::{Addresses, Sizes, array_address, fault_address, routine_address};
 pub use calls::{put_call, put_return};
-pub use instruction::{
-    FIRST, FOURTH, Instruction, Operands, SECOND, ShortBranch, THIRD, branching, giving, plain,
-    print_fault, pull, push, put_all, quit, store,
-};
 pub use jumps::{put_branch, put_case, put_jump, put_labelled};
-pub use operands::{constant, in_place, result_in, variable_number};
 pub use operators::{put_also_equal, put_binary, put_first_equal, put_prefix};
 pub use places::{label_size, offset_of, place, target_of};
 pub use printing::{put_character, put_text};

@@ -2,20 +2,20 @@
 
 ghost use Rattle.std.specs.Prelude.{◌∷◌, OnOk};
 ghost use Rattle.zcore.specs.declared.instruction.Operation.TheVariants.{Div};
-ghost use Rattle.values.specs.Items as source_items;
-ghost use Rattle.values.specs.Code.{as_operand, as_destination};
-ghost use Rattle.instructions.specs.Instructions.{prefix_code, arithmetic, divided, divided_by, binary_code, first_equal_code, also_equal_code, flag};
-ghost use Rattle.instructions.specs.Bytes.{AddsCode};
-ghost use Rattle.instructions.specs.Written.{addresses_of, instruction_of};
+ghost use Rattle.drafts.specs.Items as source_items;
+ghost use Rattle.drafts.specs.Code.{as_operand, as_destination};
+ghost use Rattle.instructions.specs.Instructions.{prefix_code, arithmetic, divided, divided_by, binary_code};
+ghost use Rattle.instructions.specs.Instructions.{first_equal_code, also_equal_code, flag};
+ghost use Rattle.encoding.specs.Bytes.{AddsCode};
+ghost use Rattle.encoding.specs.Written.{addresses_of, instruction_of};
 
-use crate::addresses::{Addresses, fault_address};
-use crate::instruction::{
-    FIRST, Instruction, Operands, SECOND, THIRD, branching, copy, giving, plain, print_fault, pull,
-    push, put_all, put_instruction, quit,
+use drafts::Destination;
+use encoding::{
+    Addresses, FIRST, Instruction, Operands, SECOND, THIRD, branching, constant, copy,
+    fault_address, giving, in_place, plain, print_fault, pull, push, put_all, put_instruction,
+    put_named, put_takes, quit, result_in, variable_number,
 };
-use crate::operands::{constant, in_place, put_named, put_takes, result_in, variable_number};
 use expressions::{Binary, Prefix};
-use items::Destination;
 use meaning::Cause;
 use std::alloc::{AllocError, Global};
 use zcore::{Operand, Operation};
@@ -24,7 +24,7 @@ use zcore::{Operand, Operation};
 pub fn put_prefix(
     bytes: &mut Vec<u8>,
     operator: Prefix,
-    operand: items::Operand,
+    operand: drafts::Operand,
     destination: Destination,
 ) -> Result<(), AllocError>
     ensures { OnOk result (AddsCode bytes.old bytes.new
@@ -48,13 +48,13 @@ pub fn put_prefix(
 }
 
 /// An operation on two words that has no test.
-#[tactic(auto, using(crate::proofs::Chains::one_joined))]
+#[tactic(auto, using(encoding::proofs::Chains::one_joined))]
 fn put_arithmetic(
     bytes: &mut Vec<u8>,
     alloc: Global,
     operation: Operation,
-    left: items::Operand,
-    right: items::Operand,
+    left: drafts::Operand,
+    right: drafts::Operand,
     destination: Destination,
 ) -> Result<(), AllocError>
     ensures { OnOk result (AddsCode bytes.old bytes.new
@@ -73,7 +73,7 @@ fn put_divided_by(
     bytes: &mut Vec<u8>,
     addresses: &Addresses<'_>,
     operation: Operation,
-    left: items::Operand,
+    left: drafts::Operand,
     variable: u8,
     destination: Destination,
 ) -> Result<(), AllocError>
@@ -94,7 +94,7 @@ fn put_divided_by_number(
     bytes: &mut Vec<u8>,
     addresses: &Addresses<'_>,
     operation: Operation,
-    left: items::Operand,
+    left: drafts::Operand,
     number: u16,
     destination: Destination,
 ) -> Result<(), AllocError>
@@ -120,13 +120,13 @@ fn put_divided_by_number(
 }
 
 /// A division.
-#[tactic(auto, using(crate::proofs::Chains::all_joined))]
+#[tactic(auto, using(encoding::proofs::Chains::all_joined))]
 fn put_division(
     bytes: &mut Vec<u8>,
     addresses: &Addresses<'_>,
     operation: Operation,
-    left: items::Operand,
-    right: items::Operand,
+    left: drafts::Operand,
+    right: drafts::Operand,
     destination: Destination,
 ) -> Result<(), AllocError>
     ensures { OnOk result (AddsCode bytes.old bytes.new
@@ -134,14 +134,14 @@ fn put_division(
         (as_destination destination))) }
 {
     match right {
-        items::Operand::Pushed => {
+        drafts::Operand::Pushed => {
             put_all(bytes, &[pull(FIRST)])?;
             put_divided_by(bytes, addresses, operation, left, FIRST, destination)
         }
-        items::Operand::Number(number) => {
+        drafts::Operand::Number(number) => {
             put_divided_by_number(bytes, addresses, operation, left, number, destination)
         }
-        items::Operand::Variable(variable) => {
+        drafts::Operand::Variable(variable) => {
             let number = variable_number(variable);
             put_divided_by(bytes, addresses, operation, left, number, destination)
         }
@@ -154,7 +154,7 @@ pub fn put_binary(
     alloc: Global,
     addresses: &Addresses<'_>,
     operator: Binary,
-    words: (items::Operand, items::Operand),
+    words: (drafts::Operand, drafts::Operand),
     destination: Destination,
 ) -> Result<(), AllocError>
     ensures { OnOk result (AddsCode bytes.old bytes.new
@@ -180,7 +180,7 @@ pub fn put_binary(
 }
 
 /// A branch over 6 bytes, and 1 or 0 that is pushed.
-#[tactic(auto, using(crate::proofs::Chains::all_joined))]
+#[tactic(auto, using(encoding::proofs::Chains::all_joined))]
 fn put_flag(bytes: &mut Vec<u8>, branch: Instruction) -> Result<(), AllocError>
     ensures { OnOk result (AddsCode bytes.old bytes.new (instruction_of branch ∷ flag)) }
 {
@@ -197,7 +197,7 @@ fn put_flag(bytes: &mut Vec<u8>, branch: Instruction) -> Result<(), AllocError>
 }
 
 /// Of several right sides, the first: the left side stays below.
-#[tactic(auto, using(crate::proofs::Chains::all_joined))]
+#[tactic(auto, using(encoding::proofs::Chains::all_joined))]
 pub fn put_first_equal(bytes: &mut Vec<u8>) -> Result<(), AllocError>
     ensures { OnOk result (AddsCode bytes.old bytes.new first_equal_code) }
 {
@@ -207,7 +207,7 @@ pub fn put_first_equal(bytes: &mut Vec<u8>) -> Result<(), AllocError>
 }
 
 /// Of several right sides, a later one: the left side stays below.
-#[tactic(auto, using(crate::proofs::Chains::all_joined))]
+#[tactic(auto, using(encoding::proofs::Chains::all_joined))]
 pub fn put_also_equal(bytes: &mut Vec<u8>) -> Result<(), AllocError>
     ensures { OnOk result (AddsCode bytes.old bytes.new also_equal_code) }
 {

@@ -2,12 +2,12 @@
 
 ghost use Rattle.std.specs.Prelude.{◌≡◌, ◌<◌, ◌≤◌, reverse, length, slice_index};
 ghost use Rattle.forms.specs.Layout.{first, bytes_limit};
-ghost use Rattle.values.specs.Code.{item_of};
+ghost use Rattle.drafts.specs.Code.{item_of};
 ghost use Rattle.instructions.specs.Places.{place_in};
 ghost use Rattle.instructions.specs.Places as spec;
 
 use crate::jumps::jump_offset;
-use items::Item;
+use drafts::Item;
 
 /// The item to which one branches.
 pub fn target_of(item: &Item<'_>) -> Option<usize>

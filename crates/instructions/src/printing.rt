@@ -6,17 +6,18 @@ ghost use Rattle.zcore.specs.declared.instruction.Operation.TheVariants.{Print};
 ghost use Rattle.ztext.specs.Alphabets.{is_printable};
 ghost use Rattle.ztext.specs.Abbreviations.{encoded_with};
 ghost use Rattle.meaning.specs.Meaning as meaning;
-ghost use Rattle.values.specs.Items as source_items;
-ghost use Rattle.values.specs.Code.{as_operand};
+ghost use Rattle.drafts.specs.Items as source_items;
+ghost use Rattle.drafts.specs.Code.{as_operand};
 ghost use Rattle.instructions.specs.Instructions.{character_code, tested_character};
-ghost use Rattle.instructions.specs.Instructions as spec;
-ghost use Rattle.instructions.specs.Bytes.{Adds, AddsCode, bytes_of_all};
-ghost use Rattle.instructions.specs.Bytes as definitions;
-ghost use Rattle.instructions.specs.Written.{addresses_of};
+ghost use Rattle.encoding.specs.Instructions as spec;
+ghost use Rattle.encoding.specs.Bytes.{Adds, AddsCode, bytes_of_all};
+ghost use Rattle.encoding.specs.Bytes as definitions;
+ghost use Rattle.encoding.specs.Written.{addresses_of};
 
-use crate::addresses::{Addresses, fault_address};
-use crate::instruction::{FIRST, Operands, branching, plain, print_fault, pull, put_all, quit};
-use crate::operands::{constant, variable_number};
+use encoding::{
+    Addresses, FIRST, Operands, branching, constant, fault_address, plain, print_fault, pull,
+    put_all, quit, variable_number,
+};
 use meaning::Cause;
 use std::alloc::{AllocError, Global};
 use zcore::{Abbreviations, Operand, Operation, TextFault};
@@ -144,22 +145,22 @@ fn put_character_number(
 }
 
 /// A word is printed as a character, or the text of the fault that it is none, and the story ends.
-#[tactic(auto, using(crate::proofs::Chains::all_joined))]
+#[tactic(auto, using(encoding::proofs::Chains::all_joined))]
 pub fn put_character(
     bytes: &mut Vec<u8>,
     addresses: &Addresses<'_>,
-    operand: items::Operand,
+    operand: drafts::Operand,
 ) -> Result<(), AllocError>
     ensures { OnOk result (AddsCode bytes.old bytes.new
         (character_code (addresses_of addresses.now) (as_operand operand))) }
 {
     match operand {
-        items::Operand::Pushed => {
+        drafts::Operand::Pushed => {
             put_all(bytes, &[pull(FIRST)])?;
             put_tested(bytes, addresses, FIRST)
         }
-        items::Operand::Number(number) => put_character_number(bytes, addresses, number),
-        items::Operand::Variable(variable) => {
+        drafts::Operand::Number(number) => put_character_number(bytes, addresses, number),
+        drafts::Operand::Variable(variable) => {
             put_tested(bytes, addresses, variable_number(variable))
         }
     }

@@ -1,16 +1,18 @@
 //! Tests of operands, and faults.
 
 ghost use Rattle.std.specs.Prelude.{◌≡◌, ◌<◌, OnOk};
-ghost use Rattle.values.specs.Code.{as_operand};
+ghost use Rattle.drafts.specs.Code.{as_operand};
 ghost use Rattle.instructions.specs.Instructions.{tested_between};
+ghost use Rattle.encoding.specs.Instructions as basic;
 ghost use Rattle.instructions.specs.Instructions as spec;
-ghost use Rattle.instructions.specs.Addresses as places;
-ghost use Rattle.instructions.specs.Bytes.{AddsCode};
-ghost use Rattle.instructions.specs.Written.{addresses_of};
+ghost use Rattle.encoding.specs.Addresses as places;
+ghost use Rattle.encoding.specs.Bytes.{AddsCode};
+ghost use Rattle.encoding.specs.Written.{addresses_of};
 
-use crate::addresses::{Addresses, fault_address};
-use crate::instruction::{FIRST, Operands, branching, print_fault, pull, put_all, quit};
-use crate::operands::{constant, in_place};
+use encoding::{
+    Addresses, FIRST, Operands, branching, constant, fault_address, in_place, print_fault, pull,
+    put_all, quit,
+};
 use meaning::Cause;
 use std::alloc::AllocError;
 use zcore::{Operand, Operation};
@@ -25,7 +27,7 @@ pub fn put_fail(
     cause: Cause,
 ) -> Result<(), AllocError>
     ensures { OnOk result (AddsCode bytes.old bytes.new
-        (spec.fail (places.fault_address (addresses_of addresses.now) cause))) }
+        (basic.fail (places.fault_address (addresses_of addresses.now) cause))) }
 {
     put_all(
         bytes,
@@ -71,25 +73,25 @@ pub fn put_tested_between(
 pub fn put_pulled(
     bytes: &mut Vec<u8>,
     temporary: u8,
-    operand: items::Operand,
+    operand: drafts::Operand,
 ) -> Result<(), AllocError>
     requires { temporary < 8 }
     ensures { OnOk result (AddsCode bytes.old bytes.new
-        (spec.pulled_into temporary (as_operand operand))) }
+        (basic.pulled_into temporary (as_operand operand))) }
 {
     match operand {
-        items::Operand::Pushed => put_all(bytes, &[pull(FIRST + temporary)]),
+        drafts::Operand::Pushed => put_all(bytes, &[pull(FIRST + temporary)]),
         _ => put_all(bytes, &[]),
     }
 }
 
 /// What stands then for the operand.
-pub fn word_in(temporary: u8, operand: items::Operand) -> Operand
+pub fn word_in(temporary: u8, operand: drafts::Operand) -> Operand
     requires { temporary < 8 }
-    ensures { result ≡ spec.word_in temporary (as_operand operand) }
+    ensures { result ≡ basic.word_in temporary (as_operand operand) }
 {
     match operand {
-        items::Operand::Pushed => Operand::Variable(FIRST + temporary),
+        drafts::Operand::Pushed => Operand::Variable(FIRST + temporary),
         _ => in_place(operand),
     }
 }

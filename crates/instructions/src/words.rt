@@ -1,30 +1,32 @@
 //! Words that are moved, kept and stepped.
 
 ghost use Rattle.std.specs.Prelude.{◌≡◌, [], ◌∷◌, OnOk};
-ghost use Rattle.values.specs.Items as source_items;
-ghost use Rattle.values.specs.Code.{as_operand, as_destination};
-ghost use Rattle.instructions.specs.Instructions.{number_of, move_code, step_code, stepping, step_operation};
+ghost use Rattle.drafts.specs.Items as source_items;
+ghost use Rattle.drafts.specs.Code.{as_operand, as_destination};
+ghost use Rattle.encoding.specs.Instructions.{number_of};
+ghost use Rattle.instructions.specs.Instructions.{move_code, step_code, stepping, step_operation};
+ghost use Rattle.encoding.specs.Instructions as basic;
 ghost use Rattle.instructions.specs.Instructions as spec;
-ghost use Rattle.instructions.specs.Bytes.{AddsCode};
-ghost use Rattle.instructions.specs.Written.{instruction_of};
+ghost use Rattle.encoding.specs.Bytes.{AddsCode};
+ghost use Rattle.encoding.specs.Written.{instruction_of};
 
-use crate::instruction::{
-    CHOSEN, FIRST, Instruction, Operands, copy, plain, pull, push, put_all, store,
+use drafts::Destination;
+use encoding::{
+    CHOSEN, FIRST, Instruction, Operands, copy, in_place, plain, pull, push, put_all, store,
+    variable_number,
 };
-use crate::operands::{in_place, variable_number};
 use expressions::Step;
-use items::Destination;
 use meaning::Variable;
 use std::alloc::AllocError;
 use zcore::{Operand, Operation};
 
 /// A word goes to a variable.
-fn moved_into(operand: items::Operand, variable: Variable) -> Instruction
+fn moved_into(operand: drafts::Operand, variable: Variable) -> Instruction
     ensures { instruction_of result ≡ move_code (as_operand operand) (source_items.into variable) }
 {
     let number = variable_number(variable);
     match operand {
-        items::Operand::Pushed => pull(number),
+        drafts::Operand::Pushed => pull(number),
         _ => store(number, in_place(operand)),
     }
 }
@@ -32,7 +34,7 @@ fn moved_into(operand: items::Operand, variable: Variable) -> Instruction
 /// A word goes to a destination.
 pub fn put_move(
     bytes: &mut Vec<u8>,
-    operand: items::Operand,
+    operand: drafts::Operand,
     destination: Destination,
 ) -> Result<(), AllocError>
     ensures { OnOk result (AddsCode bytes.old bytes.new
@@ -46,19 +48,19 @@ pub fn put_move(
 }
 
 /// The word of a `switch` goes to the variable that its cases are tested on.
-pub fn put_choose(bytes: &mut Vec<u8>, operand: items::Operand) -> Result<(), AllocError>
+pub fn put_choose(bytes: &mut Vec<u8>, operand: drafts::Operand) -> Result<(), AllocError>
     ensures { OnOk result (AddsCode bytes.old bytes.new
         (spec.choose_code (as_operand operand) ∷ [])) }
 {
     match operand {
-        items::Operand::Pushed => put_all(bytes, &[pull(CHOSEN)]),
+        drafts::Operand::Pushed => put_all(bytes, &[pull(CHOSEN)]),
         _ => put_all(bytes, &[store(CHOSEN, in_place(operand))]),
     }
 }
 
 /// The topmost word goes to a variable, and stays.
 pub fn put_keep(bytes: &mut Vec<u8>, variable: Variable) -> Result<(), AllocError>
-    ensures { OnOk result (AddsCode bytes.old bytes.new (spec.copy (number_of variable) ∷ [])) }
+    ensures { OnOk result (AddsCode bytes.old bytes.new (basic.copy (number_of variable) ∷ [])) }
 {
     put_all(bytes, &[copy(variable_number(variable))])
 }

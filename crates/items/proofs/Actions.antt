@@ -6,21 +6,20 @@ use Rattle.meaning.specs.declared.resolved.Printed as code_printed
 use Rattle.meaning.specs.declared.resolved.Action as code_action
 use Rattle.meaning.specs.Resolved.{Value, Printed, Action, Actions, actions_of, action_of, printed_of}
 use Rattle.meaning.specs.Resolved as source
-use Rattle.values.specs.Items.{Item, Operand, alone, if_pushed, push, branch_count, value_count, value_items}
-use Rattle.values.specs.Items.{branch_items}
+use Rattle.drafts.specs.Items.{Item, Operand, alone, if_pushed, push, branch_count, value_count, value_items}
+use Rattle.drafts.specs.Items.{branch_items, alone_items, left_of, operand_count}
 use Rattle.items.specs.Statements.{printed_count, prints_count, action_count, printed_items, prints_items}
-use Rattle.values.specs.Items.{alone_items, left_of}
 use Rattle.items.specs.Statements.{actions_count, action_items, actions_items, return_true}
-use Rattle.values.specs.Items.{operand_count}
-use Rattle.values.specs.Items as items
+use Rattle.drafts.specs.Items as items
 use Rattle.items.specs.Statements as statements
-use Rattle.values.specs.declared.wanted.Wanted.TheVariants.{Branch}
+use Rattle.drafts.specs.declared.wanted.Wanted.TheVariants.{Branch}
 use Rattle.items.specs.declared.exits.Exits.{Exits}
-use Rattle.values.specs.Writing.{in_order, Written, wanted_items, pushes}
+use Rattle.drafts.specs.Writing.{in_order, Written, wanted_items}
+use Rattle.values.specs.Writing.{pushes}
 use Rattle.items.specs.Writing.{taken_items, exits_of}
-use Rattle.values.proofs.Counts.{branch_length}
+use Rattle.drafts.proofs.Counts.{branch_length}
 use Rattle.items.proofs.StatementCounts.{printed_length, prints_length, action_length, actions_length}
-use Rattle.values.proofs.WrittenItems.{in_order_append, one, counted, both, as_items, then_one, after_one}
+use Rattle.drafts.proofs.WrittenItems.{in_order_append, one, counted, both, as_items, then_one, after_one}
 use Rattle.values.proofs.Values.{pushes_length}
 
 pub end_more : (c c1 c2 : List Item) → c1 ≡ c ++ return_true ∷ [] → c2 ≡ c1 ++ items.new_line ∷ []

@@ -9,11 +9,11 @@ use Rattle.meaning.specs.Resolved as source
 use Rattle.meaning.specs.Accepted.{need_of}
 use Rattle.meaning.specs.World.{Situation, to, Part, ◌>>=◌, give, write_variable, value_in, with_value}
 use Rattle.meaning.specs.Meaning.{stepped, evaluate}
-use Rattle.values.specs.Items.{pushed, variable, Destination, push, into, nowhere, value_count, after_items}
-use Rattle.values.specs.Items.{kept_items, value_items}
-use Rattle.values.specs.Items as items
+use Rattle.drafts.specs.Items.{pushed, variable, Destination, push, into, nowhere, value_count, after_items}
+use Rattle.drafts.specs.Items.{kept_items, value_items}
+use Rattle.drafts.specs.Items as items
 use Rattle.items.specs.Stack.{stuck, act}
-use Rattle.values.proofs.Counts.{value_length}
+use Rattle.drafts.proofs.Counts.{value_length}
 use Rattle.items.proofs.Acts.{keeps_give, keeps_write}
 use Rattle.items.proofs.Running.{steps_on, Running, code, setting}
 use Rattle.items.proofs.Standing.{HasAt, split}

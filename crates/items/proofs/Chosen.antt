@@ -6,9 +6,9 @@ use Rattle.std.proofs.lemmas.Bool.{lt-ltb}
 use Rattle.meaning.specs.Resolved.{ProgramOf}
 use Rattle.meaning.specs.World.{Outcome, Situation, Comes, to, over}
 use Rattle.meaning.specs.Meaning.{routine_at}
-use Rattle.values.specs.Items.{Item, Operand, pushed, number, variable, Test, agrees}
+use Rattle.drafts.specs.Items.{Item, Operand, pushed, number, variable, Test, agrees}
 use Rattle.items.specs.Statements.{routine_items}
-use Rattle.values.specs.Items as items
+use Rattle.drafts.specs.Items as items
 use Rattle.items.specs.Stack.{Caller, State, Next, goes, stuck, with_operand, with_operands, branch, holds, act, from}
 use Rattle.items.specs.Stack.{exec, after_part, stands_in, tested_attribute, is_provided, begins_objects, steps_object}
 use Rattle.items.specs.Stack as stack

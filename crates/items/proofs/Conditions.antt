@@ -11,7 +11,7 @@ use Rattle.expressions.specs.declared.tree.Containment.TheVariants as containmen
 use Rattle.expressions.specs.declared.tree.Equality.{Equality}
 use Rattle.expressions.specs.declared.tree.Equality.TheVariants as equalities
 use Rattle.meaning.specs.Meaning.{truth, is_true, equated, compared, contains}
-use Rattle.values.specs.Items.{agrees, comparison_test, comparison_when, equality_when, containment_when}
+use Rattle.drafts.specs.Items.{agrees, comparison_test, comparison_when, equality_when, containment_when}
 use Rattle.items.specs.Stack.{holds}
 
 pub truth_back : (b : Bool) → is_true (truth b) ≡ b

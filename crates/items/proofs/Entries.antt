@@ -8,11 +8,11 @@ use Rattle.meaning.specs.Resolved as source
 use Rattle.meaning.specs.Accepted.{need_of}
 use Rattle.meaning.specs.World.{Situation, read_entry}
 use Rattle.meaning.specs.Meaning.{evaluate}
-use Rattle.values.specs.Items.{Operand, Destination, push, alone, left_of, if_pushed, branch_true, pushed}
-use Rattle.values.specs.Items.{operand_count, value_items, alone_items}
-use Rattle.values.specs.Items as items
+use Rattle.drafts.specs.Items.{Operand, Destination, push, alone, left_of, if_pushed, branch_true, pushed}
+use Rattle.drafts.specs.Items.{operand_count, value_items, alone_items}
+use Rattle.drafts.specs.Items as items
 use Rattle.items.specs.Stack.{with_operand, gives, assigned_entry}
-use Rattle.values.proofs.Counts.{alone_length}
+use Rattle.drafts.proofs.Counts.{alone_length}
 use Rattle.items.proofs.Acts.{keeps_read_entry, keeps_assigned_entry}
 use Rattle.items.proofs.Running.{Running, code, setting}
 use Rattle.items.proofs.Standing.{HasAt, split}

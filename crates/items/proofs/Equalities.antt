@@ -12,14 +12,14 @@ use Rattle.meaning.specs.Resolved as source
 use Rattle.meaning.specs.Accepted.{need_of, needs_of}
 use Rattle.meaning.specs.World.{Situation, ◌>>=◌, give}
 use Rattle.meaning.specs.Meaning.{truth, is_true, equated, compared, evaluate, evaluate_all}
-use Rattle.values.specs.Items.{Item, pushed, push, is_zero, same, operand_of, operands_of, alone, left_of, if_pushed}
-use Rattle.values.specs.Items.{agrees, is_few, comparison_test, comparison_when, equality_when, value_count}
-use Rattle.values.specs.Items.{operand_count, operands_count, many_count, truth_items, value_items, operands_items}
-use Rattle.values.specs.Items.{branch_items, many_items, also_items}
-use Rattle.values.specs.Items as items
+use Rattle.drafts.specs.Items.{Item, pushed, push, is_zero, same, operand_of, operands_of, alone, left_of, if_pushed}
+use Rattle.drafts.specs.Items.{agrees, is_few, comparison_test, comparison_when, equality_when, value_count}
+use Rattle.drafts.specs.Items.{operand_count, operands_count, many_count, truth_items, value_items, operands_items}
+use Rattle.drafts.specs.Items.{branch_items, many_items, also_items}
+use Rattle.drafts.specs.Items as items
 use Rattle.items.specs.Stack.{stuck}
-use Rattle.values.proofs.CountedForms.{if_length}
-use Rattle.values.proofs.Counts.{value_length, branch_length, operands_length, many_length}
+use Rattle.drafts.proofs.CountedForms.{if_length}
+use Rattle.drafts.proofs.Counts.{value_length, branch_length, operands_length, many_length}
 use Rattle.items.proofs.Unchanged.{all_unchanged}
 use Rattle.items.proofs.Running.{Running, code, setting}
 use Rattle.items.proofs.Standing.{HasAt, split}

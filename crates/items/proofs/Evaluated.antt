@@ -8,13 +8,12 @@ use Rattle.meaning.specs.Resolved as source
 use Rattle.meaning.specs.Accepted.{need_of, needs_of}
 use Rattle.meaning.specs.World.{Situation, to, Part, ◌>>=◌, give, value_in}
 use Rattle.meaning.specs.Meaning.{evaluate, evaluate_all}
-use Rattle.values.specs.Items.{Item, pushed, variable, Destination, push, operand_of, operands_of, alone}
-use Rattle.values.specs.Items.{left_of, first_of, if_pushed, changes, change, operand_count, value_items}
-use Rattle.values.specs.Items.{operands_items}
-use Rattle.values.specs.Items.{branch_items}
+use Rattle.drafts.specs.Items.{Item, pushed, variable, Destination, push, operand_of, operands_of, alone, left_of}
+use Rattle.drafts.specs.Items.{first_of, if_pushed, changes, change, operand_count, value_items, operands_items}
+use Rattle.drafts.specs.Items.{branch_items}
 use Rattle.items.specs.Stack.{Next}
-use Rattle.values.proofs.CountedForms.{if_length}
-use Rattle.values.proofs.Counts.{value_length}
+use Rattle.drafts.proofs.CountedForms.{if_length}
+use Rattle.drafts.proofs.Counts.{value_length}
 use Rattle.items.proofs.Unchanged.{unchanged, all_unchanged, left, right}
 use Rattle.items.proofs.Acts.{came}
 use Rattle.items.proofs.Running.{Running, code, setting}

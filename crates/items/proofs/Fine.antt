@@ -11,10 +11,10 @@ use Rattle.meaning.specs.declared.resolved.Variable.{Variable}
 use Rattle.meaning.specs.Resolved.{Value, Values, none, more, ProgramOf}
 use Rattle.meaning.specs.Resolved as source
 use Rattle.meaning.specs.Accepted.{count_of, IsVariable, IsValue, AreValues}
-use Rattle.values.specs.Items.{Item, Operand, pushed, number, variable, Destination, push, into, nowhere, operand_of}
-use Rattle.values.specs.Items.{operands_of, if_pushed, change, branch_true, is_few, comparison_test, truth_count}
-use Rattle.values.specs.Items.{kept_count, moved, truth_items, after_items, kept_items}
-use Rattle.values.specs.Items as items
+use Rattle.drafts.specs.Items.{Item, Operand, pushed, number, variable, Destination, push, into, nowhere, operand_of}
+use Rattle.drafts.specs.Items.{operands_of, if_pushed, change, branch_true, is_few, comparison_test, truth_count}
+use Rattle.drafts.specs.Items.{kept_count, moved, truth_items, after_items, kept_items}
+use Rattle.drafts.specs.Items as items
 use Rattle.items.specs.Laws.{IsOperand, IsDestination, IsTested, IsItem}
 
 pub operands_count_is : (vs : Values) → length (operands_of vs) ≡ count_of vs

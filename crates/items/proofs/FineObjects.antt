@@ -5,9 +5,9 @@ use Rattle.expressions.specs.declared.tree.Relative.{Relative}
 use Rattle.meaning.specs.Resolved.{Value, none, more}
 use Rattle.meaning.specs.Resolved as source
 use Rattle.meaning.specs.Accepted.{IsValue, IsProperty}
-use Rattle.values.specs.Items.{Item, pushed, Destination, push, alone, left_of, first_of, if_pushed, agrees}
-use Rattle.values.specs.Items.{containment_when, branch_true, operand_count, value_count, value_items, branch_items}
-use Rattle.values.specs.Items as items
+use Rattle.drafts.specs.Items.{Item, pushed, Destination, push, alone, left_of, first_of, if_pushed, agrees}
+use Rattle.drafts.specs.Items.{containment_when, branch_true, operand_count, value_count, value_items, branch_items}
+use Rattle.drafts.specs.Items as items
 use Rattle.items.specs.Laws.{IsItem}
 use Rattle.items.proofs.Fine.{Bounds, Fine, first, last, last_two, nothing, operand_fine, three_fine, true_fine}
 use Rattle.items.proofs.Fine.{truth_fine}

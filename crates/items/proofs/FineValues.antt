@@ -12,16 +12,15 @@ use Rattle.meaning.specs.declared.resolved.Variable.{Variable}
 use Rattle.meaning.specs.Resolved.{Value, Values, none, more}
 use Rattle.meaning.specs.Resolved as source
 use Rattle.meaning.specs.Accepted.{IsVariable, IsValue, AreValues}
-use Rattle.values.specs.Items.{Item, Operand, pushed, number, variable, Destination, push, into, operand_of}
-use Rattle.values.specs.Items.{operands_of, alone, left_of, if_pushed, agrees, is_few, comparison_when, equality_when}
-use Rattle.values.specs.Items.{truth_count, value_count, operand_count, operands_count, branch_count, many_count}
-use Rattle.values.specs.Items.{also_count, value_items, operands_items, branch_items, many_items, also_items}
-use Rattle.values.specs.Items as items
+use Rattle.drafts.specs.Items.{Item, Operand, pushed, number, variable, Destination, push, into, operand_of}
+use Rattle.drafts.specs.Items.{operands_of, alone, left_of, if_pushed, agrees, is_few, comparison_when, equality_when}
+use Rattle.drafts.specs.Items.{truth_count, value_count, operand_count, operands_count, branch_count, many_count}
+use Rattle.drafts.specs.Items.{also_count, value_items, operands_items, branch_items, many_items, also_items}
+use Rattle.drafts.specs.Items as items
 use Rattle.items.specs.Laws.{IsDestination, IsItem}
-use Rattle.items.proofs.Fine.{Bounds, Fine, branch_same, branch_two, chosen, counted_else, counted_then}
-use Rattle.items.proofs.Fine.{either_fine, first, joined, kept_fine, last, last_two, nothing}
-use Rattle.items.proofs.Fine.{operand_fine, operands_count_is, operands_fine, pushed_fine, true_fine, truth_fine}
-use Rattle.items.proofs.Fine.{two_fine}
+use Rattle.items.proofs.Fine.{Bounds, Fine, branch_same, branch_two, chosen, counted_else, counted_then, either_fine}
+use Rattle.items.proofs.Fine.{first, joined, kept_fine, last, last_two, nothing, operand_fine, operands_count_is}
+use Rattle.items.proofs.Fine.{operands_fine, pushed_fine, true_fine, truth_fine, two_fine}
 
 module _ (here : Bounds) where
   open here use {p, locals, count}

@@ -5,7 +5,7 @@ use Rattle.meaning.specs.declared.resolved.Variable.{Variable}
 use Rattle.meaning.specs.Resolved.{Value, Values}
 use Rattle.meaning.specs.Resolved as source
 use Rattle.meaning.specs.World.{Situation, value_in}
-use Rattle.values.specs.Items.{Operand, pushed, number, variable, operand_of, change}
+use Rattle.drafts.specs.Items.{Operand, pushed, number, variable, operand_of, change}
 use Rattle.items.specs.Stack.{Next, with_operand, with_operands}
 
 -- what is known of an operand whose value was evaluated

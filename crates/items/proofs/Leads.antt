@@ -3,7 +3,7 @@ use Rattle.std.proofs.Common.{◌≡◌, ℕ, ◌+◌, ◌≤◌, List, ◌∷�
 use Rattle.std.specs.Prelude.{if◌then◌else◌}
 use Rattle.meaning.specs.World.{Outcome, Situation, Comes, to, Part, bound, ◌>>=◌, units, with_value}
 use Rattle.meaning.specs.Meaning.{is_true}
-use Rattle.values.specs.Items.{Destination, push, into, nowhere, agrees}
+use Rattle.drafts.specs.Items.{Destination, push, into, nowhere, agrees}
 use Rattle.items.specs.Stack.{State, Next, goes, delivered}
 use Rattle.items.proofs.Acts.{hand, hand_bound, Lower, bound_bound}
 use Rattle.items.proofs.Running.{Does, fits, Running}

@@ -8,8 +8,8 @@ use Rattle.meaning.specs.Resolved as source
 use Rattle.meaning.specs.Accepted.{need_of}
 use Rattle.meaning.specs.World.{Situation, to, ◌>>=◌, give}
 use Rattle.meaning.specs.Meaning.{truth, is_true, evaluate}
-use Rattle.values.specs.Items.{agrees, branch_count, branch_items}
-use Rattle.values.proofs.Counts.{branch_length}
+use Rattle.drafts.specs.Items.{agrees, branch_count, branch_items}
+use Rattle.drafts.proofs.Counts.{branch_length}
 use Rattle.items.proofs.Running.{Running, code, setting}
 use Rattle.items.proofs.Standing.{HasAt, split, long}
 use Rattle.items.proofs.Needs.{some_needed}

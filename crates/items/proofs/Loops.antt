@@ -1,6 +1,6 @@
 -- Loops.
-use Rattle.std.proofs.Common.{◌≡◌, ℕ, zero, suc, ◌+◌, ◌≤◌, [], Option, Some, None, Bool, true, false, refl}
-use Rattle.std.proofs.Common.{sym, ap, ◌∙◌, arith}
+use Rattle.std.proofs.Common.{◌≡◌, ℕ, zero, suc, ◌+◌, ◌≤◌, [], Option, Some, None, Bool, true, false, refl, sym, ap}
+use Rattle.std.proofs.Common.{◌∙◌, arith}
 use Rattle.std.specs.Prelude.{not, if◌then◌else◌, slice_get}
 use Rattle.std.proofs.lemmas.Bool.{le-leb}
 use Rattle.zcore.specs.declared.place.Place.TheVariants as places
@@ -12,13 +12,13 @@ use Rattle.meaning.specs.World.{Situation, Comes, to, Part, bound, ◌>>=◌, gi
 use Rattle.meaning.specs.World as world
 use Rattle.meaning.specs.Meaning.{is_true, evaluate, Ending, goes_on, breaks, continues, returns, behind_body, round}
 use Rattle.meaning.specs.Meaning.{rounds, once, tested, behind_round, until, run}
-use Rattle.values.specs.Items.{nowhere, agrees, branch_count, branch_items}
-use Rattle.items.specs.Statements.{once_count, once_items, test_count}
-use Rattle.items.specs.Statements.{test_items, action_count, Exits, exits_to, action_items}
-use Rattle.values.specs.Items as items
+use Rattle.drafts.specs.Items.{nowhere, agrees, branch_count, branch_items}
+use Rattle.items.specs.Statements.{once_count, once_items, test_count, test_items, action_count, Exits, exits_to}
+use Rattle.items.specs.Statements.{action_items}
+use Rattle.drafts.specs.Items as items
 use Rattle.items.specs.Stack.{stuck, after_part, act}
 use Rattle.items.proofs.Acts.{hand, spends}
-use Rattle.values.proofs.Counts.{branch_length}
+use Rattle.drafts.proofs.Counts.{branch_length}
 use Rattle.items.proofs.StatementCounts.{once_length, test_length, action_length}
 use Rattle.items.proofs.Running.{Does, ends_there, steps_on, Running, code, locals, setting}
 use Rattle.items.proofs.Standing.{HasAt, split}

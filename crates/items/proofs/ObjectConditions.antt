@@ -11,14 +11,14 @@ use Rattle.meaning.specs.Resolved as source
 use Rattle.meaning.specs.World.{Situation, to, Part, ◌>>=◌, give, relative_of}
 use Rattle.meaning.specs.World as world
 use Rattle.meaning.specs.Meaning.{truth, is_true, contains, evaluate, test_object}
-use Rattle.values.specs.Items.{Item, Operand, Destination, alone, left_of, containment_when, agrees, truth_items}
-use Rattle.values.specs.Items.{value_items, operand_count, alone_items, branch_items}
-use Rattle.values.specs.Items as items
+use Rattle.drafts.specs.Items.{Item, Operand, Destination, alone, left_of, containment_when, agrees, truth_items}
+use Rattle.drafts.specs.Items.{value_items, operand_count, alone_items, branch_items}
+use Rattle.drafts.specs.Items as items
 use Rattle.items.specs.Stack.{State, with_operand, act, stands_in, tested_attribute, is_provided}
 use Rattle.items.specs.Stack as stack
 use Rattle.items.proofs.Acts.{Keeps, came, bound_bound, bound_alike}
 use Rattle.items.proofs.ObjectParts.{keeps_stands_in, keeps_attribute, keeps_is_provided}
-use Rattle.values.proofs.Counts.{alone_length, branch_length}
+use Rattle.drafts.proofs.Counts.{alone_length, branch_length}
 use Rattle.items.proofs.Conditions.{truth_truth, contains_asks, has_asks}
 use Rattle.items.proofs.Needs.{some_needed}
 use Rattle.items.proofs.Standing.{HasAt, split}

@@ -13,15 +13,15 @@ use Rattle.meaning.specs.World.{Situation, Comes, to, over, Part, bound, â—Œ>>=â
 use Rattle.meaning.specs.World.{relative_of}
 use Rattle.meaning.specs.Meaning.{is_true, evaluate, test_object, Ending, goes_on, rounds, next_object, sibling_next}
 use Rattle.meaning.specs.Meaning.{count_next, each_of, run}
-use Rattle.values.specs.Items.{Item, Operand, variable, push, alone, agrees, branch_count, branch_items, operand_count}
-use Rattle.values.specs.Items.{alone_items}
+use Rattle.drafts.specs.Items.{Item, Operand, variable, push, alone, agrees, branch_count, branch_items, operand_count}
+use Rattle.drafts.specs.Items.{alone_items}
 use Rattle.items.specs.Statements.{action_count, Exits, exits_to, action_items, each_items, relative_items}
 use Rattle.items.specs.Statements.{children_items}
-use Rattle.values.specs.Items as items
+use Rattle.drafts.specs.Items as items
 use Rattle.items.specs.Stack.{Next, gives, relative_to, begins_objects, steps_object}
 use Rattle.items.proofs.Acts.{bound_bound, keeps_write}
 use Rattle.items.proofs.ObjectParts.{keeps_relative, keeps_begins, keeps_steps}
-use Rattle.values.proofs.Counts.{alone_length}
+use Rattle.drafts.proofs.Counts.{alone_length}
 use Rattle.items.proofs.StatementCounts.{action_length}
 use Rattle.items.proofs.Running.{Running, code, locals, setting}
 use Rattle.items.proofs.Standing.{HasAt, split}

@@ -8,8 +8,8 @@ use Rattle.meaning.specs.World.{Situation, Part, ◌>>=◌, give}
 use Rattle.meaning.specs.World as world
 use Rattle.meaning.specs.Meaning.{evaluate, test_object, Ending, goes_on, run}
 use Rattle.meaning.specs.Meaning as meaning
-use Rattle.values.specs.Items.{Item, Operand, alone, left_of, operand_count, alone_items}
-use Rattle.values.specs.Items as items
+use Rattle.drafts.specs.Items.{Item, Operand, alone, left_of, operand_count, alone_items}
+use Rattle.drafts.specs.Items as items
 use Rattle.items.specs.Stack.{State, with_operand, prints, gives_attributes, moves_object, removes_object}
 use Rattle.items.proofs.Acts.{bound_bound, bound_alike}
 use Rattle.items.proofs.ObjectParts.{keeps_gives, keeps_moves, keeps_removes}

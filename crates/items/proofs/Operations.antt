@@ -12,13 +12,13 @@ use Rattle.meaning.specs.Resolved as source
 use Rattle.meaning.specs.Accepted.{need_of, needs_of}
 use Rattle.meaning.specs.World.{Situation, to, ◌>>=◌, give, value_in}
 use Rattle.meaning.specs.Meaning.{truth, is_true, operate, with_prefix, evaluate, evaluate_all}
-use Rattle.values.specs.Items.{Operand, pushed, number, variable, Destination, push, is_zero, same, operands_of, alone}
-use Rattle.values.specs.Items.{left_of, if_pushed, branch_true, agrees, operand_count, operands_count, branch_count}
-use Rattle.values.specs.Items.{value_items, operands_items, branch_items, alone_items}
-use Rattle.values.specs.Items as items
+use Rattle.drafts.specs.Items.{Operand, pushed, number, variable, Destination, push, is_zero, same, operands_of, alone}
+use Rattle.drafts.specs.Items.{left_of, if_pushed, branch_true, agrees, operand_count, operands_count, branch_count}
+use Rattle.drafts.specs.Items.{value_items, operands_items, branch_items, alone_items}
+use Rattle.drafts.specs.Items as items
 use Rattle.items.specs.Stack.{with_operand, delivered, gives, enter, act}
 use Rattle.items.specs.Stack as stack
-use Rattle.values.proofs.Counts.{branch_length, operands_length, alone_length}
+use Rattle.drafts.proofs.Counts.{branch_length, operands_length, alone_length}
 use Rattle.items.proofs.Acts.{keeps_give, keeps_operate}
 use Rattle.items.proofs.Running.{Does, steps_on, Running, code, setting}
 use Rattle.items.proofs.Standing.{HasAt, split}

@@ -6,7 +6,7 @@ use Rattle.meaning.specs.Resolved.{ProgramOf}
 use Rattle.meaning.specs.World.{Outcome, Situation, to}
 use Rattle.meaning.specs.Meaning.{Setting, routine_at, call_in}
 use Rattle.meaning.specs.Meaning as meaning
-use Rattle.values.specs.Items.{Item}
+use Rattle.drafts.specs.Items.{Item}
 use Rattle.items.specs.Statements.{routine_items}
 use Rattle.items.specs.Stack.{Caller, State, Next, goes, ends, stuck, within, enter, return_to, step, from, exec}
 use Rattle.items.proofs.Acts.{hand, Lower}

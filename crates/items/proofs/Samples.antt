@@ -11,18 +11,14 @@ use Rattle.meaning.specs.declared.resolved.Variable.{Variable}
 use Rattle.meaning.specs.declared.resolved.Variable.TheVariants.{Local, Global}
 use Rattle.meaning.specs.Resolved.{Value, none, more, read, number, call, compare, equal, binary, prefixed, assign}
 use Rattle.meaning.specs.Resolved.{step_before, step_after, effect, if_then, if_else, while_do, do_until, for_loop}
-use Rattle.meaning.specs.Resolved.{switch_on, one, between, return_value, next, stop}
-use Rattle.meaning.specs.Resolved.{text_alone}
-use Rattle.meaning.specs.Resolved.{print, print_return, text, character_of, number_of}
+use Rattle.meaning.specs.Resolved.{switch_on, one, between, return_value, next, stop, text_alone, print, print_return}
+use Rattle.meaning.specs.Resolved.{text, character_of, number_of}
 use Rattle.meaning.specs.Resolved as source
-use Rattle.values.specs.Items.{pushed, push, into, nowhere, less, greater, same, is_zero, move, operate, step, branch}
-use Rattle.values.specs.Items.{choose, jump}
-use Rattle.items.specs.Statements.{Exits, exits_to}
-use Rattle.values.specs.Items.{back, print_text, print_character, print_number, new_line, quit}
-use Rattle.items.specs.Statements.{action_items}
-use Rattle.values.specs.Items.{apply_prefix, keep, first_equal, also_equal, drop_below}
-use Rattle.items.specs.Statements.{return_true}
-use Rattle.values.specs.Items as items
+use Rattle.drafts.specs.Items.{pushed, push, into, nowhere, less, greater, same, is_zero, move, operate, step, branch}
+use Rattle.drafts.specs.Items.{choose, jump, back, print_text, print_character, print_number, new_line, quit}
+use Rattle.drafts.specs.Items.{apply_prefix, keep, first_equal, also_equal, drop_below}
+use Rattle.items.specs.Statements.{Exits, exits_to, action_items, return_true}
+use Rattle.drafts.specs.Items as items
 
 abbrev x : Variable
 x = Local 0

@@ -5,9 +5,9 @@ use Rattle.std.specs.Prelude.{not, if◌then◌else◌, slice_get}
 use Rattle.std.proofs.lemmas.Bool.{lt-ltb}
 use Rattle.meaning.specs.World.{Outcome, Situation, Comes, to, over, Part, ◌>>=◌, give, with_value}
 use Rattle.meaning.specs.Meaning.{truth, is_true}
-use Rattle.values.specs.Items.{Item, Operand, pushed, number, Destination, push, into, nowhere, Test, is_zero}
-use Rattle.values.specs.Items.{branch_true, agrees, moved}
-use Rattle.values.specs.Items as items
+use Rattle.drafts.specs.Items.{Item, Operand, pushed, number, Destination, push, into, nowhere, Test, is_zero}
+use Rattle.drafts.specs.Items.{branch_true, agrees, moved}
+use Rattle.drafts.specs.Items as items
 use Rattle.items.specs.Stack.{Next, goes, stuck, with_operand, delivered, after_part, holds, act}
 use Rattle.items.specs.Stack as stack
 use Rattle.items.proofs.Acts.{hand, Lower, Kept, Keeps, keeps_give}

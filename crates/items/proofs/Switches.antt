@@ -1,6 +1,6 @@
 -- The cases of a `switch`.
-use Rattle.std.proofs.Common.{◌≡◌, ℕ, ◌+◌, ◌<◌, ◌≤◌, List, [], ◌∷◌, ◌++◌, length, Bool, true, false, refl}
-use Rattle.std.proofs.Common.{sym, subst, arith}
+use Rattle.std.proofs.Common.{◌≡◌, ℕ, ◌+◌, ◌<◌, ◌≤◌, List, [], ◌∷◌, ◌++◌, length, Bool, true, false, refl, sym, subst}
+use Rattle.std.proofs.Common.{arith}
 use Rattle.std.specs.Prelude.{◌||◌, ◌&&◌, ◌==◌, not, if◌then◌else◌}
 use Rattle.std.specs.List.{list_any}
 use Rattle.std.proofs.lemmas.Bool.{eqb-true}
@@ -11,16 +11,12 @@ use Rattle.meaning.specs.Accepted.{IsWhole}
 use Rattle.meaning.specs.World.{Situation, Comes, to, Part}
 use Rattle.meaning.specs.Meaning.{evaluate, Ending, goes_on, breaks, continues, returns, holds_for, behind_case}
 use Rattle.meaning.specs.Meaning.{run_cases}
-use Rattle.values.specs.Items.{Item}
+use Rattle.drafts.specs.Items.{Item, agrees, alone, alone_items, operand_count, same, less, greater}
 use Rattle.items.specs.Statements.{Group, numbers, range, groups_of, group_count, group_items, last_items, tests_count}
-use Rattle.items.specs.Statements.{tests_items, over_count, over_items}
-use Rattle.values.specs.Items.{agrees, alone, alone_items, operand_count, same}
-use Rattle.items.specs.Statements.{case_items, cases_count, cases_items}
-use Rattle.values.specs.Items.{less, greater}
-use Rattle.items.specs.Statements.{Exits}
-use Rattle.values.specs.Items as items
+use Rattle.items.specs.Statements.{tests_items, over_count, over_items, case_items, cases_count, cases_items, Exits}
+use Rattle.drafts.specs.Items as items
 use Rattle.items.specs.Stack.{Next, goes, chooses}
-use Rattle.values.proofs.Counts.{alone_length}
+use Rattle.drafts.proofs.Counts.{alone_length}
 use Rattle.items.proofs.StatementCounts.{tests_length, over_length, cases_length}
 use Rattle.items.proofs.Running.{Running, code, locals, setting}
 use Rattle.items.proofs.Standing.{HasAt, split, long}

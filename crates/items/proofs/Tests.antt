@@ -1,16 +1,16 @@
 -- What is written for the tests of a case.
 use Rattle.std.proofs.Common.{◌≡◌, ℕ, zero, suc, ◌+◌, ◌-◌, ◌<◌, ◌≤◌, List, [], ◌∷◌, ◌++◌, length, map, take, drop}
-use Rattle.std.specs.Prelude.{◌==◌}
 use Rattle.std.proofs.Common.{reverse, slice_index_or, Bool, false, refl, sym, ap, subst, ◌∙◌, arith}
+use Rattle.std.specs.Prelude.{◌==◌}
 use Rattle.std.proofs.lemmas.Bool.{eqb-false}
 use Rattle.std.proofs.lemmas.List.{map-append, reverse-append, take_more, take_all}
-use Rattle.values.specs.Items.{Item}
+use Rattle.drafts.specs.Items.{Item}
 use Rattle.items.specs.Statements.{Group, group_count, group_items, tests_items}
 use Rattle.items.specs.declared.group.Group as code_group
 use Rattle.items.specs.Code.{group_of}
-use Rattle.values.specs.Writing.{Written}
+use Rattle.drafts.specs.Writing.{Written}
 use Rattle.items.proofs.StatementCounts.{group_length}
-use Rattle.values.proofs.WrittenItems.{both, as_items}
+use Rattle.drafts.proofs.WrittenItems.{both, as_items}
 
 pub not_empty : (b : Bool) (n : ℕ) → b ≡ (n == 0) → b ≡ false → 0 < n
 not_empty b zero e is = absurd (eqb-false 0 0 (sym e ∙ is) refl)

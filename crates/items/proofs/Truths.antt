@@ -11,8 +11,8 @@ use Rattle.meaning.specs.Resolved as source
 use Rattle.meaning.specs.Accepted.{need_of}
 use Rattle.meaning.specs.World.{Situation, Comes, to, ◌>>=◌, give}
 use Rattle.meaning.specs.Meaning.{truth, is_true, equated, compared, evaluate, evaluate_all}
-use Rattle.values.specs.Items.{Item, number, Destination, push, into, nowhere, agrees, truth_items}
-use Rattle.values.specs.Items as items
+use Rattle.drafts.specs.Items.{Item, number, Destination, push, into, nowhere, agrees, truth_items}
+use Rattle.drafts.specs.Items as items
 use Rattle.items.proofs.Acts.{came}
 use Rattle.items.proofs.Running.{Running, code, setting}
 use Rattle.items.proofs.Standing.{HasAt, split, long}

@@ -1,7 +1,7 @@
 -- A variable that an evaluation cannot change keeps its word.
 use Rattle.std.proofs.Common.{◌≡◌, ℕ, List, [], ◌∷◌, ◌++◌, length, Bool, true, false, refl, ◌∙◌, subst}
-use Rattle.std.specs.Prelude.{◌||◌, ◌&&◌, ◌==◌, nat_le, nat_lt, Option, Some, None, if◌then◌else◌, codes}
-use Rattle.std.specs.Prelude.{slice_index, slice_set}
+use Rattle.std.specs.Prelude.{◌||◌, ◌&&◌, ◌==◌, nat_le, nat_lt, Option, Some, None, if◌then◌else◌, codes, slice_index}
+use Rattle.std.specs.Prelude.{slice_set}
 use Rattle.std.proofs.lemmas.Bool.{eqb-false}
 use Rattle.std.proofs.lemmas.List.{get_or-set_other}
 use Rattle.zcore.specs.Arithmetic.{quotient, remainder}
@@ -11,17 +11,17 @@ use Rattle.expressions.specs.declared.tree.Binary.TheVariants as binaries
 use Rattle.expressions.specs.declared.tree.Width.{Width}
 use Rattle.meaning.specs.declared.cause.Cause.{Cause}
 use Rattle.meaning.specs.declared.cause.Cause.TheVariants as causes
-use Rattle.meaning.specs.World.{words_of}
+use Rattle.meaning.specs.World.{words_of, Situation, Comes, to, over, Part, bound, ◌>>=◌, give, put, fault, ends}
+use Rattle.meaning.specs.World.{value_in, with_value, write_variable, array_at, is_index, read_entry, write_entry}
+use Rattle.meaning.specs.World.{is_object, words_provided, test_provided, test_single, test_word, single_word}
+use Rattle.meaning.specs.World.{write_words}
 use Rattle.meaning.specs.declared.resolved.Variable.{Variable}
 use Rattle.meaning.specs.declared.resolved.Variable.TheVariants as variables
 use Rattle.meaning.specs.Resolved.{Value, Values, none, more}
 use Rattle.meaning.specs.Resolved as source
-use Rattle.meaning.specs.World.{Situation, Comes, to, over, Part, bound, ◌>>=◌, give, put, fault, ends, value_in}
-use Rattle.meaning.specs.World.{with_value, write_variable, array_at, is_index, read_entry, write_entry, is_object}
-use Rattle.meaning.specs.World.{words_provided, test_provided, test_single, test_word, single_word, write_words}
 use Rattle.meaning.specs.Meaning.{truth, is_true, operate, equated, compared, with_prefix, stepped, early, Setting}
 use Rattle.meaning.specs.Meaning.{evaluate, evaluate_all, test_object, default_of}
-use Rattle.values.specs.Items.{is_same, is_global, changes, change}
+use Rattle.drafts.specs.Items.{is_same, is_global, changes, change}
 use Rattle.items.specs.Stack.{assigned_entry}
 
 -- where it comes to a value, the variable has this word

@@ -1,6 +1,6 @@
 -- What the items of a routine name is there.
-use Rattle.std.proofs.Common.{◌≡◌, ℕ, ◌+◌, ◌<◌, List, [], ◌∷◌, length, Option, Some, None, Bool, true}
-use Rattle.std.proofs.Common.{false, refl, arith, length-append}
+use Rattle.std.proofs.Common.{◌≡◌, ℕ, ◌+◌, ◌<◌, List, [], ◌∷◌, length, Option, Some, None, Bool, true, false, refl}
+use Rattle.std.proofs.Common.{arith, length-append}
 use Rattle.std.specs.Prelude.{◌==◌, ◌++◌}
 use Rattle.std.specs.List.{All}
 use Rattle.std.proofs.lemmas.List.Elements.{All-head, All-tail}
@@ -10,18 +10,15 @@ use Rattle.meaning.specs.declared.resolved.Variable.{Variable}
 use Rattle.meaning.specs.Resolved.{Value, none, more, Printed, Action, Actions, stop, next, CasesOf}
 use Rattle.meaning.specs.Resolved as source
 use Rattle.meaning.specs.Accepted.{IsVariable, IsValue, IsPart, IsPrinted, IsAction, AreActions, AreCases}
-use Rattle.values.specs.Items.{nowhere, alone, operand_count, branch_count, branch_items}
-use Rattle.items.specs.Statements.{printed_count, prints_count}
-use Rattle.values.specs.Items.{alone_items}
-use Rattle.items.specs.Statements.{action_count, actions_count, printed_items, prints_items, return_true}
-use Rattle.items.specs.Statements.{Exits, exits_to, action_items, actions_items, routine_items}
-use Rattle.values.specs.Items.{Test, less, greater, same}
-use Rattle.items.specs.Statements.{once_count, once_items, test_count, test_items, Group, numbers}
+use Rattle.drafts.specs.Items.{nowhere, alone, operand_count, branch_count, branch_items, alone_items, Test, less}
+use Rattle.drafts.specs.Items.{greater, same, Item, Operand, pushed, variable}
+use Rattle.items.specs.Statements.{printed_count, prints_count, action_count, actions_count, printed_items}
+use Rattle.items.specs.Statements.{prints_items, return_true, Exits, exits_to, action_items, actions_items}
+use Rattle.items.specs.Statements.{routine_items, once_count, once_items, test_count, test_items, Group, numbers}
 use Rattle.items.specs.Statements.{range, groups_of, group_count, group_items, last_items, tests_count, tests_items}
-use Rattle.items.specs.Statements.{over_count, over_items, cases_count, cases_items}
-use Rattle.values.specs.Items.{Item, Operand, pushed, variable}
-use Rattle.items.specs.Statements.{each_items, children_items, relative_items}
-use Rattle.values.specs.Items as items
+use Rattle.items.specs.Statements.{over_count, over_items, cases_count, cases_items, each_items, children_items}
+use Rattle.items.specs.Statements.{relative_items}
+use Rattle.drafts.specs.Items as items
 use Rattle.items.specs.Laws.{IsTested, IsItem, IsOperand, ItemsAreWithin}
 use Rattle.items.proofs.StatementCounts.{actions_length}
 use Rattle.items.proofs.Fine.{Bounds, Fine, either_fine, first, joined, last, last_two, nothing, operand_fine}

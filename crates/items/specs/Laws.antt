@@ -6,13 +6,12 @@ use Rattle.expressions.specs.declared.tree.Prefix.TheVariants as prefixes
 use Rattle.meaning.specs.Resolved.{RoutineOf, ProgramOf}
 use Rattle.meaning.specs.Accepted.{IsVariable, IsRoutine, IsAccepted, IsProperty}
 use Rattle.meaning.specs.Meaning.{routine_at, meaning}
-use Rattle.values.specs.Items.{Operand, variable, Destination, into, Test, is_zero, less, greater, same, Item, move}
-use Rattle.values.specs.Items.{apply_prefix, operate, step, entry, assign_entry, keep, print_character, print_number}
-use Rattle.values.specs.Items.{branch, read_line, choose, case, jump, back, call, return, print_name, relative}
+use Rattle.drafts.specs.Items.{Operand, variable, Destination, into, Test, is_zero, less, greater, same, Item, move}
+use Rattle.drafts.specs.Items.{apply_prefix, operate, step, entry, assign_entry, keep, print_character, print_number}
+use Rattle.drafts.specs.Items.{branch, read_line, choose, case, jump, back, call, return, print_name, relative}
+use Rattle.drafts.specs.Items.{property, property_size, property_word, assign_property, assign_property_word, give}
+use Rattle.drafts.specs.Items.{has, move_object, remove_object, is_in, provides, first_object, next_object}
 use Rattle.items.specs.Statements.{routine_items}
-use Rattle.values.specs.Items.{property, property_size, property_word, assign_property, assign_property_word, give}
-use Rattle.values.specs.Items.{has}
-use Rattle.values.specs.Items.{move_object, remove_object, is_in, provides, first_object, next_object}
 use Rattle.items.specs.Stack.{from, exec, start}
 
 -- in so many items the run comes to what the program means

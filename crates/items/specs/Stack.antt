@@ -22,10 +22,10 @@ use Rattle.meaning.specs.Meaning.{first_world}
 use Rattle.meaning.specs.Reading.{read_next}
 use Rattle.meaning.specs.Places.{number_in}
 use Rattle.meaning.specs.Meaning as meaning
-use Rattle.values.specs.Items.{Item, Operand, pushed, number, variable, Destination, push, into, nowhere, Test}
-use Rattle.values.specs.Items.{is_zero, less, greater, same, agrees}
+use Rattle.drafts.specs.Items.{Item, Operand, pushed, number, variable, Destination, push, into, nowhere, Test}
+use Rattle.drafts.specs.Items.{is_zero, less, greater, same, agrees}
 use Rattle.items.specs.Statements.{routine_items}
-use Rattle.values.specs.Items as items
+use Rattle.drafts.specs.Items as items
 
 -- a call that waits for another: its routine, the item to go on with, where the word goes, its stack and its locals
 pub record Caller : Type 0 where

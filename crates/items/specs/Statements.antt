@@ -6,11 +6,11 @@ use Rattle.expressions.specs.declared.tree.Relative.TheVariants as relatives
 use Rattle.meaning.specs.declared.resolved.Variable.{Variable}
 use Rattle.meaning.specs.Resolved.{Value, Printed, RangeOf, Action, Actions, stop, next, CasesOf, RoutineOf}
 use Rattle.meaning.specs.Resolved as source
-use Rattle.values.specs.Items.{keep, relative, give, move_object, remove_object, print_text, print_character}
-use Rattle.values.specs.Items.{print_number, print_name, new_line, read_line, quit, first_object, next_object, choose}
-use Rattle.values.specs.Items.{case, jump, back, return, Item, Operand, alone, alone_items, branch_count, branch_items}
-use Rattle.values.specs.Items.{branch_true, greater, if_pushed, left_of, less, nowhere, number, operand_count}
-use Rattle.values.specs.Items.{push, pushed, same, value_count, value_items, variable}
+use Rattle.drafts.specs.Items.{keep, relative, give, move_object, remove_object, print_text, print_character}
+use Rattle.drafts.specs.Items.{print_number, print_name, new_line, read_line, quit, first_object, next_object, choose}
+use Rattle.drafts.specs.Items.{case, jump, back, return, Item, Operand, alone, alone_items, branch_count, branch_items}
+use Rattle.drafts.specs.Items.{branch_true, greater, if_pushed, left_of, less, nowhere, number, operand_count, push}
+use Rattle.drafts.specs.Items.{pushed, same, value_count, value_items, variable}
 
 -- one thing that is printed
 abbrev pub printed_count : Printed → ℕ

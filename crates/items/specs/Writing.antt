@@ -8,15 +8,15 @@ use Rattle.meaning.specs.declared.resolved.Span.{Span}
 use Rattle.meaning.specs.declared.resolved.Action as code_action
 use Rattle.meaning.specs.Resolved.{Value, RangeOf, Action, Actions, CasesOf, value_of, printed_of, case_of}
 use Rattle.meaning.specs.Resolved as source
-use Rattle.values.specs.Items.{Item, Operand, push, if_pushed, value_items}
+use Rattle.drafts.specs.Items.{Item, Operand, push, if_pushed, value_items}
 use Rattle.items.specs.Statements.{prints_items, Exits, action_items, cases_items}
-use Rattle.values.specs.Items as items
-use Rattle.values.specs.Code.{as_operand, item_of}
-use Rattle.values.specs.declared.item.Item as code_item
-use Rattle.values.specs.declared.item.Operand as code_operand
-use Rattle.values.specs.declared.draft.Draft.{Draft}
+use Rattle.drafts.specs.Items as items
+use Rattle.drafts.specs.Code.{as_operand, item_of}
+use Rattle.drafts.specs.declared.item.Item as code_item
+use Rattle.drafts.specs.declared.item.Operand as code_operand
+use Rattle.drafts.specs.declared.draft.Draft.{Draft}
 use Rattle.items.specs.declared.exits.Exits as code_exits
-use Rattle.values.specs.Writing.{written_in, numbered, Written, Writes}
+use Rattle.drafts.specs.Writing.{written_in, numbered, Written, Writes}
 
 -- what `print` prints
 abbrev pub WritesPrinted : Draft → Draft → List code_printed.Printed → Type 0

@@ -2,15 +2,15 @@
 
 ghost use Rattle.std.specs.Prelude.{◌-◌, ◌∷◌, [], true, length, map, OnOk};
 ghost use Rattle.meaning.specs.Resolved.{range_of};
-ghost use Rattle.values.specs.Items.{case, same, less, greater};
+ghost use Rattle.drafts.specs.Items.{case, same, less, greater};
 ghost use Rattle.items.specs.Statements.{groups_of, group_items, last_items, tests_items, over_items};
 ghost use Rattle.items.specs.Code.{group_of};
-ghost use Rattle.values.specs.Writing.{Writes, Puts, written_in};
+ghost use Rattle.drafts.specs.Writing.{Writes, Puts, written_in};
 
 use crate::group::{Group, groups};
+use drafts::{Draft, Item, Test, put, written};
 use meaning::Span;
 use std::alloc::AllocError;
-use values::{Draft, Item, Test, put, written};
 
 /// The test of a range, whose upper end is tested last.
 fn put_lower(draft: &mut Draft<'_>, low: u16, left: usize) -> Result<(), AllocError>

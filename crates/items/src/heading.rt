@@ -4,11 +4,12 @@ ghost use Rattle.std.specs.Prelude.{◌-◌, OnOk};
 ghost use Rattle.std.specs.Option.{option_map};
 ghost use Rattle.meaning.specs.Resolved.{value_of};
 ghost use Rattle.items.specs.Statements.{once_items, test_items};
-ghost use Rattle.values.specs.Writing.{Writes};
+ghost use Rattle.drafts.specs.Writing.{Writes};
 
+use drafts::{Destination, Draft, Wanted};
 use meaning::Value;
 use std::alloc::AllocError;
-use values::{Destination, Draft, Wanted, put_value};
+use values::put_value;
 
 /// A part whose word goes nowhere, if it is there.
 pub fn put_once(draft: &mut Draft<'_>, part: &Option<Value>) -> Result<(), AllocError>

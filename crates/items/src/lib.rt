@@ -9,6 +9,6 @@ mod laws;
 mod routine;
 mod statement;
 
+pub use drafts::{Destination, Item, Operand, Test};
 pub use laws::{items_are_within, items_follow};
 pub use routine::routine_items;
-pub use values::{Destination, Item, Operand, Test};

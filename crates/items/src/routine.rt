@@ -3,13 +3,13 @@
 ghost use Rattle.std.specs.Prelude.{◌≡◌, IfOk};
 ghost use Rattle.meaning.specs.Resolved.{routine_of};
 ghost use Rattle.items.specs.Statements as statements;
-ghost use Rattle.values.specs.Code.{items_of};
+ghost use Rattle.drafts.specs.Code.{items_of};
 
 use crate::exits::Exits;
 use crate::statement::put_statements;
+use drafts::{Draft, Item, Operand, in_order, put, written};
 use meaning::CheckedRoutine;
 use std::alloc::{AllocError, Global};
-use values::{Draft, Item, Operand, in_order, put, written};
 
 /// The items of a routine: those of its statements, and then it returns true.
 ///

@@ -3,26 +3,25 @@
 ghost use Rattle.std.specs.Prelude.{◌-◌, [], ◌∷◌, map, IfOk, OnOk};
 ghost use Rattle.std.specs.Option.{option_map};
 ghost use Rattle.meaning.specs.Resolved.{block, if_then, if_else, while_do, do_until, for_loop, switch_on};
-ghost use Rattle.meaning.specs.Resolved.{return_value, value_of};
-ghost use Rattle.meaning.specs.Resolved.{give_to, move_to, remove_from, each_object, each_where, each_in};
-ghost use Rattle.meaning.specs.Resolved.{printed_of, action_of, actions_of, case_of, cases_of, other_of};
-ghost use Rattle.values.specs.Code.{as_operand};
-ghost use Rattle.values.specs.Items.{new_line};
+ghost use Rattle.meaning.specs.Resolved.{return_value, value_of, give_to, move_to, remove_from, each_object};
+ghost use Rattle.meaning.specs.Resolved.{each_where, each_in, printed_of, action_of, actions_of, case_of, cases_of};
+ghost use Rattle.meaning.specs.Resolved.{other_of};
+ghost use Rattle.drafts.specs.Code.{as_operand};
+ghost use Rattle.drafts.specs.Items.{new_line};
 ghost use Rattle.items.specs.Statements.{return_true, printed_items, relative_items};
-ghost use Rattle.values.specs.Writing.{Writes};
-ghost use Rattle.items.specs.Writing.{WritesAction, WritesPrinted, WritesTaken, WritesCases, LeavesCases};
-ghost use Rattle.items.specs.Writing.{PutsNext};
+ghost use Rattle.drafts.specs.Writing.{Writes};
+ghost use Rattle.items.specs.Writing.{WritesAction, WritesPrinted, WritesTaken, WritesCases, LeavesCases, PutsNext};
 
 use crate::cases::{put_over, put_tests};
 use crate::exits::Exits;
 use crate::heading::{put_once, put_test};
+use drafts::{
+    Destination, Draft, Item, Operand, Wanted, alone, lead_back, left_of, put, put_branch, written,
+};
 use expressions::Relative;
 use meaning::{Action, Printed, Span, Value, Variable};
 use std::alloc::AllocError;
-use values::{
-    Destination, Draft, Item, Operand, Wanted, alone, lead_back, left_of, put, put_branch,
-    put_operand, put_value, written,
-};
+use values::{put_operand, put_value};
 
 /// The items of statements, one after another.
 #[cycle(statements)]

@@ -4,13 +4,17 @@ use Rattle.std.specs.Prelude.{slice_index, slice_index_or, if◌then◌else◌}
 use Rattle.std.specs.List.{All, IsDistinct, flat_map, list_any, range_with_len, zip}
 use Rattle.journal.specs.Swap.{Fits}
 
+-- how many cells a page has, where the store goes on behind it
+abbrev pub whole_page : ℕ
+whole_page = 64
+
 -- how many cells page p has, in a store of n cells
 unfoldable pub page_len : ℕ → ℕ → ℕ
-page_len n p = min 64 (n - p * 64)
+page_len n p = min whole_page (n - p * whole_page)
 
 -- the cells of page p, in a store of n cells
 abbrev pub page_cells : ℕ → ℕ → List ℕ
-page_cells n p = range_with_len (p * 64) (page_len n p)
+page_cells n p = range_with_len (p * whole_page) (page_len n p)
 
 -- the cells of pages, in a store of n cells
 abbrev pub cells_of : ℕ → List ℕ → List ℕ
@@ -22,11 +26,11 @@ entries_of n pages values = zip (cells_of n pages) values
 
 -- the values of the first cells of page p
 abbrev pub page_values : List ℕ → ℕ → ℕ → List ℕ
-page_values cells p count = map (slice_index cells) (range_with_len (p * 64) count)
+page_values cells p count = map (slice_index cells) (range_with_len (p * whole_page) count)
 
 -- the first cells of a page with these values, as entries
 abbrev pub page_entries : ℕ → List ℕ → List (ℕ × ℕ)
-page_entries p values = zip (range_with_len (p * 64) (length values)) values
+page_entries p values = zip (range_with_len (p * whole_page) (length values)) values
 
 -- whether a page is among them
 abbrev pub keeps : List ℕ → ℕ → Bool
@@ -43,7 +47,7 @@ with_page pages p = if keeps pages p then pages else pages ++ p ∷ []
 -- distinct pages of a store of n cells, with a value for each cell
 pub record IsPaged (n : ℕ) (pages values : List ℕ) : Type 0 where
   pub distinct : IsDistinct eqb pages
-  pub named : All (λ p. p * 64 < n) pages
+  pub named : All (λ p. p * whole_page < n) pages
   pub size : length values ≡ length (cells_of n pages)
 
 -- the flags tell which pages are kept

@@ -1,7 +1,7 @@
 -- What contracts say of a store of cells, and of a turn on it.
 use Rattle.std.specs.Prelude.{◌≡◌, ℕ, ◌+◌, ◌*◌, ◌<◌, ◌≤◌, List, [], length, slice_index, slice_set}
 use Rattle.journal.specs.declared.cells.Cells.{Ghosts}
-use Rattle.journal.specs.Pages.{cells_of}
+use Rattle.journal.specs.Pages.{cells_of, whole_page}
 use Rattle.journal.specs.Recording.{Recording}
 use Rattle.journal.specs.Swap.{back, forward, Fits, FitsCell, Swapped}
 
@@ -29,7 +29,8 @@ module _ {C : Type 0} (g : Ghosts C) where
   -- the first cells of a page hold values within their bounds
   abbrev pub IsPageWithin : C → ℕ → ℕ → Type 0
   IsPageWithin store page count =
-      (k : ℕ) → page * 64 ≤ k → k < page * 64 + count → slice_index (g.cells store) k ≤ g.bounds store k
+      (k : ℕ) → page * whole_page ≤ k → k < page * whole_page + count →
+      slice_index (g.cells store) k ≤ g.bounds store k
 
   -- a store and a record beside it, as a swap leaves them
   abbrev pub swapped : C → List (ℕ × ℕ) → Swapped

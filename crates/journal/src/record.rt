@@ -3,7 +3,7 @@
 ghost use Rattle.std.specs.Prelude.{◌≡◌, ◌+◌, ◌*◌, ◌^◌, ◌<◌, ◌≤◌, ℕ, length, slice_set, slice_index};
 ghost use Rattle.std.specs.List.{All};
 ghost use Rattle.journal.specs.Swap.{back, forward};
-ghost use Rattle.journal.specs.Pages.{IsPaged, cells_of, entries_of, page_entries, page_len};
+ghost use Rattle.journal.specs.Pages.{IsPaged, cells_of, entries_of, page_entries, page_len, whole_page};
 ghost use Rattle.journal.specs.Stores.{FitsIn, GoesBack, GoesForward, MayHold, Writes, swapped};
 
 use crate::cells::Cells;
@@ -90,10 +90,10 @@ pub fn swap_forward<C: Cells>(store: &mut C, turn: &mut Record)
 
 /// How many cells a page has, in a store of `len` cells.
 pub(crate) fn page_size(len: usize, page: usize) -> usize
-    requires { page * 64 < len }
+    requires { page * whole_page < len }
     ensures result { result ≡ page_len len page }
-    ensures within { page * 64 + result ≤ len }
-    ensures page { result ≤ 64 }
+    ensures within { page * whole_page + result ≤ len }
+    ensures page { result ≤ whole_page }
 {
     let left = len - page * PAGE;
     if left < PAGE { left } else { PAGE }
@@ -103,9 +103,9 @@ pub(crate) fn page_size(len: usize, page: usize) -> usize
 /// in the offset alone are of one page, so that what a store asks of the page is asked once for all of them.
 #[inline(always)]
 pub(crate) fn cell_of(page: usize, offset: usize) -> usize
-    requires offset { offset < 64 }
-    requires within { page * 64 + offset < 2 ^ 64 }
-    ensures { result ≡ page * 64 + offset }
+    requires offset { offset < whole_page }
+    requires within { page * whole_page + offset < 2 ^ 64 }
+    ensures { result ≡ page * whole_page + offset }
 {
     page * PAGE + offset % PAGE
 }
@@ -114,14 +114,14 @@ pub(crate) fn cell_of(page: usize, offset: usize) -> usize
 /// same value still, and to compare costs less than to write.
 #[inline(always)]
 fn exchange<C: Cells>(store: &mut C, page: usize, offset: usize, held: u16, value: &mut u16)
-    requires offset { offset < 64 }
-    requires within { page * 64 + offset < 2 ^ 64 }
-    requires held { held ≡ slice_index (C.cells store.old) (page * 64 + offset) }
-    requires bound { held ≤ C.bounds store.old (page * 64 + offset) }
-    requires fits { MayHold C.Cells store.old (page * 64 + offset) value.old }
-    ensures cells { Writes C.Cells store.old store.new (page * 64 + offset) value.old }
-    ensures value { value.new ≡ slice_index (C.cells store.old) (page * 64 + offset) }
-    ensures fits { MayHold C.Cells store.new (page * 64 + offset) value.new }
+    requires offset { offset < whole_page }
+    requires within { page * whole_page + offset < 2 ^ 64 }
+    requires held { held ≡ slice_index (C.cells store.old) (page * whole_page + offset) }
+    requires bound { held ≤ C.bounds store.old (page * whole_page + offset) }
+    requires fits { MayHold C.Cells store.old (page * whole_page + offset) value.old }
+    ensures cells { Writes C.Cells store.old store.new (page * whole_page + offset) value.old }
+    ensures value { value.new ≡ slice_index (C.cells store.old) (page * whole_page + offset) }
+    ensures fits { MayHold C.Cells store.new (page * whole_page + offset) value.new }
     ensures length { length (C.cells store.new) ≡ length (C.cells store.old) }
     ensures bounds { C.bounds store.new ≡ C.bounds store.old }
     ensures fixed { C.fixed store.new ≡ C.fixed store.old }
@@ -136,9 +136,9 @@ fn exchange<C: Cells>(store: &mut C, page: usize, offset: usize, held: u16, valu
 /// that where they lie is read once for the page: behind a reference to a vector it would be read for each cell.
 #[inline(always)]
 fn exchange_back<C: Cells>(store: &mut C, page: usize, values: &mut [u16])
-    requires page { length values.old ≤ 64 }
-    requires within { page * 64 + length values.old < 2 ^ 64 }
-    requires cells { page * 64 + length values.old ≤ length (C.cells store.old) }
+    requires page { length values.old ≤ whole_page }
+    requires within { page * whole_page + length values.old < 2 ^ 64 }
+    requires cells { page * whole_page + length values.old ≤ length (C.cells store.old) }
     requires fits { FitsIn C.Cells store.old (page_entries page values.old) }
     ensures cells { GoesBack C.Cells store.old store.new (page_entries page values.old) }
     ensures entries { page_entries page values.new
@@ -161,9 +161,9 @@ fn exchange_back<C: Cells>(store: &mut C, page: usize, values: &mut [u16])
 /// Exchanges the values of a page with those of its first cells, from the first to the last; a slice for the same reason.
 #[inline(always)]
 fn exchange_forward<C: Cells>(store: &mut C, page: usize, values: &mut [u16])
-    requires page { length values.old ≤ 64 }
-    requires within { page * 64 + length values.old < 2 ^ 64 }
-    requires cells { page * 64 + length values.old ≤ length (C.cells store.old) }
+    requires page { length values.old ≤ whole_page }
+    requires within { page * whole_page + length values.old < 2 ^ 64 }
+    requires cells { page * whole_page + length values.old ≤ length (C.cells store.old) }
     requires fits { FitsIn C.Cells store.old (page_entries page values.old) }
     ensures cells { GoesForward C.Cells store.old store.new (page_entries page values.old) }
     ensures entries { page_entries page values.new

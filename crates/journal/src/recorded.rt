@@ -6,7 +6,7 @@ ghost use Rattle.std.specs.List.{range_with_len};
 ghost use Rattle.journal.specs.contracts.recorded.Recorded.{the_row};
 ghost use Rattle.journal.specs.Recording.{IsNothingKept};
 ghost use Rattle.journal.specs.Swap.{back, entry_cells, entry_values};
-ghost use Rattle.journal.specs.Pages.{IsMarked, keeps, page_len, page_values, with_page};
+ghost use Rattle.journal.specs.Pages.{IsMarked, keeps, page_len, page_values, with_page, whole_page};
 ghost use Rattle.journal.specs.Stores.{FitsIn, IsPageWithin, Writes, begun, kept_cells};
 
 use crate::cells::Cells;
@@ -99,8 +99,8 @@ impl<C: Cells> Recorded<C> {
         requires cell { i < length (C.cells self.old.store) }
         requires within { v ≤ C.bounds self.old.store i }
         ensures cells { OnOk result (Writes C.Cells self.old.store self.new.store i v) }
-        ensures kept { OnOk result (self.new.kept ≡ with_page self.old.kept (i / 64)) }
-        ensures sure { keeps self.old.kept (i / 64) ≡ true → IsOk result }
+        ensures kept { OnOk result (self.new.kept ≡ with_page self.old.kept (i / whole_page)) }
+        ensures sure { keeps self.old.kept (i / whole_page) ≡ true → IsOk result }
         ensures beginning { OnOk result (self.new.beginning ≡ self.old.beginning) }
         ensures abandoned { OnErr result ((C.cells self.new.store ≡ self.old.beginning)
             × (self.new.beginning ≡ self.old.beginning) × IsNothingKept self.new) }
@@ -123,7 +123,7 @@ impl<C: Cells> Recorded<C> {
     pub fn put_kept(&mut self, cell: usize, value: u16) -> bool
         requires cell { cell < length (C.cells self.old.store) }
         requires within { value ≤ C.bounds self.old.store cell }
-        ensures sure { result ≡ keeps self.old.kept (cell / 64) }
+        ensures sure { result ≡ keeps self.old.kept (cell / whole_page) }
         ensures same { result ≡ false → self.new ≡ self.old }
         ensures cells { result ≡ true → Writes C.Cells self.old.store self.new.store cell value }
         ensures kept { self.new.kept ≡ self.old.kept }
@@ -143,7 +143,7 @@ impl<C: Cells> Recorded<C> {
     pub fn overwrite(&mut self, cell: usize, value: u16)
         requires cell { cell < length (C.cells self.old.store) }
         requires within { value ≤ C.bounds self.old.store cell }
-        requires kept { keeps self.old.kept (cell / 64) ≡ true }
+        requires kept { keeps self.old.kept (cell / whole_page) ≡ true }
         ensures cells { Writes C.Cells self.old.store self.new.store cell value }
         ensures kept { self.new.kept ≡ self.old.kept }
         ensures beginning { self.new.beginning ≡ self.old.beginning }
@@ -166,7 +166,7 @@ impl<C: Cells> Recorded<C> {
     #[cold]
     #[inline(never)]
     fn keep(&mut self, page: usize) -> Result<(), AllocError>
-        requires page { page * 64 < length (C.cells self.old.store) }
+        requires page { page * whole_page < length (C.cells self.old.store) }
         requires new { keeps self.old.kept page ≡ false }
         ensures ok { OnOk result (self.new ≡ record {
           store = self.old.store;
@@ -248,8 +248,8 @@ fn copy_page<C: Cells>(
     count: usize,
     values: &mut Vec<u16>,
 ) -> Result<(), AllocError>
-    requires cells { page * 64 + count ≤ length (C.cells store.now) }
-    requires page { count ≤ 64 }
+    requires cells { page * whole_page + count ≤ length (C.cells store.now) }
+    requires page { count ≤ whole_page }
     ensures ok { OnOk result (values.new.items
         ≡ values.old.items ++ page_values (C.cells store.now) page count) }
     ensures within { OnOk result (IsPageWithin C.Cells store.now page count) }
@@ -266,8 +266,8 @@ fn copy_page<C: Cells>(
 /// Writes the values of the first cells of a page to the front of an array. The loop ends by `!=`: where the compiler
 /// knows that the offsets are below `PAGE`, it drops the remainder in `cell_of` before it has used it.
 pub(crate) fn read_page<C: Cells>(store: &C, page: usize, count: usize, cells: &mut [u16; PAGE])
-    requires cells { page * 64 + count ≤ length (C.cells store.now) }
-    requires page { count ≤ 64 }
+    requires cells { page * whole_page + count ≤ length (C.cells store.now) }
+    requires page { count ≤ whole_page }
     ensures read { take count cells.new ≡ page_values (C.cells store.now) page count }
     ensures within { IsPageWithin C.Cells store.now page count }
 {

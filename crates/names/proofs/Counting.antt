@@ -1,6 +1,6 @@
 -- What directives define, counted.
 use Rattle.std.proofs.Common.{ℕ, ◌+◌, ◌≤◌, ◌<◌, arith}
-use Rattle.syntax.specs.Tree.{DirectiveTree, global, constant, array, attribute, property, object, routine}
+use Rattle.directives.specs.Tree.{DirectiveTree, global, constant, array, attribute, property, object, routine}
 use Rattle.names.specs.declared.counts.Counts.{Counts}
 use Rattle.names.specs.Names.{AreFewer, no_counts, counts_after}
 

@@ -8,3 +8,5 @@ pub mod Each
 pub mod Tables
 pub mod Counting
 pub mod Dropped
+pub mod Kept
+pub mod Mapped

@@ -1,6 +1,6 @@
 //! Broken rules and their places.
 
-use lexer::Position;
+use lexer::{Position, SourceFault};
 
 /// A rule that is broken at a place.
 #[derive(Clone, Copy)]
@@ -9,4 +9,19 @@ pub struct Breach {
 
     /// The rule's number, as a source fault prints it.
     pub number: u8,
+}
+
+impl Breach {
+    ghost use Rattle.std.specs.Prelude.{◌≡◌};
+
+    /// The fault that tells of the breach: its number, and the line where it stands.
+    pub fn fault(self) -> SourceFault
+        ensures number { result.number ≡ self.number }
+        ensures line { result.line ≡ self.position.line }
+    {
+        SourceFault {
+            number: self.number,
+            line: self.position.line,
+        }
+    }
 }

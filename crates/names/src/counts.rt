@@ -15,7 +15,7 @@ pub struct Counts {
 
 impl Counts {
     ghost use Rattle.std.specs.Prelude.{◌≡◌, ◌^◌};
-    ghost use Rattle.syntax.specs.Tree.{directive_tree};
+    ghost use Rattle.directives.specs.Tree.{directive_tree};
     ghost use Rattle.names.specs.Names.{no_counts, AreFewer, counts_after};
 
     /// Before the first directive.

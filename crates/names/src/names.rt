@@ -3,7 +3,7 @@
 ghost use Rattle.std.specs.Prelude.{◌≡◌, ◌^◌, IfOk, OnOk, map};
 ghost use Rattle.expressions.specs.Tree.{name_tree};
 ghost use Rattle.statements.specs.Tree.{literal_tree};
-ghost use Rattle.syntax.specs.Tree.{directive_tree};
+ghost use Rattle.directives.specs.Tree.{directive_tree};
 ghost use Rattle.names.specs.Keys as keys;
 ghost use Rattle.names.specs.Names as spec;
 
@@ -44,7 +44,7 @@ pub fn constant_known(found: Option<Binding>) -> Option<Known>
 }
 
 /// What a literal is, where a name in it is a constant or an object of a table.
-pub fn literal_known(table: &Table, value: &Literal<'_>) -> Option<Known>
+pub fn literal_known(value: &Literal<'_>, table: &Table) -> Option<Known>
     ensures { result ≡ spec.literal_known table.now.entries (literal_tree value.now) }
 {
     match value {
@@ -65,7 +65,7 @@ fn object_first(before: Option<Binding>, anywhere: Option<Binding>) -> Option<Bi
 }
 
 // What a constant's value is, where `whole` has the objects of the file and `table` the names before it.
-fn earlier_known(whole: &Table, table: &Table, value: &Literal<'_>) -> Option<Known>
+fn earlier_known(value: &Literal<'_>, whole: &Table, table: &Table) -> Option<Known>
     ensures { result ≡ spec.earlier_known whole.now.entries table.now.entries
         (literal_tree value.now) }
 {
@@ -122,7 +122,7 @@ impl Names {
     }
 
     // What the name of a directive stands for.
-    fn binding_of(&self, whole: &Table, directive: &Directive<'_>) -> Binding
+    fn binding_of(&self, directive: &Directive<'_>, whole: &Table) -> Binding
         requires few { spec.AreFewer (2 ^ 63) self.now.counts }
         ensures { result ≡ spec.binding_of whole.now.entries self.now.table.entries
             self.now.counts (directive_tree directive.now) }
@@ -130,7 +130,7 @@ impl Names {
         match directive {
             Directive::Global(_, _) => Binding::Global(self.counts.globals),
             Directive::Constant(_, value) => {
-                Binding::Constant(or_zero(earlier_known(whole, &self.table, value)))
+                Binding::Constant(or_zero(earlier_known(value, whole, &self.table)))
             }
             Directive::Array(array) => Binding::Array(self.counts.arrays, array.kind),
             Directive::Attribute(_) => Binding::Attribute(self.counts.attributes),
@@ -147,7 +147,7 @@ impl Names {
     /// # Errors
     ///
     /// `AllocError` where memory is refused.
-    pub fn add(&mut self, whole: &Table, directive: &Directive<'_>) -> Result<(), AllocError>
+    pub fn add(&mut self, directive: &Directive<'_>, whole: &Table) -> Result<(), AllocError>
         requires few { spec.AreFewer (2 ^ 63) self.old.counts }
         ensures table { OnOk result (self.new.table.entries
             ≡ spec.with_directive whole.now.entries self.old.table.entries self.old.counts
@@ -155,8 +155,8 @@ impl Names {
         ensures counts { OnOk result (self.new.counts
             ≡ spec.counts_after self.old.counts (directive_tree directive.now)) }
     {
-        let binding = self.binding_of(whole, directive);
-        define(&mut self.table, defined_name(directive), binding)?;
+        let binding = self.binding_of(directive, whole);
+        define(defined_name(directive), &mut self.table, binding)?;
         self.counts.add(directive);
         Ok(())
     }
@@ -165,9 +165,9 @@ impl Names {
 // The names of a file, where `whole` has its objects.
 #[tactic(auto, using(crate::proofs::Counting::counts_fit, crate::proofs::Counting::fewer))]
 fn tabulate_with(
+    directives: &[Directive<'_>],
     alloc: Global,
     whole: &Table,
-    directives: &[Directive<'_>],
 ) -> Result<Table, AllocError>
     ensures { IfOk result (λ t. t.entries
         ≡ spec.table_from whole.now.entries spec.first_table spec.no_counts
@@ -175,7 +175,7 @@ fn tabulate_with(
 {
     let mut names = Names::new(alloc)?;
     for directive in directives {
-        names.add(whole, directive)?;
+        names.add(directive, whole)?;
     }
     Ok(names.table)
 }
@@ -186,10 +186,10 @@ fn tabulate_with(
 ///
 /// `AllocError` where memory is refused.
 #[tactic(auto, unfolding(crate::specs::Names::table_of))]
-pub fn tabulate(alloc: Global, directives: &[Directive<'_>]) -> Result<Table, AllocError>
+pub fn tabulate(directives: &[Directive<'_>], alloc: Global) -> Result<Table, AllocError>
     ensures { IfOk result (λ t. t.entries ≡ spec.table_of (map directive_tree directives.now)) }
 {
     let none = IndexMap::new(alloc);
-    let whole = tabulate_with(alloc, &none, directives)?;
-    tabulate_with(alloc, &whole, directives)
+    let whole = tabulate_with(directives, alloc, &none)?;
+    tabulate_with(directives, alloc, &whole)
 }

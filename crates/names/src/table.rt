@@ -34,7 +34,7 @@ pub fn find(table: &Table, name: &[u8]) -> Option<Binding>
 /// # Errors
 ///
 /// `AllocError` where memory is refused.
-pub fn define(table: &mut Table, name: Name<'_>, binding: Binding) -> Result<(), AllocError>
+pub fn define(name: Name<'_>, table: &mut Table, binding: Binding) -> Result<(), AllocError>
     ensures { OnOk result (table.new.entries
         ≡ with_name table.old.entries (name_tree name.entry) binding) }
 {

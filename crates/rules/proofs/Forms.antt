@@ -1,16 +1,14 @@
 -- Lists of statements, cases and their parts: what they break and what they resolve to, part by part.
-use Rattle.std.proofs.Common.{◌≡◌, ℕ, List, [], ◌∷◌, ◌++◌, append_assoc, Bool, Option, Some, None, refl, sym, ap, ◌∙◌}
+use Rattle.std.proofs.Common.{◌≡◌, List, [], ◌∷◌, ◌++◌, append_assoc, Option, Some, None, refl, sym, ap, ◌∙◌}
 use Rattle.std.proofs.Common.{subst}
 use Rattle.std.specs.Prelude.{map}
 use Rattle.std.specs.Global.{Vec}
 use Rattle.std.specs.List.{flat_map}
 use Rattle.lexer.specs.declared.token.Position.{Position}
-use Rattle.expressions.specs.declared.tree.Name.{Name}
 use Rattle.expressions.specs.Tree.{ExpressionTree}
 use Rattle.statements.specs.declared.tree.Statement.{Statement}
-use Rattle.statements.specs.declared.tree.PrintItem.{PrintItem}
 use Rattle.statements.specs.declared.tree.Range.{Range}
-use Rattle.statements.specs.Tree.{StatementTree, flag_tree, item_tree, statement_tree, range_tree, case_tree}
+use Rattle.statements.specs.Tree.{StatementTree, statement_tree, range_tree, case_tree}
 use Rattle.meaning.proofs.Mapped.{mapped_twice}
 use Rattle.statements.specs.Tree as written
 use Rattle.meaning.specs.declared.around.Around.{Around}
@@ -20,16 +18,14 @@ use Rattle.names.specs.Names.{Seen}
 use Rattle.meaning.specs.Resolved as values
 use Rattle.meaning.specs.declared.resolved.Action as code_action
 use Rattle.meaning.specs.declared.resolved.Span.{Span}
-use Rattle.meaning.specs.Resolved.{Value, RangeOf, Printed, Action, Actions, range_of, actions_of, action_of, case_of}
-use Rattle.rules.specs.Statements.{range_breaches, resolve_range, flag_breaches, resolve_flag, item_breaches}
-use Rattle.rules.specs.Statements.{resolve_item, statements_breaches, cases_breaches, resolve_statement}
-use Rattle.rules.specs.Statements.{resolve_statements, resolve_cases}
+use Rattle.meaning.specs.Resolved.{Value, RangeOf, Action, Actions, range_of, actions_of, action_of, case_of}
+use Rattle.simple_rules.specs.Statements.{range_breaches, resolve_range, statements_breaches, cases_breaches}
+use Rattle.simple_rules.specs.Statements.{resolve_statement, resolve_statements, resolve_cases}
 use Rattle.meaning.specs.Around.{in_switch}
 use Rattle.value_rules.specs.Walk.{IsWalked}
-use Rattle.rules.specs.Walk.{AreItems, AreActions, own_item_breaches, resolved_item, own_flag_breaches, resolved_flag}
-use Rattle.rules.specs.Walk.{AreFlags, own_statement_breaches, resolved_statement, own_range_breaches, resolved_range}
-use Rattle.rules.specs.Walk.{IsWhole, IsAction, AreRanges, IsCase, AreCases, IsOther, own_case_breaches, resolved_case}
-use Rattle.rules.specs.Walk.{other_breaches, resolved_other}
+use Rattle.simple_rules.specs.Walk.{own_range_breaches, resolved_range, IsWhole, IsAction, AreRanges}
+use Rattle.rules.specs.Walk.{AreActions, own_statement_breaches, resolved_statement, IsCase, AreCases, IsOther}
+use Rattle.rules.specs.Walk.{own_case_breaches, resolved_case, other_breaches, resolved_other}
 use Rattle.value_rules.proofs.Walks.{two}
 
 module _ (seen : Seen) where
@@ -45,29 +41,6 @@ module _ (seen : Seen) where
   statements_resolve [] = refl
   statements_resolve (s ∷ ss) = ap (λ r. values.next (resolved_statement seen s) r) (statements_resolve ss)
 
-  flags_break : (xs : List (Bool × Name)) → flat_map (flag_breaches seen.look) (map flag_tree xs)
-      ≡ flat_map (own_flag_breaches seen) xs
-  flags_break [] = refl
-  flags_break (x ∷ xs) = ap (λ b. own_flag_breaches seen x ++ b) (flags_break xs)
-
-  pub flags_walked : (xs : List (Bool × Name)) (found : List (Bool × ℕ)) {m n : Option Breach}
-      → AreFlags seen xs m n found
-      → IsWalked (flat_map (flag_breaches seen.look) (map flag_tree xs)) m n found
-      (map (resolve_flag seen) (map flag_tree xs))
-  flags_walked xs found {m = m} w = record {
-    value = w.value ∙ sym (mapped_twice flag_tree (resolve_flag seen) (resolved_flag seen) (λ x. refl) xs);
-    breaches = w.breaches ∙ ap (λ b. noted m b) (sym (flags_break xs));
-  }
-
-  pub items_break : (xs : List PrintItem) → flat_map (item_breaches seen.look) (map item_tree xs)
-      ≡ flat_map (own_item_breaches seen) xs
-  items_break [] = refl
-  items_break (x ∷ xs) = ap (λ b. own_item_breaches seen x ++ b) (items_break xs)
-
-  pub items_resolve : (xs : List PrintItem) → map (resolve_item seen) (map item_tree xs) ≡ map (resolved_item seen) xs
-  items_resolve [] = refl
-  items_resolve (x ∷ xs) = ap (λ r. resolved_item seen x ∷ r) (items_resolve xs)
-
   pub statements_walked : (around : Around) (ss : List Statement) (found : List Action) {m n : Option Breach}
       → AreActions seen around ss m n found
       → IsWalked (statements_breaches seen.look around (written.trees_of (map statement_tree ss))) m n
@@ -76,14 +49,6 @@ module _ (seen : Seen) where
   statements_walked around ss found {m = m} w = record {
     value = ap actions_of w.value ∙ sym (statements_resolve ss);
     breaches = w.breaches ∙ ap (λ b. noted m b) (sym (statements_break around ss));
-  }
-
-  pub items_walked : (xs : List PrintItem) (found : List Printed) {m n : Option Breach} → AreItems seen xs m n found
-      → IsWalked (flat_map (item_breaches seen.look) (map item_tree xs)) m n found
-      (map (resolve_item seen) (map item_tree xs))
-  items_walked xs found {m = m} w = record {
-    value = w.value ∙ sym (items_resolve xs);
-    breaches = w.breaches ∙ ap (λ b. noted m b) (sym (items_break xs));
   }
 
   -- Ranges and cases

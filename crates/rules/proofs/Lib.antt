@@ -1,6 +1,4 @@
 pub mod Shapes
 pub mod MadeActions
-pub mod HeadingNeeds
 pub mod Forms
-pub mod ReadNames
 mod Samples

@@ -1,41 +1,16 @@
--- Rules of statements on objects, and what these resolve to, computed.
-use Rattle.std.proofs.Common.{◌≡◌, ℕ, zero, suc, true, false, [], ◌∷◌, refl}
+-- Rules of `objectloop`, and what it resolves to, computed.
+use Rattle.std.proofs.Common.{◌≡◌, true, [], refl}
 use Rattle.std.specs.Prelude.{codes}
-use Rattle.expressions.specs.declared.tree.Binary.TheVariants as op
 use Rattle.expressions.specs.declared.tree.ObjectTest.TheVariants as tests
-use Rattle.expressions.specs.Tree.{ExpressionTree, constant, named, parenthesised, binary, tested}
-use Rattle.statements.specs.Tree.{give, move, remove, each, each_in, each_where, break_at, empty}
+use Rattle.expressions.specs.Tree.{named, tested}
+use Rattle.statements.specs.Tree.{each, each_in, each_where, break_at, empty}
 use Rattle.meaning.specs.Around.{outside}
 use Rattle.meaning.specs.declared.resolved.Variable.TheVariants as variables
 use Rattle.meaning.specs.Resolved as values
 use Rattle.names.specs.Breaches.{at}
 use Rattle.names.specs.Names.{key_of}
-use Rattle.rules.specs.Statements.{statement_breaches, resolve_statement}
+use Rattle.simple_rules.specs.Statements.{statement_breaches, resolve_statement}
 use Rattle.value_rules.proofs.SampleFile.{p, the, look, seen, box}
-
--- 1 + (1 + (1 + ..)), which needs one more than it has operators
-abbrev sum : ℕ → ExpressionTree
-sum zero = constant 1
-sum (suc n) = binary op.Add (constant 1) (parenthesised (sum n))
-
--- the operands of a `move` are those of one form
-remove_fits : statement_breaches look outside (remove (p 0) (sum 47)) ≡ []
-remove_fits = refl
-
-move_does_not : statement_breaches look outside (move (p 0) (constant 1) (sum 47)) ≡ at (p 0) 29
-move_does_not = refl
-
--- give box open ~open;
-gives : resolve_statement seen (give (p 0) (box 1) ((true, the 2 (codes "open")) ∷ (false, the 3 (codes "open")) ∷ []))
-    ≡ values.give_to (values.number 1) ((true, 0) ∷ (false, 0) ∷ [])
-unfolding key_of
-gives = refl
-
--- give box open size;
-gives_no_property : statement_breaches look outside
-    (give (p 0) (box 1) ((true, the 2 (codes "open")) ∷ (true, the 3 (codes "size")) ∷ [])) ≡ at (p 3) 23
-unfolding key_of
-gives_no_property = refl
 
 -- objectloop (g) break;
 loops : statement_breaches look outside (each (the 1 (codes "g")) (break_at (p 2))) ≡ []

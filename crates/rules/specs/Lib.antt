@@ -1,3 +1,1 @@
-pub mod Buffers
-pub mod Statements
 pub mod Walk

@@ -1,11 +1,6 @@
 //! The rules of statements, and what these resolve to.
 #![tactic(auto)]
 
-mod buffer_rules;
-mod case_rules;
-mod heading_rules;
-mod loop_rules;
-mod simple_rules;
 mod statement_rules;
 
 pub use statement_rules::all_statements;

@@ -7,16 +7,14 @@ ghost use Rattle.statements.specs.Tree.{statement_tree, trees_of, heading_tree, 
 ghost use Rattle.meaning.specs.Around.{in_switch};
 ghost use Rattle.names.specs.Scope.{seen_in};
 ghost use Rattle.meaning.specs.Resolved.{action_of, case_of, other_of};
-ghost use Rattle.rules.specs.Walk.{IsAction, GivesAction, AreActions, IsCase, AreCases, IsOther};
+ghost use Rattle.simple_rules.specs.Walk.{IsAction, GivesAction};
+ghost use Rattle.rules.specs.Walk.{AreActions, IsCase, AreCases, IsOther};
 
-use crate::case_rules::ranges;
-use crate::heading_rules::heading;
-use crate::loop_rules::loop_variable;
-use crate::simple_rules::{simple, whole};
 use expressions::{Expression, Name};
 use lexer::Position;
 use meaning::{Action, Around, IN_LOOP, Span, in_switch};
 use names::{Breach, Scope};
+use simple_rules::{heading, loop_variable, ranges, simple, whole};
 use statements::{Heading, Loop, Range, Statement};
 use std::alloc::{AllocError, Global};
 
@@ -37,33 +35,33 @@ fn statement<'a>(
         Statement::Simple(plain) => simple(plain, alloc, scope, around, least),
         Statement::Block(all) => block(all, alloc, scope, around, least),
         Statement::If(position, condition, then) => {
-            if_then(then, alloc, scope, around, *position, condition, least)
+            if_then(then, condition, alloc, scope, around, *position, least)
         }
         Statement::IfElse(position, condition, then, otherwise) => {
             if_else(
-                then, otherwise, alloc, scope, around, *position, condition, least,
+                then, otherwise, condition, alloc, scope, around, *position, least,
             )
         }
         Statement::While(position, condition, body) => {
-            while_do(body, alloc, scope, *position, condition, least)
+            while_do(body, condition, alloc, scope, *position, least)
         }
         Statement::Do(position, body, condition) => {
-            do_until(body, alloc, scope, *position, condition, least)
+            do_until(body, condition, alloc, scope, *position, least)
         }
         Statement::For(position, parts, body) => {
-            for_loop(body, alloc, scope, *position, parts, least)
+            for_loop(body, parts, alloc, scope, *position, least)
         }
         Statement::Objectloop(position, over, body) => {
-            traversal(body, alloc, scope, *position, over, least)
+            traversal(body, over, alloc, scope, *position, least)
         }
         Statement::Switch(position, value, cases, other) => switch_on(
             cases,
             other,
+            value,
             alloc,
             scope,
             in_switch(around),
             *position,
-            value,
             least,
         ),
     }
@@ -129,17 +127,17 @@ fn block<'a>(
 #[cycle(statement)]
 fn if_then<'a>(
     body: &Box<Statement<'a>>,
+    condition: &Expression<'_>,
     alloc: Global,
     scope: &Scope<'_>,
     around: Around,
     position: Position,
-    condition: &Expression<'_>,
     least: &mut Option<Breach>,
 ) -> Result<Action<'a>, AllocError>
     ensures { GivesAction (seen_in scope.now) around result least.old least.new
         (trees.if_then position (expression_tree condition.now) (statement_tree body.now.value)) }
 {
-    let Ok(condition) = whole(alloc, scope, position, condition, least) else {
+    let Ok(condition) = whole(condition, alloc, scope, position, least) else {
         return Err(AllocError);
     };
     let Ok(body) = boxed(body, alloc, scope, around, least) else {
@@ -153,18 +151,18 @@ fn if_then<'a>(
 fn if_else<'a>(
     first: &Box<Statement<'a>>,
     otherwise: &Box<Statement<'a>>,
+    condition: &Expression<'_>,
     alloc: Global,
     scope: &Scope<'_>,
     around: Around,
     position: Position,
-    condition: &Expression<'_>,
     least: &mut Option<Breach>,
 ) -> Result<Action<'a>, AllocError>
     ensures { GivesAction (seen_in scope.now) around result least.old least.new
         (trees.if_else position (expression_tree condition.now) (statement_tree first.now.value)
         (statement_tree otherwise.now.value)) }
 {
-    let Ok(condition) = whole(alloc, scope, position, condition, least) else {
+    let Ok(condition) = whole(condition, alloc, scope, position, least) else {
         return Err(AllocError);
     };
     let Ok(first) = boxed(first, alloc, scope, around, least) else {
@@ -181,16 +179,16 @@ fn if_else<'a>(
 #[cycle(statement)]
 fn while_do<'a>(
     body: &Box<Statement<'a>>,
+    condition: &Expression<'_>,
     alloc: Global,
     scope: &Scope<'_>,
     position: Position,
-    condition: &Expression<'_>,
     least: &mut Option<Breach>,
 ) -> Result<Action<'a>, AllocError>
     ensures { (around : _) → GivesAction (seen_in scope.now) around result least.old least.new
         (trees.while_do position (expression_tree condition.now) (statement_tree body.now.value)) }
 {
-    let Ok(condition) = whole(alloc, scope, position, condition, least) else {
+    let Ok(condition) = whole(condition, alloc, scope, position, least) else {
         return Err(AllocError);
     };
     let Ok(body) = boxed(body, alloc, scope, IN_LOOP, least) else {
@@ -203,10 +201,10 @@ fn while_do<'a>(
 #[cycle(statement)]
 fn do_until<'a>(
     body: &Box<Statement<'a>>,
+    condition: &Expression<'_>,
     alloc: Global,
     scope: &Scope<'_>,
     position: Position,
-    condition: &Expression<'_>,
     least: &mut Option<Breach>,
 ) -> Result<Action<'a>, AllocError>
     ensures { (around : _) → GivesAction (seen_in scope.now) around result least.old least.new
@@ -215,7 +213,7 @@ fn do_until<'a>(
     let Ok(body) = boxed(body, alloc, scope, IN_LOOP, least) else {
         return Err(AllocError);
     };
-    let Ok(condition) = whole(alloc, scope, position, condition, least) else {
+    let Ok(condition) = whole(condition, alloc, scope, position, least) else {
         drop(body);
         return Err(AllocError);
     };
@@ -225,17 +223,17 @@ fn do_until<'a>(
 #[cycle(statement)]
 fn for_loop<'a>(
     body: &Box<Statement<'a>>,
+    given: &Heading<'_>,
     alloc: Global,
     scope: &Scope<'_>,
     position: Position,
-    given: &Heading<'_>,
     least: &mut Option<Breach>,
 ) -> Result<Action<'a>, AllocError>
     ensures { (around : _) → GivesAction (seen_in scope.now) around result least.old least.new
         (trees.for_loop position (heading_tree given.now).before (heading_tree given.now).test
         (heading_tree given.now).behind (statement_tree body.now.value)) }
 {
-    let Ok((before, test, behind)) = heading(alloc, scope, position, given, least) else {
+    let Ok((before, test, behind)) = heading(given, alloc, scope, position, least) else {
         return Err(AllocError);
     };
     let Ok(body) = boxed(body, alloc, scope, IN_LOOP, least) else {
@@ -250,9 +248,9 @@ fn for_loop<'a>(
 #[cycle(statement)]
 fn each<'a>(
     body: &Box<Statement<'a>>,
+    name: Name<'_>,
     alloc: Global,
     scope: &Scope<'_>,
-    name: Name<'_>,
     least: &mut Option<Breach>,
 ) -> Result<Action<'a>, AllocError>
     ensures { (around : _) → GivesAction (seen_in scope.now) around result least.old least.new
@@ -268,11 +266,11 @@ fn each<'a>(
 #[cycle(statement)]
 fn each_in<'a>(
     body: &Box<Statement<'a>>,
+    name: Name<'_>,
+    parent: &Expression<'_>,
     alloc: Global,
     scope: &Scope<'_>,
     position: Position,
-    name: Name<'_>,
-    parent: &Expression<'_>,
     least: &mut Option<Breach>,
 ) -> Result<Action<'a>, AllocError>
     ensures { (around : _) → GivesAction (seen_in scope.now) around result least.old least.new
@@ -280,7 +278,7 @@ fn each_in<'a>(
         (statement_tree body.now.value)) }
 {
     let variable = loop_variable(name, scope.look(name.text), least);
-    let Ok(parent) = whole(alloc, scope, position, parent, least) else {
+    let Ok(parent) = whole(parent, alloc, scope, position, least) else {
         return Err(AllocError);
     };
     let Ok(body) = boxed(body, alloc, scope, IN_LOOP, least) else {
@@ -293,11 +291,11 @@ fn each_in<'a>(
 #[cycle(statement)]
 fn each_where<'a>(
     body: &Box<Statement<'a>>,
+    name: Name<'_>,
+    condition: &Expression<'_>,
     alloc: Global,
     scope: &Scope<'_>,
     position: Position,
-    name: Name<'_>,
-    condition: &Expression<'_>,
     least: &mut Option<Breach>,
 ) -> Result<Action<'a>, AllocError>
     ensures { (around : _) → GivesAction (seen_in scope.now) around result least.old least.new
@@ -305,7 +303,7 @@ fn each_where<'a>(
         (statement_tree body.now.value)) }
 {
     let variable = loop_variable(name, scope.look(name.text), least);
-    let Ok(condition) = whole(alloc, scope, position, condition, least) else {
+    let Ok(condition) = whole(condition, alloc, scope, position, least) else {
         return Err(AllocError);
     };
     let Ok(body) = boxed(body, alloc, scope, IN_LOOP, least) else {
@@ -319,20 +317,20 @@ fn each_where<'a>(
 #[cycle(statement)]
 fn traversal<'a>(
     body: &Box<Statement<'a>>,
+    over: &Loop<'_>,
     alloc: Global,
     scope: &Scope<'_>,
     position: Position,
-    over: &Loop<'_>,
     least: &mut Option<Breach>,
 ) -> Result<Action<'a>, AllocError>
     ensures { (around : _) → GivesAction (seen_in scope.now) around result least.old least.new
         (trees.loop_over position (loop_tree over.now) (statement_tree body.now.value)) }
 {
     match over {
-        Loop::All(name) => each(body, alloc, scope, *name, least),
-        Loop::In(name, parent) => each_in(body, alloc, scope, position, *name, parent, least),
+        Loop::All(name) => each(body, *name, alloc, scope, least),
+        Loop::In(name, parent) => each_in(body, *name, parent, alloc, scope, position, least),
         Loop::Where(name, condition) => {
-            each_where(body, alloc, scope, position, *name, condition, least)
+            each_where(body, *name, condition, alloc, scope, position, least)
         }
     }
 }
@@ -349,7 +347,7 @@ fn one_case<'a>(
     ensures { IfOk result (λ x. IsCase (seen_in scope.now) around given.now
         least.old least.new (case_of x)) }
 {
-    let Ok(spans) = ranges(alloc, scope, &given.0, least) else {
+    let Ok(spans) = ranges(&given.0, alloc, scope, least) else {
         return Err(AllocError);
     };
     let Ok(body) = sequence(&given.1, alloc, scope, around, least) else {
@@ -406,11 +404,11 @@ fn otherwise<'a>(
 fn switch_on<'a>(
     cases: &[(Vec<Range<'a>>, Vec<Statement<'a>>)],
     other: &Option<Vec<Statement<'a>>>,
+    value: &Expression<'_>,
     alloc: Global,
     scope: &Scope<'_>,
     inside: Around,
     position: Position,
-    value: &Expression<'_>,
     least: &mut Option<Breach>,
 ) -> Result<Action<'a>, AllocError>
     ensures { (around : _) → inside ≡ in_switch around
@@ -418,7 +416,7 @@ fn switch_on<'a>(
         (trees.switch_on position (expression_tree value.now)
         (trees.cases_of (map case_tree cases.now) (other_tree other.now))) }
 {
-    let Ok(value) = whole(alloc, scope, position, value, least) else {
+    let Ok(value) = whole(value, alloc, scope, position, least) else {
         return Err(AllocError);
     };
     let Ok(cases) = all_cases(cases, alloc, scope, inside, least) else {
@@ -439,10 +437,10 @@ fn switch_on<'a>(
 ///
 /// `AllocError` where memory is refused.
 pub fn all_statements<'a>(
+    all: &[Statement<'a>],
     alloc: Global,
     scope: &Scope<'_>,
     around: Around,
-    all: &[Statement<'a>],
     least: &mut Option<Breach>,
 ) -> Result<Vec<Action<'a>>, AllocError>
     ensures { IfOk result (λ v. AreActions (seen_in scope.now) around all.now

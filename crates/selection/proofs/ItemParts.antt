@@ -1,10 +1,10 @@
 -- The bytes of an item from those of its instructions.
 use Rattle.std.proofs.Common.{◌≡◌, ℕ, List, [], ◌++◌, sym, ap, ◌∙◌, append-nil}
 use Rattle.zcore.specs.Instruction.{Instruction}
-use Rattle.instructions.specs.Addresses.{Addresses}
-use Rattle.instructions.specs.Bytes.{bytes_of_all}
+use Rattle.encoding.specs.Addresses.{Addresses}
+use Rattle.encoding.specs.Bytes.{bytes_of_all}
 use Rattle.selection.specs.ItemCode.{read_code}
-use Rattle.instructions.proofs.Chains.{all_joined, three_joined}
+use Rattle.encoding.proofs.Chains.{all_joined, three_joined}
 
 -- Two lists of instructions, and three. They stand here too since the search tries the lemmas of its own crate.
 pub two_parts : (xs ys : List Instruction) (b b1 b2 : List ℕ) → b1 ≡ b ++ bytes_of_all xs

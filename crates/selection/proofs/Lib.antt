@@ -1,2 +1,1 @@
 pub mod ItemParts
-pub mod ObjectTests

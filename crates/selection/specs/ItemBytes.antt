@@ -3,10 +3,10 @@ use Rattle.std.specs.Prelude.{ℕ, List, [], ◌++◌, map}
 use Rattle.std.specs.List.{filter}
 use Rattle.ztext.specs.Alphabets.{is_printable}
 use Rattle.ztext.specs.Abbreviations.{encoded_with}
-use Rattle.values.specs.Items.{Item}
-use Rattle.values.specs.Items as items
-use Rattle.instructions.specs.Addresses.{Addresses, Sizes}
-use Rattle.instructions.specs.Bytes.{bytes_of_all, character_of}
+use Rattle.drafts.specs.Items.{Item}
+use Rattle.drafts.specs.Items as items
+use Rattle.encoding.specs.Addresses.{Addresses, Sizes}
+use Rattle.encoding.specs.Bytes.{bytes_of_all, character_of}
 use Rattle.selection.specs.ItemCode.{item_code}
 
 -- the text that follows an instruction `print`, with these abbreviations; what cannot be printed is left out, and no

@@ -1,20 +1,8 @@
--- What the values of the code stand for.
-use Rattle.std.specs.Prelude.{if◌then◌else◌, Option, Some, None, ℕ}
-use Rattle.zcore.specs.declared.instruction.Operand.{Operand}
-use Rattle.values.specs.Items.{Item}
-use Rattle.values.specs.Items as items
-use Rattle.instructions.specs.Instructions.{is_between, constant, word_in}
-use Rattle.instructions.specs.Written.{sizes_in}
-use Rattle.instructions.specs.declared.addresses.Sizes as counted
-use Rattle.selection.specs.ItemCode.{objects_of}
+-- What an item is about.
+use Rattle.drafts.specs.Items.{Item}
+use Rattle.drafts.specs.Items as items
 use Rattle.selection.specs.declared.kind.Kind.{Kind}
 use Rattle.selection.specs.declared.kind.Kind.TheVariants.{Words, Printing, Tree, Properties, ByObject, Flow}
-
--- what stands for an operand that is tested; none for a number that is none of those
-abbrev pub found_in : ℕ → ℕ → ℕ → items.Operand → Option Operand
-found_in n low end items.pushed = Some (word_in n items.pushed)
-found_in n low end (items.number i) = if is_between low end i then Some (constant i) else None
-found_in n low end (items.variable x) = Some (word_in n (items.variable x))
 
 -- what an item is about
 abbrev pub kind_of : Item → Kind
@@ -56,6 +44,3 @@ kind_of (items.jump target) = Flow
 kind_of (items.back target) = Flow
 kind_of (items.call r os d) = Flow
 kind_of (items.return o) = Flow
-
-abbrev pub objects_in : counted.Sizes → ℕ
-objects_in s = objects_of (sizes_in s)

@@ -3,21 +3,22 @@
 ghost use Rattle.std.specs.Prelude.{◌≡◌, ◌++◌, ◌%◌, [], ◌∷◌, slice_index, OnOk};
 ghost use Rattle.zcore.specs.declared.instruction.Operand.TheVariants.{Large, Variable};
 ghost use Rattle.meaning.specs.declared.cause.Cause.TheVariants.{IndexOutOfRange};
-ghost use Rattle.values.specs.Items as source_items;
-ghost use Rattle.values.specs.Code.{as_operand, as_destination};
-ghost use Rattle.instructions.specs.Instructions as basic;
-ghost use Rattle.instructions.specs.Bytes.{AddsCode};
-ghost use Rattle.instructions.specs.Written.{addresses_of};
-ghost use Rattle.selection.specs.ItemCode.{tested_index, at_index, entry_code, passed_on, assign_entry_code};
+ghost use Rattle.drafts.specs.Items as source_items;
+ghost use Rattle.drafts.specs.Code.{as_operand, as_destination};
+ghost use Rattle.encoding.specs.Instructions as basic;
+ghost use Rattle.encoding.specs.Bytes.{AddsCode};
+ghost use Rattle.encoding.specs.Written.{addresses_of};
+ghost use Rattle.selection.specs.ItemCode.{tested_index, at_index, entry_code, assign_entry_code};
+ghost use Rattle.object_selection.specs.ObjectCode.{passed_on};
 ghost use Rattle.selection.specs.ItemCode as spec;
 
-use expressions::Width;
-use instructions::{
-    Addresses, FIRST, FIRST_NEGATIVE, Operands, SECOND, Sizes, array_address, constant, giving,
-    in_place, plain, pull, push, put_all, put_fail, put_tested_between, result_in, store,
-    variable_number,
+use drafts::Destination;
+use encoding::{
+    Addresses, FIRST, Operands, SECOND, Sizes, array_address, constant, giving, in_place, plain,
+    pull, push, put_all, result_in, store, variable_number,
 };
-use items::Destination;
+use expressions::Width;
+use instructions::{FIRST_NEGATIVE, put_fail, put_tested_between};
 use meaning::Cause;
 use std::alloc::AllocError;
 use zcore::{Operand, Operation};
@@ -122,7 +123,7 @@ fn put_load(
 }
 
 /// An entry at an index in a variable.
-#[tactic(auto, using(instructions::proofs::Chains::all_joined))]
+#[tactic(auto, using(encoding::proofs::Chains::all_joined))]
 fn put_tested_entry(
     bytes: &mut Vec<u8>,
     addresses: &Addresses<'_>,
@@ -160,12 +161,12 @@ fn put_entry_at(
 }
 
 /// An entry of an array.
-#[tactic(auto, using(instructions::proofs::Chains::all_joined))]
+#[tactic(auto, using(encoding::proofs::Chains::all_joined))]
 pub fn put_entry(
     bytes: &mut Vec<u8>,
     addresses: &Addresses<'_>,
     array: Array,
-    index: items::Operand,
+    index: drafts::Operand,
     destination: Destination,
 ) -> Result<(), AllocError>
     ensures { OnOk result (AddsCode bytes.old bytes.new
@@ -173,14 +174,14 @@ pub fn put_entry(
         (as_operand index) (as_destination destination))) }
 {
     match index {
-        items::Operand::Pushed => {
+        drafts::Operand::Pushed => {
             put_all(bytes, &[pull(FIRST)])?;
             put_tested_entry(bytes, addresses, array, FIRST, destination)
         }
-        items::Operand::Number(number) => {
+        drafts::Operand::Number(number) => {
             put_entry_at(bytes, addresses, array, number, destination)
         }
-        items::Operand::Variable(variable) => {
+        drafts::Operand::Variable(variable) => {
             let number = variable_number(variable);
             put_tested_entry(bytes, addresses, array, number, destination)
         }
@@ -211,7 +212,7 @@ fn put_store(
 }
 
 /// A word is assigned to the entry at an index in a variable.
-#[tactic(auto, using(instructions::proofs::Chains::all_joined))]
+#[tactic(auto, using(encoding::proofs::Chains::all_joined))]
 fn put_tested_store(
     bytes: &mut Vec<u8>,
     addresses: &Addresses<'_>,
@@ -252,12 +253,12 @@ fn put_store_at(
 }
 
 /// A word that stands in an instruction is assigned to an entry, and goes on.
-#[tactic(auto, using(instructions::proofs::Chains::all_joined))]
+#[tactic(auto, using(encoding::proofs::Chains::all_joined))]
 fn put_assigned(
     bytes: &mut Vec<u8>,
     addresses: &Addresses<'_>,
     array: Array,
-    index: items::Operand,
+    index: drafts::Operand,
     word: Operand,
     destination: Destination,
 ) -> Result<(), AllocError>
@@ -267,14 +268,14 @@ fn put_assigned(
         (Large array.address ∷ i ∷ word ∷ []) ∷ passed_on (as_destination destination) word))) }
 {
     match index {
-        items::Operand::Pushed => {
+        drafts::Operand::Pushed => {
             put_all(bytes, &[pull(FIRST)])?;
             put_tested_store(bytes, addresses, array, FIRST, word, destination)
         }
-        items::Operand::Number(number) => {
+        drafts::Operand::Number(number) => {
             put_store_at(bytes, addresses, array, number, word, destination)
         }
-        items::Operand::Variable(variable) => {
+        drafts::Operand::Variable(variable) => {
             let number = variable_number(variable);
             put_tested_store(bytes, addresses, array, number, word, destination)
         }
@@ -282,13 +283,13 @@ fn put_assigned(
 }
 
 /// A word is assigned to an entry of an array, and goes on. A pushed one is above a pushed index: it is taken first.
-#[tactic(auto, using(instructions::proofs::Chains::all_joined))]
+#[tactic(auto, using(encoding::proofs::Chains::all_joined))]
 pub fn put_assign_entry(
     bytes: &mut Vec<u8>,
     addresses: &Addresses<'_>,
     array: Array,
-    index: items::Operand,
-    word: items::Operand,
+    index: drafts::Operand,
+    word: drafts::Operand,
     destination: Destination,
 ) -> Result<(), AllocError>
     ensures { OnOk result (AddsCode bytes.old bytes.new
@@ -296,7 +297,7 @@ pub fn put_assign_entry(
         (as_operand index) (as_operand word) (as_destination destination))) }
 {
     match word {
-        items::Operand::Pushed => {
+        drafts::Operand::Pushed => {
             put_all(bytes, &[pull(SECOND)])?;
             let taken = Operand::Variable(SECOND);
             put_assigned(bytes, addresses, array, index, taken, destination)

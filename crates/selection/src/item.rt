@@ -2,10 +2,10 @@
 
 ghost use Rattle.std.specs.Prelude.{◌≡◌, ◌%◌, [], ◌∷◌, slice_index, OnOk};
 ghost use Rattle.zcore.specs.declared.instruction.Operation.TheVariants.{PrintNumber};
-ghost use Rattle.values.specs.Code.{item_of, as_operand};
-ghost use Rattle.instructions.specs.Instructions as basic;
-ghost use Rattle.instructions.specs.Bytes.{Adds, AddsCode};
-ghost use Rattle.instructions.specs.Written.{addresses_of, sizes_in};
+ghost use Rattle.drafts.specs.Code.{item_of, as_operand};
+ghost use Rattle.encoding.specs.Instructions as basic;
+ghost use Rattle.encoding.specs.Bytes.{Adds, AddsCode};
+ghost use Rattle.encoding.specs.Written.{addresses_of, sizes_in};
 ghost use Rattle.selection.specs.declared.kind.Kind.TheVariants.{Words, Printing, Tree, Properties, ByObject, Flow};
 ghost use Rattle.selection.specs.ItemCode as spec;
 ghost use Rattle.selection.specs.ItemBytes.{item_bytes};
@@ -14,19 +14,18 @@ ghost use Rattle.selection.specs.Written.{kind_of};
 use crate::entries::{array_of, put_assign_entry, put_entry};
 use crate::kind::{Kind, kind_of};
 use crate::lines::put_read;
-use crate::moves::{put_first_object, put_move_object, put_next_object};
-use crate::objects::{put_give, put_has, put_is_in, put_on_object, put_relative};
-use crate::properties::{
-    put_assign_property, put_assign_property_word, put_property, put_property_size,
-    put_property_word, put_provides,
-};
+use drafts::Item;
+use encoding::{Addresses, Operands, Sizes, in_place, plain, pull, put_all, routine_address};
 use expressions::Width;
 use instructions::{
-    Addresses, Operands, Sizes, in_place, plain, pull, put_all, put_also_equal, put_binary,
-    put_branch, put_call, put_case, put_character, put_choose, put_first_equal, put_jump, put_keep,
-    put_move, put_prefix, put_return, put_step, put_text, routine_address,
+    put_also_equal, put_binary, put_branch, put_call, put_case, put_character, put_choose,
+    put_first_equal, put_jump, put_keep, put_move, put_prefix, put_return, put_step, put_text,
 };
-use items::Item;
+use object_selection::{
+    put_assign_property, put_assign_property_word, put_first_object, put_give, put_has, put_is_in,
+    put_move_object, put_next_object, put_on_object, put_property, put_property_size,
+    put_property_word, put_provides, put_relative,
+};
 use std::alloc::{AllocError, Global};
 use zcore::Operation;
 
@@ -45,7 +44,7 @@ fn put_drop_below(bytes: &mut Vec<u8>) -> Result<(), AllocError>
 }
 
 /// A word is printed as a signed number.
-fn put_print_number(bytes: &mut Vec<u8>, operand: items::Operand) -> Result<(), AllocError>
+fn put_print_number(bytes: &mut Vec<u8>, operand: drafts::Operand) -> Result<(), AllocError>
     ensures { OnOk result (AddsCode bytes.old bytes.new
         (basic.plain PrintNumber (basic.in_place (as_operand operand) ∷ []) ∷ [])) }
 {

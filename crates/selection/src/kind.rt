@@ -1,10 +1,10 @@
 //! What items are about.
 
 ghost use Rattle.std.specs.Prelude.{◌≡◌};
-ghost use Rattle.values.specs.Code.{item_of};
+ghost use Rattle.drafts.specs.Code.{item_of};
 ghost use Rattle.selection.specs.Written as spec;
 
-use items::Item;
+use drafts::Item;
 
 /// What an item is about.
 #[derive(Clone, Copy)]

@@ -5,8 +5,5 @@ mod entries;
 mod item;
 mod kind;
 mod lines;
-mod moves;
-mod objects;
-mod properties;
 
 pub use item::put_item;

@@ -1,14 +1,13 @@
 //! Lines that a story reads.
 
 ghost use Rattle.std.specs.Prelude.{◌≡◌, ◌<◌, ◌∷◌, OnOk};
-ghost use Rattle.instructions.specs.Bytes.{AddsCode};
-ghost use Rattle.instructions.specs.Written.{addresses_of, instruction_of};
+ghost use Rattle.encoding.specs.Bytes.{AddsCode};
+ghost use Rattle.encoding.specs.Written.{addresses_of, instruction_of};
 ghost use Rattle.selection.specs.ItemCode as spec;
 
 use crate::entries::Array;
-use instructions::{
-    Addresses, FIRST, Instruction, Operands, giving, plain, put_all, put_tested_between,
-};
+use encoding::{Addresses, FIRST, Instruction, Operands, giving, plain, put_all};
+use instructions::put_tested_between;
 use meaning::Cause;
 use std::alloc::AllocError;
 use zcore::{Operand, Operation};
@@ -39,7 +38,7 @@ fn first_byte(address: u16) -> Instruction
 
 /// Byte 0 of an array is tested: where it is not from 1 to the most, the text of the fault is printed, and the story
 /// ends.
-#[tactic(auto, using(instructions::proofs::Chains::all_joined))]
+#[tactic(auto, using(encoding::proofs::Chains::all_joined))]
 fn put_tested_first(
     bytes: &mut Vec<u8>,
     addresses: &Addresses<'_>,
@@ -71,7 +70,7 @@ fn put_line(bytes: &mut Vec<u8>, text: u16, parse: u16) -> Result<(), AllocError
 }
 
 /// The next line goes to an array for its letters and an array for its words.
-#[tactic(auto, using(instructions::proofs::Chains::three_joined))]
+#[tactic(auto, using(encoding::proofs::Chains::three_joined))]
 pub fn put_read(
     bytes: &mut Vec<u8>,
     addresses: &Addresses<'_>,

@@ -11,12 +11,11 @@ use Rattle.expressions.specs.declared.tree.Width.{Width}
 use Rattle.meaning.specs.Resolved.{Value, Values, none, more}
 use Rattle.meaning.specs.Resolved as source
 use Rattle.meaning.specs.Accepted.{count_of}
-use Rattle.values.specs.Items.{Item, Operand, pushed, Destination, push, operand_of}
-use Rattle.values.specs.Items.{operands_of, alone, left_of, if_pushed, branch_true, is_few, comparison_test}
-use Rattle.values.specs.Items.{comparison_when, equality_when, value_count, operand_count, operands_count}
-use Rattle.values.specs.Items.{branch_count, many_count, truth_items}
-use Rattle.values.specs.Items.{value_items, operands_items, branch_items, many_items, also_items}
-use Rattle.values.specs.Items as items
+use Rattle.drafts.specs.Items.{Item, Operand, pushed, Destination, push, operand_of, operands_of, alone, left_of}
+use Rattle.drafts.specs.Items.{if_pushed, branch_true, is_few, comparison_test, comparison_when, equality_when}
+use Rattle.drafts.specs.Items.{value_count, operand_count, operands_count, branch_count, many_count, truth_items}
+use Rattle.drafts.specs.Items.{value_items, operands_items, branch_items, many_items, also_items}
+use Rattle.drafts.specs.Items as items
 use Rattle.sizes.proofs.Most.{most_of, tokens, list_tokens, alternative_tokens, or_tokens, most_append, if_small}
 use Rattle.sizes.proofs.Most.{truth_small, either_small, operands_length, alternatives_are}
 

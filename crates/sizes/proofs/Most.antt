@@ -5,12 +5,12 @@ use Rattle.meaning.specs.Resolved as source
 use Rattle.meaning.specs.Resolved.{Value, Values, none, more}
 use Rattle.meaning.specs.declared.resolved.Variable.{Variable}
 use Rattle.expressions.specs.declared.tree.Step.{Step}
-use Rattle.values.specs.Items as items
-use Rattle.values.specs.Items.{Item, Operand, pushed, number, variable, Destination, push, into, nowhere, operand_of}
-use Rattle.values.specs.Items.{operands_of, alone, left_of, if_pushed, branch_true, agrees, is_few, comparison_test}
-use Rattle.values.specs.Items.{comparison_when, equality_when, value_count, operand_count, operands_count}
-use Rattle.values.specs.Items.{branch_count, many_count, moved, truth_items, after_items, kept_items, and_items}
-use Rattle.values.specs.Items.{or_items, value_items, operands_items, branch_items, many_items, also_items}
+use Rattle.drafts.specs.Items as items
+use Rattle.drafts.specs.Items.{Item, Operand, pushed, number, variable, Destination, push, into, nowhere, operand_of}
+use Rattle.drafts.specs.Items.{operands_of, alone, left_of, if_pushed, branch_true, agrees, is_few, comparison_test}
+use Rattle.drafts.specs.Items.{comparison_when, equality_when, value_count, operand_count, operands_count}
+use Rattle.drafts.specs.Items.{branch_count, many_count, moved, truth_items, after_items, kept_items, and_items}
+use Rattle.drafts.specs.Items.{or_items, value_items, operands_items, branch_items, many_items, also_items}
 use Rattle.std.proofs.Common.{◌≡◌, ℕ, ◌+◌, ◌*◌, ◌≤◌, List, [], ◌∷◌, ◌++◌, length, Bool, true, false, refl, arith}
 use Rattle.std.specs.Prelude.{if◌then◌else◌, ◌+◌, ◌*◌, ℕ, List, [], ◌∷◌, length}
 

@@ -12,9 +12,10 @@ use Rattle.expressions.specs.declared.tree.Step.TheVariants as steps
 use Rattle.expressions.specs.declared.tree.Width.TheVariants as widths
 use Rattle.statements.specs.Tree as s
 use Rattle.statements.specs.Tree.{StatementTree, StatementTrees, RangeTree}
-use Rattle.syntax.specs.declared.tree.ArrayKind.TheVariants as kinds
-use Rattle.syntax.specs.Tree as d
-use Rattle.syntax.specs.Tree.{DirectiveTree, ProgramTree}
+use Rattle.directives.specs.declared.tree.ArrayKind.TheVariants as kinds
+use Rattle.directives.specs.Tree as d
+use Rattle.directives.specs.Tree.{DirectiveTree}
+use Rattle.syntax.specs.Tree.{ProgramTree}
 use Rattle.zcore.specs.Arithmetic.{signed_text, decimal, quotient, remainder}
 use Rattle.zcore.specs.declared.place.Place.TheVariants as places
 use Rattle.zcore.specs.declared.place.Limit.TheVariants as limits

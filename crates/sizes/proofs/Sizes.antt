@@ -1,32 +1,32 @@
 -- How many bytes items have.
-use Rattle.std.proofs.Common.{◌≡◌, ◌≤◌, ◌+◌, ◌-◌, ◌%◌, ℕ, List, [], ◌∷◌, ◌++◌, length}
-use Rattle.std.proofs.Common.{take, refl, ap, arith, append-nil}
+use Rattle.std.proofs.Common.{◌≡◌, ◌≤◌, ◌+◌, ◌-◌, ◌%◌, ℕ, List, [], ◌∷◌, ◌++◌, length, take, refl, ap, arith}
+use Rattle.std.proofs.Common.{append-nil}
 use Rattle.std.specs.Prelude.{slice_index}
 use Rattle.zcore.specs.declared.instruction.Operation.TheVariants as operations
 use Rattle.zcore.specs.Instruction.{Instruction, bytes_of}
 use Rattle.forms.specs.Layout.{first, form_for, offset_over, part_size, lefts}
-use Rattle.values.specs.Items.{Item}
-use Rattle.values.specs.Items as items
-use Rattle.instructions.specs.Instructions.{plain, in_place, binary_code}
-use Rattle.instructions.specs.Instructions.{prefix_code, move_code, step_code, character_code, call_code, return_code}
-use Rattle.instructions.specs.Instructions.{most_arguments, choose_code}
-use Rattle.instructions.specs.Addresses.{Sizes}
-use Rattle.instructions.specs.Bytes.{bytes_of_all}
-use Rattle.selection.specs.ItemCode.{entry_code, assign_entry_code, read_code, objects_of}
-use Rattle.selection.specs.ItemCode.{relative_code, is_in_code, has_code, provides_code, give_code, remove_code}
-use Rattle.selection.specs.ItemCode.{print_name_code, property_code, property_size_code, property_word_code}
-use Rattle.selection.specs.ItemCode.{assign_property_code, assign_property_word_code, move_object_code}
-use Rattle.selection.specs.ItemCode.{first_object_code, next_object_code}
+use Rattle.drafts.specs.Items.{Item}
+use Rattle.drafts.specs.Items as items
+use Rattle.encoding.specs.Instructions.{plain, in_place, most_arguments}
+use Rattle.instructions.specs.Instructions.{binary_code, prefix_code, move_code, step_code, character_code, call_code}
+use Rattle.instructions.specs.Instructions.{return_code, choose_code}
+use Rattle.encoding.specs.Addresses.{Sizes}
+use Rattle.encoding.specs.Bytes.{bytes_of_all}
+use Rattle.selection.specs.ItemCode.{entry_code, assign_entry_code, read_code}
+use Rattle.object_selection.specs.ObjectCode.{objects_of, relative_code, is_in_code, has_code, provides_code}
+use Rattle.object_selection.specs.ObjectCode.{give_code, remove_code, print_name_code, property_code}
+use Rattle.object_selection.specs.ObjectCode.{property_size_code, property_word_code, assign_property_code}
+use Rattle.object_selection.specs.ObjectCode.{assign_property_word_code, move_object_code, first_object_code}
+use Rattle.object_selection.specs.ObjectCode.{next_object_code}
 use Rattle.code.specs.Bytes.{no_addresses, part_of, parts_of, code_size}
 use Rattle.sizes.proofs.Most.{most, most_of}
 use Rattle.code.proofs.AddressLengths.{one_length}
 use Rattle.sizes.proofs.SizesOfInstructions.{operand_few}
 use Rattle.sizes.proofs.SizesOfOperands.{plain_few, label_few}
 use Rattle.sizes.proofs.SizesOfObjects.{relative_few, remove_few, name_few, give_few, is_in_few, has_few}
+use Rattle.sizes.proofs.SizesOfObjects.{move_object_few, first_object_few, next_object_few}
 use Rattle.sizes.proofs.SizesOfProperties.{provides_few, property_few, property_size_few, property_word_few}
-use Rattle.sizes.proofs.SizesOfObjects.{move_object_few}
 use Rattle.sizes.proofs.SizesOfProperties.{assign_property_few, assign_property_word_few}
-use Rattle.sizes.proofs.SizesOfObjects.{first_object_few, next_object_few}
 use Rattle.sizes.proofs.SizesOfTexts.{text_few}
 use Rattle.sizes.proofs.SizesOfOperations.{binary_few, prefix_few, move_few, step_few, character_few, entry_few}
 use Rattle.sizes.proofs.SizesOfOperations.{assign_few}

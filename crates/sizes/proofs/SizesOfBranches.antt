@@ -1,6 +1,6 @@
 -- How many bytes the items have that branch, and those of `switch`.
-use Rattle.std.proofs.Common.{◌≡◌, ◌≤◌, ◌+◌, ◌-◌, ◌*◌, ℕ, Bool, false, List, [], ◌∷◌, length}
-use Rattle.std.proofs.Common.{take, refl, arith, length-append}
+use Rattle.std.proofs.Common.{◌≡◌, ◌≤◌, ◌+◌, ◌-◌, ◌*◌, ℕ, Bool, false, List, [], ◌∷◌, length, take, refl, arith}
+use Rattle.std.proofs.Common.{length-append}
 use Rattle.std.specs.Prelude.{nat_lt, map}
 use Rattle.std.specs.List.{flat_map}
 use Rattle.std.proofs.lemmas.List.{length-take}
@@ -9,15 +9,14 @@ use Rattle.zcore.specs.declared.instruction.Operation.TheVariants as operations
 use Rattle.zcore.specs.Operations.{has_more_types}
 use Rattle.zcore.specs.Instruction.{operand_bytes, bytes_of}
 use Rattle.forms.specs.Layout.{form_for, offset_over, part_size}
-use Rattle.values.specs.Items.{Test}
-use Rattle.values.specs.Items as items
-use Rattle.instructions.specs.Instructions as spec
-use Rattle.instructions.specs.Instructions.{constant, operands, takes}
+use Rattle.drafts.specs.Items.{Test}
+use Rattle.drafts.specs.Items as items
+use Rattle.encoding.specs.Instructions as spec
+use Rattle.encoding.specs.Instructions.{constant, operands, takes, most_tested}
 use Rattle.instructions.specs.Instructions.{labelled, test_operation, tested_code, least_word, branch_code}
-use Rattle.instructions.specs.Instructions.{most_tested, chosen_variable, choose_code}
-use Rattle.instructions.specs.Instructions.{most_compared, compared, case_code}
-use Rattle.instructions.specs.Addresses.{Sizes}
-use Rattle.instructions.specs.Bytes.{bytes_of_all}
+use Rattle.instructions.specs.Instructions.{chosen_variable, choose_code, most_compared, compared, case_code}
+use Rattle.encoding.specs.Addresses.{Sizes}
+use Rattle.encoding.specs.Bytes.{bytes_of_all}
 use Rattle.code.specs.Bytes.{part_of}
 use Rattle.code.proofs.AddressLengths.{all_length}
 use Rattle.code.proofs.BranchLengths.{labelled_length}

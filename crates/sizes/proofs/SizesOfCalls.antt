@@ -1,18 +1,19 @@
 -- How many bytes the items have that read a line, return or call.
-use Rattle.std.proofs.Common.{◌≤◌, ◌+◌, ◌*◌, ◌==◌, ℕ, Bool, true, false, List, [], ◌∷◌, ◌++◌, length}
-use Rattle.std.proofs.Common.{take, refl, arith}
+use Rattle.std.proofs.Common.{◌≤◌, ◌+◌, ◌*◌, ◌==◌, ℕ, Bool, true, false, List, [], ◌∷◌, ◌++◌, length, take, refl}
+use Rattle.std.proofs.Common.{arith}
 use Rattle.std.specs.Prelude.{nat_lt, if◌then◌else◌}
 use Rattle.std.proofs.lemmas.List.{length-take}
 use Rattle.zcore.specs.declared.instruction.Operand.TheVariants.{Large, Small, Variable}
 use Rattle.zcore.specs.declared.instruction.Operation.TheVariants as operations
 use Rattle.zcore.specs.Operations.{count_of, number_of, has_more_types}
 use Rattle.zcore.specs.Instruction.{Instruction, result_bytes, bytes_of}
-use Rattle.values.specs.Items.{Destination}
+use Rattle.drafts.specs.Items.{Destination}
 use Rattle.meaning.specs.declared.cause.Cause.TheVariants as causes
-use Rattle.values.specs.Items as items
-use Rattle.instructions.specs.Instructions as spec
-use Rattle.instructions.specs.Instructions.{plain, constant, takes, call_result, calling, call_code, return_code}
-use Rattle.instructions.specs.Bytes.{bytes_of_all}
+use Rattle.drafts.specs.Items as items
+use Rattle.encoding.specs.Instructions as spec
+use Rattle.encoding.specs.Instructions.{plain, constant, takes}
+use Rattle.instructions.specs.Instructions.{call_result, calling, call_code, return_code}
+use Rattle.encoding.specs.Bytes.{bytes_of_all}
 use Rattle.selection.specs.ItemCode.{first_byte, tested_first, letters_in, words_in, line_code, read_code}
 use Rattle.code.specs.Bytes.{no_addresses}
 use Rattle.sizes.proofs.Most.{most}

@@ -8,17 +8,17 @@ use Rattle.expressions.specs.Tree.{ExpressionTree}
 use Rattle.statements.specs.Tree.{RangeTree, StatementTrees, CaseTrees}
 use Rattle.statements.specs.Tree as statements
 use Rattle.statements.specs.Grammar.{IsRanges, ranges_last, ranges_comma}
-use Rattle.syntax.specs.Weight.{range_weights, case_weights}
+use Rattle.directives.specs.Weight.{range_weights, case_weights}
 use Rattle.names.specs.Names.{Seen}
 use Rattle.value_rules.specs.Expressions.{resolve}
 use Rattle.meaning.specs.Resolved.{RangeOf}
 use Rattle.meaning.specs.Resolved as resolved
-use Rattle.rules.specs.Statements.{resolve_range, resolve_statements, resolve_cases}
-use Rattle.values.specs.Items.{operand_count, alone, alone_items}
+use Rattle.simple_rules.specs.Statements.{resolve_range, resolve_statements, resolve_cases}
+use Rattle.drafts.specs.Items.{operand_count, alone, alone_items}
 use Rattle.items.specs.Statements.{Group, numbers, range, with_number, groups_of, group_count, group_items}
-use Rattle.items.specs.Statements.{tests_count, tests_items, over_count, over_items}
-use Rattle.items.specs.Statements.{actions_count, cases_count, Exits, actions_items, cases_items}
-use Rattle.values.specs.Items as items
+use Rattle.items.specs.Statements.{tests_count, tests_items, over_count, over_items, actions_count, cases_count, Exits}
+use Rattle.items.specs.Statements.{actions_items, cases_items}
+use Rattle.drafts.specs.Items as items
 use Rattle.sizes.proofs.Most.{most_of, most_append}
 use Rattle.sizes.proofs.SizesOfExpressions.{Fits, few_alone}
 use Rattle.sizes.proofs.SizesOfStatements.{StatementFits, BodyFits}

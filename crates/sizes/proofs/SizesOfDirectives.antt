@@ -6,14 +6,15 @@ use Rattle.expressions.specs.Tree.{NameTree}
 use Rattle.statements.specs.Tree.{LiteralTree}
 use Rattle.statements.specs.Grammar.{IsK, k_number, k_negative, k_character, k_word, k_true, k_false, k_nothing}
 use Rattle.statements.specs.Grammar.{k_name}
-use Rattle.syntax.specs.Tree.{ValueTree, TextTree, HeadTree, PropertyTree}
-use Rattle.syntax.specs.Grammar.{weight_of, v_value, IsValues, values_stop, values_next, IsArrows, arrows_stop}
-use Rattle.syntax.specs.Grammar.{arrows_next, IsShort, short_none, short_text, IsHead, head_arrows, head_parent}
-use Rattle.syntax.specs.Grammar.{IsProp, prop_values, IsProps, props_last, props_comma, IsComma, comma_none, comma_one}
-use Rattle.syntax.specs.Grammar.{IsProperties, properties_none, properties_with, IsAttributes, attributes_none}
-use Rattle.syntax.specs.Grammar.{attributes_has}
-use Rattle.syntax.proofs.SpelledStatements.{spelled_Names}
-use Rattle.syntax.proofs.Spelled.{weighs}
+use Rattle.directives.specs.Tree.{ValueTree, TextTree, HeadTree, PropertyTree}
+use Rattle.directives.specs.Grammar.{weight_of, v_value, IsValues, values_stop, values_next, IsArrows, arrows_stop}
+use Rattle.directives.specs.Grammar.{arrows_next, IsShort, short_none, short_text, IsHead, head_arrows, head_parent}
+use Rattle.directives.specs.Grammar.{IsProp, prop_values, IsProps, props_last, props_comma, IsComma, comma_none}
+use Rattle.directives.specs.Grammar.{comma_one}
+use Rattle.directives.specs.Grammar.{IsProperties, properties_none, properties_with, IsAttributes, attributes_none}
+use Rattle.directives.specs.Grammar.{attributes_has}
+use Rattle.directives.proofs.SpelledStatements.{spelled_Names}
+use Rattle.directives.proofs.Spelled.{weighs}
 
 pub value_weight : {ts r : List Lexeme} {k : LiteralTree} → IsK ts k r → weight_of r ≤ weight_of ts
 value_weight k_number = omega arith

@@ -9,22 +9,23 @@ use Rattle.expressions.specs.declared.tree.Relative.{Relative}
 use Rattle.expressions.specs.declared.tree.Relative.TheVariants as relatives
 use Rattle.meaning.specs.declared.cause.Cause.TheVariants as causes
 use Rattle.meaning.specs.declared.resolved.Variable as source
-use Rattle.values.specs.Items.{Destination}
-use Rattle.values.specs.Items as items
-use Rattle.instructions.specs.Addresses.{fault_address}
-use Rattle.instructions.specs.Instructions.{plain, giving, branching, fail, labelled, result_in, temporary, number_of}
-use Rattle.instructions.specs.Instructions.{pulled_into, word_in, store}
-use Rattle.instructions.specs.Bytes.{bytes_of_all}
-use Rattle.selection.specs.ItemCode as spec
-use Rattle.selection.specs.ItemCode.{tests_in, assigned_takes, assigned_word, at_object, at_label}
-use Rattle.selection.specs.ItemCode.{relative_of, relative_code, is_in_code, has_code, changing, give_code}
-use Rattle.selection.specs.ItemCode.{climbing, moved_into, move_object_code}
-use Rattle.selection.specs.ItemCode.{first_object_code, next_object_code, tested_in, jump_by}
+use Rattle.drafts.specs.Items.{Destination}
+use Rattle.drafts.specs.Items as items
+use Rattle.encoding.specs.Addresses.{fault_address}
+use Rattle.encoding.specs.Instructions.{plain, giving, branching, fail, result_in, temporary, number_of, pulled_into}
+use Rattle.encoding.specs.Instructions.{word_in, store}
+use Rattle.instructions.specs.Instructions.{labelled}
+use Rattle.encoding.specs.Bytes.{bytes_of_all}
+use Rattle.object_selection.specs.ObjectCode as spec
+use Rattle.object_selection.specs.ObjectCode.{tests_in, assigned_takes, assigned_word, at_object, at_label}
+use Rattle.object_selection.specs.ObjectCode.{relative_of, relative_code, is_in_code, has_code, changing, give_code}
+use Rattle.object_selection.specs.ObjectCode.{climbing, moved_into, move_object_code, first_object_code}
+use Rattle.object_selection.specs.ObjectCode.{next_object_code, tested_in, jump_by}
 use Rattle.code.specs.Bytes.{no_addresses}
 use Rattle.code.proofs.AddressLengths.{all_length, one_length}
 use Rattle.sizes.proofs.SizesOfInstructions.{few_bytes, one_count, two_count}
-use Rattle.sizes.proofs.SizesOfOperands.{plain_few, store_few, pulled_into_few}
-use Rattle.sizes.proofs.SizesOfOperands.{word_in_few, FewAt, in_few, at_few, tests_in_few, labelled_few}
+use Rattle.sizes.proofs.SizesOfOperands.{plain_few, store_few, pulled_into_few, word_in_few, FewAt, in_few, at_few}
+use Rattle.sizes.proofs.SizesOfOperands.{tests_in_few, labelled_few}
 
 -- what is done with an object
 pub object_few : (objects : ℕ) (o : items.Operand) (act : Operand → List Instruction) (n : ℕ) → FewAt act n

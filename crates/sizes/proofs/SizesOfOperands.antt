@@ -13,14 +13,14 @@ use Rattle.forms.specs.declared.layout.Form.TheVariants as form
 use Rattle.forms.specs.declared.layout.Form.{Form}
 use Rattle.forms.specs.Layout.{size_with}
 use Rattle.meaning.specs.declared.cause.Cause.{Cause}
-use Rattle.values.specs.Items.{Destination}
-use Rattle.values.specs.Items as items
-use Rattle.instructions.specs.Addresses.{fault_address}
-use Rattle.instructions.specs.Instructions as spec
-use Rattle.instructions.specs.Instructions.{plain, giving, constant, fail, labelled, branching, pull, is_between}
-use Rattle.instructions.specs.Instructions.{tested_between, pulled_into, word_in}
-use Rattle.instructions.specs.Bytes.{bytes_of_all}
-use Rattle.selection.specs.ItemCode.{tests_in, tested_in, at_tested, passed_on}
+use Rattle.drafts.specs.Items.{Destination}
+use Rattle.drafts.specs.Items as items
+use Rattle.encoding.specs.Addresses.{fault_address}
+use Rattle.encoding.specs.Instructions as spec
+use Rattle.encoding.specs.Instructions.{plain, giving, constant, fail, branching, pull, pulled_into, word_in}
+use Rattle.instructions.specs.Instructions.{labelled, is_between, tested_between}
+use Rattle.encoding.specs.Bytes.{bytes_of_all}
+use Rattle.object_selection.specs.ObjectCode.{tests_in, tested_in, at_tested, passed_on}
 use Rattle.code.specs.Bytes.{no_addresses}
 use Rattle.code.proofs.AddressLengths.{all_length, one_length}
 use Rattle.code.proofs.BranchLengths.{labelled_length, beside}

@@ -18,16 +18,17 @@ use Rattle.expressions.specs.declared.tree.Width.{Width}
 use Rattle.expressions.specs.declared.tree.Width.TheVariants as widths
 use Rattle.meaning.specs.declared.resolved.Variable as source
 use Rattle.meaning.specs.Meaning.{is_character}
-use Rattle.values.specs.Items.{Destination}
+use Rattle.drafts.specs.Items.{Destination}
 use Rattle.meaning.specs.declared.cause.Cause.TheVariants as causes
-use Rattle.values.specs.Items as items
-use Rattle.instructions.specs.Instructions as spec
-use Rattle.instructions.specs.Instructions.{plain, giving, in_place, constant, operands}
-use Rattle.instructions.specs.Instructions.{takes, result_in, fail, arithmetic, divided, binary_code}
-use Rattle.instructions.specs.Instructions.{prefix_code, move_code, step_code, character_code}
-use Rattle.instructions.specs.Bytes.{bytes_of_all}
-use Rattle.selection.specs.ItemCode.{entries_in, load_operation, store_operation, at_index}
-use Rattle.selection.specs.ItemCode.{entry_code, assigned_takes, assigned_word, passed_on, assign_entry_code}
+use Rattle.drafts.specs.Items as items
+use Rattle.encoding.specs.Instructions as spec
+use Rattle.encoding.specs.Instructions.{plain, giving, in_place, constant, operands, takes, result_in, fail}
+use Rattle.instructions.specs.Instructions.{arithmetic, divided, binary_code, prefix_code, move_code, step_code}
+use Rattle.instructions.specs.Instructions.{character_code}
+use Rattle.encoding.specs.Bytes.{bytes_of_all}
+use Rattle.selection.specs.ItemCode.{entries_in, load_operation, store_operation, at_index, entry_code}
+use Rattle.selection.specs.ItemCode.{assign_entry_code}
+use Rattle.object_selection.specs.ObjectCode.{assigned_takes, assigned_word, passed_on}
 use Rattle.code.specs.Bytes.{no_addresses}
 use Rattle.code.proofs.AddressLengths.{all_length, one_length}
 use Rattle.sizes.proofs.SizesOfInstructions.{few_bytes, constant_few, operand_few, one_count, three_count, taken_few}

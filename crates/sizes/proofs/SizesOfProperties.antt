@@ -6,16 +6,18 @@ use Rattle.zcore.specs.declared.instruction.Operand.TheVariants.{Large, Small, V
 use Rattle.zcore.specs.declared.instruction.Operation.TheVariants as operations
 use Rattle.zcore.specs.Instruction.{operand_bytes, bytes_of}
 use Rattle.meaning.specs.declared.cause.Cause.TheVariants as causes
-use Rattle.values.specs.Items.{Destination}
-use Rattle.values.specs.Items as items
-use Rattle.instructions.specs.Addresses.{fault_address}
-use Rattle.instructions.specs.Instructions.{plain, giving, fail, labelled, result_in, temporary, pulled_into, word_in}
-use Rattle.instructions.specs.Bytes.{bytes_of_all}
-use Rattle.selection.specs.ItemCode.{assigned_takes, assigned_word, passed_on, at_object}
-use Rattle.selection.specs.ItemCode.{property_address, length_at, branching_zero, branching_single, provides_code}
-use Rattle.selection.specs.ItemCode.{property_value, property_code, property_size_code, provided, tested_single}
-use Rattle.selection.specs.ItemCode.{tested_word, loaded_at, property_word_code, assigned_single, assign_property_code}
-use Rattle.selection.specs.ItemCode.{assigned_at, assign_property_word_code}
+use Rattle.drafts.specs.Items.{Destination}
+use Rattle.drafts.specs.Items as items
+use Rattle.encoding.specs.Addresses.{fault_address}
+use Rattle.encoding.specs.Instructions.{plain, giving, fail, result_in, temporary, pulled_into, word_in}
+use Rattle.instructions.specs.Instructions.{labelled}
+use Rattle.encoding.specs.Bytes.{bytes_of_all}
+use Rattle.object_selection.specs.ObjectCode.{assigned_takes, assigned_word, passed_on, at_object, property_address}
+use Rattle.object_selection.specs.ObjectCode.{length_at, branching_zero, branching_single, provides_code}
+use Rattle.object_selection.specs.ObjectCode.{property_value, property_code, property_size_code, provided}
+use Rattle.object_selection.specs.ObjectCode.{tested_single, tested_word, loaded_at, property_word_code}
+use Rattle.object_selection.specs.ObjectCode.{assigned_single, assign_property_code, assigned_at}
+use Rattle.object_selection.specs.ObjectCode.{assign_property_word_code}
 use Rattle.code.specs.Bytes.{no_addresses}
 use Rattle.code.proofs.AddressLengths.{all_length, one_length}
 use Rattle.sizes.proofs.SizesOfInstructions.{few_bytes, three_count}

@@ -8,14 +8,14 @@ use Rattle.statements.specs.Tree.{PrintItemTree, StatementTree, StatementTrees}
 use Rattle.statements.specs.Tree as statements
 use Rattle.statements.specs.Grammar.{IsItem, item_text, item_character, item_object, item_number, IsItems, items_last}
 use Rattle.statements.specs.Grammar.{items_comma, IsOptional, optional_none, optional_some}
-use Rattle.syntax.specs.Weight.{item_weight, item_weights, optional_weight, statement_weight, statement_weights}
+use Rattle.directives.specs.Weight.{item_weight, item_weights, optional_weight, statement_weight, statement_weights}
 use Rattle.names.specs.Names.{Seen}
 use Rattle.value_rules.specs.Expressions.{resolve}
-use Rattle.rules.specs.Statements.{resolve_item, resolve_statement, resolve_statements}
-use Rattle.values.specs.Items.{nowhere, branch_count, alone, branch_items, alone_items}
+use Rattle.simple_rules.specs.Statements.{resolve_item, resolve_statement, resolve_statements}
+use Rattle.drafts.specs.Items.{nowhere, branch_count, alone, branch_items, alone_items}
 use Rattle.items.specs.Statements.{printed_count, printed_items, prints_items, once_count, test_count, once_items}
 use Rattle.items.specs.Statements.{test_items, return_true, action_count, Exits, exits_to, action_items, actions_items}
-use Rattle.values.specs.Items as items
+use Rattle.drafts.specs.Items as items
 use Rattle.sizes.proofs.Most.{most_of, most_append}
 use Rattle.sizes.proofs.SizesOfExpressions.{Fits, fits_E, few_value, few_branch, few_alone}
 

@@ -9,10 +9,10 @@ use Rattle.ztext.specs.Alphabets.{is_printable, punctuation, upper_letters, lowe
 use Rattle.ztext.specs.Alphabets.{spelling_in_punctuation, spelling_in_upper, spelling_in_lower, spelling_of}
 use Rattle.ztext.specs.Words.{packed, missing, padded}
 use Rattle.ztext.specs.Abbreviations.{Found, longest, spelling_or, more_of, spelled_behind, encoded_with}
-use Rattle.values.specs.Items.{Item, Destination, Test}
-use Rattle.values.specs.Items as items
-use Rattle.instructions.specs.Addresses.{Sizes}
-use Rattle.instructions.specs.Bytes.{character_of}
+use Rattle.drafts.specs.Items.{Item, Destination, Test}
+use Rattle.drafts.specs.Items as items
+use Rattle.encoding.specs.Addresses.{Sizes}
+use Rattle.encoding.specs.Bytes.{character_of}
 use Rattle.code.specs.Bytes.{least_size}
 
 -- Texts

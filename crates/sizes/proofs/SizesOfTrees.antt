@@ -6,18 +6,16 @@ use Rattle.lexer.specs.Token.{Lexeme}
 use Rattle.expressions.specs.Tree.{NameTree, ExpressionTree}
 use Rattle.statements.specs.Tree.{FlagTree, PrintItemTree, StatementTree, StatementTrees, CaseTrees}
 use Rattle.statements.specs.Tree as statements
-use Rattle.statements.specs.Grammar.{IsS, s_empty, s_block}
-use Rattle.statements.specs.Grammar.{s_text, s_print, s_print_ret, s_new_line, s_if, s_if_else, s_while, s_do, s_for}
-use Rattle.statements.specs.Grammar.{s_objectloop, s_switch, s_break, s_continue, s_return, s_return_value, s_rtrue}
-use Rattle.statements.specs.Grammar.{s_rfalse, s_quit, s_read, s_give, s_move, s_remove, s_effect, IsSs, ss_stop}
-use Rattle.statements.specs.Grammar.{ss_next, IsCases, cases_none, cases_default, cases_next}
+use Rattle.statements.specs.Grammar.{IsS, s_empty, s_block, s_text, s_print, s_print_ret, s_new_line, s_if, s_if_else}
+use Rattle.statements.specs.Grammar.{s_while, s_do, s_for, s_objectloop, s_switch, s_break, s_continue, s_return}
+use Rattle.statements.specs.Grammar.{s_return_value, s_rtrue, s_rfalse, s_quit, s_read, s_give, s_move, s_remove}
+use Rattle.statements.specs.Grammar.{s_effect, IsSs, ss_stop, ss_next, IsCases, cases_none, cases_default, cases_next}
 use Rattle.names.specs.Names.{Seen}
 use Rattle.value_rules.specs.Expressions.{resolve}
-use Rattle.rules.specs.Statements.{resolve_flag, resolve_statement, resolve_statements}
-use Rattle.values.specs.Items.{nowhere, alone, alone_items}
+use Rattle.simple_rules.specs.Statements.{resolve_flag, resolve_statement, resolve_statements}
+use Rattle.drafts.specs.Items.{nowhere, alone, alone_items, left_of}
 use Rattle.items.specs.Statements.{action_count, action_items, actions_items}
-use Rattle.values.specs.Items.{left_of}
-use Rattle.values.specs.Items as items
+use Rattle.drafts.specs.Items as items
 use Rattle.sizes.proofs.Most.{most_append}
 use Rattle.sizes.proofs.SizesOfExpressions.{Fits, fits_E, few_value, few_alone, few_two}
 use Rattle.sizes.proofs.SizesOfStatements.{PrintedFit, fits_Items, StatementFits, BodyFits, text_fits}

@@ -14,9 +14,10 @@ use Rattle.expressions.specs.Grammar.{IsE, e_plain, e1_plain, n1_plain, e2_plain
 use Rattle.expressions.specs.Grammar.{n4_plain, e5_plain, IsU, u_plain, p_property, p_name, p_number, p_word}
 use Rattle.statements.specs.Grammar.{loop_in, items_last, items_comma, item_text, item_number, s_print, s_objectloop}
 use Rattle.statements.specs.Grammar.{s_read, s_move, ss_stop, ss_next}
-use Rattle.syntax.specs.declared.tree.ArrayKind.TheVariants as kinds
+use Rattle.directives.specs.declared.tree.ArrayKind.TheVariants as kinds
 use Rattle.syntax.specs.Tree.{ProgramTree}
-use Rattle.syntax.specs.Grammar.{names_stop, names_next, d_routine, e_directive, entries_stop, entries_next, IsProgram}
+use Rattle.directives.specs.Grammar.{names_stop, names_next, d_routine}
+use Rattle.syntax.specs.Grammar.{e_directive, entries_stop, entries_next, IsProgram}
 use Rattle.syntax.specs.Grammar.{program}
 use Rattle.names.specs.declared.binding.Binding.TheVariants as bindings
 use Rattle.names.specs.Names.{key_of, first_table, File, look_up}
@@ -28,8 +29,8 @@ use Rattle.zcore.specs.Instruction.{bytes_of}
 use Rattle.ztext.specs.Alphabets.{spelling_of}
 use Rattle.ztext.specs.Words.{packed}
 use Rattle.ztext.specs.Abbreviations.{encoded_with}
-use Rattle.values.specs.Items as items
-use Rattle.instructions.specs.Addresses.{Sizes}
+use Rattle.drafts.specs.Items as items
+use Rattle.encoding.specs.Addresses.{Sizes}
 use Rattle.code.specs.Bytes.{least_size}
 use Rattle.code.specs.Sizes.{routine_size, routines_size}
 

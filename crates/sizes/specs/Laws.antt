@@ -2,14 +2,15 @@
 use Rattle.std.specs.Prelude.{◌≡◌, ◌+◌, ◌≤◌, List, None}
 use Rattle.std.specs.List.{All}
 use Rattle.lexer.specs.Token.{Lexeme}
-use Rattle.syntax.specs.Tree.{RoutineTree, ProgramTree}
+use Rattle.directives.specs.Tree.{RoutineTree}
+use Rattle.syntax.specs.Tree.{ProgramTree}
 use Rattle.syntax.specs.Grammar.{IsProgram}
 use Rattle.zcore.specs.declared.header.Version.{Version}
 use Rattle.names.specs.Names.{File}
 use Rattle.checker.specs.Programs.{resolve_routine, routines_of, routine_trees, IsCheckedOf}
 use Rattle.meaning.specs.Resolved.{RoutineOf, CheckedProgram, program_of}
 use Rattle.meaning.specs.Sizes.{greatest_weight, size_fault}
-use Rattle.instructions.specs.Addresses.{Sizes}
+use Rattle.encoding.specs.Addresses.{Sizes}
 use Rattle.code.specs.HeldProgram.{sizes_of}
 use Rattle.code.specs.Sizes.{routine_size, routines_size}
 

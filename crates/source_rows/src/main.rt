@@ -1,8 +1,10 @@
 //! Compiles the sources of rows, plays their stories, and prints what came of each.
 #![tactic(auto)]
 
+mod row;
+
+use crate::row::Row;
 use anyhow::{Context, Result};
-use sources::Row;
 use std::io::{self, BufRead, BufReader, Write};
 
 fn main(rt: HostRuntime) -> Result<()> {

@@ -1,30 +1,12 @@
 //! Conditions in parentheses, read from tokens.
 
 ghost use Rattle.std.specs.Prelude.{◌≡◌, ◌<◌, IfOk};
-ghost use Rattle.lexer.specs.Token.{lexemes};
-ghost use Rattle.expressions.specs.Parse as reading;
-ghost use Rattle.expressions.specs.Returned.{ReadsExpression, BuildsOn};
+ghost use Rattle.statements.specs.Returned.{ahead, TakesExpression};
 ghost use Rattle.statements.specs.Parse as spec;
 
-use expressions::{Expression, ParseError, expect, expression, open};
-use lexer::{Sign, Token};
-use std::alloc::Global;
-
-// An expression, with the parenthesis after it.
-#[tactic(auto, using(expressions::proofs::GoesOn::part_fails, expressions::proofs::GoesOn::part_made))]
-fn closed<'t, 'a>(
-    enclosed: Result<(Box<Expression<'a>>, &'t [Token<'a>]), ParseError>,
-) -> Result<(Box<Expression<'a>>, &'t [Token<'a>]), ParseError>
-    ensures { BuildsOn enclosed.entry result (reading.closed (λ e. e)) }
-{
-    match enclosed {
-        Ok((found, rest)) => match expect(Sign::CloseParenthesis, rest) {
-            Ok(rest) => Ok((found, rest)),
-            Err(e) => Err(e),
-        },
-        Err(e) => Err(e),
-    }
-}
+use crate::parser::{Parser, expect, expression};
+use expressions::{Expression, ParseError, open};
+use lexer::Sign;
 
 /// A condition in parentheses, which are a nesting.
 ///
@@ -33,14 +15,17 @@ fn closed<'t, 'a>(
 /// Those of `expression`; `Fault::Grammar` where a parenthesis is missing, `Fault::Deep` where no nesting is left for it.
 #[tactic(auto, unfolding(crate::specs::Parse::enclosed_condition), using(expressions::proofs::Nested::nested_zero, expressions::proofs::Nested::nested_whole))]
 pub fn enclosed_condition<'t, 'a>(
-    alloc: Global,
+    parser: &mut Parser<'t, 'a>,
     depth: usize,
-    tokens: &'t [Token<'a>],
-) -> Result<(Box<Expression<'a>>, &'t [Token<'a>]), ParseError>
-    ensures gives { ReadsExpression result (spec.enclosed_condition depth (lexemes tokens.now)) }
+) -> Result<Box<Expression<'a>>, ParseError>
+    ensures gives { TakesExpression result parser.new
+        (spec.enclosed_condition depth (ahead parser.old)) }
     ensures open { IfOk result (λ x. 0 < depth) }
 {
-    let rest = expect(Sign::OpenParenthesis, tokens)?;
-    let inside = open(depth, tokens)?;
-    closed(expression(alloc, inside, rest))
+    let opening = parser.tokens;
+    expect(parser, Sign::OpenParenthesis)?;
+    let inside = open(depth, opening)?;
+    let found = expression(parser, inside)?;
+    expect(parser, Sign::CloseParenthesis)?;
+    Ok(found)
 }

@@ -1,35 +1,31 @@
 //! What stands in the parentheses of a `for`, read from tokens.
 
 ghost use Rattle.std.specs.Prelude.{◌≡◌, ◌<◌, IfOk};
-ghost use Rattle.lexer.specs.Token.{lexemes};
-ghost use Rattle.expressions.specs.Returned.{Reads};
 ghost use Rattle.statements.specs.Grammar as grammar;
 ghost use Rattle.statements.specs.Tree.{part_tree, heading_tree};
+ghost use Rattle.statements.specs.Returned.{ahead, Takes};
 ghost use Rattle.statements.specs.Parse as spec;
 
+use crate::parser::{Parser, expect, expression};
 use crate::simple::has_effect;
 use crate::tree::Heading;
-use expressions::{
-    Expression, Fault, ParseError, expect, expression, fault_at, is_sign, open, peek,
-};
-use lexer::{Sign, Token};
-use std::alloc::Global;
+use expressions::{Expression, Fault, ParseError, fault_at, is_sign, open, peek};
+use lexer::Sign;
 
 // An expression, where the sign that follows it is not the next token.
 #[tactic(auto, unfolding(crate::specs::Parse::optional))]
 fn optional<'t, 'a>(
-    alloc: Global,
+    parser: &mut Parser<'t, 'a>,
     depth: usize,
     behind: Sign,
-    tokens: &'t [Token<'a>],
-) -> Result<(Option<Box<Expression<'a>>>, &'t [Token<'a>]), ParseError>
-    ensures { Reads part_tree result (spec.optional depth behind (lexemes tokens.now)) }
+) -> Result<Option<Box<Expression<'a>>>, ParseError>
+    ensures { Takes part_tree result parser.new (spec.optional depth behind (ahead parser.old)) }
 {
-    if is_sign(peek(tokens), behind) {
-        return Ok((None, tokens));
+    if is_sign(peek(parser.tokens), behind) {
+        return Ok(None);
     }
-    match expression(alloc, depth, tokens) {
-        Ok((found, rest)) => Ok((Some(found), rest)),
+    match expression(parser, depth) {
+        Ok(found) => Ok(Some(found)),
         Err(e) => Err(e),
     }
 }
@@ -47,19 +43,19 @@ fn effect_or_none(e: &Option<Box<Expression<'_>>>) -> bool
 // The same for an expression that must have an effect.
 #[tactic(auto, unfolding(crate::specs::Parse::optional_effect))]
 fn optional_effect<'t, 'a>(
-    alloc: Global,
+    parser: &mut Parser<'t, 'a>,
     depth: usize,
     behind: Sign,
-    tokens: &'t [Token<'a>],
-) -> Result<(Option<Box<Expression<'a>>>, &'t [Token<'a>]), ParseError>
-    ensures { Reads part_tree result (spec.optional_effect depth behind (lexemes tokens.now)) }
+) -> Result<Option<Box<Expression<'a>>>, ParseError>
+    ensures { Takes part_tree result parser.new
+        (spec.optional_effect depth behind (ahead parser.old)) }
 {
-    match optional(alloc, depth, behind, tokens) {
-        Ok((found, rest)) => {
+    match optional(parser, depth, behind) {
+        Ok(found) => {
             if !effect_or_none(&found) {
-                return Err(fault_at(Fault::Grammar, rest));
+                return Err(fault_at(Fault::Grammar, parser.tokens));
             }
-            Ok((found, rest))
+            Ok(found)
         }
         Err(e) => Err(e),
     }
@@ -68,24 +64,24 @@ fn optional_effect<'t, 'a>(
 // The parts, with the parenthesis behind them.
 #[tactic(auto, unfolding(crate::specs::Parse::heading))]
 fn heading<'t, 'a>(
-    alloc: Global,
+    parser: &mut Parser<'t, 'a>,
     depth: usize,
-    tokens: &'t [Token<'a>],
-) -> Result<(Box<Heading<'a>>, &'t [Token<'a>]), ParseError>
-    ensures { Reads (λ x. heading_tree x.value) result (spec.heading depth (lexemes tokens.now)) }
+) -> Result<Box<Heading<'a>>, ParseError>
+    ensures { Takes (λ x. heading_tree x.value) result parser.new
+        (spec.heading depth (ahead parser.old)) }
 {
-    let (before, rest) = optional_effect(alloc, depth, Sign::Colon, tokens)?;
-    let rest = expect(Sign::Colon, rest)?;
-    let (test, rest) = optional(alloc, depth, Sign::Colon, rest)?;
-    let rest = expect(Sign::Colon, rest)?;
-    let (behind, rest) = optional_effect(alloc, depth, Sign::CloseParenthesis, rest)?;
-    let rest = expect(Sign::CloseParenthesis, rest)?;
+    let before = optional_effect(parser, depth, Sign::Colon)?;
+    expect(parser, Sign::Colon)?;
+    let test = optional(parser, depth, Sign::Colon)?;
+    expect(parser, Sign::Colon)?;
+    let behind = optional_effect(parser, depth, Sign::CloseParenthesis)?;
+    expect(parser, Sign::CloseParenthesis)?;
     let found = Heading {
         before,
         test,
         behind,
     };
-    Ok((Box::new(alloc, found)?, rest))
+    Ok(Box::new(parser.alloc, found)?)
 }
 
 /// The parts of a `for` in parentheses, which are a nesting.
@@ -96,15 +92,15 @@ fn heading<'t, 'a>(
 /// `Fault::Deep` where no nesting is left.
 #[tactic(auto, unfolding(crate::specs::Parse::enclosed_heading), using(crate::proofs::Inside::heading_zero, crate::proofs::Inside::heading_more))]
 pub fn enclosed_heading<'t, 'a>(
-    alloc: Global,
+    parser: &mut Parser<'t, 'a>,
     depth: usize,
-    tokens: &'t [Token<'a>],
-) -> Result<(Box<Heading<'a>>, &'t [Token<'a>]), ParseError>
-    ensures gives { Reads (λ x. heading_tree x.value) result
-        (spec.enclosed_heading depth (lexemes tokens.now)) }
+) -> Result<Box<Heading<'a>>, ParseError>
+    ensures gives { Takes (λ x. heading_tree x.value) result parser.new
+        (spec.enclosed_heading depth (ahead parser.old)) }
     ensures open { IfOk result (λ x. 0 < depth) }
 {
-    let rest = expect(Sign::OpenParenthesis, tokens)?;
-    let inside = open(depth, tokens)?;
-    heading(alloc, inside, rest)
+    let opening = parser.tokens;
+    expect(parser, Sign::OpenParenthesis)?;
+    let inside = open(depth, opening)?;
+    heading(parser, inside)
 }

@@ -1,71 +1,69 @@
 //! What `print` prints, read from tokens.
 
 ghost use Rattle.std.specs.Prelude.{◌≡◌, map};
-ghost use Rattle.lexer.specs.Token.{lexeme, lexemes};
-ghost use Rattle.expressions.specs.Returned.{Reads};
+ghost use Rattle.lexer.specs.Token.{lexeme};
 ghost use Rattle.statements.specs.Tree as tree;
 ghost use Rattle.statements.specs.Tree.{item_tree};
+ghost use Rattle.statements.specs.Returned.{ahead, Takes};
 ghost use Rattle.statements.specs.Parse as spec;
 
+use crate::parser::{Parser, expect, expression, pass};
 use crate::tree::PrintItem;
-use expressions::{ParseError, expect, expression, is_sign, is_word, open, peek, position, skip};
-use lexer::{Kind, Sign, Token, Word};
-use std::alloc::Global;
+use expressions::{ParseError, is_sign, is_word, open, peek, position, skip};
+use lexer::{Kind, Sign, Word};
 
 // `(char)` and a value, where its first two tokens have been seen.
 #[tactic(auto, unfolding(crate::specs::Parse::cast), using(crate::proofs::Inside::opened_zero, crate::proofs::Inside::opened_more))]
-fn character<'t, 'a>(
-    alloc: Global,
-    depth: usize,
-    tokens: &'t [Token<'a>],
-) -> Result<(PrintItem<'a>, &'t [Token<'a>]), ParseError>
-    ensures { Reads item_tree result (spec.cast depth tree.character_item (lexemes tokens.now)) }
+fn character<'t, 'a>(parser: &mut Parser<'t, 'a>, depth: usize) -> Result<PrintItem<'a>, ParseError>
+    ensures { Takes item_tree result parser.new
+        (spec.cast depth tree.character_item (ahead parser.old)) }
 {
-    open(depth, tokens)?;
-    let begin = expect(Sign::CloseParenthesis, skip(skip(tokens)))?;
-    match expression(alloc, depth, begin) {
-        Ok((value, rest)) => Ok((PrintItem::Character(position(begin), value), rest)),
+    open(depth, parser.tokens)?;
+    pass(parser);
+    pass(parser);
+    expect(parser, Sign::CloseParenthesis)?;
+    let begin = position(parser.tokens);
+    match expression(parser, depth) {
+        Ok(value) => Ok(PrintItem::Character(begin, value)),
         Err(e) => Err(e),
     }
 }
 
 // The same of `(object)`.
 #[tactic(auto, unfolding(crate::specs::Parse::cast), using(crate::proofs::Inside::opened_zero, crate::proofs::Inside::opened_more))]
-fn object<'t, 'a>(
-    alloc: Global,
-    depth: usize,
-    tokens: &'t [Token<'a>],
-) -> Result<(PrintItem<'a>, &'t [Token<'a>]), ParseError>
-    ensures { Reads item_tree result (spec.cast depth tree.object_item (lexemes tokens.now)) }
+fn object<'t, 'a>(parser: &mut Parser<'t, 'a>, depth: usize) -> Result<PrintItem<'a>, ParseError>
+    ensures { Takes item_tree result parser.new
+        (spec.cast depth tree.object_item (ahead parser.old)) }
 {
-    open(depth, tokens)?;
-    let begin = expect(Sign::CloseParenthesis, skip(skip(tokens)))?;
-    match expression(alloc, depth, begin) {
-        Ok((value, rest)) => Ok((PrintItem::Object(position(begin), value), rest)),
+    open(depth, parser.tokens)?;
+    pass(parser);
+    pass(parser);
+    expect(parser, Sign::CloseParenthesis)?;
+    let begin = position(parser.tokens);
+    match expression(parser, depth) {
+        Ok(value) => Ok(PrintItem::Object(begin, value)),
         Err(e) => Err(e),
     }
 }
 
 #[tactic(auto, unfolding(crate::specs::Parse::item, crate::specs::Parse::value))]
-fn item<'t, 'a>(
-    alloc: Global,
-    depth: usize,
-    tokens: &'t [Token<'a>],
-) -> Result<(PrintItem<'a>, &'t [Token<'a>]), ParseError>
-    ensures { Reads item_tree result (spec.item depth (lexemes tokens.now)) }
+fn item<'t, 'a>(parser: &mut Parser<'t, 'a>, depth: usize) -> Result<PrintItem<'a>, ParseError>
+    ensures { Takes item_tree result parser.new (spec.item depth (ahead parser.old)) }
 {
-    let first = peek(tokens);
+    let first = peek(parser.tokens);
     if let Kind::Text(bytes) = first.kind {
-        return Ok((PrintItem::Text(bytes), skip(tokens)));
+        pass(parser);
+        return Ok(PrintItem::Text(bytes));
     }
-    if is_sign(first, Sign::OpenParenthesis) && is_word(peek(skip(tokens)), Word::Char) {
-        return character(alloc, depth, tokens);
+    let second = peek(skip(parser.tokens));
+    if is_sign(first, Sign::OpenParenthesis) && is_word(second, Word::Char) {
+        return character(parser, depth);
     }
-    if is_sign(first, Sign::OpenParenthesis) && is_word(peek(skip(tokens)), Word::Object) {
-        return object(alloc, depth, tokens);
+    if is_sign(first, Sign::OpenParenthesis) && is_word(second, Word::Object) {
+        return object(parser, depth);
     }
-    match expression(alloc, depth, tokens) {
-        Ok((value, rest)) => Ok((PrintItem::Number(first.position, value), rest)),
+    match expression(parser, depth) {
+        Ok(value) => Ok(PrintItem::Number(first.position, value)),
         Err(e) => Err(e),
     }
 }
@@ -77,22 +75,22 @@ fn item<'t, 'a>(
 /// Those of `expression`; and `Fault::Deep` at the parenthesis of `(char)` or `(object)` where no nesting is left.
 #[tactic(auto, unfolding(crate::specs::Parse::items, expressions::specs::Parse::list), using(crate::proofs::Loops::further_out, crate::proofs::Loops::further_done, crate::proofs::Loops::further_more, crate::proofs::Loops::further_fails))]
 pub fn items<'t, 'a>(
-    alloc: Global,
+    parser: &mut Parser<'t, 'a>,
     depth: usize,
-    tokens: &'t [Token<'a>],
-) -> Result<(Vec<PrintItem<'a>>, &'t [Token<'a>]), ParseError>
-    ensures { Reads (λ xs. map item_tree xs.items) result (spec.items depth (lexemes tokens.now)) }
+) -> Result<Vec<PrintItem<'a>>, ParseError>
+    ensures { Takes (λ xs. map item_tree xs.items) result parser.new
+        (spec.items depth (ahead parser.old)) }
 {
-    let mut found = Vec::new(alloc);
-    let (first, mut rest) = item(alloc, depth, tokens)?;
+    let mut found = Vec::new(parser.alloc);
+    let first = item(parser, depth)?;
     found.push(first)?;
-    for _turn in 0..rest.len() {
-        if !is_sign(peek(rest), Sign::Comma) {
+    for _turn in 0..parser.tokens.len() {
+        if !is_sign(peek(parser.tokens), Sign::Comma) {
             break;
         }
-        let (next, after) = item(alloc, depth, skip(rest))?;
+        pass(parser);
+        let next = item(parser, depth)?;
         found.push(next)?;
-        rest = after;
     }
-    Ok((found, rest))
+    Ok(found)
 }

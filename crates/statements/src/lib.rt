@@ -7,6 +7,7 @@ mod items;
 mod names;
 mod nested;
 mod objectloop;
+mod parser;
 mod parts;
 mod simple;
 mod tree;

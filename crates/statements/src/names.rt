@@ -5,11 +5,12 @@ ghost use Rattle.lexer.specs.Token.{lexeme, lexemes};
 ghost use Rattle.expressions.specs.Tree.{name_tree};
 ghost use Rattle.expressions.specs.Returned.{Reads};
 ghost use Rattle.statements.specs.Tree.{flag_tree};
+ghost use Rattle.statements.specs.Returned.{ahead, Takes};
 ghost use Rattle.statements.specs.Parse as spec;
 
+use crate::parser::{Parser, name, pass};
 use expressions::{Fault, Name, ParseError, fault_at, is_sign, name_of, peek, skip};
 use lexer::{Kind, Sign, Token};
-use std::alloc::Global;
 
 /// The name that comes next.
 ///
@@ -39,15 +40,16 @@ fn begins_flag(token: Token<'_>) -> bool
 
 // An attribute that is given, or behind `~` one that is taken.
 #[tactic(auto, unfolding(crate::specs::Parse::flag))]
-fn flag<'t, 'a>(tokens: &'t [Token<'a>]) -> Result<((bool, Name<'a>), &'t [Token<'a>]), ParseError>
-    ensures { Reads flag_tree result (spec.flag (lexemes tokens.now)) }
+fn flag<'t, 'a>(parser: &mut Parser<'t, 'a>) -> Result<(bool, Name<'a>), ParseError>
+    ensures { Takes flag_tree result parser.new (spec.flag (ahead parser.old)) }
 {
-    if is_sign(peek(tokens), Sign::Tilde) {
-        let (name, rest) = named(skip(tokens))?;
-        return Ok(((false, name), rest));
+    if is_sign(peek(parser.tokens), Sign::Tilde) {
+        pass(parser);
+        let name = name(parser)?;
+        return Ok((false, name));
     }
-    let (name, rest) = named(tokens)?;
-    Ok(((true, name), rest))
+    let name = name(parser)?;
+    Ok((true, name))
 }
 
 /// The attributes behind the object of `give`, at least one.
@@ -56,22 +58,19 @@ fn flag<'t, 'a>(tokens: &'t [Token<'a>]) -> Result<((bool, Name<'a>), &'t [Token
 ///
 /// `Fault::Grammar` at a token that is neither a name nor `~`, and behind `~` at one that is no name.
 #[tactic(auto, unfolding(crate::specs::Parse::flags), using(crate::proofs::Loops::repeated_out, crate::proofs::Loops::repeated_done, crate::proofs::Loops::repeated_more, crate::proofs::Loops::repeated_fails))]
-pub fn flags<'t, 'a>(
-    alloc: Global,
-    tokens: &'t [Token<'a>],
-) -> Result<(Vec<(bool, Name<'a>)>, &'t [Token<'a>]), ParseError>
-    ensures { Reads (λ xs. map flag_tree xs.items) result (spec.flags (lexemes tokens.now)) }
+pub fn flags<'t, 'a>(parser: &mut Parser<'t, 'a>) -> Result<Vec<(bool, Name<'a>)>, ParseError>
+    ensures { Takes (λ xs. map flag_tree xs.items) result parser.new
+        (spec.flags (ahead parser.old)) }
 {
-    let mut found = Vec::new(alloc);
-    let (first, mut rest) = flag(tokens)?;
+    let mut found = Vec::new(parser.alloc);
+    let first = flag(parser)?;
     found.push(first)?;
-    for _turn in 0..rest.len() {
-        if !begins_flag(peek(rest)) {
+    for _turn in 0..parser.tokens.len() {
+        if !begins_flag(peek(parser.tokens)) {
             break;
         }
-        let (next, after) = flag(rest)?;
+        let next = flag(parser)?;
         found.push(next)?;
-        rest = after;
     }
-    Ok((found, rest))
+    Ok(found)
 }

@@ -7,19 +7,18 @@ ghost use Rattle.expressions.specs.Returned.{Reads};
 ghost use Rattle.statements.specs.Grammar as grammar;
 ghost use Rattle.statements.specs.Nesting as nesting;
 ghost use Rattle.statements.specs.Tree.{statement_tree, case_tree, other_tree};
-ghost use Rattle.statements.specs.Returned.{ReadsStatement};
+ghost use Rattle.statements.specs.Returned.{ahead, Takes, TakesStatement};
 ghost use Rattle.statements.specs.Parse as spec;
 
 use crate::conditions::enclosed_condition;
 use crate::headings::enclosed_heading;
 use crate::objectloop::enclosed_loop;
+use crate::parser::{Parser, expect, expect_word, pass};
 use crate::parts;
 use crate::parts::plain;
 use crate::tree::{Range, Statement};
 use crate::values::{begins_case, begins_value, ranges};
-use expressions::{
-    Fault, ParseError, begins_expression, expect, expect_word, fault_at, is_word, open, peek, skip,
-};
+use expressions::{Fault, ParseError, begins_expression, fault_at, is_word, open, peek};
 use lexer::{Kind, Position, Sign, Token, Word};
 use std::alloc::Global;
 
@@ -84,13 +83,6 @@ fn else_follows(tokens: &[Token<'_>]) -> bool
     is_word(peek(tokens), Word::Else)
 }
 
-// The same tokens, as a slice of its own.
-fn same<'t, 'a>(tokens: &'t [Token<'a>]) -> &'t [Token<'a>]
-    ensures { result.now ≡ tokens.now }
-{
-    tokens
-}
-
 /// Statements in a row, up to a token with which none can begin, and the tokens from there on. In each of them `depth`
 /// nestings more may be opened.
 ///
@@ -121,8 +113,6 @@ fn same<'t, 'a>(tokens: &'t [Token<'a>]) -> &'t [Token<'a>]
 /// - `Fault::Grammar` at the first token with which no derivation goes on.
 /// - `Fault::Deep` at the token for which no nesting is left.
 /// - `Memory`: a growth is refused.
-#[cycle(statement)]
-#[tactic(auto, unfolding(crate::specs::Parse::statements), using(crate::proofs::Loops::repeated_out, crate::proofs::Loops::repeated_done, crate::proofs::Loops::repeated_more, crate::proofs::Loops::repeated_fails, crate::proofs::Loops::joined_none))]
 pub fn statements<'t, 'a>(
     alloc: Global,
     depth: usize,
@@ -131,21 +121,31 @@ pub fn statements<'t, 'a>(
     ensures { Reads (λ xs. map statement_tree xs.items) result
         (spec.statements depth (lexemes tokens.now)) }
 {
-    let mut found = Vec::new(alloc);
-    let mut rest = tokens;
-    for _turn in 0..tokens.len() {
-        if !begins_statement(peek(rest)) {
+    let mut parser = Parser { alloc, tokens };
+    match row(&mut parser, depth) {
+        Ok(found) => Ok((found, parser.tokens)),
+        Err(e) => Err(e),
+    }
+}
+
+// Statements in a row, up to a token with which none can begin. In each of them `depth` nestings more may be opened.
+#[cycle(statement)]
+#[tactic(auto, unfolding(crate::specs::Parse::statements), using(crate::proofs::Loops::repeated_out, crate::proofs::Loops::repeated_done, crate::proofs::Loops::repeated_more, crate::proofs::Loops::repeated_fails, crate::proofs::Loops::joined_none))]
+fn row<'t, 'a>(parser: &mut Parser<'t, 'a>, depth: usize) -> Result<Vec<Statement<'a>>, ParseError>
+    ensures { Takes (λ xs. map statement_tree xs.items) result parser.new
+        (spec.statements depth (ahead parser.old)) }
+{
+    let mut found = Vec::new(parser.alloc);
+    for _turn in 0..parser.tokens.len() {
+        if !begins_statement(peek(parser.tokens)) {
             break;
         }
-        match statement(alloc, depth, rest) {
-            Ok((next, after)) => {
-                parts::add(&mut found, next)?;
-                rest = same(after);
-            }
+        match statement(parser, depth) {
+            Ok(next) => parts::add(&mut found, next)?,
             Err(e) => return Err(e),
         }
     }
-    Ok((found, rest))
+    Ok(found)
 }
 
 // The statements of a block or of `default`, from its brace or its colon on. Its brace is a nesting, and so is each
@@ -153,33 +153,32 @@ pub fn statements<'t, 'a>(
 #[cycle(statement)]
 #[tactic(auto, using(crate::proofs::Inside::braces_zero, crate::proofs::Inside::braces_last, crate::proofs::Inside::braces_empty, crate::proofs::Inside::braces_below))]
 fn braces<'t, 'a>(
-    alloc: Global,
+    parser: &mut Parser<'t, 'a>,
     depth: usize,
-    tokens: &'t [Token<'a>],
-) -> Result<(Vec<Statement<'a>>, &'t [Token<'a>]), ParseError>
-    ensures { Reads (λ xs. map statement_tree xs.items) result
-        (spec.braces depth (tail (lexemes tokens.now))) }
+) -> Result<Vec<Statement<'a>>, ParseError>
+    ensures { Takes (λ xs. map statement_tree xs.items) result parser.new
+        (spec.braces depth (tail (ahead parser.old))) }
 {
-    let inside = open(depth, tokens)?;
-    let rest = skip(tokens);
-    if !begins_statement(peek(rest)) {
-        return Ok((Vec::new(alloc), rest));
+    let inside = open(depth, parser.tokens)?;
+    pass(parser);
+    if !begins_statement(peek(parser.tokens)) {
+        return Ok(Vec::new(parser.alloc));
     }
-    let inside = open(inside, rest)?;
-    statements(alloc, inside, rest)
+    let inside = open(inside, parser.tokens)?;
+    row(parser, inside)
 }
 
 // A block, from its brace on.
 #[cycle(statement)]
 fn block<'t, 'a>(
-    alloc: Global,
+    parser: &mut Parser<'t, 'a>,
     depth: usize,
-    tokens: &'t [Token<'a>],
-) -> Result<(Box<Statement<'a>>, &'t [Token<'a>]), ParseError>
-    ensures { ReadsStatement result (spec.braced (spec.braces depth) (tail (lexemes tokens.now))) }
+) -> Result<Box<Statement<'a>>, ParseError>
+    ensures { TakesStatement result parser.new
+        (spec.braced (spec.braces depth) (tail (ahead parser.old))) }
 {
-    match braces(alloc, depth, tokens) {
-        Ok((found, rest)) => parts::block(rest, alloc, found),
+    match braces(parser, depth) {
+        Ok(found) => parts::block(parser, found),
         Err(e) => Err(e),
     }
 }
@@ -188,38 +187,36 @@ fn block<'t, 'a>(
 #[cycle(statement)]
 #[tactic(auto, using(crate::proofs::Inside::inside_zero, crate::proofs::Inside::inside_more))]
 fn further_in<'t, 'a>(
-    alloc: Global,
+    parser: &mut Parser<'t, 'a>,
     depth: usize,
-    tokens: &'t [Token<'a>],
-) -> Result<(Box<Statement<'a>>, &'t [Token<'a>]), ParseError>
-    ensures { ReadsStatement result (spec.inside depth (lexemes tokens.now)) }
+) -> Result<Box<Statement<'a>>, ParseError>
+    ensures { TakesStatement result parser.new
+        (spec.inside depth (ahead parser.old)) }
 {
-    let inside = open(depth, tokens)?;
-    statement(alloc, inside, tokens)
+    let inside = open(depth, parser.tokens)?;
+    statement(parser, inside)
 }
 
 // What follows `if`, which stands at `position`.
 #[cycle(statement)]
 #[tactic(auto, unfolding(crate::specs::Parse::choice))]
 fn choice<'t, 'a>(
-    alloc: Global,
+    parser: &mut Parser<'t, 'a>,
     depth: usize,
     position: Position,
-    tokens: &'t [Token<'a>],
-) -> Result<(Box<Statement<'a>>, &'t [Token<'a>]), ParseError>
-    ensures { ReadsStatement result
-        (spec.choice depth (spec.inside depth) position (lexemes tokens.now)) }
+) -> Result<Box<Statement<'a>>, ParseError>
+    ensures { TakesStatement result parser.new
+        (spec.choice depth (spec.inside depth) position (ahead parser.old)) }
 {
-    let (condition, rest) = enclosed_condition(alloc, depth, tokens)?;
-    match further_in(alloc, depth, rest) {
-        Ok((first, rest)) => {
-            if !else_follows(rest) {
-                return parts::if_then(rest, alloc, position, condition, first);
+    let condition = enclosed_condition(parser, depth)?;
+    match further_in(parser, depth) {
+        Ok(first) => {
+            if !else_follows(parser.tokens) {
+                return parts::if_then(parser, position, condition, first);
             }
-            match further_in(alloc, depth, skip(rest)) {
-                Ok((second, rest)) => {
-                    parts::if_else(rest, alloc, position, condition, first, second)
-                }
+            pass(parser);
+            match further_in(parser, depth) {
+                Ok(second) => parts::if_else(parser, position, condition, first, second),
                 Err(e) => Err(e),
             }
         }
@@ -231,17 +228,16 @@ fn choice<'t, 'a>(
 #[cycle(statement)]
 #[tactic(auto, unfolding(crate::specs::Parse::repetition))]
 fn repetition<'t, 'a>(
-    alloc: Global,
+    parser: &mut Parser<'t, 'a>,
     depth: usize,
     position: Position,
-    tokens: &'t [Token<'a>],
-) -> Result<(Box<Statement<'a>>, &'t [Token<'a>]), ParseError>
-    ensures { ReadsStatement result
-        (spec.repetition depth (spec.inside depth) position (lexemes tokens.now)) }
+) -> Result<Box<Statement<'a>>, ParseError>
+    ensures { TakesStatement result parser.new
+        (spec.repetition depth (spec.inside depth) position (ahead parser.old)) }
 {
-    let (condition, rest) = enclosed_condition(alloc, depth, tokens)?;
-    match further_in(alloc, depth, rest) {
-        Ok((body, rest)) => parts::while_do(rest, alloc, position, condition, body),
+    let condition = enclosed_condition(parser, depth)?;
+    match further_in(parser, depth) {
+        Ok(body) => parts::while_do(parser, position, condition, body),
         Err(e) => Err(e),
     }
 }
@@ -250,35 +246,34 @@ fn repetition<'t, 'a>(
 #[cycle(statement)]
 #[tactic(auto, unfolding(crate::specs::Parse::entered))]
 fn entered<'t, 'a>(
-    alloc: Global,
+    parser: &mut Parser<'t, 'a>,
     depth: usize,
-    tokens: &'t [Token<'a>],
-) -> Result<(Box<Statement<'a>>, &'t [Token<'a>]), ParseError>
-    ensures { ReadsStatement result (spec.entered (spec.inside depth) (lexemes tokens.now)) }
+) -> Result<Box<Statement<'a>>, ParseError>
+    ensures { TakesStatement result parser.new
+        (spec.entered (spec.inside depth) (ahead parser.old)) }
 {
-    if !begins_statement(peek(tokens)) {
-        return Err(fault_at(Fault::Grammar, tokens));
+    if !begins_statement(peek(parser.tokens)) {
+        return Err(fault_at(Fault::Grammar, parser.tokens));
     }
-    further_in(alloc, depth, tokens)
+    further_in(parser, depth)
 }
 
 // What follows `do`, which stands at `position`.
 #[cycle(statement)]
 #[tactic(auto, unfolding(crate::specs::Parse::until))]
 fn until<'t, 'a>(
-    alloc: Global,
+    parser: &mut Parser<'t, 'a>,
     depth: usize,
     position: Position,
-    tokens: &'t [Token<'a>],
-) -> Result<(Box<Statement<'a>>, &'t [Token<'a>]), ParseError>
-    ensures { ReadsStatement result
-        (spec.until depth (spec.inside depth) position (lexemes tokens.now)) }
+) -> Result<Box<Statement<'a>>, ParseError>
+    ensures { TakesStatement result parser.new
+        (spec.until depth (spec.inside depth) position (ahead parser.old)) }
 {
-    match entered(alloc, depth, tokens) {
-        Ok((body, rest)) => {
-            let rest = expect_word(Word::Until, rest)?;
-            let (condition, rest) = enclosed_condition(alloc, depth, rest)?;
-            parts::do_until(rest, alloc, position, body, condition)
+    match entered(parser, depth) {
+        Ok(body) => {
+            expect_word(parser, Word::Until)?;
+            let condition = enclosed_condition(parser, depth)?;
+            parts::do_until(parser, position, body, condition)
         }
         Err(e) => Err(e),
     }
@@ -288,17 +283,16 @@ fn until<'t, 'a>(
 #[cycle(statement)]
 #[tactic(auto, unfolding(crate::specs::Parse::iteration))]
 fn iteration<'t, 'a>(
-    alloc: Global,
+    parser: &mut Parser<'t, 'a>,
     depth: usize,
     position: Position,
-    tokens: &'t [Token<'a>],
-) -> Result<(Box<Statement<'a>>, &'t [Token<'a>]), ParseError>
-    ensures { ReadsStatement result
-        (spec.iteration depth (spec.inside depth) position (lexemes tokens.now)) }
+) -> Result<Box<Statement<'a>>, ParseError>
+    ensures { TakesStatement result parser.new
+        (spec.iteration depth (spec.inside depth) position (ahead parser.old)) }
 {
-    let (heading, rest) = enclosed_heading(alloc, depth, tokens)?;
-    match further_in(alloc, depth, rest) {
-        Ok((body, rest)) => parts::for_loop(rest, alloc, position, heading, body),
+    let heading = enclosed_heading(parser, depth)?;
+    match further_in(parser, depth) {
+        Ok(body) => parts::for_loop(parser, position, heading, body),
         Err(e) => Err(e),
     }
 }
@@ -307,17 +301,16 @@ fn iteration<'t, 'a>(
 #[cycle(statement)]
 #[tactic(auto, unfolding(crate::specs::Parse::traversal))]
 fn traversal<'t, 'a>(
-    alloc: Global,
+    parser: &mut Parser<'t, 'a>,
     depth: usize,
     position: Position,
-    tokens: &'t [Token<'a>],
-) -> Result<(Box<Statement<'a>>, &'t [Token<'a>]), ParseError>
-    ensures { ReadsStatement result
-        (spec.traversal depth (spec.inside depth) position (lexemes tokens.now)) }
+) -> Result<Box<Statement<'a>>, ParseError>
+    ensures { TakesStatement result parser.new
+        (spec.traversal depth (spec.inside depth) position (ahead parser.old)) }
 {
-    let (over, rest) = enclosed_loop(alloc, depth, tokens)?;
-    match further_in(alloc, depth, rest) {
-        Ok((body, rest)) => parts::loop_over(rest, alloc, position, over, body),
+    let over = enclosed_loop(parser, depth)?;
+    match further_in(parser, depth) {
+        Ok(body) => parts::loop_over(parser, position, over, body),
         Err(e) => Err(e),
     }
 }
@@ -326,45 +319,40 @@ fn traversal<'t, 'a>(
 #[cycle(statement)]
 #[tactic(auto, using(crate::proofs::Inside::bodies_zero, crate::proofs::Loops::as_long_out, crate::proofs::Loops::as_long_done, crate::proofs::Loops::as_long_more, crate::proofs::Loops::as_long_fails, crate::proofs::Loops::joined_none))]
 fn bodies<'t, 'a>(
-    alloc: Global,
+    parser: &mut Parser<'t, 'a>,
     depth: usize,
-    tokens: &'t [Token<'a>],
-) -> Result<(Vec<Statement<'a>>, &'t [Token<'a>]), ParseError>
-    ensures { Reads (λ xs. map statement_tree xs.items) result
-        (spec.bodies depth (lexemes tokens.now)) }
+) -> Result<Vec<Statement<'a>>, ParseError>
+    ensures { Takes (λ xs. map statement_tree xs.items) result parser.new
+        (spec.bodies depth (ahead parser.old)) }
 {
-    let inside = open(depth, tokens)?;
-    let mut found = Vec::new(alloc);
-    let mut rest = tokens;
-    for _turn in 0..tokens.len() {
-        if !begins_in_case(rest) {
+    let inside = open(depth, parser.tokens)?;
+    let mut found = Vec::new(parser.alloc);
+    for _turn in 0..parser.tokens.len() {
+        if !begins_in_case(parser.tokens) {
             break;
         }
-        match further_in(alloc, inside, rest) {
-            Ok((next, after)) => {
-                parts::add(&mut found, next)?;
-                rest = same(after);
-            }
+        match further_in(parser, inside) {
+            Ok(next) => parts::add(&mut found, next)?,
             Err(e) => return Err(e),
         }
     }
-    Ok((found, rest))
+    Ok(found)
 }
 
 // A case: its ranges, and its statements behind a colon.
 #[cycle(statement)]
 #[tactic(auto, unfolding(crate::specs::Parse::one_case, crate::specs::Tree::case_tree))]
 fn one_case<'t, 'a>(
-    alloc: Global,
+    parser: &mut Parser<'t, 'a>,
     depth: usize,
-    tokens: &'t [Token<'a>],
-) -> Result<((Vec<Range<'a>>, Vec<Statement<'a>>), &'t [Token<'a>]), ParseError>
-    ensures { Reads case_tree result (spec.one_case (spec.bodies depth) (lexemes tokens.now)) }
+) -> Result<(Vec<Range<'a>>, Vec<Statement<'a>>), ParseError>
+    ensures { Takes case_tree result parser.new
+        (spec.one_case (spec.bodies depth) (ahead parser.old)) }
 {
-    let (ranges, rest) = ranges(alloc, tokens)?;
-    let rest = expect(Sign::Colon, rest)?;
-    match bodies(alloc, depth, rest) {
-        Ok((body, rest)) => Ok(((ranges, body), rest)),
+    let ranges = ranges(parser)?;
+    expect(parser, Sign::Colon)?;
+    match bodies(parser, depth) {
+        Ok(body) => Ok((ranges, body)),
         Err(e) => Err(e),
     }
 }
@@ -373,47 +361,43 @@ fn one_case<'t, 'a>(
 #[cycle(statement)]
 #[tactic(auto, unfolding(crate::specs::Parse::cases), using(crate::proofs::Loops::repeated_out, crate::proofs::Loops::repeated_done, crate::proofs::Loops::repeated_more, crate::proofs::Loops::repeated_fails, crate::proofs::Loops::joined_none))]
 fn cases<'t, 'a>(
-    alloc: Global,
+    parser: &mut Parser<'t, 'a>,
     depth: usize,
-    tokens: &'t [Token<'a>],
-) -> Result<(Vec<(Vec<Range<'a>>, Vec<Statement<'a>>)>, &'t [Token<'a>]), ParseError>
-    ensures { Reads (λ xs. map case_tree xs.items) result
-        (spec.cases (spec.bodies depth) (lexemes tokens.now)) }
+) -> Result<Vec<(Vec<Range<'a>>, Vec<Statement<'a>>)>, ParseError>
+    ensures { Takes (λ xs. map case_tree xs.items) result parser.new
+        (spec.cases (spec.bodies depth) (ahead parser.old)) }
 {
-    let mut found = Vec::new(alloc);
-    let mut rest = tokens;
-    for _turn in 0..tokens.len() {
-        if !begins_value(peek(rest)) {
+    let mut found = Vec::new(parser.alloc);
+    for _turn in 0..parser.tokens.len() {
+        if !begins_value(peek(parser.tokens)) {
             break;
         }
-        match one_case(alloc, depth, rest) {
-            Ok((next, after)) => {
-                parts::add_case(&mut found, next)?;
-                rest = same(after);
-            }
+        match one_case(parser, depth) {
+            Ok(next) => parts::add_case(&mut found, next)?,
             Err(e) => return Err(e),
         }
     }
-    Ok((found, rest))
+    Ok(found)
 }
 
 // The statements of `default`, where it comes next.
 #[cycle(statement)]
 #[tactic(auto, unfolding(crate::specs::Parse::otherwise))]
 fn otherwise<'t, 'a>(
-    alloc: Global,
+    parser: &mut Parser<'t, 'a>,
     depth: usize,
-    tokens: &'t [Token<'a>],
-) -> Result<(Option<Vec<Statement<'a>>>, &'t [Token<'a>]), ParseError>
-    ensures { Reads other_tree result (spec.otherwise (spec.braces depth) (lexemes tokens.now)) }
+) -> Result<Option<Vec<Statement<'a>>>, ParseError>
+    ensures { Takes other_tree result parser.new
+        (spec.otherwise (spec.braces depth) (ahead parser.old)) }
 {
-    if !is_word(peek(tokens), Word::Default) {
-        return Ok((None, tokens));
+    if !is_word(peek(parser.tokens), Word::Default) {
+        return Ok(None);
     }
-    let colon = skip(tokens);
-    expect(Sign::Colon, colon)?;
-    match braces(alloc, depth, colon) {
-        Ok((found, rest)) => Ok((Some(found), rest)),
+    pass(parser);
+    // The colon stands for the brace of a block, and is not passed here.
+    expressions::expect(Sign::Colon, parser.tokens)?;
+    match braces(parser, depth) {
+        Ok(found) => Ok(Some(found)),
         Err(e) => Err(e),
     }
 }
@@ -422,45 +406,52 @@ fn otherwise<'t, 'a>(
 #[cycle(statement)]
 #[tactic(auto, unfolding(crate::specs::Parse::selection))]
 fn selection<'t, 'a>(
-    alloc: Global,
+    parser: &mut Parser<'t, 'a>,
     depth: usize,
     position: Position,
-    tokens: &'t [Token<'a>],
-) -> Result<(Box<Statement<'a>>, &'t [Token<'a>]), ParseError>
-    ensures { ReadsStatement result (spec.selection depth (spec.braces depth)
-        (spec.bodies depth) position (lexemes tokens.now)) }
+) -> Result<Box<Statement<'a>>, ParseError>
+    ensures { TakesStatement result parser.new
+        (spec.selection depth (spec.braces depth)
+        (spec.bodies depth) position (ahead parser.old)) }
 {
-    let (value, rest) = enclosed_condition(alloc, depth, tokens)?;
-    let rest = expect(Sign::OpenBrace, rest)?;
-    match cases(alloc, depth, rest) {
-        Ok((cases, rest)) => match otherwise(alloc, depth, rest) {
-            Ok((other, rest)) => parts::switch_on(rest, alloc, position, value, cases, other),
+    let value = enclosed_condition(parser, depth)?;
+    expect(parser, Sign::OpenBrace)?;
+    match cases(parser, depth) {
+        Ok(cases) => match otherwise(parser, depth) {
+            Ok(other) => parts::switch_on(parser, position, value, cases, other),
             Err(e) => Err(e),
         },
         Err(e) => Err(e),
     }
 }
 
-// A statement in which `depth` nestings more may be opened, and the tokens after it.
+// A statement in which `depth` nestings more may be opened.
 #[cycle(statement)]
 #[tactic(auto, unfolding(crate::specs::Parse::statement, crate::specs::Parse::statement_over))]
 fn statement<'t, 'a>(
-    alloc: Global,
+    parser: &mut Parser<'t, 'a>,
     depth: usize,
-    tokens: &'t [Token<'a>],
-) -> Result<(Box<Statement<'a>>, &'t [Token<'a>]), ParseError>
-    ensures { ReadsStatement result (spec.statement depth (lexemes tokens.now)) }
+) -> Result<Box<Statement<'a>>, ParseError>
+    ensures { TakesStatement result parser.new
+        (spec.statement depth (ahead parser.old)) }
 {
-    let first = peek(tokens);
-    let rest = skip(tokens);
+    let opening = parser.tokens;
+    let first = peek(opening);
+    pass(parser);
     match first.kind {
-        Kind::Sign(Sign::OpenBrace) => block(alloc, depth, tokens),
-        Kind::Reserved(Word::If) => choice(alloc, depth, first.position, rest),
-        Kind::Reserved(Word::While) => repetition(alloc, depth, first.position, rest),
-        Kind::Reserved(Word::Do) => until(alloc, depth, first.position, rest),
-        Kind::Reserved(Word::For) => iteration(alloc, depth, first.position, rest),
-        Kind::Reserved(Word::Objectloop) => traversal(alloc, depth, first.position, rest),
-        Kind::Reserved(Word::Switch) => selection(alloc, depth, first.position, rest),
-        _ => plain(alloc, depth, tokens),
+        Kind::Reserved(Word::If) => choice(parser, depth, first.position),
+        Kind::Reserved(Word::While) => repetition(parser, depth, first.position),
+        Kind::Reserved(Word::Do) => until(parser, depth, first.position),
+        Kind::Reserved(Word::For) => iteration(parser, depth, first.position),
+        Kind::Reserved(Word::Objectloop) => traversal(parser, depth, first.position),
+        Kind::Reserved(Word::Switch) => selection(parser, depth, first.position),
+        Kind::Sign(Sign::OpenBrace) => {
+            parser.tokens = opening;
+            block(parser, depth)
+        }
+        _ => {
+            parser.tokens = opening;
+            plain(parser, depth)
+        }
     }
 }

@@ -2,17 +2,16 @@
 
 ghost use Rattle.std.specs.Prelude.{◌≡◌, ◌<◌, IfOk};
 ghost use Rattle.std.specs.Option.{option_map};
-ghost use Rattle.lexer.specs.Token.{lexemes};
 ghost use Rattle.expressions.specs.Tree.{name_tree, expression_tree};
-ghost use Rattle.expressions.specs.Returned.{Reads};
 ghost use Rattle.statements.specs.Tree.{part_tree, loop_tree};
+ghost use Rattle.statements.specs.Returned.{ahead, Takes};
 ghost use Rattle.statements.specs.Parse as spec;
 
 use crate::names::named;
+use crate::parser::{Parser, expect, unassigned};
 use crate::tree::Loop;
-use expressions::{Containment, Expression, Name, ParseError, expect, open, unassigned};
-use lexer::{Sign, Token};
-use std::alloc::Global;
+use expressions::{Containment, Expression, Name, ParseError, open};
+use lexer::Sign;
 
 // The name that the expression is alone.
 fn name_alone<'a>(e: &Expression<'a>) -> Option<Name<'a>>
@@ -117,17 +116,14 @@ fn loop_of<'a>(variable: Name<'a>, found: Box<Expression<'a>>) -> Loop<'a>
 
 // What the loop goes over, with the parenthesis behind it.
 #[tactic(auto, unfolding(crate::specs::Parse::looped))]
-fn looped<'t, 'a>(
-    alloc: Global,
-    depth: usize,
-    tokens: &'t [Token<'a>],
-) -> Result<(Box<Loop<'a>>, &'t [Token<'a>]), ParseError>
-    ensures { Reads (λ x. loop_tree x.value) result (spec.looped depth (lexemes tokens.now)) }
+fn looped<'t, 'a>(parser: &mut Parser<'t, 'a>, depth: usize) -> Result<Box<Loop<'a>>, ParseError>
+    ensures { Takes (λ x. loop_tree x.value) result parser.new
+        (spec.looped depth (ahead parser.old)) }
 {
-    let (variable, _) = named(tokens)?;
-    let (found, rest) = unassigned(alloc, depth, tokens)?;
-    let rest = expect(Sign::CloseParenthesis, rest)?;
-    Ok((Box::new(alloc, loop_of(variable, found))?, rest))
+    let (variable, _) = named(parser.tokens)?;
+    let found = unassigned(parser, depth)?;
+    expect(parser, Sign::CloseParenthesis)?;
+    Ok(Box::new(parser.alloc, loop_of(variable, found))?)
 }
 
 /// What an `objectloop` goes over, in parentheses, which are a nesting.
@@ -138,15 +134,15 @@ fn looped<'t, 'a>(
 /// `Fault::Deep` where no nesting is left.
 #[tactic(auto, unfolding(crate::specs::Parse::enclosed_loop), using(crate::proofs::Inside::looped_zero, crate::proofs::Inside::looped_more))]
 pub fn enclosed_loop<'t, 'a>(
-    alloc: Global,
+    parser: &mut Parser<'t, 'a>,
     depth: usize,
-    tokens: &'t [Token<'a>],
-) -> Result<(Box<Loop<'a>>, &'t [Token<'a>]), ParseError>
-    ensures gives { Reads (λ x. loop_tree x.value) result
-        (spec.enclosed_loop depth (lexemes tokens.now)) }
+) -> Result<Box<Loop<'a>>, ParseError>
+    ensures gives { Takes (λ x. loop_tree x.value) result parser.new
+        (spec.enclosed_loop depth (ahead parser.old)) }
     ensures open { IfOk result (λ x. 0 < depth) }
 {
-    let rest = expect(Sign::OpenParenthesis, tokens)?;
-    let inside = open(depth, tokens)?;
-    looped(alloc, inside, rest)
+    let opening = parser.tokens;
+    expect(parser, Sign::OpenParenthesis)?;
+    let inside = open(depth, opening)?;
+    looped(parser, inside)
 }

@@ -1,36 +1,32 @@
 //! Statements without statements inside them, read from tokens.
 
 ghost use Rattle.std.specs.Prelude.{◌≡◌, Ok};
-ghost use Rattle.lexer.specs.Token.{lexemes};
 ghost use Rattle.expressions.specs.Tree.{expression_tree};
 ghost use Rattle.expressions.specs.Parse as reading;
 ghost use Rattle.statements.specs.Grammar as grammar;
 ghost use Rattle.statements.specs.Tree as tree;
 ghost use Rattle.statements.specs.Tree.{simple_tree};
-ghost use Rattle.statements.specs.Returned.{ReadsSimple};
+ghost use Rattle.statements.specs.Returned.{ahead, TakesSimple};
 ghost use Rattle.statements.specs.Parse as spec;
 
 use crate::items::items;
-use crate::names::{flags, named};
+use crate::names::flags;
+use crate::parser::{Parser, expect, expect_word, expression, name, pass};
 use crate::tree::SimpleStatement;
-use expressions::{
-    Expression, Fault, ParseError, expect, expect_word, expression, fault_at, is_sign, peek,
-    position, skip,
-};
-use lexer::{Kind, Position, Sign, Token, Word};
-use std::alloc::Global;
+use expressions::{Expression, Fault, ParseError, fault_at, is_sign, peek, position};
+use lexer::{Kind, Position, Sign, Word};
 
-// The statement in a box, and the tokens after it. The tokens come first here and in `ended`: so the lifetimes of the
-// arguments have the places that they have in the callers, else the prover compares their types part by part.
+// The statement in a box. The parser comes first here, in `ended` and in all that makes statements, also where nothing is
+// read: so the lifetimes of the arguments have the places that they have in the callers, else the prover compares their
+// types part by part.
 fn in_box<'t, 'a>(
-    rest: &'t [Token<'a>],
-    alloc: Global,
+    parser: &Parser<'t, 'a>,
     statement: SimpleStatement<'a>,
-) -> Result<(Box<SimpleStatement<'a>>, &'t [Token<'a>]), ParseError>
-    ensures { ReadsSimple result (Ok (simple_tree statement.entry, lexemes rest.now)) }
+) -> Result<Box<SimpleStatement<'a>>, ParseError>
+    ensures { TakesSimple result parser.now (Ok (simple_tree statement.entry, ahead parser.now)) }
 {
-    match Box::new(alloc, statement) {
-        Ok(statement) => Ok((statement, rest)),
+    match Box::new(parser.alloc, statement) {
+        Ok(statement) => Ok(statement),
         Err(refused) => Err(ParseError::from(refused)),
     }
 }
@@ -38,14 +34,14 @@ fn in_box<'t, 'a>(
 // The statement, behind its `;`.
 #[tactic(auto, unfolding(crate::specs::Parse::ended))]
 fn ended<'t, 'a>(
-    tokens: &'t [Token<'a>],
-    alloc: Global,
+    parser: &mut Parser<'t, 'a>,
     statement: SimpleStatement<'a>,
-) -> Result<(Box<SimpleStatement<'a>>, &'t [Token<'a>]), ParseError>
-    ensures { ReadsSimple result (spec.ended (simple_tree statement.entry) (lexemes tokens.now)) }
+) -> Result<Box<SimpleStatement<'a>>, ParseError>
+    ensures { TakesSimple result parser.new
+        (spec.ended (simple_tree statement.entry) (ahead parser.old)) }
 {
-    match expect(Sign::Semicolon, tokens) {
-        Ok(rest) => in_box(rest, alloc, statement),
+    match expect(parser, Sign::Semicolon) {
+        Ok(()) => in_box(parser, statement),
         Err(e) => {
             // By a call, so that the proof here does not go through each kind of statement.
             drop(statement);
@@ -61,14 +57,13 @@ fn ended<'t, 'a>(
 /// Those of `items`, and `Fault::Grammar` where the `;` is missing.
 #[tactic(auto, unfolding(crate::specs::Parse::printed))]
 fn print<'t, 'a>(
-    alloc: Global,
+    parser: &mut Parser<'t, 'a>,
     depth: usize,
-    tokens: &'t [Token<'a>],
-) -> Result<(Box<SimpleStatement<'a>>, &'t [Token<'a>]), ParseError>
-    ensures { ReadsSimple result (spec.printed depth tree.print (lexemes tokens.now)) }
+) -> Result<Box<SimpleStatement<'a>>, ParseError>
+    ensures { TakesSimple result parser.new (spec.printed depth tree.print (ahead parser.old)) }
 {
-    match items(alloc, depth, tokens) {
-        Ok((found, rest)) => ended(rest, alloc, SimpleStatement::Print(found)),
+    match items(parser, depth) {
+        Ok(found) => ended(parser, SimpleStatement::Print(found)),
         Err(e) => Err(e),
     }
 }
@@ -80,14 +75,14 @@ fn print<'t, 'a>(
 /// Those of `items`, and `Fault::Grammar` where the `;` is missing.
 #[tactic(auto, unfolding(crate::specs::Parse::printed))]
 fn print_return<'t, 'a>(
-    alloc: Global,
+    parser: &mut Parser<'t, 'a>,
     depth: usize,
-    tokens: &'t [Token<'a>],
-) -> Result<(Box<SimpleStatement<'a>>, &'t [Token<'a>]), ParseError>
-    ensures { ReadsSimple result (spec.printed depth tree.print_return (lexemes tokens.now)) }
+) -> Result<Box<SimpleStatement<'a>>, ParseError>
+    ensures { TakesSimple result parser.new
+        (spec.printed depth tree.print_return (ahead parser.old)) }
 {
-    match items(alloc, depth, tokens) {
-        Ok((found, rest)) => ended(rest, alloc, SimpleStatement::PrintReturn(found)),
+    match items(parser, depth) {
+        Ok(found) => ended(parser, SimpleStatement::PrintReturn(found)),
         Err(e) => Err(e),
     }
 }
@@ -99,18 +94,18 @@ fn print_return<'t, 'a>(
 /// Those of `expression`, and `Fault::Grammar` where the `;` is missing.
 #[tactic(auto, unfolding(crate::specs::Parse::returned))]
 fn returned<'t, 'a>(
-    alloc: Global,
+    parser: &mut Parser<'t, 'a>,
     depth: usize,
     position: Position,
-    tokens: &'t [Token<'a>],
-) -> Result<(Box<SimpleStatement<'a>>, &'t [Token<'a>]), ParseError>
-    ensures { ReadsSimple result (spec.returned depth position (lexemes tokens.now)) }
+) -> Result<Box<SimpleStatement<'a>>, ParseError>
+    ensures { TakesSimple result parser.new (spec.returned depth position (ahead parser.old)) }
 {
-    if is_sign(peek(tokens), Sign::Semicolon) {
-        return in_box(skip(tokens), alloc, SimpleStatement::Return);
+    if is_sign(peek(parser.tokens), Sign::Semicolon) {
+        pass(parser);
+        return in_box(parser, SimpleStatement::Return);
     }
-    match expression(alloc, depth, tokens) {
-        Ok((value, rest)) => ended(rest, alloc, SimpleStatement::ReturnValue(position, value)),
+    match expression(parser, depth) {
+        Ok(value) => ended(parser, SimpleStatement::ReturnValue(position, value)),
         Err(e) => Err(e),
     }
 }
@@ -121,15 +116,12 @@ fn returned<'t, 'a>(
 ///
 /// `Fault::Grammar` at the first token that is not what is wanted: a name, another, and `;`.
 #[tactic(auto, unfolding(crate::specs::Parse::line_read))]
-fn read<'t, 'a>(
-    alloc: Global,
-    tokens: &'t [Token<'a>],
-) -> Result<(Box<SimpleStatement<'a>>, &'t [Token<'a>]), ParseError>
-    ensures { ReadsSimple result (spec.line_read (lexemes tokens.now)) }
+fn read<'t, 'a>(parser: &mut Parser<'t, 'a>) -> Result<Box<SimpleStatement<'a>>, ParseError>
+    ensures { TakesSimple result parser.new (spec.line_read (ahead parser.old)) }
 {
-    let (text, rest) = named(tokens)?;
-    let (words, rest) = named(rest)?;
-    ended(rest, alloc, SimpleStatement::Read(text, words))
+    let text = name(parser)?;
+    let words = name(parser)?;
+    ended(parser, SimpleStatement::Read(text, words))
 }
 
 /// What follows `give`, which stands at `position`.
@@ -139,16 +131,15 @@ fn read<'t, 'a>(
 /// Those of `expression` and of `flags`, and `Fault::Grammar` where the `;` is missing.
 #[tactic(auto, unfolding(crate::specs::Parse::given))]
 fn given<'t, 'a>(
-    alloc: Global,
+    parser: &mut Parser<'t, 'a>,
     depth: usize,
     position: Position,
-    tokens: &'t [Token<'a>],
-) -> Result<(Box<SimpleStatement<'a>>, &'t [Token<'a>]), ParseError>
-    ensures { ReadsSimple result (spec.given depth position (lexemes tokens.now)) }
+) -> Result<Box<SimpleStatement<'a>>, ParseError>
+    ensures { TakesSimple result parser.new (spec.given depth position (ahead parser.old)) }
 {
-    let (object, rest) = expression(alloc, depth, tokens)?;
-    match flags(alloc, rest) {
-        Ok((found, rest)) => ended(rest, alloc, SimpleStatement::Give(position, object, found)),
+    let object = expression(parser, depth)?;
+    match flags(parser) {
+        Ok(found) => ended(parser, SimpleStatement::Give(position, object, found)),
         Err(e) => Err(e),
     }
 }
@@ -160,17 +151,16 @@ fn given<'t, 'a>(
 /// Those of `expression`, and `Fault::Grammar` where `to` or the `;` is missing.
 #[tactic(auto, unfolding(crate::specs::Parse::moved))]
 fn moved<'t, 'a>(
-    alloc: Global,
+    parser: &mut Parser<'t, 'a>,
     depth: usize,
     position: Position,
-    tokens: &'t [Token<'a>],
-) -> Result<(Box<SimpleStatement<'a>>, &'t [Token<'a>]), ParseError>
-    ensures { ReadsSimple result (spec.moved depth position (lexemes tokens.now)) }
+) -> Result<Box<SimpleStatement<'a>>, ParseError>
+    ensures { TakesSimple result parser.new (spec.moved depth position (ahead parser.old)) }
 {
-    let (object, rest) = expression(alloc, depth, tokens)?;
-    let rest = expect_word(Word::To, rest)?;
-    match expression(alloc, depth, rest) {
-        Ok((parent, rest)) => ended(rest, alloc, SimpleStatement::Move(position, object, parent)),
+    let object = expression(parser, depth)?;
+    expect_word(parser, Word::To)?;
+    match expression(parser, depth) {
+        Ok(parent) => ended(parser, SimpleStatement::Move(position, object, parent)),
         Err(e) => Err(e),
     }
 }
@@ -182,15 +172,14 @@ fn moved<'t, 'a>(
 /// Those of `expression`, and `Fault::Grammar` where the `;` is missing.
 #[tactic(auto, unfolding(crate::specs::Parse::removed))]
 fn removed<'t, 'a>(
-    alloc: Global,
+    parser: &mut Parser<'t, 'a>,
     depth: usize,
     position: Position,
-    tokens: &'t [Token<'a>],
-) -> Result<(Box<SimpleStatement<'a>>, &'t [Token<'a>]), ParseError>
-    ensures { ReadsSimple result (spec.removed depth position (lexemes tokens.now)) }
+) -> Result<Box<SimpleStatement<'a>>, ParseError>
+    ensures { TakesSimple result parser.new (spec.removed depth position (ahead parser.old)) }
 {
-    match expression(alloc, depth, tokens) {
-        Ok((object, rest)) => ended(rest, alloc, SimpleStatement::Remove(position, object)),
+    match expression(parser, depth) {
+        Ok(object) => ended(parser, SimpleStatement::Remove(position, object)),
         Err(e) => Err(e),
     }
 }
@@ -229,19 +218,18 @@ pub fn has_effect(e: &Expression<'_>) -> bool
 /// Those of `expression`; `Fault::Grammar` at the token after the expression where it has no effect, or no `;` follows.
 #[tactic(auto, unfolding(crate::specs::Parse::alone))]
 fn alone<'t, 'a>(
-    alloc: Global,
+    parser: &mut Parser<'t, 'a>,
     depth: usize,
-    tokens: &'t [Token<'a>],
-) -> Result<(Box<SimpleStatement<'a>>, &'t [Token<'a>]), ParseError>
-    ensures { ReadsSimple result (spec.alone depth (lexemes tokens.now)) }
+) -> Result<Box<SimpleStatement<'a>>, ParseError>
+    ensures { TakesSimple result parser.new (spec.alone depth (ahead parser.old)) }
 {
-    let begin = position(tokens);
-    match expression(alloc, depth, tokens) {
-        Ok((value, rest)) => {
+    let begin = position(parser.tokens);
+    match expression(parser, depth) {
+        Ok(value) => {
             if !has_effect(&value) {
-                return Err(fault_at(Fault::Grammar, rest));
+                return Err(fault_at(Fault::Grammar, parser.tokens));
             }
-            ended(rest, alloc, SimpleStatement::Effect(begin, value))
+            ended(parser, SimpleStatement::Effect(begin, value))
         }
         Err(e) => Err(e),
     }
@@ -253,35 +241,35 @@ fn alone<'t, 'a>(
 ///
 /// Those of `expression` and of `items`, and `Fault::Grammar` at the first token with which no such statement goes on.
 pub fn simple<'t, 'a>(
-    alloc: Global,
+    parser: &mut Parser<'t, 'a>,
     depth: usize,
-    tokens: &'t [Token<'a>],
-) -> Result<(Box<SimpleStatement<'a>>, &'t [Token<'a>]), ParseError>
-    ensures { ReadsSimple result
-        (spec.plain_on depth (reading.head (lexemes tokens.now)) (lexemes tokens.now)) }
+) -> Result<Box<SimpleStatement<'a>>, ParseError>
+    ensures { TakesSimple result parser.new
+        (spec.plain_on depth (reading.head (ahead parser.old)) (ahead parser.old)) }
 {
-    let first = peek(tokens);
-    let rest = skip(tokens);
+    let opening = parser.tokens;
+    let first = peek(opening);
+    pass(parser);
     match first.kind {
-        Kind::Sign(Sign::Semicolon) => in_box(rest, alloc, SimpleStatement::Empty),
-        Kind::Text(bytes) => ended(rest, alloc, SimpleStatement::Text(bytes)),
-        Kind::Reserved(Word::Print) => print(alloc, depth, rest),
-        Kind::Reserved(Word::PrintRet) => print_return(alloc, depth, rest),
-        Kind::Reserved(Word::NewLine) => ended(rest, alloc, SimpleStatement::NewLine),
-        Kind::Reserved(Word::Break) => ended(rest, alloc, SimpleStatement::Break(first.position)),
-        Kind::Reserved(Word::Continue) => ended(
-            rest,
-            alloc,
-            SimpleStatement::Continue(first.position),
-        ),
-        Kind::Reserved(Word::Return) => returned(alloc, depth, first.position, rest),
-        Kind::Reserved(Word::Rtrue) => ended(rest, alloc, SimpleStatement::ReturnTrue),
-        Kind::Reserved(Word::Rfalse) => ended(rest, alloc, SimpleStatement::ReturnFalse),
-        Kind::Reserved(Word::Quit) => ended(rest, alloc, SimpleStatement::Quit),
-        Kind::Reserved(Word::Read) => read(alloc, rest),
-        Kind::Reserved(Word::Give) => given(alloc, depth, first.position, rest),
-        Kind::Reserved(Word::Move) => moved(alloc, depth, first.position, rest),
-        Kind::Reserved(Word::Remove) => removed(alloc, depth, first.position, rest),
-        _ => alone(alloc, depth, tokens),
+        Kind::Sign(Sign::Semicolon) => in_box(parser, SimpleStatement::Empty),
+        Kind::Text(bytes) => ended(parser, SimpleStatement::Text(bytes)),
+        Kind::Reserved(Word::Print) => print(parser, depth),
+        Kind::Reserved(Word::PrintRet) => print_return(parser, depth),
+        Kind::Reserved(Word::NewLine) => ended(parser, SimpleStatement::NewLine),
+        Kind::Reserved(Word::Break) => ended(parser, SimpleStatement::Break(first.position)),
+        Kind::Reserved(Word::Continue) => ended(parser, SimpleStatement::Continue(first.position)),
+        Kind::Reserved(Word::Return) => returned(parser, depth, first.position),
+        Kind::Reserved(Word::Rtrue) => ended(parser, SimpleStatement::ReturnTrue),
+        Kind::Reserved(Word::Rfalse) => ended(parser, SimpleStatement::ReturnFalse),
+        Kind::Reserved(Word::Quit) => ended(parser, SimpleStatement::Quit),
+        Kind::Reserved(Word::Read) => read(parser),
+        Kind::Reserved(Word::Give) => given(parser, depth, first.position),
+        Kind::Reserved(Word::Move) => moved(parser, depth, first.position),
+        Kind::Reserved(Word::Remove) => removed(parser, depth, first.position),
+        _ => {
+            // The token is the first of the expression.
+            parser.tokens = opening;
+            alone(parser, depth)
+        }
     }
 }

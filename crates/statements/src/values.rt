@@ -6,12 +6,13 @@ ghost use Rattle.expressions.specs.Parse.{head, tail};
 ghost use Rattle.expressions.specs.Returned.{Reads};
 ghost use Rattle.statements.specs.Nesting as nesting;
 ghost use Rattle.statements.specs.Tree.{literal_tree, range_tree};
+ghost use Rattle.statements.specs.Returned.{ahead, Takes};
 ghost use Rattle.statements.specs.Parse as spec;
 
+use crate::parser::{Parser, pass, value};
 use crate::tree::{Literal, Range};
 use expressions::{Fault, Name, ParseError, fault_at, is_sign, is_word, peek, skip};
 use lexer::{Kind, Sign, Token, Word};
-use std::alloc::Global;
 
 // The number behind a `-`.
 fn negative<'t, 'a>(tokens: &'t [Token<'a>]) -> Result<(Literal<'a>, &'t [Token<'a>]), ParseError>
@@ -107,19 +108,19 @@ pub fn begins_case(tokens: &[Token<'_>]) -> bool
 
 // The values for which a case is meant: one alone, or those from one to another.
 #[tactic(auto, unfolding(crate::specs::Parse::range))]
-fn range<'t, 'a>(tokens: &'t [Token<'a>]) -> Result<(Range<'a>, &'t [Token<'a>]), ParseError>
-    ensures { Reads range_tree result (spec.range (lexemes tokens.now)) }
+fn range<'t, 'a>(parser: &mut Parser<'t, 'a>) -> Result<Range<'a>, ParseError>
+    ensures { Takes range_tree result parser.new (spec.range (ahead parser.old)) }
 {
-    let (low, rest) = known_value(tokens)?;
-    if !is_word(peek(rest), Word::To) {
-        return Ok((Range { low, high: None }, rest));
+    let low = value(parser)?;
+    if !is_word(peek(parser.tokens), Word::To) {
+        return Ok(Range { low, high: None });
     }
-    let (high, rest) = known_value(skip(rest))?;
-    let range = Range {
+    pass(parser);
+    let high = value(parser)?;
+    Ok(Range {
         low,
         high: Some(high),
-    };
-    Ok((range, rest))
+    })
 }
 
 /// What a case is meant for, with commas between its ranges.
@@ -128,22 +129,20 @@ fn range<'t, 'a>(tokens: &'t [Token<'a>]) -> Result<(Range<'a>, &'t [Token<'a>])
 ///
 /// `Fault::Grammar`: the tokens begin no value; `Memory`: a growth is refused.
 #[tactic(auto, unfolding(crate::specs::Parse::ranges, expressions::specs::Parse::list), using(crate::proofs::Loops::further_out, crate::proofs::Loops::further_done, crate::proofs::Loops::further_more, crate::proofs::Loops::further_fails))]
-pub fn ranges<'t, 'a>(
-    alloc: Global,
-    tokens: &'t [Token<'a>],
-) -> Result<(Vec<Range<'a>>, &'t [Token<'a>]), ParseError>
-    ensures { Reads (λ xs. map range_tree xs.items) result (spec.ranges (lexemes tokens.now)) }
+pub fn ranges<'t, 'a>(parser: &mut Parser<'t, 'a>) -> Result<Vec<Range<'a>>, ParseError>
+    ensures { Takes (λ xs. map range_tree xs.items) result parser.new
+        (spec.ranges (ahead parser.old)) }
 {
-    let mut found = Vec::new(alloc);
-    let (first, mut rest) = range(tokens)?;
+    let mut found = Vec::new(parser.alloc);
+    let first = range(parser)?;
     found.push(first)?;
-    for _turn in 0..rest.len() {
-        if !is_sign(peek(rest), Sign::Comma) {
+    for _turn in 0..parser.tokens.len() {
+        if !is_sign(peek(parser.tokens), Sign::Comma) {
             break;
         }
-        let (next, after) = range(skip(rest))?;
+        pass(parser);
+        let next = range(parser)?;
         found.push(next)?;
-        rest = after;
     }
-    Ok((found, rest))
+    Ok(found)
 }

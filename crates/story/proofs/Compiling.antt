@@ -20,7 +20,7 @@ use Rattle.zcore.specs.declared.header.Header.{Header}
 use Rattle.names.specs.declared.breach.Breach.{Breach}
 use Rattle.meaning.specs.Accepted.{IsAccepted}
 use Rattle.names.specs.Breaches.{IsAmong, IsFirst}
-use Rattle.checker.specs.Laws.{AcceptedPrograms, PrintablePrograms}
+use Rattle.acceptance.specs.Laws.{AcceptedPrograms, PrintablePrograms}
 use Rattle.meaning.specs.Printable.{HasPrintableTexts}
 use Rattle.checker.specs.Programs.{program_breaches, IsCheckedOf}
 use Rattle.meaning.specs.Places.{routines_place}
@@ -31,9 +31,9 @@ use Rattle.sizes.specs.Laws.{IsSmall, SmallSourcesHaveSmallCode}
 use Rattle.story.specs.Compiled.{IsTreeOf, IsStoryOf, Refuses, Compiles, lexemes_of, first_heavy, heavy_fault}
 use Rattle.story.specs.Compiled.{NumbersKeys, size_fault, fault}
 use Rattle.story.specs.Compiled as spec
-use Rattle.story.specs.Layout.{addresses_in, greatest_word, story_of}
+use Rattle.story_file.specs.Layout.{addresses_in, greatest_word, story_of}
 use Rattle.story.specs.Laws.{StoriesHold}
-use Rattle.story.specs.Written.{Fits}
+use Rattle.story_file.specs.Written.{Fits}
 use Rattle.story.proofs.Faults.{by_weight, size_faults, placed_of}
 use Rattle.story.proofs.Sizes.{stories_are_short, is_story}
 use Rattle.story.proofs.Numbered.{keys_numbered}

@@ -6,7 +6,8 @@ use Rattle.std.proofs.lemmas.Bool.{cases_lt, lt-ltb}
 use Rattle.lexer.specs.declared.fault.SourceFault.{SourceFault}
 use Rattle.lexer.specs.declared.token.Position.{Position}
 use Rattle.zcore.specs.declared.header.Version.{Version}
-use Rattle.syntax.specs.Tree.{RoutineTree, ProgramTree}
+use Rattle.directives.specs.Tree.{RoutineTree}
+use Rattle.syntax.specs.Tree.{ProgramTree}
 use Rattle.meaning.specs.declared.checked.CheckedRoutine.{CheckedRoutine}
 use Rattle.meaning.specs.Places.{routines_place}
 use Rattle.meaning.specs.Resolved.{ProgramOf, CheckedProgram, title_of}

@@ -20,20 +20,20 @@ use Rattle.items.specs.Statements.{routine_items}
 use Rattle.meaning.specs.World.{words_of}
 use Rattle.region.specs.Laws.{HoldsRows}
 use Rattle.region.specs.Rows.{rows_of, rows_bytes}
-use Rattle.instructions.specs.Addresses.{Addresses, number_of}
+use Rattle.encoding.specs.Addresses.{Addresses, number_of}
 use Rattle.code.specs.Bytes.{code_size}
 use Rattle.code.specs.HeldProgram.{HoldsProgram, HoldsAbbreviation, HoldsRoutine, HoldsText, fault_line, start_code}
 use Rattle.code.specs.HeldProgram.{sizes_of}
 use Rattle.code.specs.Sizes.{routine_size}
-use Rattle.story.specs.Layout.{addresses_in, fault_texts, packed_addresses, parts_from, addresses_from}
-use Rattle.story.specs.Layout.{greatest_word, low_bytes, routine_bytes, story_of, text_places}
+use Rattle.story_file.specs.Layout.{addresses_in, fault_texts, packed_addresses, parts_from, addresses_from}
+use Rattle.story_file.specs.Layout.{greatest_word, low_bytes, routine_bytes, story_of, text_places}
 use Rattle.story.specs.Laws.{IsShort, StoriesHold}
-use Rattle.story.proofs.Parts.{HasPartAt, holds_first, parts_rise, parts_stand, addresses_count}
-use Rattle.story.proofs.Lengths.{routine_length, sizes_are}
-use Rattle.story.proofs.AbbreviationTables.{texts_above, texts_below}
-use Rattle.story.proofs.Low.{global_stands, arrays_hold, objects_hold, high_stands, start_stands}
-use Rattle.story.proofs.Low.{place_stands, abbreviation_stands}
-use Rattle.story.proofs.ObjectTables.{rows_sized}
+use Rattle.story_file.proofs.Parts.{HasPartAt, holds_first, parts_rise, parts_stand, addresses_count}
+use Rattle.story_file.proofs.Lengths.{routine_length, sizes_are}
+use Rattle.story_file.proofs.AbbreviationTables.{texts_above, texts_below}
+use Rattle.story_file.proofs.Low.{global_stands, arrays_hold, objects_hold, high_stands, start_stands}
+use Rattle.story_file.proofs.Low.{place_stands, abbreviation_stands}
+use Rattle.story_file.proofs.ObjectTables.{rows_sized}
 use Rattle.story.proofs.Reading.{Says, behind_header, says, header_read, laid_length, laid_out, laid_read, laid_keys}
 use Rattle.story.proofs.PackedParts.{packed_is, scale_is, is_packed, size_at, routine_is, few_causes, text_of}
 use Rattle.story.proofs.PackedParts.{parts_of, parts_count, routine_part, text_part, part_long, array_found}

@@ -9,7 +9,7 @@ use Rattle.zcore.specs.Instruction.{bytes_of}
 use Rattle.ztext.specs.Text.{encoded, key_of}
 use Rattle.ztext.specs.Words.{packed}
 use Rattle.meaning.specs.Resolved.{ProgramOf, number, number_of, print as prints, stop, next}
-use Rattle.story.specs.Layout.{story_of}
+use Rattle.story_file.specs.Layout.{story_of}
 use Rattle.story.proofs.Samples.{no_defaults}
 
 -- an object within another:

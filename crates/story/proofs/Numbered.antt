@@ -7,10 +7,10 @@ use Rattle.names.specs.Keys.{IsAmong}
 use Rattle.tables.specs.Dictionary.{place_in, key_number}
 use Rattle.meaning.specs.Resolved.{ProgramOf}
 use Rattle.meaning.specs.Places.{dictionary_place, routines_place, number_in}
-use Rattle.instructions.specs.Addresses.{Addresses}
+use Rattle.encoding.specs.Addresses.{Addresses}
 use Rattle.code.specs.HeldProgram.{HoldsProgram}
 use Rattle.story.specs.Compiled.{NumbersKeys}
-use Rattle.story.specs.Layout.{greatest_word}
+use Rattle.story_file.specs.Layout.{greatest_word}
 
 -- Entries from a place on
 

@@ -24,7 +24,7 @@ use Rattle.meaning.specs.declared.resolved.Variable.TheVariants as variables
 use Rattle.meaning.specs.Meaning.{meaning}
 use Rattle.meaning.specs.Resolved.{ProgramOf, binary, call as calls, effect, entry, more, none, number, number_of}
 use Rattle.meaning.specs.Resolved.{print as prints, read, stop, text, next}
-use Rattle.story.specs.Layout.{array_addresses, packed_addresses, story_of}
+use Rattle.story_file.specs.Layout.{array_addresses, packed_addresses, story_of}
 use Rattle.story.proofs.Samples.{no_defaults, shown}
 
 -- `[ Main; print 1/0; ];`, with two globals

@@ -16,11 +16,11 @@ use Rattle.meaning.specs.Accepted.{IsAccepted}
 use Rattle.meaning.specs.Places.{defaults_place, dictionary_place, start_place, routines_place, places_of}
 use Rattle.meaning.specs.Resolved.{ProgramOf}
 use Rattle.code.specs.HeldProgram.{start_code}
-use Rattle.story.specs.Layout.{abbreviation_texts, greatest_word, header_of, low_bytes, key_bytes, dictionary_bytes}
-use Rattle.story.specs.Layout.{parts_from}
-use Rattle.story.proofs.Parts.{whole, holds_first, parts_end}
-use Rattle.story.proofs.Entries.{keys_read}
-use Rattle.story.proofs.Low.{word_is, byte_behind, word_behind, low_length, dictionary_stands}
+use Rattle.story_file.specs.Layout.{abbreviation_texts, greatest_word, header_of, low_bytes, key_bytes}
+use Rattle.story_file.specs.Layout.{dictionary_bytes, parts_from}
+use Rattle.story_file.proofs.Parts.{whole, holds_first, parts_end}
+use Rattle.story_file.proofs.Entries.{keys_read}
+use Rattle.story_file.proofs.Low.{word_is, byte_behind, word_behind, low_length, dictionary_stands}
 
 -- what the header of a program's story says
 pub record Says (version : Version) (p : ProgramOf) (story : List ℕ) : Type 0 where

@@ -15,15 +15,16 @@ use Rattle.ztext.specs.Text.{encoded}
 use Rattle.zcore.specs.Turn.{Whole, opening, turn_from, weight}
 use Rattle.ztext.specs.Words.{packed}
 use Rattle.statements.specs.Tree as trees
-use Rattle.syntax.specs.Tree.{ProgramTree, routine}
+use Rattle.directives.specs.Tree.{routine}
+use Rattle.syntax.specs.Tree.{ProgramTree}
 use Rattle.meaning.specs.Meaning.{meaning}
 use Rattle.names.specs.Names.{table_of}
 use Rattle.names.specs.Names as names
 use Rattle.checker.specs.Programs.{resolve_program, resolve_with}
 use Rattle.meaning.specs.Resolved.{ProgramOf, number, stop, text}
 use Rattle.story.specs.Compiled.{size_fault}
-use Rattle.story.specs.Layout.{abbreviation_bytes, abbreviation_texts, fault_texts, low_bytes}
-use Rattle.story.specs.Layout.{packed_addresses, story_of}
+use Rattle.story_file.specs.Layout.{abbreviation_bytes, abbreviation_texts, fault_texts, low_bytes}
+use Rattle.story_file.specs.Layout.{packed_addresses, story_of}
 
 texts : fault_texts
     ≡ (20 ∷ 229 ∷ 24 ∷ 91 ∷ 17 ∷ 102 ∷ 106 ∷ 57 ∷ 23 ∷ 160 ∷ 37 ∷ 219 ∷ 59 ∷ 14 ∷ 82 ∷ 96 ∷ 31 ∷ 192 ∷ 125 ∷ 87

@@ -9,13 +9,13 @@ use Rattle.meaning.specs.Resolved.{RoutineOf, ProgramOf}
 use Rattle.meaning.specs.Accepted.{IsAccepted}
 use Rattle.meaning.specs.Places.{routines_place}
 use Rattle.meaning.specs.Sizes.{greatest_weight}
-use Rattle.instructions.specs.Addresses.{Sizes}
+use Rattle.encoding.specs.Addresses.{Sizes}
 use Rattle.code.specs.HeldProgram.{sizes_of}
 use Rattle.code.specs.Sizes.{routine_size, routines_size}
-use Rattle.story.specs.Layout.{addresses_in, fault_texts, greatest_word, parts_from, story_of}
+use Rattle.story_file.specs.Layout.{addresses_in, fault_texts, greatest_word, parts_from, story_of}
 use Rattle.story.specs.Laws.{IsShort, IsStory, StoriesAreShort}
-use Rattle.story.proofs.Parts.{parts_short, room_for}
-use Rattle.story.proofs.Lengths.{sizes_are}
+use Rattle.story_file.proofs.Parts.{parts_short, room_for}
+use Rattle.story_file.proofs.Lengths.{sizes_are}
 use Rattle.story.proofs.Reading.{laid_length}
 use Rattle.story.proofs.PackedParts.{parts_of, text_lengths}
 

@@ -8,7 +8,8 @@ use Rattle.lexer.specs.Results as faults
 use Rattle.lexer.specs.declared.token.Position.{Position}
 use Rattle.lexer.specs.Token.{Lexeme}
 use Rattle.lexer.specs.Tokens.{SourceToken, Lexes}
-use Rattle.syntax.specs.Tree.{RoutineTree, ProgramTree}
+use Rattle.directives.specs.Tree.{RoutineTree}
+use Rattle.syntax.specs.Tree.{ProgramTree}
 use Rattle.syntax.specs.Grammar.{IsProgram, program_nesting}
 use Rattle.syntax.specs.Nesting.{DeepProgram}
 use Rattle.names.specs.declared.breach.Breach.{Breach}
@@ -23,7 +24,7 @@ use Rattle.zcore.specs.declared.header.Header.{Header}
 use Rattle.zcore.specs.Header.{Reads, dictionary_of}
 use Rattle.zcore.specs.Dictionary.{entry_of}
 use Rattle.code.specs.Laws.{Plays}
-use Rattle.story.specs.Layout.{story_of, greatest_word}
+use Rattle.story_file.specs.Layout.{story_of, greatest_word}
 
 -- the tokens of a source
 abbrev pub lexemes_of : List SourceToken → List Lexeme

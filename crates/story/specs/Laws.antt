@@ -9,11 +9,11 @@ use Rattle.meaning.specs.Accepted.{IsAccepted}
 use Rattle.meaning.specs.Sizes.{greatest_weight}
 use Rattle.meaning.specs.Places.{routines_place}
 use Rattle.items.specs.Statements.{routine_items}
-use Rattle.instructions.specs.Addresses.{Sizes}
+use Rattle.encoding.specs.Addresses.{Sizes}
 use Rattle.code.specs.Bytes.{code_size}
 use Rattle.code.specs.Sizes.{routines_size}
 use Rattle.code.specs.HeldProgram.{sizes_of, HoldsProgram}
-use Rattle.story.specs.Layout.{addresses_in, greatest_word, greatest_length, story_of}
+use Rattle.story_file.specs.Layout.{addresses_in, greatest_word, greatest_length, story_of}
 
 -- the code of a routine of a program of these sizes can be reached by jumps
 abbrev pub IsShort : Sizes → RoutineOf → Type 0

@@ -1,4 +1,2 @@
-pub mod Layout
-pub mod Written
 pub mod Compiled
 pub mod Laws

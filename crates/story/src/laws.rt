@@ -8,8 +8,8 @@ pub fn stories_hold()
     ensures { StoriesHold }
 {}
 
-/// The packed addresses of a story are words where those of all that stands before its routines are words, and its code,
-/// with the filling between routines, weighs no more than the source of a story of the version may weigh.
+/// The packed addresses of a story are words where those of all that stands before its routines are words, and its
+/// code, with the filling between routines, weighs no more than the source of a story of the version may weigh.
 pub fn stories_are_short()
     ensures { StoriesAreShort }
 {}

@@ -5,14 +5,15 @@ ghost use Rattle.zcore.specs.declared.header.Version.TheVariants.{V5};
 ghost use Rattle.story.specs.Compiled.{Compiles};
 
 use crate::laws::{stories_are_short, stories_hold};
-use crate::write::write_story;
-use checker::{accepted_programs, check, printable_programs};
+use acceptance::{accepted_programs, printable_programs};
+use checker::check;
 use code::code_plays;
 use lexer::{SourceFault, lex, printable_tokens};
 use meaning::test_sizes;
 use sizes::small_sources_have_small_code;
 use std::alloc::Global;
 use std::marker::Model;
+use story_file::write_story;
 use syntax::{parse, printable_trees};
 use zcore::Version;
 

@@ -1,50 +1,26 @@
 -- What has a tree is read as that tree, unless it is nested too deep.
-use Rattle.std.proofs.Common.{◌≡◌, ℕ, zero, suc, ◌-◌, ◌<◌, ◌≤◌, max, true, false, List, [], ◌∷◌, length, Some, None}
-use Rattle.std.proofs.Common.{Result, Ok, Err, refl, ap, arith}
+use Rattle.std.proofs.Common.{◌≡◌, ℕ, zero, suc, ◌<◌, ◌≤◌, max, true, false, List, [], ◌∷◌, length, Result, Ok, Err}
+use Rattle.std.proofs.Common.{refl, arith}
 use Rattle.lexer.specs.declared.token.Position.{Position}
-use Rattle.lexer.specs.declared.token.Sign.TheVariants as s
 use Rattle.lexer.specs.declared.token.Word.TheVariants as w
-use Rattle.lexer.specs.Token.{Lexeme, name, reserved, sign, end}
+use Rattle.lexer.specs.Token.{Lexeme, end}
 use Rattle.expressions.specs.declared.error.Fault.{Fault}
 use Rattle.expressions.specs.declared.error.Fault.TheVariants.{Deep}
-use Rattle.expressions.specs.Tree.{NameTree}
-use Rattle.expressions.specs.Parse.{head, is_word, expect}
+use Rattle.expressions.specs.Parse.{head, is_word}
 use Rattle.expressions.proofs.Limited.{Limited, then, at_once}
-use Rattle.statements.specs.Tree.{LiteralTree, StatementTrees}
-use Rattle.statements.specs.Nesting.{begins_statement}
-use Rattle.statements.specs.Parse.{repeated, named, known_value, begins_value, statements}
-use Rattle.statements.proofs.Deepest.{listed, listed_back}
-use Rattle.statements.proofs.Complete.{at_Ss}
+use Rattle.statements.specs.Parse.{repeated}
 use Rattle.statements.proofs.PartsRead.{repeated_stop, repeated_next}
-use Rattle.statements.proofs.Follow.{short_Ss}
-use Rattle.statements.proofs.KnownValues.{known_read, short_K, begins_K}
-use Rattle.syntax.specs.declared.tree.ArrayKind.{ArrayKind}
-use Rattle.syntax.specs.Tree.{ValueTree, ObjectTree, RoutineTree, DirectiveTree, global, constant, array, attribute}
-use Rattle.syntax.specs.Tree.{property, object, routine, EntryTree, entry, abbreviate, directives_of, ProgramTree}
-use Rattle.syntax.specs.Grammar.{weight_of, kind_of, IsDirective, d_global, d_global_value, d_constant, d_array}
-use Rattle.syntax.specs.Grammar.{d_attribute, d_property, d_property_value, d_object, d_routine, IsEntry, e_directive}
-use Rattle.syntax.specs.Grammar.{e_abbreviate, IsEntries, entries_stop, entries_next, IsProgram, program as program_is}
-use Rattle.syntax.specs.Grammar.{directive_nesting, directives_nesting, program_nesting}
-use Rattle.syntax.specs.Parse.{names, values, kind, array_behind, ended, global_behind, constant_behind}
-use Rattle.syntax.specs.Parse.{attribute_behind, property_behind, object_behind, worded, goes_on, routine_at}
-use Rattle.syntax.specs.Parse.{directive, parts_of, one_entry, all_entries, entries, program}
-use Rattle.syntax.proofs.Lists.{names_read, short_Names, short_Values, values_read}
-use Rattle.syntax.proofs.ObjectsRead.{short_Head, short_Properties, short_Attributes}
-use Rattle.syntax.proofs.ObjectsComplete.{object_read}
-use Rattle.syntax.proofs.TextsRead.{short_Texts, abbreviate_read}
+use Rattle.directives.specs.Tree.{DirectiveTree}
+use Rattle.directives.specs.Grammar.{IsDirective, d_global, d_global_value, d_constant, d_array, d_attribute}
+use Rattle.directives.specs.Grammar.{d_property, d_property_value, d_object, d_routine, directive_nesting}
+use Rattle.syntax.specs.Tree.{EntryTree, entry, abbreviate, directives_of, ProgramTree}
+use Rattle.syntax.specs.Grammar.{IsEntry, e_directive, e_abbreviate, IsEntries, entries_stop, entries_next, IsProgram}
+use Rattle.syntax.specs.Grammar.{program as program_is, directives_nesting, program_nesting}
+use Rattle.syntax.specs.Parse.{goes_on, parts_of, one_entry, all_entries, entries, program}
+use Rattle.directives.proofs.Complete.{short_Directive, at_Directive}
+use Rattle.directives.proofs.TextsRead.{short_Texts, abbreviate_read}
 
 -- ---- directives
-
-short_Directive : {ts r : List Lexeme} {x : DirectiveTree} → IsDirective ts x r → length r < length ts
-short_Directive d_global = omega arith
-short_Directive (d_global_value k) = omega (arith, short_K k)
-short_Directive (d_constant k) = omega (arith, short_K k)
-short_Directive (d_array o a lt) = omega (arith, short_Values a)
-short_Directive d_attribute = omega arith
-short_Directive d_property = omega arith
-short_Directive (d_property_value k) = omega (arith, short_K k)
-short_Directive (d_object h a b) = omega (arith, short_Head h, short_Properties a, short_Attributes b)
-short_Directive (d_routine n a) = omega (arith, short_Names n, short_Ss a)
 
 first_Directive : {ts r : List Lexeme} {x : DirectiveTree} → IsDirective ts x r → goes_on (head ts) ≡ true
 first_Directive d_global = refl
@@ -56,10 +32,6 @@ first_Directive d_property = refl
 first_Directive (d_property_value k) = refl
 first_Directive (d_object h a b) = refl
 first_Directive (d_routine n a) = refl
-
-bracket_stops : (p : Position) → begins_statement (sign s.CloseBracket p) ≡ false
-unfolding begins_statement
-bracket_stops p = refl
 
 -- ---- entries
 
@@ -100,108 +72,9 @@ up p e = record { within = λ h. p.within (omega arith); beyond = λ h. p.beyond
 -- ---- what is read
 
 module _ (d : ℕ) where
-  step_global : (p q o : Position) (n : List ℕ) (r : List Lexeme)
-      → Limited (directive d (reserved w.Global p ∷ name n q ∷ sign s.Semicolon o ∷ r)) d 0
-      (global (record { text = n; position = q }) None) r
-  unfolding directive worded global_behind named ended expect
-  step_global p q o n r = at_once refl
-
-  step_global_value : (p q o l : Position) (n : List ℕ) (k : LiteralTree) (m r : List Lexeme)
-      → known_value m ≡ Ok (k, sign s.Semicolon l ∷ r)
-      → Limited (directive d (reserved w.Global p ∷ name n q ∷ sign s.Assign o ∷ m)) d 0
-      (global (record { text = n; position = q }) (Some k)) r
-  unfolding directive worded global_behind named ended expect
-  step_global_value p q o l n k m r e = at_once (rw e refl)
-
-  step_constant : (p q o l : Position) (n : List ℕ) (k : LiteralTree) (m r : List Lexeme)
-      → known_value m ≡ Ok (k, sign s.Semicolon l ∷ r)
-      → Limited (directive d (reserved w.Constant p ∷ name n q ∷ sign s.Assign o ∷ m)) d 0
-      (constant (record { text = n; position = q }) k) r
-  unfolding directive worded constant_behind named ended expect
-  step_constant p q o l n k m r e = at_once (rw e refl)
-
-  step_array : (p q l : Position) (t : Lexeme) (n : List ℕ) (a : ArrayKind) (vs : List ValueTree) (m r : List Lexeme)
-      → kind_of t ≡ Some a → values m ≡ Ok (vs, sign s.Semicolon l ∷ r)
-      → Limited (directive d (reserved w.Array p ∷ name n q ∷ t ∷ m)) d 0
-      (array (record { name = record { text = n; position = q }; kind = a; values = vs })) r
-  unfolding directive worded array_behind named kind expect
-  step_array p q l t n a vs m r o e = at_once (rw (o, e) refl)
-
-  step_attribute : (p q o : Position) (n : List ℕ) (r : List Lexeme)
-      → Limited (directive d (reserved w.Attribute p ∷ name n q ∷ sign s.Semicolon o ∷ r)) d 0
-      (attribute (record { text = n; position = q })) r
-  unfolding directive worded attribute_behind named ended expect
-  step_attribute p q o n r = at_once refl
-
-  step_property : (p q o : Position) (n : List ℕ) (r : List Lexeme)
-      → Limited (directive d (reserved w.Property p ∷ name n q ∷ sign s.Semicolon o ∷ r)) d 0
-      (property (record { text = n; position = q }) None) r
-  unfolding directive worded property_behind named ended expect
-  step_property p q o n r = at_once refl
-
-  step_property_value : (p q o : Position) (n : List ℕ) (k : LiteralTree) (m r : List Lexeme)
-      → begins_value (head m) ≡ true → known_value m ≡ Ok (k, sign s.Semicolon o ∷ r)
-      → Limited (directive d (reserved w.Property p ∷ name n q ∷ m)) d 0
-      (property (record { text = n; position = q }) (Some k)) r
-  unfolding directive worded property_behind named ended expect
-  step_property_value p q o n k m r b e = at_once (rw (b, e) refl)
-
-  step_object : (p : Position) (x : ObjectTree) (m r : List Lexeme) → object_behind m ≡ Ok (x, r)
-      → Limited (directive d (reserved w.Object p ∷ m)) d 0 (object x) r
-  unfolding directive worded
-  step_object p x m r e = at_once (rw e refl)
-
-  step_routine : {j : ℕ} (p q o l i : Position) (n : List ℕ) (ns : List NameTree) (xs : StatementTrees)
-      (m k r : List Lexeme) → names m ≡ Ok (ns, sign s.Semicolon o ∷ k)
-      → Limited (statements d k) d j (listed xs) (sign s.CloseBracket l ∷ sign s.Semicolon i ∷ r)
-      → Limited (routine_at d (sign s.OpenBracket p ∷ name n q ∷ m)) d j
-      (record {
-        name = record { text = n; position = q };
-        locals = ns;
-        body = xs;
-        weight = weight_of (sign s.OpenBracket p ∷ name n q ∷ m) - weight_of r;
-      }) r
-  unfolding routine_at named expect
-  step_routine p q o l i n ns xs m k r e a =
-      let made : StatementTrees → Result (RoutineTree × List Lexeme) Fault = λ ys. Ok (
-        record {
-          name = record { text = n; position = q };
-          locals = ns;
-          body = ys;
-          weight = weight_of (sign s.OpenBracket p ∷ name n q ∷ m) - weight_of r;
-        },
-        r,
-      ) in
-      rw e (then _ a (ap made (listed_back xs)))
-
-  step_directive : {j : ℕ} {x : RoutineTree} {r : List Lexeme} (p : Position) (m : List Lexeme)
-      → Limited (routine_at d (sign s.OpenBracket p ∷ m)) d j x r
-      → Limited (directive d (sign s.OpenBracket p ∷ m)) d j (routine x) r
-  unfolding directive
-  step_directive p m a = then _ a refl
-
-  at_Directive : {ts r : List Lexeme} {x : DirectiveTree} → IsDirective ts x r
-      → Limited (directive d ts) d (directive_nesting x) x r
-  at_Directive (d_global {r = r} {p = p} {q = q} {o = o} {n = n}) = step_global p q o n r
-  at_Directive (d_global_value {m = m} {r = r} {p = p} {q = q} {o = o} {l = l} {n = n} {k = k} a) = step_global_value
-      p q o l n k m r (known_read a)
-  at_Directive (d_constant {m = m} {r = r} {p = p} {q = q} {o = o} {l = l} {n = n} {k = k} a) = step_constant p q o l
-      n k m r (known_read a)
-  at_Directive (d_array {m = m} {r = r} {p = p} {q = q} {o = o} {t = t} {n = n} {k = k} {vs = vs} e a lt) = step_array
-      p q o t n k vs m r e (values_read a lt refl)
-  at_Directive (d_attribute {r = r} {p = p} {q = q} {o = o} {n = n}) = step_attribute p q o n r
-  at_Directive (d_property {r = r} {p = p} {q = q} {o = o} {n = n}) = step_property p q o n r
-  at_Directive (d_property_value {m = m} {r = r} {p = p} {q = q} {o = o} {n = n} {k = k} a) = step_property_value p q o
-      n k m r (begins_K a) (known_read a)
-  at_Directive (d_object {m = m} {r = r} {p = p} h a b) = step_object p _ m r (object_read h a b)
-  at_Directive
-      (d_routine {m = m} {k = k} {r = r} {p = p} {q = q} {o = o} {l = l} {j = j} {n = n} {ns = ns} {xs = xs} b a) =
-      step_directive p (name n q ∷ m)
-      (step_routine p q o l j n ns xs m k r (names_read m b refl) (at_Ss k a (bracket_stops l) d))
-
   at_Entry : {ts r : List Lexeme} {e : EntryTree} → IsEntry ts e r → Limited (one_entry d ts) d (entry_nesting e) e r
   unfolding one_entry
-  at_Entry (e_directive a) = rw (no_abbreviate a) (then _ (at_Directive a) refl)
+  at_Entry (e_directive a) = rw (no_abbreviate a) (then _ (at_Directive d a) refl)
   at_Entry (e_abbreviate a lt) = at_once (rw (abbreviate_read a lt) refl)
 
   turns_Entries : {ts : List Lexeme} {es : List EntryTree} {p : Position} → IsEntries ts es (end p ∷ [])

@@ -10,8 +10,10 @@ use Rattle.expressions.specs.declared.error.ParseError.{ParseError}
 use Rattle.expressions.specs.declared.error.ParseError.TheVariants as errors
 use Rattle.expressions.specs.Parse.{◌>>=◌, Fails, head, tail, is_word}
 use Rattle.statements.specs.Parse.{as_long, repeated}
-use Rattle.syntax.specs.Tree.{TextTree, DirectiveTree, EntryTree, entry, abbreviate, directives_of, abbreviations_of}
-use Rattle.syntax.specs.Parse.{Parts, goes_on, abbreviate_behind, directive, one_entry}
+use Rattle.directives.specs.Tree.{TextTree, DirectiveTree}
+use Rattle.directives.specs.Parse.{abbreviate_behind, directive}
+use Rattle.syntax.specs.Tree.{EntryTree, entry, abbreviate, directives_of, abbreviations_of}
+use Rattle.syntax.specs.Parse.{Parts, goes_on, one_entry}
 
 abbrev pub gathered : List DirectiveTree → List TextTree → Result (List EntryTree × List Lexeme) Fault
     → Result (Parts × List Lexeme) Fault

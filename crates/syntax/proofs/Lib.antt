@@ -1,16 +1,5 @@
-pub mod NamesRead
-pub mod Arrows
-pub mod Weights
-pub mod Spelled
-pub mod SpelledExpressions
-pub mod SpelledStatements
-pub mod Lists
-pub mod ObjectsRead
-pub mod ObjectsComplete
-pub mod TextsRead
 pub mod EntriesRead
 pub mod Sound
-pub mod Ends
 pub mod Complete
 pub mod Main
 pub mod Printable

@@ -13,8 +13,9 @@ use Rattle.expressions.specs.declared.error.ParseError.TheVariants as errors
 use Rattle.expressions.specs.Errors.{source_fault}
 use Rattle.expressions.specs.Parse.{◌>>=◌, Fails}
 use Rattle.syntax.specs.declared.tree.Program.{Program}
+use Rattle.directives.specs.Grammar.{weight_of}
 use Rattle.syntax.specs.Tree.{ProgramTree, program_tree}
-use Rattle.syntax.specs.Grammar.{weight_of, dictionary_words, IsProgram, program as program_is, program_nesting}
+use Rattle.syntax.specs.Grammar.{dictionary_words, IsProgram, program as program_is, program_nesting}
 use Rattle.syntax.specs.Nesting.{DeepProgram}
 use Rattle.syntax.specs.Parse.{end_alone, Parts, parts_of, whole, entries, program}
 use Rattle.syntax.proofs.Sound.{Entered, entries_judged}

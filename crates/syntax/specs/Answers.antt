@@ -1,8 +1,7 @@
 -- What a parser of programs answers.
-use Rattle.std.specs.Prelude.{◌≡◌, ◌++◌, ℕ, List, Result, Ok, Err}
+use Rattle.std.specs.Prelude.{◌≡◌, ℕ, Result, Ok, Err}
 use Rattle.lexer.specs.declared.fault.SourceFault.{SourceFault}
 use Rattle.lexer.specs.Results.{no_memory}
-use Rattle.lexer.specs.Token.{Lexeme}
 use Rattle.syntax.specs.declared.tree.Program.{Program}
 use Rattle.syntax.specs.Tree.{ProgramTree, program_tree}
 
@@ -15,7 +14,3 @@ IfNumber (Err f) n P = f.number ≡ n → P
 abbrev pub Answers : Result Program SourceFault → ProgramTree → Type 0
 Answers (Ok p) tree = program_tree p ≡ tree
 Answers (Err f) tree = f ≡ no_memory
-
--- r is what tokens end with
-abbrev pub EndsWith : List Lexeme → List Lexeme → Type 0
-EndsWith ts r = (front : List Lexeme) × (ts ≡ front ++ r)

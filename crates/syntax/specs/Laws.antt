@@ -3,9 +3,10 @@ use Rattle.std.specs.Prelude.{◌≡◌, ◌≤◌, ◌+◌, ◌*◌, ℕ, List,
 use Rattle.std.specs.List.{All}
 use Rattle.lexer.specs.Token.{Lexeme}
 use Rattle.lexer.specs.Printable.{HasPrintableText}
-use Rattle.syntax.specs.Tree.{DirectiveTree, routine, ProgramTree}
+use Rattle.directives.specs.Tree.{DirectiveTree, routine}
+use Rattle.directives.specs.Weight.{statement_weights, statements_values}
+use Rattle.syntax.specs.Tree.{ProgramTree}
 use Rattle.syntax.specs.Grammar.{IsProgram}
-use Rattle.syntax.specs.Weight.{statement_weights, statements_values}
 use Rattle.syntax.specs.Printable.{HasPrintableTexts}
 
 -- tokens whose texts print are a program whose texts print

@@ -2,21 +2,12 @@
 -- each place at which a part can stand.
 --
 -- DeepProgram n ts: entries that begin at ts can be read as far as a token that stands n nestings deep in one of
--- them. What lies before that token in its parts is complete. The brackets of a routine are no nesting, nor is a
--- statement directly in it.
-use Rattle.std.specs.Prelude.{ℕ, List, ◌∷◌}
-use Rattle.lexer.specs.declared.token.Position.{Position}
-use Rattle.lexer.specs.declared.token.Sign.TheVariants as s
-use Rattle.lexer.specs.Token.{Lexeme, name, sign}
-use Rattle.expressions.specs.Tree.{NameTree}
-use Rattle.statements.specs.Nesting.{DeepSs}
+-- them. What lies before that token in its parts is complete.
+use Rattle.std.specs.Prelude.{ℕ, List}
+use Rattle.lexer.specs.Token.{Lexeme}
+use Rattle.directives.specs.Nesting.{DeepDirective}
 use Rattle.syntax.specs.Tree.{EntryTree}
-use Rattle.syntax.specs.Grammar.{IsNames, IsEntry}
-
--- Directive = .. | "[" name {name} ";" {S} "]" ";"
-pub data DeepDirective : ℕ → List Lexeme → Type 0 where
-  deep_d_routine : {n : ℕ} {m k : List Lexeme} {p q o : Position} {f : List ℕ} {ns : List NameTree}
-      → IsNames m ns (sign s.Semicolon o ∷ k) → DeepSs n k → DeepDirective n (sign s.OpenBracket p ∷ name f q ∷ m)
+use Rattle.syntax.specs.Grammar.{IsEntry}
 
 -- {Entry}
 pub data DeepProgram : ℕ → List Lexeme → Type 0 where

@@ -3,12 +3,10 @@
 ghost use Rattle.std.specs.Prelude.{◌≡◌, map};
 ghost use Rattle.lexer.specs.Token.{lexeme, lexemes};
 ghost use Rattle.expressions.specs.Parse.{Gives};
-ghost use Rattle.syntax.specs.Tree.{text_tree, directive_tree};
+ghost use Rattle.directives.specs.Tree.{text_tree, directive_tree};
 ghost use Rattle.syntax.specs.Parse as spec;
 
-use crate::directives::directive;
-use crate::texts::abbreviate;
-use crate::tree::{Directive, Text};
+use directives::{Directive, Text, abbreviate, directive};
 use expressions::{ParseError, is_word, peek, skip};
 use lexer::{Kind, Token, Word};
 use std::alloc::Global;
@@ -26,7 +24,7 @@ fn same<'t, 'a>(tokens: &'t [Token<'a>]) -> &'t [Token<'a>]
     tokens
 }
 
-/// The directives and the abbreviations, up to the end.
+/// The directives and the abbreviations, up to the end, with `depth` nestings to open in a statement.
 ///
 /// # Errors
 ///
@@ -34,12 +32,13 @@ fn same<'t, 'a>(tokens: &'t [Token<'a>]) -> &'t [Token<'a>]
 /// which no nesting is left, and `Memory` where a growth is refused.
 #[tactic(auto, unfolding(crate::specs::Parse::entries, crate::specs::Parse::all_entries), using(crate::proofs::EntriesRead::entries_out, crate::proofs::EntriesRead::entries_done, crate::proofs::EntriesRead::directive_more, crate::proofs::EntriesRead::directive_fails, crate::proofs::EntriesRead::texts_more, crate::proofs::EntriesRead::texts_fail))]
 pub fn entries<'t, 'a>(
-    alloc: Global,
     tokens: &'t [Token<'a>],
+    alloc: Global,
+    depth: usize,
 ) -> Result<(Vec<Directive<'a>>, Vec<Text<'a>>, &'t [Token<'a>]), ParseError>
     ensures { Gives
         (λ x. ((map directive_tree x.0.items, map text_tree x.1.items), lexemes x.2.now))
-        result (spec.entries 100 (lexemes tokens.now)) }
+        result (spec.entries depth (lexemes tokens.now)) }
 {
     let mut directives = Vec::new(alloc);
     let mut abbreviations = Vec::new(alloc);
@@ -49,11 +48,11 @@ pub fn entries<'t, 'a>(
             break;
         }
         if is_word(peek(rest), Word::Abbreviate) {
-            let (texts, after) = abbreviate(alloc, skip(rest))?;
+            let (texts, after) = abbreviate(skip(rest), alloc)?;
             abbreviations.extend_from_slice(&texts)?;
             rest = same(after);
         } else {
-            let (next, after) = directive(alloc, rest)?;
+            let (next, after) = directive(rest, alloc, depth)?;
             directives.push(next)?;
             rest = same(after);
         }

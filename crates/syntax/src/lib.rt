@@ -1,18 +1,13 @@
 //! Whole programs: their trees, and the parser that reads them.
 #![tactic(auto)]
 
-mod arrays;
-mod directives;
 mod entries;
 mod laws;
-mod names;
-mod objects;
 mod program;
-mod texts;
 mod tree;
-mod weight;
 mod words;
 
+pub use directives::{Array, ArrayKind, ArrayValue, Directive, Object, Property, Routine, Text};
 pub use expressions::{
     Binary, Comparison, Containment, Equality, Expression, Name, ObjectTest, Prefix, Relative,
     Step, Width,
@@ -21,4 +16,4 @@ pub use laws::{printable_trees, weighed_routines};
 pub use lexer::{Kind, Position, Sign, SourceFault, Token, Word, lex};
 pub use program::{one_tree, parse};
 pub use statements::{Heading, Literal, PrintItem, Range, Statement};
-pub use tree::{Array, ArrayKind, ArrayValue, Directive, Object, Program, Property, Routine, Text};
+pub use tree::Program;

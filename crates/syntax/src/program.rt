@@ -12,11 +12,14 @@ ghost use Rattle.syntax.specs.Parse as spec;
 
 use crate::entries::entries;
 use crate::tree::Program;
-use crate::weight::weight_of;
 use crate::words::dictionary_words;
+use directives::weight_of;
 use expressions::{Fault, ParseError, fault_at};
 use lexer::{Kind, Position, SourceFault, Token};
 use std::alloc::Global;
+
+// How many nestings may be opened in a statement of a routine.
+const MOST_NESTED: usize = 100;
 
 // Where the token stands, if it is the end.
 fn end_of(token: Token<'_>) -> Option<Position>
@@ -44,7 +47,7 @@ fn end_alone(tokens: &[Token<'_>]) -> Option<Position>
 fn program<'a>(alloc: Global, tokens: &[Token<'a>]) -> Result<Program<'a>, ParseError>
     ensures { Gives program_tree result (spec.program 100 (lexemes tokens.now)) }
 {
-    let (directives, abbreviations, rest) = entries(alloc, tokens)?;
+    let (directives, abbreviations, rest) = entries(tokens, alloc, MOST_NESTED)?;
     let Some(end) = end_alone(rest) else {
         return Err(fault_at(Fault::Grammar, rest));
     };

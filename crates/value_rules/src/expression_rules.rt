@@ -120,9 +120,9 @@ fn assignment(left: Value, right: Box<Value>) -> Value
 // What an object is tested for, by a name there that stands for this.
 #[tactic(auto, using(names::proofs::Noted::noted_none))]
 fn tested_value(
+    name: Name<'_>,
     object: Box<Value>,
     test: ObjectTest,
-    name: Name<'_>,
     found: Option<Binding>,
     least: &mut Option<Breach>,
 ) -> Value
@@ -138,20 +138,20 @@ fn tested_value(
 }
 
 // A name as an expression.
-fn named_value(scope: &Scope<'_>, name: Name<'_>, least: &mut Option<Breach>) -> Value
+fn named_value(name: Name<'_>, scope: &Scope<'_>, least: &mut Option<Breach>) -> Value
     ensures { IsResolved (seen_in scope.now) (trees.named (name_tree name.entry))
         least.old least.new (value_of result) }
 {
     let found = scope.look(name.text);
-    value(&scope.file.numbers, name, found, least)
+    value(name, &scope.file.numbers, found, least)
 }
 
 // The properties behind what resolved to a value.
 fn further_properties(
+    others: &[Name<'_>],
     alloc: Global,
     scope: &Scope<'_>,
     first: Value,
-    others: &[Name<'_>],
     least: &mut Option<Breach>,
 ) -> Result<Value, AllocError>
     ensures { IfOk result (λ v. AreProperties (seen_in scope.now) others.now (value_of first)
@@ -172,9 +172,9 @@ fn further_properties(
 /// `AllocError` where memory is refused.
 #[cycle(expression)]
 pub fn expression(
+    e: &Expression<'_>,
     alloc: Global,
     scope: &Scope<'_>,
-    e: &Expression<'_>,
     least: &mut Option<Breach>,
 ) -> Result<Value, AllocError>
     ensures { GivesValue (seen_in scope.now) result least.old least.new (expression_tree e.now) }
@@ -182,54 +182,54 @@ pub fn expression(
     match e {
         Expression::Constant(number) => Ok(Value::Number(*number)),
         Expression::Word(word) => Ok(Value::Number(scope.file.numbers.number(key_of_word(word)))),
-        Expression::Named(name) => Ok(named_value(scope, *name, least)),
-        Expression::Call(name, given) => call(alloc, scope, given, *name, least),
-        Expression::Index(name, width, inside) => index(alloc, scope, inside, *name, *width, least),
-        Expression::Parenthesised(inside) => expression(alloc, scope, inside, least),
-        Expression::RelativeOf(which, object) => relative_of(alloc, scope, object, *which, least),
+        Expression::Named(name) => Ok(named_value(*name, scope, least)),
+        Expression::Call(name, given) => call(given, *name, alloc, scope, least),
+        Expression::Index(name, width, inside) => index(inside, *name, alloc, scope, *width, least),
+        Expression::Parenthesised(inside) => expression(inside, alloc, scope, least),
+        Expression::RelativeOf(which, object) => relative_of(object, alloc, scope, *which, least),
         Expression::Property(object, name, others) => {
-            properties(alloc, scope, object, *name, others, least)
+            properties(object, *name, others, alloc, scope, least)
         }
-        Expression::PropertyLength(object, name) => length_of(alloc, scope, object, *name, least),
+        Expression::PropertyLength(object, name) => length_of(object, *name, alloc, scope, least),
         Expression::PropertyEntry(object, name, index) => {
-            property_entry(alloc, scope, object, *name, index, least)
+            property_entry(object, *name, index, alloc, scope, least)
         }
-        Expression::Prefixed(prefix, operand) => prefixed(alloc, scope, operand, *prefix, least),
+        Expression::Prefixed(prefix, operand) => prefixed(operand, alloc, scope, *prefix, least),
         Expression::StepBefore(step, position, operand) => {
-            step_before(alloc, scope, operand, *step, *position, least)
+            step_before(operand, alloc, scope, *step, *position, least)
         }
         Expression::StepAfter(operand, step, position) => {
-            step_after(alloc, scope, operand, *step, *position, least)
+            step_after(operand, alloc, scope, *step, *position, least)
         }
         Expression::Chain(first, operator, second, links) => {
-            chain(alloc, scope, links, first, *operator, second, least)
+            chain(links, first, second, alloc, scope, *operator, least)
         }
         Expression::Compare(left, comparison, right) => {
-            compare(alloc, scope, left, *comparison, right, least)
+            compare(left, right, alloc, scope, *comparison, least)
         }
         Expression::Equal(left, equality, right, others) => {
-            equal(alloc, scope, others, left, *equality, right, least)
+            equal(others, left, right, alloc, scope, *equality, least)
         }
         Expression::Contained(left, containment, right) => {
-            contained(alloc, scope, left, *containment, right, least)
+            contained(left, right, alloc, scope, *containment, least)
         }
-        Expression::Tested(object, test, name) => tested(alloc, scope, object, *test, *name, least),
-        Expression::Assign(left, at, right) => assign(alloc, scope, left, *at, right, least),
+        Expression::Tested(object, test, name) => tested(object, *name, alloc, scope, *test, least),
+        Expression::Assign(left, at, right) => assign(left, right, alloc, scope, *at, least),
     }
 }
 
 // The same for an expression inside another, in its box.
 #[cycle(expression)]
 fn boxed(
+    e: &Expression<'_>,
     alloc: Global,
     scope: &Scope<'_>,
-    e: &Expression<'_>,
     least: &mut Option<Breach>,
 ) -> Result<Box<Value>, AllocError>
     ensures { IfOk result (λ v. IsResolved (seen_in scope.now) (expression_tree e.now)
         least.old least.new (value_of v.value)) }
 {
-    let Ok(found) = expression(alloc, scope, e, least) else {
+    let Ok(found) = expression(e, alloc, scope, least) else {
         return Err(AllocError);
     };
     Ok(Box::new(alloc, found)?)
@@ -237,9 +237,9 @@ fn boxed(
 
 #[cycle(expression)]
 fn all_expressions(
+    given: &[Expression<'_>],
     alloc: Global,
     scope: &Scope<'_>,
-    given: &[Expression<'_>],
     least: &mut Option<Breach>,
 ) -> Result<Vec<Value>, AllocError>
     ensures { IfOk result (λ v. AreResolved (seen_in scope.now) given.now
@@ -247,7 +247,7 @@ fn all_expressions(
 {
     let mut found = Vec::new(alloc);
     for e in given {
-        let Ok(resolved) = expression(alloc, scope, e, least) else {
+        let Ok(resolved) = expression(e, alloc, scope, least) else {
             return Err(AllocError);
         };
         found.push(resolved)?;
@@ -258,9 +258,9 @@ fn all_expressions(
 // The operators and operands that follow in a chain.
 #[cycle(expression)]
 fn chain_links(
+    links: &[(Binary, Expression<'_>)],
     alloc: Global,
     scope: &Scope<'_>,
-    links: &[(Binary, Expression<'_>)],
     least: &mut Option<Breach>,
 ) -> Result<Vec<(Binary, Value)>, AllocError>
     ensures { IfOk result (λ v. AreLinks (seen_in scope.now) links.now
@@ -268,7 +268,7 @@ fn chain_links(
 {
     let mut found = Vec::new(alloc);
     for link in links {
-        let Ok(operand) = expression(alloc, scope, &link.1, least) else {
+        let Ok(operand) = expression(&link.1, alloc, scope, least) else {
             return Err(AllocError);
         };
         found.push((link.0, operand))?;
@@ -279,9 +279,9 @@ fn chain_links(
 // What is stepped, by an operator at this position.
 #[cycle(expression)]
 fn variable(
+    e: &Expression<'_>,
     alloc: Global,
     scope: &Scope<'_>,
-    e: &Expression<'_>,
     operator: Position,
     least: &mut Option<Breach>,
 ) -> Result<Variable, AllocError>
@@ -291,7 +291,7 @@ fn variable(
     match name_of(e) {
         Some(name) => Ok(target_of(name, operator, scope.look(name.text), least)),
         None => {
-            drop(expression(alloc, scope, e, least)?);
+            drop(expression(e, alloc, scope, least)?);
             note(least, NOT_ASSIGNABLE, operator);
             Ok(Variable::Local(0))
         }
@@ -300,17 +300,17 @@ fn variable(
 
 #[cycle(expression)]
 fn call(
-    alloc: Global,
-    scope: &Scope<'_>,
     given: &[Expression<'_>],
     name: Name<'_>,
+    alloc: Global,
+    scope: &Scope<'_>,
     least: &mut Option<Breach>,
 ) -> Result<Value, AllocError>
     ensures { GivesValue (seen_in scope.now) result least.old least.new
         (trees.call (name_tree name.entry) (trees_of (map expression_tree given.now))) }
 {
     let number = routine(name, given.len(), scope.look(name.text), least);
-    let Ok(given) = all_expressions(alloc, scope, given, least) else {
+    let Ok(given) = all_expressions(given, alloc, scope, least) else {
         return Err(AllocError);
     };
     Ok(Value::Call(number, given))
@@ -318,10 +318,10 @@ fn call(
 
 #[cycle(expression)]
 fn index(
-    alloc: Global,
-    scope: &Scope<'_>,
     operand: &Expression<'_>,
     name: Name<'_>,
+    alloc: Global,
+    scope: &Scope<'_>,
     width: Width,
     least: &mut Option<Breach>,
 ) -> Result<Value, AllocError>
@@ -329,7 +329,7 @@ fn index(
         (trees.index (name_tree name.entry) width (expression_tree operand.now)) }
 {
     let number = array(name, scope.look(name.text), least);
-    let Ok(operand) = boxed(alloc, scope, operand, least) else {
+    let Ok(operand) = boxed(operand, alloc, scope, least) else {
         return Err(AllocError);
     };
     Ok(Value::Entry(width, number, operand))
@@ -337,16 +337,16 @@ fn index(
 
 #[cycle(expression)]
 fn relative_of(
+    object: &Expression<'_>,
     alloc: Global,
     scope: &Scope<'_>,
-    object: &Expression<'_>,
     relative: Relative,
     least: &mut Option<Breach>,
 ) -> Result<Value, AllocError>
     ensures { GivesValue (seen_in scope.now) result least.old least.new
         (trees.relative_of relative (expression_tree object.now)) }
 {
-    let Ok(object) = boxed(alloc, scope, object, least) else {
+    let Ok(object) = boxed(object, alloc, scope, least) else {
         return Err(AllocError);
     };
     Ok(Value::Relative(relative, object))
@@ -354,36 +354,36 @@ fn relative_of(
 
 #[cycle(expression)]
 fn properties(
-    alloc: Global,
-    scope: &Scope<'_>,
     object: &Expression<'_>,
     name: Name<'_>,
     others: &[Name<'_>],
+    alloc: Global,
+    scope: &Scope<'_>,
     least: &mut Option<Breach>,
 ) -> Result<Value, AllocError>
     ensures { GivesValue (seen_in scope.now) result least.old least.new
         (propertied (trees.property (expression_tree object.now) (name_tree name.entry))
         others.now) }
 {
-    let Ok(object) = boxed(alloc, scope, object, least) else {
+    let Ok(object) = boxed(object, alloc, scope, least) else {
         return Err(AllocError);
     };
     let number = property(name, scope.look(name.text), least);
-    further_properties(alloc, scope, Value::Property(object, number), others, least)
+    further_properties(others, alloc, scope, Value::Property(object, number), least)
 }
 
 #[cycle(expression)]
 fn length_of(
-    alloc: Global,
-    scope: &Scope<'_>,
     object: &Expression<'_>,
     name: Name<'_>,
+    alloc: Global,
+    scope: &Scope<'_>,
     least: &mut Option<Breach>,
 ) -> Result<Value, AllocError>
     ensures { GivesValue (seen_in scope.now) result least.old least.new
         (trees.property_length (expression_tree object.now) (name_tree name.entry)) }
 {
-    let Ok(object) = boxed(alloc, scope, object, least) else {
+    let Ok(object) = boxed(object, alloc, scope, least) else {
         return Err(AllocError);
     };
     let number = property(name, scope.look(name.text), least);
@@ -392,22 +392,22 @@ fn length_of(
 
 #[cycle(expression)]
 fn property_entry(
-    alloc: Global,
-    scope: &Scope<'_>,
     object: &Expression<'_>,
     name: Name<'_>,
     index: &Expression<'_>,
+    alloc: Global,
+    scope: &Scope<'_>,
     least: &mut Option<Breach>,
 ) -> Result<Value, AllocError>
     ensures { GivesValue (seen_in scope.now) result least.old least.new
         (trees.property_entry (expression_tree object.now) (name_tree name.entry)
         (expression_tree index.now)) }
 {
-    let Ok(object) = boxed(alloc, scope, object, least) else {
+    let Ok(object) = boxed(object, alloc, scope, least) else {
         return Err(AllocError);
     };
     let number = property(name, scope.look(name.text), least);
-    let Ok(index) = boxed(alloc, scope, index, least) else {
+    let Ok(index) = boxed(index, alloc, scope, least) else {
         return Err(AllocError);
     };
     Ok(Value::PropertyWord(object, number, index))
@@ -415,16 +415,16 @@ fn property_entry(
 
 #[cycle(expression)]
 fn prefixed(
+    operand: &Expression<'_>,
     alloc: Global,
     scope: &Scope<'_>,
-    operand: &Expression<'_>,
     prefix: Prefix,
     least: &mut Option<Breach>,
 ) -> Result<Value, AllocError>
     ensures { GivesValue (seen_in scope.now) result least.old least.new
         (trees.prefixed prefix (expression_tree operand.now)) }
 {
-    let Ok(operand) = boxed(alloc, scope, operand, least) else {
+    let Ok(operand) = boxed(operand, alloc, scope, least) else {
         return Err(AllocError);
     };
     Ok(Value::Prefixed(prefix, operand))
@@ -432,9 +432,9 @@ fn prefixed(
 
 #[cycle(expression)]
 fn step_before(
+    operand: &Expression<'_>,
     alloc: Global,
     scope: &Scope<'_>,
-    operand: &Expression<'_>,
     step: Step,
     position: Position,
     least: &mut Option<Breach>,
@@ -442,7 +442,7 @@ fn step_before(
     ensures { GivesValue (seen_in scope.now) result least.old least.new
         (trees.step_before step position (expression_tree operand.now)) }
 {
-    let Ok(variable) = variable(alloc, scope, operand, position, least) else {
+    let Ok(variable) = variable(operand, alloc, scope, position, least) else {
         return Err(AllocError);
     };
     Ok(Value::StepBefore(step, variable))
@@ -450,9 +450,9 @@ fn step_before(
 
 #[cycle(expression)]
 fn step_after(
+    operand: &Expression<'_>,
     alloc: Global,
     scope: &Scope<'_>,
-    operand: &Expression<'_>,
     step: Step,
     position: Position,
     least: &mut Option<Breach>,
@@ -460,7 +460,7 @@ fn step_after(
     ensures { GivesValue (seen_in scope.now) result least.old least.new
         (trees.step_after (expression_tree operand.now) step position) }
 {
-    let Ok(variable) = variable(alloc, scope, operand, position, least) else {
+    let Ok(variable) = variable(operand, alloc, scope, position, least) else {
         return Err(AllocError);
     };
     Ok(Value::StepAfter(variable, step))
@@ -468,12 +468,12 @@ fn step_after(
 
 #[cycle(expression)]
 fn chain(
-    alloc: Global,
-    scope: &Scope<'_>,
     links: &[(Binary, Expression<'_>)],
     first: &Expression<'_>,
-    operator: Binary,
     second: &Expression<'_>,
+    alloc: Global,
+    scope: &Scope<'_>,
+    operator: Binary,
     least: &mut Option<Breach>,
 ) -> Result<Value, AllocError>
     ensures { GivesValue (seen_in scope.now) result least.old least.new
@@ -481,13 +481,13 @@ fn chain(
         (trees.binary operator (expression_tree first.now) (expression_tree second.now))
         (map link links.now)) }
 {
-    let Ok(first) = boxed(alloc, scope, first, least) else {
+    let Ok(first) = boxed(first, alloc, scope, least) else {
         return Err(AllocError);
     };
-    let Ok(second) = boxed(alloc, scope, second, least) else {
+    let Ok(second) = boxed(second, alloc, scope, least) else {
         return Err(AllocError);
     };
-    let Ok(links) = chain_links(alloc, scope, links, least) else {
+    let Ok(links) = chain_links(links, alloc, scope, least) else {
         return Err(AllocError);
     };
     Ok(Value::Chain(first, operator, second, links))
@@ -495,20 +495,20 @@ fn chain(
 
 #[cycle(expression)]
 fn compare(
+    left: &Expression<'_>,
+    right: &Expression<'_>,
     alloc: Global,
     scope: &Scope<'_>,
-    left: &Expression<'_>,
     comparison: Comparison,
-    right: &Expression<'_>,
     least: &mut Option<Breach>,
 ) -> Result<Value, AllocError>
     ensures { GivesValue (seen_in scope.now) result least.old least.new
         (trees.compare comparison (expression_tree left.now) (expression_tree right.now)) }
 {
-    let Ok(left) = boxed(alloc, scope, left, least) else {
+    let Ok(left) = boxed(left, alloc, scope, least) else {
         return Err(AllocError);
     };
-    let Ok(right) = boxed(alloc, scope, right, least) else {
+    let Ok(right) = boxed(right, alloc, scope, least) else {
         return Err(AllocError);
     };
     Ok(Value::Compare(left, comparison, right))
@@ -516,25 +516,25 @@ fn compare(
 
 #[cycle(expression)]
 fn equal(
-    alloc: Global,
-    scope: &Scope<'_>,
     others: &[Expression<'_>],
     left: &Expression<'_>,
-    equality: Equality,
     right: &Expression<'_>,
+    alloc: Global,
+    scope: &Scope<'_>,
+    equality: Equality,
     least: &mut Option<Breach>,
 ) -> Result<Value, AllocError>
     ensures { GivesValue (seen_in scope.now) result least.old least.new
         (trees.equal equality (expression_tree left.now)
         (trees.more (expression_tree right.now) (trees_of (map expression_tree others.now)))) }
 {
-    let Ok(left) = boxed(alloc, scope, left, least) else {
+    let Ok(left) = boxed(left, alloc, scope, least) else {
         return Err(AllocError);
     };
-    let Ok(right) = boxed(alloc, scope, right, least) else {
+    let Ok(right) = boxed(right, alloc, scope, least) else {
         return Err(AllocError);
     };
-    let Ok(others) = all_expressions(alloc, scope, others, least) else {
+    let Ok(others) = all_expressions(others, alloc, scope, least) else {
         return Err(AllocError);
     };
     Ok(Value::Equal(left, equality, right, others))
@@ -542,20 +542,20 @@ fn equal(
 
 #[cycle(expression)]
 fn contained(
+    left: &Expression<'_>,
+    right: &Expression<'_>,
     alloc: Global,
     scope: &Scope<'_>,
-    left: &Expression<'_>,
     containment: Containment,
-    right: &Expression<'_>,
     least: &mut Option<Breach>,
 ) -> Result<Value, AllocError>
     ensures { GivesValue (seen_in scope.now) result least.old least.new
         (trees.contained containment (expression_tree left.now) (expression_tree right.now)) }
 {
-    let Ok(left) = boxed(alloc, scope, left, least) else {
+    let Ok(left) = boxed(left, alloc, scope, least) else {
         return Err(AllocError);
     };
-    let Ok(right) = boxed(alloc, scope, right, least) else {
+    let Ok(right) = boxed(right, alloc, scope, least) else {
         return Err(AllocError);
     };
     Ok(Value::Contained(left, containment, right))
@@ -563,28 +563,28 @@ fn contained(
 
 #[cycle(expression)]
 fn tested(
+    object: &Expression<'_>,
+    name: Name<'_>,
     alloc: Global,
     scope: &Scope<'_>,
-    object: &Expression<'_>,
     test: ObjectTest,
-    name: Name<'_>,
     least: &mut Option<Breach>,
 ) -> Result<Value, AllocError>
     ensures { GivesValue (seen_in scope.now) result least.old least.new
         (trees.tested test (expression_tree object.now) (name_tree name.entry)) }
 {
-    let Ok(object) = boxed(alloc, scope, object, least) else {
+    let Ok(object) = boxed(object, alloc, scope, least) else {
         return Err(AllocError);
     };
-    Ok(tested_value(object, test, name, scope.look(name.text), least))
+    Ok(tested_value(name, object, test, scope.look(name.text), least))
 }
 
 // The left side of an assignment, whose operator stands at this position.
 #[cycle(expression)]
 fn left_side(
+    e: &Expression<'_>,
     alloc: Global,
     scope: &Scope<'_>,
-    e: &Expression<'_>,
     operator: Position,
     least: &mut Option<Breach>,
 ) -> Result<Value, AllocError>
@@ -598,7 +598,7 @@ fn left_side(
             Ok(named(&scope.file.numbers, found))
         }
         None => {
-            let left = expression(alloc, scope, e, least)?;
+            let left = expression(e, alloc, scope, least)?;
             not_place(is_place(e), operator, least);
             Ok(left)
         }
@@ -607,20 +607,20 @@ fn left_side(
 
 #[cycle(expression)]
 fn assign(
+    left: &Expression<'_>,
+    right: &Expression<'_>,
     alloc: Global,
     scope: &Scope<'_>,
-    left: &Expression<'_>,
     position: Position,
-    right: &Expression<'_>,
     least: &mut Option<Breach>,
 ) -> Result<Value, AllocError>
     ensures { GivesValue (seen_in scope.now) result least.old least.new
         (trees.assign (expression_tree left.now) position (expression_tree right.now)) }
 {
-    let Ok(left) = left_side(alloc, scope, left, position, least) else {
+    let Ok(left) = left_side(left, alloc, scope, position, least) else {
         return Err(AllocError);
     };
-    let Ok(right) = boxed(alloc, scope, right, least) else {
+    let Ok(right) = boxed(right, alloc, scope, least) else {
         drop(left);
         return Err(AllocError);
     };

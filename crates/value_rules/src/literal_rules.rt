@@ -2,7 +2,7 @@
 
 ghost use Rattle.std.specs.Prelude.{◌≡◌};
 ghost use Rattle.statements.specs.Tree.{literal_tree};
-ghost use Rattle.syntax.specs.Tree.{optional_tree};
+ghost use Rattle.directives.specs.Tree.{optional_tree};
 ghost use Rattle.value_rules.specs.Literals as spec;
 ghost use Rattle.names.specs.Names as names;
 ghost use Rattle.names.specs.Noted.{noted};
@@ -48,7 +48,7 @@ pub fn literal(value: &Literal<'_>, whole: &Table, least: &mut Option<Breach>) -
         (spec.literal_breaches whole.now.entries (literal_tree value.now)) }
 {
     literal_rules(value, whole, least);
-    literal_known(whole, value)
+    literal_known(value, whole)
 }
 
 /// What a global begins with.

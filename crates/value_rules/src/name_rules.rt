@@ -48,8 +48,8 @@ fn value_rules(position: Position, found: Option<Binding>, least: &mut Option<Br
 
 /// A name as a value.
 pub fn value(
-    numbers: &Numbers,
     name: Name<'_>,
+    numbers: &Numbers,
     found: Option<Binding>,
     least: &mut Option<Breach>,
 ) -> Value

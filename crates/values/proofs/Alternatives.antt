@@ -1,6 +1,5 @@
 -- What is written for `==` and `~=`, and for lists of expressions.
-use Rattle.std.proofs.Common.{◌≡◌, ℕ, zero, suc, ◌+◌, ◌-◌, ◌<◌, List, [], ◌∷◌, ◌++◌, length, map, drop}
-use Rattle.std.proofs.Common.{slice_index_or}
+use Rattle.std.proofs.Common.{◌≡◌, ℕ, zero, suc, ◌+◌, ◌-◌, ◌<◌, List, [], ◌∷◌, ◌++◌, length, map, drop, slice_index_or}
 use Rattle.std.proofs.Common.{Bool, true, false, refl, sym, ap, subst, ◌∙◌, arith, append_assoc, length-append}
 use Rattle.std.specs.Prelude.{nat_le, nat_lt, if◌then◌else◌}
 use Rattle.expressions.specs.declared.tree.Binary.{Binary}
@@ -9,20 +8,19 @@ use Rattle.meaning.specs.declared.resolved.Value as code_value
 use Rattle.meaning.specs.Resolved.{Value, Values, none, more, value_of, values_of}
 use Rattle.meaning.specs.Resolved as source
 use Rattle.meaning.specs.Accepted.{count_of}
-use Rattle.values.specs.Items.{Item, Operand, pushed, Destination, push, Test, same, operand_of, operands_of}
-use Rattle.values.specs.Items.{if_pushed}
-use Rattle.values.specs.Items.{is_few, branch_true, equality_when, value_count, operands_count, branch_count}
-use Rattle.values.specs.Items.{many_count}
-use Rattle.values.specs.Items.{also_count, truth_items, value_items, operands_items, branch_items, many_items}
-use Rattle.values.specs.Items.{also_items}
-use Rattle.values.specs.Items as items
-use Rattle.values.specs.declared.wanted.Wanted.{Wanted}
-use Rattle.values.specs.declared.wanted.Wanted.TheVariants.{Word}
-use Rattle.values.specs.declared.item.Destination.TheVariants as destinations
-use Rattle.values.specs.Writing.{Written, wanted_items, pushes, first_operand, second_operand, both_push, folded_items}
-use Rattle.values.specs.Writing.{link_of, IsCondition, ReducesTruth, ReducesLinks, ReducesLink, ReducesEquality}
-use Rattle.values.proofs.Counts.{value_length, operands_length}
-use Rattle.values.proofs.WrittenItems.{one, both, as_items, then_one, after_one}
+use Rattle.drafts.specs.Items.{Item, Operand, pushed, Destination, push, Test, same, operand_of, operands_of}
+use Rattle.drafts.specs.Items.{if_pushed, is_few, branch_true, equality_when, value_count, operands_count}
+use Rattle.drafts.specs.Items.{branch_count, many_count, also_count, truth_items, value_items, operands_items}
+use Rattle.drafts.specs.Items.{branch_items, many_items, also_items}
+use Rattle.drafts.specs.Items as items
+use Rattle.drafts.specs.declared.wanted.Wanted.{Wanted}
+use Rattle.drafts.specs.declared.wanted.Wanted.TheVariants.{Word}
+use Rattle.drafts.specs.declared.item.Destination.TheVariants as destinations
+use Rattle.drafts.specs.Writing.{Written, wanted_items, first_operand, second_operand, link_of, IsCondition}
+use Rattle.drafts.specs.Writing.{ReducesTruth}
+use Rattle.values.specs.Writing.{pushes, both_push, folded_items, ReducesLinks, ReducesLink, ReducesEquality}
+use Rattle.drafts.proofs.Counts.{value_length, operands_length}
+use Rattle.drafts.proofs.WrittenItems.{one, both, as_items, then_one, after_one}
 use Rattle.values.proofs.OperationForms.{links_next}
 use Rattle.values.proofs.Values.{pushes_length}
 

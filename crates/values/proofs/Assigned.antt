@@ -3,14 +3,14 @@ use Rattle.std.proofs.Common.{◌≡◌, ℕ, List, [], ◌∷◌, ◌++◌, Boo
 use Rattle.meaning.specs.declared.resolved.Variable.{Variable}
 use Rattle.meaning.specs.Resolved.{Value}
 use Rattle.meaning.specs.Resolved as source
-use Rattle.values.specs.Items.{Item, pushed, push, into, nowhere, branch_true, value_count, value_items, branch_items}
-use Rattle.values.specs.Items as items
-use Rattle.values.specs.declared.item.Destination.TheVariants as destinations
-use Rattle.values.specs.declared.wanted.Wanted.{Wanted}
-use Rattle.values.specs.declared.wanted.Wanted.TheVariants.{Word}
-use Rattle.values.specs.Writing.{Written, wanted_items, ReducesWord}
-use Rattle.values.proofs.Counts.{value_length}
-use Rattle.values.proofs.WrittenItems.{one, both, then_one, after_one}
+use Rattle.drafts.specs.Items.{Item, pushed, push, into, nowhere, branch_true, value_count, value_items, branch_items}
+use Rattle.drafts.specs.Items as items
+use Rattle.drafts.specs.declared.item.Destination.TheVariants as destinations
+use Rattle.drafts.specs.declared.wanted.Wanted.{Wanted}
+use Rattle.drafts.specs.declared.wanted.Wanted.TheVariants.{Word}
+use Rattle.drafts.specs.Writing.{Written, wanted_items, ReducesWord}
+use Rattle.drafts.proofs.Counts.{value_length}
+use Rattle.drafts.proofs.WrittenItems.{one, both, then_one, after_one}
 
 abbrev assign_word : (x : Variable) (v : Value) (at t : ℕ) (when : Bool) → branch_items at (source.assign x v) when t
     ≡ value_items at (source.assign x v) push ++ branch_true pushed when t ∷ []

@@ -3,13 +3,13 @@ use Rattle.std.proofs.Common.{◌≡◌, ℕ, ◌+◌, ◌-◌, List, [], ◌∷
 use Rattle.meaning.specs.declared.resolved.Value as code_value
 use Rattle.meaning.specs.Resolved.{Value, value_of}
 use Rattle.meaning.specs.Resolved as source
-use Rattle.values.specs.Items.{Item, Operand, pushed, Destination, push, alone, left_of, first_of, if_pushed}
-use Rattle.values.specs.Items.{branch_true, value_count, value_items, branch_items}
-use Rattle.values.specs.Items as items
-use Rattle.values.specs.declared.wanted.Wanted.{Wanted}
-use Rattle.values.specs.Writing.{numbered, Written, Leaves, wanted_items, pushes, both_push, IsCondition, ReducesWord}
-use Rattle.values.specs.Writing.{ReducesTruth, ReducesAssignedWord}
-use Rattle.values.proofs.WrittenItems.{both, as_items, after_one}
+use Rattle.drafts.specs.Items.{Item, Operand, pushed, Destination, push, alone, left_of, first_of, if_pushed}
+use Rattle.drafts.specs.Items.{branch_true, value_count, value_items, branch_items}
+use Rattle.drafts.specs.Items as items
+use Rattle.drafts.specs.declared.wanted.Wanted.{Wanted}
+use Rattle.drafts.specs.Writing.{numbered, Written, Leaves, wanted_items, IsCondition, ReducesWord, ReducesTruth}
+use Rattle.values.specs.Writing.{pushes, both_push, ReducesAssignedWord}
+use Rattle.drafts.proofs.WrittenItems.{both, as_items, after_one}
 use Rattle.values.proofs.Values.{pushes_length}
 use Rattle.values.proofs.Alternatives.{both_length}
 

@@ -1,6 +1,6 @@
 -- What is written for operations, chains, comparisons and entries.
-use Rattle.std.proofs.Common.{◌≡◌, ℕ, ◌+◌, ◌-◌, List, [], ◌∷◌, ◌++◌, Bool, true, false, refl, sym, ap}
-use Rattle.std.proofs.Common.{◌∙◌, append_assoc}
+use Rattle.std.proofs.Common.{◌≡◌, ℕ, ◌+◌, ◌-◌, List, [], ◌∷◌, ◌++◌, Bool, true, false, refl, sym, ap, ◌∙◌}
+use Rattle.std.proofs.Common.{append_assoc}
 use Rattle.std.specs.Prelude.{if◌then◌else◌}
 use Rattle.expressions.specs.declared.tree.Binary.{Binary}
 use Rattle.expressions.specs.declared.tree.Binary.TheVariants as binaries
@@ -9,16 +9,17 @@ use Rattle.expressions.specs.declared.tree.Width.{Width}
 use Rattle.meaning.specs.declared.resolved.Variable.{Variable}
 use Rattle.meaning.specs.Resolved.{Value, chained}
 use Rattle.meaning.specs.Resolved as source
-use Rattle.values.specs.Items.{Item, Operand, pushed, number, variable, Destination, push, Test}
-use Rattle.values.specs.Items.{alone, left_of, if_pushed, branch_true, comparison_test, comparison_when}
-use Rattle.values.specs.Items.{value_count, value_items, branch_items}
-use Rattle.values.specs.Items as items
-use Rattle.values.specs.declared.item.Destination.TheVariants as destinations
-use Rattle.values.specs.declared.wanted.Wanted.{Wanted}
-use Rattle.values.specs.declared.wanted.Wanted.TheVariants.{Word}
-use Rattle.values.specs.Writing.{Written, wanted_items, pushes, is_logical, first_items, ReducesWord, ReducesTruth}
-use Rattle.values.specs.Writing.{ReducesLink, ReducesLinks, ReducesComparison, ReducesAssignedEntry}
-use Rattle.values.proofs.WrittenItems.{nothing, both, as_items, after_one}
+use Rattle.drafts.specs.Items.{Item, Operand, pushed, number, variable, Destination, push, Test, alone, left_of}
+use Rattle.drafts.specs.Items.{if_pushed, branch_true, comparison_test, comparison_when, value_count, value_items}
+use Rattle.drafts.specs.Items.{branch_items}
+use Rattle.drafts.specs.Items as items
+use Rattle.drafts.specs.declared.item.Destination.TheVariants as destinations
+use Rattle.drafts.specs.declared.wanted.Wanted.{Wanted}
+use Rattle.drafts.specs.declared.wanted.Wanted.TheVariants.{Word}
+use Rattle.drafts.specs.Writing.{Written, wanted_items, is_logical, ReducesWord, ReducesTruth}
+use Rattle.values.specs.Writing.{pushes, first_items, ReducesLink, ReducesLinks, ReducesComparison}
+use Rattle.values.specs.Writing.{ReducesAssignedEntry}
+use Rattle.drafts.proofs.WrittenItems.{nothing, both, as_items, after_one}
 use Rattle.values.proofs.Values.{pushes_length}
 
 -- Other operations

@@ -9,15 +9,16 @@ use Rattle.expressions.specs.declared.tree.Prefix.TheVariants as prefixes
 use Rattle.meaning.specs.declared.resolved.Variable.{Variable}
 use Rattle.meaning.specs.Resolved.{Value, Values}
 use Rattle.meaning.specs.Resolved as source
-use Rattle.values.specs.Items.{Item, Operand, pushed, Destination, push, operands_of, alone, if_pushed, branch_true}
-use Rattle.values.specs.Items.{value_count, operands_count, branch_count, value_items, operands_items, branch_items}
-use Rattle.values.specs.Items as items
-use Rattle.values.specs.declared.wanted.Wanted.{Wanted}
-use Rattle.values.specs.declared.wanted.Wanted.TheVariants.{Branch}
-use Rattle.values.specs.Writing.{Written, wanted_items, pushes, ReducesWord, ReducesTruth, ReducesLink}
-use Rattle.values.proofs.CountedForms.{if_length}
-use Rattle.values.proofs.Counts.{value_length, branch_length, operands_length}
-use Rattle.values.proofs.WrittenItems.{one, counted, both, as_items, after_one}
+use Rattle.drafts.specs.Items.{Item, Operand, pushed, Destination, push, operands_of, alone, if_pushed, branch_true}
+use Rattle.drafts.specs.Items.{value_count, operands_count, branch_count, value_items, operands_items, branch_items}
+use Rattle.drafts.specs.Items as items
+use Rattle.drafts.specs.declared.wanted.Wanted.{Wanted}
+use Rattle.drafts.specs.declared.wanted.Wanted.TheVariants.{Branch}
+use Rattle.drafts.specs.Writing.{Written, wanted_items, ReducesWord, ReducesTruth}
+use Rattle.values.specs.Writing.{pushes, ReducesLink}
+use Rattle.drafts.proofs.CountedForms.{if_length}
+use Rattle.drafts.proofs.Counts.{value_length, branch_length, operands_length}
+use Rattle.drafts.proofs.WrittenItems.{one, counted, both, as_items, after_one}
 
 pub pushes_length : (o : Operand) (v : Value) (n at : ℕ)
     → length (pushes o v n at) ≡ if_pushed o (value_count v push) 0
@@ -32,12 +33,6 @@ call_more c c1 c2 c3 wanted d r vs reduces e w =
     (λ at t when. sym (append_assoc (operands_items at vs) (items.call r (operands_of vs) push ∷ [])
     (branch_true pushed when t ∷ [])))).with_rest c3
     (after_one (operands_count vs) (items.call r (operands_of vs) d) (λ n at. operands_length vs at) e w)
-
-pub step_more : (c c1 c2 : List Item) (wanted : Wanted) (d : Destination) (op : _) (x : Variable)
-    → ReducesWord c c1 wanted d → c2 ≡ c1 ++ items.step op x d ∷ []
-    → Written c c2 (wanted_items wanted (source.step_before op x))
-step_more c c1 c2 wanted d op x reduces e = (reduces (source.step_before op x) (λ at t when. refl)).with_rest c2
-    (one c1 c2 _ e)
 
 pub not_more : (c c1 c2 : List Item) (wanted : Wanted) (when : Bool) (left : ℕ) (v : Value)
     → ReducesTruth c c1 wanted when left → Written c1 c2 (wanted_items (Branch (not when) left) v)

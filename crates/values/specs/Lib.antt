@@ -1,3 +1,1 @@
-pub mod Items
-pub mod Code
 pub mod Writing

@@ -1,4 +1,4 @@
-use Rattle.std.proofs.Common.{Some, None, inr, refl, sym, ◌∙◌}
+use Rattle.std.proofs.Common.{Some, None, inr, sym, ◌∙◌}
 use Rattle.syntax.specs.Tree.{program_tree}
 use Rattle.checker.specs.Programs.{program_breaches}
 use Rattle.names.proofs.Noted.{first_law}
@@ -14,4 +14,4 @@ pub returns-in-Ok : goal.returns-in-Ok
 returns-in-Ok c =
     let l = first_law (program_breaches (program_tree c.args.program)) (Some c.in-Some.breach)
     (sym c.in-Ok.ensures.breaches ∙ c.in-Some.is) in
-    inr (c.in-Some.breach, l.0, l.1, refl, refl)
+    inr (c.in-Some.breach, l.0, l.1, c.fault.ensures.number, c.fault.ensures.line)

@@ -2,16 +2,19 @@ use Rattle.std.proofs.Common.{◌≡◌, ℕ, List, [], length, ap, ◌∙◌, a
 use Rattle.std.specs.Prelude.{map}
 use Rattle.meaning.specs.declared.checked.CheckedObject.{CheckedObject}
 use Rattle.meaning.specs.Resolved.{object_of}
-use Rattle.syntax.specs.declared.tree.Directive.{Directive}
-use Rattle.syntax.specs.declared.tree.Text.{Text}
-use Rattle.syntax.specs.Tree.{directive_tree, program_tree, text_tree}
+use Rattle.directives.specs.declared.tree.Directive.{Directive}
+use Rattle.directives.specs.declared.tree.Text.{Text}
+use Rattle.directives.specs.Tree.{directive_tree, text_tree}
+use Rattle.syntax.specs.Tree.{program_tree}
 use Rattle.names.specs.Names.{File, first_table, no_counts, in_table}
 use Rattle.names.specs.Noted.{noted}
-use Rattle.checker.specs.Objects.{all_defaults, standing_breaches, placed}
-use Rattle.checker.specs.Programs.{arrays_of, object_trees, directives_breaches, main_breaches, main_key, first_routine}
+use Rattle.object_rules.specs.Objects.{all_defaults, standing_breaches, placed}
+use Rattle.array_rules.specs.Arrays.{arrays_of}
+use Rattle.object_rules.specs.Files.{object_trees}
+use Rattle.checker.specs.Programs.{directives_breaches, main_breaches, main_key, first_routine}
 use Rattle.checker.specs.Programs.{abbreviations_breaches}
 use Rattle.names.specs.Scope.{file_in}
-use Rattle.checker.proofs.Chains.{take_exact}
+use Rattle.object_rules.proofs.Chains.{take_exact}
 use Rattle.checker.proofs.Whole.{file_table, program_checked, program_break}
 use Rattle.checker.proofs.check_program.resolve_with.Goals as goal
 

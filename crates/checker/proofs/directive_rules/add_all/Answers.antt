@@ -1,7 +1,7 @@
 use Rattle.std.proofs.Common.{List, sym, ap, ◌∙◌}
 use Rattle.std.specs.Prelude.{map}
-use Rattle.syntax.specs.declared.tree.Directive.{Directive}
-use Rattle.syntax.specs.Tree.{directive_tree}
+use Rattle.directives.specs.declared.tree.Directive.{Directive}
+use Rattle.directives.specs.Tree.{directive_tree}
 use Rattle.names.specs.Noted.{noted}
 use Rattle.checker.specs.Programs.{directives_breaches}
 use Rattle.names.specs.Scope.{file_in}

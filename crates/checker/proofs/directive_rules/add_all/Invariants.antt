@@ -1,6 +1,6 @@
 use Rattle.std.proofs.Common.{◌≡◌, ◌+◌, drop}
 use Rattle.std.specs.Prelude.{map}
-use Rattle.syntax.specs.Tree.{directive_tree}
+use Rattle.directives.specs.Tree.{directive_tree}
 use Rattle.names.specs.Names.{no_counts, AreFewer}
 use Rattle.names.specs.Noted.{noted}
 use Rattle.checker.specs.Found.{IsAdding}

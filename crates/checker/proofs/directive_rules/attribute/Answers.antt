@@ -1,5 +1,6 @@
 use Rattle.expressions.specs.Tree.{name_tree}
-use Rattle.checker.specs.Programs.{twice, limit_breaches}
+use Rattle.object_rules.specs.Repeated.{twice}
+use Rattle.checker.specs.Programs.{limit_breaches}
 use Rattle.names.proofs.Noted.{noted_two}
 use Rattle.checker.proofs.directive_rules.attribute.Goals as goal
 

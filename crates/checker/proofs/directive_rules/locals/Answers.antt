@@ -1,7 +1,8 @@
 use Rattle.std.proofs.Common.{sym, ◌∙◌, take}
 use Rattle.std.specs.Prelude.{map}
 use Rattle.expressions.specs.Tree.{name_tree}
-use Rattle.checker.proofs.NameTables.{table_next, locals_next, locals_end}
+use Rattle.object_rules.proofs.NameTables.{table_next}
+use Rattle.checker.proofs.LocalNames.{locals_next, locals_end}
 use Rattle.checker.proofs.directive_rules.locals.Goals as goal
 
 pub loop-number-preserved : goal.loop-number-preserved

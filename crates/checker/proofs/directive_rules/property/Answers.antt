@@ -1,8 +1,9 @@
 use Rattle.std.proofs.Common.{◌++◌}
 use Rattle.expressions.specs.Tree.{name_tree}
-use Rattle.syntax.specs.Tree.{optional_tree}
+use Rattle.directives.specs.Tree.{optional_tree}
 use Rattle.value_rules.specs.Literals.{initial_breaches}
-use Rattle.checker.specs.Programs.{twice, limit_breaches}
+use Rattle.object_rules.specs.Repeated.{twice}
+use Rattle.checker.specs.Programs.{limit_breaches}
 use Rattle.names.proofs.Noted.{noted_two}
 use Rattle.checker.proofs.directive_rules.property.Goals as goal
 

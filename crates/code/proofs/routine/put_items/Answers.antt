@@ -1,6 +1,6 @@
 use Rattle.std.proofs.Common.{ap, ◌∙◌, arith}
-use Rattle.values.specs.Code.{item_of, items_of}
-use Rattle.instructions.specs.Written.{addresses_of, sizes_in}
+use Rattle.drafts.specs.Code.{item_of, items_of}
+use Rattle.encoding.specs.Written.{addresses_of, sizes_in}
 use Rattle.code.specs.Bytes.{place_of}
 use Rattle.code.proofs.Codes.{left_count, bytes_next, offset_is}
 use Rattle.code.proofs.routine.put_items.Goals as goal

@@ -1,8 +1,8 @@
 use Rattle.std.proofs.Common.{List, [], ◌∷◌, ◌++◌, take, ap, ◌∙◌}
 use Rattle.zcore.specs.declared.instruction.Operand.{Operand}
 use Rattle.zcore.specs.declared.instruction.Operand.TheVariants.{Large}
-use Rattle.values.specs.Code.{as_operands, as_destination}
-use Rattle.instructions.specs.Instructions.{most_arguments}
+use Rattle.drafts.specs.Code.{as_operands, as_destination}
+use Rattle.encoding.specs.Instructions.{most_arguments}
 use Rattle.instructions.proofs.Givens.{given_is, call_written}
 use Rattle.instructions.proofs.calls.put_call.Goals as goal
 

@@ -1,6 +1,7 @@
 use Rattle.std.proofs.Common.{◌≡◌, ◌∷◌, ◌++◌, map, drop}
 use Rattle.zcore.specs.declared.instruction.Operand.TheVariants.{Variable}
-use Rattle.instructions.specs.Instructions.{chosen_variable, constant}
+use Rattle.instructions.specs.Instructions.{chosen_variable}
+use Rattle.encoding.specs.Instructions.{constant}
 use Rattle.instructions.proofs.jumps.compared.Given as goal
 
 abbrev pub invariant-loop-number : goal.invariant-loop-number

@@ -1,6 +1,6 @@
-use Rattle.values.specs.Code.{as_operands, as_test}
+use Rattle.drafts.specs.Code.{as_operands, as_test}
 use Rattle.std.proofs.Common.{take}
-use Rattle.instructions.specs.Instructions.{most_tested}
+use Rattle.encoding.specs.Instructions.{most_tested}
 use Rattle.instructions.proofs.Givens.{given_is, branch_otherwise, on_ok}
 use Rattle.instructions.proofs.jumps.put_branch.Goals as goal
 

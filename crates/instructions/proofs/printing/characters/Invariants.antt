@@ -2,7 +2,7 @@ use Rattle.std.proofs.Common.{◌≡◌, ◌++◌, drop}
 use Rattle.std.specs.Prelude.{map}
 use Rattle.std.specs.List.{filter}
 use Rattle.ztext.specs.Alphabets.{is_printable}
-use Rattle.instructions.specs.Bytes.{character_of}
+use Rattle.encoding.specs.Bytes.{character_of}
 use Rattle.instructions.proofs.printing.characters.Given as goal
 
 abbrev pub invariant-loop-byte : goal.invariant-loop-byte

@@ -2,7 +2,7 @@ use Rattle.std.proofs.Common.{List, ℕ, ap, ◌∙◌}
 use Rattle.std.specs.Prelude.{map}
 use Rattle.std.specs.List.{list_all}
 use Rattle.ztext.specs.Alphabets.{is_printable}
-use Rattle.instructions.specs.Bytes.{character_of}
+use Rattle.encoding.specs.Bytes.{character_of}
 use Rattle.instructions.proofs.Printable.{only_printable}
 use Rattle.instructions.proofs.printing.put_text.Goals as goal
 

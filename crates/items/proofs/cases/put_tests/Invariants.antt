@@ -1,8 +1,8 @@
 use Rattle.std.proofs.Common.{◌-◌, List, [], ◌∷◌, ◌++◌, map, take, reverse}
-use Rattle.values.specs.Items.{Item}
+use Rattle.drafts.specs.Items.{Item}
 use Rattle.items.specs.Statements.{Group, last_items, tests_items}
 use Rattle.items.specs.Code.{group_of}
-use Rattle.values.specs.Writing.{written_in, Written}
+use Rattle.drafts.specs.Writing.{written_in, Written}
 use Rattle.items.proofs.cases.put_tests.Given as goal
 
 -- before the last group stand those that were written since

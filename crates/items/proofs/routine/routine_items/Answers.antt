@@ -2,8 +2,8 @@ use Rattle.std.proofs.Common.{List, [], ◌∷◌, ◌++◌, map, ap, ◌∙◌,
 use Rattle.meaning.specs.declared.resolved.Action as code_action
 use Rattle.meaning.specs.Resolved.{action_of, actions_of}
 use Rattle.items.specs.Statements.{actions_items, return_true}
-use Rattle.values.specs.Code.{items_of}
-use Rattle.values.specs.Writing.{written_in, Written}
+use Rattle.drafts.specs.Code.{items_of}
+use Rattle.drafts.specs.Writing.{written_in, Written}
 use Rattle.items.specs.Writing.{exits_of}
 use Rattle.items.proofs.Actions.{routine_more}
 use Rattle.items.proofs.routine.routine_items.Goals as goal

@@ -10,7 +10,7 @@ use Rattle.meaning.specs.Resolved.{each_where, each_in}
 use Rattle.items.specs.Statements.{action_items, actions_items, cases_items, prints_items, groups_of, tests_items}
 use Rattle.items.specs.Statements.{action_count}
 use Rattle.items.specs.declared.exits.Exits.{Exits}
-use Rattle.values.specs.Writing.{written_in, Written}
+use Rattle.drafts.specs.Writing.{written_in, Written}
 use Rattle.items.specs.Writing.{exits_of, LeavesCases}
 use Rattle.items.proofs.Trees.{text_is, print_return_is, if_else_is, while_is, do_is, for_is, switch_is, return_is}
 use Rattle.items.proofs.Trees.{give_is, move_is, remove_is, each_is, each_where_is, each_in_is}

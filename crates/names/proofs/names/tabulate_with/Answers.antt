@@ -1,7 +1,7 @@
 use Rattle.std.proofs.Common.{List, sym, ap, ◌∙◌}
 use Rattle.std.specs.Prelude.{map}
-use Rattle.syntax.specs.declared.tree.Directive.{Directive}
-use Rattle.syntax.specs.Tree.{directive_tree}
+use Rattle.directives.specs.declared.tree.Directive.{Directive}
+use Rattle.directives.specs.Tree.{directive_tree}
 use Rattle.names.specs.Names.{table_from}
 use Rattle.names.proofs.Dropped.{drop_end}
 use Rattle.names.proofs.names.tabulate_with.Goals as goal

@@ -1,6 +1,6 @@
 use Rattle.std.proofs.Common.{◌≡◌, ◌+◌, drop}
 use Rattle.std.specs.Prelude.{map}
-use Rattle.syntax.specs.Tree.{directive_tree}
+use Rattle.directives.specs.Tree.{directive_tree}
 use Rattle.names.specs.Names.{first_table, no_counts, AreFewer, table_from}
 use Rattle.names.proofs.names.tabulate_with.Given as goal
 

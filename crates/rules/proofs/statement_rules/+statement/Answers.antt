@@ -9,7 +9,7 @@ use Rattle.meaning.specs.Resolved as values
 use Rattle.meaning.specs.Resolved.{Value, Action, value_of, action_of, case_of, other_of}
 use Rattle.names.specs.Scope.{seen_in}
 use Rattle.value_rules.specs.Expressions.{variable_of_binding}
-use Rattle.rules.specs.Statements.{loop_breaches}
+use Rattle.simple_rules.specs.Statements.{loop_breaches}
 use Rattle.rules.specs.Walk.{resolved_statement, own_statement_breaches, resolved_case, own_case_breaches}
 use Rattle.names.proofs.Each.{each_next, each_end, value_next, value_end}
 use Rattle.rules.proofs.Shapes.{is_simple_statement, is_block_statement, is_if_statement, is_if_else_statement}

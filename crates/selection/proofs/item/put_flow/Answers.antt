@@ -1,8 +1,8 @@
 use Rattle.std.proofs.Common.{◌≡◌, ◌++◌, ◌%◌, slice_index, sym, subst}
-use Rattle.values.specs.declared.item.Item as code
-use Rattle.values.specs.Code.{item_of}
-use Rattle.instructions.specs.Bytes.{bytes_of_all}
-use Rattle.instructions.specs.Written.{addresses_of, sizes_in}
+use Rattle.drafts.specs.declared.item.Item as code
+use Rattle.drafts.specs.Code.{item_of}
+use Rattle.encoding.specs.Bytes.{bytes_of_all}
+use Rattle.encoding.specs.Written.{addresses_of, sizes_in}
 use Rattle.selection.specs.ItemCode.{read_code}
 use Rattle.selection.specs.ItemBytes.{item_bytes}
 use Rattle.selection.proofs.ItemParts.{no_text}

@@ -1,5 +1,5 @@
 use Rattle.std.proofs.Common.{◌≡◌, ◌++◌, ℕ, List, OnOk, subst}
-use Rattle.instructions.specs.Written.{addresses_of}
+use Rattle.encoding.specs.Written.{addresses_of}
 use Rattle.selection.proofs.ItemParts.{read_same}
 use Rattle.selection.proofs.item.put_read_line.Goals as goal
 

@@ -1,7 +1,7 @@
 use Rattle.std.specs.Prelude.{map}
-use Rattle.lexer.specs.Token.{lexemes}
 use Rattle.expressions.specs.Tree.{expression_tree}
 use Rattle.statements.specs.Tree.{case_tree, other_tree}
+use Rattle.statements.specs.Returned.{ahead}
 use Rattle.statements.proofs.Shapes.{is_switch}
 use Rattle.statements.proofs.Cases.{switch_made}
 use Rattle.statements.proofs.parts.switch_on.Goals as goal
@@ -9,6 +9,6 @@ use Rattle.statements.proofs.parts.switch_on.Goals as goal
 pub returns-in-Ok : goal.returns-in-Ok
 returns-in-Ok c = rw (
   switch_made c.args.position (expression_tree c.args.value.value) (map case_tree c.args.cases.items)
-      (other_tree c.args.other) (lexemes c.args.rest.now) (lexemes c.in-Ok.rest.now) c.in-Ok.ensures,
+      (other_tree c.args.other) (ahead c.args.parser.now) _ c.in-Ok.ensures,
   ← is_switch c.args.position c.args.value c.args.cases c.args.other,
 ) c.in_box.ensures

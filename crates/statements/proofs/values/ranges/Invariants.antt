@@ -1,8 +1,8 @@
 use Rattle.std.proofs.Common.{◌≡◌, map, ◌-◌}
 use Rattle.lexer.specs.declared.token.Sign.TheVariants as s
-use Rattle.lexer.specs.Token.{lexemes}
 use Rattle.expressions.specs.Parse.{is_sign, further}
 use Rattle.statements.specs.Tree.{range_tree}
+use Rattle.statements.specs.Returned.{ahead}
 use Rattle.statements.specs.Parse as spec
 use Rattle.statements.proofs.Loops.{joined}
 use Rattle.statements.proofs.values.ranges.Given as goal
@@ -10,5 +10,5 @@ use Rattle.statements.proofs.values.ranges.Given as goal
 abbrev pub invariant-loop-turn : goal.invariant-loop-turn
 invariant-loop-turn l =
     joined (map range_tree l.found.items)
-    (further (is_sign s.Comma) spec.range (l._turn-end - l._turn) (lexemes l.rest))
-    ≡ spec.ranges (lexemes l.fn.tokens)
+    (further (is_sign s.Comma) spec.range (l._turn-end - l._turn) (ahead l.parser))
+    ≡ spec.ranges (ahead l.fn.parser)

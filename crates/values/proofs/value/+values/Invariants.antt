@@ -1,8 +1,9 @@
 use Rattle.std.proofs.Common.{◌-◌, ◌+◌, ◌*◌, max, [], length, map, drop}
 use Rattle.meaning.specs.declared.resolved.Value.{size-Value}
 use Rattle.meaning.specs.Resolved.{value_of, values_of}
-use Rattle.values.specs.Items.{operands_items}
-use Rattle.values.specs.Writing.{written_in, link_of, folded_items, Written, ReducesLinks}
+use Rattle.drafts.specs.Items.{operands_items}
+use Rattle.drafts.specs.Writing.{written_in, link_of, Written}
+use Rattle.values.specs.Writing.{folded_items, ReducesLinks}
 use Rattle.values.proofs.value.+values.Given as goal
 
 abbrev pub invariant-put_operands-loop-done : goal.invariant-put_operands-loop-done

@@ -4,8 +4,8 @@ use Rattle.std.specs.List.{All}
 use Rattle.forms.specs.declared.layout.BranchUse.{BranchUse}
 use Rattle.forms.specs.Layout.{IsShortest}
 use Rattle.forms.proofs.Offsets.{all_shortest}
-use Rattle.values.specs.Code.{items_of}
-use Rattle.instructions.specs.Written.{sizes_in}
+use Rattle.drafts.specs.Code.{items_of}
+use Rattle.encoding.specs.Written.{sizes_in}
 use Rattle.code.specs.Bytes.{parts_of, place_of}
 use Rattle.code.specs.Written.{CodeOf, branch_offsets}
 use Rattle.code.proofs.Codes.{offsets_are}

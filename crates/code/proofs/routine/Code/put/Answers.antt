@@ -1,7 +1,7 @@
 use Rattle.std.proofs.Common.{◌≡◌, ◌%◌, List, [], ◌∷◌, ◌++◌, ap, ◌∙◌}
-use Rattle.values.specs.Items.{Item}
-use Rattle.values.specs.Code.{items_of}
-use Rattle.instructions.specs.Written.{addresses_of, sizes_in}
+use Rattle.drafts.specs.Items.{Item}
+use Rattle.drafts.specs.Code.{items_of}
+use Rattle.encoding.specs.Written.{addresses_of, sizes_in}
 use Rattle.code.specs.Bytes.{place_of, items_bytes}
 use Rattle.code.proofs.Codes.{code_written}
 use Rattle.code.proofs.routine.Code.put.Goals as goal

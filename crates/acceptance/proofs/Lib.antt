@@ -1,0 +1,12 @@
+mod AbbreviationLimits
+mod NeedsBelow
+mod MeantNames
+mod UnbrokenValues
+mod Unbroken
+mod BreaksStand
+mod Renumbered
+mod Bindings
+mod Placed
+mod FewDirectives
+mod Acceptance
+mod Printable

@@ -1,0 +1,3 @@
+pub mod ArraySizes
+pub mod ArrayBytes
+pub mod ArrayLists

@@ -1,0 +1,21 @@
+use Rattle.std.proofs.Common.{ap, ◌∙◌}
+use Rattle.statements.specs.Tree.{literal_tree}
+use Rattle.names.specs.declared.known.Known.{Known}
+use Rattle.names.specs.Keys.{or_zero}
+use Rattle.names.specs.Names.{literal_known}
+use Rattle.names.specs.Noted.{noted}
+use Rattle.value_rules.specs.Literals.{literal_breaches}
+use Rattle.array_rules.specs.Arrays.{wide_breaches}
+use Rattle.names.proofs.Noted.{noted_two}
+use Rattle.array_rules.proofs.array_rules.entry.Goals as goal
+
+pub returns-clause-breaches : goal.returns-clause-breaches
+returns-clause-breaches c =
+    let whole = c.args.file.now.table.entries in
+    let tree = literal_tree c.args.value.now.value in
+    noted_two c.args.least.now c.literal.new.least c.wide_rule.new.least (literal_breaches whole tree)
+    (wide_breaches c.args.value.now.position c.args.width (or_zero (literal_known whole tree)))
+    c.literal.ensures.breaches
+    (c.wide_rule.ensures
+    ∙ ap (λ (n : Known). noted c.literal.new.least (wide_breaches c.args.value.now.position c.args.width n))
+    (c.or_zero-known.ensures ∙ ap or_zero c.literal.ensures.value))

@@ -1,0 +1,15 @@
+pub mod NamesRead
+pub mod Arrows
+pub mod Weights
+pub mod Spelled
+pub mod SpelledExpressions
+pub mod SpelledStatements
+pub mod Lists
+pub mod ObjectsRead
+pub mod ObjectsComplete
+pub mod TextsRead
+pub mod Sound
+pub mod Ends
+pub mod Complete
+pub mod Printable
+mod Samples

@@ -1,0 +1,40 @@
+-- Names, read one by one.
+use Rattle.std.proofs.Common.{◌≡◌, ℕ, ◌+◌, ◌-◌, ◌<◌, List, [], ◌∷◌, ◌++◌, length, Ok, Err, refl, ap, arith}
+use Rattle.std.specs.Prelude.{map}
+use Rattle.lexer.specs.Token.{Lexeme, name}
+use Rattle.expressions.specs.declared.error.Fault.TheVariants.{Grammar}
+use Rattle.expressions.specs.declared.tree.Name.{Name}
+use Rattle.expressions.specs.Tree.{name_tree}
+use Rattle.expressions.specs.Parse.{head, tail, is_name}
+use Rattle.statements.specs.Parse.{repeated, named}
+use Rattle.directives.specs.Parse.{some_on, names, some_names}
+use Rattle.statements.proofs.Loops.{joined, repeated_more}
+use Rattle.statements.proofs.NamesRead.{named_at}
+
+pub names_more : (n i : ℕ) (front : List Name) (ts : List Lexeme) (x : Name) → i < n
+    → head ts ≡ name x.text.now x.position
+    → joined (map name_tree front) (repeated is_name named (n - i) ts)
+    ≡ joined (map name_tree (front ++ x ∷ [])) (repeated is_name named (n - (i + 1)) (tail ts))
+names_more n i front ts x lt e = repeated_more name_tree is_name named n i front ts x (tail ts) lt (ap is_name e)
+    (named_at ts x e)
+
+-- ---- names, at least one
+
+none_found : (xs : List Name) (r : List Lexeme) → length xs ≡ 0 → some_on (map name_tree xs) r ≡ Err Grammar
+none_found [] r e = refl
+none_found (x ∷ xs) r e = absurd (omega (arith, e))
+
+pub no_names : (xs : List Name) (ts r : List Lexeme) → names ts ≡ Ok (map name_tree xs, r) → length xs ≡ 0
+    → some_names ts ≡ Err Grammar
+unfolding some_names
+no_names xs ts r h e = rw h (none_found xs r e)
+
+some_found : (xs : List Name) (r : List Lexeme) → 0 < length xs
+    → some_on (map name_tree xs) r ≡ Ok (map name_tree xs, r)
+some_found [] r lt = absurd (omega (arith, lt))
+some_found (x ∷ xs) r lt = refl
+
+pub names_found : (xs : List Name) (ts r : List Lexeme) → names ts ≡ Ok (map name_tree xs, r) → 0 < length xs
+    → some_names ts ≡ Ok (map name_tree xs, r)
+unfolding some_names
+names_found xs ts r h lt = rw h (some_found xs r lt)

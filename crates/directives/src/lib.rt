@@ -1,0 +1,15 @@
+//! Directives: their trees, and the parser that reads one.
+#![tactic(auto)]
+
+mod arrays;
+mod directives;
+mod names;
+mod objects;
+mod texts;
+mod tree;
+mod weight;
+
+pub use directives::directive;
+pub use texts::abbreviate;
+pub use tree::{Array, ArrayKind, ArrayValue, Directive, Object, Property, Routine, Text};
+pub use weight::weight_of;

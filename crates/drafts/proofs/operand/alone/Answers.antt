@@ -1,0 +1,5 @@
+use Rattle.drafts.proofs.Trees.{chain_pushed}
+use Rattle.drafts.proofs.operand.alone.Goals as goal
+
+pub returns-in-Chain : goal.returns-in-Chain
+returns-in-Chain c = chain_pushed _ _ _ _ _ c.in-Chain.is

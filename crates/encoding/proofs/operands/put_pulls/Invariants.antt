@@ -1,0 +1,12 @@
+use Rattle.std.proofs.Common.{◌≡◌, ◌≤◌, ◌++◌}
+use Rattle.encoding.specs.Instructions.{most_arguments, take_words}
+use Rattle.encoding.specs.Bytes.{bytes_of_all}
+use Rattle.encoding.proofs.operands.put_pulls.Given as goal
+
+abbrev pub invariant-loop-left : goal.invariant-loop-left
+invariant-loop-left l =
+    (l.left ≤ most_arguments) × (l.bytes.items ++ bytes_of_all (take_words l.left) ≡ l.initial.bytes.items
+    ++ bytes_of_all (take_words l.count))
+
+abbrev pub decreases-loop-left : goal.decreases-loop-left
+decreases-loop-left l = l.left

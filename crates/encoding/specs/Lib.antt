@@ -1,0 +1,4 @@
+pub mod Addresses
+pub mod Instructions
+pub mod Bytes
+pub mod Written

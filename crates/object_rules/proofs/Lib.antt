@@ -1,0 +1,3 @@
+pub mod NameTables
+pub mod ObjectLists
+pub mod Chains

@@ -1,0 +1,38 @@
+use Rattle.std.proofs.Common.{List, [], ◌++◌, ap, ◌∙◌}
+use Rattle.std.specs.Prelude.{map}
+use Rattle.std.specs.List.{flat_map}
+use Rattle.std.specs.Option.{option_map}
+use Rattle.expressions.specs.declared.tree.Name.{Name}
+use Rattle.expressions.specs.Tree.{NameTree, name_tree}
+use Rattle.directives.specs.declared.tree.Property.{Property}
+use Rattle.directives.specs.Tree.{text_tree, property_tree}
+use Rattle.names.specs.Noted.{noted}
+use Rattle.names.proofs.Noted.{noted_two}
+use Rattle.object_rules.specs.Repeated.{repeated_breaches}
+use Rattle.object_rules.specs.Objects.{short_breaches, property_name, provided_breaches, given_breaches}
+use Rattle.object_rules.proofs.object_rules.object.Goals as goal
+
+pub returns-clause-breaches : goal.returns-clause-breaches
+returns-clause-breaches c =
+    let whole = c.args.file.now.table.entries in
+    let ps = map property_tree c.args.written.now.properties.items in
+    let short = short_breaches (option_map text_tree c.args.written.now.short) in
+    let twice = repeated_breaches [] (map property_name ps) in
+    let provided = flat_map (provided_breaches whole) ps in
+    let given = flat_map (given_breaches whole) (map name_tree c.args.written.now.attributes.items) in
+    noted_two c.args.least.now c.short_rule.new.least c.attributes.new.least short (twice ++ (provided ++ given))
+    c.short_rule.ensures
+    (noted_two c.short_rule.new.least c.repeated.new.least c.attributes.new.least twice (provided ++ given)
+    (c.in_ok-repeated.ensures
+    ∙ ap (λ (ns : List Name). noted c.short_rule.new.least (repeated_breaches [] (map name_tree ns)))
+    c.deref-2.ensures.value
+    ∙ ap (λ (ns : List NameTree). noted c.short_rule.new.least (repeated_breaches [] ns)) c.in_ok-names.ensures
+    ∙ ap (λ (xs : List Property). noted c.short_rule.new.least
+    (repeated_breaches [] (map property_name (map property_tree xs)))) c.deref.ensures.value)
+    (noted_two c.repeated.new.least c.properties.new.least c.attributes.new.least provided given
+    (c.in_ok-properties.ensures.breaches
+    ∙ ap (λ (xs : List Property). noted c.repeated.new.least
+    (flat_map (provided_breaches whole) (map property_tree xs))) c.deref-3.ensures.value)
+    (c.in_ok-attributes.ensures.breaches
+    ∙ ap (λ (ns : List Name). noted c.properties.new.least (flat_map (given_breaches whole) (map name_tree ns)))
+    c.deref-4.ensures.value)))

@@ -1,0 +1,3 @@
+pub mod Repeated
+pub mod Objects
+pub mod Files

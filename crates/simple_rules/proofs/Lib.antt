@@ -1,0 +1,5 @@
+pub mod MadeActions
+pub mod HeadingNeeds
+pub mod Forms
+pub mod ReadNames
+mod Samples

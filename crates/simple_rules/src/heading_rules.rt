@@ -1,0 +1,130 @@
+//! The parts of a `for`: the rules that they can break, and what they resolve to.
+
+ghost use Rattle.std.specs.Prelude.{◌≡◌, ◌&&◌, IfOk, nat_le};
+ghost use Rattle.std.specs.Option.{option_map};
+ghost use Rattle.statements.specs.Tree.{part_tree, heading_tree};
+ghost use Rattle.names.specs.Noted.{noted};
+ghost use Rattle.meaning.specs.Resolved.{value_of};
+ghost use Rattle.names.specs.Scope.{seen_in};
+ghost use Rattle.simple_rules.specs.Statements as spec;
+ghost use Rattle.simple_rules.specs.Walk.{part_fits, room_behind, IsPart, AreParts, IsHeading, parts_of};
+
+use expressions::Expression;
+use lexer::{EXPRESSION_TOO_LARGE, Position};
+use meaning::Value;
+use names::{Breach, Scope, note};
+use statements::Heading;
+use std::alloc::{AllocError, Global};
+use value_rules::{expression, fits};
+
+// Whether a part needs at most so many temporaries.
+fn fits_in(part: &Option<Box<Expression<'_>>>, room: u8) -> bool
+    ensures { result ≡ part_fits (part_tree part.now) room }
+{
+    match part {
+        None => true,
+        Some(e) => fits(e, room),
+    }
+}
+
+// How many are left for the parts behind it.
+fn left_behind(part: &Option<Box<Expression<'_>>>, room: u8) -> u8
+    ensures { result ≡ room_behind (part_tree part.now) room }
+{
+    match part {
+        None => room,
+        Some(_) => room.saturating_sub(1),
+    }
+}
+
+fn all_three(first: bool, second: bool, third: bool) -> bool
+    ensures { result ≡ (first && (second && third)) }
+{
+    first && second && third
+}
+
+// Whether the parts, as operands of one form, need at most 48 temporaries.
+fn all_fit(heading: &Heading<'_>) -> bool
+    ensures { result ≡ nat_le (spec.need_of_heading (heading_tree heading.now)) 48 }
+{
+    let second = left_behind(&heading.before, 48);
+    let third = left_behind(&heading.test, second);
+    let first_fits = fits_in(&heading.before, 48);
+    let second_fits = fits_in(&heading.test, second);
+    let third_fits = fits_in(&heading.behind, third);
+    all_three(first_fits, second_fits, third_fits)
+}
+
+#[tactic(auto, using(names::proofs::Noted::noted_none, value_rules::proofs::Needs::fits_not))]
+fn temporaries(heading: &Heading<'_>, position: Position, least: &mut Option<Breach>)
+    ensures { least.new ≡ noted least.old
+        (spec.room_breaches position (spec.need_of_heading (heading_tree heading.now))) }
+{
+    if !all_fit(heading) {
+        note(least, EXPRESSION_TOO_LARGE, position);
+    }
+}
+
+#[tactic(auto, using(names::proofs::Noted::noted_none))]
+fn part(
+    given: &Option<Box<Expression<'_>>>,
+    alloc: Global,
+    scope: &Scope<'_>,
+    least: &mut Option<Breach>,
+) -> Result<Option<Value>, AllocError>
+    ensures { IfOk result (λ v. IsPart (seen_in scope.now) (part_tree given.now)
+        least.old least.new (option_map value_of v)) }
+{
+    match given {
+        None => Ok(None),
+        Some(e) => {
+            let Ok(value) = expression(e, alloc, scope, least) else {
+                return Err(AllocError);
+            };
+            Ok(Some(value))
+        }
+    }
+}
+
+fn parts(
+    given: &Heading<'_>,
+    alloc: Global,
+    scope: &Scope<'_>,
+    least: &mut Option<Breach>,
+) -> Result<(Option<Value>, Option<Value>, Option<Value>), AllocError>
+    ensures { IfOk result (λ x. AreParts (seen_in scope.now) (heading_tree given.now)
+        least.old least.new (parts_of x)) }
+{
+    let Ok(before) = part(&given.before, alloc, scope, least) else {
+        return Err(AllocError);
+    };
+    let Ok(test) = part(&given.test, alloc, scope, least) else {
+        drop(before);
+        return Err(AllocError);
+    };
+    let Ok(behind) = part(&given.behind, alloc, scope, least) else {
+        drop(before);
+        drop(test);
+        return Err(AllocError);
+    };
+    Ok((before, test, behind))
+}
+
+/// The parts of a `for` that begins at this position.
+///
+/// # Errors
+///
+/// `AllocError` where memory is refused.
+pub fn heading(
+    given: &Heading<'_>,
+    alloc: Global,
+    scope: &Scope<'_>,
+    position: Position,
+    least: &mut Option<Breach>,
+) -> Result<(Option<Value>, Option<Value>, Option<Value>), AllocError>
+    ensures { IfOk result (λ x. IsHeading (seen_in scope.now) position (heading_tree given.now)
+        least.old least.new (parts_of x)) }
+{
+    temporaries(given, position, least);
+    parts(given, alloc, scope, least)
+}

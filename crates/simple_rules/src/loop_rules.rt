@@ -1,0 +1,44 @@
+//! The variable of an `objectloop`: the rules that its name can break.
+
+ghost use Rattle.std.specs.Prelude.{◌≡◌};
+ghost use Rattle.names.specs.Breaches.{at};
+ghost use Rattle.names.specs.Noted.{noted};
+ghost use Rattle.value_rules.specs.Expressions.{variable_of_binding};
+ghost use Rattle.simple_rules.specs.Statements.{loop_breaches};
+
+use expressions::Name;
+use lexer::{Position, UNKNOWN_NAME, WRONG_KIND};
+use meaning::Variable;
+use names::{Binding, Breach, note};
+
+// A name of another kind than a variable; any will do for it.
+#[tactic(auto, using(names::proofs::Noted::noted_none))]
+fn no_variable(position: Position, least: &mut Option<Breach>) -> Variable
+    ensures value { result ≡ Variable.Local 0 }
+    ensures breaches { least.new ≡ noted least.old (at position 23) }
+{
+    note(least, WRONG_KIND, position);
+    Variable::Local(0)
+}
+
+/// The variable of an `objectloop`.
+#[tactic(auto, using(names::proofs::Noted::noted_none))]
+pub fn loop_variable(name: Name<'_>, found: Option<Binding>, least: &mut Option<Breach>) -> Variable
+    ensures value { result ≡ variable_of_binding found }
+    ensures breaches { least.new ≡ noted least.old (loop_breaches name.entry.position found) }
+{
+    match found {
+        None => {
+            note(least, UNKNOWN_NAME, name.position);
+            Variable::Local(0)
+        }
+        Some(Binding::Global(number)) => Variable::Global(number),
+        Some(Binding::Local(number)) => Variable::Local(number),
+        Some(Binding::Constant(_)) => no_variable(name.position, least),
+        Some(Binding::Array(_, _)) => no_variable(name.position, least),
+        Some(Binding::Routine(_, _)) => no_variable(name.position, least),
+        Some(Binding::Attribute(_)) => no_variable(name.position, least),
+        Some(Binding::Property(_)) => no_variable(name.position, least),
+        Some(Binding::Object(_)) => no_variable(name.position, least),
+    }
+}

@@ -1,8 +1,0 @@
-use Rattle.story.proofs.Joined.{start_joined}
-use Rattle.story.proofs.below.put_start.Goals as goal
-
-pub returns : goal.returns
-returns c =
-    start_joined c.args.main c.args.bytes.now.items c.push.new.self.items c.put_word.new.bytes.items
-    c.push-2.new.self.items
-    c.in_ok-push.ensures.items c.in_ok-put_word.ensures c.in_ok-push-2.ensures.items

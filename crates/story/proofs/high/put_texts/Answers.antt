@@ -1,7 +1,0 @@
-use Rattle.story.proofs.Joined.{texts_joined}
-use Rattle.story.proofs.high.put_texts.Goals as goal
-
-pub returns : goal.returns
-returns c =
-    texts_joined c.args.version c.args.texts.now c.loop-text.text-index c.args.body.now.items c.loop-text.body.items
-    c.put_filling.new.body.items c.loop-text-test.false c.loop-text.invariant c.in_ok-put_filling.ensures

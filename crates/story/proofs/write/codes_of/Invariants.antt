@@ -1,7 +1,0 @@
-use Rattle.std.proofs.Common.{◌≡◌, take}
-use Rattle.meaning.specs.Resolved.{program_of}
-use Rattle.story.proofs.Laid.{codes_in}
-use Rattle.story.proofs.write.codes_of.Given as goal
-
-abbrev pub invariant-loop-routine : goal.invariant-loop-routine
-invariant-loop-routine l = l.codes.items ≡ take l.routine (codes_in (program_of l.checked))

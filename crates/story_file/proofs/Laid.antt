@@ -1,0 +1,298 @@
+-- The code of routines, and where it is laid.
+use Rattle.std.proofs.Common.{◌≡◌, ℕ, zero, suc, ◌+◌, ◌-◌, ◌*◌, ◌<◌, ◌≤◌, List, [], ◌∷◌, ◌++◌, length, take, drop}
+use Rattle.std.proofs.Common.{refl, sym, ap, ◌∙◌, subst, arith, append_assoc, length-append}
+use Rattle.std.proofs.lemmas.List.{length-map, length-replicate}
+use Rattle.std.specs.Prelude.{map, replicate, slice_index, slice_index_or, sum}
+use Rattle.std.specs.List.{All, concat}
+use Rattle.std.specs.Global.{Vec}
+use Rattle.std.proofs.lemmas.List.Concat.{concat_is, length-flat_map}
+use Rattle.std.proofs.lemmas.List.Elements.{All-head, All-tail}
+use Rattle.std.proofs.lemmas.List.Sums.{sum-map}
+use Rattle.zcore.specs.declared.header.Version.{Version}
+use Rattle.zcore.specs.Header.{scale_of}
+use Rattle.meaning.specs.Resolved.{RoutineOf, ProgramOf}
+use Rattle.meaning.specs.Meaning.{routine_at}
+use Rattle.meaning.specs.Accepted.{IsRoutine}
+use Rattle.meaning.specs.Places.{arrays_place, routines_place, places_of}
+use Rattle.encoding.specs.Addresses.{Addresses, Sizes}
+use Rattle.code.specs.HeldProgram.{sizes_of}
+use Rattle.code.specs.Sizes.{routine_size}
+use Rattle.code.specs.Written.{CodeOf}
+use Rattle.story_file.specs.Layout.{aligned, greatest_word, parts_from, fault_texts, routine_bytes, packed_addresses}
+use Rattle.story_file.specs.Layout.{array_addresses, addresses_in, low_bytes, body_with, body_of, header_of, story_of}
+use Rattle.story_file.specs.Written.{Fits, IsReady, bytes_in, text_size, code_of, code_part, part_size, packed_from}
+use Rattle.story_file.specs.Written.{end_from}
+use Rattle.story_file.proofs.Parts.{aligned_above}
+use Rattle.story_file.proofs.Low.{low_length}
+use Rattle.story_file.proofs.Lengths.{sizes_are}
+
+-- Codes
+
+-- of a program of these sizes
+module _ (sizes : Sizes) where
+  pub code_next : (rs : List RoutineOf) (i : ℕ) → i < length rs
+      → take (i + 1) (map (code_of sizes) rs) ≡ take i (map (code_of sizes) rs) ++ code_of sizes (routine_at rs i) ∷ []
+  code_next [] i h = absurd (omega arith)
+  code_next (r ∷ rs) zero h = refl
+  code_next (r ∷ rs) (suc i) h =
+      let e : suc i + 1 ≡ suc (i + 1) = omega arith in
+      ap (λ n. take n (map (code_of sizes) (r ∷ rs))) e
+      ∙ ap (λ z. code_of sizes r ∷ z) (code_next rs i (omega arith))
+
+  code_found : (rs : List RoutineOf) (k : ℕ) (d : CodeOf) → k < length rs
+      → slice_index_or (map (code_of sizes) rs) k d ≡ code_of sizes (routine_at rs k)
+  code_found [] k d h = absurd (omega arith)
+  code_found (r ∷ rs) zero d h = refl
+  code_found (r ∷ rs) (suc k) d h = code_found rs k d (omega arith)
+
+  codes_count : (rs : List RoutineOf) → length (map (code_of sizes) rs) ≡ length rs
+  codes_count [] = refl
+  codes_count (r ∷ rs) = ap suc (codes_count rs)
+
+  sizes_of_codes : (rs : List RoutineOf) (more : List ℕ)
+      → map part_size (map (code_of sizes) rs) ++ more ≡ map (routine_size sizes) rs ++ more
+  sizes_of_codes [] more = refl
+  sizes_of_codes (r ∷ rs) more = ap (λ z. routine_size sizes r ∷ z) (sizes_of_codes rs more)
+
+  parts_are : (a : Addresses) (rs : List RoutineOf) (more : List (List ℕ))
+      → map (code_part a) (map (code_of sizes) rs) ++ more ≡ map (routine_bytes sizes a) rs ++ more
+  parts_are a [] more = refl
+  parts_are a (r ∷ rs) more = ap (λ z. routine_bytes sizes a r ∷ z) (parts_are a rs more)
+
+-- the code of each routine of a program
+abbrev pub codes_in : ProgramOf → List CodeOf
+codes_in p = map (code_of (sizes_of p)) p.routines
+
+few_locals : (p : ProgramOf) (rs : List RoutineOf) (k : ℕ) → All (IsRoutine p) rs → k < length rs
+    → (routine_at rs k).locals ≤ 15
+few_locals p [] k all h = absurd (omega arith)
+few_locals p (r ∷ rs) zero all h = (All-head (IsRoutine p) r rs all).0
+few_locals p (r ∷ rs) (suc k) all h = few_locals p rs k (All-tail (IsRoutine p) r rs all) (omega arith)
+
+pub codes_ready : (version : Version) (p : ProgramOf) (codes : List CodeOf) → Fits version p
+    → codes ≡ codes_in p → All IsReady codes
+codes_ready version p codes fits e k d h =
+    let within : k < length p.routines = omega (arith, h, ap length e, codes_count (sizes_of p) p.routines) in
+    let found : slice_index_or codes k d ≡ code_of (sizes_of p) (routine_at p.routines k) =
+    ap (λ cs. slice_index_or cs k d) e ∙ code_found (sizes_of p) p.routines k d within in
+    let few : (routine_at p.routines k).locals ≤ 15 = few_locals p p.routines k fits.accepted.routines within in
+    let ready : IsReady (code_of (sizes_of p) (routine_at p.routines k)) = omega (arith, few) in
+    subst IsReady (sym found) ready
+
+-- Sizes and addresses
+
+pub found_at : (xs : List ℕ) (i d : ℕ) → i < length xs → slice_index_or xs i d ≡ slice_index xs i
+found_at [] i d h = absurd (omega arith)
+found_at (x ∷ xs) zero d h = refl
+found_at (x ∷ xs) (suc i) d h = found_at xs i d (omega arith)
+
+-- a part ends before the end
+part_within : (version : Version) (at : ℕ) (sizes : List ℕ) → at ≤ end_from (scale_of version) at sizes
+part_within version at [] = aligned_above version at
+part_within version at (size ∷ sizes) =
+    let rest = part_within version (aligned (scale_of version) at + size) sizes in
+    omega (arith, rest, aligned_above version at)
+
+from_size : (xs : List ℕ) (i x : ℕ) → i < length xs → x ≡ slice_index_or xs i x → drop i xs ≡ x ∷ drop (i + 1) xs
+from_size [] i x h is = absurd (omega (arith, h))
+from_size (y ∷ xs) zero x h is = ap (λ z. z ∷ xs) (sym is)
+from_size (y ∷ xs) (suc i) x h is =
+    let j : suc i + 1 ≡ suc (i + 1) = omega arith in
+    from_size xs i x (omega (arith, h)) is ∙ ap (λ k. x ∷ drop k (y ∷ xs)) (sym j)
+
+pub size_within : (version : Version) (at whole : ℕ) (sizes : List ℕ) (i x : ℕ) → i < length sizes
+    → x ≡ slice_index_or sizes i x
+    → end_from (scale_of version) at (drop i sizes) ≡ whole → whole ≤ 65535 * scale_of version
+    → aligned (scale_of version) at + x ≤ 65535 * scale_of version
+size_within version at whole sizes i x h is e fits =
+    let rest : List ℕ = drop (i + 1) sizes in
+    let this : end_from (scale_of version) at (x ∷ rest) ≡ whole =
+    ap (end_from (scale_of version) at) (sym (from_size sizes i x h is)) ∙ e in
+    omega (arith, this, fits, part_within version (aligned (scale_of version) at + x) rest)
+
+-- one more size of a text
+pub sizes_step : (given : List (Vec ℕ)) (i n : ℕ) (x : Vec ℕ) (sizes more whole : List ℕ) → i < length given
+    → x ≡ slice_index_or given i x → n ≡ text_size x → more ≡ sizes ++ n ∷ []
+    → sizes ++ map text_size (drop i given) ≡ whole → more ++ map text_size (drop (i + 1) given) ≡ whole
+sizes_step given i n x sizes more whole h is e m w =
+    ap (λ (ns : List ℕ). ns ++ map text_size (drop (i + 1) given)) m
+    ∙ append_assoc sizes (n ∷ []) (map text_size (drop (i + 1) given))
+    ∙ ap (λ (k : ℕ). sizes ++ k ∷ map text_size (drop (i + 1) given)) e
+    ∙ ap (λ (ns : List ℕ). sizes ++ ns) (sym (next given i h is)) ∙ w
+  where
+    next : (xs : List (Vec ℕ)) (i : ℕ) → i < length xs → x ≡ slice_index_or xs i x
+        → map text_size (drop i xs) ≡ text_size x ∷ map text_size (drop (i + 1) xs)
+    next [] i h is = absurd (omega (arith, h))
+    next (y ∷ xs) zero h is = ap (λ (z : Vec ℕ). text_size z ∷ map text_size xs) (sym is)
+    next (y ∷ xs) (suc i) h is =
+        let j : suc i + 1 ≡ suc (i + 1) = omega arith in
+        next xs i (omega (arith, h)) is
+        ∙ ap (λ (k : ℕ). text_size x ∷ map text_size (drop k (y ∷ xs))) (sym j)
+
+-- the sizes of codes, and of texts behind them
+pub sizes_of_texts : (codes : List CodeOf) (texts given : List (Vec ℕ)) (sizes more : List ℕ) → given ≡ texts
+    → sizes ≡ map part_size codes → more ≡ sizes ++ map text_size given
+    → more ≡ map part_size codes ++ map length (map bytes_in texts)
+sizes_of_texts codes texts given sizes more g e m =
+    m ∙ ap (λ (ns : List ℕ). ns ++ map text_size given) e
+    ∙ ap (λ (ts : List (Vec ℕ)). map part_size codes ++ map text_size ts) g
+    ∙ ap (λ (ns : List ℕ). map part_size codes ++ ns) (lengths texts)
+  where
+    lengths : (ts : List (Vec ℕ)) → map text_size ts ≡ map length (map bytes_in ts)
+    lengths [] = refl
+    lengths (t ∷ ts) = ap (λ (ns : List ℕ). text_size t ∷ ns) (lengths ts)
+
+-- the sizes of the codes and of the texts
+pub all_sizes : (p : ProgramOf) (codes : List CodeOf) (texts : List (List ℕ)) → codes ≡ codes_in p
+    → texts ≡ fault_texts
+    → map part_size codes ++ map length texts ≡ map (routine_size (sizes_of p)) p.routines ++ map length fault_texts
+all_sizes p codes texts e t =
+    ap (λ cs. map part_size cs ++ map length texts) e ∙ sizes_of_codes (sizes_of p) p.routines (map length texts)
+    ∙ ap (λ ts. map (routine_size (sizes_of p)) p.routines ++ map length ts) t
+
+end_is : (version : Version) (at : ℕ) (parts : List (List ℕ))
+    → end_from (scale_of version) at (map length parts) ≡ at + length (parts_from (scale_of version) at parts)
+end_is version at [] =
+    let e = length-replicate {A = ℕ} (aligned (scale_of version) at - at) 0 in
+    omega (arith, e, aligned_above version at)
+end_is version at (part ∷ parts) =
+    let up : ℕ = aligned (scale_of version) at in
+    let filling : List ℕ = replicate (up - at) 0 in
+    let rest : List ℕ = parts_from (scale_of version) (up + length part) parts in
+    let more : end_from (scale_of version) (up + length part) (map length parts) ≡ up + length part + length rest =
+    end_is version (up + length part) parts in
+    omega (
+      arith,
+      more,
+      length-append (filling ++ part) rest,
+      length-append filling part,
+      length-replicate {A = ℕ} (up - at) 0,
+      aligned_above version at,
+    )
+
+-- the parts at packed addresses
+abbrev high_parts : Addresses → ProgramOf → List (List ℕ)
+high_parts a p = map (routine_bytes (sizes_of p) a) p.routines ++ fault_texts
+
+-- how long the bytes behind the header are
+body_length : (version : Version) (p : ProgramOf) → length p.defaults ≡ 63
+    → 64 + length (body_of version p) ≡ end_from (scale_of version) (routines_place p)
+    (map (routine_size (sizes_of p)) p.routines ++ map length fault_texts)
+body_length version p words =
+    let a : Addresses = addresses_in (scale_of version) p in
+    let low : List ℕ = low_bytes p (slice_index a.routines p.main) in
+    let high : List ℕ = parts_from (scale_of version) (routines_place p) (high_parts a p) in
+    let end : end_from (scale_of version) (routines_place p)
+    (map (routine_size (sizes_of p)) p.routines ++ map length fault_texts)
+    ≡ routines_place p + length high =
+    ap (end_from (scale_of version) (routines_place p)) (sym (sizes_are (sizes_of p) a p.routines))
+    ∙ end_is version (routines_place p) (high_parts a p) in
+    omega (arith, end, low_length p (slice_index a.routines p.main) words, length-append low high)
+
+pub body_within : (version : Version) (p : ProgramOf) (body : List ℕ) → Fits version p → body ≡ body_of version p
+    → 64 + length body ≤ 65535 * scale_of version
+unfolding story_of
+body_within version p body fits e =
+    let whole = length-append (header_of version (places_of p) (body_of version p)) (body_of version p) in
+    let within : length (header_of version (places_of p) (body_of version p) ++ body_of version p)
+    ≤ 65535 * scale_of version =
+    fits.within in
+    omega (arith, ap length e, whole, within)
+
+pub packed_within : (version : Version) (p : ProgramOf) (codes : List CodeOf) (texts : List (List ℕ))
+    (sizes : List ℕ) → Fits version p → codes ≡ codes_in p → texts ≡ fault_texts
+    → sizes ≡ map part_size codes ++ map length texts
+    → end_from (scale_of version) (routines_place p) sizes ≤ 65535 * scale_of version
+packed_within version p codes texts sizes fits e t es =
+    let end = ap (end_from (scale_of version) (routines_place p)) (es ∙ all_sizes p codes texts e t) in
+    omega (
+      arith,
+      end,
+      body_length version p fits.accepted.defaults.0,
+      body_within version p (body_of version p) fits refl,
+    )
+
+-- The addresses of a story
+
+pub packed_are : (version : Version) (p : ProgramOf) (codes : List CodeOf) (texts : List (List ℕ))
+    (sizes packed : List ℕ) → codes ≡ codes_in p → texts ≡ fault_texts
+    → sizes ≡ map part_size codes ++ map length texts
+    → packed ≡ packed_from (scale_of version) (routines_place p) sizes → packed ≡ packed_addresses (scale_of version) p
+packed_are version p codes texts sizes packed e t es h =
+    h ∙ ap (packed_from (scale_of version) (routines_place p)) (es ∙ all_sizes p codes texts e t)
+
+packed_count : (version : Version) (at : ℕ) (sizes : List ℕ)
+    → length (packed_from (scale_of version) at sizes) ≡ length sizes
+packed_count version at [] = refl
+packed_count version at (size ∷ sizes) = ap suc (packed_count version (aligned (scale_of version) at + size) sizes)
+
+-- an address for each routine, and more
+pub packed_counted : (version : Version) (at : ℕ) (codes : List CodeOf) (texts : List (List ℕ)) (sizes packed : List ℕ)
+    → sizes ≡ map part_size codes ++ map length texts → packed ≡ packed_from (scale_of version) at sizes
+    → length codes ≤ length packed
+packed_counted version at codes texts sizes packed es e =
+    omega (
+      arith,
+      ap length e,
+      packed_count version at sizes,
+      ap length es,
+      length-append (map part_size codes) (map length texts),
+      length-map codes part_size,
+    )
+
+pub codes_counted : (p : ProgramOf) (codes : List CodeOf) → codes ≡ codes_in p
+    → length codes ≡ length p.routines
+codes_counted p codes e = ap length e ∙ codes_count (sizes_of p) p.routines
+
+-- The bytes behind the header
+
+-- from what is put one behind another, with addresses that are the story's
+pub body_laid : (version : Version) (p : ProgramOf) (codes : List CodeOf) (a : Addresses)
+    (texts : List (List ℕ)) (b b1 b2 b3 : List ℕ) (main : ℕ)
+    → length p.defaults ≡ 63 → codes ≡ codes_in p → texts ≡ fault_texts → a ≡ addresses_in (scale_of version) p
+    → main ≡ slice_index a.routines p.main
+    → b ≡ [] → b1 ≡ b ++ low_bytes p main
+    → ((parts : List (List ℕ)) → b2 ++ parts_from (scale_of version) (64 + length b2) parts ≡ b1
+    ++ parts_from (scale_of version) (64 + length b1) (map (code_part a) codes ++ parts))
+    → b3 ≡ b2 ++ parts_from (scale_of version) (64 + length b2) texts
+    → b3 ≡ body_of version p
+body_laid version p codes a texts b b1 b2 b3 main words e t at em e0 e1 e2 e3 =
+    let low : b1 ≡ low_bytes p main = e1 ∙ ap (λ z. z ++ low_bytes p main) e0 in
+    let begin : 64 + length b1 ≡ routines_place p = omega (arith, ap length low, low_length p main words) in
+    let parts : map (code_part a) codes ++ texts ≡ high_parts a p =
+    ap (λ cs. map (code_part a) cs ++ texts) e ∙ parts_are (sizes_of p) a p.routines texts
+    ∙ ap (λ ts. map (routine_bytes (sizes_of p) a) p.routines ++ ts) t in
+    let with_these : b3 ≡ body_with (scale_of version) a p =
+    e3 ∙ e2 texts ∙ ap (λ n. b1 ++ parts_from (scale_of version) n (map (code_part a) codes ++ texts)) begin
+    ∙ ap (λ ps. b1 ++ parts_from (scale_of version) (routines_place p) ps) parts
+    ∙ ap (λ z. z ++ parts_from (scale_of version) (routines_place p) (high_parts a p)) low
+    ∙ ap (λ n. low_bytes p n ++ parts_from (scale_of version) (routines_place p) (high_parts a p)) em in
+    with_these ∙ ap (λ x. body_with (scale_of version) x p) at
+
+-- arrays that stand before the routines stand at addresses that are words
+pub arrays_within : (p : ProgramOf) (at : ℕ) (sizes : List ℕ) → routines_place p ≤ greatest_word → at ≡ arrays_place
+    → sizes ≡ map length p.arrays → at + sum sizes ≤ greatest_word
+arrays_within p at sizes placed here e = omega (arith, placed, here, ap sum e, sum_of_sizes p.arrays)
+  where
+    sum_of_sizes : (arrays : List (List ℕ)) → sum (map length arrays) ≡ length (concat arrays)
+    sum_of_sizes arrays = sum-map length arrays ∙ sym (length-flat_map (λ bytes. bytes) arrays)
+        ∙ sym (ap length (concat_is arrays))
+
+-- the addresses are the story's
+pub addresses_are : (version : Version) (p : ProgramOf) (a : Addresses) (packed arrays : List ℕ) (n : ℕ)
+    → packed ≡ packed_addresses (scale_of version) p → arrays ≡ array_addresses p → n ≡ length p.routines
+    → a ≡ record { routines = packed; arrays = arrays; faults = drop n packed } → a ≡ addresses_in (scale_of version) p
+addresses_are version p a packed arrays n e ea en h =
+    let of_packed : List ℕ → List ℕ → ℕ → Addresses =
+    λ (xs : List ℕ) (ys : List ℕ) (k : ℕ). record { routines = xs; arrays = ys; faults = drop k xs } in
+    h ∙ ap (λ xs. of_packed xs arrays n) e ∙ ap (λ ys. of_packed (packed_addresses (scale_of version) p) ys n) ea
+    ∙ ap (of_packed (packed_addresses (scale_of version) p) (array_addresses p)) en
+
+-- The story
+
+pub story_laid : (version : Version) (p : ProgramOf) (body s s1 s2 : List ℕ) → body ≡ body_of version p → s ≡ []
+    → s1 ≡ s ++ header_of version (places_of p) body → s2 ≡ s1 ++ body → s2 ≡ story_of version p
+unfolding story_of
+story_laid version p body s s1 s2 e e0 e1 e2 =
+    e2 ∙ ap (λ z. z ++ body) (e1 ∙ ap (λ z. z ++ header_of version (places_of p) body) e0)
+    ∙ ap (λ b. header_of version (places_of p) b ++ b) e

@@ -1,0 +1,9 @@
+pub mod Parts
+pub mod Entries
+pub mod ObjectTables
+mod ObjectRows
+pub mod AbbreviationTables
+pub mod Low
+pub mod Lengths
+mod Joined
+mod Laid

@@ -1,0 +1,20 @@
+use Rattle.std.proofs.Common.{map, refl, ap, ◌∙◌}
+use Rattle.meaning.specs.Resolved.{property_of}
+use Rattle.region.specs.Rows.{attribute_byte}
+use Rattle.story_file.proofs.ObjectRows.{attributes_are, row_made}
+use Rattle.story_file.proofs.objects.row.Goals as goal
+
+pub returns : goal.returns
+returns c =
+    row_made c.args.objects.now c.args.index c.index-objects-index.result c.requires.within c.index-objects-index.is
+    _ _ _ _
+    c.in_ok-name.name.items c.in_ok-properties.properties.items
+    (attributes_are c.index-objects-index.result.attributes.items _ _ _ _ _ _
+    (c.attribute_byte.ensures ∙ ap (λ xs. attribute_byte xs 0) c.deref-2.ensures.value)
+    (c.attribute_byte-2.ensures ∙ ap (λ xs. attribute_byte xs 8) c.deref-3.ensures.value)
+    (c.attribute_byte-3.ensures ∙ ap (λ xs. attribute_byte xs 16) c.deref-4.ensures.value)
+    (c.attribute_byte-4.ensures ∙ ap (λ xs. attribute_byte xs 24) c.deref-5.ensures.value)
+    (c.attribute_byte-5.ensures ∙ ap (λ xs. attribute_byte xs 32) c.deref-6.ensures.value)
+    (c.attribute_byte-6.ensures ∙ ap (λ xs. attribute_byte xs 40) c.deref-7.ensures.value))
+    refl c.sibling.ensures c.first_in.ensures c.in_ok-name.ensures
+    (c.in_ok-properties.ensures ∙ ap (map property_of) c.deref.ensures.value)

@@ -1,0 +1,76 @@
+-- What the values of the code stand for.
+use Rattle.std.specs.Prelude.{◌≡◌, ◌+◌, ◌-◌, ◌/◌, ◌≤◌, ◌<◌, ℕ, List, [], ◌∷◌, ◌++◌, length, map, replicate}
+use Rattle.std.specs.List.{flat_map}
+use Rattle.std.specs.Global.{Vec}
+use Rattle.ztext.specs.Abbreviations.{most_abbreviations}
+use Rattle.zcore.specs.declared.header.Version.{Version}
+use Rattle.meaning.specs.declared.places.Places.{Places}
+use Rattle.meaning.specs.Places.{empty_text_place, routines_place}
+use Rattle.meaning.specs.Resolved.{RoutineOf, ProgramOf}
+use Rattle.meaning.specs.Accepted.{IsAccepted}
+use Rattle.meaning.specs.Printable.{HasPrintableTexts}
+use Rattle.items.specs.Statements.{routine_items}
+use Rattle.region.specs.Laws.{AreProper}
+use Rattle.encoding.specs.Addresses.{Addresses, Sizes}
+use Rattle.code.specs.Bytes.{code_size, code_bytes}
+use Rattle.code.specs.Written.{CodeOf}
+use Rattle.story_file.specs.Layout.{aligned, addresses_from, greatest_word, greatest_length, story_of, word}
+
+-- a program that a story of this version can hold
+pub record Fits (version : Version) (p : ProgramOf) : Type 0 where
+  pub accepted : IsAccepted p
+  pub printable : HasPrintableTexts p
+  pub placed : routines_place p ≤ greatest_word
+  pub within : length (story_of version p) ≤ greatest_length version
+
+-- a program whose objects a story can hold
+pub record ObjectsFit (p : ProgramOf) : Type 0 where
+  pub few : length p.objects ≤ 2000
+  pub proper : AreProper p.objects
+  pub defaults : length p.defaults ≡ 63
+  pub placed : routines_place p ≤ greatest_word
+
+-- the places that a header tells
+pub record AreWords (at : Places) : Type 0 where
+  pub globals : at.globals < 65536
+  pub defaults : at.defaults < 65536
+  pub dictionary : at.dictionary < 65536
+  pub start : at.start < 65536
+
+-- the code of a routine, ready to be written
+abbrev pub code_of : Sizes → RoutineOf → CodeOf
+code_of sizes r = record { locals = r.locals; sizes = sizes; items = routine_items r }
+
+-- the number of its locals is a byte
+abbrev pub IsReady : CodeOf → Type 0
+IsReady c = c.locals < 256
+
+abbrev pub code_part : Addresses → CodeOf → List ℕ
+code_part a c = c.locals ∷ code_bytes c.sizes a c.items
+
+abbrev pub part_size : CodeOf → ℕ
+part_size c = 1 + code_size c.sizes c.items
+
+abbrev pub bytes_in : Vec ℕ → List ℕ
+bytes_in text = text.items
+
+abbrev pub text_size : Vec ℕ → ℕ
+text_size text = length text.items
+
+-- the packed addresses of parts of these sizes
+abbrev pub packed_from : ℕ → ℕ → List ℕ → List ℕ
+packed_from scale at sizes = map (λ address. address / scale) (addresses_from scale at sizes)
+
+-- where parts of these sizes end, up to a multiple
+abbrev pub end_from : ℕ → ℕ → List ℕ → ℕ
+end_from scale at [] = aligned scale at
+end_from scale at (size ∷ sizes) = end_from scale (aligned scale at + size) sizes
+
+abbrev pub half : ℕ → ℕ
+half address = address / 2
+
+-- the table of abbreviations whose Z-texts have these sizes and stand one behind another from an address on
+abbrev pub table_bytes : ℕ → List ℕ → List ℕ
+table_bytes at sizes =
+    flat_map word (map half (addresses_from 1 at sizes))
+    ++ flat_map word (replicate (most_abbreviations - length sizes) (half empty_text_place))

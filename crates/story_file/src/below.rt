@@ -1,0 +1,196 @@
+//! What stands between the header of a story and its routines.
+
+ghost use Rattle.std.specs.Prelude.{◌≡◌, ◌≤◌, ◌+◌, true, IfOk, OnOk, length, map, sum};
+ghost use Rattle.std.specs.List.{All, concat, flat_map, list_all};
+ghost use Rattle.ztext.specs.Abbreviations.{most_abbreviations};
+ghost use Rattle.ztext.specs.Alphabets.{is_printable};
+ghost use Rattle.ztext.specs.Text.{encoded};
+ghost use Rattle.tables.specs.Dictionary.{entry_bytes};
+ghost use Rattle.code.specs.HeldProgram.{start_code};
+ghost use Rattle.meaning.specs.Places as places;
+ghost use Rattle.meaning.specs.Places.{global_count};
+ghost use Rattle.meaning.specs.Resolved.{program_of};
+ghost use Rattle.story_file.specs.Written.{ObjectsFit, bytes_in, half, table_bytes, text_size};
+ghost use Rattle.story_file.specs.Layout.{dictionary_bytes, entries_bytes, global_bytes, greatest_word};
+ghost use Rattle.story_file.specs.Layout.{key_bytes, low_bytes};
+ghost use Rattle.story_file.specs.Layout as layout;
+ghost use Rattle.encoding.specs.Bytes.{Adds};
+
+use crate::high::add_text;
+use crate::objects::put_objects;
+use crate::packed::{add_text_sizes, array_addresses};
+use crate::words::{put_word, put_words, put_zeros};
+use meaning::{Checked, part_places};
+use std::alloc::{AllocError, Global};
+
+/// The words of the table of abbreviations.
+const ABBREVIATIONS: usize = 96;
+
+/// The address of the empty text, halved (Z-Machine Standards Document 1.1, section 3.3).
+const EMPTY_TEXT: u16 = 128;
+
+/// Three Z-characters 5, the last word of a text.
+const NO_CHARACTERS: u16 = 0x94A5;
+
+/// Words of globals (section 6.2).
+const GLOBALS: usize = 240;
+
+/// The bytes of a dictionary without entries.
+const EMPTY_DICTIONARY: usize = 7;
+
+/// The bytes of an entry of the dictionary.
+const ENTRY: usize = 9;
+
+/// `call_1n` with a large constant (section 14).
+const CALL: u8 = 0x8F;
+
+/// `quit` (section 14).
+const QUIT: u8 = 0xBA;
+
+/// The Z-texts of abbreviations, which use none.
+fn z_texts(alloc: Global, abbreviations: &[Vec<u8>]) -> Result<Vec<Vec<u8>>, AllocError>
+    requires { All (λ a. list_all is_printable a ≡ true) (map bytes_in abbreviations.now) }
+    ensures { IfOk result (λ v.
+        map bytes_in v.items ≡ map encoded (map bytes_in abbreviations.now)) }
+{
+    let mut texts = Vec::new(alloc);
+    for abbreviation in abbreviations {
+        add_text(alloc, &mut texts, abbreviation)?;
+    }
+    Ok(texts)
+}
+
+/// Addresses, halved.
+fn put_halves(bytes: &mut Vec<u8>, addresses: &[u16]) -> Result<(), AllocError>
+    ensures { OnOk result (Adds bytes.old bytes.new
+        (flat_map layout.word (map half addresses.now))) }
+{
+    for address in addresses {
+        put_word(bytes, *address / 2)?;
+    }
+    Ok(())
+}
+
+/// The table of abbreviations whose Z-texts stand one behind another from an address on.
+fn put_table(
+    alloc: Global,
+    bytes: &mut Vec<u8>,
+    texts: &[Vec<u8>],
+    place: usize,
+) -> Result<(), AllocError>
+    requires few { length texts.now ≤ most_abbreviations }
+    requires placed { place + sum (map text_size texts.now) ≤ greatest_word }
+    ensures { OnOk result (Adds bytes.old bytes.new (table_bytes place (map text_size texts.now))) }
+{
+    let mut sizes = Vec::new(alloc);
+    add_text_sizes(&mut sizes, texts)?;
+    let addresses = array_addresses(alloc, place, &sizes)?;
+    put_halves(bytes, &addresses)?;
+    put_words(bytes, &[EMPTY_TEXT; ABBREVIATIONS][texts.len()..])?;
+    Ok(())
+}
+
+/// The words with which the globals begin, 0 where the source has none.
+fn put_globals(bytes: &mut Vec<u8>, globals: &[u16]) -> Result<(), AllocError>
+    requires { length globals.now ≤ global_count }
+    ensures { OnOk result (Adds bytes.old bytes.new (global_bytes globals.now)) }
+{
+    put_words(bytes, globals)?;
+    put_zeros(bytes, 2 * (GLOBALS - globals.len()))?;
+    Ok(())
+}
+
+/// An entry of the dictionary: the six bytes of its key, the highest first, and three of data that are 0.
+fn put_entry(bytes: &mut Vec<u8>, key: u64) -> Result<(), AllocError>
+    ensures { OnOk result (Adds bytes.old bytes.new (entry_bytes (key_bytes key))) }
+{
+    bytes.extend_from_slice(&key.to_be_bytes()[2..])?;
+    bytes.extend_from_slice(&[0; 3])?;
+    Ok(())
+}
+
+/// The entries of keys, one behind another.
+fn put_entries(bytes: &mut Vec<u8>, keys: &[u64]) -> Result<(), AllocError>
+    ensures { OnOk result (Adds bytes.old bytes.new (entries_bytes keys.now)) }
+{
+    for key in keys {
+        put_entry(bytes, *key)?;
+    }
+    Ok(())
+}
+
+/// The dictionary of keys, with three separators, whose entries have nine bytes (section 13.2).
+fn put_dictionary(bytes: &mut Vec<u8>, keys: &[u64]) -> Result<(), AllocError>
+    requires { length keys.now ≤ greatest_word }
+    ensures { OnOk result (Adds bytes.old bytes.new (dictionary_bytes keys.now)) }
+{
+    bytes.extend_from_slice(b"\x03.,\"\x09")?;
+    put_word(bytes, keys.len() as u16)?;
+    put_entries(bytes, keys)?;
+    Ok(())
+}
+
+/// How many bytes stand between the dictionary and the texts of abbreviations, which begin at an even address.
+fn filling(checked: &Checked<'_>) -> usize
+    requires { places.routines_place (program_of checked.now) ≤ greatest_word }
+    ensures { result ≡ places.filling_before checked.now.abbreviations
+        (places.dictionary_end (program_of checked.now)) }
+{
+    let at = part_places(checked);
+    at.texts - (at.dictionary + EMPTY_DICTIONARY + ENTRY * checked.keys().len())
+}
+
+/// Texts, one behind another.
+fn put_all(bytes: &mut Vec<u8>, texts: &[Vec<u8>]) -> Result<(), AllocError>
+    ensures { OnOk result (Adds bytes.old bytes.new (concat (map bytes_in texts.now))) }
+{
+    for text in texts {
+        bytes.extend_from_slice(text)?;
+    }
+    Ok(())
+}
+
+/// The code that calls the routine at a packed address, and then ends the story.
+fn put_start(bytes: &mut Vec<u8>, main: u16) -> Result<(), AllocError>
+    ensures { OnOk result (Adds bytes.old bytes.new (start_code main)) }
+{
+    bytes.push(CALL)?;
+    put_word(bytes, main)?;
+    bytes.push(QUIT)?;
+    Ok(())
+}
+
+/// Where the arrays stand: behind the globals.
+pub fn arrays_place(checked: &Checked<'_>) -> usize
+    requires { places.routines_place (program_of checked.now) ≤ greatest_word }
+    ensures { result ≡ places.arrays_place }
+{
+    part_places(checked).globals + 2 * GLOBALS
+}
+
+/// All that stands between the header and the routines.
+pub fn put_low(
+    alloc: Global,
+    bytes: &mut Vec<u8>,
+    checked: &Checked<'_>,
+    main: u16,
+) -> Result<(), AllocError>
+    requires globals { length checked.now.globals ≤ global_count }
+    requires objects { ObjectsFit (program_of checked.now) }
+    requires keys { length checked.now.keys ≤ greatest_word }
+    requires few { length checked.now.abbreviations ≤ most_abbreviations }
+    requires printable { All (λ a. list_all is_printable a ≡ true) checked.now.abbreviations }
+    ensures { OnOk result (Adds bytes.old bytes.new (low_bytes (program_of checked.now) main)) }
+{
+    let texts = z_texts(alloc, checked.abbreviations().texts())?;
+    put_table(alloc, bytes, &texts, part_places(checked).texts)?;
+    put_word(bytes, NO_CHARACTERS)?;
+    put_globals(bytes, checked.globals())?;
+    bytes.extend_from_slice(checked.array_bytes())?;
+    put_objects(alloc, bytes, checked)?;
+    put_dictionary(bytes, checked.keys())?;
+    put_zeros(bytes, filling(checked))?;
+    put_all(bytes, &texts)?;
+    put_start(bytes, main)?;
+    Ok(())
+}

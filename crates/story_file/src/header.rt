@@ -1,0 +1,95 @@
+//! The header of a story (Z-Machine Standards Document 1.1, section 11.1).
+
+ghost use Rattle.std.specs.Prelude.{◌≡◌, ◌≤◌, ◌+◌, ◌/◌, ◌%◌, OnOk, length, sum};
+ghost use Rattle.zcore.specs.Header.{scale_of, version_number};
+ghost use Rattle.meaning.specs.Places.{header_size};
+ghost use Rattle.story_file.specs.Layout.{greatest_length, header_of};
+ghost use Rattle.story_file.specs.Written.{AreWords};
+ghost use Rattle.encoding.specs.Bytes.{Adds};
+
+use crate::words::{put_words, put_zeros};
+use meaning::Places;
+use std::alloc::AllocError;
+use zcore::Version;
+
+/// How many bytes the header has.
+const HEADER: usize = 64;
+
+/// The number of the release.
+const RELEASE: u16 = 1;
+
+/// The table of abbreviations.
+const ABBREVIATIONS_ADDRESS: u16 = 64;
+
+/// Zero bytes at the end of the header.
+const UNUSED: usize = 34;
+
+/// The byte that tells a version.
+fn number_of(version: Version) -> u8
+    ensures { result ≡ version_number version }
+{
+    match version {
+        Version::V5 => 5,
+        Version::V8 => 8,
+    }
+}
+
+/// The sum of bytes, modulo 65,536.
+fn sum_of(bytes: &[u8]) -> u16
+    ensures { result ≡ sum bytes.now % 65536 }
+{
+    let mut total: u16 = 0;
+    for byte in bytes {
+        total = total.wrapping_add(u16::from(*byte));
+    }
+    total
+}
+
+/// How long a story with these bytes behind its header is, in the unit of its version.
+fn stated_length(version: Version, body: &[u8]) -> u16
+    requires { header_size + length body.now ≤ greatest_length version }
+    ensures { result ≡ (header_size + length body.now) / scale_of version }
+{
+    ((HEADER + body.len()) / version.scale() as usize) as u16
+}
+
+/// The header of a story with these bytes behind it, whose parts stand at these places.
+pub fn put_header(
+    story: &mut Vec<u8>,
+    version: Version,
+    places: Places,
+    body: &[u8],
+) -> Result<(), AllocError>
+    requires words { AreWords places }
+    requires length { header_size + length body.now ≤ greatest_length version }
+    ensures { OnOk result (Adds story.old story.new (header_of version places body.now)) }
+{
+    let start = places.start as u16;
+    let dictionary = places.dictionary as u16;
+    story.push(number_of(version))?;
+    story.push(0)?;
+    put_words(
+        story,
+        &[
+            RELEASE,
+            start,
+            start,
+            dictionary,
+            places.defaults as u16,
+            places.globals as u16,
+            dictionary,
+            0,
+        ],
+    )?;
+    story.extend_from_slice(b"000000")?;
+    put_words(
+        story,
+        &[
+            ABBREVIATIONS_ADDRESS,
+            stated_length(version, body),
+            sum_of(body),
+        ],
+    )?;
+    put_zeros(story, UNUSED)?;
+    Ok(())
+}

@@ -1,0 +1,12 @@
+//! Story files: checked programs are laid out and written.
+#![tactic(auto)]
+
+mod below;
+mod header;
+mod high;
+mod objects;
+mod packed;
+mod words;
+mod write;
+
+pub use write::write_story;

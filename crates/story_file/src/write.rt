@@ -1,0 +1,122 @@
+//! The bytes of a story.
+
+ghost use Rattle.std.specs.Prelude.{◌≡◌, ◌≤◌, ◌<◌, IfOk, drop, length, map};
+ghost use Rattle.zcore.specs.Header.{scale_of};
+ghost use Rattle.meaning.specs.Meaning.{routine_at};
+ghost use Rattle.meaning.specs.Resolved.{program_of};
+ghost use Rattle.encoding.specs.Written.{addresses_of};
+ghost use Rattle.code.specs.HeldProgram.{sizes_of};
+ghost use Rattle.story_file.specs.Layout as layout;
+ghost use Rattle.story_file.specs.Written.{Fits, bytes_in, code_of};
+
+use crate::below::{arrays_place, put_low};
+use crate::header::put_header;
+use crate::high::{add_text, put_routines, put_texts};
+use crate::packed::{add_text_sizes, array_addresses, code_sizes, packed_addresses};
+use code::{Addresses, Code, CodeFault, routine_code};
+use meaning::{Checked, part_places};
+use std::alloc::{AllocError, Global};
+use zcore::Version;
+
+/// The Z-texts of the lines that faults of the source print, in the order of `Cause`.
+fn fault_texts(alloc: Global) -> Result<Vec<Vec<u8>>, AllocError>
+    ensures { IfOk result (λ t. map bytes_in t.items ≡ layout.fault_texts) }
+{
+    let mut texts = Vec::new(alloc);
+    add_text(alloc, &mut texts, b"\r[Fault: division by zero]\r")?;
+    add_text(alloc, &mut texts, b"\r[Fault: not an object]\r")?;
+    add_text(alloc, &mut texts, b"\r[Fault: index out of range]\r")?;
+    add_text(alloc, &mut texts, b"\r[Fault: no such property]\r")?;
+    add_text(alloc, &mut texts, b"\r[Fault: property of many words]\r")?;
+    add_text(alloc, &mut texts, b"\r[Fault: object inside itself]\r")?;
+    add_text(alloc, &mut texts, b"\r[Fault: not a character]\r")?;
+    add_text(alloc, &mut texts, b"\r[Fault: buffer too small]\r")?;
+    Ok(texts)
+}
+
+/// Where the routines, the arrays and the texts of faults stand, by the packed addresses of all parts and the addresses
+/// of the arrays.
+fn addresses_in<'a>(packed: &'a [u16], routines: usize, arrays: &'a [u16]) -> Addresses<'a>
+    requires { routines ≤ length packed.now }
+    ensures { addresses_of result ≡ record {
+      routines = packed.now;
+      arrays = arrays.now;
+      faults = drop routines packed.now;
+    } }
+{
+    Addresses {
+        routines: packed,
+        arrays,
+        faults: &packed[routines..],
+    }
+}
+
+/// The code of the routine of a number.
+fn code_at<'a, 'b>(
+    alloc: Global,
+    checked: &'b Checked<'a>,
+    routine: usize,
+) -> Result<Code<'a, 'b>, AllocError>
+    requires { routine < length checked.now.routines }
+    ensures { IfOk result (λ c. c ≡ code_of (sizes_of (program_of checked.now))
+        (routine_at (program_of checked.now).routines routine)) }
+{
+    match routine_code(alloc, checked, routine) {
+        Ok(code) => Ok(code),
+        Err(CodeFault::Memory) => Err(AllocError),
+    }
+}
+
+/// The code of all routines, in order of definition.
+fn codes_of<'a, 'b>(
+    alloc: Global,
+    checked: &'b Checked<'a>,
+) -> Result<Vec<Code<'a, 'b>>, AllocError>
+    ensures { IfOk result (λ v. v.items
+        ≡ map (code_of (sizes_of (program_of checked.now))) (program_of checked.now).routines) }
+{
+    let mut codes = Vec::new(alloc);
+    for routine in 0..checked.routines() {
+        codes.push(code_at(alloc, checked, routine)?)?;
+    }
+    Ok(codes)
+}
+
+/// The bytes behind the header.
+fn body_of(alloc: Global, version: Version, checked: &Checked<'_>) -> Result<Vec<u8>, AllocError>
+    requires { Fits version (program_of checked.now) }
+    ensures { IfOk result (λ v. v.items ≡ layout.body_of version (program_of checked.now)) }
+{
+    let codes = codes_of(alloc, checked)?;
+    let texts = fault_texts(alloc)?;
+    let mut sizes = code_sizes(alloc, &codes)?;
+    add_text_sizes(&mut sizes, &texts)?;
+    let packed = packed_addresses(alloc, version, part_places(checked).routines, &sizes)?;
+    let arrays = array_addresses(alloc, arrays_place(checked), checked.array_sizes())?;
+    let addresses = addresses_in(&packed, codes.len(), &arrays);
+    let mut body = Vec::new(alloc);
+    put_low(alloc, &mut body, checked, packed[checked.main()])?;
+    put_routines(&mut body, version, &codes, &addresses)?;
+    put_texts(&mut body, version, &texts)?;
+    Ok(body)
+}
+
+/// The story file of a checked program, in a version.
+///
+/// # Errors
+///
+/// [`AllocError`] where a growth of memory was refused.
+pub fn write_story(
+    alloc: Global,
+    checked: &Checked<'_>,
+    version: Version,
+) -> Result<Vec<u8>, AllocError>
+    requires { Fits version (program_of checked.now) }
+    ensures { IfOk result (λ v. v.items ≡ layout.story_of version (program_of checked.now)) }
+{
+    let body = body_of(alloc, version, checked)?;
+    let mut story = Vec::new(alloc);
+    put_header(&mut story, version, part_places(checked), &body)?;
+    story.extend_from_slice(&body)?;
+    Ok(story)
+}

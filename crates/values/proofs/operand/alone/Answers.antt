@@ -1,5 +1,0 @@
-use Rattle.values.proofs.Trees.{chain_pushed}
-use Rattle.values.proofs.operand.alone.Goals as goal
-
-pub returns-in-Chain : goal.returns-in-Chain
-returns-in-Chain c = chain_pushed _ _ _ _ _ c.in-Chain.is
