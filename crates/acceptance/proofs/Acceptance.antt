@@ -6,40 +6,37 @@ use Rattle.std.specs.List.{All}
 use Rattle.std.specs.List.Sorted.{IsStrictlyIncreasing}
 use Rattle.std.proofs.lemmas.List.Elements.{All-nil, All-cons}
 use Rattle.lexer.specs.declared.token.Position.{Position}
-use Rattle.expressions.specs.Tree.{NameTree}
+use Rattle.expression_trees.specs.Tree.{NameTree}
 use Rattle.directives.specs.Tree.{RoutineTree, DirectiveTree, global, constant, array, attribute, property, object}
-use Rattle.directives.specs.Tree.{routine}
-use Rattle.directives.specs.Tree.{TextTree}
+use Rattle.directives.specs.Tree.{routine, TextTree}
+use Rattle.meaning.specs.Resolved.{ProgramOf}
+use Rattle.meaning.specs.Meaning.{routine_at}
+use Rattle.meaning.specs.Around.{outside}
+use Rattle.meaning.specs.Objects.{object_at}
+use Rattle.meaning.specs.Accepted.{IsRoutine, IsArray, IsObject, IsAccepted}
 use Rattle.names.specs.declared.binding.Binding.{Binding}
 use Rattle.names.specs.declared.binding.Binding.TheVariants as bindings
 use Rattle.names.specs.declared.counts.Counts.{Counts}
 use Rattle.names.specs.Names.{Table, in_table, first_table, no_counts, counts_after, with_directive, table_of, File}
 use Rattle.names.specs.Names.{look_up, seen_from}
 use Rattle.names.specs.Keys.{keys_of}
-use Rattle.meaning.specs.Resolved.{ProgramOf}
-use Rattle.meaning.specs.Meaning.{routine_at}
-use Rattle.simple_rules.specs.Statements.{statements_breaches}
-use Rattle.meaning.specs.Around.{outside}
-use Rattle.array_rules.specs.Arrays.{array_breaches, array_bytes, arrays_of}
-use Rattle.object_rules.specs.Objects.{object_breaches, standing_breaches, parents_of, object_in, placed}
-use Rattle.object_rules.specs.Objects.{all_defaults}
-use Rattle.checker.specs.Programs.{limit_breaches, defaults_in}
-use Rattle.object_rules.specs.Files.{object_trees, objects_in, objects_of}
-use Rattle.object_rules.specs.Repeated.{twice}
-use Rattle.checker.specs.Programs.{locals_breaches, routine_breaches, directive_breaches, directives_breaches}
-use Rattle.checker.specs.Programs.{main_key, first_routine, position_or, main_breaches, program_breaches, globals_of}
-use Rattle.checker.specs.Programs.{resolve_routine, routines_of, abbreviations_breaches, routine_number, resolve_with}
-use Rattle.checker.specs.Programs.{file_of, resolve_program}
-use Rattle.meaning.specs.Objects.{object_at}
-use Rattle.meaning.specs.Accepted.{IsRoutine, IsArray, IsObject, IsAccepted}
-use Rattle.acceptance.specs.Laws.{AcceptedPrograms}
-use Rattle.checker.proofs.Whole.{characters_of, made}
-use Rattle.acceptance.proofs.AbbreviationLimits.{texts_few, texts_long}
 use Rattle.names.proofs.Gathered.{keys_ascend}
 use Rattle.names.proofs.SmallKeys.{keys_small}
-use Rattle.array_rules.proofs.ArraySizes.{array_short}
 use Rattle.names.proofs.Kept.{left_empty, right_empty, kept, below}
+use Rattle.simple_rules.specs.Statements.{statements_breaches}
+use Rattle.array_rules.specs.Arrays.{array_breaches, array_bytes, arrays_of}
+use Rattle.array_rules.proofs.ArraySizes.{array_short}
+use Rattle.object_rules.specs.Objects.{object_breaches, standing_breaches, parents_of, object_in, placed, all_defaults}
+use Rattle.object_rules.specs.Files.{object_trees, objects_in, objects_of}
+use Rattle.object_rules.specs.Repeated.{twice}
 use Rattle.object_rules.proofs.Chains.{placed_many}
+use Rattle.checker.specs.Programs.{limit_breaches, defaults_in, locals_breaches, routine_breaches, directive_breaches}
+use Rattle.checker.specs.Programs.{directives_breaches, main_key, first_routine, position_or, main_breaches}
+use Rattle.checker.specs.Programs.{program_breaches, globals_of, resolve_routine, routines_of, abbreviations_breaches}
+use Rattle.checker.specs.Programs.{routine_number, resolve_with, file_of, resolve_program}
+use Rattle.checker.proofs.Whole.{characters_of, made}
+use Rattle.acceptance.specs.Laws.{AcceptedPrograms}
+use Rattle.acceptance.proofs.AbbreviationLimits.{texts_few, texts_long}
 use Rattle.acceptance.proofs.Placed.{IsAlone, object_within, objects_placed, parents_rise, defaults_many}
 use Rattle.acceptance.proofs.Placed.{defaults_small}
 use Rattle.acceptance.proofs.MeantNames.{IsMeant}

@@ -1,18 +1,18 @@
 -- The names of a file: its globals and routines are there.
-use Rattle.std.proofs.Common.{◌≡◌, ℕ, ◌+◌, ◌<◌, ◌≤◌, Bool, true, false, List, [], ◌∷◌, ◌++◌, length, Option, Some}
-use Rattle.std.proofs.Common.{None, cond, is_some, refl, sym, ap, ◌∙◌, append_assoc, length-append, arith}
-use Rattle.expressions.specs.Tree.{NameTree}
+use Rattle.std.proofs.Common.{◌≡◌, ℕ, ◌+◌, ◌<◌, ◌≤◌, Bool, true, false, List, [], ◌∷◌, ◌++◌, length, Option, Some, None}
+use Rattle.std.proofs.Common.{cond, is_some, refl, sym, ap, ◌∙◌, append_assoc, length-append, arith}
+use Rattle.expression_trees.specs.Tree.{NameTree}
 use Rattle.directives.specs.Tree.{DirectiveTree, global, constant, array, attribute, property, object, routine}
+use Rattle.meaning.specs.Resolved.{RoutineOf, ProgramOf}
+use Rattle.meaning.specs.Meaning.{routine_at}
 use Rattle.names.specs.declared.binding.Binding.{Binding}
 use Rattle.names.specs.declared.binding.Binding.TheVariants as bindings
 use Rattle.names.specs.declared.counts.Counts.{Counts}
 use Rattle.names.specs.Keys.{or_zero}
 use Rattle.names.specs.Names.{Table, File, key_of, same_key, in_table, first_table, earlier_known, with_name, no_counts}
 use Rattle.names.specs.Names.{counts_after, with_directive, table_from, table_of, local_from, local_first, look_up}
-use Rattle.meaning.specs.Resolved.{RoutineOf, ProgramOf}
-use Rattle.meaning.specs.Meaning.{routine_at}
-use Rattle.checker.specs.Programs.{globals_of, defaults_in, resolve_routine, routines_of}
 use Rattle.array_rules.specs.Arrays.{arrays_of}
+use Rattle.checker.specs.Programs.{globals_of, defaults_in, resolve_routine, routines_of}
 use Rattle.acceptance.proofs.MeantNames.{IsMeant}
 
 routine_here : (front : List RoutineOf) (r : RoutineOf) (rest : List RoutineOf)

@@ -1,17 +1,17 @@
 -- How many locals a routine has, and how many directives of each kind there are, where no rule is broken.
 use Rattle.std.proofs.Common.{◌≡◌, ◌+◌, ◌≤◌, nat_le, List, [], ◌∷◌, ◌++◌, length, cond, length-append, arith}
-use Rattle.expressions.specs.Tree.{NameTree}
+use Rattle.expression_trees.specs.Tree.{NameTree}
 use Rattle.directives.specs.Tree.{DirectiveTree, global, constant, array, attribute, property, object, routine}
 use Rattle.names.specs.Breaches.{at}
 use Rattle.names.specs.declared.counts.Counts.{Counts}
 use Rattle.names.specs.Names.{Table, counts_after, with_directive, File}
+use Rattle.names.proofs.Kept.{left_empty, right_empty, kept, below}
 use Rattle.value_rules.specs.Literals.{initial_breaches}
 use Rattle.object_rules.specs.Repeated.{has_name, twice}
 use Rattle.object_rules.specs.Objects.{object_breaches}
-use Rattle.checker.specs.Programs.{limit_breaches, defaults_in, locals_breaches, directive_breaches}
 use Rattle.object_rules.specs.Files.{objects_in}
+use Rattle.checker.specs.Programs.{limit_breaches, defaults_in, locals_breaches, directive_breaches}
 use Rattle.checker.specs.Programs.{directives_breaches, globals_of}
-use Rattle.names.proofs.Kept.{left_empty, right_empty, kept, below}
 use Rattle.acceptance.proofs.Bindings.{attributes_in}
 
 -- the directives behind one break no rule

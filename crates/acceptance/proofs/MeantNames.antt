@@ -1,21 +1,21 @@
 -- Names that break no rule: what they resolve to is within the limits, where each stands for what the program has.
 use Rattle.std.proofs.Common.{◌≡◌, ℕ, ◌<◌, ◌≤◌, nat_lt, [], length, Option, Some, None, cond, arith}
 use Rattle.lexer.specs.declared.token.Position.{Position}
+use Rattle.expression_trees.specs.declared.tree.ObjectTest.{ObjectTest}
+use Rattle.expression_trees.specs.declared.tree.ObjectTest.TheVariants as tests
+use Rattle.meaning.specs.Resolved.{Value, ProgramOf}
+use Rattle.meaning.specs.Meaning.{routine_at}
+use Rattle.meaning.specs.Accepted.{IsVariable, IsValue, IsProperty}
 use Rattle.names.specs.declared.binding.Binding.{Binding}
 use Rattle.names.specs.declared.binding.Binding.TheVariants as bindings
 use Rattle.names.specs.Breaches.{at}
-use Rattle.simple_rules.specs.Buffers.{buffer_breaches}
-use Rattle.meaning.specs.Resolved.{Value, ProgramOf}
+use Rattle.names.proofs.Kept.{left_empty, right_empty, kept, at_most}
 use Rattle.value_rules.specs.Expressions.{value_breaches, call_breaches, target_breaches, value_of_binding}
 use Rattle.value_rules.specs.Expressions.{variable_of_binding, routine_of_binding, array_name_breaches}
 use Rattle.value_rules.specs.Expressions.{array_of_binding, assigned, attribute_breaches, property_breaches}
 use Rattle.value_rules.specs.Expressions.{tested_breaches, attribute_of_binding, property_of_binding, tested_for}
+use Rattle.simple_rules.specs.Buffers.{buffer_breaches}
 use Rattle.simple_rules.specs.Statements.{loop_breaches}
-use Rattle.expressions.specs.declared.tree.ObjectTest.{ObjectTest}
-use Rattle.expressions.specs.declared.tree.ObjectTest.TheVariants as tests
-use Rattle.meaning.specs.Meaning.{routine_at}
-use Rattle.meaning.specs.Accepted.{IsVariable, IsValue, IsProperty}
-use Rattle.names.proofs.Kept.{left_empty, right_empty, kept, at_most}
 
 -- What names stand for
 

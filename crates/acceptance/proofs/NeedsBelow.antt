@@ -1,18 +1,18 @@
 -- What a resolved expression needs is no more than its tree needs.
 use Rattle.std.proofs.Common.{◌≡◌, ℕ, ◌+◌, ◌≤◌, List, [], ◌∷◌, ◌++◌, Option, Some, None, refl, ap, arith}
-use Rattle.expressions.specs.Tree as trees
-use Rattle.expressions.specs.Tree.{NameTree, ExpressionTree, ExpressionTrees}
+use Rattle.expression_trees.specs.Tree as trees
+use Rattle.expression_trees.specs.Tree.{NameTree, ExpressionTree, ExpressionTrees}
+use Rattle.expression_trees.specs.declared.tree.ObjectTest.{ObjectTest}
+use Rattle.expression_trees.specs.declared.tree.ObjectTest.TheVariants as tests
+use Rattle.meaning.specs.Operands.{operands}
+use Rattle.meaning.specs.Resolved as values
+use Rattle.meaning.specs.Resolved.{Value}
+use Rattle.meaning.specs.Accepted.{count_of, need_of, needs_of}
 use Rattle.names.specs.declared.binding.Binding.{Binding}
 use Rattle.names.specs.declared.binding.Binding.TheVariants as bindings
 use Rattle.names.specs.Names.{Seen}
 use Rattle.value_rules.specs.Temporaries.{need, needs, left_needs}
-use Rattle.meaning.specs.Operands.{operands}
-use Rattle.meaning.specs.Resolved as values
-use Rattle.meaning.specs.Resolved.{Value}
-use Rattle.expressions.specs.declared.tree.ObjectTest.{ObjectTest}
-use Rattle.expressions.specs.declared.tree.ObjectTest.TheVariants as tests
 use Rattle.value_rules.specs.Expressions.{count, value_of_binding, tested_for, assigned, resolve, resolve_all}
-use Rattle.meaning.specs.Accepted.{count_of, need_of, needs_of}
 
 pub count_same : (seen : Seen) (es : ExpressionTrees) → count_of (resolve_all seen es) ≡ count es
 count_same seen trees.none = refl

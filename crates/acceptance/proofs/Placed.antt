@@ -6,31 +6,28 @@ use Rattle.std.specs.List.{flat_map, All}
 use Rattle.std.proofs.lemmas.Bool.{leb-true}
 use Rattle.std.proofs.lemmas.List.Elements.{All-nil, All-cons, All-head, All-tail}
 use Rattle.lexer.specs.declared.token.Position.{Position}
-use Rattle.expressions.specs.Tree.{NameTree}
+use Rattle.expression_trees.specs.Tree.{NameTree}
 use Rattle.directives.specs.Tree.{ValueTree, TextTree, PropertyTree, ObjectTree, DirectiveTree, global, constant, array}
 use Rattle.directives.specs.Tree.{attribute, property, object, routine}
-use Rattle.names.specs.declared.binding.Binding.{Binding}
-use Rattle.names.specs.declared.binding.Binding.TheVariants as bindings
-use Rattle.names.specs.Breaches.{at}
-use Rattle.names.specs.Names.{Table, File, key_of, in_table}
-use Rattle.value_rules.specs.Literals.{initial_value}
-use Rattle.value_rules.specs.Expressions.{property_breaches}
 use Rattle.meaning.specs.Resolved.{ProgramOf}
 use Rattle.meaning.specs.Objects.{ObjectOf, no_object, object_at}
 use Rattle.meaning.specs.Places.{name_words}
 use Rattle.meaning.specs.Accepted.{IsProperty, IsObject}
+use Rattle.names.specs.declared.binding.Binding.{Binding}
+use Rattle.names.specs.declared.binding.Binding.TheVariants as bindings
+use Rattle.names.specs.Breaches.{at}
+use Rattle.names.specs.Names.{Table, File, key_of, in_table}
+use Rattle.names.proofs.Kept.{left_empty, right_empty}
+use Rattle.value_rules.specs.Literals.{initial_value}
+use Rattle.value_rules.specs.Expressions.{property_breaches}
 use Rattle.object_rules.specs.Repeated.{repeated_breaches}
 use Rattle.object_rules.specs.Objects.{excess_breaches, count_breaches, value_breaches, provided_breaches}
-use Rattle.object_rules.specs.Objects.{property_name}
-use Rattle.object_rules.specs.Objects.{given_breaches, short_breaches, object_breaches, Open, open_to, above_of}
-use Rattle.object_rules.specs.Objects.{opened, arrow_breaches, parent_breaches, named_parent_breaches, stand_breaches}
-use Rattle.object_rules.specs.Objects.{standing_from}
-use Rattle.object_rules.specs.Objects.{word_of, with_property, provided_of, with_properties, given_of, short_name}
-use Rattle.object_rules.specs.Objects.{object_in}
-use Rattle.object_rules.specs.Objects.{above_number, object_of_binding, parent_number, parents_from, placed, exactly}
-use Rattle.object_rules.specs.Objects.{all_defaults}
+use Rattle.object_rules.specs.Objects.{property_name, given_breaches, short_breaches, object_breaches, Open, open_to}
+use Rattle.object_rules.specs.Objects.{above_of, opened, arrow_breaches, parent_breaches, named_parent_breaches}
+use Rattle.object_rules.specs.Objects.{stand_breaches, standing_from, word_of, with_property, provided_of}
+use Rattle.object_rules.specs.Objects.{with_properties, given_of, short_name, object_in, above_number}
+use Rattle.object_rules.specs.Objects.{object_of_binding, parent_number, parents_from, placed, exactly, all_defaults}
 use Rattle.checker.specs.Programs.{defaults_in}
-use Rattle.names.proofs.Kept.{left_empty, right_empty}
 use Rattle.acceptance.proofs.MeantNames.{attribute_within, property_within}
 use Rattle.acceptance.proofs.Bindings.{AreEntries, found_meant}
 

@@ -1,27 +1,26 @@
 -- Texts stay as they are where names are resolved.
 use Rattle.std.proofs.Common.{ℕ, List, [], ◌∷◌}
-use Rattle.std.specs.Prelude.{map}
+use Rattle.std.specs.Prelude.{map, Option, Some, None}
 use Rattle.std.specs.List.{All}
 use Rattle.std.proofs.lemmas.List.Elements.{All-nil, All-cons, All-head, All-tail}
-use Rattle.statements.specs.Tree.{PrintItemTree, text_item, character_item, object_item, number_item, StatementTree}
-use Rattle.statements.specs.Tree.{give, move, remove, each, each_in, each_where}
-use Rattle.statements.specs.Tree.{StatementTrees, CaseTrees, empty, block, text_alone, print, print_return, new_line}
-use Rattle.statements.specs.Tree.{if_then, if_else, while_do, do_until, for_loop, switch_on, break_at, continue_at}
-use Rattle.statements.specs.Tree.{return_alone, return_value, return_true, return_false, quit, read_line, effect, stop}
-use Rattle.statements.specs.Tree.{next, no_case, default_case, case}
-use Rattle.std.specs.Prelude.{Option, Some, None}
 use Rattle.lexer.specs.Printable.{IsPrintable}
+use Rattle.statement_parts.specs.Tree.{PrintItemTree, text_item, character_item, object_item, number_item}
+use Rattle.statements.specs.Tree.{StatementTree, give, move, remove, each, each_in, each_where, StatementTrees}
+use Rattle.statements.specs.Tree.{CaseTrees, empty, block, text_alone, print, print_return, new_line, if_then, if_else}
+use Rattle.statements.specs.Tree.{while_do, do_until, for_loop, switch_on, break_at, continue_at, return_alone}
+use Rattle.statements.specs.Tree.{return_value, return_true, return_false, quit, read_line, effect, stop, next, no_case}
+use Rattle.statements.specs.Tree.{default_case, case}
 use Rattle.directives.specs.Tree.{TextTree, DirectiveTree, global, constant, array, attribute, property, object}
 use Rattle.directives.specs.Tree.{routine}
-use Rattle.meaning.specs.Objects.{ObjectOf}
-use Rattle.object_rules.specs.Objects.{short_name, object_in, placed, parents_of}
-use Rattle.object_rules.specs.Files.{objects_in, object_trees}
 use Rattle.directives.specs.Printable as source
-use Rattle.names.specs.Names.{File, Seen, seen_from}
-use Rattle.simple_rules.specs.Statements.{resolve_item, resolve_statement, resolve_statements, resolve_cases}
-use Rattle.checker.specs.Programs.{resolve_routine, routines_of, resolve_with, file_of, resolve_program}
+use Rattle.meaning.specs.Objects.{ObjectOf}
 use Rattle.meaning.specs.Printable.{IsPrintableItem, IsPrintableAction, ArePrintableActions, ArePrintableCases}
 use Rattle.meaning.specs.Printable.{IsPrintableRoutine}
+use Rattle.names.specs.Names.{File, Seen, seen_from}
+use Rattle.simple_rules.specs.Statements.{resolve_item, resolve_statement, resolve_statements, resolve_cases}
+use Rattle.object_rules.specs.Objects.{short_name, object_in, placed, parents_of}
+use Rattle.object_rules.specs.Files.{objects_in, object_trees}
+use Rattle.checker.specs.Programs.{resolve_routine, routines_of, resolve_with, file_of, resolve_program}
 use Rattle.acceptance.specs.Laws.{PrintablePrograms}
 use Rattle.acceptance.proofs.AbbreviationLimits.{texts_print}
 

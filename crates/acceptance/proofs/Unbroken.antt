@@ -6,24 +6,26 @@ use Rattle.std.specs.List.{flat_map, All}
 use Rattle.std.proofs.lemmas.Bool.Decides.{nat_tests}
 use Rattle.std.proofs.lemmas.List.Elements.{All-nil, All-cons}
 use Rattle.lexer.specs.declared.token.Position.{Position}
-use Rattle.expressions.specs.Tree.{NameTree}
+use Rattle.expression_trees.specs.Tree.{NameTree}
+use Rattle.statement_parts.specs.Tree as printed
+use Rattle.statement_parts.specs.Tree.{FlagTree, PrintItemTree}
 use Rattle.statements.specs.Tree as written
-use Rattle.statements.specs.Tree.{FlagTree, PrintItemTree, StatementTree, StatementTrees, CaseTrees}
+use Rattle.statements.specs.Tree.{StatementTree, StatementTrees, CaseTrees}
 use Rattle.meaning.specs.declared.around.Around.{Around}
+use Rattle.meaning.specs.Resolved.{ProgramOf}
+use Rattle.meaning.specs.Around.{in_loop, in_switch}
+use Rattle.meaning.specs.Accepted.{IsPrinted, IsAction, AreActions, AreCases}
 use Rattle.names.specs.declared.binding.Binding.{Binding}
 use Rattle.names.specs.declared.binding.Binding.TheVariants as bindings
 use Rattle.names.specs.Breaches.{at}
 use Rattle.names.specs.Names.{Seen}
-use Rattle.simple_rules.specs.Buffers.{buffer_breaches, is_array, same_breaches, read_breaches}
-use Rattle.meaning.specs.Resolved.{ProgramOf}
+use Rattle.names.proofs.Kept.{left_empty, right_empty, kept, at_most}
 use Rattle.value_rules.specs.Expressions.{breaches, array_of_binding}
+use Rattle.simple_rules.specs.Buffers.{buffer_breaches, is_array, same_breaches, read_breaches}
 use Rattle.simple_rules.specs.Statements.{loop_breaches, flag_breaches, move_need, resolve_flag, whole_breaches}
 use Rattle.simple_rules.specs.Statements.{heading_breaches, range_breaches, item_breaches, statement_breaches}
 use Rattle.simple_rules.specs.Statements.{statements_breaches, cases_breaches, resolve_item, resolve_statement}
 use Rattle.simple_rules.specs.Statements.{resolve_statements, resolve_cases}
-use Rattle.meaning.specs.Around.{in_loop, in_switch}
-use Rattle.meaning.specs.Accepted.{IsPrinted, IsAction, AreActions, AreCases}
-use Rattle.names.proofs.Kept.{left_empty, right_empty, kept, at_most}
 use Rattle.acceptance.proofs.NeedsBelow.{need_below}
 use Rattle.acceptance.proofs.MeantNames.{buffer_within, attribute_within, loop_within, IsMeant}
 use Rattle.acceptance.proofs.UnbrokenValues.{value_within, whole_within, heading_within}
@@ -78,10 +80,10 @@ module _ (p : ProgramOf) (locals : ℕ) (seen : Seen) (meant : (name : List ℕ)
       )
 
   item_within : (i : PrintItemTree) → item_breaches seen.look i ≡ [] → IsPrinted p locals (resolve_item seen i)
-  item_within (written.text_item s) h = tt
-  item_within (written.character_item q e) h = whole_within p locals seen meant q e h
-  item_within (written.object_item q e) h = whole_within p locals seen meant q e h
-  item_within (written.number_item q e) h = whole_within p locals seen meant q e h
+  item_within (printed.text_item s) h = tt
+  item_within (printed.character_item q e) h = whole_within p locals seen meant q e h
+  item_within (printed.object_item q e) h = whole_within p locals seen meant q e h
+  item_within (printed.number_item q e) h = whole_within p locals seen meant q e h
 
   items_within : (is : List PrintItemTree) → flat_map (item_breaches seen.look) is ≡ []
       → All (IsPrinted p locals) (map (resolve_item seen) is)

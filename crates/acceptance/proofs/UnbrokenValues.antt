@@ -3,21 +3,21 @@ use Rattle.std.proofs.Common.{◌≡◌, ℕ, ◌+◌, ◌≤◌, nat_lt, Bool, 
 use Rattle.std.proofs.Common.{refl, sym, subst, arith}
 use Rattle.std.specs.Option.{option_map}
 use Rattle.lexer.specs.declared.token.Position.{Position}
-use Rattle.expressions.specs.Tree as trees
-use Rattle.expressions.specs.Tree.{NameTree, ExpressionTree, ExpressionTrees}
+use Rattle.expression_trees.specs.Tree as trees
+use Rattle.expression_trees.specs.Tree.{NameTree, ExpressionTree, ExpressionTrees}
+use Rattle.meaning.specs.Operands.{operands}
+use Rattle.meaning.specs.Resolved.{Value, ProgramOf}
+use Rattle.meaning.specs.Accepted.{IsVariable, IsValue, AreValues, IsWhole, IsPart}
 use Rattle.names.specs.declared.breach.Breach.{Breach}
 use Rattle.names.specs.Breaches.{at}
 use Rattle.names.specs.Names.{name_of, is_place, Seen}
+use Rattle.names.proofs.Kept.{left_empty, right_empty, kept, at_most}
 use Rattle.value_rules.specs.Temporaries.{need}
-use Rattle.meaning.specs.Operands.{operands}
-use Rattle.meaning.specs.Resolved.{Value, ProgramOf}
 use Rattle.value_rules.specs.Expressions.{call_breaches, count, left_breaches, breaches, all_breaches, target, resolve}
 use Rattle.value_rules.specs.Expressions.{resolve_all, array_name_breaches, assigned, assigned_breaches}
 use Rattle.value_rules.specs.Expressions.{property_breaches, tested_breaches}
-use Rattle.simple_rules.specs.Statements.{part_needs, heading_need, whole_breaches, part_breaches, heading_breaches}
-use Rattle.meaning.specs.Accepted.{IsVariable, IsValue, AreValues, IsWhole, IsPart}
 use Rattle.value_rules.proofs.Forms.{named_resolves}
-use Rattle.names.proofs.Kept.{left_empty, right_empty, kept, at_most}
+use Rattle.simple_rules.specs.Statements.{part_needs, heading_need, whole_breaches, part_breaches, heading_breaches}
 use Rattle.acceptance.proofs.NeedsBelow.{count_same, need_below}
 use Rattle.acceptance.proofs.MeantNames.{named_within, target_within, array_within, property_within, tested_within}
 use Rattle.acceptance.proofs.MeantNames.{name_assigned, call_within, IsMeant}

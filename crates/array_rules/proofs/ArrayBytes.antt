@@ -5,23 +5,23 @@ use Rattle.std.specs.Prelude.{map, replicate}
 use Rattle.std.specs.List.{flat_map}
 use Rattle.std.proofs.lemmas.List.{length-replicate}
 use Rattle.lexer.specs.declared.token.Position.{Position}
-use Rattle.expressions.specs.declared.tree.Width.{Width}
+use Rattle.expression_trees.specs.declared.tree.Width.{Width}
+use Rattle.statement_parts.specs.Tree.{literal_tree}
 use Rattle.directives.specs.declared.tree.ArrayKind.{ArrayKind}
 use Rattle.directives.specs.declared.tree.ArrayValue.{ArrayValue}
-use Rattle.statements.specs.Tree.{literal_tree}
 use Rattle.directives.specs.Tree.{ValueTree, value_tree}
 use Rattle.meaning.specs.declared.arrays.Arrays.{Arrays}
 use Rattle.names.specs.declared.breach.Breach.{Breach}
 use Rattle.names.specs.declared.known.Known.{Known}
 use Rattle.names.specs.Names.{Table, File, literal_known}
 use Rattle.names.specs.Noted.{noted}
+use Rattle.names.proofs.Noted.{noted_none, noted_append, noted_two}
+use Rattle.names.proofs.Dropped.{drop_cons, drop_end}
+use Rattle.names.proofs.Mapped.{nothing_more}
 use Rattle.value_rules.specs.Literals.{literal_breaches}
 use Rattle.array_rules.specs.Arrays.{width_of, count_breaches, size_breaches, entry_breaches, values_breaches}
 use Rattle.array_rules.specs.Arrays.{entry_value, zeros, entries_of, entry_bytes, bytes_of}
 use Rattle.array_rules.specs.Entries.{number_bytes, own_entry_bytes, own_entry_breaches, IsArrayAdded}
-use Rattle.names.proofs.Noted.{noted_none, noted_append, noted_two}
-use Rattle.names.proofs.Dropped.{drop_cons, drop_end}
-use Rattle.names.proofs.Mapped.{nothing_more}
 use Rattle.array_rules.proofs.ArraySizes.{number_first, map_length}
 
 -- Parts that are added

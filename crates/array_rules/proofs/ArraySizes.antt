@@ -7,8 +7,8 @@ use Rattle.std.proofs.lemmas.Bool.{leb-true, and_parts}
 use Rattle.std.proofs.lemmas.Bool.Decides.{nat_tests}
 use Rattle.std.proofs.lemmas.List.{length-replicate}
 use Rattle.lexer.specs.declared.token.Position.{Position}
-use Rattle.expressions.specs.declared.tree.Width.{Width}
-use Rattle.expressions.specs.declared.tree.Width.TheVariants as widths
+use Rattle.expression_trees.specs.declared.tree.Width.{Width}
+use Rattle.expression_trees.specs.declared.tree.Width.TheVariants as widths
 use Rattle.directives.specs.declared.tree.ArrayKind.{ArrayKind}
 use Rattle.directives.specs.declared.tree.ArrayKind.TheVariants as kinds
 use Rattle.directives.specs.Tree.{ValueTree, ArrayTree}
@@ -16,11 +16,11 @@ use Rattle.names.specs.Breaches.{at}
 use Rattle.names.specs.declared.known.Known.{Known}
 use Rattle.names.specs.declared.known.Known.TheVariants as knowns
 use Rattle.names.specs.Names.{Table, File, literal_known}
+use Rattle.names.proofs.Kept.{left_empty}
 use Rattle.array_rules.specs.Arrays.{width_of, array_size, is_told, is_size, count_breaches, entry_breaches}
 use Rattle.array_rules.specs.Arrays.{values_breaches, entry_value, zeros, entries_of, entry_bytes, bytes_of}
 use Rattle.array_rules.specs.Arrays.{array_breaches, array_bytes}
 use Rattle.array_rules.specs.Entries.{most, number_bytes}
-use Rattle.names.proofs.Kept.{left_empty}
 
 -- Sizes
 

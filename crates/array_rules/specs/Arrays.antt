@@ -6,8 +6,8 @@ use Rattle.std.specs.Prelude.{◌++◌, map, length, replicate, Option, Some, No
 use Rattle.std.specs.List.{flat_map}
 use Rattle.lexer.specs.declared.fault.TheConstants.{BAD_ARRAY}
 use Rattle.lexer.specs.declared.token.Position.{Position}
-use Rattle.expressions.specs.declared.tree.Width.{Width}
-use Rattle.expressions.specs.declared.tree.Width.TheVariants as widths
+use Rattle.expression_trees.specs.declared.tree.Width.{Width}
+use Rattle.expression_trees.specs.declared.tree.Width.TheVariants as widths
 use Rattle.directives.specs.declared.tree.ArrayKind.{ArrayKind}
 use Rattle.directives.specs.declared.tree.ArrayKind.TheVariants as kinds
 use Rattle.directives.specs.Tree.{ValueTree, ArrayTree, DirectiveTree, global, constant, array, attribute, property}

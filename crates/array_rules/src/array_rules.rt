@@ -2,14 +2,15 @@
 
 ghost use Rattle.std.specs.Prelude.{◌≡◌, ◌≢◌, ◌++◌, OnOk, map, replicate, length, Some};
 ghost use Rattle.std.specs.List.{flat_map};
-ghost use Rattle.expressions.specs.declared.tree.Width.TheVariants as widths;
+ghost use Rattle.expression_trees.specs.declared.tree.Width.TheVariants as widths;
 ghost use Rattle.directives.specs.Tree.{value_tree, array_tree};
-ghost use Rattle.array_rules.specs.Arrays as spec;
 ghost use Rattle.names.specs.Noted.{noted};
 ghost use Rattle.names.specs.Scope.{file_in};
-ghost use Rattle.array_rules.specs.Entries.{most, number_bytes, own_entry_bytes, own_entry_breaches, IsArrayAdded};
+ghost use Rattle.array_rules.specs.Arrays as spec;
+ghost use Rattle.array_rules.specs.Entries.{most, number_bytes, own_entry_bytes};
+ghost use Rattle.array_rules.specs.Entries.{own_entry_breaches, IsArrayAdded};
 
-use expressions::Width;
+use expression_trees::Width;
 use lexer::{BAD_ARRAY, Position};
 use meaning::Arrays;
 use names::{Breach, File, Known, note, or_zero};

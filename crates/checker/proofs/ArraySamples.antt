@@ -1,28 +1,30 @@
 -- Programs with arrays and what they mean, computed.
 use Rattle.std.proofs.Common.{◌≡◌, ℕ, ◌+◌, List, [], ◌∷◌, ◌++◌, refl}
 use Rattle.std.specs.Prelude.{codes}
-use Rattle.expressions.specs.Tree.{ExpressionTree, constant, named, index, parenthesised, step_after, binary, assign}
-use Rattle.expressions.specs.declared.tree.Binary.TheVariants as op
-use Rattle.expressions.specs.declared.tree.Step.TheVariants as steps
-use Rattle.expressions.specs.declared.tree.Width.TheVariants as widths
+use Rattle.zcore.specs.Arithmetic.{signed_text, decimal, quotient, remainder}
+use Rattle.expression_trees.specs.Tree.{ExpressionTree, constant, named, index, parenthesised, step_after, binary}
+use Rattle.expression_trees.specs.Tree.{assign}
+use Rattle.expression_trees.specs.declared.tree.Binary.TheVariants as op
+use Rattle.expression_trees.specs.declared.tree.Step.TheVariants as steps
+use Rattle.expression_trees.specs.declared.tree.Width.TheVariants as widths
+use Rattle.statement_parts.specs.Tree as parts
 use Rattle.statements.specs.Tree as s
 use Rattle.directives.specs.declared.tree.ArrayKind.{ArrayKind}
 use Rattle.directives.specs.declared.tree.ArrayKind.TheVariants as kinds
 use Rattle.directives.specs.Tree as d
 use Rattle.directives.specs.Tree.{DirectiveTree}
 use Rattle.syntax.specs.Tree.{ProgramTree}
-use Rattle.names.specs.Breaches.{at}
-use Rattle.checker.specs.Programs.{program_breaches, resolve_with, file_of, resolve_program}
-use Rattle.names.specs.Names.{table_of, key_of, look_up}
-use Rattle.zcore.specs.Arithmetic.{signed_text, decimal, quotient, remainder}
-use Rattle.value_rules.specs.Temporaries.{need}
 use Rattle.meaning.specs.Meaning.{meaning}
+use Rattle.names.specs.Breaches.{at}
+use Rattle.names.specs.Names.{table_of, key_of, look_up}
+use Rattle.value_rules.specs.Temporaries.{need}
+use Rattle.checker.specs.Programs.{program_breaches, resolve_with, file_of, resolve_program}
 use Rattle.checker.proofs.Samples.{p, the, item, words, routine, program, says}
 
 -- values, the first at position 1
 abbrev values : ℕ → List ℕ → List d.ValueTree
 values n [] = []
-values n (v ∷ vs) = record { position = p n; value = s.number_value v } ∷ values (n + 1) vs
+values n (v ∷ vs) = record { position = p n; value = parts.number_value v } ∷ values (n + 1) vs
 
 abbrev array : List ℕ → ArrayKind → List ℕ → DirectiveTree
 array name kind vs = d.array (record { name = the 0 name; kind = kind; values = values 1 vs })
@@ -119,7 +121,7 @@ wrong_size : program_breaches
     (record {
       name = the 0 (codes "b");
       kind = kinds.Bytes;
-      values = record { position = p 1; value = s.named_value (the 1 (codes "c")) } ∷ [];
+      values = record { position = p 1; value = parts.named_value (the 1 (codes "c")) } ∷ [];
     })
     ∷ array (codes "c") kinds.Bytes (1 ∷ []) ∷ main ∷ []))
     ≡ at (p 1) 23

@@ -4,33 +4,33 @@ use Rattle.std.proofs.Common.{refl, sym, subst, ap, ◌∙◌}
 use Rattle.std.specs.Prelude.{map}
 use Rattle.std.specs.List.{concat}
 use Rattle.std.specs.Global.{Vec}
+use Rattle.expression_trees.specs.Tree.{NameTree}
+use Rattle.statement_parts.specs.Tree.{LiteralTree}
 use Rattle.directives.specs.declared.tree.Directive.{Directive}
-use Rattle.expressions.specs.Tree.{NameTree}
-use Rattle.statements.specs.Tree.{LiteralTree}
 use Rattle.directives.specs.Tree.{ArrayTree, ObjectTree, RoutineTree, DirectiveTree, global, constant, array, attribute}
 use Rattle.directives.specs.Tree.{property, object, routine, directive_tree}
 use Rattle.meaning.specs.declared.arrays.Arrays.{Arrays}
-use Rattle.names.specs.declared.breach.Breach.{Breach}
 use Rattle.meaning.specs.declared.checked.CheckedObject.{CheckedObject}
 use Rattle.meaning.specs.declared.checked.CheckedRoutine.{CheckedRoutine}
-use Rattle.checker.specs.declared.directive_rules.Found.{Found}
+use Rattle.meaning.specs.Objects.{ObjectOf}
+use Rattle.meaning.specs.Resolved.{RoutineOf, object_of, routine_of, title_of}
+use Rattle.names.specs.declared.breach.Breach.{Breach}
 use Rattle.names.specs.declared.counts.Counts.{Counts}
 use Rattle.names.specs.Names.{Table, File, counts_after, with_directive}
 use Rattle.names.specs.Noted.{noted}
 use Rattle.names.proofs.Dropped.{drop_here, drop_end}
 use Rattle.names.proofs.Noted.{noted_append}
-use Rattle.meaning.specs.Objects.{ObjectOf}
-use Rattle.meaning.specs.Resolved.{RoutineOf, object_of, routine_of, title_of}
-use Rattle.array_rules.specs.Arrays.{array_bytes, arrays_of}
-use Rattle.value_rules.specs.Literals.{initial_value}
-use Rattle.array_rules.specs.Entries.{IsArrayAdded}
-use Rattle.checker.specs.Found.{IsAdded, IsAdding}
-use Rattle.object_rules.specs.Objects.{object_in}
-use Rattle.checker.specs.Programs.{globals_of, defaults_in, routines_of, resolve_routine}
-use Rattle.object_rules.specs.Files.{objects_in}
-use Rattle.checker.specs.Programs.{routine_trees, title, directive_breaches, directives_breaches}
 use Rattle.names.proofs.Mapped.{nothing_more, map_push}
+use Rattle.value_rules.specs.Literals.{initial_value}
+use Rattle.array_rules.specs.Arrays.{array_bytes, arrays_of}
+use Rattle.array_rules.specs.Entries.{IsArrayAdded}
 use Rattle.array_rules.proofs.ArrayLists.{bytes_more, list_step, sizes_more}
+use Rattle.object_rules.specs.Objects.{object_in}
+use Rattle.object_rules.specs.Files.{objects_in}
+use Rattle.checker.specs.declared.directive_rules.Found.{Found}
+use Rattle.checker.specs.Found.{IsAdded, IsAdding}
+use Rattle.checker.specs.Programs.{globals_of, defaults_in, routines_of, resolve_routine, routine_trees, title}
+use Rattle.checker.specs.Programs.{directive_breaches, directives_breaches}
 use Rattle.checker.proofs.DirectiveLists.{defaults_more, globals_more, objects_more, routines_more, titles_more}
 
 -- what one directive adds

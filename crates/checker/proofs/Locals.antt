@@ -1,32 +1,29 @@
 -- What a routine sees.
-use Rattle.std.proofs.Common.{◌≡◌, ℕ, suc, List, [], ◌∷◌}
-use Rattle.std.proofs.Common.{length, Option, Some, None, refl, sym, ap}
-use Rattle.std.proofs.Common.{subst, ◌∙◌}
+use Rattle.std.proofs.Common.{◌≡◌, ℕ, suc, List, [], ◌∷◌, length, Option, Some, None, refl, sym, ap, subst, ◌∙◌}
 use Rattle.std.specs.Prelude.{map, Result, IfOk}
 use Rattle.std.specs.declared.alloc.AllocError.{AllocError}
 use Rattle.std.proofs.Math.Path.{fun_ext}
-use Rattle.expressions.specs.declared.tree.Name.{Name}
-use Rattle.expressions.specs.Tree.{NameTree, name_tree}
+use Rattle.expression_trees.specs.declared.tree.Name.{Name}
+use Rattle.expression_trees.specs.Tree.{NameTree, name_tree}
 use Rattle.statements.specs.declared.tree.Statement.{Statement}
 use Rattle.directives.specs.declared.tree.Routine.{Routine}
 use Rattle.directives.specs.Tree.{routine_tree}
+use Rattle.meaning.specs.declared.checked.CheckedRoutine.{CheckedRoutine}
+use Rattle.meaning.specs.Resolved.{Action, Actions, RoutineOf, actions_of, routine_of, title_of}
+use Rattle.meaning.specs.Around.{outside}
 use Rattle.names.specs.declared.binding.Binding.{Binding}
 use Rattle.names.specs.declared.breach.Breach.{Breach}
 use Rattle.names.specs.declared.table.Scope.{Scope}
-use Rattle.meaning.specs.declared.checked.CheckedRoutine.{CheckedRoutine}
-use Rattle.names.specs.Names.{Table, key_of, in_table, local_from, local_first, look_up}
-use Rattle.names.specs.Names.{File, Seen, seen_from}
+use Rattle.names.specs.Names.{Table, key_of, in_table, local_from, local_first, look_up, File, Seen, seen_from}
 use Rattle.names.specs.Noted.{noted}
 use Rattle.names.specs.Scope.{either, number_at, file_in, look_in, local_binding, seen_in}
-use Rattle.meaning.specs.Resolved.{Action, Actions, RoutineOf, actions_of, routine_of, title_of}
-use Rattle.simple_rules.specs.Statements.{statements_breaches}
-use Rattle.meaning.specs.Around.{outside}
 use Rattle.value_rules.specs.Walk.{IsWalked}
+use Rattle.value_rules.proofs.Walks.{before}
+use Rattle.simple_rules.specs.Statements.{statements_breaches}
 use Rattle.rules.specs.Walk.{AreActions}
+use Rattle.rules.proofs.Forms.{statements_walked}
 use Rattle.checker.specs.Found.{IsRoutineIn, IsRoutineOf}
 use Rattle.checker.specs.Programs.{locals_breaches, title, resolve_body, resolve_routine}
-use Rattle.value_rules.proofs.Walks.{before}
-use Rattle.rules.proofs.Forms.{statements_walked}
 
 -- What a routine sees
 

@@ -1,11 +1,12 @@
 -- Programs with loops and `switch`: what they resolve to, and the rules that they break, computed.
 use Rattle.std.proofs.Common.{◌≡◌, ℕ, List, [], ◌∷◌, ◌++◌, Some, None, refl}
 use Rattle.std.specs.Prelude.{codes}
-use Rattle.expressions.specs.Tree.{constant, named, step_after, compare, assign}
-use Rattle.expressions.specs.declared.tree.Comparison.TheVariants as comparison
-use Rattle.expressions.specs.declared.tree.Step.TheVariants as steps
+use Rattle.expression_trees.specs.Tree.{constant, named, step_after, compare, assign}
+use Rattle.expression_trees.specs.declared.tree.Comparison.TheVariants as comparison
+use Rattle.expression_trees.specs.declared.tree.Step.TheVariants as steps
+use Rattle.statement_parts.specs.Tree as parts
+use Rattle.statement_parts.specs.Tree.{RangeTree}
 use Rattle.statements.specs.Tree as s
-use Rattle.statements.specs.Tree.{RangeTree}
 use Rattle.directives.specs.Tree as d
 use Rattle.syntax.specs.Tree.{ProgramTree}
 use Rattle.meaning.specs.declared.resolved.Variable.TheVariants as variables
@@ -17,10 +18,10 @@ use Rattle.checker.specs.Programs.{program_breaches, resolve_with, file_of, reso
 use Rattle.checker.proofs.Samples.{p, the, routine, program}
 
 abbrev one_value : ℕ → RangeTree
-one_value n = record { low = s.number_value n; high = None }
+one_value n = record { low = parts.number_value n; high = None }
 
 abbrev from_to : ℕ → ℕ → RangeTree
-from_to a b = record { low = s.number_value a; high = Some (s.number_value b) }
+from_to a b = record { low = parts.number_value a; high = Some (parts.number_value b) }
 
 -- Global g; Global i;
 -- [ Main; for (i = 0 : i < 5 : i++) continue; do break; until (i);
@@ -85,12 +86,12 @@ unfolding program_breaches table_of key_of look_up
 stray = refl
 
 abbrev the_range : List ℕ → RangeTree
-the_range name = record { low = s.named_value (the 4 name); high = None }
+the_range name = record { low = parts.named_value (the 4 name); high = None }
 
 -- Constant c = 1; Global g; [ F c; switch (1) { c, g, d: } ]; [ Main; switch (1) { c: } ]; a local hides a constant
 labels : program_breaches
     (program
-    (d.constant (the 0 (codes "c")) (s.number_value 1) ∷ d.global (the 1 (codes "g")) None
+    (d.constant (the 0 (codes "c")) (parts.number_value 1) ∷ d.global (the 1 (codes "g")) None
     ∷ routine (codes "F") (the 2 (codes "c") ∷ [])
     (s.switch_on (p 3) (constant 1)
     (s.case (the_range (codes "c") ∷ the_range (codes "g") ∷ the_range (codes "d") ∷ []) s.stop s.no_case) ∷ [])

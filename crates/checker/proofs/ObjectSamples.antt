@@ -1,18 +1,18 @@
 -- Definitions of objects, computed: the rules that they break, and what they are.
 use Rattle.std.proofs.Common.{◌≡◌, ℕ, zero, suc, ◌+◌, List, [], ◌∷◌, ◌++◌, Some, None, refl}
 use Rattle.std.specs.Prelude.{codes}
-use Rattle.lexer.specs.declared.token.Position.{Position}
-use Rattle.expressions.specs.Tree.{NameTree}
-use Rattle.statements.specs.Tree as s
-use Rattle.directives.specs.Tree as d
-use Rattle.directives.specs.Tree.{DirectiveTree, ObjectTree}
-use Rattle.syntax.specs.Tree.{ProgramTree}
-use Rattle.names.specs.Breaches.{at}
-use Rattle.names.specs.Names.{table_of, key_of, look_up}
 use Rattle.ztext.specs.Text.{encoded}
 use Rattle.ztext.specs.Words.{packed}
 use Rattle.ztext.specs.Alphabets.{spelling_of}
+use Rattle.lexer.specs.declared.token.Position.{Position}
+use Rattle.expression_trees.specs.Tree.{NameTree}
+use Rattle.statement_parts.specs.Tree as s
+use Rattle.directives.specs.Tree as d
+use Rattle.directives.specs.Tree.{DirectiveTree, ObjectTree}
+use Rattle.syntax.specs.Tree.{ProgramTree}
 use Rattle.meaning.specs.Objects.{ObjectOf}
+use Rattle.names.specs.Breaches.{at}
+use Rattle.names.specs.Names.{table_of, key_of, look_up}
 use Rattle.checker.specs.Programs.{program_breaches, resolve_with, file_of, resolve_program}
 use Rattle.checker.proofs.Samples.{p, the, routine, program}
 

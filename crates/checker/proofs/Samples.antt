@@ -1,26 +1,27 @@
 -- Programs and what they mean, computed.
 use Rattle.std.proofs.Common.{◌≡◌, ℕ, zero, suc, List, [], ◌∷◌, ◌++◌, None, refl}
 use Rattle.std.specs.Prelude.{codes}
+use Rattle.zcore.specs.declared.place.Place.TheVariants as places
+use Rattle.zcore.specs.Arithmetic.{signed_text, decimal, quotient, remainder}
 use Rattle.lexer.specs.declared.token.Position.{Position}
-use Rattle.expressions.specs.Tree.{NameTree, ExpressionTree, ExpressionTrees, constant, named, call, parenthesised}
-use Rattle.expressions.specs.Tree.{prefixed, step_before, step_after, binary, equal, assign, none, more}
-use Rattle.expressions.specs.declared.tree.Binary.TheVariants as op
-use Rattle.expressions.specs.declared.tree.Equality.TheVariants as equality
-use Rattle.expressions.specs.declared.tree.Prefix.TheVariants as prefix
-use Rattle.expressions.specs.declared.tree.Step.TheVariants as steps
+use Rattle.expression_trees.specs.Tree.{NameTree, ExpressionTree, ExpressionTrees, constant, named, call, parenthesised}
+use Rattle.expression_trees.specs.Tree.{prefixed, step_before, step_after, binary, equal, assign, none, more}
+use Rattle.expression_trees.specs.declared.tree.Binary.TheVariants as op
+use Rattle.expression_trees.specs.declared.tree.Equality.TheVariants as equality
+use Rattle.expression_trees.specs.declared.tree.Prefix.TheVariants as prefix
+use Rattle.expression_trees.specs.declared.tree.Step.TheVariants as steps
+use Rattle.statement_parts.specs.Tree as parts
 use Rattle.statements.specs.Tree as s
 use Rattle.statements.specs.Tree.{StatementTree, StatementTrees}
 use Rattle.directives.specs.Tree as d
 use Rattle.directives.specs.Tree.{DirectiveTree}
 use Rattle.syntax.specs.Tree.{ProgramTree}
-use Rattle.zcore.specs.declared.place.Place.TheVariants as places
-use Rattle.names.specs.Breaches.{at}
-use Rattle.checker.specs.Programs.{program_breaches, resolve_with, file_of, resolve_program}
-use Rattle.names.specs.Names.{table_of, key_of, look_up}
-use Rattle.zcore.specs.Arithmetic.{signed_text, decimal, quotient, remainder}
-use Rattle.value_rules.specs.Temporaries.{need}
 use Rattle.meaning.specs.World.{Outcome}
 use Rattle.meaning.specs.Meaning.{meaning}
+use Rattle.names.specs.Breaches.{at}
+use Rattle.names.specs.Names.{table_of, key_of, look_up}
+use Rattle.value_rules.specs.Temporaries.{need}
+use Rattle.checker.specs.Programs.{program_breaches, resolve_with, file_of, resolve_program}
 
 -- the position of a token, by its number
 abbrev pub p : ℕ → Position
@@ -29,11 +30,11 @@ p n = record { offset = n; line = 1 }
 abbrev pub the : ℕ → List ℕ → NameTree
 the n text = record { text = text; position = p n }
 
-abbrev pub item : ExpressionTree → s.PrintItemTree
-item e = s.number_item (p 0) e
+abbrev pub item : ExpressionTree → parts.PrintItemTree
+item e = parts.number_item (p 0) e
 
-abbrev pub words : List ℕ → s.PrintItemTree
-words text = s.text_item text
+abbrev pub words : List ℕ → parts.PrintItemTree
+words text = parts.text_item text
 
 abbrev body : List StatementTree → StatementTrees
 body xs = s.trees_of xs
@@ -86,7 +87,7 @@ divides_mean = refl
 -- Constant c = 5; [ F a b; return a - b; ]; [ Main; print F(c, 2), " ", F(1), " ", ~~3, " ", ~0, "^"; ];
 abbrev missing : ProgramTree
 missing = program
-    (d.constant (the 0 (codes "c")) (s.number_value 5)
+    (d.constant (the 0 (codes "c")) (parts.number_value 5)
     ∷ routine (codes "F") (the 1 (codes "a") ∷ the 2 (codes "b") ∷ [])
     (s.return_value (p 3) (binary op.Subtract (named (the 3 (codes "a"))) (named (the 4 (codes "b")))) ∷ [])
     ∷ routine (codes "Main") [] (s.print
@@ -127,15 +128,15 @@ unknown = refl
 -- Constant a = b; Constant b = 1; a later constant is unknown to an earlier one
 later_constant : program_breaches
     (program
-    (d.constant (the 0 (codes "a")) (s.named_value (the 1 (codes "b")))
-    ∷ d.constant (the 2 (codes "b")) (s.number_value 1) ∷ routine (codes "Main") [] [] ∷ [])) ≡ at (p 1) 20
+    (d.constant (the 0 (codes "a")) (parts.named_value (the 1 (codes "b")))
+    ∷ d.constant (the 2 (codes "b")) (parts.number_value 1) ∷ routine (codes "Main") [] [] ∷ [])) ≡ at (p 1) 20
 unfolding program_breaches table_of key_of look_up
 later_constant = refl
 
 -- Constant a = g; Global g; a global is no constant
 no_constant : program_breaches
     (program
-    (d.constant (the 0 (codes "a")) (s.named_value (the 1 (codes "g"))) ∷ d.global (the 2 (codes "g")) None
+    (d.constant (the 0 (codes "a")) (parts.named_value (the 1 (codes "g"))) ∷ d.global (the 2 (codes "g")) None
     ∷ routine (codes "Main") [] [] ∷ [])) ≡ at (p 1) 23
 unfolding program_breaches table_of key_of look_up
 no_constant = refl

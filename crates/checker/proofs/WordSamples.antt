@@ -1,27 +1,28 @@
 -- Programs with dictionary words and `read`, and what they mean, computed.
 use Rattle.std.proofs.Common.{◌≡◌, ℕ, ◌%◌, ◌^◌, List, [], ◌∷◌, ◌++◌, Some, None, refl}
 use Rattle.std.specs.Prelude.{codes, replicate}
-use Rattle.expressions.specs.Tree.{constant, word, named, index, equal, more, none}
-use Rattle.expressions.specs.declared.tree.Equality.TheVariants as equality
-use Rattle.expressions.specs.declared.tree.Width.TheVariants as widths
+use Rattle.ztext.specs.Alphabets.{spelling_of}
+use Rattle.ztext.specs.Text as text
+use Rattle.ztext.specs.Words.{packed}
+use Rattle.zcore.specs.Arithmetic.{signed_text, decimal, quotient, remainder}
+use Rattle.zcore.specs.Dictionary.{number_of_key}
+use Rattle.expression_trees.specs.Tree.{constant, word, named, index, equal, more, none}
+use Rattle.expression_trees.specs.declared.tree.Equality.TheVariants as equality
+use Rattle.expression_trees.specs.declared.tree.Width.TheVariants as widths
+use Rattle.statement_parts.specs.Tree as parts
 use Rattle.statements.specs.Tree as s
 use Rattle.directives.specs.declared.tree.ArrayKind.{ArrayKind}
 use Rattle.directives.specs.declared.tree.ArrayKind.TheVariants as kinds
 use Rattle.directives.specs.Tree as d
 use Rattle.directives.specs.Tree.{DirectiveTree}
 use Rattle.syntax.specs.Tree.{ProgramTree}
-use Rattle.ztext.specs.Alphabets.{spelling_of}
-use Rattle.zcore.specs.Arithmetic.{signed_text, decimal, quotient, remainder}
-use Rattle.zcore.specs.Dictionary.{number_of_key}
-use Rattle.ztext.specs.Text as text
-use Rattle.ztext.specs.Words.{packed}
+use Rattle.meaning.specs.Resolved as r
+use Rattle.meaning.specs.Meaning.{meaning}
 use Rattle.names.specs.Breaches.{at}
 use Rattle.names.specs.Keys.{key_of_word}
 use Rattle.names.specs.Names.{table_of, key_of, look_up}
 use Rattle.object_rules.specs.Objects.{all_defaults}
 use Rattle.checker.specs.Programs.{program_breaches, resolve_with, file_of, resolve_program}
-use Rattle.meaning.specs.Resolved as r
-use Rattle.meaning.specs.Meaning.{meaning}
 use Rattle.checker.proofs.Samples.{p, the, item, words, routine, says}
 
 -- a program of these directives, with these dictionary words
@@ -31,7 +32,7 @@ spoken ws ds = record { directives = ds; abbreviations = []; end = p 999; weight
 abbrev array : ℕ → List ℕ → ArrayKind → List d.ValueTree → DirectiveTree
 array n name kind values = d.array (record { name = the n name; kind = kind; values = values })
 
-abbrev value : ℕ → s.LiteralTree → d.ValueTree
+abbrev value : ℕ → parts.LiteralTree → d.ValueTree
 value n v = record { position = p n; value = v }
 
 abbrev lamp : List ℕ
@@ -66,17 +67,17 @@ two_words_mean = refl
 -- [ Main; print a-->1 == g, " "; switch (g) { w: print w; } ];
 abbrev constants : ProgramTree
 constants = spoken (codes "lanterns" ∷ codes "lanterns1" ∷ [])
-    (d.constant (the 1 (codes "w")) (s.word_value (codes "lanterns"))
+    (d.constant (the 1 (codes "w")) (parts.word_value (codes "lanterns"))
     ∷ array 2 (codes "a") kinds.Words
-    (value 3 (s.number_value 0) ∷ value 4 (s.named_value (the 4 (codes "w"))) ∷ [])
-    ∷ d.global (the 5 (codes "g")) (Some (s.word_value (codes "lanterns1")))
+    (value 3 (parts.number_value 0) ∷ value 4 (parts.named_value (the 4 (codes "w"))) ∷ [])
+    ∷ d.global (the 5 (codes "g")) (Some (parts.word_value (codes "lanterns1")))
     ∷ routine (codes "Main") []
     (s.print
     (item (equal equality.Equal (index (the 6 (codes "a")) widths.Word (constant 1))
     (more (named (the 7 (codes "g"))) none))
     ∷ words (codes " ") ∷ [])
     ∷ s.switch_on (p 8) (named (the 8 (codes "g")))
-    (s.case (record { low = s.named_value (the 9 (codes "w")); high = None } ∷ [])
+    (s.case (record { low = parts.named_value (the 9 (codes "w")); high = None } ∷ [])
     (s.next (s.print (item (named (the 10 (codes "w"))) ∷ [])) s.stop) s.no_case)
     ∷ [])
     ∷ [])
@@ -96,12 +97,12 @@ constants_mean = refl
 -- Constant w = 'lamp'; Array a -> w; Array b --> 'lamp'; Array c -> 1 'lamp'; Array e string w w; [ Main; ];
 abbrev sizes : ProgramTree
 sizes = spoken (lamp ∷ lamp ∷ lamp ∷ [])
-    (d.constant (the 1 (codes "w")) (s.word_value lamp)
-    ∷ array 2 (codes "a") kinds.Bytes (value 3 (s.named_value (the 3 (codes "w"))) ∷ [])
-    ∷ array 4 (codes "b") kinds.Words (value 5 (s.word_value lamp) ∷ [])
-    ∷ array 6 (codes "c") kinds.Bytes (value 7 (s.number_value 1) ∷ value 8 (s.word_value lamp) ∷ [])
+    (d.constant (the 1 (codes "w")) (parts.word_value lamp)
+    ∷ array 2 (codes "a") kinds.Bytes (value 3 (parts.named_value (the 3 (codes "w"))) ∷ [])
+    ∷ array 4 (codes "b") kinds.Words (value 5 (parts.word_value lamp) ∷ [])
+    ∷ array 6 (codes "c") kinds.Bytes (value 7 (parts.number_value 1) ∷ value 8 (parts.word_value lamp) ∷ [])
     ∷ array 9 (codes "e") kinds.String
-    (value 10 (s.named_value (the 10 (codes "w"))) ∷ value 11 (s.named_value (the 11 (codes "w"))) ∷ [])
+    (value 10 (parts.named_value (the 10 (codes "w"))) ∷ value 11 (parts.named_value (the 11 (codes "w"))) ∷ [])
     ∷ routine (codes "Main") [] [] ∷ [])
 
 sizes_break : program_breaches sizes ≡ at (p 2) 28 ++ at (p 4) 28 ++ at (p 8) 28 ++ at (p 10) 28 ++ at (p 11) 28
@@ -113,8 +114,8 @@ sizes_break = refl
 -- Array t -> 8; Array q -> 14; [ Main; read t q; print q-->1 == 'take'; ];
 abbrev reads : ProgramTree
 reads = spoken (codes "take" ∷ [])
-    (array 1 (codes "t") kinds.Bytes (value 2 (s.number_value 8) ∷ [])
-    ∷ array 3 (codes "q") kinds.Bytes (value 4 (s.number_value 14) ∷ [])
+    (array 1 (codes "t") kinds.Bytes (value 2 (parts.number_value 8) ∷ [])
+    ∷ array 3 (codes "q") kinds.Bytes (value 4 (parts.number_value 14) ∷ [])
     ∷ routine (codes "Main") []
     (s.read_line (the 5 (codes "t")) (the 6 (codes "q"))
     ∷ s.print
@@ -152,8 +153,8 @@ reads_resolve = refl
 -- Array b -> 4; Array m --> 4; [ Main; read x b; read m b; read b b; read b Main; ];
 abbrev misread : ProgramTree
 misread = spoken []
-    (array 1 (codes "b") kinds.Bytes (value 2 (s.number_value 4) ∷ [])
-    ∷ array 3 (codes "m") kinds.Words (value 4 (s.number_value 4) ∷ [])
+    (array 1 (codes "b") kinds.Bytes (value 2 (parts.number_value 4) ∷ [])
+    ∷ array 3 (codes "m") kinds.Words (value 4 (parts.number_value 4) ∷ [])
     ∷ routine (codes "Main") []
     (s.read_line (the 5 (codes "x")) (the 6 (codes "b")) ∷ s.read_line (the 7 (codes "m")) (the 8 (codes "b"))
     ∷ s.read_line (the 9 (codes "b")) (the 10 (codes "B")) ∷ s.read_line (the 11 (codes "b")) (the 12 (codes "Main"))

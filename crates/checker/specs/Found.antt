@@ -1,22 +1,22 @@
 -- Words of proofs: what walks over directives find, and what they note.
 use Rattle.std.specs.Prelude.{◌≡◌, ℕ, List, ◌++◌, length, Option, map}
 use Rattle.std.specs.List.{concat}
-use Rattle.expressions.specs.declared.tree.Width.TheVariants as widths
-use Rattle.expressions.specs.Tree.{NameTree}
+use Rattle.expression_trees.specs.declared.tree.Width.TheVariants as widths
+use Rattle.expression_trees.specs.Tree.{NameTree}
 use Rattle.directives.specs.declared.tree.ArrayKind.TheVariants as kinds
 use Rattle.directives.specs.Tree.{RoutineTree, DirectiveTree}
-use Rattle.names.specs.declared.breach.Breach.{Breach}
 use Rattle.meaning.specs.declared.checked.CheckedRoutine.{CheckedRoutine}
-use Rattle.checker.specs.declared.directive_rules.Found.{Found}
-use Rattle.names.specs.Names.{File, Seen}
 use Rattle.meaning.specs.Resolved.{RoutineOf, object_of, routine_of, title_of}
-use Rattle.simple_rules.specs.Statements.{statements_breaches}
 use Rattle.meaning.specs.Around.{outside}
-use Rattle.checker.specs.Programs.{routine_breaches, resolve_body, resolve_routine, routine_trees, title, globals_of}
-use Rattle.array_rules.specs.Arrays.{arrays_of}
-use Rattle.checker.specs.Programs.{defaults_in, routines_of}
-use Rattle.object_rules.specs.Files.{objects_in}
+use Rattle.names.specs.declared.breach.Breach.{Breach}
+use Rattle.names.specs.Names.{File, Seen}
 use Rattle.value_rules.specs.Walk.{IsWalked}
+use Rattle.simple_rules.specs.Statements.{statements_breaches}
+use Rattle.array_rules.specs.Arrays.{arrays_of}
+use Rattle.object_rules.specs.Files.{objects_in}
+use Rattle.checker.specs.declared.directive_rules.Found.{Found}
+use Rattle.checker.specs.Programs.{routine_breaches, resolve_body, resolve_routine, routine_trees, title, globals_of}
+use Rattle.checker.specs.Programs.{defaults_in, routines_of}
 
 -- in a routine that sees so much of the file
 module _ (seen : Seen) where

@@ -1,14 +1,17 @@
 -- The rules that a program can break, and what it resolves to.
 use Rattle.std.specs.Prelude.{◌≡◌, ◌==◌, ◌||◌, ◌%◌, ℕ, nat_le, nat_lt, Bool, true, false, map, if◌then◌else◌, List, []}
-use Rattle.std.specs.Prelude.{◌∷◌, ◌++◌, codes}
-use Rattle.std.specs.Prelude.{length, Option, Some, None}
+use Rattle.std.specs.Prelude.{◌∷◌, ◌++◌, codes, length, Option, Some, None}
+use Rattle.ztext.specs.Abbreviations.{most_abbreviations}
 use Rattle.lexer.specs.declared.fault.TheConstants.{BAD_ABBREVIATION, DEFINED_TWICE, NO_PROPER_MAIN, TOO_MANY}
 use Rattle.lexer.specs.declared.token.Position.{Position}
-use Rattle.expressions.specs.Tree.{NameTree}
-use Rattle.statements.specs.Tree.{LiteralTree}
+use Rattle.expression_trees.specs.Tree.{NameTree}
+use Rattle.statement_parts.specs.Tree.{LiteralTree}
 use Rattle.directives.specs.Tree.{RoutineTree, DirectiveTree, global, constant, array, attribute, property, object}
 use Rattle.directives.specs.Tree.{routine, ObjectTree, TextTree}
 use Rattle.syntax.specs.Tree.{ProgramTree}
+use Rattle.meaning.specs.Places.{machine_character, number_in}
+use Rattle.meaning.specs.Around.{outside}
+use Rattle.meaning.specs.Resolved.{RoutineOf, ProgramOf, CheckedProgram, program_of, title_of}
 use Rattle.names.specs.declared.binding.Binding.{Binding}
 use Rattle.names.specs.declared.binding.Binding.TheVariants as bindings
 use Rattle.names.specs.declared.breach.Breach.{Breach}
@@ -17,16 +20,12 @@ use Rattle.names.specs.declared.counts.Counts.{Counts}
 use Rattle.names.specs.Keys.{keys_of}
 use Rattle.names.specs.Names.{Table, File, key_of, same_key, in_table, first_table, no_counts, with_directive}
 use Rattle.names.specs.Names.{counts_after, table_of, look_up, Seen, seen_from}
-use Rattle.meaning.specs.Places.{machine_character, number_in}
-use Rattle.ztext.specs.Abbreviations.{most_abbreviations}
 use Rattle.value_rules.specs.Literals.{initial_breaches, named_breaches, initial_value}
+use Rattle.simple_rules.specs.Statements.{statements_breaches, resolve_statements}
 use Rattle.array_rules.specs.Arrays.{array_breaches, arrays_of}
 use Rattle.object_rules.specs.Repeated.{has_name, twice}
 use Rattle.object_rules.specs.Objects.{object_breaches, standing_breaches, all_defaults}
 use Rattle.object_rules.specs.Files.{object_trees, objects_of}
-use Rattle.simple_rules.specs.Statements.{statements_breaches, resolve_statements}
-use Rattle.meaning.specs.Around.{outside}
-use Rattle.meaning.specs.Resolved.{RoutineOf, ProgramOf, CheckedProgram, program_of, title_of}
 
 -- Definitions: E22 at a name that is defined already; E24 at the 233rd global, the 49th attribute, the 63rd property
 -- beside `name` and the 2,001st object

@@ -4,9 +4,9 @@ ghost use Rattle.std.specs.Prelude.{◌≡◌, ◌≤◌, ◌^◌, IfOk, OnOk, l
 ghost use Rattle.syntax.specs.Tree.{program_tree};
 ghost use Rattle.names.specs.Breaches.{Answers};
 ghost use Rattle.names.specs.Noted.{noted};
-ghost use Rattle.checker.specs.Programs.{program_breaches, no_numbers, file_of, IsCheckedOf};
 ghost use Rattle.names.specs.Scope.{file_in};
 ghost use Rattle.names.specs.Keys.{keys_of};
+ghost use Rattle.checker.specs.Programs.{program_breaches, no_numbers, file_of, IsCheckedOf};
 
 use crate::abbreviation_rules::{abbreviation_rules, all_abbreviations};
 use crate::directive_rules::all_directives;
@@ -17,7 +17,7 @@ use meaning::{Checked, dictionary_behind, objects_size};
 use names::{Breach, File, Numbers, gather, tabulate};
 use object_rules::{all_defaults, objects_alone, parents, place};
 use std::alloc::{AllocError, Global};
-use syntax::Program;
+use syntax::{Directive, Program, Text};
 
 // Resolves the names and words of a program, where these are those of its file, and notes the rules that it breaks.
 fn resolve_with<'a>(
@@ -33,13 +33,15 @@ fn resolve_with<'a>(
     ensures breaches { OnOk result (least.new ≡ noted least.old
         (program_breaches (program_tree program.now))) }
 {
-    let mut found = all_directives(&program.directives, alloc, &file, least)?;
-    let parents = parents(&program.directives, alloc, &file.table, least)?;
+    let directives: &[Directive<'a>] = &program.directives;
+    let mut found = all_directives(directives, alloc, &file, least)?;
+    let parents = parents(directives, alloc, &file.table, least)?;
     place(&parents, &mut found.objects);
     let defaults = all_defaults(alloc, &found.defaults)?;
-    abbreviation_rules(&program.abbreviations, least);
-    let abbreviations = all_abbreviations(&program.abbreviations, alloc)?;
-    let main = main_number(&program.directives, program.end, &file.table, least);
+    let texts: &[Text<'a>] = &program.abbreviations;
+    abbreviation_rules(texts, least);
+    let abbreviations = all_abbreviations(texts, alloc)?;
+    let main = main_number(directives, program.end, &file.table, least);
     Ok(Checked::new(
         found.globals,
         found.arrays,

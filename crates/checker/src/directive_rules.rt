@@ -1,20 +1,21 @@
 //! Directives: the rules that they can break, and what they resolve to.
 
-ghost use Rattle.std.specs.Prelude.{◌≡◌, ◌%◌, ◌∷◌, ◌++◌, [], ℕ, List, IfOk, OnOk, length, map, nat_le, if◌then◌else◌};
-ghost use Rattle.expressions.specs.Tree.{name_tree};
+ghost use Rattle.std.specs.Prelude.{◌≡◌, ◌%◌, ◌∷◌, ◌++◌, [], ℕ, List, IfOk, OnOk, length, map};
+ghost use Rattle.std.specs.Prelude.{nat_le, if◌then◌else◌};
+ghost use Rattle.expression_trees.specs.Tree.{name_tree};
 ghost use Rattle.directives.specs.Tree.{optional_tree, object_tree, routine_tree, directive_tree};
+ghost use Rattle.meaning.specs.Resolved.{object_of};
 ghost use Rattle.names.specs.Names.{in_table, local_from, first_table, no_counts};
 ghost use Rattle.names.specs.Breaches.{at};
-ghost use Rattle.value_rules.specs.Literals.{initial_value};
 ghost use Rattle.names.specs.Noted.{noted};
 ghost use Rattle.names.specs.Scope.{file_in, seen_in, local_binding};
-ghost use Rattle.checker.specs.Found.{IsRoutineIn, IsRoutineOf, IsAdded, IsFound};
-ghost use Rattle.meaning.specs.Resolved.{object_of};
+ghost use Rattle.value_rules.specs.Literals.{initial_value};
 ghost use Rattle.object_rules.specs.Objects.{object_in};
+ghost use Rattle.checker.specs.Found.{IsRoutineIn, IsRoutineOf, IsAdded, IsFound};
 ghost use Rattle.checker.specs.Programs as spec;
 
 use array_rules::array;
-use expressions::Name;
+use expression_trees::Name;
 use indexmap::IndexMap;
 use lexer::{Position, TOO_MANY};
 use meaning::{Arrays, CheckedObject, CheckedRoutine, OUTSIDE};

@@ -2,14 +2,14 @@
 
 ghost use Rattle.std.specs.Prelude.{◌≡◌, map};
 ghost use Rattle.std.specs.Option.{option_map};
-ghost use Rattle.expressions.specs.Tree.{name_tree};
+ghost use Rattle.expression_trees.specs.Tree.{name_tree};
 ghost use Rattle.directives.specs.Tree.{directive_tree};
 ghost use Rattle.names.specs.Names.{in_table};
 ghost use Rattle.names.specs.Noted.{noted};
 ghost use Rattle.checker.specs.Programs.{main_key, position_or, main_breaches, routine_number};
 ghost use Rattle.checker.specs.Programs as spec;
 
-use expressions::Name;
+use expression_trees::Name;
 use lexer::{NO_PROPER_MAIN, Position};
 use names::{Binding, Breach, Key, Table, find, key_of, note};
 use syntax::Directive;

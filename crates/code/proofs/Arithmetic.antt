@@ -12,8 +12,8 @@ use Rattle.zcore.specs.Operations.{least_operands, most_operands, has_result, ha
 use Rattle.zcore.specs.Instruction.{Instruction, FitsBranch, FitsResult, bytes_of}
 use Rattle.zcore.specs.State.{State}
 use Rattle.zcore.specs.Execution.{give_result, perform}
-use Rattle.expressions.specs.declared.tree.Prefix.{Prefix}
-use Rattle.expressions.specs.declared.tree.Prefix.TheVariants as prefixes
+use Rattle.expression_trees.specs.declared.tree.Prefix.{Prefix}
+use Rattle.expression_trees.specs.declared.tree.Prefix.TheVariants as prefixes
 use Rattle.meaning.specs.Meaning.{with_prefix}
 use Rattle.drafts.specs.Items.{Item, Destination}
 use Rattle.drafts.specs.Items as items

@@ -1,25 +1,25 @@
 -- What holds of a running routine of a program that stands in a story, and how an item leads to the next.
-use Rattle.std.proofs.Common.{◌≡◌, ℕ, ◌+◌, ◌<◌, ◌≤◌, List, [], length, drop, Option, None, Bool, true, false, refl}
-use Rattle.std.proofs.Common.{◌∙◌, subst, arith}
+use Rattle.std.proofs.Common.{◌≡◌, ℕ, ◌+◌, ◌<◌, ◌≤◌, List, [], length, drop, Option, None, Bool, true, false, refl, ◌∙◌}
+use Rattle.std.proofs.Common.{subst, arith}
 use Rattle.std.specs.Prelude.{nat_le, if◌then◌else◌, map}
 use Rattle.std.specs.List.{flat_map}
 use Rattle.std.proofs.lemmas.Bool.{leb-true}
+use Rattle.ztext.specs.Text as text
+use Rattle.ztext.proofs.Holding.{holds_append}
 use Rattle.zcore.specs.Header.{static_base_of}
 use Rattle.zcore.specs.Instruction.{Instruction, bytes_of}
 use Rattle.zcore.specs.State.{words}
-use Rattle.ztext.specs.Text as text
-use Rattle.ztext.proofs.Holding.{holds_append}
 use Rattle.meaning.specs.Resolved.{ProgramOf}
 use Rattle.meaning.specs.World.{World, Situation}
 use Rattle.meaning.specs.Accepted.{IsAccepted}
 use Rattle.drafts.specs.Items.{Item}
 use Rattle.items.specs.Stack.{Caller}
 use Rattle.items.specs.Stack as stack
-use Rattle.code.proofs.Behind.{Holds}
 use Rattle.encoding.specs.Addresses.{Addresses}
+use Rattle.instructions.specs.Places.{offset_of}
 use Rattle.selection.specs.ItemCode.{item_code}
 use Rattle.selection.specs.ItemBytes.{text_bytes, item_bytes}
-use Rattle.instructions.specs.Places.{offset_of}
+use Rattle.code.proofs.Behind.{Holds}
 use Rattle.code.specs.Bytes.{place_of}
 use Rattle.code.specs.HeldProgram.{sizes_of, HoldsProgram}
 use Rattle.code.proofs.Play.{Leads, Stored, items_in, address, frames_of, back_of, result_of, state_of, next_of, Good}

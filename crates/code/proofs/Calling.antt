@@ -15,7 +15,7 @@ use Rattle.zcore.specs.State.{State}
 use Rattle.zcore.specs.Execution.{step, perform, call_packed}
 use Rattle.meaning.specs.Resolved.{ProgramOf}
 use Rattle.meaning.specs.World.{World}
-use Rattle.drafts.specs.Items.{Item, Destination}
+use Rattle.drafts.specs.Items.{Destination}
 use Rattle.drafts.specs.Items as items
 use Rattle.items.specs.Stack.{Caller}
 use Rattle.items.specs.Stack as stack
@@ -27,8 +27,8 @@ use Rattle.code.proofs.Play.{Leads, next_of, state_of, IsCaller, Led}
 use Rattle.code.proofs.Parts.{machine as at_words}
 use Rattle.code.proofs.Steps.{point, leads_then, first_held, large_value}
 use Rattle.code.proofs.Fitting.{Shaped}
-use Rattle.code.proofs.ItemOperands.{Gives, with_first, values_then, by_operands, gives_count, gives_length}
-use Rattle.code.proofs.ItemOperands.{few_pushed, operands_length}
+use Rattle.code.proofs.ItemOperands.{Gives, with_first, values_then, by_operands, gives_count, gives_length, few_pushed}
+use Rattle.code.proofs.ItemOperands.{operands_length}
 use Rattle.code.proofs.Ends.{does_after}
 use Rattle.code.proofs.AddressLengths.{one_length}
 use Rattle.code.proofs.Entering.{enter_led}

@@ -4,10 +4,10 @@ use Rattle.std.proofs.Common.{ap, ◌∙◌, subst, arith}
 use Rattle.std.specs.Prelude.{map}
 use Rattle.std.specs.List.{All, flat_map}
 use Rattle.std.proofs.lemmas.List.{take_all, length-map}
+use Rattle.ztext.specs.Bytes.{word_at}
 use Rattle.zcore.specs.declared.instruction.Operand.{Operand}
 use Rattle.zcore.specs.declared.instruction.Operand.TheVariants.{Small, Variable}
 use Rattle.zcore.specs.declared.instruction.Operation.{Operation}
-use Rattle.ztext.specs.Bytes.{word_at}
 use Rattle.zcore.specs.Header.{globals_of}
 use Rattle.zcore.specs.Instruction.{bytes_of, FitsOperand}
 use Rattle.zcore.specs.State.{State, done}
@@ -17,8 +17,8 @@ use Rattle.drafts.specs.Items.{Item, Test}
 use Rattle.drafts.specs.Items as items
 use Rattle.items.specs.Laws.{IsTested}
 use Rattle.items.specs.Stack as stack
-use Rattle.instructions.specs.Instructions.{chosen_variable, most_compared, labelled, test_operation}
 use Rattle.encoding.specs.Instructions.{in_place, pull, store, constant}
+use Rattle.instructions.specs.Instructions.{chosen_variable, most_compared, labelled, test_operation}
 use Rattle.code.specs.HeldProgram.{sizes_of}
 use Rattle.code.proofs.Behind.{Holds}
 use Rattle.code.proofs.Play.{Leads, IsChosen}
@@ -30,8 +30,8 @@ use Rattle.code.proofs.Fitting.{Shaped, held_bytes}
 use Rattle.code.proofs.ItemOperands.{constant_value, values_then}
 use Rattle.code.proofs.Labels.{Branching, label_leads}
 use Rattle.code.proofs.Places.{ends_by}
-use Rattle.code.proofs.Arriving.{Running, at, at_case, around, here, high, above, few, kept, LedFrom, Stands}
-use Rattle.code.proofs.Arriving.{code_here, code_held, arrives_with, situation_here}
+use Rattle.code.proofs.Arriving.{Running, at, at_case, around, here, high, above, few, kept, LedFrom, Stands, code_here}
+use Rattle.code.proofs.Arriving.{code_held, arrives_with, situation_here}
 use Rattle.code.proofs.Temporaries.{Scratch, scratch_here, scratch_with, word_written, made}
 use Rattle.code.proofs.Delivering.{stored_step}
 use Rattle.code.proofs.Alone.{IsOperandHere, single, by_operand, alone_count, alone_value, next_place, plain_length}

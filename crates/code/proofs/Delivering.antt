@@ -1,13 +1,13 @@
 -- Words that items give go to their destinations.
 use Rattle.std.proofs.Common.{◌≡◌, ℕ, ◌+◌, ◌<◌, ◌≤◌, List, ◌∷◌, length, Some, refl, arith}
 use Rattle.zcore.specs.State.{done}
-use Rattle.zcore.specs.Execution.{give_result, step, perform}
+use Rattle.zcore.specs.Execution.{give_result}
 use Rattle.zcore.specs.Execution as machine
 use Rattle.meaning.specs.declared.resolved.Variable.{Variable}
 use Rattle.meaning.specs.declared.resolved.Variable.TheVariants as variables
 use Rattle.meaning.specs.World.{with_value}
 use Rattle.meaning.specs.Meaning.{routine_at}
-use Rattle.drafts.specs.Items.{Item, Destination}
+use Rattle.drafts.specs.Items.{Destination}
 use Rattle.drafts.specs.Items as items
 use Rattle.items.specs.Laws.{IsDestination}
 use Rattle.items.specs.Stack as stack

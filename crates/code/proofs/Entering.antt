@@ -6,23 +6,23 @@ use Rattle.std.specs.Prelude.{nat_lt, nat_le, nat_eq, if◌then◌else◌, repli
 use Rattle.std.specs.List.{All}
 use Rattle.std.proofs.lemmas.Bool.{lt-ltb, le-ltb, le-leb, ne_eqb, ltb-true, ltb-false}
 use Rattle.std.proofs.lemmas.List.{length-take-le, length-replicate}
+use Rattle.ztext.specs.Text.{Holds}
+use Rattle.ztext.proofs.Holding.{holds_byte}
 use Rattle.zcore.specs.declared.place.Limit.TheVariants as limits
 use Rattle.zcore.specs.declared.place.Place.TheVariants as places
 use Rattle.zcore.specs.Header.{static_base_of}
 use Rattle.zcore.specs.State.{Frame, State, done, halt, words}
 use Rattle.zcore.specs.Parts as machine
-use Rattle.zcore.specs.Parts.{unpacked, scale_in, call, test_routine, test_calls, spend}
+use Rattle.zcore.specs.Parts.{unpacked, call, test_routine, test_calls, spend}
 use Rattle.zcore.specs.Execution.{step, call_packed}
-use Rattle.ztext.specs.Text.{Holds}
-use Rattle.ztext.proofs.Holding.{holds_byte}
 use Rattle.meaning.specs.Resolved.{ProgramOf}
 use Rattle.meaning.specs.World.{Situation, ended, spend_from}
 use Rattle.meaning.specs.Meaning.{locals_of, routine_at}
 use Rattle.meaning.specs.Accepted.{IsAccepted}
+use Rattle.meaning.specs.Objects.{Objects}
 use Rattle.items.specs.Statements.{routine_items}
 use Rattle.items.specs.Stack.{Caller}
 use Rattle.items.specs.Stack as stack
-use Rattle.meaning.specs.Objects.{Objects}
 use Rattle.encoding.specs.Addresses.{Addresses}
 use Rattle.code.specs.Bytes.{code_bytes}
 use Rattle.code.specs.HeldProgram.{sizes_of, HoldsProgram}

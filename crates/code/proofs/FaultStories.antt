@@ -1,29 +1,28 @@
 -- Small stories whose runs end by a limit or a fault.
 use Rattle.std.proofs.Common.{◌≡◌, [], ◌∷◌, ◌++◌, refl}
 use Rattle.std.specs.Prelude.{codes}
-use Rattle.expressions.specs.declared.tree.Binary.TheVariants as binaries
-use Rattle.expressions.specs.declared.tree.Equality.TheVariants as equalities
-use Rattle.expressions.specs.declared.tree.Prefix.TheVariants as prefixes
-use Rattle.expressions.specs.declared.tree.Width.TheVariants as widths
-use Rattle.zcore.specs.declared.place.Place.TheVariants as places
-use Rattle.zcore.specs.declared.place.Limit.TheVariants as limits
-use Rattle.zcore.specs.Instruction.{decode, bytes_of, opcode, operands, operand, byte, large, result_variable, branch}
-use Rattle.zcore.specs.Turn.{opening, plays, turn_from, weight}
-use Rattle.zcore.specs.Execution.{step, perform, give_result, divide, load, increment, decrement, push_word, pull}
-use Rattle.zcore.specs.Execution.{load_word, load_byte, store_word, store_byte}
-use Rattle.zcore.specs.Execution.{store, jump, call_packed, return_popped, print_characters, print_inline}
-use Rattle.zcore.specs.Execution.{print_packed, print_character, text_at}
-use Rattle.zcore.specs.Parts.{read_word, read_byte, write_word, write_byte}
-use Rattle.zcore.specs.Parts.{read_in_place, write_in_place, push, pop, read_local, write_local, read_global}
-use Rattle.zcore.specs.Parts.{write_global, read_variable, write_variable, test_variable, test_pull, operand_value}
-use Rattle.zcore.specs.Parts.{operand_values, test_result, store_result, test_target, spend, go, test_routine}
-use Rattle.zcore.specs.Parts.{test_calls, enter, call, test_return, leave, give_back, take_branch, branch_on, print}
 use Rattle.ztext.specs.Abbreviations.{encoded_with}
 use Rattle.ztext.specs.Text.{decoded, abbreviation, encoded}
 use Rattle.ztext.specs.Reading.{reads}
 use Rattle.ztext.specs.Words.{packed, unpacked_text}
 use Rattle.ztext.specs.Alphabets.{spelling_of}
+use Rattle.zcore.specs.declared.place.Place.TheVariants as places
+use Rattle.zcore.specs.declared.place.Limit.TheVariants as limits
+use Rattle.zcore.specs.Instruction.{decode, bytes_of, opcode, operands, operand, byte, large, result_variable, branch}
+use Rattle.zcore.specs.Turn.{opening, plays, turn_from, weight}
+use Rattle.zcore.specs.Execution.{step, perform, give_result, divide, load, increment, decrement, push_word, pull}
+use Rattle.zcore.specs.Execution.{load_word, load_byte, store_word, store_byte, store, jump, call_packed, return_popped}
+use Rattle.zcore.specs.Execution.{print_characters, print_inline, print_packed, print_character, text_at}
+use Rattle.zcore.specs.Parts.{read_word, read_byte, write_word, write_byte, read_in_place, write_in_place, push, pop}
+use Rattle.zcore.specs.Parts.{read_local, write_local, read_global, write_global, read_variable, write_variable}
+use Rattle.zcore.specs.Parts.{test_variable, test_pull, operand_value, operand_values, test_result, store_result}
+use Rattle.zcore.specs.Parts.{test_target, spend, go, test_routine, test_calls, enter, call, test_return, leave}
+use Rattle.zcore.specs.Parts.{give_back, take_branch, branch_on, print}
 use Rattle.zcore.specs.Arithmetic.{quotient, decimal, signed_text}
+use Rattle.expression_trees.specs.declared.tree.Binary.TheVariants as binaries
+use Rattle.expression_trees.specs.declared.tree.Equality.TheVariants as equalities
+use Rattle.expression_trees.specs.declared.tree.Prefix.TheVariants as prefixes
+use Rattle.expression_trees.specs.declared.tree.Width.TheVariants as widths
 use Rattle.meaning.specs.Resolved as source
 use Rattle.meaning.specs.Resolved.{RoutineOf, ProgramOf}
 use Rattle.meaning.specs.Meaning.{routine_at, meaning}

@@ -1,6 +1,6 @@
 -- Items that give attributes to an object, one after another.
-use Rattle.std.proofs.Common.{◌≡◌, ℕ, ◌+◌, ◌-◌, ◌%◌, ◌<◌, ◌≤◌, inl, inr, List, [], ◌∷◌, length, None, Bool, true}
-use Rattle.std.proofs.Common.{false, slice_index, length-append, refl, sym, ap, ◌∙◌, subst, arith}
+use Rattle.std.proofs.Common.{◌≡◌, ℕ, ◌+◌, ◌-◌, ◌%◌, ◌<◌, ◌≤◌, inl, inr, List, [], ◌∷◌, length, None, Bool, true, false}
+use Rattle.std.proofs.Common.{slice_index, length-append, refl, sym, ap, ◌∙◌, subst, arith}
 use Rattle.std.specs.Prelude.{nat_lt, nat_eq, if◌then◌else◌, map}
 use Rattle.std.specs.List.{All, flat_map}
 use Rattle.std.proofs.lemmas.Bool.{cases_lt, cases_eq, lt-ltb, ne_eqb}

@@ -1,6 +1,6 @@
 -- What holds of the routines of a program that stands in a story: their locals, and where their code stands.
-use Rattle.std.proofs.Common.{◌≡◌, ℕ, zero, suc, ◌+◌, ◌-◌, ◌*◌, ◌^◌, ◌<◌, ◌≤◌, List, [], ◌∷◌, length, drop}
-use Rattle.std.proofs.Common.{slice_index, Bool, true, false, refl, sym, ap, ◌∙◌, subst, arith}
+use Rattle.std.proofs.Common.{◌≡◌, ℕ, zero, suc, ◌+◌, ◌-◌, ◌*◌, ◌^◌, ◌<◌, ◌≤◌, List, [], ◌∷◌, length, drop, slice_index}
+use Rattle.std.proofs.Common.{Bool, true, false, refl, sym, ap, ◌∙◌, subst, arith}
 use Rattle.std.specs.Prelude.{nat_eq, if◌then◌else◌, slice_index_or}
 use Rattle.std.specs.List.{All}
 use Rattle.std.proofs.lemmas.List.{length-reverse, get_or-drop}
@@ -9,8 +9,8 @@ use Rattle.zcore.specs.State.{words}
 use Rattle.meaning.specs.Resolved.{RoutineOf, ProgramOf}
 use Rattle.meaning.specs.Meaning.{no_routine, routine_at}
 use Rattle.meaning.specs.Accepted.{IsAccepted}
-use Rattle.items.specs.Stack.{Caller}
 use Rattle.meaning.specs.Objects.{Objects}
+use Rattle.items.specs.Stack.{Caller}
 use Rattle.encoding.specs.Addresses.{Addresses}
 use Rattle.code.specs.HeldProgram.{sizes_of, HoldsProgram}
 use Rattle.code.proofs.Play.{Stored, items_in, address, frames_of, IsCaller, other_counts}

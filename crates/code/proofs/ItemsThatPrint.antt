@@ -3,6 +3,11 @@ use Rattle.std.proofs.Common.{◌≡◌, ℕ, ◌+◌, ◌*◌, ◌≤◌, List,
 use Rattle.std.proofs.Common.{false, refl, sym, ap, ◌∙◌, subst, arith}
 use Rattle.std.specs.Prelude.{nat_le, nat_eq, if◌then◌else◌, map, ◌==◌}
 use Rattle.std.specs.List.{All, flat_map, list_all}
+use Rattle.ztext.specs.Text.{encoded}
+use Rattle.ztext.specs.Alphabets.{is_printable}
+use Rattle.ztext.specs.Abbreviations.{encoded_with}
+use Rattle.ztext.specs.Text as machine_text
+use Rattle.ztext.proofs.Holding.{holds_append}
 use Rattle.zcore.specs.declared.instruction.Operand.TheVariants.{Large}
 use Rattle.zcore.specs.declared.instruction.Operation.TheVariants as operations
 use Rattle.zcore.specs.declared.place.Place.TheVariants as places
@@ -13,22 +18,16 @@ use Rattle.zcore.specs.Instruction.{bytes_of}
 use Rattle.zcore.specs.State.{done, halt}
 use Rattle.zcore.specs.Parts.{unpacked}
 use Rattle.zcore.specs.Execution.{perform, step, text_at, print_inline, print_packed}
-use Rattle.ztext.specs.Text.{encoded}
-use Rattle.ztext.specs.Alphabets.{is_printable}
-use Rattle.ztext.specs.Abbreviations.{encoded_with}
-use Rattle.ztext.specs.Text as machine_text
-use Rattle.ztext.proofs.Holding.{holds_append}
+use Rattle.lexer.specs.Printable.{IsPrintable}
 use Rattle.meaning.specs.declared.cause.Cause.{Cause}
-use Rattle.meaning.specs.World.{World, Situation, Outcome, Comes, to, over, bound, put, shown, words_of}
+use Rattle.meaning.specs.World.{Situation, Comes, to, over, bound, put, shown, words_of}
 use Rattle.meaning.specs.World as source
-use Rattle.drafts.specs.Items.{Item}
 use Rattle.drafts.specs.Items as items
 use Rattle.items.specs.Stack as stack
 use Rattle.encoding.specs.Instructions.{plain, in_place, fail}
 use Rattle.encoding.specs.Bytes.{character_of}
 use Rattle.selection.specs.ItemBytes.{text_bytes}
 use Rattle.code.proofs.Behind.{Holds}
-use Rattle.lexer.specs.Printable.{IsPrintable}
 use Rattle.code.specs.HeldProgram.{fault_line, HoldsText}
 use Rattle.code.proofs.Play.{Leads, stays}
 use Rattle.code.proofs.Memory.{holds_on}

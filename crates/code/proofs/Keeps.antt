@@ -13,14 +13,14 @@ use Rattle.meaning.specs.Meaning.{operate, put_character, put_line, routine_at}
 use Rattle.meaning.specs.Places.{number_in}
 use Rattle.meaning.specs.Reading.{holds_letters, holds_words, next_line}
 use Rattle.drafts.specs.Items.{Item, Test}
-use Rattle.items.specs.Statements.{routine_items}
 use Rattle.drafts.specs.Items as items
+use Rattle.items.specs.Statements.{routine_items}
 use Rattle.items.specs.Stack as stack
 use Rattle.code.proofs.KeptWorld.{NoFault, Kept, Keeps, is_read, Faultless, Bounded, KeepsBy, keeps_bounded}
 use Rattle.code.proofs.KeptWorld.{keeps_faultless, faultless_by, same, put_keeps, fault_keeps, operate_keeps}
 use Rattle.code.proofs.KeptWorld.{character_keeps, read_entry_keeps, assigned_entry_keeps, value_keeps, within_keeps}
-use Rattle.code.proofs.KeptWorld.{after_keeps, delivered_keeps, gives_keeps, prints_keeps, operand_keeps}
-use Rattle.code.proofs.KeptWorld.{operands_keep, keep_keeps, first_keeps, also_keeps, below_keeps, keeps_from}
+use Rattle.code.proofs.KeptWorld.{after_keeps, delivered_keeps, gives_keeps, prints_keeps, operand_keeps, operands_keep}
+use Rattle.code.proofs.KeptWorld.{keep_keeps, first_keeps, also_keeps, below_keeps, keeps_from}
 use Rattle.code.proofs.KeptByObjects.{object_keeps, property_keeps, property_word_keeps, assigned_property_keeps}
 use Rattle.code.proofs.KeptByObjects.{assigned_property_word_keeps, attributes_keep, moves_keeps, begins_keeps}
 use Rattle.code.proofs.KeptByObjects.{steps_keeps}

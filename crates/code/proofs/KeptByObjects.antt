@@ -4,9 +4,9 @@ use Rattle.std.specs.Prelude.{nat_lt, nat_le, slice_index, slice_set, ◌==◌, 
 use Rattle.meaning.specs.declared.resolved.Variable.{Variable}
 use Rattle.meaning.specs.Resolved.{ProgramOf}
 use Rattle.meaning.specs.declared.cause.Cause.TheVariants as causes
-use Rattle.meaning.specs.World.{Situation, Part, bound, value_in, give}
-use Rattle.meaning.specs.World.{is_object, test_object, test_single, test_word, test_provided}
-use Rattle.meaning.specs.World.{single_word, write_words, write_variable, give_attribute, move_by, move_object}
+use Rattle.meaning.specs.World.{Situation, Part, bound, value_in, give, is_object, test_object, test_single, test_word}
+use Rattle.meaning.specs.World.{test_provided, single_word, write_words, write_variable, give_attribute, move_by}
+use Rattle.meaning.specs.World.{move_object}
 use Rattle.meaning.specs.Objects.{Climbed, clear, inside, spent, climb}
 use Rattle.meaning.specs.Meaning.{give_all}
 use Rattle.items.specs.Stack as stack

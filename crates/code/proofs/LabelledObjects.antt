@@ -15,7 +15,7 @@ use Rattle.zcore.specs.State.{State, done}
 use Rattle.zcore.specs.ObjectProperties.{get_property_address}
 use Rattle.zcore.specs.Parts.{operand_values, branch_on}
 use Rattle.zcore.specs.Execution.{perform, give_result}
-use Rattle.expressions.specs.declared.tree.Relative.TheVariants as relatives
+use Rattle.expression_trees.specs.declared.tree.Relative.TheVariants as relatives
 use Rattle.meaning.specs.Accepted.{IsProperty}
 use Rattle.meaning.specs.Objects.{relative_in}
 use Rattle.meaning.specs.World as source
@@ -35,8 +35,7 @@ use Rattle.code.proofs.Steps.{point, leads_then, landing, one_operand, two_opera
 use Rattle.code.proofs.Fitting.{Shaped, held_bytes}
 use Rattle.code.proofs.Labels.{Branching, label_leads}
 use Rattle.code.proofs.Places.{ends_by}
-use Rattle.code.proofs.Arriving.{Running, at, at_case, around, here, high, above, kept, LedFrom, Stands}
-use Rattle.code.proofs.Arriving.{situation_here}
+use Rattle.code.proofs.Arriving.{Running, at, at_case, around, here, high, above, kept, LedFrom, Stands, situation_here}
 use Rattle.code.proofs.Temporaries.{reads_written, held_in}
 use Rattle.code.proofs.Alone.{by_operand, alone_count, IsOperandHere, next_place}
 use Rattle.code.proofs.Jumping.{is_in, short}

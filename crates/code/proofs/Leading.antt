@@ -1,30 +1,29 @@
 -- Each item of an accepted program that stands in a story is done where it stands, and so the story plays the
 -- program.
-use Rattle.std.proofs.Common.{◌≡◌, ℕ, zero, suc, ◌+◌, ◌<◌, List, [], ◌∷◌, length, slice_index, Some, refl, subst}
-use Rattle.std.proofs.Common.{arith}
+use Rattle.std.proofs.Common.{◌≡◌, ℕ, zero, suc, ◌+◌, ◌<◌, List, [], ◌∷◌, length, slice_index, Some, refl, subst, arith}
 use Rattle.std.specs.Prelude.{slice_get}
 use Rattle.std.specs.List.{All}
 use Rattle.std.proofs.lemmas.Option.{get_or_from_slice_get, slice_get_within}
 use Rattle.std.proofs.lemmas.List.Elements.{All-head, All-tail}
+use Rattle.ztext.specs.Text.{Holds}
+use Rattle.ztext.proofs.Holding.{holds_byte}
 use Rattle.zcore.specs.declared.instruction.Operation.TheVariants as operations
 use Rattle.zcore.specs.Header.{static_base_of}
 use Rattle.zcore.specs.Parts.{unpacked}
-use Rattle.ztext.specs.Text.{Holds}
-use Rattle.ztext.proofs.Holding.{holds_byte}
-use Rattle.expressions.specs.declared.tree.Binary.TheVariants as binaries
-use Rattle.expressions.specs.declared.tree.Prefix.TheVariants as prefixes
+use Rattle.expression_trees.specs.declared.tree.Binary.TheVariants as binaries
+use Rattle.expression_trees.specs.declared.tree.Prefix.TheVariants as prefixes
 use Rattle.meaning.specs.Resolved.{RoutineOf, ProgramOf}
 use Rattle.meaning.specs.Meaning.{routine_at}
 use Rattle.meaning.specs.Accepted.{IsRoutine, IsAccepted}
 use Rattle.meaning.specs.Printable.{HasPrintableTexts, ArePrintableActions}
-use Rattle.drafts.specs.Items.{Item, Operand, Destination}
+use Rattle.drafts.specs.Items.{Item}
 use Rattle.drafts.specs.Items as items
 use Rattle.items.specs.Laws.{IsItem, ItemsAreWithin, ItemsFollow}
 use Rattle.items.specs.Stack as stack
 use Rattle.encoding.specs.Addresses.{Addresses}
 use Rattle.encoding.specs.Instructions.{plain}
-use Rattle.selection.specs.ItemBytes.{item_bytes}
 use Rattle.instructions.specs.Places.{offset_of}
+use Rattle.selection.specs.ItemBytes.{item_bytes}
 use Rattle.code.specs.Bytes.{place_of, code_bytes}
 use Rattle.code.specs.Laws.{CodePlays}
 use Rattle.code.specs.HeldProgram.{sizes_of, HoldsProgram}

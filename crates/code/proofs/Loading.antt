@@ -12,10 +12,10 @@ use Rattle.zcore.specs.Instruction.{Instruction}
 use Rattle.zcore.specs.State.{State}
 use Rattle.zcore.specs.Parts.{read_byte, read_word}
 use Rattle.zcore.specs.Execution.{perform, give_result, load_word, load_byte}
-use Rattle.expressions.specs.declared.tree.Width.{Width}
-use Rattle.expressions.specs.declared.tree.Width.TheVariants as widths
+use Rattle.expression_trees.specs.declared.tree.Width.{Width}
+use Rattle.expression_trees.specs.declared.tree.Width.TheVariants as widths
 use Rattle.meaning.specs.declared.cause.Cause.TheVariants as causes
-use Rattle.meaning.specs.World.{Comes, to, array_at, entry_count, is_index, entry_at, read_entry}
+use Rattle.meaning.specs.World.{to, array_at, entry_count, is_index, entry_at, read_entry}
 use Rattle.meaning.specs.World as source
 use Rattle.drafts.specs.Items.{Destination}
 use Rattle.drafts.specs.Items as items

@@ -11,7 +11,7 @@ use Rattle.meaning.specs.declared.resolved.Variable.TheVariants as variables
 use Rattle.meaning.specs.World.{Situation, with_value}
 use Rattle.meaning.specs.Meaning.{routine_at}
 use Rattle.meaning.specs.Accepted.{IsVariable}
-use Rattle.drafts.specs.Items.{Item, Destination}
+use Rattle.drafts.specs.Items.{Destination}
 use Rattle.drafts.specs.Items as items
 use Rattle.items.specs.Stack as stack
 use Rattle.encoding.specs.Instructions.{number_of, in_place, result_in, push, pull, copy, store}

@@ -1,7 +1,7 @@
 -- Bytes of items on objects, computed.
 use Rattle.std.proofs.Common.{◌≡◌, ℕ, List, [], ◌∷◌, ◌++◌, refl, true, false}
-use Rattle.expressions.specs.declared.tree.Relative.TheVariants as relatives
 use Rattle.zcore.specs.Instruction.{bytes_of}
+use Rattle.expression_trees.specs.declared.tree.Relative.TheVariants as relatives
 use Rattle.drafts.specs.Items.{Item, pushed, number, variable, push, into, nowhere, relative, property, property_size}
 use Rattle.drafts.specs.Items.{property_word, assign_property, assign_property_word, give, move_object, remove_object}
 use Rattle.drafts.specs.Items.{print_name, is_in, has, provides, first_object, next_object}

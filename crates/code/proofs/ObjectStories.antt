@@ -1,7 +1,11 @@
 -- Small stories that hold programs on objects, run by the machine.
 use Rattle.std.proofs.Common.{◌≡◌, [], ◌∷◌, ◌++◌, refl}
 use Rattle.std.specs.Prelude.{codes}
-use Rattle.expressions.specs.declared.tree.Relative.TheVariants as relatives
+use Rattle.ztext.specs.Abbreviations.{encoded_with}
+use Rattle.ztext.specs.Text.{decoded, abbreviation, encoded}
+use Rattle.ztext.specs.Reading.{reads}
+use Rattle.ztext.specs.Words.{packed, unpacked_text}
+use Rattle.ztext.specs.Alphabets.{spelling_of}
 use Rattle.zcore.specs.Instruction.{decode, bytes_of, opcode, operands, operand, byte, large, result_variable, branch}
 use Rattle.zcore.specs.Entries.{named_from}
 use Rattle.zcore.specs.Properties.{found_in}
@@ -10,25 +14,21 @@ use Rattle.zcore.specs.Effects.{print_address}
 use Rattle.zcore.specs.Execution.{step, perform, give_result, divide, load, increment, decrement, push_word, pull}
 use Rattle.zcore.specs.Execution.{load_word, store_word, store, jump, call_packed, print_characters, print_packed}
 use Rattle.zcore.specs.Execution.{text_at}
-use Rattle.zcore.specs.Parts.{read_word, read_byte, write_word, write_byte, test_branch, test_taken}
-use Rattle.zcore.specs.Parts.{read_in_place, write_in_place, push, pop, read_local, write_local, read_global}
-use Rattle.zcore.specs.Parts.{write_global, read_variable, write_variable, test_variable, test_pull, operand_value}
-use Rattle.zcore.specs.Parts.{operand_values, test_result, store_result, test_target, spend, go, test_routine}
-use Rattle.zcore.specs.Parts.{test_calls, enter, call, test_return, leave, give_back, take_branch, branch_on, print}
+use Rattle.zcore.specs.Parts.{read_word, read_byte, write_word, write_byte, test_branch, test_taken, read_in_place}
+use Rattle.zcore.specs.Parts.{write_in_place, push, pop, read_local, write_local, read_global, write_global}
+use Rattle.zcore.specs.Parts.{read_variable, write_variable, test_variable, test_pull, operand_value, operand_values}
+use Rattle.zcore.specs.Parts.{test_result, store_result, test_target, spend, go, test_routine, test_calls, enter, call}
+use Rattle.zcore.specs.Parts.{test_return, leave, give_back, take_branch, branch_on, print}
 use Rattle.zcore.specs.Objects.{test_object, test_attribute_number, read_attributes, write_attributes}
 use Rattle.zcore.specs.Objects.{tested_attributes, test_attribute, set_attribute, clear_attribute, read_link}
-use Rattle.zcore.specs.Objects.{write_link}
-use Rattle.zcore.specs.Objects.{jump_if_in, get_parent, give_object, get_sibling, get_child, test_link, test_removal}
-use Rattle.zcore.specs.Objects.{unlink, link_first, remove_object, insert_object, property_table, print_object}
+use Rattle.zcore.specs.Objects.{write_link, jump_if_in, get_parent, give_object, get_sibling, get_child, test_link}
+use Rattle.zcore.specs.Objects.{test_removal, unlink, link_first, remove_object, insert_object, property_table}
+use Rattle.zcore.specs.Objects.{print_object}
 use Rattle.zcore.specs.ObjectProperties.{test_property_number, property_list, property_at, search_list, find_property}
 use Rattle.zcore.specs.ObjectProperties.{tested_property, property_value, get_property, get_property_address}
 use Rattle.zcore.specs.ObjectProperties.{property_length, get_property_length}
-use Rattle.ztext.specs.Abbreviations.{encoded_with}
-use Rattle.ztext.specs.Text.{decoded, abbreviation, encoded}
-use Rattle.ztext.specs.Reading.{reads}
-use Rattle.ztext.specs.Words.{packed, unpacked_text}
-use Rattle.ztext.specs.Alphabets.{spelling_of}
 use Rattle.zcore.specs.Arithmetic.{quotient, decimal, signed_text}
+use Rattle.expression_trees.specs.declared.tree.Relative.TheVariants as relatives
 use Rattle.meaning.specs.Resolved as source
 use Rattle.meaning.specs.Resolved.{RoutineOf, ProgramOf}
 use Rattle.meaning.specs.Meaning.{meaning}

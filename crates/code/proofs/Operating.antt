@@ -14,17 +14,16 @@ use Rattle.zcore.specs.Instruction.{Instruction, FitsBranch, bytes_of}
 use Rattle.zcore.specs.State.{State, done}
 use Rattle.zcore.specs.Parts.{operand_value}
 use Rattle.zcore.specs.Execution.{give_result, divide, modulo, perform}
-use Rattle.expressions.specs.declared.tree.Binary.{Binary}
-use Rattle.expressions.specs.declared.tree.Binary.TheVariants as binaries
+use Rattle.expression_trees.specs.declared.tree.Binary.{Binary}
+use Rattle.expression_trees.specs.declared.tree.Binary.TheVariants as binaries
 use Rattle.meaning.specs.declared.cause.Cause.TheVariants as causes
-use Rattle.encoding.specs.Addresses.{fault_address}
-use Rattle.meaning.specs.World.{Part, value_in}
+use Rattle.meaning.specs.World.{value_in}
 use Rattle.meaning.specs.World as source
-use Rattle.meaning.specs.Meaning.{with_prefix}
 use Rattle.meaning.specs.Meaning as meaning
 use Rattle.drafts.specs.Items.{Item, Destination}
 use Rattle.drafts.specs.Items as items
 use Rattle.items.specs.Stack as stack
+use Rattle.encoding.specs.Addresses.{fault_address}
 use Rattle.encoding.specs.Instructions.{giving, branching, in_place, result_in, number_of, pull, fail}
 use Rattle.instructions.specs.Instructions.{divided_by, divided}
 use Rattle.selection.specs.ItemBytes.{text_bytes}

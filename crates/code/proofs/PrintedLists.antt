@@ -3,9 +3,9 @@ use Rattle.std.proofs.Common.{ℕ, ◌+◌, List, [], ◌∷◌, ◌++◌, Bool,
 use Rattle.std.specs.Prelude.{if◌then◌else◌}
 use Rattle.std.specs.List.{All}
 use Rattle.std.proofs.lemmas.List.Elements.{All-nil, All-cons, All-append}
-use Rattle.expressions.specs.declared.tree.Step.{Step}
-use Rattle.meaning.specs.declared.resolved.Variable.{Variable}
 use Rattle.lexer.specs.Printable.{IsPrintable}
+use Rattle.expression_trees.specs.declared.tree.Step.{Step}
+use Rattle.meaning.specs.declared.resolved.Variable.{Variable}
 use Rattle.drafts.specs.Items.{Item, Operand, pushed, number, variable, Destination, push, into, nowhere, if_pushed}
 use Rattle.drafts.specs.Items.{moved, truth_items, after_items, kept_items}
 use Rattle.drafts.specs.Items as items

@@ -1,7 +1,7 @@
 -- The items of what an expression asks of objects print no texts.
 use Rattle.std.proofs.Common.{ℕ, ◌+◌, [], ◌∷◌, ◌++◌, Bool, true}
-use Rattle.expressions.specs.declared.tree.Containment.{Containment}
-use Rattle.expressions.specs.declared.tree.Relative.{Relative}
+use Rattle.expression_trees.specs.declared.tree.Containment.{Containment}
+use Rattle.expression_trees.specs.declared.tree.Relative.{Relative}
 use Rattle.meaning.specs.Resolved.{Value}
 use Rattle.meaning.specs.Resolved as source
 use Rattle.drafts.specs.Items.{Item, Operand, pushed, Destination, push, first_of, alone, left_of, if_pushed, agrees}

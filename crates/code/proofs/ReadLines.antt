@@ -17,7 +17,7 @@ use Rattle.zcore.specs.Execution.{perform, step}
 use Rattle.zcore.specs.Turn.{Whole, Turns, ended, given, resumed, turn_on, turn_from, after_step, plays_from}
 use Rattle.zcore.specs.Turn.{last_place}
 use Rattle.zcore.proofs.Turning.{turns_stop}
-use Rattle.expressions.specs.declared.tree.Width.TheVariants as widths
+use Rattle.expression_trees.specs.declared.tree.Width.TheVariants as widths
 use Rattle.meaning.specs.Places.{number_in}
 use Rattle.meaning.specs.Reading.{holds_letters, holds_words, next_line, with_line}
 use Rattle.meaning.specs.World.{Situation, array_at, is_index}

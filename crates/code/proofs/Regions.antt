@@ -1,12 +1,12 @@
 -- Bytes that stand in memory, and what writes leave of them.
-use Rattle.std.proofs.Common.{◌≡◌, ℕ, ◌+◌, ◌-◌, ◌/◌, ◌%◌, ◌<◌, ◌≤◌, ◌⊎◌, inl, inr, List, [], ◌∷◌, length, set}
-use Rattle.std.proofs.Common.{drop, slice_index, refl, ap, sym, ◌∙◌, subst, arith}
+use Rattle.std.proofs.Common.{◌≡◌, ℕ, ◌+◌, ◌-◌, ◌/◌, ◌%◌, ◌<◌, ◌≤◌, ◌⊎◌, inl, inr, List, [], ◌∷◌, length, set, drop}
+use Rattle.std.proofs.Common.{slice_index, refl, ap, sym, ◌∙◌, subst, arith}
 use Rattle.std.proofs.lemmas.Bool.{cases_eq}
 use Rattle.std.proofs.lemmas.List.{get_or-set_same, get_or-set_other, length-set, drop-set-lt, get_or-drop, drop-drop}
 use Rattle.std.proofs.lemmas.List.{get_or-take}
+use Rattle.ztext.specs.Text.{Holds}
 use Rattle.zcore.specs.Parts.{with_word}
 use Rattle.zcore.specs.Turn.{with_bytes}
-use Rattle.ztext.specs.Text.{Holds}
 
 -- these bytes stand in memory from an address on
 pub record Stands (memory : List ℕ) (base : ℕ) (bytes : List ℕ) : Type 0 where

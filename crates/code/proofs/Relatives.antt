@@ -16,8 +16,8 @@ use Rattle.zcore.specs.Objects.{give_object}
 use Rattle.zcore.specs.Parts.{test_result, store_result, write_variable, test_branch, test_taken, test_target}
 use Rattle.zcore.specs.Parts.{branch_on}
 use Rattle.zcore.specs.Execution.{perform}
-use Rattle.expressions.specs.declared.tree.Relative.{Relative}
-use Rattle.expressions.specs.declared.tree.Relative.TheVariants as relatives
+use Rattle.expression_trees.specs.declared.tree.Relative.{Relative}
+use Rattle.expression_trees.specs.declared.tree.Relative.TheVariants as relatives
 use Rattle.meaning.specs.Objects.{relative_in}
 use Rattle.meaning.specs.World as source
 use Rattle.drafts.specs.Items.{Destination}

@@ -6,9 +6,7 @@ use Rattle.zcore.specs.declared.instruction.Operation.TheVariants as operations
 use Rattle.zcore.specs.Instruction.{bytes_of}
 use Rattle.zcore.specs.Parts.{give_back}
 use Rattle.zcore.specs.Execution.{perform, return_popped}
-use Rattle.drafts.specs.Items.{Destination}
 use Rattle.drafts.specs.Items as items
-use Rattle.items.specs.Stack.{Caller}
 use Rattle.items.specs.Stack as stack
 use Rattle.encoding.specs.Instructions.{plain, constant, in_place}
 use Rattle.instructions.specs.Instructions.{return_code}

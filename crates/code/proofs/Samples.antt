@@ -1,22 +1,22 @@
 -- Bytes of items, computed, and the forms of branches.
 use Rattle.std.proofs.Common.{◌≡◌, ℕ, List, [], ◌∷◌, refl, true, false, Some, None}
 use Rattle.std.specs.Prelude.{codes, replicate}
-use Rattle.expressions.specs.declared.tree.Binary.TheVariants as binaries
-use Rattle.expressions.specs.declared.tree.Step.TheVariants as steps
-use Rattle.expressions.specs.declared.tree.Width.TheVariants as widths
-use Rattle.meaning.specs.declared.resolved.Variable.{Variable}
-use Rattle.meaning.specs.declared.resolved.Variable.TheVariants as variables
-use Rattle.zcore.specs.Instruction.{bytes_of}
 use Rattle.ztext.specs.Alphabets.{spelling_of}
 use Rattle.ztext.specs.Words.{packed}
 use Rattle.ztext.specs.Abbreviations.{encoded_with}
+use Rattle.zcore.specs.Instruction.{bytes_of}
+use Rattle.expression_trees.specs.declared.tree.Binary.TheVariants as binaries
+use Rattle.expression_trees.specs.declared.tree.Step.TheVariants as steps
+use Rattle.expression_trees.specs.declared.tree.Width.TheVariants as widths
+use Rattle.meaning.specs.declared.resolved.Variable.{Variable}
+use Rattle.meaning.specs.declared.resolved.Variable.TheVariants as variables
+use Rattle.drafts.specs.Items.{Item, pushed, number, variable, push, into, nowhere, is_zero, less, greater, same, move}
+use Rattle.drafts.specs.Items.{operate, step, entry, assign_entry, print_text, read_line, branch, choose, case, jump}
+use Rattle.drafts.specs.Items.{call, return}
 use Rattle.forms.specs.declared.layout.Form.TheVariants.{One, Two, Far}
 use Rattle.forms.specs.declared.layout.Part.{Part}
 use Rattle.forms.specs.declared.layout.BranchUse.{BranchUse}
 use Rattle.forms.specs.Layout.{uses}
-use Rattle.drafts.specs.Items.{Item, pushed, number, variable, push, into, nowhere, is_zero, less, greater, same, move}
-use Rattle.drafts.specs.Items.{operate, step, entry, assign_entry, print_text, read_line, branch, choose, case, jump}
-use Rattle.drafts.specs.Items.{call, return}
 use Rattle.encoding.specs.Addresses.{Addresses, Sizes}
 use Rattle.selection.specs.ItemBytes.{item_bytes}
 use Rattle.code.specs.Bytes.{parts_of, code_bytes}

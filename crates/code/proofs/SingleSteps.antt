@@ -10,15 +10,12 @@ use Rattle.zcore.specs.declared.instruction.Operation.{Operation}
 use Rattle.zcore.specs.declared.instruction.Operation.TheVariants as operations
 use Rattle.zcore.specs.declared.next.Next.{Next}
 use Rattle.zcore.specs.Instruction.{Instruction, bytes_of, IsEncodable, FitsOperand}
-use Rattle.zcore.specs.State.{Frame, State, Out, done, halt, bound}
+use Rattle.zcore.specs.State.{State, done}
 use Rattle.zcore.specs.State as state
 use Rattle.zcore.specs.Parts as parts
-use Rattle.zcore.specs.Parts.{read_variable, write_variable, read_in_place, write_in_place, test_variable, test_pull}
-use Rattle.zcore.specs.Parts.{operand_value, operand_values, test_result, store_result, goes_on, test_target, go}
-use Rattle.zcore.specs.Parts.{take_branch, branch_on, is_code}
+use Rattle.zcore.specs.Parts.{test_pull, operand_value, operand_values, test_target, go, branch_on}
 use Rattle.zcore.specs.Execution as machine
-use Rattle.zcore.specs.Execution.{give_result, divide, modulo, load, increment, decrement, push_word, jump, perform}
-use Rattle.zcore.specs.Execution.{execute, step}
+use Rattle.zcore.specs.Execution.{give_result, load, increment, decrement, push_word, jump, perform, step}
 use Rattle.encoding.specs.Instructions.{plain, giving, branching, push, pull, copy}
 use Rattle.instructions.specs.Instructions.{flag}
 use Rattle.code.proofs.Behind.{Holds}

@@ -9,8 +9,8 @@ use Rattle.zcore.specs.Instruction.{Instruction, bytes_of}
 use Rattle.zcore.specs.State.{done, words}
 use Rattle.zcore.specs.Parts.{operand_values}
 use Rattle.zcore.specs.Execution.{step, perform, push_word}
-use Rattle.expressions.specs.declared.tree.Step.{Step}
-use Rattle.expressions.specs.declared.tree.Step.TheVariants as steps
+use Rattle.expression_trees.specs.declared.tree.Step.{Step}
+use Rattle.expression_trees.specs.declared.tree.Step.TheVariants as steps
 use Rattle.meaning.specs.declared.resolved.Variable as source
 use Rattle.meaning.specs.World.{Situation, value_in, with_value}
 use Rattle.meaning.specs.Meaning.{stepped}
@@ -27,8 +27,8 @@ use Rattle.code.proofs.Steps.{point, one_step, first_held, others_held, one_oper
 use Rattle.code.proofs.Steps.{variable_value, step_is}
 use Rattle.code.proofs.SingleSteps.{increment_step, decrement_step}
 use Rattle.code.proofs.Fitting.{Shaped, held_bytes, encodable}
-use Rattle.code.proofs.Arriving.{Running, at, around, here, high, kept, LedFrom, Stands, room_for, code_here}
-use Rattle.code.proofs.Arriving.{code_held, situation_here}
+use Rattle.code.proofs.Arriving.{Running, at, around, here, high, kept, LedFrom, Stands, room_for, code_here, code_held}
+use Rattle.code.proofs.Arriving.{situation_here}
 use Rattle.code.proofs.Variables.{memory_with, Held, variable_held}
 use Rattle.code.proofs.Temporaries.{scratch_here}
 use Rattle.code.proofs.Delivering.{stored_step}

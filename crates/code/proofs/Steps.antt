@@ -1,6 +1,6 @@
 -- Runs of steps, and what is common to the steps of single instructions.
-use Rattle.std.proofs.Common.{◌≡◌, ℕ, zero, suc, ◌+◌, ◌-◌, ◌<◌, ◌≤◌, List, [], ◌∷◌, length, Some, Bool, true, false}
-use Rattle.std.proofs.Common.{Ok, refl, ap, ◌∙◌, arith}
+use Rattle.std.proofs.Common.{◌≡◌, ℕ, zero, suc, ◌+◌, ◌-◌, ◌<◌, ◌≤◌, List, [], ◌∷◌, length, Some, Bool, true, false, Ok}
+use Rattle.std.proofs.Common.{refl, ap, ◌∙◌, arith}
 use Rattle.std.specs.Prelude.{nat_lt, nat_le, nat_eq}
 use Rattle.std.specs.List.{All, flat_map}
 use Rattle.std.proofs.lemmas.Bool.{lt-ltb, le-leb, ne_eqb}
@@ -8,7 +8,7 @@ use Rattle.zcore.specs.declared.instruction.Operand.{Operand}
 use Rattle.zcore.specs.declared.instruction.Operand.TheVariants.{Large, Small, Variable}
 use Rattle.zcore.specs.declared.next.Next.{Next}
 use Rattle.zcore.specs.Instruction.{Instruction, bytes_of, IsEncodable, FitsOperand}
-use Rattle.zcore.specs.State.{Frame, State, Out, done, halt, bound}
+use Rattle.zcore.specs.State.{State, done, bound}
 use Rattle.zcore.specs.State as state
 use Rattle.zcore.specs.Parts.{read_variable, write_variable, read_in_place, write_in_place, test_variable}
 use Rattle.zcore.specs.Parts.{operand_value, operand_values, test_result, store_result, test_target, go, take_branch}

@@ -8,16 +8,15 @@ use Rattle.std.proofs.lemmas.List.{length-set}
 use Rattle.ztext.specs.Bytes.{word_at}
 use Rattle.zcore.specs.Header.{defaults_of, globals_of, static_base_of}
 use Rattle.zcore.specs.Parts.{with_word}
-use Rattle.expressions.specs.declared.tree.Width.{Width}
-use Rattle.expressions.specs.declared.tree.Width.TheVariants as widths
+use Rattle.expression_trees.specs.declared.tree.Width.{Width}
+use Rattle.expression_trees.specs.declared.tree.Width.TheVariants as widths
 use Rattle.meaning.specs.World.{array_at, entry_count, is_index, entry_at, with_entry}
 use Rattle.meaning.specs.Objects.{Objects}
 use Rattle.meaning.specs.Resolved.{ProgramOf}
 use Rattle.region.proofs.Frames as region
 use Rattle.encoding.specs.Addresses.{Addresses}
 use Rattle.code.specs.HeldProgram.{offset_in}
-use Rattle.code.proofs.Flat.{array_within, byte_at, byte_set, word_set, sizes_same, concat_same, place_same}
-use Rattle.code.proofs.Flat.{count_same}
+use Rattle.code.proofs.Flat.{array_within, byte_at, byte_set, word_set, sizes_same, concat_same, place_same, count_same}
 use Rattle.code.proofs.Regions.{Stands, stands_set, stands_word, KeepsOutside, keeps_set, keeps_word, byte_behind}
 use Rattle.code.proofs.Regions.{same_on}
 use Rattle.code.proofs.Play.{Stored}

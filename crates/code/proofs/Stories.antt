@@ -1,32 +1,30 @@
 -- Small stories that hold programs, run by the machine.
 use Rattle.std.proofs.Common.{◌≡◌, ℕ, List, [], ◌∷◌, ◌++◌, length, take, refl}
 use Rattle.std.specs.Prelude.{codes, map, replicate}
-use Rattle.expressions.specs.declared.tree.Binary.TheVariants as binaries
-use Rattle.expressions.specs.declared.tree.Comparison.TheVariants as comparisons
-use Rattle.expressions.specs.declared.tree.Step.TheVariants as steps
-use Rattle.expressions.specs.declared.tree.Width.TheVariants as widths
-use Rattle.zcore.specs.declared.place.Place.TheVariants as places
-use Rattle.zcore.specs.declared.place.Limit.TheVariants as limits
-use Rattle.zcore.specs.Instruction.{decode, bytes_of, opcode, operands, operand, byte, large, result_variable, branch}
-use Rattle.zcore.specs.Turn.{Whole, opening, plays, last_place, turn_from, weight}
-use Rattle.zcore.specs.Execution.{step, perform, give_result, divide, load, increment, decrement, push_word, pull}
-use Rattle.zcore.specs.Execution.{load_word, load_byte, store_word, store_byte, store, jump, call_packed}
-use Rattle.zcore.specs.Execution.{return_popped, print_characters, print_inline, print_packed, print_character}
-use Rattle.zcore.specs.Execution.{text_at}
-use Rattle.zcore.specs.Parts.{read_word, read_byte, write_word, write_byte, read_in_place, write_in_place, push, pop}
-use Rattle.zcore.specs.Parts.{read_local, write_local, read_global, write_global, read_variable, write_variable}
-use Rattle.zcore.specs.Parts.{test_variable, test_pull, operand_value, operand_values, test_result, store_result}
-use Rattle.zcore.specs.Parts.{test_target, spend, go, test_routine, test_calls, enter, call, test_return, leave}
-use Rattle.zcore.specs.Parts.{give_back, take_branch, branch_on, print}
+use Rattle.std.specs.List.{flat_map}
 use Rattle.ztext.specs.Abbreviations.{encoded_with}
 use Rattle.ztext.specs.Text.{decoded, abbreviation, encoded}
 use Rattle.ztext.specs.Reading.{reads}
 use Rattle.ztext.specs.Words.{packed, unpacked_text}
 use Rattle.ztext.specs.Alphabets.{spelling_of}
+use Rattle.zcore.specs.declared.place.Place.TheVariants as places
+use Rattle.zcore.specs.declared.place.Limit.TheVariants as limits
+use Rattle.zcore.specs.Instruction.{decode, bytes_of, opcode, operands, operand, byte, large, result_variable, branch}
+use Rattle.zcore.specs.Turn.{Whole, opening, plays, last_place, turn_from, weight}
+use Rattle.zcore.specs.Execution.{step, perform, give_result, divide, load, increment, decrement, push_word, pull}
+use Rattle.zcore.specs.Execution.{load_word, load_byte, store_word, store_byte, store, jump, call_packed, return_popped}
+use Rattle.zcore.specs.Execution.{print_characters, print_inline, print_packed, print_character, text_at}
+use Rattle.zcore.specs.Parts.{read_word, read_byte, write_word, write_byte, read_in_place, write_in_place, push, pop}
+use Rattle.zcore.specs.Parts.{read_local, write_local, read_global, write_global, read_variable, write_variable}
+use Rattle.zcore.specs.Parts.{test_variable, test_pull, operand_value, operand_values, test_result, store_result}
+use Rattle.zcore.specs.Parts.{test_target, spend, go, test_routine, test_calls, enter, call, test_return, leave}
+use Rattle.zcore.specs.Parts.{give_back, take_branch, branch_on, print}
 use Rattle.zcore.specs.Arithmetic.{quotient, decimal, signed_text}
-use Rattle.std.specs.List.{flat_map}
 use Rattle.tables.specs.Dictionary.{dictionary_bytes}
-use Rattle.region.specs.Rows.{rows_of, rows_bytes}
+use Rattle.expression_trees.specs.declared.tree.Binary.TheVariants as binaries
+use Rattle.expression_trees.specs.declared.tree.Comparison.TheVariants as comparisons
+use Rattle.expression_trees.specs.declared.tree.Step.TheVariants as steps
+use Rattle.expression_trees.specs.declared.tree.Width.TheVariants as widths
 use Rattle.meaning.specs.declared.cause.Cause.{Cause}
 use Rattle.meaning.specs.World.{words_of}
 use Rattle.meaning.specs.declared.resolved.Variable.TheVariants as variables
@@ -35,6 +33,7 @@ use Rattle.meaning.specs.Resolved as source
 use Rattle.meaning.specs.Resolved.{Action, Actions, RoutineOf, ProgramOf}
 use Rattle.meaning.specs.Meaning.{meaning}
 use Rattle.items.specs.Statements.{routine_items}
+use Rattle.region.specs.Rows.{rows_of, rows_bytes}
 use Rattle.encoding.specs.Addresses.{Addresses, Sizes, all_causes}
 use Rattle.code.specs.Bytes.{code_bytes}
 use Rattle.code.specs.HeldProgram.{start_code, fault_line}

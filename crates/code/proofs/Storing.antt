@@ -6,7 +6,7 @@ use Rattle.std.specs.List.{flat_map}
 use Rattle.zcore.specs.declared.instruction.Operand.{Operand}
 use Rattle.zcore.specs.declared.instruction.Operand.TheVariants.{Large}
 use Rattle.zcore.specs.Instruction.{Instruction, bytes_of}
-use Rattle.expressions.specs.declared.tree.Width.{Width}
+use Rattle.expression_trees.specs.declared.tree.Width.{Width}
 use Rattle.meaning.specs.declared.cause.Cause.TheVariants as causes
 use Rattle.meaning.specs.World.{Situation, to, bound, is_index, with_entry, with_array}
 use Rattle.meaning.specs.World as source
@@ -15,8 +15,8 @@ use Rattle.drafts.specs.Items as items
 use Rattle.items.specs.Stack as stack
 use Rattle.encoding.specs.Addresses.{fault_address}
 use Rattle.encoding.specs.Instructions.{plain, pull}
-use Rattle.selection.specs.ItemCode.{entries_in, store_operation, at_index}
 use Rattle.object_selection.specs.ObjectCode.{assigned_word, passed_on}
+use Rattle.selection.specs.ItemCode.{entries_in, store_operation, at_index}
 use Rattle.code.proofs.Play.{Leads, stays}
 use Rattle.code.proofs.Memory.{word_of, with_variable}
 use Rattle.code.proofs.Parts.{machine as at_words}

@@ -8,16 +8,16 @@ use Rattle.zcore.specs.Header.{static_base_of}
 use Rattle.zcore.specs.State.{State, done}
 use Rattle.zcore.specs.Parts.{operand_value, write_byte, write_word}
 use Rattle.zcore.specs.Execution.{perform, store_word, store_byte}
-use Rattle.expressions.specs.declared.tree.Width.{Width}
-use Rattle.expressions.specs.declared.tree.Width.TheVariants as widths
+use Rattle.expression_trees.specs.declared.tree.Width.{Width}
+use Rattle.expression_trees.specs.declared.tree.Width.TheVariants as widths
 use Rattle.meaning.specs.declared.resolved.Variable as resolved
 use Rattle.meaning.specs.declared.resolved.Variable.TheVariants as variables
 use Rattle.meaning.specs.World.{Situation, Comes, to, over, bound, Part, value_in, with_array}
 use Rattle.drafts.specs.Items as items
 use Rattle.items.specs.Stack as stack
 use Rattle.encoding.specs.Instructions.{number_of}
-use Rattle.selection.specs.ItemCode.{store_operation}
 use Rattle.object_selection.specs.ObjectCode.{assigned_word}
+use Rattle.selection.specs.ItemCode.{store_operation}
 use Rattle.code.proofs.Memory.{word_of}
 use Rattle.code.proofs.StoredEntries.{entry_address, written_at, last_byte}
 use Rattle.code.proofs.Parts.{machine as at_words, Reads, global_reads}

@@ -17,7 +17,7 @@ use Rattle.zcore.specs.Execution.{perform}
 use Rattle.zcore.specs.Arithmetic.{signed_less}
 use Rattle.meaning.specs.Resolved.{ProgramOf}
 use Rattle.meaning.specs.World.{Situation}
-use Rattle.drafts.specs.Items.{Item, Test, agrees}
+use Rattle.drafts.specs.Items.{Test}
 use Rattle.drafts.specs.Items as items
 use Rattle.items.specs.Laws.{IsOperand, IsTested}
 use Rattle.items.specs.Stack as stack

@@ -5,11 +5,11 @@ use Rattle.std.specs.Prelude.{map}
 use Rattle.lexer.specs.declared.token.Position.{Position}
 use Rattle.lexer.specs.declared.token.Sign.TheVariants as s
 use Rattle.lexer.specs.Token.{Lexeme, name, position_of}
-use Rattle.expressions.specs.declared.tree.Name.{Name}
-use Rattle.expressions.specs.Tree.{name_tree}
-use Rattle.expressions.specs.Parse.{head, tail, is_name, is_sign, expect}
-use Rattle.statements.specs.Parse.{repeated}
-use Rattle.statements.proofs.Loops.{joined, repeated_out, repeated_done, repeated_more}
+use Rattle.expression_trees.specs.declared.tree.Name.{Name}
+use Rattle.expression_trees.specs.Tree.{name_tree}
+use Rattle.parsing.specs.Parse.{head, tail, is_sign, expect, repeated}
+use Rattle.parsing.proofs.Loops.{joined, repeated_out, repeated_done, repeated_more}
+use Rattle.expressions.specs.Parse.{is_name}
 use Rattle.directives.specs.Parse.{arrow, parent, parent_on}
 
 itself : Position → Position

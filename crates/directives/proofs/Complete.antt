@@ -1,24 +1,26 @@
 -- What has a tree is read as that tree, unless it is nested too deep.
-use Rattle.std.proofs.Common.{◌≡◌, ℕ, ◌-◌, ◌<◌, true, false, List, ◌∷◌, length, Some, None, Result, Ok, refl, ap}
-use Rattle.std.proofs.Common.{arith}
+use Rattle.std.proofs.Common.{◌≡◌, ℕ, ◌-◌, ◌<◌, true, false, List, ◌∷◌, length, Some, None, Result, Ok, refl, ap, arith}
 use Rattle.lexer.specs.declared.token.Position.{Position}
 use Rattle.lexer.specs.declared.token.Sign.TheVariants as s
 use Rattle.lexer.specs.declared.token.Word.TheVariants as w
 use Rattle.lexer.specs.Token.{Lexeme, name, reserved, sign}
-use Rattle.expressions.specs.declared.error.Fault.{Fault}
-use Rattle.expressions.specs.Tree.{NameTree}
-use Rattle.expressions.specs.Parse.{head, expect}
+use Rattle.expression_trees.specs.Tree.{NameTree}
+use Rattle.parsing.specs.declared.error.Fault.{Fault}
+use Rattle.parsing.specs.Parse.{head, expect}
 use Rattle.expressions.proofs.Limited.{Limited, then, at_once}
-use Rattle.statements.specs.Tree.{LiteralTree, StatementTrees}
+use Rattle.expressions.specs.Parse.{expect_name}
+use Rattle.statement_parts.specs.Tree.{LiteralTree}
+use Rattle.statement_parts.specs.Parse.{known_value, begins_value}
+use Rattle.statements.specs.Tree.{StatementTrees}
 use Rattle.statements.specs.Nesting.{begins_statement}
-use Rattle.statements.specs.Parse.{named, known_value, begins_value, statements}
+use Rattle.statements.specs.Parse.{statements}
 use Rattle.statements.proofs.Deepest.{listed, listed_back}
 use Rattle.statements.proofs.Complete.{at_Ss}
 use Rattle.statements.proofs.Follow.{short_Ss}
 use Rattle.statements.proofs.KnownValues.{known_read, short_K, begins_K}
 use Rattle.directives.specs.declared.tree.ArrayKind.{ArrayKind}
-use Rattle.directives.specs.Tree.{ValueTree, ObjectTree, RoutineTree, DirectiveTree, global, constant, array}
-use Rattle.directives.specs.Tree.{attribute, property, object, routine}
+use Rattle.directives.specs.Tree.{ValueTree, ObjectTree, RoutineTree, DirectiveTree, global, constant, array, attribute}
+use Rattle.directives.specs.Tree.{property, object, routine}
 use Rattle.directives.specs.Grammar.{weight_of, kind_of, IsDirective, d_global, d_global_value, d_constant, d_array}
 use Rattle.directives.specs.Grammar.{d_attribute, d_property, d_property_value, d_object, d_routine, directive_nesting}
 use Rattle.directives.specs.Parse.{names, values, kind, array_behind, ended, global_behind, constant_behind}
@@ -50,47 +52,47 @@ module _ (d : ℕ) where
   step_global : (p q o : Position) (n : List ℕ) (r : List Lexeme)
       → Limited (directive d (reserved w.Global p ∷ name n q ∷ sign s.Semicolon o ∷ r)) d 0
       (global (record { text = n; position = q }) None) r
-  unfolding directive worded global_behind named ended expect
+  unfolding directive worded global_behind expect_name ended expect
   step_global p q o n r = at_once refl
 
   step_global_value : (p q o l : Position) (n : List ℕ) (k : LiteralTree) (m r : List Lexeme)
       → known_value m ≡ Ok (k, sign s.Semicolon l ∷ r)
       → Limited (directive d (reserved w.Global p ∷ name n q ∷ sign s.Assign o ∷ m)) d 0
       (global (record { text = n; position = q }) (Some k)) r
-  unfolding directive worded global_behind named ended expect
+  unfolding directive worded global_behind expect_name ended expect
   step_global_value p q o l n k m r e = at_once (rw e refl)
 
   step_constant : (p q o l : Position) (n : List ℕ) (k : LiteralTree) (m r : List Lexeme)
       → known_value m ≡ Ok (k, sign s.Semicolon l ∷ r)
       → Limited (directive d (reserved w.Constant p ∷ name n q ∷ sign s.Assign o ∷ m)) d 0
       (constant (record { text = n; position = q }) k) r
-  unfolding directive worded constant_behind named ended expect
+  unfolding directive worded constant_behind expect_name ended expect
   step_constant p q o l n k m r e = at_once (rw e refl)
 
   step_array : (p q l : Position) (t : Lexeme) (n : List ℕ) (a : ArrayKind) (vs : List ValueTree) (m r : List Lexeme)
       → kind_of t ≡ Some a → values m ≡ Ok (vs, sign s.Semicolon l ∷ r)
       → Limited (directive d (reserved w.Array p ∷ name n q ∷ t ∷ m)) d 0
       (array (record { name = record { text = n; position = q }; kind = a; values = vs })) r
-  unfolding directive worded array_behind named kind expect
+  unfolding directive worded array_behind expect_name kind expect
   step_array p q l t n a vs m r o e = at_once (rw (o, e) refl)
 
   step_attribute : (p q o : Position) (n : List ℕ) (r : List Lexeme)
       → Limited (directive d (reserved w.Attribute p ∷ name n q ∷ sign s.Semicolon o ∷ r)) d 0
       (attribute (record { text = n; position = q })) r
-  unfolding directive worded attribute_behind named ended expect
+  unfolding directive worded attribute_behind expect_name ended expect
   step_attribute p q o n r = at_once refl
 
   step_property : (p q o : Position) (n : List ℕ) (r : List Lexeme)
       → Limited (directive d (reserved w.Property p ∷ name n q ∷ sign s.Semicolon o ∷ r)) d 0
       (property (record { text = n; position = q }) None) r
-  unfolding directive worded property_behind named ended expect
+  unfolding directive worded property_behind expect_name ended expect
   step_property p q o n r = at_once refl
 
   step_property_value : (p q o : Position) (n : List ℕ) (k : LiteralTree) (m r : List Lexeme)
       → begins_value (head m) ≡ true → known_value m ≡ Ok (k, sign s.Semicolon o ∷ r)
       → Limited (directive d (reserved w.Property p ∷ name n q ∷ m)) d 0
       (property (record { text = n; position = q }) (Some k)) r
-  unfolding directive worded property_behind named ended expect
+  unfolding directive worded property_behind expect_name ended expect
   step_property_value p q o n k m r b e = at_once (rw (b, e) refl)
 
   step_object : (p : Position) (x : ObjectTree) (m r : List Lexeme) → object_behind m ≡ Ok (x, r)
@@ -108,7 +110,7 @@ module _ (d : ℕ) where
         body = xs;
         weight = weight_of (sign s.OpenBracket p ∷ name n q ∷ m) - weight_of r;
       }) r
-  unfolding routine_at named expect
+  unfolding routine_at expect_name expect
   step_routine p q o l i n ns xs m k r e a =
       let made : StatementTrees → Result (RoutineTree × List Lexeme) Fault = λ ys. Ok (
         record {

@@ -1,19 +1,22 @@
 -- What a routine leaves is what its tokens end with, and so its weight is that of the tokens before.
-use Rattle.std.proofs.Common.{◌≡◌, ℕ, suc, ◌+◌, ◌-◌, ◌≤◌, List, [], ◌∷◌, ◌++◌, append_assoc, length, take, Ok, refl}
-use Rattle.std.proofs.Common.{sym, ap, ◌∙◌, arith}
+use Rattle.std.proofs.Common.{◌≡◌, ℕ, suc, ◌+◌, ◌-◌, ◌≤◌, List, [], ◌∷◌, ◌++◌, append_assoc, length, take, Result, Ok}
+use Rattle.std.proofs.Common.{Err, refl, sym, ap, subst, ◌∙◌, arith}
 use Rattle.lexer.specs.declared.token.Token.{Token}
 use Rattle.lexer.specs.declared.token.Sign.{Sign}
 use Rattle.lexer.specs.declared.token.Sign.TheVariants as s
 use Rattle.lexer.specs.Token.{Lexeme, name, sign, lexeme, lexemes, position_of}
-use Rattle.expressions.specs.Tree.{NameTree}
-use Rattle.expressions.specs.Parse.{head, tail, expect}
-use Rattle.expressions.proofs.Tokens.{expect_ok}
-use Rattle.statements.specs.Tree.{StatementTree}
-use Rattle.statements.specs.Parse.{named, statements}
-use Rattle.statements.proofs.NamesRead.{named_judged}
+use Rattle.expression_trees.specs.Tree.{NameTree}
+use Rattle.parsing.specs.declared.error.Fault.{Fault}
+use Rattle.parsing.specs.Parse.{◌>>=◌, head, tail, expect}
+use Rattle.expressions.proofs.Judged.{Judged, judged_read, judged_then, judged_after}
+use Rattle.expressions.proofs.Tokens.{expect_ok, expect_not_deep}
+use Rattle.expressions.proofs.NamesRead.{name_judged}
+use Rattle.statements.specs.Tree.{StatementTree, StatementTrees}
+use Rattle.statements.specs.Grammar.{IsSs}
+use Rattle.statements.specs.Parse.{statements}
 use Rattle.statements.proofs.Sound.{judged_Ss}
-use Rattle.directives.specs.Grammar.{weight_of}
-use Rattle.directives.specs.Parse.{names}
+use Rattle.directives.specs.Grammar.{weight_of, IsNames}
+use Rattle.directives.specs.Parse.{routine_heading, closed, routine_body}
 use Rattle.directives.specs.Answers.{EndsWith}
 use Rattle.directives.proofs.SpelledStatements.{spelled_Names, spelled_Ss}
 use Rattle.directives.proofs.Lists.{names_judged}
@@ -62,28 +65,49 @@ further_on ts m r a b = (a.0 ++ b.0, a.1 ∙ ap (λ u. a.0 ++ u) b.1 ∙ sym (ap
 behind_sign : (s : Sign) (ts r : List Lexeme) → expect s ts ≡ Ok r → EndsWith ts r
 behind_sign s ts r e = (sign s (position_of (head ts)) ∷ [], expect_ok s ts r e)
 
-behind_name : (ts : List Lexeme) (n : NameTree) (r : List Lexeme) → named ts ≡ Ok (n, r) → EndsWith ts r
-behind_name ts n r e = (name n.text n.position ∷ [], (named_judged ts).read (n, r) e)
+behind_names : {ts r : List Lexeme} {ns : List NameTree} → IsNames ts ns r → EndsWith ts r
+behind_names l = let a = spelled_Names l in (a.front, a.at)
 
-behind_names : (ts : List Lexeme) (ns : List NameTree) (r : List Lexeme) → names ts ≡ Ok (ns, r) → EndsWith ts r
-behind_names ts ns r e = let a = spelled_Names ((names_judged ts).read (ns, r) e) in (a.front, a.at)
-
-behind_statements : (d : ℕ) (ts : List Lexeme) (xs : List StatementTree) (r : List Lexeme)
-    → statements d ts ≡ Ok (xs, r) → EndsWith ts r
-behind_statements d ts xs r e = let a = spelled_Ss ((judged_Ss d ts).read (xs, r) e).0 in (a.front, a.at)
+behind_statements : {ts r : List Lexeme} {xs : StatementTrees} → IsSs ts xs r → EndsWith ts r
+behind_statements l = let a = spelled_Ss l in (a.front, a.at)
 
 behind_first : (ts r : List Lexeme) → EndsWith (tail ts) r → EndsWith ts r
 behind_first [] r e = e
 behind_first (t ∷ ts) r e = after t ts r e
 
-pub routine_ends : (d : ℕ) (ts : List Lexeme) (n : NameTree) (a : List Lexeme) (ns : List NameTree)
-    (b c : List Lexeme) (xs : List StatementTree) (e f r : List Lexeme)
-    → named (tail ts) ≡ Ok (n, a) → names a ≡ Ok (ns, b) → expect s.Semicolon b ≡ Ok c → statements d c ≡ Ok (xs, e)
-    → expect s.CloseBracket e ≡ Ok f → expect s.Semicolon f ≡ Ok r → EndsWith ts r
-routine_ends d ts n a ns b c xs e f r h1 h2 h3 h4 h5 h6 =
-    behind_first ts r
-    (further_on (tail ts) a r (behind_name (tail ts) n a h1)
-    (further_on a b r (behind_names a ns b h2)
-    (further_on b c r (behind_sign s.Semicolon b c h3)
-    (further_on c e r (behind_statements d c xs e h4)
-    (further_on e f r (behind_sign s.CloseBracket e f h5) (behind_sign s.Semicolon f r h6))))))
+heading_ends : (ts : List Lexeme) → Judged (λ h r. EndsWith ts r) ⊥ (routine_heading ts)
+unfolding routine_heading
+heading_ends ts =
+    judged_then _ (name_judged ts)
+    (λ n a q. judged_then _ (names_judged a)
+    (λ ns b l. judged_after (expect s.Semicolon b) _
+    (λ m e. judged_read _ m
+    (further_on ts a m (name n.text n.position ∷ [], q)
+    (further_on a b m (behind_names l) (behind_sign s.Semicolon b m e))))
+    (λ e. absurd (expect_not_deep s.Semicolon b e)))
+    (λ x. x))
+    (λ x. x)
+
+closed_ends : (ts r : List Lexeme) → closed ts ≡ Ok r → EndsWith ts r
+unfolding closed
+closed_ends ts r e = go (expect s.CloseBracket ts) refl e
+  where
+    go : (R : Result (List Lexeme) Fault) → expect s.CloseBracket ts ≡ R → (R >>= λ u. expect s.Semicolon u) ≡ Ok r
+        → EndsWith ts r
+    go (Ok u) g h = further_on ts u r (behind_sign s.CloseBracket ts u g) (behind_sign s.Semicolon u r h)
+    go (Err f) g h = absurd cc
+
+body_ends : (d : ℕ) (ts : List Lexeme) → Judged (λ xs r. EndsWith ts r) (Unit {0}) (routine_body d ts)
+unfolding routine_body
+body_ends d ts =
+    judged_then _ (judged_Ss d ts)
+    (λ xs u l. judged_after (closed u) _
+    (λ r e. judged_read xs r (further_on ts u r (behind_statements l.0) (closed_ends u r e)))
+    (λ e. tt))
+    (λ x. tt)
+
+pub routine_ends : (d : ℕ) (ts : List Lexeme) (h : NameTree × List NameTree) (m : List Lexeme)
+    (xs : List StatementTree) (r : List Lexeme) → routine_heading (tail ts) ≡ Ok (h, m) → routine_body d m ≡ Ok (xs, r)
+    → EndsWith ts r
+routine_ends d ts h m xs r a b = behind_first ts r
+    (further_on (tail ts) m r ((heading_ends (tail ts)).read (h, m) a) ((body_ends d m).read (xs, r) b))

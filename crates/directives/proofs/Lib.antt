@@ -10,6 +10,7 @@ pub mod ObjectsComplete
 pub mod TextsRead
 pub mod Sound
 pub mod Ends
+pub mod RoutineParts
 pub mod Complete
 pub mod Printable
 mod Samples

@@ -3,12 +3,13 @@
 use Rattle.std.proofs.Common.{◌≡◌, ℕ, zero, suc, ◌<◌, ◌≤◌, true, false, List, [], ◌∷◌, length, Ok, refl, sym, subst}
 use Rattle.std.proofs.Common.{arith}
 use Rattle.lexer.specs.Token.{Lexeme, name}
-use Rattle.expressions.specs.Tree.{NameTree}
-use Rattle.expressions.specs.Parse.{head, is_name}
+use Rattle.expression_trees.specs.Tree.{NameTree}
+use Rattle.parsing.specs.Parse.{head, as_long, repeated}
+use Rattle.expressions.specs.Parse.{is_name, expect_name}
 use Rattle.expressions.proofs.Judged.{Judged, judged_read, judged_grammar, judged_then}
-use Rattle.statements.specs.Parse.{as_long, repeated, named, known_value, begins_value}
+use Rattle.expressions.proofs.NamesRead.{name_judged}
+use Rattle.statement_parts.specs.Parse.{known_value, begins_value}
 use Rattle.statements.proofs.KnownValues.{known_judged, known_read, short_K, begins_K}
-use Rattle.statements.proofs.NamesRead.{named_judged}
 use Rattle.statements.proofs.SoundRows.{repeated_judged}
 use Rattle.directives.specs.Tree.{ValueTree}
 use Rattle.directives.specs.Grammar.{IsNames, names_stop, names_next, IsValue, v_value, IsValues, values_stop}
@@ -20,17 +21,17 @@ use Rattle.directives.specs.Parse.{names, some_on, some_names, placed, values}
 pub names_judged : (ts : List Lexeme) → Judged (λ ns r. IsNames ts ns r) ⊥ (names ts)
 unfolding names
 names_judged ts =
-    repeated_judged is_name named (λ us n r. us ≡ name n.text n.position ∷ r) (λ us ns r. IsNames us ns r) (λ us. ⊥)
-    (λ us. ⊥)
+    repeated_judged is_name expect_name (λ us n r. us ≡ name n.text n.position ∷ r)
+    (λ us ns r. IsNames us ns r) (λ us. ⊥) (λ us. ⊥)
     (λ r. names_stop)
     (λ us n m ns r q l. subst (λ v. IsNames v (n ∷ ns) r) (sym q) (names_next l))
     (λ us e x. x)
     (λ us n m q x. x)
-    named_judged (length ts) ts
+    name_judged (length ts) ts
 
 turns_Names : {ts r : List Lexeme} {ns : List NameTree} → IsNames ts ns r → is_name (head r) ≡ false → (n : ℕ)
-    → length ts ≤ n → repeated is_name named n ts ≡ Ok (ns, r)
-unfolding repeated as_long named
+    → length ts ≤ n → repeated is_name expect_name n ts ≡ Ok (ns, r)
+unfolding repeated as_long expect_name
 turns_Names names_stop e zero le = refl
 turns_Names names_stop e (suc n) le = rw e refl
 turns_Names (names_next a) e zero le = absurd (omega arith)

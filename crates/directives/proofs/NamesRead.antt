@@ -2,21 +2,21 @@
 use Rattle.std.proofs.Common.{◌≡◌, ℕ, ◌+◌, ◌-◌, ◌<◌, List, [], ◌∷◌, ◌++◌, length, Ok, Err, refl, ap, arith}
 use Rattle.std.specs.Prelude.{map}
 use Rattle.lexer.specs.Token.{Lexeme, name}
-use Rattle.expressions.specs.declared.error.Fault.TheVariants.{Grammar}
-use Rattle.expressions.specs.declared.tree.Name.{Name}
-use Rattle.expressions.specs.Tree.{name_tree}
-use Rattle.expressions.specs.Parse.{head, tail, is_name}
-use Rattle.statements.specs.Parse.{repeated, named}
+use Rattle.expression_trees.specs.declared.tree.Name.{Name}
+use Rattle.expression_trees.specs.Tree.{name_tree}
+use Rattle.parsing.specs.declared.error.Fault.TheVariants.{Grammar}
+use Rattle.parsing.specs.Parse.{head, tail, repeated}
+use Rattle.parsing.proofs.Loops.{joined, repeated_more}
+use Rattle.expressions.specs.Parse.{is_name, expect_name}
+use Rattle.expressions.proofs.NamesRead.{name_found}
 use Rattle.directives.specs.Parse.{some_on, names, some_names}
-use Rattle.statements.proofs.Loops.{joined, repeated_more}
-use Rattle.statements.proofs.NamesRead.{named_at}
 
 pub names_more : (n i : ℕ) (front : List Name) (ts : List Lexeme) (x : Name) → i < n
     → head ts ≡ name x.text.now x.position
-    → joined (map name_tree front) (repeated is_name named (n - i) ts)
-    ≡ joined (map name_tree (front ++ x ∷ [])) (repeated is_name named (n - (i + 1)) (tail ts))
-names_more n i front ts x lt e = repeated_more name_tree is_name named n i front ts x (tail ts) lt (ap is_name e)
-    (named_at ts x e)
+    → joined (map name_tree front) (repeated is_name expect_name (n - i) ts)
+    ≡ joined (map name_tree (front ++ x ∷ [])) (repeated is_name expect_name (n - (i + 1)) (tail ts))
+names_more n i front ts x lt e = repeated_more name_tree is_name expect_name n i front ts x (tail ts) lt (ap is_name e)
+    (name_found ts x e)
 
 -- ---- names, at least one
 

@@ -5,10 +5,11 @@ use Rattle.lexer.specs.declared.token.Position.{Position}
 use Rattle.lexer.specs.declared.token.Sign.TheVariants as s
 use Rattle.lexer.specs.declared.token.Word.TheVariants as w
 use Rattle.lexer.specs.Token.{Lexeme, name, reserved, sign}
-use Rattle.expressions.specs.declared.error.Fault.{Fault}
-use Rattle.expressions.specs.Tree.{NameTree}
-use Rattle.expressions.specs.Parse.{◌>>=◌, head, is_name, is_sign, is_word, expect}
-use Rattle.statements.specs.Parse.{as_long, repeated, named, begins_value}
+use Rattle.expression_trees.specs.Tree.{NameTree}
+use Rattle.parsing.specs.declared.error.Fault.{Fault}
+use Rattle.parsing.specs.Parse.{◌>>=◌, head, is_sign, is_word, expect, as_long, repeated}
+use Rattle.expressions.specs.Parse.{is_name, expect_name}
+use Rattle.statement_parts.specs.Parse.{begins_value}
 use Rattle.directives.specs.Tree.{TextTree, PropertyTree, HeadTree}
 use Rattle.directives.specs.Grammar.{IsArrows, arrows_stop, arrows_next, IsShort, short_none, short_text, IsHead}
 use Rattle.directives.specs.Grammar.{head_arrows, head_parent, IsProp, prop_values, IsProps, props_last, props_comma}
@@ -84,14 +85,14 @@ short_read short_none e = e
 short_read short_text e = refl
 
 heading_read : {ts r : List Lexeme} {h : HeadTree} → IsHead ts h r → Ends (head r) → heading ts ≡ Ok (h, r)
-unfolding heading named parent
+unfolding heading expect_name parent
 heading_read {ts} {r} (head_arrows {ps = ps} a b) e = rw
     (arrows_read ts a refl, short_read b (no_short r e), no_parent ps r e) refl
 heading_read {ts} (head_parent b) e = rw (arrows_read ts arrows_stop refl, short_read b refl) refl
 
 prop_read : {ts r : List Lexeme} {x : PropertyTree} → IsProp ts x r → begins_value (head r) ≡ false
     → prop ts ≡ Ok (x, r)
-unfolding prop named
+unfolding prop expect_name
 prop_read (prop_values a lt) e = rw (values_read a lt e) refl
 
 begins_Props : {ts r : List Lexeme} {xs : List PropertyTree} → IsProps ts xs r → is_name (head ts) ≡ true

@@ -1,17 +1,16 @@
 -- What is read of an object derives in the grammar, and takes tokens.
-use Rattle.std.proofs.Common.{◌≡◌, ℕ, zero, suc, ◌<◌, ◌≤◌, Bool, true, false, cond, List, [], ◌∷◌, length, Option}
-use Rattle.std.proofs.Common.{Some, None, refl, sym, subst, arith}
+use Rattle.std.proofs.Common.{◌≡◌, ℕ, zero, suc, ◌<◌, ◌≤◌, Bool, true, false, cond, List, [], ◌∷◌, length, Option, Some}
+use Rattle.std.proofs.Common.{None, refl, sym, subst, arith}
 use Rattle.lexer.specs.declared.token.Position.{Position}
 use Rattle.lexer.specs.declared.token.Sign.TheVariants as s
 use Rattle.lexer.specs.declared.token.Word.TheVariants as w
 use Rattle.lexer.specs.Token.{Lexeme, name, text, reserved, sign, position_of}
-use Rattle.expressions.specs.Tree.{NameTree}
-use Rattle.expressions.specs.Parse.{head, tail, is_sign, is_word, expect}
+use Rattle.expression_trees.specs.Tree.{NameTree}
+use Rattle.parsing.specs.Parse.{head, tail, is_sign, is_word, expect, as_long}
 use Rattle.expressions.proofs.Judged.{Judged, judged_read, judged_grammar, judged_then, judged_after, judged_by}
 use Rattle.expressions.proofs.Judged.{judged_as}
 use Rattle.expressions.proofs.Tokens.{at_sign, at_word, expect_ok, expect_not_deep}
-use Rattle.statements.specs.Parse.{as_long}
-use Rattle.statements.proofs.NamesRead.{named_judged}
+use Rattle.expressions.proofs.NamesRead.{name_judged}
 use Rattle.statements.proofs.SoundRows.{repeated_judged}
 use Rattle.directives.specs.Tree.{TextTree, PropertyTree, HeadTree, object}
 use Rattle.directives.specs.Grammar.{IsArrows, arrows_stop, arrows_next, IsShort, short_none, short_text, IsHead}
@@ -69,7 +68,7 @@ heading_judged : (ts : List Lexeme) → Judged (λ h r. IsHead ts h r) ⊥ (head
 unfolding heading
 heading_judged ts =
     judged_then _ (arrows_judged ts)
-    (λ ps a l. judged_then _ (named_judged a)
+    (λ ps a l. judged_then _ (name_judged a)
     (λ n b q. judged_then _ (short_judged b)
     (λ x c h. judged_then _ (parent_judged ps c)
     (λ o r g. judged_read _ r (head_made (subst (λ v. IsArrows ts ps v) q l) h g))
@@ -89,7 +88,7 @@ comma_judged ts = go (is_sign s.Comma (head ts)) refl
 prop_judged : (ts : List Lexeme) → Judged (λ x r. IsProp ts x r) ⊥ (prop ts)
 unfolding prop
 prop_judged ts =
-    judged_then _ (named_judged ts)
+    judged_then _ (name_judged ts)
     (λ n m q. judged_then _ (values_judged m)
     (λ vs r l. judged_read _ r
     (subst (λ us. IsProp us (record { name = n; values = vs }) r) (sym q) (prop_values l.0 l.1)))

@@ -5,13 +5,13 @@ use Rattle.std.proofs.lemmas.List.Elements.{All-nil, All-cons, All-head, All-tai
 use Rattle.lexer.specs.declared.token.Position.{Position}
 use Rattle.lexer.specs.Token.{Lexeme, text}
 use Rattle.lexer.specs.Printable.{IsPrintable, HasPrintableText}
-use Rattle.expressions.specs.Tree.{NameTree, ExpressionTree}
-use Rattle.statements.specs.Tree.{LiteralTree, PrintItemTree, StatementTree, StatementTrees, CaseTrees, LoopTree}
-use Rattle.statements.specs.Tree.{over_all, over_in, over_where, loop_over}
-use Rattle.statements.specs.Grammar.{IsK, k_number, k_negative, k_character, k_word, k_true, k_false, k_nothing}
-use Rattle.statements.specs.Grammar.{k_name, IsOptional, optional_none, optional_some, IsItem, item_text}
-use Rattle.statements.specs.Grammar.{item_character, item_object, item_number, IsItems, items_last, items_comma, IsS}
-use Rattle.statements.specs.Grammar.{s_empty, s_block, s_text, s_print, s_print_ret, s_new_line, s_if, s_if_else}
+use Rattle.expression_trees.specs.Tree.{NameTree, ExpressionTree}
+use Rattle.statement_parts.specs.Tree.{LiteralTree, PrintItemTree, LoopTree, over_all, over_in, over_where}
+use Rattle.statement_parts.specs.Grammar.{IsK, k_number, k_negative, k_character, k_word, k_true, k_false, k_nothing}
+use Rattle.statement_parts.specs.Grammar.{k_name, IsOptional, optional_none, optional_some, IsItem, item_text}
+use Rattle.statement_parts.specs.Grammar.{item_character, item_object, item_number, IsItems, items_last, items_comma}
+use Rattle.statements.specs.Tree.{StatementTree, StatementTrees, CaseTrees, loop_over}
+use Rattle.statements.specs.Grammar.{IsS, s_empty, s_block, s_text, s_print, s_print_ret, s_new_line, s_if, s_if_else}
 use Rattle.statements.specs.Grammar.{s_while, s_do, s_for, s_switch, s_break, s_continue, s_return, s_return_value}
 use Rattle.statements.specs.Grammar.{s_rtrue, s_rfalse, s_quit, s_read, s_give, s_move, s_remove, s_objectloop}
 use Rattle.statements.specs.Grammar.{s_effect, IsSs, ss_stop, ss_next, IsCases, cases_none, cases_default, cases_next}
@@ -23,8 +23,8 @@ use Rattle.directives.specs.Grammar.{comma_none, comma_one, IsProperties, proper
 use Rattle.directives.specs.Grammar.{IsAttributes, attributes_none, attributes_has, IsDirective, d_global}
 use Rattle.directives.specs.Grammar.{d_global_value, d_constant, d_array, d_attribute, d_property, d_property_value}
 use Rattle.directives.specs.Grammar.{d_object, d_routine, IsTexts, texts_stop, texts_next}
-use Rattle.directives.specs.Printable.{IsPrintableItem, IsPrintableStatement, ArePrintableStatements}
-use Rattle.directives.specs.Printable.{ArePrintableCases, IsPrintableText, IsPrintableName, IsPrintableDirective}
+use Rattle.directives.specs.Printable.{IsPrintableItem, IsPrintableStatement, ArePrintableStatements, ArePrintableCases}
+use Rattle.directives.specs.Printable.{IsPrintableText, IsPrintableName, IsPrintableDirective}
 use Rattle.directives.proofs.Spelled.{Spelled, SpelledAbout}
 use Rattle.directives.proofs.SpelledExpressions.{spelled_E}
 use Rattle.directives.proofs.SpelledStatements.{spelled_Item, spelled_Labels, spelled_S, spelled_Ss, spelled_Names}

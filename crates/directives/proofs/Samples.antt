@@ -7,10 +7,11 @@ use Rattle.lexer.specs.declared.token.Sign.TheVariants as s
 use Rattle.lexer.specs.declared.token.Word.TheVariants as w
 use Rattle.lexer.specs.Token.{name, number, text, dictionary_word, reserved, sign}
 use Rattle.lexer.specs.Printable.{IsPrintable}
-use Rattle.expressions.specs.Tree.{NameTree}
-use Rattle.statements.specs.Tree.{LiteralTree, number_value, word_value, named_value, block, text_alone, stop, next}
+use Rattle.expression_trees.specs.Tree.{NameTree}
+use Rattle.statement_parts.specs.Tree.{LiteralTree, number_value, word_value, named_value}
+use Rattle.statement_parts.specs.Grammar.{k_number, k_negative, k_word, k_name}
+use Rattle.statements.specs.Tree.{block, text_alone, stop, next}
 use Rattle.directives.specs.declared.tree.ArrayKind.TheVariants as kind
-use Rattle.statements.specs.Grammar.{k_number, k_negative, k_word, k_name}
 use Rattle.directives.specs.Tree.{ValueTree, TextTree, HeadTree, global, array, object}
 use Rattle.directives.specs.Grammar.{names_stop, names_next, v_value, values_stop, values_next, arrows_stop}
 use Rattle.directives.specs.Grammar.{arrows_next, IsShort, short_text, IsHead, head_arrows, prop_values, props_last}

@@ -7,14 +7,15 @@ use Rattle.lexer.specs.declared.token.Sign.TheVariants as s
 use Rattle.lexer.specs.declared.token.Word.{Word}
 use Rattle.lexer.specs.declared.token.Word.TheVariants as w
 use Rattle.lexer.specs.Token.{Lexeme, name, reserved, sign, position_of}
-use Rattle.expressions.specs.Parse.{head, tail, is_sign, expect}
+use Rattle.parsing.specs.Parse.{head, tail, is_sign, expect}
 use Rattle.expressions.proofs.Judged.{Judged, judged_read, judged_grammar, judged_then, judged_after, judged_by}
 use Rattle.expressions.proofs.Tokens.{at_sign, expect_ok, expect_not_deep}
+use Rattle.expressions.proofs.NamesRead.{name_judged}
+use Rattle.statement_parts.specs.Grammar.{IsK}
+use Rattle.statement_parts.specs.Parse.{begins_value}
 use Rattle.statements.specs.Tree.{trees_of}
-use Rattle.statements.specs.Grammar.{IsK, IsSs, body_nesting}
-use Rattle.statements.specs.Parse.{begins_value}
+use Rattle.statements.specs.Grammar.{IsSs, body_nesting}
 use Rattle.statements.proofs.KnownValues.{known_judged}
-use Rattle.statements.proofs.NamesRead.{named_judged}
 use Rattle.statements.proofs.Sound.{judged_Ss}
 use Rattle.directives.specs.declared.tree.ArrayKind.{ArrayKind}
 use Rattle.directives.specs.Tree.{DirectiveTree, global, constant, array, attribute, property, object, routine}
@@ -22,8 +23,8 @@ use Rattle.directives.specs.Grammar.{weight_of, IsNames, IsValues, kind_of, IsDi
 use Rattle.directives.specs.Grammar.{d_constant, d_array, d_attribute, d_property, d_property_value, d_routine}
 use Rattle.directives.specs.Grammar.{directive_nesting}
 use Rattle.directives.specs.Nesting.{DeepDirective, deep_d_routine}
-use Rattle.directives.specs.Parse.{kind_on, kind, array_behind, ended, global_behind, constant_behind}
-use Rattle.directives.specs.Parse.{attribute_behind, property_behind, worded, routine_at, directive}
+use Rattle.directives.specs.Parse.{kind_on, kind, array_behind, ended, global_behind, constant_behind, attribute_behind}
+use Rattle.directives.specs.Parse.{property_behind, worded, routine_at, directive}
 use Rattle.directives.proofs.Lists.{names_judged, values_judged}
 use Rattle.directives.proofs.ObjectsRead.{object_judged}
 
@@ -56,7 +57,7 @@ module _ (d : ℕ) where
       (DeepDirective (suc d) (reserved w.Global p ∷ ts)) (global_behind ts)
   unfolding global_behind
   global_judged p ts =
-      judged_then _ (named_judged ts)
+      judged_then _ (name_judged ts)
       (λ n r q. judged_by (is_sign s.Assign (head r)) _ _
       (λ e.
       let at = q ∙ ap (λ u. name n.text n.position ∷ u) (at_sign s.Assign r e) in
@@ -81,7 +82,7 @@ module _ (d : ℕ) where
       (DeepDirective (suc d) (reserved w.Constant p ∷ ts)) (constant_behind ts)
   unfolding constant_behind
   constant_judged p ts =
-      judged_then _ (named_judged ts)
+      judged_then _ (name_judged ts)
       (λ n r q. judged_after (expect s.Assign r) _
       (λ m e.
       let at = q ∙ ap (λ u. name n.text n.position ∷ u) (expect_ok s.Assign r m e) in
@@ -101,7 +102,7 @@ module _ (d : ℕ) where
       (DeepDirective (suc d) (reserved w.Array p ∷ ts)) (array_behind ts)
   unfolding array_behind
   array_judged p ts =
-      judged_then _ (named_judged ts)
+      judged_then _ (name_judged ts)
       (λ n a q. judged_then _ (kind_judged a)
       (λ k b o. judged_then _ (values_judged b)
       (λ vs c l. judged_after (expect s.Semicolon c) _
@@ -122,7 +123,7 @@ module _ (d : ℕ) where
       (DeepDirective (suc d) (reserved w.Attribute p ∷ ts)) (attribute_behind ts)
   unfolding attribute_behind
   attribute_judged p ts =
-      judged_then _ (named_judged ts)
+      judged_then _ (name_judged ts)
       (λ n r q. ended_judged (attribute n) r
       (λ l v x. (
         subst (λ us. IsDirective (reserved w.Attribute p ∷ us) (attribute n) v)
@@ -136,7 +137,7 @@ module _ (d : ℕ) where
       (DeepDirective (suc d) (reserved w.Property p ∷ ts)) (property_behind ts)
   unfolding property_behind
   property_judged p ts =
-      judged_then _ (named_judged ts)
+      judged_then _ (name_judged ts)
       (λ n r q. judged_by (begins_value (head r)) _ _
       (λ e. judged_then _ (known_judged r)
       (λ k u h. ended_judged (property n (Some k)) u
@@ -159,7 +160,7 @@ module _ (d : ℕ) where
       (DeepDirective (suc d) (sign s.OpenBracket p ∷ ts)) (routine_at d (sign s.OpenBracket p ∷ ts))
   unfolding routine_at
   routine_judged p ts =
-      judged_then _ (named_judged ts)
+      judged_then _ (name_judged ts)
       (λ n a q. judged_then _ (names_judged a)
       (λ ns b l. judged_after (expect s.Semicolon b) _
       (λ m e.

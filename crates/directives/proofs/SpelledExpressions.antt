@@ -4,17 +4,17 @@ use Rattle.lexer.specs.declared.token.Position.{Position}
 use Rattle.lexer.specs.declared.token.Sign.TheVariants as s
 use Rattle.lexer.specs.declared.token.Word.TheVariants as w
 use Rattle.lexer.specs.Token.{Lexeme, name, number, text, character, dictionary_word, reserved, sign}
-use Rattle.expressions.specs.declared.tree.Binary.{Binary}
-use Rattle.expressions.specs.declared.tree.Comparison.{Comparison}
-use Rattle.expressions.specs.declared.tree.Containment.{Containment}
-use Rattle.expressions.specs.declared.tree.Equality.{Equality}
-use Rattle.expressions.specs.declared.tree.ObjectTest.{ObjectTest}
-use Rattle.expressions.specs.declared.tree.Relative.{Relative}
-use Rattle.expressions.specs.declared.tree.Step.{Step}
-use Rattle.expressions.specs.declared.tree.Width.{Width}
+use Rattle.expression_trees.specs.declared.tree.Binary.{Binary}
+use Rattle.expression_trees.specs.declared.tree.Comparison.{Comparison}
+use Rattle.expression_trees.specs.declared.tree.Containment.{Containment}
+use Rattle.expression_trees.specs.declared.tree.Equality.{Equality}
+use Rattle.expression_trees.specs.declared.tree.ObjectTest.{ObjectTest}
+use Rattle.expression_trees.specs.declared.tree.Relative.{Relative}
+use Rattle.expression_trees.specs.declared.tree.Step.{Step}
+use Rattle.expression_trees.specs.declared.tree.Width.{Width}
+use Rattle.expression_trees.specs.Tree.{NameTree, ExpressionTree, ExpressionTrees, call}
 use Rattle.expressions.specs.Operators.{logical, comparing, equating, containing, testing, adding, scaling, stepping}
 use Rattle.expressions.specs.Operators.{indexing, relating}
-use Rattle.expressions.specs.Tree.{NameTree, ExpressionTree, ExpressionTrees, call}
 use Rattle.expressions.specs.Grammar.{IsE, e_plain, e_assign, IsE1, e1_plain, e1_logical, IsN1, n1_plain, n1_not, IsE2}
 use Rattle.expressions.specs.Grammar.{e2_plain, e2_compare, e2_equal, e2_contained, e2_tested, IsChoice, choice_last}
 use Rattle.expressions.specs.Grammar.{choice_or, IsE3, e3_plain, e3_add, IsE4, e4_plain, e4_scale, IsN4, n4_plain}

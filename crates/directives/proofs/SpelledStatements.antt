@@ -4,20 +4,21 @@ use Rattle.lexer.specs.declared.token.Position.{Position}
 use Rattle.lexer.specs.declared.token.Sign.TheVariants as s
 use Rattle.lexer.specs.declared.token.Word.TheVariants as w
 use Rattle.lexer.specs.Token.{Lexeme, name, number, text, character, dictionary_word, reserved, sign}
-use Rattle.expressions.specs.Tree.{NameTree, ExpressionTree}
+use Rattle.expression_trees.specs.Tree.{NameTree, ExpressionTree}
 use Rattle.expressions.specs.Grammar.{IsE}
-use Rattle.statements.specs.Tree.{LiteralTree, RangeTree, FlagTree, PrintItemTree, StatementTree, StatementTrees}
-use Rattle.statements.specs.Tree.{CaseTrees, LoopTree, over_all, over_in, over_where, loop_over}
-use Rattle.statements.specs.Grammar.{IsK, k_number, k_negative, k_character, k_word, k_true, k_false, k_nothing}
-use Rattle.statements.specs.Grammar.{k_name, IsRange, range_alone, range_to, IsRanges, ranges_last, ranges_comma}
-use Rattle.statements.specs.Grammar.{IsOptional, optional_none, optional_some, IsLoop, loop_all, loop_in, loop_where}
-use Rattle.statements.specs.Grammar.{s_objectloop, IsItem, item_text, item_character, item_object, item_number}
-use Rattle.statements.specs.Grammar.{IsItems, items_last, items_comma, IsFlag, flag_given, flag_taken, IsFlags}
-use Rattle.statements.specs.Grammar.{flags_none, flags_next, IsGiven, given_first, IsS, s_empty, s_block, s_text}
-use Rattle.statements.specs.Grammar.{s_print, s_print_ret, s_new_line, s_if, s_if_else, s_while, s_do, s_for, s_switch}
-use Rattle.statements.specs.Grammar.{s_break, s_continue, s_return, s_return_value, s_rtrue, s_rfalse, s_quit, s_read}
-use Rattle.statements.specs.Grammar.{s_give, s_move, s_remove, s_effect, IsSs, ss_stop, ss_next, IsCases, cases_none}
-use Rattle.statements.specs.Grammar.{cases_default, cases_next}
+use Rattle.statement_parts.specs.Tree.{LiteralTree, RangeTree, FlagTree, PrintItemTree, LoopTree, over_all, over_in}
+use Rattle.statement_parts.specs.Tree.{over_where}
+use Rattle.statement_parts.specs.Grammar.{IsK, k_number, k_negative, k_character, k_word, k_true, k_false, k_nothing}
+use Rattle.statement_parts.specs.Grammar.{k_name, IsRange, range_alone, range_to, IsRanges, ranges_last, ranges_comma}
+use Rattle.statement_parts.specs.Grammar.{IsOptional, optional_none, optional_some, IsLoop, loop_all, loop_in}
+use Rattle.statement_parts.specs.Grammar.{loop_where, IsItem, item_text, item_character, item_object, item_number}
+use Rattle.statement_parts.specs.Grammar.{IsItems, items_last, items_comma, IsFlag, flag_given, flag_taken, IsFlags}
+use Rattle.statement_parts.specs.Grammar.{flags_none, flags_next, IsGiven, given_first}
+use Rattle.statements.specs.Tree.{StatementTree, StatementTrees, CaseTrees, loop_over}
+use Rattle.statements.specs.Grammar.{s_objectloop, IsS, s_empty, s_block, s_text, s_print, s_print_ret, s_new_line}
+use Rattle.statements.specs.Grammar.{s_if, s_if_else, s_while, s_do, s_for, s_switch, s_break, s_continue, s_return}
+use Rattle.statements.specs.Grammar.{s_return_value, s_rtrue, s_rfalse, s_quit, s_read, s_give, s_move, s_remove}
+use Rattle.statements.specs.Grammar.{s_effect, IsSs, ss_stop, ss_next, IsCases, cases_none, cases_default, cases_next}
 use Rattle.directives.specs.Grammar.{token_weight, weight_of, IsNames, names_stop, names_next}
 use Rattle.directives.specs.Weight.{expression_weight, item_weight, item_weights, range_weight, range_weights}
 use Rattle.directives.specs.Weight.{optional_weight, statement_weight, statement_weights, case_weights, upper_values}

@@ -3,9 +3,8 @@ use Rattle.std.proofs.Common.{◌≡◌, ℕ, zero, suc, ◌<◌, ◌≤◌, fal
 use Rattle.lexer.specs.declared.token.Position.{Position}
 use Rattle.lexer.specs.declared.token.Sign.TheVariants as s
 use Rattle.lexer.specs.Token.{Lexeme, text, sign}
-use Rattle.expressions.specs.Parse.{head, expect}
+use Rattle.parsing.specs.Parse.{head, expect, as_long, repeated}
 use Rattle.expressions.proofs.Judged.{Judged, judged_read, judged_grammar, judged_then}
-use Rattle.statements.specs.Parse.{as_long, repeated}
 use Rattle.statements.proofs.SoundRows.{repeated_judged}
 use Rattle.directives.specs.Tree.{TextTree}
 use Rattle.directives.specs.Grammar.{IsTexts, texts_stop, texts_next}

@@ -5,9 +5,11 @@ use Rattle.lexer.specs.declared.token.Position.{Position}
 use Rattle.lexer.specs.declared.token.Sign.TheVariants as s
 use Rattle.lexer.specs.declared.token.Word.TheVariants as w
 use Rattle.lexer.specs.Token.{Lexeme, name, text, reserved, sign, end, position_of}
-use Rattle.expressions.specs.Tree.{NameTree}
-use Rattle.statements.specs.Tree.{LiteralTree, StatementTrees}
-use Rattle.statements.specs.Grammar.{IsK, IsSs, body_nesting}
+use Rattle.expression_trees.specs.Tree.{NameTree}
+use Rattle.statement_parts.specs.Tree.{LiteralTree}
+use Rattle.statement_parts.specs.Grammar.{IsK}
+use Rattle.statements.specs.Tree.{StatementTrees}
+use Rattle.statements.specs.Grammar.{IsSs, body_nesting}
 use Rattle.directives.specs.declared.tree.ArrayKind.{ArrayKind}
 use Rattle.directives.specs.declared.tree.ArrayKind.TheVariants as kind
 use Rattle.directives.specs.Tree.{ValueTree, TextTree, PropertyTree, HeadTree, DirectiveTree, global, constant, array}

@@ -1,18 +1,20 @@
 -- Words of proofs: directives, read from left to right: functions from a list of tokens to a tree and the tokens after
 -- it.
-use Rattle.std.specs.Prelude.{◌-◌, ◌&&◌, if◌then◌else◌, Bool, true, false, ℕ, List, [], ◌∷◌, length, Option, Some}
-use Rattle.std.specs.Prelude.{None, Result, Ok, Err}
+use Rattle.std.specs.Prelude.{◌-◌, ◌&&◌, if◌then◌else◌, Bool, true, false, ℕ, List, [], ◌∷◌, length, Option, Some, None}
+use Rattle.std.specs.Prelude.{Result, Ok, Err}
 use Rattle.lexer.specs.declared.token.Position.{Position}
 use Rattle.lexer.specs.declared.token.Sign.TheVariants as s
 use Rattle.lexer.specs.declared.token.Word.{Word}
 use Rattle.lexer.specs.declared.token.Word.TheVariants as w
 use Rattle.lexer.specs.Token.{Lexeme, name, text, reserved, sign, position_of}
-use Rattle.expressions.specs.declared.error.Fault.{Fault}
-use Rattle.expressions.specs.declared.error.Fault.TheVariants.{Grammar}
-use Rattle.expressions.specs.Tree.{NameTree}
-use Rattle.expressions.specs.Parse.{Parse, ◌>>=◌, head, tail, is_name, is_sign, is_word, expect}
-use Rattle.statements.specs.Tree.{trees_of}
-use Rattle.statements.specs.Parse.{as_long, repeated, named, known_value, begins_value, statements}
+use Rattle.expression_trees.specs.Tree.{NameTree}
+use Rattle.parsing.specs.declared.error.Fault.{Fault}
+use Rattle.parsing.specs.declared.error.Fault.TheVariants.{Grammar}
+use Rattle.parsing.specs.Parse.{Parse, ◌>>=◌, head, tail, is_sign, is_word, expect, as_long, repeated}
+use Rattle.expressions.specs.Parse.{is_name, expect_name}
+use Rattle.statement_parts.specs.Parse.{known_value, begins_value}
+use Rattle.statements.specs.Tree.{StatementTree, trees_of}
+use Rattle.statements.specs.Parse.{statements}
 use Rattle.directives.specs.declared.tree.ArrayKind.{ArrayKind}
 use Rattle.directives.specs.Tree.{ValueTree, ArrayTree, TextTree, PropertyTree, HeadTree, ObjectTree, RoutineTree}
 use Rattle.directives.specs.Tree.{DirectiveTree, global, constant, array, attribute, property, object, routine}
@@ -21,7 +23,7 @@ use Rattle.directives.specs.Grammar.{weight_of, kind_of}
 -- ---- names
 
 unfoldable pub names : Parse (List NameTree)
-names ts = repeated is_name named (length ts) ts
+names ts = repeated is_name expect_name (length ts) ts
 
 -- ---- arrays
 
@@ -40,7 +42,7 @@ kind ts = kind_on (tail ts) (kind_of (head ts))
 
 unfoldable pub array_behind : Parse ArrayTree
 array_behind ts = do
-  n ← named ts
+  n ← expect_name ts
   k ← kind n.1
   vs ← values k.1
   r ← expect s.Semicolon vs.1
@@ -76,7 +78,7 @@ parent (p ∷ ps) ts = Ok (None, ts)
 unfoldable pub heading : Parse HeadTree
 heading ts = do
   a ← arrows ts
-  n ← named a.1
+  n ← expect_name a.1
   x ← short n.1
   o ← parent a.0 x.1
   Ok (record { arrows = a.0; name = n.0; short = x.0; parent = o.0 }, o.1)
@@ -86,7 +88,7 @@ unfoldable pub behind_comma : List Lexeme → List Lexeme
 behind_comma ts = if is_sign s.Comma (head ts) then tail ts else ts
 
 unfoldable pub prop : Parse PropertyTree
-prop ts = named ts >>= λ n. values n.1 >>= λ vs. Ok (record { name = n.0; values = vs.0 }, vs.1)
+prop ts = expect_name ts >>= λ n. values n.1 >>= λ vs. Ok (record { name = n.0; values = vs.0 }, vs.1)
 
 -- another property comes next, behind a comma
 unfoldable pub lists_further : List Lexeme → Bool
@@ -163,23 +165,23 @@ ended d ts = expect s.Semicolon ts >>= λ r. Ok (d, r)
 
 unfoldable pub global_behind : Parse DirectiveTree
 global_behind ts = do
-  n ← named ts
+  n ← expect_name ts
   if is_sign s.Assign (head n.1) then (known_value (tail n.1) >>= λ k. ended (global n.0 (Some k.0)) k.1)
       else ended (global n.0 None) n.1
 
 unfoldable pub constant_behind : Parse DirectiveTree
 constant_behind ts = do
-  n ← named ts
+  n ← expect_name ts
   m ← expect s.Assign n.1
   k ← known_value m
   ended (constant n.0 k.0) k.1
 
 unfoldable pub attribute_behind : Parse DirectiveTree
-attribute_behind ts = named ts >>= λ n. ended (attribute n.0) n.1
+attribute_behind ts = expect_name ts >>= λ n. ended (attribute n.0) n.1
 
 unfoldable pub property_behind : Parse DirectiveTree
 property_behind ts = do
-  n ← named ts
+  n ← expect_name ts
   if begins_value (head n.1) then (known_value n.1 >>= λ k. ended (property n.0 (Some k.0)) k.1)
       else ended (property n.0 None) n.1
 
@@ -195,12 +197,28 @@ worded _ ts = Err Grammar
 
 -- ---- directives
 
+-- what a routine begins with, behind its bracket: its name, its locals, and their `;`
+unfoldable pub routine_heading : Parse (NameTree × List NameTree)
+routine_heading ts = do
+  n ← expect_name ts
+  ns ← names n.1
+  m ← expect s.Semicolon ns.1
+  Ok ((n.0, ns.0), m)
+
+-- the tokens behind what closes a routine
+unfoldable pub closed : List Lexeme → Result (List Lexeme) Fault
+closed ts = expect s.CloseBracket ts >>= λ u. expect s.Semicolon u
+
 -- where d nestings may be opened in a statement
 module _ (d : ℕ) where
+  -- the statements of a routine, with what closes it
+  unfoldable pub routine_body : Parse (List StatementTree)
+  routine_body ts = statements d ts >>= λ xs. closed xs.1 >>= λ r. Ok (xs.0, r)
+
   -- a routine, from its bracket on
   unfoldable pub routine_at : Parse RoutineTree
   routine_at ts = do
-    n ← named (tail ts)
+    n ← expect_name (tail ts)
     ns ← names n.1
     m ← expect s.Semicolon ns.1
     xs ← statements d m
@@ -208,9 +226,12 @@ module _ (d : ℕ) where
     r ← expect s.Semicolon u
     Ok (record { name = n.0; locals = ns.0; body = trees_of xs.0; weight = weight_of ts - weight_of r }, r)
 
+  abbrev pub one_routine : Parse DirectiveTree
+  one_routine ts = routine_at ts >>= λ x. Ok (routine x.0, x.1)
+
   abbrev pub directive_on : Lexeme → Parse DirectiveTree
   directive_on (reserved word p) ts = worded word ts
-  directive_on (sign s.OpenBracket p) ts = routine_at ts >>= λ x. Ok (routine x.0, x.1)
+  directive_on (sign s.OpenBracket p) ts = one_routine ts
   directive_on _ ts = Err Grammar
 
   unfoldable pub directive : Parse DirectiveTree

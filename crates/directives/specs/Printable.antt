@@ -2,9 +2,10 @@
 use Rattle.std.specs.Prelude.{Option, Some, None}
 use Rattle.std.specs.List.{All}
 use Rattle.lexer.specs.Printable.{IsPrintable}
-use Rattle.statements.specs.Tree.{PrintItemTree, text_item, StatementTree, StatementTrees, CaseTrees, block}
-use Rattle.statements.specs.Tree.{text_alone, print, print_return, if_then, if_else, while_do, do_until, for_loop}
-use Rattle.statements.specs.Tree.{switch_on, each, each_in, each_where, stop, next, no_case, default_case, case}
+use Rattle.statement_parts.specs.Tree.{PrintItemTree, text_item}
+use Rattle.statements.specs.Tree.{StatementTree, StatementTrees, CaseTrees, block, text_alone, print, print_return}
+use Rattle.statements.specs.Tree.{if_then, if_else, while_do, do_until, for_loop, switch_on, each, each_in, each_where}
+use Rattle.statements.specs.Tree.{stop, next, no_case, default_case, case}
 use Rattle.directives.specs.Tree.{TextTree, DirectiveTree, routine, object}
 
 abbrev pub IsPrintableItem : PrintItemTree → Type 0

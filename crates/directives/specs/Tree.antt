@@ -2,9 +2,10 @@
 use Rattle.std.specs.Prelude.{ℕ, List, map, Option, Some, None}
 use Rattle.std.specs.Option.{option_map}
 use Rattle.lexer.specs.declared.token.Position.{Position}
-use Rattle.expressions.specs.Tree.{NameTree, name_tree}
-use Rattle.statements.specs.declared.tree.Literal.{Literal}
-use Rattle.statements.specs.Tree.{LiteralTree, literal_tree, StatementTrees, statement_tree, trees_of}
+use Rattle.expression_trees.specs.Tree.{NameTree, name_tree}
+use Rattle.statement_parts.specs.declared.tree.Literal.{Literal}
+use Rattle.statement_parts.specs.Tree.{LiteralTree, literal_tree}
+use Rattle.statements.specs.Tree.{StatementTrees, statement_tree, trees_of}
 use Rattle.directives.specs.declared.tree.ArrayKind.{ArrayKind}
 use Rattle.directives.specs.declared.tree.ArrayValue.{ArrayValue}
 use Rattle.directives.specs.declared.tree.Array.{Array}

@@ -3,15 +3,17 @@
 -- before a value of a range is not in its tree, and does not count here, nor does a `~` before an attribute of `give`:
 -- there is at most one for each such value or attribute.
 use Rattle.std.specs.Prelude.{◌+◌, ◌*◌, ℕ, List, [], ◌∷◌, length, Option, Some, None}
-use Rattle.expressions.specs.Tree.{ExpressionTree, ExpressionTrees, constant, word, named, call, index, parenthesised}
-use Rattle.expressions.specs.Tree.{relative_of, property, property_length, property_entry, prefixed, step_before}
-use Rattle.expressions.specs.Tree.{step_after, binary, compare, equal, contained, tested, assign, none, more}
-use Rattle.statements.specs.Tree.{LiteralTree, RangeTree, PrintItemTree, text_item, character_item, object_item}
-use Rattle.statements.specs.Tree.{number_item, StatementTree, StatementTrees, CaseTrees, empty, block, text_alone}
-use Rattle.statements.specs.Tree.{print, print_return, new_line, if_then, if_else, while_do, do_until, for_loop}
-use Rattle.statements.specs.Tree.{switch_on, break_at, continue_at, return_alone, return_value, return_true}
-use Rattle.statements.specs.Tree.{return_false, quit, read_line, give, move, remove, each, each_in, each_where, effect}
-use Rattle.statements.specs.Tree.{stop, next, no_case, default_case, case}
+use Rattle.expression_trees.specs.Tree.{ExpressionTree, ExpressionTrees, constant, word, named, call, index}
+use Rattle.expression_trees.specs.Tree.{parenthesised, relative_of, property, property_length, property_entry, prefixed}
+use Rattle.expression_trees.specs.Tree.{step_before, step_after, binary, compare, equal, contained, tested, assign}
+use Rattle.expression_trees.specs.Tree.{none, more}
+use Rattle.statement_parts.specs.Tree.{LiteralTree, RangeTree, PrintItemTree, text_item, character_item, object_item}
+use Rattle.statement_parts.specs.Tree.{number_item}
+use Rattle.statements.specs.Tree.{StatementTree, StatementTrees, CaseTrees, empty, block, text_alone, print}
+use Rattle.statements.specs.Tree.{print_return, new_line, if_then, if_else, while_do, do_until, for_loop, switch_on}
+use Rattle.statements.specs.Tree.{break_at, continue_at, return_alone, return_value, return_true, return_false, quit}
+use Rattle.statements.specs.Tree.{read_line, give, move, remove, each, each_in, each_where, effect, stop, next, no_case}
+use Rattle.statements.specs.Tree.{default_case, case}
 
 abbrev mutual
   pub expression_weight : ExpressionTree → ℕ

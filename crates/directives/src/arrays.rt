@@ -1,17 +1,19 @@
 //! Definitions of arrays, read from tokens.
 
 ghost use Rattle.std.specs.Prelude.{◌≡◌, map};
-ghost use Rattle.lexer.specs.Token.{lexeme, lexemes};
-ghost use Rattle.expressions.specs.Parse.{Gives};
-ghost use Rattle.directives.specs.Tree.{value_tree, array_tree};
+ghost use Rattle.lexer.specs.Token.{lexeme};
+ghost use Rattle.parsing.specs.Returned.{ahead, Takes};
+ghost use Rattle.directives.specs.Tree.{value_tree};
+ghost use Rattle.directives.specs.Returned.{TakesDirective};
 ghost use Rattle.directives.specs.Grammar as grammar;
 ghost use Rattle.directives.specs.Parse as spec;
 
-use crate::tree::{Array, ArrayKind, ArrayValue};
-use expressions::{Fault, ParseError, expect, fault_at, peek, position, skip};
+use crate::parts::in_box;
+use crate::tree::{Array, ArrayKind, ArrayValue, Directive};
+use expressions::name;
 use lexer::{Kind, Sign, Token, Word};
-use statements::{begins_value, known_value, named};
-use std::alloc::Global;
+use parsing::{Fault, ParseError, Parser, expect, fault_at, pass, peek, position};
+use statement_parts::{begins_value, known_value};
 
 // The kind of array that the token names.
 fn kind_of(token: Token<'_>) -> Option<ArrayKind>
@@ -28,24 +30,24 @@ fn kind_of(token: Token<'_>) -> Option<ArrayKind>
 
 // The kind of array that comes next.
 #[tactic(auto, unfolding(crate::specs::Parse::kind))]
-fn kind<'t, 'a>(tokens: &'t [Token<'a>]) -> Result<(ArrayKind, &'t [Token<'a>]), ParseError>
-    ensures { Gives (λ x. (x.0, lexemes x.1.now)) result (spec.kind (lexemes tokens.now)) }
+fn kind<'t, 'a>(parser: &mut Parser<'t, 'a>) -> Result<ArrayKind, ParseError>
+    ensures { Takes (λ k. k) result parser.new (spec.kind (ahead parser.old)) }
 {
-    match kind_of(peek(tokens)) {
-        Some(kind) => Ok((kind, skip(tokens))),
-        None => Err(fault_at(Fault::Grammar, tokens)),
-    }
+    let Some(kind) = kind_of(peek(parser.tokens)) else {
+        return Err(fault_at(Fault::Grammar, parser.tokens));
+    };
+    pass(parser);
+    Ok(kind)
 }
 
 // A value, with the position of its first token.
 #[tactic(auto, unfolding(crate::specs::Parse::placed))]
-fn placed<'t, 'a>(tokens: &'t [Token<'a>]) -> Result<(ArrayValue<'a>, &'t [Token<'a>]), ParseError>
-    ensures { Gives (λ x. (value_tree x.0, lexemes x.1.now)) result
-        (spec.placed (lexemes tokens.now)) }
+fn placed<'t, 'a>(parser: &mut Parser<'t, 'a>) -> Result<ArrayValue<'a>, ParseError>
+    ensures { Takes value_tree result parser.new (spec.placed (ahead parser.old)) }
 {
-    let position = position(tokens);
-    let (value, rest) = known_value(tokens)?;
-    Ok((ArrayValue { position, value }, rest))
+    let position = position(parser.tokens);
+    let value = known_value(parser)?;
+    Ok(ArrayValue { position, value })
 }
 
 /// Values, at least one.
@@ -53,44 +55,37 @@ fn placed<'t, 'a>(tokens: &'t [Token<'a>]) -> Result<(ArrayValue<'a>, &'t [Token
 /// # Errors
 ///
 /// `Fault::Grammar` at the first token: it begins no value; or behind `-`. `Memory` where a growth is refused.
-#[tactic(auto, unfolding(crate::specs::Parse::values), using(statements::proofs::Loops::repeated_out, statements::proofs::Loops::repeated_done, statements::proofs::Loops::repeated_more, statements::proofs::Loops::repeated_fails))]
-pub fn values<'t, 'a>(
-    tokens: &'t [Token<'a>],
-    alloc: Global,
-) -> Result<(Vec<ArrayValue<'a>>, &'t [Token<'a>]), ParseError>
-    ensures { Gives (λ x. (map value_tree x.0.items, lexemes x.1.now)) result
-        (spec.values (lexemes tokens.now)) }
+#[tactic(auto, unfolding(crate::specs::Parse::values), using(parsing::proofs::Loops::repeated_out, parsing::proofs::Loops::repeated_done, parsing::proofs::Loops::repeated_more, parsing::proofs::Loops::repeated_fails))]
+pub fn values<'t, 'a>(parser: &mut Parser<'t, 'a>) -> Result<Vec<ArrayValue<'a>>, ParseError>
+    ensures { Takes (λ vs. map value_tree vs.items) result parser.new
+        (spec.values (ahead parser.old)) }
 {
-    let mut found = Vec::new(alloc);
-    let (first, mut rest) = placed(tokens)?;
+    let mut found = Vec::new(parser.alloc);
+    let first = placed(parser)?;
     found.push(first)?;
-    for _turn in 0..rest.len() {
-        if !begins_value(peek(rest)) {
+    for _turn in 0..parser.tokens.len() {
+        if !begins_value(peek(parser.tokens)) {
             break;
         }
-        let (next, after) = placed(rest)?;
+        let next = placed(parser)?;
         found.push(next)?;
-        rest = after;
     }
-    Ok((found, rest))
+    Ok(found)
 }
 
-/// What follows `array`.
+/// An array, from its word on.
 ///
 /// # Errors
 ///
 /// `Fault::Grammar` at the first token with which no derivation goes on; `Memory` where a growth is refused.
-#[tactic(auto, unfolding(crate::specs::Parse::array_behind))]
-pub fn array<'t, 'a>(
-    tokens: &'t [Token<'a>],
-    alloc: Global,
-) -> Result<(Array<'a>, &'t [Token<'a>]), ParseError>
-    ensures { Gives (λ x. (array_tree x.0, lexemes x.1.now)) result
-        (spec.array_behind (lexemes tokens.now)) }
+#[tactic(auto, unfolding(crate::specs::Parse::worded, crate::specs::Parse::array_behind))]
+pub fn array<'t, 'a>(parser: &mut Parser<'t, 'a>) -> Result<Box<Directive<'a>>, ParseError>
+    ensures { TakesDirective result parser.new (spec.worded Word.Array (ahead parser.old)) }
 {
-    let (name, rest) = named(tokens)?;
-    let (kind, rest) = kind(rest)?;
-    let (values, rest) = values(rest, alloc)?;
-    let rest = expect(Sign::Semicolon, rest)?;
-    Ok((Array { name, kind, values }, rest))
+    pass(parser);
+    let name = name(parser)?;
+    let kind = kind(parser)?;
+    let values = values(parser)?;
+    expect(parser, Sign::Semicolon)?;
+    in_box(parser, Directive::Array(Array { name, kind, values }))
 }

@@ -5,6 +5,8 @@ mod arrays;
 mod directives;
 mod names;
 mod objects;
+mod parts;
+mod routines;
 mod texts;
 mod tree;
 mod weight;

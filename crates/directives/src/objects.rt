@@ -3,20 +3,22 @@
 ghost use Rattle.std.specs.Prelude.{◌≡◌, map, Ok};
 ghost use Rattle.std.specs.Option.{option_map};
 ghost use Rattle.lexer.specs.Token.{lexemes};
-ghost use Rattle.expressions.specs.Tree.{name_tree};
-ghost use Rattle.expressions.specs.Parse.{Gives};
-ghost use Rattle.directives.specs.Tree.{text_tree, head_tree, property_tree, object_tree};
+ghost use Rattle.expression_trees.specs.Tree.{name_tree};
+ghost use Rattle.parsing.specs.Returned.{ahead, Takes};
+ghost use Rattle.directives.specs.Tree.{text_tree, head_tree, property_tree};
+ghost use Rattle.directives.specs.Returned.{TakesDirective};
 ghost use Rattle.directives.specs.Parse as spec;
 
 use crate::arrays::values;
 use crate::names::some_names;
-use crate::tree::{Object, Property, Text};
-use expressions::{
-    Fault, Name, ParseError, expect, fault_at, is_sign, is_word, name_of, peek, position, skip,
-};
+use crate::parts::in_box;
+use crate::tree::{Directive, Object, Property, Text};
+use expression_trees::Name;
+use expressions::{name, name_of};
 use lexer::{Kind, Position, Sign, Token, Word};
-use statements::named;
-use std::alloc::Global;
+use parsing::{
+    Fault, ParseError, Parser, expect, fault_at, is_sign, is_word, pass, peek, position, skip,
+};
 
 // What an object begins with: where each arrow stands, its name, its short name and its parent.
 #[derive(Drop)]
@@ -28,82 +30,70 @@ struct Head<'a> {
 }
 
 // Where each arrow stands, up to a token that is none.
-#[tactic(auto, unfolding(crate::specs::Parse::arrows), using(crate::proofs::Arrows::arrows_out, crate::proofs::Arrows::arrows_done, crate::proofs::Arrows::arrows_more, statements::proofs::Loops::joined_none))]
-fn arrows<'t, 'a>(
-    tokens: &'t [Token<'a>],
-    alloc: Global,
-) -> Result<(Vec<Position>, &'t [Token<'a>]), ParseError>
-    ensures { Gives (λ x. (x.0.items, lexemes x.1.now)) result (spec.arrows (lexemes tokens.now)) }
+#[tactic(auto, unfolding(crate::specs::Parse::arrows), using(crate::proofs::Arrows::arrows_out, crate::proofs::Arrows::arrows_done, crate::proofs::Arrows::arrows_more, parsing::proofs::Loops::joined_none))]
+fn arrows<'t, 'a>(parser: &mut Parser<'t, 'a>) -> Result<Vec<Position>, ParseError>
+    ensures { Takes (λ ps. ps.items) result parser.new (spec.arrows (ahead parser.old)) }
 {
-    let mut found = Vec::new(alloc);
-    let mut rest = tokens;
-    for _turn in 0..tokens.len() {
-        if !is_sign(peek(rest), Sign::Arrow) {
+    let mut found = Vec::new(parser.alloc);
+    for _turn in 0..parser.tokens.len() {
+        if !is_sign(peek(parser.tokens), Sign::Arrow) {
             break;
         }
-        found.push(position(rest))?;
-        rest = skip(rest);
+        found.push(position(parser.tokens))?;
+        pass(parser);
     }
-    Ok((found, rest))
+    Ok(found)
 }
 
 // The text that comes next, if one does.
 #[tactic(auto, unfolding(crate::specs::Parse::short))]
-fn short<'t, 'a>(tokens: &'t [Token<'a>]) -> (Option<Text<'a>>, &'t [Token<'a>])
-    ensures { spec.short (lexemes tokens.now)
-        ≡ Ok (option_map text_tree result.0, lexemes result.1.now) }
+fn short<'t, 'a>(parser: &mut Parser<'t, 'a>) -> Option<Text<'a>>
+    ensures { spec.short (ahead parser.old) ≡ Ok (option_map text_tree result, ahead parser.new) }
 {
-    let next = peek(tokens);
+    let next = peek(parser.tokens);
     match next.kind {
         Kind::Text(bytes) => {
-            let text = Text {
+            pass(parser);
+            Some(Text {
                 bytes,
                 position: next.position,
-            };
-            (Some(text), skip(tokens))
+            })
         }
-        _ => (None, tokens),
+        _ => None,
     }
 }
 
 // The name of a parent, if one comes next where no arrow stands.
 #[tactic(auto, using(crate::proofs::Arrows::parent_behind_arrows, crate::proofs::Arrows::parent_found, crate::proofs::Arrows::parent_absent))]
-fn parent<'t, 'a>(
-    arrows: &Vec<Position>,
-    tokens: &'t [Token<'a>],
-) -> (Option<Name<'a>>, &'t [Token<'a>])
-    ensures { spec.parent arrows.now.items (lexemes tokens.now)
-        ≡ Ok (option_map name_tree result.0, lexemes result.1.now) }
+fn parent<'t, 'a>(parser: &mut Parser<'t, 'a>, arrows: &Vec<Position>) -> Option<Name<'a>>
+    ensures { spec.parent arrows.now.items (ahead parser.old)
+        ≡ Ok (option_map name_tree result, ahead parser.new) }
 {
     if !arrows.is_empty() {
-        return (None, tokens);
+        return None;
     }
-    match name_of(peek(tokens)) {
-        Some(name) => (Some(name), skip(tokens)),
-        None => (None, tokens),
-    }
+    let Some(name) = name_of(peek(parser.tokens)) else {
+        return None;
+    };
+    pass(parser);
+    Some(name)
 }
 
 // What an object begins with.
 #[tactic(auto, unfolding(crate::specs::Parse::heading))]
-fn heading<'t, 'a>(
-    tokens: &'t [Token<'a>],
-    alloc: Global,
-) -> Result<(Head<'a>, &'t [Token<'a>]), ParseError>
-    ensures { Gives (λ x. (head_tree x.0, lexemes x.1.now)) result
-        (spec.heading (lexemes tokens.now)) }
+fn heading<'t, 'a>(parser: &mut Parser<'t, 'a>) -> Result<Head<'a>, ParseError>
+    ensures { Takes head_tree result parser.new (spec.heading (ahead parser.old)) }
 {
-    let (arrows, rest) = arrows(tokens, alloc)?;
-    let (name, rest) = named(rest)?;
-    let (short, rest) = short(rest);
-    let (parent, rest) = parent(&arrows, rest);
-    let head = Head {
+    let arrows = arrows(parser)?;
+    let name = name(parser)?;
+    let short = short(parser);
+    let parent = parent(parser, &arrows);
+    Ok(Head {
         arrows,
         name,
         short,
         parent,
-    };
-    Ok((head, rest))
+    })
 }
 
 // The tokens behind a comma, if one comes next.
@@ -120,16 +110,12 @@ fn behind_comma<'t, 'a>(tokens: &'t [Token<'a>]) -> &'t [Token<'a>]
 
 // A property and its values.
 #[tactic(auto, unfolding(crate::specs::Parse::prop))]
-fn property<'t, 'a>(
-    tokens: &'t [Token<'a>],
-    alloc: Global,
-) -> Result<(Property<'a>, &'t [Token<'a>]), ParseError>
-    ensures { Gives (λ x. (property_tree x.0, lexemes x.1.now)) result
-        (spec.prop (lexemes tokens.now)) }
+fn property<'t, 'a>(parser: &mut Parser<'t, 'a>) -> Result<Property<'a>, ParseError>
+    ensures { Takes property_tree result parser.new (spec.prop (ahead parser.old)) }
 {
-    let (name, rest) = named(tokens)?;
-    let (values, rest) = values(rest, alloc)?;
-    Ok((Property { name, values }, rest))
+    let name = name(parser)?;
+    let values = values(parser)?;
+    Ok(Property { name, values })
 }
 
 // Whether another property comes next, behind a comma.
@@ -142,99 +128,86 @@ fn lists_further(tokens: &[Token<'_>]) -> bool
 
 // A property behind a comma.
 #[tactic(auto, unfolding(crate::specs::Parse::next_prop))]
-fn next_property<'t, 'a>(
-    tokens: &'t [Token<'a>],
-    alloc: Global,
-) -> Result<(Property<'a>, &'t [Token<'a>]), ParseError>
-    ensures { Gives (λ x. (property_tree x.0, lexemes x.1.now)) result
-        (spec.next_prop (lexemes tokens.now)) }
+fn next_property<'t, 'a>(parser: &mut Parser<'t, 'a>) -> Result<Property<'a>, ParseError>
+    ensures { Takes property_tree result parser.new (spec.next_prop (ahead parser.old)) }
 {
-    let rest = expect(Sign::Comma, tokens)?;
-    property(rest, alloc)
+    expect(parser, Sign::Comma)?;
+    property(parser)
 }
 
 // Properties, at least one, with commas between them.
-#[tactic(auto, unfolding(crate::specs::Parse::props), using(statements::proofs::Loops::as_long_out, statements::proofs::Loops::as_long_done, statements::proofs::Loops::as_long_more, statements::proofs::Loops::as_long_fails))]
-fn listed<'t, 'a>(
-    tokens: &'t [Token<'a>],
-    alloc: Global,
-) -> Result<(Vec<Property<'a>>, &'t [Token<'a>]), ParseError>
-    ensures { Gives (λ x. (map property_tree x.0.items, lexemes x.1.now)) result
-        (spec.props (lexemes tokens.now)) }
+#[tactic(auto, unfolding(crate::specs::Parse::props), using(parsing::proofs::Loops::as_long_out, parsing::proofs::Loops::as_long_done, parsing::proofs::Loops::as_long_more, parsing::proofs::Loops::as_long_fails))]
+fn listed<'t, 'a>(parser: &mut Parser<'t, 'a>) -> Result<Vec<Property<'a>>, ParseError>
+    ensures { Takes (λ xs. map property_tree xs.items) result parser.new
+        (spec.props (ahead parser.old)) }
 {
-    let mut found = Vec::new(alloc);
-    let (first, mut rest) = property(tokens, alloc)?;
+    let mut found = Vec::new(parser.alloc);
+    let first = property(parser)?;
     found.push(first)?;
-    for _turn in 0..rest.len() {
-        if !lists_further(rest) {
+    for _turn in 0..parser.tokens.len() {
+        if !lists_further(parser.tokens) {
             break;
         }
-        let (next, after) = next_property(rest, alloc)?;
+        let next = next_property(parser)?;
         found.push(next)?;
-        rest = after;
     }
-    Ok((found, rest))
+    Ok(found)
 }
 
 // The properties that an object provides, behind `with`.
 #[tactic(auto, unfolding(crate::specs::Parse::properties))]
-fn properties<'t, 'a>(
-    tokens: &'t [Token<'a>],
-    alloc: Global,
-) -> Result<(Vec<Property<'a>>, &'t [Token<'a>]), ParseError>
-    ensures { Gives (λ x. (map property_tree x.0.items, lexemes x.1.now)) result
-        (spec.properties (lexemes tokens.now)) }
+fn properties<'t, 'a>(parser: &mut Parser<'t, 'a>) -> Result<Vec<Property<'a>>, ParseError>
+    ensures { Takes (λ xs. map property_tree xs.items) result parser.new
+        (spec.properties (ahead parser.old)) }
 {
-    let behind = behind_comma(tokens);
+    let behind = behind_comma(parser.tokens);
     if is_word(peek(behind), Word::With) {
-        return listed(skip(behind), alloc);
+        parser.tokens = skip(behind);
+        return listed(parser);
     }
-    Ok((Vec::new(alloc), tokens))
+    Ok(Vec::new(parser.alloc))
 }
 
 // The names of an object's attributes, behind `has`. A comma that neither `with` nor `has` follows is not in the grammar.
 #[tactic(auto, unfolding(crate::specs::Parse::attributes))]
-fn attributes<'t, 'a>(
-    tokens: &'t [Token<'a>],
-    alloc: Global,
-) -> Result<(Vec<Name<'a>>, &'t [Token<'a>]), ParseError>
-    ensures { Gives (λ x. (map name_tree x.0.items, lexemes x.1.now)) result
-        (spec.attributes (lexemes tokens.now)) }
+fn attributes<'t, 'a>(parser: &mut Parser<'t, 'a>) -> Result<Vec<Name<'a>>, ParseError>
+    ensures { Takes (λ ns. map name_tree ns.items) result parser.new
+        (spec.attributes (ahead parser.old)) }
 {
-    let behind = behind_comma(tokens);
+    let behind = behind_comma(parser.tokens);
     if is_word(peek(behind), Word::Has) {
-        return some_names(skip(behind), alloc);
+        parser.tokens = skip(behind);
+        return some_names(parser);
     }
-    if is_sign(peek(tokens), Sign::Comma) {
+    if is_sign(peek(parser.tokens), Sign::Comma) {
         return Err(fault_at(Fault::Grammar, behind));
     }
-    Ok((Vec::new(alloc), tokens))
+    Ok(Vec::new(parser.alloc))
 }
 
-/// What follows `object`.
+/// An object, from its word on.
 ///
 /// # Errors
 ///
 /// `Fault::Grammar` at the first token with which no derivation goes on; `Memory` where a growth is refused.
-#[tactic(auto, unfolding(crate::specs::Parse::object_behind))]
-pub fn object<'t, 'a>(
-    tokens: &'t [Token<'a>],
-    alloc: Global,
-) -> Result<(Object<'a>, &'t [Token<'a>]), ParseError>
-    ensures { Gives (λ x. (object_tree x.0, lexemes x.1.now)) result
-        (spec.object_behind (lexemes tokens.now)) }
+#[tactic(auto, unfolding(crate::specs::Parse::worded, crate::specs::Parse::object_behind))]
+pub fn object<'t, 'a>(parser: &mut Parser<'t, 'a>) -> Result<Box<Directive<'a>>, ParseError>
+    ensures { TakesDirective result parser.new (spec.worded Word.Object (ahead parser.old)) }
 {
-    let (head, rest) = heading(tokens, alloc)?;
-    let (properties, rest) = properties(rest, alloc)?;
-    let (attributes, rest) = attributes(rest, alloc)?;
-    let rest = expect(Sign::Semicolon, rest)?;
-    let found = Object {
-        arrows: head.arrows,
-        name: head.name,
-        short: head.short,
-        parent: head.parent,
-        properties,
-        attributes,
-    };
-    Ok((found, rest))
+    pass(parser);
+    let head = heading(parser)?;
+    let properties = properties(parser)?;
+    let attributes = attributes(parser)?;
+    expect(parser, Sign::Semicolon)?;
+    in_box(
+        parser,
+        Directive::Object(Object {
+            arrows: head.arrows,
+            name: head.name,
+            short: head.short,
+            parent: head.parent,
+            properties,
+            attributes,
+        }),
+    )
 }

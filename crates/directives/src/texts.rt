@@ -1,15 +1,14 @@
 //! Texts, read from tokens.
 
 ghost use Rattle.std.specs.Prelude.{◌≡◌, map};
-ghost use Rattle.lexer.specs.Token.{lexeme, lexemes};
-ghost use Rattle.expressions.specs.Parse.{Gives};
+ghost use Rattle.lexer.specs.Token.{lexeme};
+ghost use Rattle.parsing.specs.Returned.{ahead, Takes};
 ghost use Rattle.directives.specs.Tree.{text_tree};
 ghost use Rattle.directives.specs.Parse as spec;
 
 use crate::tree::Text;
-use expressions::{Fault, ParseError, expect, fault_at, peek, skip};
 use lexer::{Kind, Sign, Token};
-use std::alloc::Global;
+use parsing::{Fault, ParseError, Parser, expect, fault_at, pass, peek};
 
 fn is_text(token: Token<'_>) -> bool
     ensures { result ≡ spec.is_text (lexeme token.entry) }
@@ -19,60 +18,52 @@ fn is_text(token: Token<'_>) -> bool
 
 // The text that comes next.
 #[tactic(auto, unfolding(crate::specs::Parse::one_text))]
-fn one_text<'t, 'a>(tokens: &'t [Token<'a>]) -> Result<(Text<'a>, &'t [Token<'a>]), ParseError>
-    ensures { Gives (λ x. (text_tree x.0, lexemes x.1.now)) result
-        (spec.one_text (lexemes tokens.now)) }
+fn one_text<'t, 'a>(parser: &mut Parser<'t, 'a>) -> Result<Text<'a>, ParseError>
+    ensures { Takes text_tree result parser.new (spec.one_text (ahead parser.old)) }
 {
-    let next = peek(tokens);
+    let next = peek(parser.tokens);
     match next.kind {
         Kind::Text(bytes) => {
-            let text = Text {
+            pass(parser);
+            Ok(Text {
                 bytes,
                 position: next.position,
-            };
-            Ok((text, skip(tokens)))
+            })
         }
-        _ => Err(fault_at(Fault::Grammar, tokens)),
+        _ => Err(fault_at(Fault::Grammar, parser.tokens)),
     }
 }
 
 // Texts, at least one.
-#[tactic(auto, unfolding(crate::specs::Parse::texts), using(statements::proofs::Loops::repeated_out, statements::proofs::Loops::repeated_done, statements::proofs::Loops::repeated_more, statements::proofs::Loops::repeated_fails))]
-fn texts<'t, 'a>(
-    tokens: &'t [Token<'a>],
-    alloc: Global,
-) -> Result<(Vec<Text<'a>>, &'t [Token<'a>]), ParseError>
-    ensures { Gives (λ x. (map text_tree x.0.items, lexemes x.1.now)) result
-        (spec.texts (lexemes tokens.now)) }
+#[tactic(auto, unfolding(crate::specs::Parse::texts), using(parsing::proofs::Loops::repeated_out, parsing::proofs::Loops::repeated_done, parsing::proofs::Loops::repeated_more, parsing::proofs::Loops::repeated_fails))]
+fn texts<'t, 'a>(parser: &mut Parser<'t, 'a>) -> Result<Vec<Text<'a>>, ParseError>
+    ensures { Takes (λ xs. map text_tree xs.items) result parser.new
+        (spec.texts (ahead parser.old)) }
 {
-    let mut found = Vec::new(alloc);
-    let (first, mut rest) = one_text(tokens)?;
+    let mut found = Vec::new(parser.alloc);
+    let first = one_text(parser)?;
     found.push(first)?;
-    for _turn in 0..rest.len() {
-        if !is_text(peek(rest)) {
+    for _turn in 0..parser.tokens.len() {
+        if !is_text(peek(parser.tokens)) {
             break;
         }
-        let (next, after) = one_text(rest)?;
+        let next = one_text(parser)?;
         found.push(next)?;
-        rest = after;
     }
-    Ok((found, rest))
+    Ok(found)
 }
 
-/// What follows `abbreviate`.
+/// The texts behind `abbreviate`, with their `;`.
 ///
 /// # Errors
 ///
 /// `Fault::Grammar` at the first token with which no derivation goes on; `Memory` where a growth is refused.
 #[tactic(auto, unfolding(crate::specs::Parse::abbreviate_behind))]
-pub fn abbreviate<'t, 'a>(
-    tokens: &'t [Token<'a>],
-    alloc: Global,
-) -> Result<(Vec<Text<'a>>, &'t [Token<'a>]), ParseError>
-    ensures { Gives (λ x. (map text_tree x.0.items, lexemes x.1.now)) result
-        (spec.abbreviate_behind (lexemes tokens.now)) }
+pub fn abbreviate<'t, 'a>(parser: &mut Parser<'t, 'a>) -> Result<Vec<Text<'a>>, ParseError>
+    ensures { Takes (λ xs. map text_tree xs.items) result parser.new
+        (spec.abbreviate_behind (ahead parser.old)) }
 {
-    let (found, rest) = texts(tokens, alloc)?;
-    let rest = expect(Sign::Semicolon, rest)?;
-    Ok((found, rest))
+    let found = texts(parser)?;
+    expect(parser, Sign::Semicolon)?;
+    Ok(found)
 }

@@ -1,8 +1,9 @@
 //! Trees of directives.
 
-use expressions::Name;
+use expression_trees::Name;
 use lexer::Position;
-use statements::{Literal, Statement};
+use statement_parts::Literal;
+use statements::Statement;
 
 /// What an array holds.
 #[derive(Clone, Copy)]

@@ -1,14 +1,14 @@
 -- How many items the forms of expressions have.
 use Rattle.std.proofs.Common.{◌≡◌, ℕ, ◌+◌, List, [], ◌∷◌, ◌++◌, length, Bool, true, refl, arith}
-use Rattle.expressions.specs.declared.tree.Equality.{Equality}
+use Rattle.expression_trees.specs.declared.tree.Equality.{Equality}
 use Rattle.meaning.specs.Resolved.{Value, Values, none, more}
 use Rattle.meaning.specs.Resolved as source
 use Rattle.meaning.specs.Meaning.{is_true}
 use Rattle.drafts.specs.Items.{Item, pushed, number, variable, Destination, push, into, operand_of, containment_when}
 use Rattle.drafts.specs.Items.{first_of, operands_of, alone, left_of, if_pushed, branch_true, agrees, is_few}
-use Rattle.drafts.specs.Items.{comparison_test, comparison_when, equality_when, truth_count, value_count}
-use Rattle.drafts.specs.Items.{operand_count, operands_count, branch_count, many_count, also_count, value_items}
-use Rattle.drafts.specs.Items.{operands_items, branch_items, many_items, also_items, alone_items}
+use Rattle.drafts.specs.Items.{comparison_test, comparison_when, equality_when, truth_count, value_count, operand_count}
+use Rattle.drafts.specs.Items.{operands_count, branch_count, many_count, also_count, value_items, operands_items}
+use Rattle.drafts.specs.Items.{branch_items, many_items, also_items, alone_items}
 use Rattle.drafts.specs.Items as items
 use Rattle.drafts.proofs.CountedForms.{joined, if_length, moved_length, after_length, truth_length, two_length}
 use Rattle.drafts.proofs.CountedForms.{three_length, kept_length, known_length, either_length, either_and, Counted}

@@ -5,7 +5,7 @@ use Rattle.std.proofs.lemmas.List.{map-append}
 use Rattle.std.specs.Prelude.{if◌then◌else◌}
 use Rattle.meaning.specs.declared.resolved.Variable.{Variable}
 use Rattle.meaning.specs.declared.resolved.Value as code_value
-use Rattle.meaning.specs.Resolved.{Value, Values, none, more, value_of, values_of}
+use Rattle.meaning.specs.Resolved.{Value, Values, value_of, values_of}
 use Rattle.meaning.specs.Resolved as source
 use Rattle.drafts.specs.Items.{Operand, pushed, number, variable, operand_of, operands_of, alone, change}
 use Rattle.drafts.specs.declared.item.Operand as code

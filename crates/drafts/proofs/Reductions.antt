@@ -1,11 +1,10 @@
 -- What is written for a word, and for a condition.
 use Rattle.std.proofs.Common.{◌≡◌, ℕ, ◌+◌, ◌-◌, List, [], ◌∷◌, ◌++◌, length, Bool, true, refl, sym, ap, ◌∙◌, arith}
+use Rattle.expression_trees.specs.declared.tree.Step.{Step}
 use Rattle.meaning.specs.declared.resolved.Variable.{Variable}
-use Rattle.expressions.specs.declared.tree.Step.{Step}
-use Rattle.meaning.specs.Resolved.{Value}
 use Rattle.meaning.specs.Resolved as source
-use Rattle.drafts.specs.Items.{Item, Operand, pushed, number, variable, Destination, push, into, nowhere, branch_true}
-use Rattle.drafts.specs.Items.{agrees, value_count, branch_count, value_items, branch_items, moved, after_items}
+use Rattle.drafts.specs.Items.{Item, pushed, number, variable, Destination, push, into, nowhere, branch_true}
+use Rattle.drafts.specs.Items.{value_count, branch_count, branch_items}
 use Rattle.drafts.specs.Items as items
 use Rattle.drafts.specs.Code.{as_destination}
 use Rattle.drafts.specs.declared.item.Destination as code

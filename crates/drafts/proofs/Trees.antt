@@ -2,22 +2,22 @@
 use Rattle.std.proofs.Common.{◌≡◌, ℕ, List, [], ◌∷◌, length, Bool, true, false, map, arith, refl, ap, sym, ◌∙◌}
 use Rattle.std.specs.Prelude.{◌||◌}
 use Rattle.std.specs.Global.{Vec, Box}
-use Rattle.expressions.specs.declared.tree.Binary.{Binary}
-use Rattle.expressions.specs.declared.tree.Comparison.{Comparison}
-use Rattle.expressions.specs.declared.tree.Containment.{Containment}
-use Rattle.expressions.specs.declared.tree.Equality.{Equality}
-use Rattle.expressions.specs.declared.tree.Prefix.{Prefix}
-use Rattle.expressions.specs.declared.tree.Relative.{Relative}
-use Rattle.expressions.specs.declared.tree.Step.{Step}
-use Rattle.expressions.specs.declared.tree.Width.{Width}
+use Rattle.expression_trees.specs.declared.tree.Binary.{Binary}
+use Rattle.expression_trees.specs.declared.tree.Comparison.{Comparison}
+use Rattle.expression_trees.specs.declared.tree.Containment.{Containment}
+use Rattle.expression_trees.specs.declared.tree.Equality.{Equality}
+use Rattle.expression_trees.specs.declared.tree.Prefix.{Prefix}
+use Rattle.expression_trees.specs.declared.tree.Relative.{Relative}
+use Rattle.expression_trees.specs.declared.tree.Step.{Step}
+use Rattle.expression_trees.specs.declared.tree.Width.{Width}
 use Rattle.meaning.specs.declared.resolved.Variable.{Variable}
 use Rattle.meaning.specs.declared.resolved.Value as code_value
 use Rattle.meaning.specs.declared.resolved.Value.TheVariants as v
 use Rattle.meaning.specs.declared.resolved.Value.TheFolds.{fold-roll-Value}
-use Rattle.meaning.specs.Resolved.{Value, number, read, call, prefixed, step_before, step_after, binary, compare}
-use Rattle.meaning.specs.Resolved.{equal, entry, assign_entry, assign_property_word, relative, contained, has}
-use Rattle.meaning.specs.Resolved.{provides, property, property_size, property_word, assign_property, assign, more}
-use Rattle.meaning.specs.Resolved.{values_of, chained, value_of, value_layer}
+use Rattle.meaning.specs.Resolved.{Value, number, read, call, prefixed, step_before, step_after, binary, compare, equal}
+use Rattle.meaning.specs.Resolved.{entry, assign_entry, assign_property_word, relative, contained, has, provides}
+use Rattle.meaning.specs.Resolved.{property, property_size, property_word, assign_property, assign, more, values_of}
+use Rattle.meaning.specs.Resolved.{chained, value_of, value_layer}
 use Rattle.meaning.specs.Accepted.{count_of}
 use Rattle.drafts.specs.Items as items
 use Rattle.drafts.specs.Writing.{link_of, change_links}

@@ -1,6 +1,6 @@
 //! The items of a routine.
 
-use expressions::{Binary, Prefix, Relative, Step, Width};
+use expression_trees::{Binary, Prefix, Relative, Step, Width};
 use meaning::Variable;
 
 /// A word that an item takes. Of the operands of an item that are pushed the last is on top.

@@ -5,10 +5,11 @@ ghost use Rattle.meaning.specs.Resolved.{value_of};
 ghost use Rattle.meaning.specs.Accepted.{count_of};
 ghost use Rattle.drafts.specs.Items as items;
 ghost use Rattle.drafts.specs.Code.{as_operand};
-ghost use Rattle.drafts.specs.Writing.{change_links, link_of, values_in, more_in, left_side, right_side, AddsOperands};
+ghost use Rattle.drafts.specs.Writing.{change_links, link_of, values_in, more_in, left_side};
+ghost use Rattle.drafts.specs.Writing.{right_side, AddsOperands};
 
 use crate::item::Operand;
-use expressions::Binary;
+use expression_trees::Binary;
 use meaning::{Value, Variable};
 use std::alloc::AllocError;
 

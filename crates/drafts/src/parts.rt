@@ -6,12 +6,13 @@ ghost use Rattle.meaning.specs.Meaning.{is_true};
 ghost use Rattle.drafts.specs.Items as items;
 ghost use Rattle.drafts.specs.Code.{as_test};
 ghost use Rattle.drafts.specs.declared.wanted.Wanted.TheVariants.{Branch};
-ghost use Rattle.drafts.specs.Writing.{is_logical, WritesValue, WritesWord, WritesTruth, WritesChoice, WritesMoved};
+ghost use Rattle.drafts.specs.Writing.{is_logical, WritesValue, WritesWord, WritesTruth};
+ghost use Rattle.drafts.specs.Writing.{WritesChoice, WritesMoved};
 
 use crate::draft::{Draft, put, put_branch, written};
 use crate::item::{Destination, Item, Operand, Test};
 use crate::wanted::Wanted;
-use expressions::{Binary, Comparison, Containment, Equality, Step};
+use expression_trees::{Binary, Comparison, Containment, Equality, Step};
 use meaning::Variable;
 use std::alloc::AllocError;
 

@@ -2,7 +2,7 @@
 -- stand in place in an instruction; the other operands are on the stack of the routine's frame. Variables from 248 on
 -- are the compiler's; none keeps its value beyond an item but the last, which holds the word of a `switch` for the
 -- tests of its cases.
-use Rattle.std.specs.Prelude.{◌+◌, ◌-◌, ◌%◌, not, ℕ, zero, suc, nat_lt, Bool, if◌then◌else◌, List, [], ◌∷◌, Some, None}
+use Rattle.std.specs.Prelude.{◌+◌, ◌-◌, ◌%◌, ℕ, zero, suc, nat_lt, Bool, if◌then◌else◌, List, [], ◌∷◌, Some, None}
 use Rattle.zcore.specs.declared.instruction.Operand.{Operand}
 use Rattle.zcore.specs.declared.instruction.Operand.TheVariants.{Large, Small, Variable}
 use Rattle.zcore.specs.declared.instruction.Operation.{Operation}

@@ -4,26 +4,28 @@ use Rattle.lexer.specs.declared.token.Position.{Position}
 use Rattle.lexer.specs.declared.token.Sign.TheVariants as s
 use Rattle.lexer.specs.declared.token.Word.TheVariants as w
 use Rattle.lexer.specs.Token.{Lexeme, name, number, character, dictionary_word, reserved, sign, position_of}
-use Rattle.expressions.specs.declared.error.Fault.{Fault}
-use Rattle.expressions.specs.declared.tree.Comparison.{Comparison}
-use Rattle.expressions.specs.declared.tree.Equality.{Equality}
-use Rattle.expressions.specs.declared.tree.Containment.{Containment}
-use Rattle.expressions.specs.declared.tree.ObjectTest.{ObjectTest}
-use Rattle.expressions.specs.declared.tree.Prefix.TheVariants as op
-use Rattle.expressions.specs.declared.tree.Relative.{Relative}
-use Rattle.expressions.specs.declared.tree.Step.{Step}
-use Rattle.expressions.specs.declared.tree.Width.{Width}
-use Rattle.expressions.specs.Tree.{NameTree, ExpressionTree, ExpressionTrees, constant, word, named, call, index}
-use Rattle.expressions.specs.Tree.{parenthesised, relative_of, property_length, property_entry, prefixed, step_before}
-use Rattle.expressions.specs.Tree.{step_after, compare, equal, contained, tested, assign, none, more, trees_of}
+use Rattle.expression_trees.specs.declared.tree.Comparison.{Comparison}
+use Rattle.expression_trees.specs.declared.tree.Equality.{Equality}
+use Rattle.expression_trees.specs.declared.tree.Containment.{Containment}
+use Rattle.expression_trees.specs.declared.tree.ObjectTest.{ObjectTest}
+use Rattle.expression_trees.specs.declared.tree.Prefix.TheVariants as op
+use Rattle.expression_trees.specs.declared.tree.Relative.{Relative}
+use Rattle.expression_trees.specs.declared.tree.Step.{Step}
+use Rattle.expression_trees.specs.declared.tree.Width.{Width}
+use Rattle.expression_trees.specs.Tree.{NameTree, ExpressionTree, ExpressionTrees, constant, word, named, call, index}
+use Rattle.expression_trees.specs.Tree.{parenthesised, relative_of, property_length, property_entry, prefixed}
+use Rattle.expression_trees.specs.Tree.{step_before, step_after, compare, equal, contained, tested, assign, none, more}
+use Rattle.expression_trees.specs.Tree.{trees_of}
+use Rattle.parsing.specs.declared.error.Fault.{Fault}
+use Rattle.parsing.specs.Parse.{◌>>=◌, head, is_sign, is_word, expect, list}
 use Rattle.expressions.specs.Operators.{logical, comparing, equating, containing, testing, adding, scaling, stepping}
 use Rattle.expressions.specs.Operators.{prefixes, relating, indexing}
 use Rattle.expressions.specs.Nesting.{begins_expression}
-use Rattle.expressions.specs.Parse.{◌>>=◌, head, is_sign, is_word, expect, list, whole, negation, complement, prefix}
-use Rattle.expressions.specs.Parse.{operand, arguments, expect_name, entry_of, lengthened, tested_next, nested}
-use Rattle.expressions.specs.Parse.{after_name, enclosed, related, atom, primary, suffixed, stepped, unary, array_at}
-use Rattle.expressions.specs.Parse.{entry, owned, unindexed, indexed, complemented, product, sum, equated, comparison}
-use Rattle.expressions.specs.Parse.{negated, condition, assigned, expression, called}
+use Rattle.expressions.specs.Parse.{assignment, compared, whole, negation, complement, prefix, operand, arguments}
+use Rattle.expressions.specs.Parse.{expect_name, entry_of, lengthened, tested_next, nested, after_name, enclosed}
+use Rattle.expressions.specs.Parse.{related, atom, primary, suffixed, stepped, unary, array_at, entry, owned, unindexed}
+use Rattle.expressions.specs.Parse.{indexed, complemented, product, sum, equated, comparison, negated, condition}
+use Rattle.expressions.specs.Parse.{assigned, expression, called}
 use Rattle.expressions.proofs.Limited.{Limited, bound, then, at_once, same, Chained, begins}
 use Rattle.expressions.proofs.Properties.{Owned, owner_begins, owner_stops}
 use Rattle.expressions.proofs.Follow.{Stops, equating_only, containing_only, testing_only, stepping_only}
@@ -65,13 +67,13 @@ suffix_length e p q f r = refl
 module _ (ts : List Lexeme) (d : ℕ) where
   pub step_e_plain : {n : ℕ} {e : ExpressionTree} {r : List Lexeme} → Limited (condition (nested d) ts) d n e r
       → Stops 1 r → Limited (expression (nested d) ts) d n e r
-  unfolding expression
+  unfolding expression assignment
   step_e_plain {r = r} a st = then _ a (rw (assign_stops (head r) st) refl)
 
   pub step_e_assign : {n k : ℕ} {p : Position} {a b : ExpressionTree} {r : List Lexeme} (m : List Lexeme)
       → Limited (condition (nested d) ts) d n a (sign s.Assign p ∷ m) → begins_expression (head m) ≡ true
       → Limited (nested d whole m) d k b r → Limited (expression (nested d) ts) d (max n k) (assign a p b) r
-  unfolding expression assigned
+  unfolding expression assignment assigned
   step_e_assign {k = k} {b = b} {r = r} m a e h =
       let right : Limited (assigned (nested d) m) d k b r = same (rw e refl) h in
       bound _ a (then _ right refl)
@@ -88,7 +90,7 @@ module _ (ts : List Lexeme) (d : ℕ) where
 
   pub step_e2_plain : {n : ℕ} {e : ExpressionTree} {r : List Lexeme} → Limited (sum (nested d) ts) d n e r → Stops 3 r
       → Limited (comparison (nested d) ts) d n e r
-  unfolding comparison tested_next
+  unfolding comparison compared tested_next
   step_e2_plain {r = r} a st = then _ a
       (rw (
         comparing_stops (head r) st,
@@ -100,7 +102,7 @@ module _ (ts : List Lexeme) (d : ℕ) where
   pub step_e2_contained : {n k : ℕ} {a b : ExpressionTree} {t : Lexeme} {op : Containment} {m r : List Lexeme}
       → Limited (sum (nested d) ts) d n a (t ∷ m) → containing t ≡ Some op → Limited (sum (nested d) m) d k b r
       → Limited (comparison (nested d) ts) d (max n k) (contained op a b) r
-  unfolding comparison
+  unfolding comparison compared
   step_e2_contained {a = a} {t = t} {op = op} {m = m} l o b =
       let not_these = containing_only t op o in
       bound _ l
@@ -110,7 +112,7 @@ module _ (ts : List Lexeme) (d : ℕ) where
   pub step_e2_tested : {n : ℕ} {a : ExpressionTree} {t : Lexeme} {test : ObjectTest} {p : Position} {f : List ℕ}
       {r : List Lexeme} → Limited (sum (nested d) ts) d n a (t ∷ name f p ∷ r) → testing t ≡ Some test
       → Limited (comparison (nested d) ts) d n (tested test a (record { text = f; position = p })) r
-  unfolding comparison tested_next expect_name
+  unfolding comparison compared tested_next expect_name
   step_e2_tested {t = t} {test = test} l o =
       let not_these = testing_only t test o in
       then _ l (rw (not_these.0, not_these.1, not_these.2, o) refl)
@@ -118,7 +120,7 @@ module _ (ts : List Lexeme) (d : ℕ) where
   pub step_e2_compare : {n k : ℕ} {a b : ExpressionTree} {t : Lexeme} {op : Comparison} {m r : List Lexeme}
       → Limited (sum (nested d) ts) d n a (t ∷ m) → comparing t ≡ Some op → Limited (sum (nested d) m) d k b r
       → Limited (comparison (nested d) ts) d (max n k) (compare op a b) r
-  unfolding comparison
+  unfolding comparison compared
   step_e2_compare {a = a} {op = op} {m = m} l o b = bound _ l
       (same {S = sum (nested d) m >>= λ x. Ok (compare op a x.0, x.1)} (rw o refl) (then _ b refl))
 
@@ -126,7 +128,7 @@ module _ (ts : List Lexeme) (d : ℕ) where
       Lexeme} → Limited (sum (nested d) ts) d n a (t ∷ m) → equating t ≡ Some op
       → Limited (list (is_word w.Or) (sum (nested d)) m) d k (list_of bs) r
       → Limited (comparison (nested d) ts) d (max n k) (equal op a bs) r
-  unfolding comparison equated
+  unfolding comparison compared equated
   step_e2_equal {a = a} {t = t} {op = op} {bs = bs} {m = m} {r = r} l o b =
       bound _ l
       (same {S = list (is_word w.Or) (sum (nested d)) m >>= λ x. Ok (equal op a (trees_of x.0), x.1)}

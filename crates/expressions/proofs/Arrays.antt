@@ -2,12 +2,13 @@
 use Rattle.std.proofs.Common.{◌≡◌, false, List, Option, Some, None, refl}
 use Rattle.lexer.specs.declared.token.Sign.TheVariants as s
 use Rattle.lexer.specs.Token.{Lexeme, name, sign}
-use Rattle.expressions.specs.declared.tree.Name.{Name}
-use Rattle.expressions.specs.declared.tree.Step.{Step}
-use Rattle.expressions.specs.declared.tree.Width.{Width}
-use Rattle.expressions.specs.Tree.{ExpressionTree, name_tree}
+use Rattle.expression_trees.specs.declared.tree.Name.{Name}
+use Rattle.expression_trees.specs.declared.tree.Step.{Step}
+use Rattle.expression_trees.specs.declared.tree.Width.{Width}
+use Rattle.expression_trees.specs.Tree.{ExpressionTree, name_tree}
+use Rattle.parsing.specs.Parse.{head, tail}
 use Rattle.expressions.specs.Operators.{stepping, indexing}
-use Rattle.expressions.specs.Parse.{head, tail, is_name, array_of, array_at}
+use Rattle.expressions.specs.Parse.{is_name, array_of, array_at}
 use Rattle.expressions.specs.Grammar.{IsU, u_plain, u_minus, u_before, u_after, u_length, IsP, p_property, p_number}
 use Rattle.expressions.specs.Grammar.{p_character, p_word, p_true, p_false, p_nothing, p_name, p_call, p_call_with}
 use Rattle.expressions.specs.Grammar.{p_relative, p_parenthesised}

@@ -4,18 +4,18 @@ use Rattle.lexer.specs.declared.token.Sign.TheVariants as s
 use Rattle.lexer.specs.declared.token.Word.{Word}
 use Rattle.lexer.specs.declared.token.Word.TheVariants as w
 use Rattle.lexer.specs.Token.{Lexeme, name, number, character, dictionary_word, reserved, sign}
-use Rattle.expressions.specs.declared.tree.Relative.{Relative}
-use Rattle.expressions.specs.declared.tree.Step.{Step}
-use Rattle.expressions.specs.Tree.{ExpressionTree, ExpressionTrees}
+use Rattle.expression_trees.specs.declared.tree.Relative.{Relative}
+use Rattle.expression_trees.specs.declared.tree.Step.{Step}
+use Rattle.expression_trees.specs.Tree.{ExpressionTree, ExpressionTrees}
+use Rattle.parsing.specs.Parse.{head, is_sign}
 use Rattle.expressions.specs.Operators.{stepping, prefixes, relating_word, relating}
 use Rattle.expressions.specs.Nesting.{word_begins, begins_expression}
-use Rattle.expressions.specs.Parse.{head, is_sign}
 use Rattle.expressions.specs.Grammar.{IsE, e_plain, e_assign, IsE1, e1_plain, e1_logical, IsN1, n1_plain, n1_not, IsE2}
 use Rattle.expressions.specs.Grammar.{e2_plain, e2_compare, e2_equal, e2_contained, e2_tested, IsE3, e3_plain, e3_add}
-use Rattle.expressions.specs.Grammar.{IsE4, e4_plain, e4_scale, IsN4, n4_plain, n4_complement, IsE5, e5_plain}
-use Rattle.expressions.specs.Grammar.{e5_index, e5_entry, IsU, u_plain, u_minus, u_before, u_after, u_length, IsP}
-use Rattle.expressions.specs.Grammar.{p_property, p_number, p_character, p_word, p_true, p_false, p_nothing, p_name}
-use Rattle.expressions.specs.Grammar.{p_call, p_call_with, p_relative, p_parenthesised, IsArguments, arguments_last}
+use Rattle.expressions.specs.Grammar.{IsE4, e4_plain, e4_scale, IsN4, n4_plain, n4_complement, IsE5, e5_plain, e5_index}
+use Rattle.expressions.specs.Grammar.{e5_entry, IsU, u_plain, u_minus, u_before, u_after, u_length, IsP, p_property}
+use Rattle.expressions.specs.Grammar.{p_number, p_character, p_word, p_true, p_false, p_nothing, p_name, p_call}
+use Rattle.expressions.specs.Grammar.{p_call_with, p_relative, p_parenthesised, IsArguments, arguments_last}
 use Rattle.expressions.specs.Grammar.{arguments_comma}
 
 abbrev pub word_level : Word → ℕ

@@ -1,13 +1,13 @@
 -- Trees of what the code builds.
 use Rattle.std.proofs.Common.{◌≡◌, sym, ap, ◌∙◌}
 use Rattle.std.specs.Global.{Box, Vec}
-use Rattle.expressions.specs.declared.tree.Name.{Name}
-use Rattle.expressions.specs.declared.tree.ObjectTest.{ObjectTest}
-use Rattle.expressions.specs.declared.tree.Expression.{Expression}
-use Rattle.expressions.specs.declared.tree.Expression.TheVariants as from
-use Rattle.expressions.specs.declared.tree.Expression.TheFolds.{fold-roll-Expression}
-use Rattle.expressions.specs.Tree as trees
-use Rattle.expressions.specs.Tree.{ExpressionTree, expression_tree, name_tree, propertied, layer}
+use Rattle.expression_trees.specs.declared.tree.Name.{Name}
+use Rattle.expression_trees.specs.declared.tree.ObjectTest.{ObjectTest}
+use Rattle.expression_trees.specs.declared.tree.Expression.{Expression}
+use Rattle.expression_trees.specs.declared.tree.Expression.TheVariants as from
+use Rattle.expression_trees.specs.declared.tree.Expression.TheFolds.{fold-roll-Expression}
+use Rattle.expression_trees.specs.Tree as trees
+use Rattle.expression_trees.specs.Tree.{ExpressionTree, expression_tree, name_tree, propertied, layer}
 
 pub properties_built : (e : Box Expression) (n : Name) (ns : Vec Name)
     → expression_tree (from.Property e n ns)

@@ -4,11 +4,11 @@ use Rattle.lexer.specs.declared.token.Position.{Position}
 use Rattle.lexer.specs.declared.token.Sign.TheVariants as s
 use Rattle.lexer.specs.declared.token.Word.TheVariants as w
 use Rattle.lexer.specs.Token.{Lexeme, reserved, sign}
-use Rattle.expressions.specs.declared.tree.Prefix.TheVariants as op
-use Rattle.expressions.specs.Tree.{ExpressionTree, ExpressionTrees}
+use Rattle.expression_trees.specs.Tree.{ExpressionTree, ExpressionTrees}
+use Rattle.parsing.specs.Parse.{head, is_sign, is_word}
 use Rattle.expressions.specs.Operators.{logical, adding, scaling}
-use Rattle.expressions.specs.Parse.{head, is_sign, is_word, nested, primary, unary, indexed, complemented, product}
-use Rattle.expressions.specs.Parse.{sum, comparison, negated, condition, expression}
+use Rattle.expressions.specs.Parse.{nested, primary, unary, indexed, complemented, product, sum, comparison, negated}
+use Rattle.expressions.specs.Parse.{condition, expression}
 use Rattle.expressions.specs.Grammar.{IsE, e_plain, e_assign, IsE1, e1_plain, e1_logical, IsN1, n1_plain, n1_not, IsE2}
 use Rattle.expressions.specs.Grammar.{e2_plain, e2_compare, e2_equal, e2_contained, e2_tested, IsChoice, choice_last}
 use Rattle.expressions.specs.Grammar.{choice_or, IsE3, e3_plain, e3_add, IsE4, e4_plain, e4_scale, IsN4, n4_plain}
@@ -23,20 +23,19 @@ use Rattle.expressions.proofs.Properties.{Owned, owner_next}
 use Rattle.expressions.proofs.Follow.{Stops, logical_binds, comparing_binds, equating_binds, containing_binds}
 use Rattle.expressions.proofs.Follow.{testing_binds, adding_binds, scaling_binds, stepping_binds, logical_stops}
 use Rattle.expressions.proofs.Follow.{or_stops, adding_stops, scaling_stops, entry_stops, step_no_entry}
-use Rattle.expressions.proofs.Begins.{begins_not, begins_tilde, begins_minus, begins_step, begins_prefix}
-use Rattle.expressions.proofs.Begins.{step_prefixes, begins_close, begin_P, begin_E5, begin_E2, begin_Arguments}
-use Rattle.expressions.proofs.Begins.{first_E}
+use Rattle.expressions.proofs.Begins.{begins_not, begins_tilde, begins_minus, begins_step, begins_prefix, step_prefixes}
+use Rattle.expressions.proofs.Begins.{begins_close, begin_P, begin_E5, begin_E2, begin_Arguments, first_E}
 use Rattle.expressions.proofs.Arrays.{no_array_P, no_array}
 use Rattle.expressions.proofs.Short.{short_E, short_N1, short_E3, short_E4, short_N4}
 use Rattle.expressions.proofs.Alternatives.{list_of, owner_ends, suffix_none, suffix_step, suffix_length, step_e_plain}
 use Rattle.expressions.proofs.Alternatives.{step_e_assign, step_e1_plain, step_n1_plain, step_e2_plain}
 use Rattle.expressions.proofs.Alternatives.{step_e2_contained, step_e2_tested, step_e2_compare, step_e2_equal}
 use Rattle.expressions.proofs.Alternatives.{step_e3_plain, step_e4_plain, step_n4_plain, step_e5_prefixed}
-use Rattle.expressions.proofs.Alternatives.{step_e5_suffixed, step_e5_entry, step_u_suffixed, step_primary}
-use Rattle.expressions.proofs.Alternatives.{step_n1_not, step_n4_complement, step_e5_index, step_u_minus}
-use Rattle.expressions.proofs.Alternatives.{step_u_before, step_p_number, step_p_character, step_p_word, step_p_true}
-use Rattle.expressions.proofs.Alternatives.{step_p_false, step_p_nothing, step_p_name, step_p_parenthesised}
-use Rattle.expressions.proofs.Alternatives.{step_p_relative, step_p_call, step_called_none, step_called}
+use Rattle.expressions.proofs.Alternatives.{step_e5_suffixed, step_e5_entry, step_u_suffixed, step_primary, step_n1_not}
+use Rattle.expressions.proofs.Alternatives.{step_n4_complement, step_e5_index, step_u_minus, step_u_before}
+use Rattle.expressions.proofs.Alternatives.{step_p_number, step_p_character, step_p_word, step_p_true, step_p_false}
+use Rattle.expressions.proofs.Alternatives.{step_p_nothing, step_p_name, step_p_parenthesised, step_p_relative}
+use Rattle.expressions.proofs.Alternatives.{step_p_call, step_called_none, step_called}
 
 mutual
   pub at_E : {ts r : List Lexeme} {e : ExpressionTree} → IsE ts e r → (d : ℕ) → Stops 1 r

@@ -5,15 +5,15 @@ use Rattle.lexer.specs.declared.token.Sign.TheVariants as s
 use Rattle.lexer.specs.declared.token.Word.{Word}
 use Rattle.lexer.specs.declared.token.Word.TheVariants as w
 use Rattle.lexer.specs.Token.{Lexeme, reserved, sign}
-use Rattle.expressions.specs.declared.tree.Binary.{Binary}
-use Rattle.expressions.specs.declared.tree.Comparison.{Comparison}
-use Rattle.expressions.specs.declared.tree.Equality.{Equality}
-use Rattle.expressions.specs.declared.tree.Containment.{Containment}
-use Rattle.expressions.specs.declared.tree.ObjectTest.{ObjectTest}
-use Rattle.expressions.specs.declared.tree.Step.{Step}
+use Rattle.expression_trees.specs.declared.tree.Binary.{Binary}
+use Rattle.expression_trees.specs.declared.tree.Comparison.{Comparison}
+use Rattle.expression_trees.specs.declared.tree.Equality.{Equality}
+use Rattle.expression_trees.specs.declared.tree.Containment.{Containment}
+use Rattle.expression_trees.specs.declared.tree.ObjectTest.{ObjectTest}
+use Rattle.expression_trees.specs.declared.tree.Step.{Step}
+use Rattle.parsing.specs.Parse.{head, is_sign, is_word}
 use Rattle.expressions.specs.Operators.{logical, comparing, equating, containing_word, containing, testing_word}
 use Rattle.expressions.specs.Operators.{testing, adding, scaling, stepping, indexing}
-use Rattle.expressions.specs.Parse.{head, is_sign, is_word}
 
 abbrev pub word_binds : Word → ℕ
 word_binds w.Or = 3

@@ -4,13 +4,12 @@ use Rattle.lexer.specs.declared.token.Sign.TheVariants as s
 use Rattle.lexer.specs.declared.token.Word.{Word}
 use Rattle.lexer.specs.declared.token.Word.TheVariants as w
 use Rattle.lexer.specs.Token.{Lexeme, reserved, sign}
-use Rattle.expressions.specs.declared.error.Fault.{Fault}
-use Rattle.expressions.specs.Tree.{ExpressionTree}
+use Rattle.expression_trees.specs.Tree.{ExpressionTree}
+use Rattle.parsing.specs.declared.error.Fault.{Fault}
+use Rattle.parsing.specs.Parse.{head}
 use Rattle.expressions.specs.Grammar.{nesting}
-use Rattle.expressions.specs.Parse.{head}
-use Rattle.expressions.specs.Laws.{word_goes_on, continues, goes_on, ReadsWhatDerives, DerivesWhatIsRead}
-use Rattle.expressions.specs.Laws.{DeepWhereDeep, OneTree, ReadsUnassigned, UnassignedIsRead, UnassignedDeep}
-use Rattle.expressions.specs.Laws.{OneUnassigned}
+use Rattle.expressions.specs.Laws.{word_goes_on, continues, goes_on, ReadsWhatDerives, DerivesWhatIsRead, DeepWhereDeep}
+use Rattle.expressions.specs.Laws.{OneTree, ReadsUnassigned, UnassignedIsRead, UnassignedDeep, OneUnassigned}
 use Rattle.expressions.proofs.Follow.{word_binds, binds}
 use Rattle.expressions.proofs.Sound.{judged_E, judged_E1}
 use Rattle.expressions.proofs.Complete.{at_E, at_E1}

@@ -1,9 +1,9 @@
 -- What a parser answers, judged: what it read, and what it means that it met a token too deep.
 use Rattle.std.proofs.Common.{◌≡◌, Bool, true, false, cond, List, Result, Ok, Err, refl, subst}
 use Rattle.lexer.specs.Token.{Lexeme}
-use Rattle.expressions.specs.declared.error.Fault.{Fault}
-use Rattle.expressions.specs.declared.error.Fault.TheVariants.{Grammar, Deep}
-use Rattle.expressions.specs.Parse.{◌>>=◌}
+use Rattle.parsing.specs.declared.error.Fault.{Fault}
+use Rattle.parsing.specs.declared.error.Fault.TheVariants.{Grammar, Deep}
+use Rattle.parsing.specs.Parse.{◌>>=◌}
 
 -- What was read and the tokens after it meet Q; D, where a token stands too deep.
 pub record Judged {A : Type 0} (Q : A → List Lexeme → Type 0) (D : Type 0) (R : Result (A × List Lexeme) Fault) :

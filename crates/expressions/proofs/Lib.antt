@@ -2,10 +2,8 @@ pub mod Judged
 pub mod Tokens
 pub mod NamesRead
 pub mod Chain
-pub mod GoesOn
 pub mod Built
 pub mod Nested
-pub mod Cases
 pub mod Limited
 pub mod Properties
 pub mod Repeated

@@ -2,14 +2,14 @@
 use Rattle.std.proofs.Common.{◌≡◌, ℕ, zero, suc, ◌-◌, ◌<◌, ◌≤◌, max, Bool, true, false, List, [], ◌∷◌, length, Option}
 use Rattle.std.proofs.Common.{Some, None, Result, Ok, Err, refl, ◌∙◌, arith, inl, inr}
 use Rattle.std.proofs.lemmas.Bool.{cases_lt}
-use Rattle.expressions.specs.declared.error.Fault.{Fault}
-use Rattle.expressions.specs.declared.error.Fault.TheVariants.{Deep}
-use Rattle.expressions.specs.declared.tree.Binary.{Binary}
 use Rattle.lexer.specs.Token.{Lexeme}
-use Rattle.expressions.specs.Tree.{NameTree, ExpressionTree, binary}
-use Rattle.expressions.specs.Parse.{◌>>=◌, Parse, Level, whole, negation, complement, prefix, operand, arguments}
-use Rattle.expressions.specs.Parse.{head, chain, further, list, nested, expression, negated, complemented, unary}
-use Rattle.expressions.specs.Parse.{primary, called}
+use Rattle.expression_trees.specs.declared.tree.Binary.{Binary}
+use Rattle.expression_trees.specs.Tree.{NameTree, ExpressionTree, binary}
+use Rattle.parsing.specs.declared.error.Fault.{Fault}
+use Rattle.parsing.specs.declared.error.Fault.TheVariants.{Deep}
+use Rattle.parsing.specs.Parse.{◌>>=◌, Parse, head, further, list}
+use Rattle.expressions.specs.Parse.{Level, whole, negation, complement, prefix, operand, arguments, chain, nested}
+use Rattle.expressions.specs.Parse.{expression, negated, complemented, unary, primary, called}
 use Rattle.expressions.proofs.Chain.{chain_stop}
 
 pub record Limited {A : Type 0} (R : Result (A × List Lexeme) Fault) (d n : ℕ) (a : A) (r : List Lexeme) : Type 0

@@ -2,12 +2,13 @@
 use Rattle.std.proofs.Common.{◌≡◌, false, List, [], ◌∷◌, Ok, Err, refl, sym, subst, ap, ◌∙◌}
 use Rattle.lexer.specs.declared.token.Sign.TheVariants as s
 use Rattle.lexer.specs.Token.{Lexeme, name, sign, position_of}
-use Rattle.expressions.specs.declared.error.Fault.TheVariants.{Grammar}
-use Rattle.expressions.specs.declared.error.ParseError.{ParseError}
-use Rattle.expressions.specs.declared.error.ParseError.TheVariants as errors
-use Rattle.expressions.specs.declared.tree.Name.{Name}
-use Rattle.expressions.specs.Tree.{NameTree, name_tree}
-use Rattle.expressions.specs.Parse.{Fails, head, tail, is_name, name_on, expect, expect_name, entry_of}
+use Rattle.expression_trees.specs.declared.tree.Name.{Name}
+use Rattle.expression_trees.specs.Tree.{NameTree, name_tree}
+use Rattle.parsing.specs.declared.error.Fault.TheVariants.{Grammar}
+use Rattle.parsing.specs.declared.error.ParseError.{ParseError}
+use Rattle.parsing.specs.declared.error.ParseError.TheVariants as errors
+use Rattle.parsing.specs.Parse.{Fails, head, tail, expect}
+use Rattle.expressions.specs.Parse.{is_name, name_on, expect_name, entry_of}
 use Rattle.expressions.proofs.Judged.{Judged, judged_read, judged_grammar, judged_then, judged_after}
 use Rattle.expressions.proofs.Tokens.{expect_ok, expect_not_deep}
 

@@ -1,10 +1,10 @@
 -- One nesting further in.
 use Rattle.std.proofs.Common.{◌≡◌, ℕ, zero, suc, ◌+◌, List, Err, refl, ap, arith}
 use Rattle.lexer.specs.Token.{Lexeme}
-use Rattle.expressions.specs.declared.error.Fault.TheVariants.{Deep}
-use Rattle.expressions.specs.Tree.{NameTree}
-use Rattle.expressions.specs.Parse.{Level, whole, negation, complement, prefix, operand, arguments, nested}
-use Rattle.expressions.specs.Parse.{expression, negated, complemented, unary, primary, called}
+use Rattle.expression_trees.specs.Tree.{NameTree}
+use Rattle.parsing.specs.declared.error.Fault.TheVariants.{Deep}
+use Rattle.expressions.specs.Parse.{Level, whole, negation, complement, prefix, operand, arguments, nested, expression}
+use Rattle.expressions.specs.Parse.{negated, complemented, unary, primary, called}
 
 pub nested_zero : (d : ℕ) (l : Level) (ts : List Lexeme) → d ≡ 0 → nested d l ts ≡ Err Deep
 unfolding nested

@@ -1,23 +1,22 @@
 -- What stands behind an object: properties, the length of one, and a test.
-use Rattle.std.proofs.Common.{◌≡◌, ℕ, zero, suc, ◌+◌, ◌-◌, ◌<◌, ◌≤◌, ◌⊎◌}
-use Rattle.std.proofs.Common.{inl, inr, true, false, List, [], ◌∷◌, ◌++◌, length}
-use Rattle.std.proofs.Common.{Some, None, Result, Ok, Err, refl, sym, ◌∙◌, arith}
+use Rattle.std.proofs.Common.{◌≡◌, ℕ, zero, suc, ◌+◌, ◌-◌, ◌<◌, ◌≤◌, ◌⊎◌, inl, inr, true, false, List, [], ◌∷◌, ◌++◌}
+use Rattle.std.proofs.Common.{length, Some, None, Result, Ok, Err, refl, sym, ◌∙◌, arith}
 use Rattle.std.proofs.lemmas.List.{length-map}
 use Rattle.lexer.specs.declared.token.Position.{Position}
 use Rattle.lexer.specs.declared.token.Sign.TheVariants as s
 use Rattle.lexer.specs.declared.token.Token.{Token}
 use Rattle.lexer.specs.Token.{Lexeme, name, sign, lexeme, lexemes}
-use Rattle.expressions.specs.declared.error.Fault.{Fault}
-use Rattle.expressions.specs.declared.error.Fault.TheVariants.{Deep}
-use Rattle.expressions.specs.declared.error.ParseError.{ParseError}
-use Rattle.expressions.specs.declared.error.ParseError.TheVariants as errors
-use Rattle.expressions.specs.declared.tree.ObjectTest.{ObjectTest}
-use Rattle.expressions.specs.declared.tree.Name.{Name}
-use Rattle.expressions.specs.Tree.{NameTree, ExpressionTree, property, property_length, tested, name_tree}
-use Rattle.expressions.specs.Tree.{propertied}
+use Rattle.expression_trees.specs.declared.tree.ObjectTest.{ObjectTest}
+use Rattle.expression_trees.specs.declared.tree.Name.{Name}
+use Rattle.expression_trees.specs.Tree.{NameTree, ExpressionTree, property, property_length, tested, name_tree}
+use Rattle.expression_trees.specs.Tree.{propertied}
+use Rattle.parsing.specs.declared.error.Fault.{Fault}
+use Rattle.parsing.specs.declared.error.Fault.TheVariants.{Deep}
+use Rattle.parsing.specs.declared.error.ParseError.{ParseError}
+use Rattle.parsing.specs.declared.error.ParseError.TheVariants as errors
+use Rattle.parsing.specs.Parse.{◌>>=◌, Fails, head, tail, is_sign}
 use Rattle.expressions.specs.Operators.{testing}
-use Rattle.expressions.specs.Parse.{◌>>=◌, Fails, head, tail, is_sign, expect_name, properties, lengthened}
-use Rattle.expressions.specs.Parse.{tested_next, property_next}
+use Rattle.expressions.specs.Parse.{expect_name, properties, lengthened, tested_next, property_next}
 use Rattle.expressions.proofs.Limited.{Limited}
 
 -- ---- the length of a property

@@ -1,9 +1,10 @@
 -- Chains and lists, judged: generic in the relation that their tokens meet.
 use Rattle.std.proofs.Common.{◌≡◌, ℕ, zero, suc, Bool, true, false, List, [], ◌∷◌, length, Option, Some, None, refl}
 use Rattle.lexer.specs.Token.{Lexeme}
-use Rattle.expressions.specs.declared.tree.Binary.{Binary}
-use Rattle.expressions.specs.Tree.{ExpressionTree, binary}
-use Rattle.expressions.specs.Parse.{Parse, head, chain_on, chain, further, list}
+use Rattle.expression_trees.specs.declared.tree.Binary.{Binary}
+use Rattle.expression_trees.specs.Tree.{ExpressionTree, binary}
+use Rattle.parsing.specs.Parse.{Parse, head, further, list}
+use Rattle.expressions.specs.Parse.{chain_on, chain}
 use Rattle.expressions.proofs.Judged.{Judged, judged_read, judged_then, judged_by}
 
 -- after a left side that meets Q

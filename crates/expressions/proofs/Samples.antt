@@ -5,15 +5,15 @@ use Rattle.lexer.specs.declared.token.Position.{Position}
 use Rattle.lexer.specs.declared.token.Sign.TheVariants as s
 use Rattle.lexer.specs.declared.token.Word.TheVariants as w
 use Rattle.lexer.specs.Token.{name, number, dictionary_word, reserved, sign}
-use Rattle.expressions.specs.declared.tree.Binary.TheVariants as op
-use Rattle.expressions.specs.declared.tree.Equality.TheVariants as equality
-use Rattle.expressions.specs.declared.tree.Prefix.TheVariants as prefix
-use Rattle.expressions.specs.declared.tree.Width.TheVariants as width
-use Rattle.expressions.specs.declared.tree.Containment.TheVariants as containment
-use Rattle.expressions.specs.declared.tree.ObjectTest.TheVariants as test
-use Rattle.expressions.specs.declared.tree.Relative.TheVariants as relative
-use Rattle.expressions.specs.Tree.{NameTree, constant, word, named, index, relative_of, property, property_length}
-use Rattle.expressions.specs.Tree.{property_entry, prefixed, binary, equal, contained, tested, none, more}
+use Rattle.expression_trees.specs.declared.tree.Binary.TheVariants as op
+use Rattle.expression_trees.specs.declared.tree.Equality.TheVariants as equality
+use Rattle.expression_trees.specs.declared.tree.Prefix.TheVariants as prefix
+use Rattle.expression_trees.specs.declared.tree.Width.TheVariants as width
+use Rattle.expression_trees.specs.declared.tree.Containment.TheVariants as containment
+use Rattle.expression_trees.specs.declared.tree.ObjectTest.TheVariants as test
+use Rattle.expression_trees.specs.declared.tree.Relative.TheVariants as relative
+use Rattle.expression_trees.specs.Tree.{NameTree, constant, word, named, index, relative_of, property, property_length}
+use Rattle.expression_trees.specs.Tree.{property_entry, prefixed, binary, equal, contained, tested, none, more}
 use Rattle.expressions.specs.Grammar.{IsE, e_plain, e1_plain, n1_plain, IsE2, e2_plain, e2_equal, e2_contained}
 use Rattle.expressions.specs.Grammar.{e2_tested, choice_last, choice_or, e3_plain, e3_add, e4_plain, n4_plain, IsE5}
 use Rattle.expressions.specs.Grammar.{e5_plain, e5_index, e5_entry, IsU, u_plain, u_minus, u_length, p_property}

@@ -1,13 +1,13 @@
 -- Each derivation of an expression takes a token.
 use Rattle.std.proofs.Common.{◌<◌, List, length, arith}
 use Rattle.lexer.specs.Token.{Lexeme}
-use Rattle.expressions.specs.Tree.{ExpressionTree, ExpressionTrees}
-use Rattle.expressions.specs.Grammar.{IsE, e_plain, e_assign, IsE1, e1_plain, e1_logical, IsN1, n1_plain, n1_not}
-use Rattle.expressions.specs.Grammar.{IsE2, e2_plain, e2_compare, e2_equal, e2_contained, e2_tested, IsChoice}
-use Rattle.expressions.specs.Grammar.{choice_last, choice_or, IsE3, e3_plain, e3_add, IsE4, e4_plain, e4_scale, IsN4}
-use Rattle.expressions.specs.Grammar.{n4_plain, n4_complement, IsE5, e5_plain, e5_index, e5_entry, IsU, u_plain}
-use Rattle.expressions.specs.Grammar.{u_minus, u_before, u_after, u_length, IsP, p_property, p_number, p_character}
-use Rattle.expressions.specs.Grammar.{p_word, p_true, p_false, p_nothing, p_name, p_call, p_call_with, p_relative}
+use Rattle.expression_trees.specs.Tree.{ExpressionTree, ExpressionTrees}
+use Rattle.expressions.specs.Grammar.{IsE, e_plain, e_assign, IsE1, e1_plain, e1_logical, IsN1, n1_plain, n1_not, IsE2}
+use Rattle.expressions.specs.Grammar.{e2_plain, e2_compare, e2_equal, e2_contained, e2_tested, IsChoice, choice_last}
+use Rattle.expressions.specs.Grammar.{choice_or, IsE3, e3_plain, e3_add, IsE4, e4_plain, e4_scale, IsN4, n4_plain}
+use Rattle.expressions.specs.Grammar.{n4_complement, IsE5, e5_plain, e5_index, e5_entry, IsU, u_plain, u_minus}
+use Rattle.expressions.specs.Grammar.{u_before, u_after, u_length, IsP, p_property, p_number, p_character, p_word}
+use Rattle.expressions.specs.Grammar.{p_true, p_false, p_nothing, p_name, p_call, p_call_with, p_relative}
 use Rattle.expressions.specs.Grammar.{p_parenthesised, IsArguments, arguments_last, arguments_comma}
 
 mutual

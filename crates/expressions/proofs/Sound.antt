@@ -6,13 +6,14 @@ use Rattle.lexer.specs.declared.token.Position.{Position}
 use Rattle.lexer.specs.declared.token.Sign.TheVariants as s
 use Rattle.lexer.specs.declared.token.Word.TheVariants as w
 use Rattle.lexer.specs.Token.{Lexeme, name, sign, position_of}
-use Rattle.expressions.specs.declared.tree.Comparison.{Comparison}
-use Rattle.expressions.specs.declared.tree.Equality.{Equality}
-use Rattle.expressions.specs.declared.tree.Containment.{Containment}
-use Rattle.expressions.specs.declared.tree.ObjectTest.{ObjectTest}
-use Rattle.expressions.specs.declared.tree.Prefix.TheVariants as op
-use Rattle.expressions.specs.Tree.{ExpressionTree, call, prefixed, compare, equal, contained, tested, assign, none}
-use Rattle.expressions.specs.Tree.{trees_of}
+use Rattle.expression_trees.specs.declared.tree.Comparison.{Comparison}
+use Rattle.expression_trees.specs.declared.tree.Equality.{Equality}
+use Rattle.expression_trees.specs.declared.tree.Containment.{Containment}
+use Rattle.expression_trees.specs.declared.tree.ObjectTest.{ObjectTest}
+use Rattle.expression_trees.specs.declared.tree.Prefix.TheVariants as op
+use Rattle.expression_trees.specs.Tree.{ExpressionTree, call, prefixed, compare, equal, contained, tested, assign, none}
+use Rattle.expression_trees.specs.Tree.{trees_of}
+use Rattle.parsing.specs.Parse.{head, tail, is_sign, is_word, expect, list}
 use Rattle.expressions.specs.Operators.{logical, comparing, equating, containing, testing, adding, scaling}
 use Rattle.expressions.specs.Nesting.{begins_expression, DeepE, deep_e_left, deep_e_first, deep_e_right, DeepE1}
 use Rattle.expressions.specs.Nesting.{deep_e1_first, deep_e1_next, DeepN1, deep_n1_plain, deep_n1_not, deep_n1_in}
@@ -21,9 +22,9 @@ use Rattle.expressions.specs.Nesting.{DeepChoice, deep_choice_first, deep_choice
 use Rattle.expressions.specs.Nesting.{deep_e3_next, DeepE4, deep_e4_first, deep_e4_next, DeepN4, deep_n4_plain}
 use Rattle.expressions.specs.Nesting.{deep_n4_complement, deep_n4_in, DeepArguments, deep_arguments_first}
 use Rattle.expressions.specs.Nesting.{deep_arguments_next}
-use Rattle.expressions.specs.Parse.{whole, head, tail, is_sign, is_word, expect, list, tested_on, tested_next, nested}
-use Rattle.expressions.specs.Parse.{complemented, product, sum, equated, equated_on, contained_on, compared_on}
-use Rattle.expressions.specs.Parse.{comparison, negated, condition, assigned, expression, called}
+use Rattle.expressions.specs.Parse.{assignment, compared, whole, tested_on, tested_next, nested, complemented, product}
+use Rattle.expressions.specs.Parse.{sum, equated, equated_on, contained_on, compared_on, comparison, negated, condition}
+use Rattle.expressions.specs.Parse.{assigned, expression, called}
 use Rattle.expressions.specs.Grammar.{IsE, e_plain, e_assign, IsE1, e1_plain, e1_logical, IsN1, n1_plain, n1_not, IsE2}
 use Rattle.expressions.specs.Grammar.{e2_plain, e2_compare, e2_equal, e2_contained, e2_tested, IsChoice, choice_last}
 use Rattle.expressions.specs.Grammar.{choice_or, IsE3, e3_plain, e3_add, IsE4, e4_plain, e4_scale, IsN4, n4_plain}
@@ -99,7 +100,7 @@ module _ (d : ℕ) (inner : Inner d) where
 
   comparison_judged : (ts : List Lexeme) → Judged (λ e r. IsE2 ts e r × (nesting e ≤ d)) (DeepE2 (suc d) ts)
       (comparison (nested d) ts)
-  unfolding comparison equated tested_next
+  unfolding comparison compared equated tested_next
   comparison_judged ts = judged_then _ (sum_judged ts) (λ a r h. go a r h.0 h.1) (λ h. deep_e2_left h)
     where
       go5 : (a : ExpressionTree) (t : Lexeme) (m : List Lexeme) → IsE3 ts a (t ∷ m) → nesting a ≤ d
@@ -186,7 +187,7 @@ module _ (d : ℕ) (inner : Inner d) where
 
   expression_judged : (ts : List Lexeme) → Judged (λ e r. IsE ts e r × (nesting e ≤ d)) (DeepE (suc d) ts)
       (expression (nested d) ts)
-  unfolding expression
+  unfolding expression assignment
   expression_judged ts =
       judged_then _ (condition_judged ts)
       (λ a r h. judged_by (is_sign s.Assign (head r)) _ _

@@ -7,21 +7,22 @@ use Rattle.lexer.specs.declared.token.Sign.TheVariants as s
 use Rattle.lexer.specs.declared.token.Word.{Word}
 use Rattle.lexer.specs.declared.token.Word.TheVariants as w
 use Rattle.lexer.specs.Token.{Lexeme, name, number, character, dictionary_word, reserved, sign, position_of}
-use Rattle.expressions.specs.declared.tree.Prefix.TheVariants as op
-use Rattle.expressions.specs.declared.tree.Relative.{Relative}
-use Rattle.expressions.specs.declared.tree.Step.{Step}
-use Rattle.expressions.specs.declared.tree.Width.{Width}
-use Rattle.expressions.specs.Tree.{ExpressionTree, constant, word, index, parenthesised, relative_of, property}
-use Rattle.expressions.specs.Tree.{property_length, property_entry, prefixed, step_before, step_after}
+use Rattle.expression_trees.specs.declared.tree.Prefix.TheVariants as op
+use Rattle.expression_trees.specs.declared.tree.Relative.{Relative}
+use Rattle.expression_trees.specs.declared.tree.Step.{Step}
+use Rattle.expression_trees.specs.declared.tree.Width.{Width}
+use Rattle.expression_trees.specs.Tree.{ExpressionTree, constant, word, index, parenthesised, relative_of, property}
+use Rattle.expression_trees.specs.Tree.{property_length, property_entry, prefixed, step_before, step_after}
+use Rattle.parsing.specs.Parse.{head, tail, is_sign, expect}
 use Rattle.expressions.specs.Operators.{stepping, prefixes, relating_word, relating, indexing}
-use Rattle.expressions.specs.Nesting.{DeepE, DeepN1, DeepN4, DeepE5, deep_e5_plain, deep_e5_index, deep_e5_entry}
-use Rattle.expressions.specs.Nesting.{DeepU, deep_u_plain, deep_u_minus, deep_u_minus_in, deep_u_before}
-use Rattle.expressions.specs.Nesting.{deep_u_before_in, DeepP, deep_p_call, deep_p_arguments, deep_p_relative}
-use Rattle.expressions.specs.Nesting.{deep_p_relative_in, deep_p_parenthesis, deep_p_in, DeepArguments}
-use Rattle.expressions.specs.Parse.{whole, negation, complement, prefix, operand, arguments, head, tail, is_sign}
-use Rattle.expressions.specs.Parse.{expect, property_next, properties, lengthened, word_value, valued, nested}
-use Rattle.expressions.specs.Parse.{after_name, enclosed, related, word_on, atom, primary, step_on, suffixed, stepped}
-use Rattle.expressions.specs.Parse.{unary_on, unary, array_of, array_at, entry, owned, unindexed, indexed_on, indexed}
+use Rattle.expressions.specs.Nesting.{DeepE, DeepN1, DeepN4, DeepE5, deep_e5_plain, deep_e5_index, deep_e5_entry, DeepU}
+use Rattle.expressions.specs.Nesting.{deep_u_plain, deep_u_minus, deep_u_minus_in, deep_u_before, deep_u_before_in}
+use Rattle.expressions.specs.Nesting.{DeepP, deep_p_call, deep_p_arguments, deep_p_relative, deep_p_relative_in}
+use Rattle.expressions.specs.Nesting.{deep_p_parenthesis, deep_p_in, DeepArguments}
+use Rattle.expressions.specs.Parse.{whole, negation, complement, prefix, operand, arguments, property_next, properties}
+use Rattle.expressions.specs.Parse.{lengthened, word_value, valued, nested, after_name, enclosed, related, word_on}
+use Rattle.expressions.specs.Parse.{atom, primary, step_on, suffixed, stepped, unary_on, unary, array_of, array_at}
+use Rattle.expressions.specs.Parse.{entry, owned, unindexed, indexed_on, indexed}
 use Rattle.expressions.specs.Grammar.{IsE, IsN1, IsN4, IsE5, e5_plain, e5_index, e5_entry, IsU, u_plain, u_minus}
 use Rattle.expressions.specs.Grammar.{u_before, u_after, u_length, IsP, p_property, p_number, p_character, p_word}
 use Rattle.expressions.specs.Grammar.{p_true, p_false, p_nothing, p_name, p_relative, p_parenthesised, nesting}

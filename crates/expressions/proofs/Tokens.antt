@@ -6,11 +6,10 @@ use Rattle.lexer.specs.declared.token.Sign.{Sign}
 use Rattle.lexer.specs.declared.token.Sign.TheVariants as s
 use Rattle.lexer.specs.declared.token.Word.{Word}
 use Rattle.lexer.specs.declared.token.Word.TheVariants as w
-use Rattle.lexer.specs.Token.{Lexeme, name, number, text, character, dictionary_word, reserved, sign, end}
-use Rattle.lexer.specs.Token.{position_of}
-use Rattle.expressions.specs.declared.error.Fault.{Fault}
-use Rattle.expressions.specs.declared.error.Fault.TheVariants.{Grammar, Deep}
-use Rattle.expressions.specs.Parse.{head, tail, sign_number, word_number, is_sign, is_word, expect, expect_word}
+use Rattle.lexer.specs.Token.{Lexeme, name, number, text, character, dictionary_word, reserved, sign, end, position_of}
+use Rattle.parsing.specs.declared.error.Fault.{Fault}
+use Rattle.parsing.specs.declared.error.Fault.TheVariants.{Grammar, Deep}
+use Rattle.parsing.specs.Parse.{head, tail, sign_number, word_number, is_sign, is_word, expect, expect_word}
 
 sign_at : ℕ → Sign
 sign_at n = get_or

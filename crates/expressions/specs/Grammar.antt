@@ -5,18 +5,19 @@ use Rattle.lexer.specs.declared.token.Position.{Position}
 use Rattle.lexer.specs.declared.token.Sign.TheVariants as s
 use Rattle.lexer.specs.declared.token.Word.TheVariants as w
 use Rattle.lexer.specs.Token.{Lexeme, name, number, character, dictionary_word, reserved, sign, position_of}
-use Rattle.expressions.specs.declared.tree.Binary.{Binary}
-use Rattle.expressions.specs.declared.tree.Comparison.{Comparison}
-use Rattle.expressions.specs.declared.tree.Equality.{Equality}
-use Rattle.expressions.specs.declared.tree.Containment.{Containment}
-use Rattle.expressions.specs.declared.tree.ObjectTest.{ObjectTest}
-use Rattle.expressions.specs.declared.tree.Prefix.TheVariants as prefix
-use Rattle.expressions.specs.declared.tree.Relative.{Relative}
-use Rattle.expressions.specs.declared.tree.Step.{Step}
-use Rattle.expressions.specs.declared.tree.Width.{Width}
-use Rattle.expressions.specs.Tree.{ExpressionTree, ExpressionTrees, constant, word, named, call, index, parenthesised}
-use Rattle.expressions.specs.Tree.{relative_of, property, property_length, property_entry, prefixed, step_before}
-use Rattle.expressions.specs.Tree.{step_after, binary, compare, equal, contained, tested, assign, none, more}
+use Rattle.expression_trees.specs.declared.tree.Binary.{Binary}
+use Rattle.expression_trees.specs.declared.tree.Comparison.{Comparison}
+use Rattle.expression_trees.specs.declared.tree.Equality.{Equality}
+use Rattle.expression_trees.specs.declared.tree.Containment.{Containment}
+use Rattle.expression_trees.specs.declared.tree.ObjectTest.{ObjectTest}
+use Rattle.expression_trees.specs.declared.tree.Prefix.TheVariants as prefix
+use Rattle.expression_trees.specs.declared.tree.Relative.{Relative}
+use Rattle.expression_trees.specs.declared.tree.Step.{Step}
+use Rattle.expression_trees.specs.declared.tree.Width.{Width}
+use Rattle.expression_trees.specs.Tree.{ExpressionTree, ExpressionTrees, constant, word, named, call, index}
+use Rattle.expression_trees.specs.Tree.{parenthesised, relative_of, property, property_length, property_entry, prefixed}
+use Rattle.expression_trees.specs.Tree.{step_before, step_after, binary, compare, equal, contained, tested, assign}
+use Rattle.expression_trees.specs.Tree.{none, more}
 use Rattle.expressions.specs.Operators.{logical, comparing, equating, containing, testing, adding, scaling, stepping}
 use Rattle.expressions.specs.Operators.{indexing, relating}
 

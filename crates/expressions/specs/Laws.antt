@@ -4,11 +4,12 @@ use Rattle.lexer.specs.declared.token.Sign.TheVariants as s
 use Rattle.lexer.specs.declared.token.Word.{Word}
 use Rattle.lexer.specs.declared.token.Word.TheVariants as w
 use Rattle.lexer.specs.Token.{Lexeme, reserved, sign}
-use Rattle.expressions.specs.declared.error.Fault.TheVariants.{Deep}
-use Rattle.expressions.specs.Tree.{ExpressionTree}
+use Rattle.expression_trees.specs.Tree.{ExpressionTree}
+use Rattle.parsing.specs.declared.error.Fault.TheVariants.{Deep}
+use Rattle.parsing.specs.Parse.{head}
 use Rattle.expressions.specs.Grammar.{IsE, IsE1, nesting}
 use Rattle.expressions.specs.Nesting.{DeepE, DeepE1}
-use Rattle.expressions.specs.Parse.{head, condition, expression, nested}
+use Rattle.expressions.specs.Parse.{condition, expression, nested}
 
 -- the reserved words that go on with an expression behind it
 abbrev pub word_goes_on : Word → Bool

@@ -2,12 +2,13 @@
 -- operands.
 use Rattle.std.specs.Prelude.{Option}
 use Rattle.lexer.specs.Token.{Lexeme}
-use Rattle.expressions.specs.declared.tree.Binary.{Binary}
+use Rattle.expression_trees.specs.declared.tree.Binary.{Binary}
+use Rattle.expression_trees.specs.Tree.{ExpressionTree}
+use Rattle.parsing.specs.Parse.{Parse}
 use Rattle.expressions.specs.declared.operators.Operators.{Operators}
 use Rattle.expressions.specs.declared.operators.Operators.TheVariants as operators
-use Rattle.expressions.specs.Tree.{ExpressionTree}
 use Rattle.expressions.specs.Operators.{logical, adding, scaling}
-use Rattle.expressions.specs.Parse.{Parse, Level, negated, condition, complemented, product, sum}
+use Rattle.expressions.specs.Parse.{Level, negated, condition, complemented, product, sum}
 
 abbrev pub operator_of : Operators → Lexeme → Option Binary
 operator_of operators.Logical = logical

@@ -1,166 +1,31 @@
 -- Words of proofs: expressions, read from left to right, as functions from a list of tokens to a tree and the tokens
 -- after it.
-use Rattle.std.specs.Prelude.{◌≡◌, ◌==◌, if◌then◌else◌, Bool, true, false, ℕ, zero, suc, List, [], ◌∷◌, length}
-use Rattle.std.specs.Prelude.{Option, Some, None, Result, Ok, Err}
-use Rattle.lexer.specs.declared.token.Sign.{Sign}
+use Rattle.std.specs.Prelude.{if◌then◌else◌, Bool, true, false, ℕ, zero, suc, List, length, Option, Some, None, Result}
+use Rattle.std.specs.Prelude.{Ok, Err}
 use Rattle.lexer.specs.declared.token.Sign.TheVariants as s
 use Rattle.lexer.specs.declared.token.Word.{Word}
 use Rattle.lexer.specs.declared.token.Word.TheVariants as w
-use Rattle.lexer.specs.Token.{Lexeme, name, number, character, dictionary_word, reserved, sign, end, position_of}
-use Rattle.expressions.specs.declared.tree.Binary.{Binary}
-use Rattle.expressions.specs.declared.tree.Comparison.{Comparison}
-use Rattle.expressions.specs.declared.tree.Equality.{Equality}
-use Rattle.expressions.specs.declared.tree.Containment.{Containment}
-use Rattle.expressions.specs.declared.tree.ObjectTest.{ObjectTest}
-use Rattle.expressions.specs.declared.tree.Prefix.TheVariants as op
-use Rattle.expressions.specs.declared.tree.Relative.{Relative}
-use Rattle.expressions.specs.declared.tree.Step.{Step}
-use Rattle.expressions.specs.declared.tree.Width.{Width}
-use Rattle.expressions.specs.declared.error.Fault.{Fault}
-use Rattle.expressions.specs.declared.error.Fault.TheVariants.{Grammar, Deep}
-use Rattle.expressions.specs.declared.error.ParseError.{ParseError}
-use Rattle.expressions.specs.declared.error.ParseError.TheVariants as errors
-use Rattle.expressions.specs.Tree.{NameTree, ExpressionTree, constant, word, named, call, index, parenthesised}
-use Rattle.expressions.specs.Tree.{prefixed}
-use Rattle.expressions.specs.Tree.{relative_of, property, property_length, property_entry, step_before, step_after}
-use Rattle.expressions.specs.Tree.{binary, compare, equal, contained, tested, assign, none, trees_of}
+use Rattle.lexer.specs.Token.{Lexeme, name, number, character, dictionary_word, reserved, sign, position_of}
+use Rattle.expression_trees.specs.declared.tree.Binary.{Binary}
+use Rattle.expression_trees.specs.declared.tree.Comparison.{Comparison}
+use Rattle.expression_trees.specs.declared.tree.Equality.{Equality}
+use Rattle.expression_trees.specs.declared.tree.Containment.{Containment}
+use Rattle.expression_trees.specs.declared.tree.ObjectTest.{ObjectTest}
+use Rattle.expression_trees.specs.declared.tree.Prefix.TheVariants as op
+use Rattle.expression_trees.specs.declared.tree.Relative.{Relative}
+use Rattle.expression_trees.specs.declared.tree.Step.{Step}
+use Rattle.expression_trees.specs.declared.tree.Width.{Width}
+use Rattle.expression_trees.specs.Tree.{NameTree, ExpressionTree, constant, word, named, call, index, parenthesised}
+use Rattle.expression_trees.specs.Tree.{prefixed, relative_of, property, property_length, property_entry, step_before}
+use Rattle.expression_trees.specs.Tree.{step_after, binary, compare, equal, contained, tested, assign, none, trees_of}
+use Rattle.parsing.specs.Parse.{Parse, ◌>>=◌, head, tail, is_sign, is_word, expect, list}
+use Rattle.parsing.specs.declared.error.Fault.{Fault}
+use Rattle.parsing.specs.declared.error.Fault.TheVariants.{Grammar, Deep}
 use Rattle.expressions.specs.Operators.{logical, comparing, equating, containing, testing, adding, scaling, stepping}
 use Rattle.expressions.specs.Operators.{prefixes, relating_word, indexing}
 use Rattle.expressions.specs.Nesting.{begins_expression}
 
--- what is read, and the tokens after it; or why nothing is
-abbrev pub Parse : Type 0 → Type 0
-Parse A = List Lexeme → Result (A × List Lexeme) Fault
-
-infixl 10 ◌>>=◌
-abbrev pub ◌>>=◌ : {A B : Type 0} → Result A Fault → (A → Result B Fault) → Result B Fault
-(Ok x) >>= f = f x
-(Err e) >>= f = Err e
-
--- one expression, and the tokens after it
-abbrev pub ReadOne : Type 0
-ReadOne = ExpressionTree × List Lexeme
-
--- What a function returned, seen by view, is what reading gives, unless memory was refused.
-abbrev pub Fails : {Y : Type 0} → ParseError → Result Y Fault → Type 0
-Fails errors.Memory read = Unit {0}
-Fails (errors.Fault f line) read = read ≡ Err f
-
-abbrev pub Gives : {X Y : Type 0} → (X → Y) → Result X ParseError → Result Y Fault → Type 0
-Gives view (Ok x) read = read ≡ Ok (view x)
-Gives view (Err e) read = Fails e read
-
--- From what reading a part gave to what reading the whole gives: where the whole is read by reading the part, and
--- then by a function of what that gives.
-abbrev pub GoesOn : {X Y A B : Type 0} → (X → A) → Result X ParseError → (Y → B) → Result Y ParseError
-    → (A → Result B Fault) → Type 0
-GoesOn {A = A} {B = B} view part view_whole whole next =
-    (read : Result A Fault) (read_whole : Result B Fault) → Gives view part read → read_whole ≡ (read >>= next)
-    → Gives view_whole whole read_whole
-
 -- ---- one token
-
--- the token that comes next; a list of tokens that is at its end goes on with the source's end
-abbrev pub head : List Lexeme → Lexeme
-head [] = end (record { offset = 0; line = 0 })
-head (t ∷ ts) = t
-
-abbrev pub tail : List Lexeme → List Lexeme
-tail [] = []
-tail (t ∷ ts) = ts
-
--- signs and reserved words by number, in the order of their declarations
-abbrev pub sign_number : Sign → ℕ
-sign_number s.OpenParenthesis = 0
-sign_number s.CloseParenthesis = 1
-sign_number s.OpenBrace = 2
-sign_number s.CloseBrace = 3
-sign_number s.OpenBracket = 4
-sign_number s.CloseBracket = 5
-sign_number s.Semicolon = 6
-sign_number s.Comma = 7
-sign_number s.Colon = 8
-sign_number s.Dot = 9
-sign_number s.DotAmpersand = 10
-sign_number s.DotHash = 11
-sign_number s.Assign = 12
-sign_number s.Equal = 13
-sign_number s.NotEqual = 14
-sign_number s.Not = 15
-sign_number s.Tilde = 16
-sign_number s.Greater = 17
-sign_number s.GreaterOrEqual = 18
-sign_number s.Less = 19
-sign_number s.LessOrEqual = 20
-sign_number s.AndAlso = 21
-sign_number s.Ampersand = 22
-sign_number s.OrElse = 23
-sign_number s.Bar = 24
-sign_number s.Plus = 25
-sign_number s.Increment = 26
-sign_number s.Minus = 27
-sign_number s.Decrement = 28
-sign_number s.Arrow = 29
-sign_number s.LongArrow = 30
-sign_number s.Star = 31
-sign_number s.Slash = 32
-sign_number s.Percent = 33
-
-abbrev pub word_number : Word → ℕ
-word_number w.Abbreviate = 0
-word_number w.Array = 1
-word_number w.Attribute = 2
-word_number w.Break = 3
-word_number w.Char = 4
-word_number w.Child = 5
-word_number w.Constant = 6
-word_number w.Continue = 7
-word_number w.Default = 8
-word_number w.Do = 9
-word_number w.Else = 10
-word_number w.False = 11
-word_number w.For = 12
-word_number w.Give = 13
-word_number w.Global = 14
-word_number w.Has = 15
-word_number w.Hasnt = 16
-word_number w.If = 17
-word_number w.In = 18
-word_number w.Move = 19
-word_number w.NewLine = 20
-word_number w.Nothing = 21
-word_number w.Notin = 22
-word_number w.Object = 23
-word_number w.Objectloop = 24
-word_number w.Or = 25
-word_number w.Parent = 26
-word_number w.Print = 27
-word_number w.PrintRet = 28
-word_number w.Property = 29
-word_number w.Provides = 30
-word_number w.Quit = 31
-word_number w.Read = 32
-word_number w.Remove = 33
-word_number w.Return = 34
-word_number w.Rfalse = 35
-word_number w.Rtrue = 36
-word_number w.Sibling = 37
-word_number w.String = 38
-word_number w.Switch = 39
-word_number w.Table = 40
-word_number w.To = 41
-word_number w.True = 42
-word_number w.Until = 43
-word_number w.While = 44
-word_number w.With = 45
-
-abbrev pub is_sign : Sign → Lexeme → Bool
-is_sign s (sign r p) = sign_number r == sign_number s
-is_sign s _ = false
-
-abbrev pub is_word : Word → Lexeme → Bool
-is_word w (reserved r p) = word_number r == word_number w
-is_word w _ = false
 
 abbrev pub is_name : Lexeme → Bool
 is_name (name _ _) = true
@@ -173,13 +38,6 @@ array_of _ _ = None
 
 unfoldable pub array_at : List Lexeme → Option (NameTree × Width)
 array_at ts = array_of (head ts) (indexing (head (tail ts)))
-
--- the tokens after that sign, or word
-unfoldable pub expect : Sign → List Lexeme → Result (List Lexeme) Fault
-expect s ts = if is_sign s (head ts) then Ok (tail ts) else Err Grammar
-
-unfoldable pub expect_word : Word → List Lexeme → Result (List Lexeme) Fault
-expect_word w ts = if is_word w (head ts) then Ok (tail ts) else Err Grammar
 
 -- the name that comes next, and the tokens after it
 abbrev pub name_on : Lexeme → List Lexeme → Result (NameTree × List Lexeme) Fault
@@ -204,17 +62,6 @@ chain_on again operand left ts (Some op) = operand (tail ts) >>= λ x. again (bi
 unfoldable pub chain : (Lexeme → Option Binary) → Parse ExpressionTree → ℕ → ExpressionTree → Parse ExpressionTree
 chain operator operand zero left ts = Ok (left, ts)
 chain operator operand (suc n) left ts = chain_on (chain operator operand n) operand left ts (operator (head ts))
-
--- {separator item}
-unfoldable pub further : {A : Type 0} → (Lexeme → Bool) → Parse A → ℕ → Parse (List A)
-further separates item zero ts = Ok ([], ts)
-further separates item (suc n) ts =
-    if separates (head ts) then (item (tail ts) >>= λ x. further separates item n x.1 >>= λ y. Ok (x.0 ∷ y.0, y.1))
-    else Ok ([], ts)
-
--- item {separator item}
-unfoldable pub list : {A : Type 0} → (Lexeme → Bool) → Parse A → Parse (List A)
-list separates item ts = item ts >>= λ x. further separates item (length x.1) x.1 >>= λ y. Ok (x.0 ∷ y.0, y.1)
 
 -- ---- what stands behind an object
 
@@ -317,10 +164,11 @@ module _ (below : Level → Parse ExpressionTree) where
   unary_on ts None = stepped ts
   unary_on ts (Some op) = below operand (tail ts) >>= λ x. Ok (step_before op (position_of (head ts)) x.0, x.1)
 
+  abbrev pub minus : Parse ExpressionTree
+  minus ts = below prefix ts >>= λ x. Ok (prefixed op.Minus x.0, x.1)
+
   unfoldable pub unary : Parse ExpressionTree
-  unary ts =
-      if is_sign s.Minus (head ts) then (below prefix (tail ts) >>= λ x. Ok (prefixed op.Minus x.0, x.1))
-      else unary_on ts (stepping (head ts))
+  unary ts = if is_sign s.Minus (head ts) then minus (tail ts) else unary_on ts (stepping (head ts))
 
   -- an entry of a property of an object, from behind its sign on
   unfoldable pub entry : ExpressionTree → Parse ExpressionTree
@@ -353,10 +201,17 @@ module _ (below : Level → Parse ExpressionTree) where
   unfoldable pub equated : ExpressionTree → Equality → Parse ExpressionTree
   equated left op ts = list (is_word w.Or) sum ts >>= λ x. Ok (equal op left (trees_of x.0), x.1)
 
+  -- the right side of a comparison of two, and of `in` and `notin`
+  abbrev pub compare_on : ExpressionTree → Comparison → Parse ExpressionTree
+  compare_on left op ts = sum ts >>= λ x. Ok (compare op left x.0, x.1)
+
+  abbrev pub contain_on : ExpressionTree → Containment → Parse ExpressionTree
+  contain_on left op ts = sum ts >>= λ x. Ok (contained op left x.0, x.1)
+
   abbrev pub contained_on : ExpressionTree → List Lexeme → Option Containment
       → Result (ExpressionTree × List Lexeme) Fault
   contained_on left ts None = tested_next left ts
-  contained_on left ts (Some op) = sum (tail ts) >>= λ x. Ok (contained op left x.0, x.1)
+  contained_on left ts (Some op) = contain_on left op (tail ts)
 
   abbrev pub equated_on : ExpressionTree → List Lexeme → Option Equality → Result (ExpressionTree × List Lexeme) Fault
   equated_on left ts None = contained_on left ts (containing (head ts))
@@ -365,10 +220,14 @@ module _ (below : Level → Parse ExpressionTree) where
   abbrev pub compared_on : ExpressionTree → List Lexeme → Option Comparison
       → Result (ExpressionTree × List Lexeme) Fault
   compared_on left ts None = equated_on left ts (equating (head ts))
-  compared_on left ts (Some op) = sum (tail ts) >>= λ x. Ok (compare op left x.0, x.1)
+  compared_on left ts (Some op) = compare_on left op (tail ts)
+
+  -- what stands behind a left side
+  unfoldable pub compared : ExpressionTree → Parse ExpressionTree
+  compared left ts = compared_on left ts (comparing (head ts))
 
   unfoldable pub comparison : Parse ExpressionTree
-  comparison ts = sum ts >>= λ x. compared_on x.0 x.1 (comparing (head x.1))
+  comparison ts = sum ts >>= λ x. compared x.0 x.1
 
   unfoldable pub negated : Parse ExpressionTree
   negated ts =
@@ -382,12 +241,15 @@ module _ (below : Level → Parse ExpressionTree) where
   unfoldable pub assigned : Parse ExpressionTree
   assigned ts = if begins_expression (head ts) then below whole ts else Err Grammar
 
+  -- behind a left side
+  unfoldable pub assignment : ExpressionTree → Parse ExpressionTree
+  assignment left ts =
+      if is_sign s.Assign (head ts)
+      then (assigned (tail ts) >>= λ y. Ok (assign left (position_of (head ts)) y.0, y.1))
+      else Ok (left, ts)
+
   unfoldable pub expression : Parse ExpressionTree
-  expression ts = do
-    x ← condition ts
-    if is_sign s.Assign (head x.1)
-        then (assigned (tail x.1) >>= λ y. Ok (assign x.0 (position_of (head x.1)) y.0, y.1))
-        else Ok x
+  expression ts = condition ts >>= λ x. assignment x.0 x.1
 
   -- the arguments of a call, behind its parenthesis
   unfoldable pub called : NameTree → Parse ExpressionTree

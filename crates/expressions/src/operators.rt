@@ -7,7 +7,9 @@ ghost use Rattle.expressions.specs.Nesting as nesting;
 ghost use Rattle.expressions.specs.Levels.{operator_of};
 ghost use Rattle.expressions.specs.Parse as parse;
 
-use crate::tree::{Binary, Comparison, Containment, Equality, ObjectTest, Relative, Step, Width};
+use expression_trees::{
+    Binary, Comparison, Containment, Equality, ObjectTest, Relative, Step, Width,
+};
 use lexer::{Kind, Sign, Token, Word};
 
 /// The operators of one level, in chains that group to the left.

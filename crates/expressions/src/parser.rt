@@ -1,33 +1,34 @@
 //! The parser of expressions, one function for each level of the grammar.
 //!
-//! Each takes how many nestings more may be opened and the tokens from a place on, and gives the tree and the tokens after
-//! it. A token that opens a nesting is tested where it stands.
+//! Each takes how many nestings more may be opened, reads from the front of the tokens, and gives the tree. A token that
+//! opens a nesting is tested where it stands. A function that has read a tree hands it on at once to one that goes on with
+//! it: what holds a tree is proved for the tree's end too, at each of its ways out.
 
-ghost use Rattle.std.specs.Prelude.{map};
-ghost use Rattle.lexer.specs.Token.{lexemes};
-ghost use Rattle.expressions.specs.Tree.{name_tree, expression_tree};
+ghost use Rattle.std.specs.Prelude.{map, length, Some};
+ghost use Rattle.expression_trees.specs.Tree.{name_tree, expression_tree};
+ghost use Rattle.parsing.specs.Parse as reading;
+ghost use Rattle.parsing.specs.Parse.{tail};
+ghost use Rattle.parsing.specs.Returned.{ahead, Takes};
 ghost use Rattle.expressions.specs.Parse as spec;
 ghost use Rattle.expressions.specs.Operators as operators;
-ghost use Rattle.expressions.specs.Parse.{Gives, tail};
-ghost use Rattle.expressions.specs.Returned.{Reads, ReadsExpression, values_tree};
-ghost use Rattle.expressions.specs.Levels.{operand_of, chain_of};
+ghost use Rattle.expressions.specs.Returned.{TakesExpression, values_tree};
+ghost use Rattle.expressions.specs.Levels.{operator_of, operand_of, chain_of};
 
-use crate::error::{Fault, ParseError};
 use crate::operators::{
     Operators, begins_expression, comparing, containing, equating, operator, prefixes,
     relating_word, stepping,
 };
 use crate::parts;
-use crate::reading::{
-    array, fault_at, is_sign, is_word, open, peek, position, property_name, skip,
+use crate::reading::{array, property_name};
+use expression_trees::{
+    Comparison, Containment, Equality, Expression, Name, Prefix, Relative, Step,
 };
-use crate::tree::{Expression, Name, Prefix, Relative};
-use lexer::{Kind, Sign, Token, Word};
-use std::alloc::Global;
+use lexer::{Kind, Sign, Word};
+use parsing::{Fault, ParseError, Parser, fault_at, is_sign, is_word, open, pass, peek, position};
 
-/// The expression at the front of the tokens, and the tokens after it. `depth` is how many nestings more may be opened: a
-/// parenthesis, also that of a call or behind `parent`, `child` and `sibling`, and an operator before its operand open one
-/// at their own token, the right side of an assignment at its first token.
+/// The expression at the front of the tokens. `depth` is how many nestings more may be opened: a parenthesis, also that of
+/// a call or behind `parent`, `child` and `sibling`, and an operator before its operand open one at their own token, the
+/// right side of an assignment at its first token.
 ///
 /// # Errors
 ///
@@ -37,420 +38,631 @@ use std::alloc::Global;
 #[cycle(expression)]
 #[tactic(auto, unfolding(crate::specs::Parse::expression))]
 pub fn expression<'t, 'a>(
-    alloc: Global,
+    parser: &mut Parser<'t, 'a>,
     depth: usize,
-    tokens: &'t [Token<'a>],
-) -> Result<(Box<Expression<'a>>, &'t [Token<'a>]), ParseError>
-    ensures { ReadsExpression result (spec.expression (spec.nested depth) (lexemes tokens.now)) }
+) -> Result<Box<Expression<'a>>, ParseError>
+    ensures { TakesExpression result parser.new
+        (spec.expression (spec.nested depth) (ahead parser.old)) }
 {
-    let (left, rest) = chain(alloc, depth, Operators::Logical, tokens)?;
-    if !is_sign(peek(rest), Sign::Assign) {
-        return Ok((left, rest));
+    match chain(parser, depth, Operators::Logical) {
+        Ok(left) => assignment(parser, depth, left),
+        Err(e) => Err(e),
     }
-    let right = assigned(alloc, depth, skip(rest));
-    parts::assign(alloc, left, position(rest), right)
 }
 
-/// The expression at the front of the tokens as far as an assignment sign at its root, and the tokens after it. Depth and
-/// errors are those of `expression`.
+/// The expression at the front of the tokens as far as an assignment sign at its root. Depth and errors are those of
+/// `expression`.
 pub fn unassigned<'t, 'a>(
-    alloc: Global,
+    parser: &mut Parser<'t, 'a>,
     depth: usize,
-    tokens: &'t [Token<'a>],
-) -> Result<(Box<Expression<'a>>, &'t [Token<'a>]), ParseError>
-    ensures { ReadsExpression result (spec.condition (spec.nested depth) (lexemes tokens.now)) }
+) -> Result<Box<Expression<'a>>, ParseError>
+    ensures { TakesExpression result parser.new
+        (spec.condition (spec.nested depth) (ahead parser.old)) }
 {
-    chain(alloc, depth, Operators::Logical, tokens)
+    chain(parser, depth, Operators::Logical)
 }
 
-/// The right side of an assignment, a nesting at its first token.
+// An expression whose left side is read: an assignment, where its sign comes next.
+#[cycle(expression)]
+#[tactic(auto, unfolding(crate::specs::Parse::assignment))]
+fn assignment<'t, 'a>(
+    parser: &mut Parser<'t, 'a>,
+    depth: usize,
+    left: Box<Expression<'a>>,
+) -> Result<Box<Expression<'a>>, ParseError>
+    ensures { TakesExpression result parser.new (spec.assignment (spec.nested depth)
+        (expression_tree left.entry.value) (ahead parser.old)) }
+{
+    if !is_sign(peek(parser.tokens), Sign::Assign) {
+        return Ok(left);
+    }
+    let sign = position(parser.tokens);
+    pass(parser);
+    match assigned(parser, depth) {
+        Ok(right) => parts::assign(parser, left, sign, right),
+        Err(e) => Err(e),
+    }
+}
+
+// The right side of an assignment, a nesting at its first token.
 #[cycle(expression)]
 #[tactic(auto, unfolding(crate::specs::Parse::assigned), using(crate::proofs::Nested::nested_zero, crate::proofs::Nested::nested_whole))]
 fn assigned<'t, 'a>(
-    alloc: Global,
+    parser: &mut Parser<'t, 'a>,
     depth: usize,
-    tokens: &'t [Token<'a>],
-) -> Result<(Box<Expression<'a>>, &'t [Token<'a>]), ParseError>
-    ensures { ReadsExpression result (spec.assigned (spec.nested depth) (lexemes tokens.now)) }
+) -> Result<Box<Expression<'a>>, ParseError>
+    ensures { TakesExpression result parser.new
+        (spec.assigned (spec.nested depth) (ahead parser.old)) }
 {
-    if !begins_expression(peek(tokens)) {
-        return Err(fault_at(Fault::Grammar, tokens));
+    if !begins_expression(peek(parser.tokens)) {
+        return Err(fault_at(Fault::Grammar, parser.tokens));
     }
-    within(alloc, depth, tokens, tokens)
+    let inside = open(depth, parser.tokens)?;
+    expression(parser, inside)
 }
 
-/// An expression one nesting further in, which the token at `opening` opens.
+// Operands of a level with its operators between them.
 #[cycle(expression)]
-#[tactic(auto, using(crate::proofs::Nested::nested_zero, crate::proofs::Nested::nested_whole))]
-fn within<'t, 'a>(
-    alloc: Global,
-    depth: usize,
-    opening: &[Token<'a>],
-    tokens: &'t [Token<'a>],
-) -> Result<(Box<Expression<'a>>, &'t [Token<'a>]), ParseError>
-    ensures { ReadsExpression result (spec.nested depth spec.whole (lexemes tokens.now)) }
-{
-    let inside = open(depth, opening)?;
-    expression(alloc, inside, tokens)
-}
-
-/// Operands of a level with its operators between them.
-#[cycle(expression)]
-#[tactic(auto, using(crate::proofs::Chain::level_single, crate::proofs::Chain::level_fails, crate::proofs::Chain::chain_stop, crate::proofs::Chain::chain_done))]
+#[tactic(auto, using(crate::proofs::Chain::level_chain, crate::proofs::Chain::level_fails))]
 fn chain<'t, 'a>(
-    alloc: Global,
+    parser: &mut Parser<'t, 'a>,
     depth: usize,
     operators: Operators,
-    tokens: &'t [Token<'a>],
-) -> Result<(Box<Expression<'a>>, &'t [Token<'a>]), ParseError>
-    ensures { ReadsExpression result (chain_of (spec.nested depth) operators (lexemes tokens.now)) }
+) -> Result<Box<Expression<'a>>, ParseError>
+    ensures { TakesExpression result parser.new
+        (chain_of (spec.nested depth) operators (ahead parser.old)) }
 {
-    let (first, at_operator) = operand(alloc, depth, operators, tokens)?;
-    let Some(joining) = operator(operators, peek(at_operator)) else {
-        return Ok((first, at_operator));
-    };
-    let turns = at_operator.len();
-    let (second, mut rest) = operand(alloc, depth, operators, skip(at_operator))?;
-    let mut links = Vec::new(alloc);
-    for _turn in 1..turns {
-        let Some(next) = operator(operators, peek(rest)) else {
-            break;
-        };
-        let (right, after) = operand(alloc, depth, operators, skip(rest))?;
-        parts::add_link(&mut links, next, right)?;
-        rest = after;
+    match operand(parser, depth, operators) {
+        Ok(first) => links(parser, depth, operators, first),
+        Err(e) => Err(e),
     }
-    parts::chain(alloc, first, joining, second, links, rest)
 }
 
-/// An operand of a level.
+// What stands behind the first operand of a chain.
+#[cycle(expression)]
+#[tactic(auto, using(crate::proofs::Chain::chain_stop, crate::proofs::Chain::chain_done))]
+fn links<'t, 'a>(
+    parser: &mut Parser<'t, 'a>,
+    depth: usize,
+    operators: Operators,
+    first: Box<Expression<'a>>,
+) -> Result<Box<Expression<'a>>, ParseError>
+    ensures { TakesExpression result parser.new
+        (spec.chain (operator_of operators) (operand_of (spec.nested depth) operators)
+        (length (ahead parser.old)) (expression_tree first.entry.value) (ahead parser.old)) }
+{
+    let Some(joining) = operator(operators, peek(parser.tokens)) else {
+        return Ok(first);
+    };
+    let turns = parser.tokens.len();
+    pass(parser);
+    match operand(parser, depth, operators) {
+        Ok(second) => {
+            let mut links = Vec::new(parser.alloc);
+            for _turn in 1..turns {
+                let Some(next) = operator(operators, peek(parser.tokens)) else {
+                    break;
+                };
+                pass(parser);
+                match operand(parser, depth, operators) {
+                    Ok(right) => parts::add_link(&mut links, next, right)?,
+                    Err(e) => return Err(e),
+                }
+            }
+            parts::chain(parser, first, joining, second, links)
+        }
+        Err(e) => Err(e),
+    }
+}
+
+// An operand of a level.
 #[cycle(expression)]
 fn operand<'t, 'a>(
-    alloc: Global,
+    parser: &mut Parser<'t, 'a>,
     depth: usize,
     operators: Operators,
-    tokens: &'t [Token<'a>],
-) -> Result<(Box<Expression<'a>>, &'t [Token<'a>]), ParseError>
-    ensures { ReadsExpression result
-        (operand_of (spec.nested depth) operators (lexemes tokens.now)) }
+) -> Result<Box<Expression<'a>>, ParseError>
+    ensures { TakesExpression result parser.new
+        (operand_of (spec.nested depth) operators (ahead parser.old)) }
 {
     match operators {
-        Operators::Logical => negated(alloc, depth, tokens),
-        Operators::Adding => chain(alloc, depth, Operators::Scaling, tokens),
-        Operators::Scaling => complemented(alloc, depth, tokens),
+        Operators::Logical => negated(parser, depth),
+        Operators::Adding => chain(parser, depth, Operators::Scaling),
+        Operators::Scaling => complemented(parser, depth),
     }
 }
 
-/// `~~` before what it negates, or a comparison.
+// `~~` before what it negates, or a comparison.
 #[cycle(expression)]
 #[tactic(auto, unfolding(crate::specs::Parse::negated), using(crate::proofs::Nested::nested_zero, crate::proofs::Nested::nested_negation))]
 fn negated<'t, 'a>(
-    alloc: Global,
+    parser: &mut Parser<'t, 'a>,
     depth: usize,
-    tokens: &'t [Token<'a>],
-) -> Result<(Box<Expression<'a>>, &'t [Token<'a>]), ParseError>
-    ensures { ReadsExpression result (spec.negated (spec.nested depth) (lexemes tokens.now)) }
+) -> Result<Box<Expression<'a>>, ParseError>
+    ensures { TakesExpression result parser.new
+        (spec.negated (spec.nested depth) (ahead parser.old)) }
 {
-    if !is_sign(peek(tokens), Sign::Not) {
-        return comparison(alloc, depth, tokens);
+    if !is_sign(peek(parser.tokens), Sign::Not) {
+        return comparison(parser, depth);
     }
-    let inside = open(depth, tokens)?;
-    let operand = negated(alloc, inside, skip(tokens));
-    parts::prefixed(alloc, Prefix::Not, operand)
+    let inside = open(depth, parser.tokens)?;
+    pass(parser);
+    match negated(parser, inside) {
+        Ok(operand) => parts::prefixed(parser, Prefix::Not, operand),
+        Err(e) => Err(e),
+    }
 }
 
-/// A sum, or two that are compared, or one that is tested. A comparison or a test is no operand of another.
+// A sum, or two that are compared, or one that is tested. A comparison or a test is no operand of another.
 #[cycle(expression)]
-#[tactic(auto, unfolding(crate::specs::Parse::comparison, crate::specs::Parse::equated))]
+#[tactic(auto, unfolding(crate::specs::Parse::comparison))]
 fn comparison<'t, 'a>(
-    alloc: Global,
+    parser: &mut Parser<'t, 'a>,
     depth: usize,
-    tokens: &'t [Token<'a>],
-) -> Result<(Box<Expression<'a>>, &'t [Token<'a>]), ParseError>
-    ensures { ReadsExpression result (spec.comparison (spec.nested depth) (lexemes tokens.now)) }
+) -> Result<Box<Expression<'a>>, ParseError>
+    ensures { TakesExpression result parser.new
+        (spec.comparison (spec.nested depth) (ahead parser.old)) }
 {
-    let (left, rest) = chain(alloc, depth, Operators::Adding, tokens)?;
-    if let Some(comparison) = comparing(peek(rest)) {
-        let right = chain(alloc, depth, Operators::Adding, skip(rest));
-        return parts::compare(alloc, left, comparison, right);
+    match chain(parser, depth, Operators::Adding) {
+        Ok(left) => compared(parser, depth, left),
+        Err(e) => Err(e),
     }
-    if let Some(equality) = equating(peek(rest)) {
-        let values = values(alloc, depth, skip(rest));
-        return parts::equal(alloc, left, equality, values);
-    }
-    if let Some(containment) = containing(peek(rest)) {
-        let container = chain(alloc, depth, Operators::Adding, skip(rest));
-        return parts::contained(alloc, left, containment, container);
-    }
-    parts::tested(alloc, left, rest)
 }
 
-/// What stands behind `==` or `~=`: a value, and further values behind `or`.
+// What stands behind the left side of a comparison.
 #[cycle(expression)]
-#[tactic(auto, using(crate::proofs::Chain::values_begin, crate::proofs::Chain::values_more))]
-fn values<'t, 'a>(
-    alloc: Global,
+#[tactic(auto, unfolding(crate::specs::Parse::compared))]
+fn compared<'t, 'a>(
+    parser: &mut Parser<'t, 'a>,
     depth: usize,
-    tokens: &'t [Token<'a>],
-) -> Result<(Box<Expression<'a>>, Vec<Expression<'a>>, &'t [Token<'a>]), ParseError>
-    ensures { Gives values_tree result
-        (spec.list (spec.is_word Word.Or) (spec.sum (spec.nested depth)) (lexemes tokens.now)) }
+    left: Box<Expression<'a>>,
+) -> Result<Box<Expression<'a>>, ParseError>
+    ensures { TakesExpression result parser.new
+        (spec.compared (spec.nested depth) (expression_tree left.entry.value) (ahead parser.old)) }
 {
-    let (first, mut rest) = chain(alloc, depth, Operators::Adding, tokens)?;
-    let mut others = Vec::new(alloc);
-    for _turn in 0..rest.len() {
-        if !is_word(peek(rest), Word::Or) {
-            break;
-        }
-        let (value, after) = chain(alloc, depth, Operators::Adding, skip(rest))?;
-        parts::add(&mut others, value)?;
-        rest = after;
+    let next = peek(parser.tokens);
+    if let Some(comparison) = comparing(next) {
+        return compare(parser, depth, left, comparison);
     }
-    Ok((first, others, rest))
+    if let Some(equality) = equating(next) {
+        return equate(parser, depth, left, equality);
+    }
+    if let Some(containment) = containing(next) {
+        return contain(parser, depth, left, containment);
+    }
+    parts::tested(parser, left)
 }
 
-/// `~` before what it complements, or an operand with at most an index, `-`, `++` and `--`.
+// A comparison of two, from its operator on.
+#[cycle(expression)]
+fn compare<'t, 'a>(
+    parser: &mut Parser<'t, 'a>,
+    depth: usize,
+    left: Box<Expression<'a>>,
+    operator: Comparison,
+) -> Result<Box<Expression<'a>>, ParseError>
+    ensures { TakesExpression result parser.new (spec.compare_on (spec.nested depth)
+        (expression_tree left.entry.value) operator (tail (ahead parser.old))) }
+{
+    pass(parser);
+    match chain(parser, depth, Operators::Adding) {
+        Ok(right) => parts::compare(parser, left, operator, right),
+        Err(e) => Err(e),
+    }
+}
+
+// A comparison with one value or several, from its operator on.
+#[cycle(expression)]
+#[tactic(auto, unfolding(crate::specs::Parse::equated))]
+fn equate<'t, 'a>(
+    parser: &mut Parser<'t, 'a>,
+    depth: usize,
+    left: Box<Expression<'a>>,
+    operator: Equality,
+) -> Result<Box<Expression<'a>>, ParseError>
+    ensures { TakesExpression result parser.new (spec.equated (spec.nested depth)
+        (expression_tree left.entry.value) operator (tail (ahead parser.old))) }
+{
+    pass(parser);
+    match values(parser, depth) {
+        Ok((first, others)) => parts::equal(parser, left, operator, first, others),
+        Err(e) => Err(e),
+    }
+}
+
+// `in` or `notin`, from the word on.
+#[cycle(expression)]
+fn contain<'t, 'a>(
+    parser: &mut Parser<'t, 'a>,
+    depth: usize,
+    left: Box<Expression<'a>>,
+    operator: Containment,
+) -> Result<Box<Expression<'a>>, ParseError>
+    ensures { TakesExpression result parser.new (spec.contain_on (spec.nested depth)
+        (expression_tree left.entry.value) operator (tail (ahead parser.old))) }
+{
+    pass(parser);
+    match chain(parser, depth, Operators::Adding) {
+        Ok(container) => parts::contained(parser, left, operator, container),
+        Err(e) => Err(e),
+    }
+}
+
+// What stands behind `==` or `~=`: a value, and further values behind `or`.
+#[cycle(expression)]
+fn values<'t, 'a>(
+    parser: &mut Parser<'t, 'a>,
+    depth: usize,
+) -> Result<(Box<Expression<'a>>, Vec<Expression<'a>>), ParseError>
+    ensures { Takes values_tree result parser.new
+        (reading.list (reading.is_word Word.Or) (spec.sum (spec.nested depth)) (ahead parser.old)) }
+{
+    match chain(parser, depth, Operators::Adding) {
+        Ok(first) => {
+            let mut others = Vec::new(parser.alloc);
+            for _turn in 0..parser.tokens.len() {
+                if !is_word(peek(parser.tokens), Word::Or) {
+                    break;
+                }
+                pass(parser);
+                match chain(parser, depth, Operators::Adding) {
+                    Ok(next) => parts::add(&mut others, next)?,
+                    Err(e) => return Err(e),
+                }
+            }
+            Ok((first, others))
+        }
+        Err(e) => Err(e),
+    }
+}
+
+// `~` before what it complements, or an operand with at most an index, `-`, `++` and `--`.
 #[cycle(expression)]
 #[tactic(auto, unfolding(crate::specs::Parse::complemented), using(crate::proofs::Nested::nested_zero, crate::proofs::Nested::nested_complement))]
 fn complemented<'t, 'a>(
-    alloc: Global,
+    parser: &mut Parser<'t, 'a>,
     depth: usize,
-    tokens: &'t [Token<'a>],
-) -> Result<(Box<Expression<'a>>, &'t [Token<'a>]), ParseError>
-    ensures { ReadsExpression result (spec.complemented (spec.nested depth) (lexemes tokens.now)) }
+) -> Result<Box<Expression<'a>>, ParseError>
+    ensures { TakesExpression result parser.new
+        (spec.complemented (spec.nested depth) (ahead parser.old)) }
 {
-    if !is_sign(peek(tokens), Sign::Tilde) {
-        return indexed(alloc, depth, tokens);
+    if !is_sign(peek(parser.tokens), Sign::Tilde) {
+        return indexed(parser, depth);
     }
-    let inside = open(depth, tokens)?;
-    let operand = complemented(alloc, inside, skip(tokens));
-    parts::prefixed(alloc, Prefix::Complement, operand)
+    let inside = open(depth, parser.tokens)?;
+    pass(parser);
+    match complemented(parser, inside) {
+        Ok(operand) => parts::prefixed(parser, Prefix::Complement, operand),
+        Err(e) => Err(e),
+    }
 }
 
-/// An entry of an array or of a property, or an operand with at most `-`, `++`, `--` and `.#`. An index is no nesting.
+// An entry of an array or of a property, or an operand with at most `-`, `++`, `--` and `.#`. An index is no nesting.
 #[cycle(expression)]
+#[tactic(auto, unfolding(crate::specs::Parse::indexed))]
 fn indexed<'t, 'a>(
-    alloc: Global,
+    parser: &mut Parser<'t, 'a>,
     depth: usize,
-    tokens: &'t [Token<'a>],
-) -> Result<(Box<Expression<'a>>, &'t [Token<'a>]), ParseError>
-    ensures { ReadsExpression result (spec.indexed (spec.nested depth) (lexemes tokens.now)) }
+) -> Result<Box<Expression<'a>>, ParseError>
+    ensures { TakesExpression result parser.new
+        (spec.indexed (spec.nested depth) (ahead parser.old)) }
 {
-    let Some((array, width)) = array(tokens) else {
-        return unindexed(alloc, depth, tokens);
+    let Some((array, width)) = array(parser.tokens) else {
+        return unindexed(parser, depth);
     };
-    let index = unary(alloc, depth, skip(skip(tokens)));
-    parts::index(alloc, array, width, index)
+    pass(parser);
+    pass(parser);
+    match unary(parser, depth) {
+        Ok(index) => parts::index(parser, array, width, index),
+        Err(e) => Err(e),
+    }
 }
 
-/// An entry of a property, or an operand with at most `-`, `++`, `--` and `.#`.
+// An entry of a property, or an operand with at most `-`, `++`, `--` and `.#`.
 #[cycle(expression)]
+#[tactic(auto, unfolding(crate::specs::Parse::unindexed))]
 fn unindexed<'t, 'a>(
-    alloc: Global,
+    parser: &mut Parser<'t, 'a>,
     depth: usize,
-    tokens: &'t [Token<'a>],
-) -> Result<(Box<Expression<'a>>, &'t [Token<'a>]), ParseError>
-    ensures { ReadsExpression result (spec.unindexed (spec.nested depth) (lexemes tokens.now)) }
+) -> Result<Box<Expression<'a>>, ParseError>
+    ensures { TakesExpression result parser.new
+        (spec.unindexed (spec.nested depth) (ahead parser.old)) }
 {
-    if prefixes(peek(tokens)) {
-        return unary(alloc, depth, tokens);
+    if prefixes(peek(parser.tokens)) {
+        return unary(parser, depth);
     }
-    let (owner, rest) = primary(alloc, depth, tokens)?;
-    if !is_sign(peek(rest), Sign::DotAmpersand) {
-        return parts::suffix(alloc, owner, rest);
+    match primary(parser, depth) {
+        Ok(owner) => owned(parser, depth, owner),
+        Err(e) => Err(e),
     }
-    entry(alloc, depth, owner, skip(rest))
 }
 
-/// An entry of a property of the owner, from behind `.&` on.
+// An owner, with the entry of its property, `++`, `--` or `.#` where it stands behind it.
 #[cycle(expression)]
-fn entry<'t, 'a>(
-    alloc: Global,
+#[tactic(auto, unfolding(crate::specs::Parse::owned))]
+fn owned<'t, 'a>(
+    parser: &mut Parser<'t, 'a>,
     depth: usize,
     owner: Box<Expression<'a>>,
-    tokens: &'t [Token<'a>],
-) -> Result<(Box<Expression<'a>>, &'t [Token<'a>]), ParseError>
-    ensures { ReadsExpression result
-        (spec.entry (spec.nested depth) (expression_tree owner.entry.value) (lexemes tokens.now)) }
+) -> Result<Box<Expression<'a>>, ParseError>
+    ensures { TakesExpression result parser.new
+        (spec.owned (spec.nested depth) (expression_tree owner.entry.value) (ahead parser.old)) }
 {
-    let (name, rest) = property_name(tokens)?;
-    let index = unary(alloc, depth, rest);
-    parts::property_entry(alloc, owner, name, index)
+    if !is_sign(peek(parser.tokens), Sign::DotAmpersand) {
+        return parts::suffixed(parser, owner);
+    }
+    entry(parser, depth, owner)
 }
 
-/// `-` before its operand, or a primary with `++` or `--` before or after it, or with `.#` after it.
+// An entry of a property of the owner, from `.&` on.
 #[cycle(expression)]
-#[tactic(auto, unfolding(crate::specs::Parse::unary, crate::specs::Parse::stepped), using(crate::proofs::Nested::nested_zero, crate::proofs::Nested::nested_prefix, crate::proofs::Nested::nested_operand))]
+#[tactic(auto, unfolding(crate::specs::Parse::entry))]
+fn entry<'t, 'a>(
+    parser: &mut Parser<'t, 'a>,
+    depth: usize,
+    owner: Box<Expression<'a>>,
+) -> Result<Box<Expression<'a>>, ParseError>
+    ensures { TakesExpression result parser.new (spec.entry (spec.nested depth)
+        (expression_tree owner.entry.value) (tail (ahead parser.old))) }
+{
+    pass(parser);
+    let name = property_name(parser)?;
+    match unary(parser, depth) {
+        Ok(index) => parts::property_entry(parser, owner, name, index),
+        Err(e) => Err(e),
+    }
+}
+
+// `-` before its operand, or a primary with `++` or `--` before or after it, or with `.#` after it.
+#[cycle(expression)]
+#[tactic(auto, unfolding(crate::specs::Parse::unary))]
 fn unary<'t, 'a>(
-    alloc: Global,
+    parser: &mut Parser<'t, 'a>,
     depth: usize,
-    tokens: &'t [Token<'a>],
-) -> Result<(Box<Expression<'a>>, &'t [Token<'a>]), ParseError>
-    ensures { ReadsExpression result (spec.unary (spec.nested depth) (lexemes tokens.now)) }
+) -> Result<Box<Expression<'a>>, ParseError>
+    ensures { TakesExpression result parser.new
+        (spec.unary (spec.nested depth) (ahead parser.old)) }
 {
-    let after = skip(tokens);
-    if is_sign(peek(tokens), Sign::Minus) {
-        let inside = open(depth, tokens)?;
-        let operand = unary(alloc, inside, after);
-        return parts::prefixed(alloc, Prefix::Minus, operand);
+    let next = peek(parser.tokens);
+    if is_sign(next, Sign::Minus) {
+        return minus(parser, depth);
     }
-    if let Some(step) = stepping(peek(tokens)) {
-        let within = open(depth, tokens)?;
-        let stepped = primary(alloc, within, after);
-        return parts::step_before(alloc, step, position(tokens), stepped);
+    match stepping(next) {
+        Some(step) => step_before(parser, depth, step),
+        None => stepped(parser, depth),
     }
-    parts::suffixed(alloc, primary(alloc, depth, tokens))
 }
 
-/// An operand without operators: what `atom` reads, and properties behind it.
+// `-` and its operand.
 #[cycle(expression)]
-fn primary<'t, 'a>(
-    alloc: Global,
+#[tactic(auto, using(crate::proofs::Nested::nested_zero, crate::proofs::Nested::nested_prefix))]
+fn minus<'t, 'a>(
+    parser: &mut Parser<'t, 'a>,
     depth: usize,
-    tokens: &'t [Token<'a>],
-) -> Result<(Box<Expression<'a>>, &'t [Token<'a>]), ParseError>
-    ensures { ReadsExpression result (spec.primary (spec.nested depth) (lexemes tokens.now)) }
+) -> Result<Box<Expression<'a>>, ParseError>
+    ensures { TakesExpression result parser.new
+        (spec.minus (spec.nested depth) (tail (ahead parser.old))) }
 {
-    parts::with_properties(alloc, atom(alloc, depth, tokens))
+    let inside = open(depth, parser.tokens)?;
+    pass(parser);
+    match unary(parser, inside) {
+        Ok(operand) => parts::prefixed(parser, Prefix::Minus, operand),
+        Err(e) => Err(e),
+    }
 }
 
-/// A constant, a dictionary word, a name, a call, a relative of an object, or an expression in parentheses.
+// `++` or `--`, and its operand.
+#[cycle(expression)]
+#[tactic(auto, using(crate::proofs::Nested::nested_zero, crate::proofs::Nested::nested_operand))]
+fn step_before<'t, 'a>(
+    parser: &mut Parser<'t, 'a>,
+    depth: usize,
+    step: Step,
+) -> Result<Box<Expression<'a>>, ParseError>
+    ensures { TakesExpression result parser.new
+        (spec.unary_on (spec.nested depth) (ahead parser.old) (Some step)) }
+{
+    let inside = open(depth, parser.tokens)?;
+    let sign = position(parser.tokens);
+    pass(parser);
+    match primary(parser, inside) {
+        Ok(operand) => parts::step_before(parser, step, sign, operand),
+        Err(e) => Err(e),
+    }
+}
+
+// A primary, with `++`, `--` or `.#` where it stands behind it.
+#[cycle(expression)]
+#[tactic(auto, unfolding(crate::specs::Parse::stepped))]
+fn stepped<'t, 'a>(
+    parser: &mut Parser<'t, 'a>,
+    depth: usize,
+) -> Result<Box<Expression<'a>>, ParseError>
+    ensures { TakesExpression result parser.new
+        (spec.stepped (spec.nested depth) (ahead parser.old)) }
+{
+    match primary(parser, depth) {
+        Ok(operand) => parts::suffixed(parser, operand),
+        Err(e) => Err(e),
+    }
+}
+
+// An operand without operators: what `atom` reads, and properties behind it.
+#[cycle(expression)]
+#[tactic(auto, unfolding(crate::specs::Parse::primary))]
+fn primary<'t, 'a>(
+    parser: &mut Parser<'t, 'a>,
+    depth: usize,
+) -> Result<Box<Expression<'a>>, ParseError>
+    ensures { TakesExpression result parser.new
+        (spec.primary (spec.nested depth) (ahead parser.old)) }
+{
+    match atom(parser, depth) {
+        Ok(owner) => parts::properties(parser, owner),
+        Err(e) => Err(e),
+    }
+}
+
+// A constant, a dictionary word, a name, a call, a relative of an object, or an expression in parentheses.
 #[cycle(expression)]
 #[tactic(auto, unfolding(crate::specs::Parse::atom))]
 fn atom<'t, 'a>(
-    alloc: Global,
+    parser: &mut Parser<'t, 'a>,
     depth: usize,
-    tokens: &'t [Token<'a>],
-) -> Result<(Box<Expression<'a>>, &'t [Token<'a>]), ParseError>
-    ensures { ReadsExpression result (spec.atom (spec.nested depth) (lexemes tokens.now)) }
+) -> Result<Box<Expression<'a>>, ParseError>
+    ensures { TakesExpression result parser.new
+        (spec.atom (spec.nested depth) (ahead parser.old)) }
 {
-    let token = peek(tokens);
-    let rest = skip(tokens);
+    let token = peek(parser.tokens);
     match token.kind {
-        Kind::Number(number) => parts::constant(alloc, number, rest),
-        Kind::Character(code) => parts::constant(alloc, code as u16, rest),
-        Kind::DictionaryWord(word) => parts::word(alloc, word, rest),
-        Kind::Reserved(word) => reserved(alloc, depth, word, tokens),
+        Kind::Number(number) => parts::constant(parser, number),
+        Kind::Character(code) => parts::constant(parser, code as u16),
+        Kind::DictionaryWord(word) => parts::word(parser, word),
+        Kind::Reserved(word) => reserved(parser, depth, word),
         Kind::Name(text) => {
             let name = Name {
                 text,
                 position: token.position,
             };
-            after_name(alloc, depth, name, rest)
+            after_name(parser, depth, name)
         }
-        Kind::Sign(Sign::OpenParenthesis) => enclosed(alloc, depth, tokens),
-        _ => Err(fault_at(Fault::Grammar, tokens)),
+        Kind::Sign(Sign::OpenParenthesis) => enclosed(parser, depth),
+        _ => Err(fault_at(Fault::Grammar, parser.tokens)),
     }
 }
 
-/// A name, or its call where a parenthesis stands behind it.
+// A name, or its call where a parenthesis stands behind it, from the name on.
 #[cycle(expression)]
 #[tactic(auto, unfolding(crate::specs::Parse::after_name), using(crate::proofs::Nested::nested_zero, crate::proofs::Nested::nested_arguments))]
 fn after_name<'t, 'a>(
-    alloc: Global,
+    parser: &mut Parser<'t, 'a>,
     depth: usize,
     name: Name<'a>,
-    tokens: &'t [Token<'a>],
-) -> Result<(Box<Expression<'a>>, &'t [Token<'a>]), ParseError>
-    ensures { ReadsExpression result
-        (spec.after_name (spec.nested depth) (name_tree name.entry) (lexemes tokens.now)) }
+) -> Result<Box<Expression<'a>>, ParseError>
+    ensures { TakesExpression result parser.new
+        (spec.after_name (spec.nested depth) (name_tree name.entry) (tail (ahead parser.old))) }
 {
-    if !is_sign(peek(tokens), Sign::OpenParenthesis) {
-        return parts::named(alloc, name, tokens);
+    pass(parser);
+    if !is_sign(peek(parser.tokens), Sign::OpenParenthesis) {
+        return parts::named(parser, name);
     }
-    let inside = open(depth, tokens)?;
-    called(alloc, inside, name, skip(tokens))
+    let inside = open(depth, parser.tokens)?;
+    pass(parser);
+    called(parser, inside, name)
 }
 
-/// An expression in parentheses, from the first of them on.
+// What stands in parentheses, from the first of them on.
 #[cycle(expression)]
-fn enclosed<'t, 'a>(
-    alloc: Global,
+#[tactic(auto, using(crate::proofs::Nested::nested_zero, crate::proofs::Nested::nested_whole))]
+fn within<'t, 'a>(
+    parser: &mut Parser<'t, 'a>,
     depth: usize,
-    tokens: &'t [Token<'a>],
-) -> Result<(Box<Expression<'a>>, &'t [Token<'a>]), ParseError>
-    ensures { ReadsExpression result
-        (spec.enclosed (spec.nested depth) (tail (lexemes tokens.now))) }
+) -> Result<Box<Expression<'a>>, ParseError>
+    ensures { TakesExpression result parser.new
+        (spec.nested depth spec.whole (tail (ahead parser.old))) }
 {
-    let inside = within(alloc, depth, tokens, skip(tokens));
-    parts::parenthesised(alloc, inside)
+    let inside = open(depth, parser.tokens)?;
+    pass(parser);
+    expression(parser, inside)
 }
 
-/// The value of the reserved word that comes next, or a relative of an object.
+// An expression in parentheses.
+#[cycle(expression)]
+#[tactic(auto, unfolding(crate::specs::Parse::enclosed))]
+fn enclosed<'t, 'a>(
+    parser: &mut Parser<'t, 'a>,
+    depth: usize,
+) -> Result<Box<Expression<'a>>, ParseError>
+    ensures { TakesExpression result parser.new
+        (spec.enclosed (spec.nested depth) (tail (ahead parser.old))) }
+{
+    match within(parser, depth) {
+        Ok(inside) => parts::parenthesised(parser, inside),
+        Err(e) => Err(e),
+    }
+}
+
+// The value of the reserved word that comes next, or a relative of an object.
 #[cycle(expression)]
 fn reserved<'t, 'a>(
-    alloc: Global,
+    parser: &mut Parser<'t, 'a>,
     depth: usize,
     word: Word,
-    tokens: &'t [Token<'a>],
-) -> Result<(Box<Expression<'a>>, &'t [Token<'a>]), ParseError>
-    ensures { ReadsExpression result (spec.word_on (spec.nested depth) word
-        (operators.relating_word word) (tail (lexemes tokens.now))) }
+) -> Result<Box<Expression<'a>>, ParseError>
+    ensures { TakesExpression result parser.new (spec.word_on (spec.nested depth) word
+        (operators.relating_word word) (tail (ahead parser.old))) }
 {
-    let Some(relative) = relating_word(word) else {
-        return parts::word_constant(alloc, word, tokens);
-    };
-    related(alloc, depth, relative, skip(tokens))
+    match relating_word(word) {
+        Some(relative) => related(parser, depth, relative),
+        None => parts::word_constant(parser, word),
+    }
 }
 
-/// The parent, the child or the sibling of what stands in parentheses, from the first of them on.
+// The parent, the child or the sibling of what stands in parentheses, from the word on.
 #[cycle(expression)]
 #[tactic(auto, unfolding(crate::specs::Parse::related))]
 fn related<'t, 'a>(
-    alloc: Global,
+    parser: &mut Parser<'t, 'a>,
     depth: usize,
     relative: Relative,
-    tokens: &'t [Token<'a>],
-) -> Result<(Box<Expression<'a>>, &'t [Token<'a>]), ParseError>
-    ensures { ReadsExpression result
-        (spec.related (spec.nested depth) relative (lexemes tokens.now)) }
+) -> Result<Box<Expression<'a>>, ParseError>
+    ensures { TakesExpression result parser.new
+        (spec.related (spec.nested depth) relative (tail (ahead parser.old))) }
 {
-    if !is_sign(peek(tokens), Sign::OpenParenthesis) {
-        return Err(fault_at(Fault::Grammar, tokens));
+    pass(parser);
+    if !is_sign(peek(parser.tokens), Sign::OpenParenthesis) {
+        return Err(fault_at(Fault::Grammar, parser.tokens));
     }
-    let inside = within(alloc, depth, tokens, skip(tokens));
-    parts::relative_of(alloc, relative, inside)
+    match within(parser, depth) {
+        Ok(inside) => parts::relative_of(parser, relative, inside),
+        Err(e) => Err(e),
+    }
 }
 
-/// The call of a name, from behind its parenthesis.
+// The call of a name, from behind its parenthesis.
 #[cycle(expression)]
 #[tactic(auto, unfolding(crate::specs::Parse::called))]
 fn called<'t, 'a>(
-    alloc: Global,
+    parser: &mut Parser<'t, 'a>,
     depth: usize,
     name: Name<'a>,
-    tokens: &'t [Token<'a>],
-) -> Result<(Box<Expression<'a>>, &'t [Token<'a>]), ParseError>
-    ensures { ReadsExpression result
-        (spec.called (spec.nested depth) (name_tree name.entry) (lexemes tokens.now)) }
+) -> Result<Box<Expression<'a>>, ParseError>
+    ensures { TakesExpression result parser.new
+        (spec.called (spec.nested depth) (name_tree name.entry) (ahead parser.old)) }
 {
-    if is_sign(peek(tokens), Sign::CloseParenthesis) {
-        return parts::call_alone(alloc, name, skip(tokens));
+    if is_sign(peek(parser.tokens), Sign::CloseParenthesis) {
+        return parts::call_alone(parser, name);
     }
-    parts::call(alloc, name, arguments(alloc, depth, tokens))
+    match arguments(parser, depth) {
+        Ok(arguments) => parts::call(parser, name, arguments),
+        Err(e) => Err(e),
+    }
 }
 
-/// Arguments, at least one.
+// Arguments, at least one.
 #[cycle(expression)]
-#[tactic(auto, using(crate::proofs::Chain::arguments_begin, crate::proofs::Chain::arguments_more))]
+#[tactic(auto, using(parsing::proofs::Loops::further_out, parsing::proofs::Loops::further_done))]
 fn arguments<'t, 'a>(
-    alloc: Global,
+    parser: &mut Parser<'t, 'a>,
     depth: usize,
-    tokens: &'t [Token<'a>],
-) -> Result<(Vec<Expression<'a>>, &'t [Token<'a>]), ParseError>
-    ensures { Reads (λ xs. map expression_tree xs.items) result (spec.list
-        (spec.is_sign Sign.Comma) (spec.expression (spec.nested depth)) (lexemes tokens.now)) }
+) -> Result<Vec<Expression<'a>>, ParseError>
+    ensures { Takes (λ xs. map expression_tree xs.items) result parser.new (reading.list
+        (reading.is_sign Sign.Comma) (spec.expression (spec.nested depth)) (ahead parser.old)) }
 {
-    let mut arguments = Vec::new(alloc);
-    let (first, mut rest) = expression(alloc, depth, tokens)?;
-    parts::add(&mut arguments, first)?;
-    for _turn in 0..rest.len() {
-        if !is_sign(peek(rest), Sign::Comma) {
+    let mut arguments = Vec::new(parser.alloc);
+    match expression(parser, depth) {
+        Ok(first) => parts::add(&mut arguments, first)?,
+        Err(e) => return Err(e),
+    }
+    for _turn in 0..parser.tokens.len() {
+        if !is_sign(peek(parser.tokens), Sign::Comma) {
             break;
         }
-        let (argument, after) = expression(alloc, depth, skip(rest))?;
-        parts::add(&mut arguments, argument)?;
-        rest = after;
+        pass(parser);
+        match expression(parser, depth) {
+            Ok(next) => parts::add(&mut arguments, next)?,
+            Err(e) => return Err(e),
+        }
     }
-    Ok((arguments, rest))
+    Ok(arguments)
 }

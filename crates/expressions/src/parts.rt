@@ -1,114 +1,110 @@
-//! Trees made of parts. Each function takes what reading a part gave, and gives what reading the whole gives: the part's
-//! fault, or the tree that the part belongs to and the tokens after it.
+//! Trees made of parts, where the last part is read already: each function gives what reading the whole gives.
 //!
 //! Trees come and go in boxes, and a kind of tree is spelled here alone: where a function holds a tree by value, its proof
-//! has all kinds of trees before it, with all that each holds, at every step.
+//! has all kinds of trees before it, with all that each holds, at every step. The parser comes first among the arguments
+//! also where nothing is read: so the lifetimes of the arguments have the places that they have in the callers, else the
+//! prover compares their types part by part.
 //!
 //! # Errors
 //!
-//! Those of the part; `Memory` where a growth is refused; `Fault::Grammar` where a parenthesis is not closed, and where a
-//! name is to stand and does not.
+//! `Memory` where a growth is refused; `Fault::Grammar` where a parenthesis is not closed, and where a name is to stand and
+//! does not.
 
-ghost use Rattle.std.specs.Prelude.{◌≡◌, ◌∷◌, IfErr, IfOk, Ok, length, map, List, [], ◌++◌};
-ghost use Rattle.lexer.specs.Token.{Lexeme, lexeme, lexemes, position_of};
-ghost use Rattle.expressions.specs.Tree as tree;
-ghost use Rattle.expressions.specs.Tree.{ExpressionTree, chained, link, name_tree};
-ghost use Rattle.expressions.specs.Tree.{expression_tree, trees_of};
+ghost use Rattle.std.specs.Prelude.{◌≡◌, ◌∷◌, IfErr, IfOk, Ok, length, map, [], ◌++◌};
+ghost use Rattle.lexer.specs.Token.{position_of};
+ghost use Rattle.expression_trees.specs.Tree as tree;
+ghost use Rattle.expression_trees.specs.Tree.{chained, link, name_tree, expression_tree, trees_of};
+ghost use Rattle.parsing.specs.Parse as reading;
+ghost use Rattle.parsing.specs.Returned.{ahead};
 ghost use Rattle.expressions.specs.Parse as spec;
-ghost use Rattle.expressions.specs.Parse.{GoesOn, ReadOne};
-ghost use Rattle.expressions.specs.Returned.{ReadsExpression, BuildsOn, values_tree};
+ghost use Rattle.expressions.specs.Returned.{TakesExpression};
 
-use crate::error::{Fault, ParseError};
 use crate::operators::{stepping, testing, word_value};
-use crate::reading::{expect, expect_name, fault_at, is_sign, peek, position, skip};
-use crate::tree::{
+use crate::reading::name;
+use expression_trees::{
     Binary, Comparison, Containment, Equality, Expression, Name, Prefix, Relative, Step, Width,
 };
-use lexer::{Position, Sign, Token, Word};
-use std::alloc::Global;
+use lexer::{Position, Sign, Word};
+use parsing::{Fault, ParseError, Parser, expect, fault_at, is_sign, pass, peek, position};
 
-// A tree in a box, and the tokens after it. Where memory is refused the tree is dropped here.
+// A tree in a box. Where memory is refused the tree is dropped here.
 fn in_box<'t, 'a>(
-    alloc: Global,
+    parser: &Parser<'t, 'a>,
     tree: Expression<'a>,
-    rest: &'t [Token<'a>],
-) -> Result<(Box<Expression<'a>>, &'t [Token<'a>]), ParseError>
-    ensures { ReadsExpression result (Ok (expression_tree tree.entry, lexemes rest.now)) }
+) -> Result<Box<Expression<'a>>, ParseError>
+    ensures { TakesExpression result parser.now
+        (Ok (expression_tree tree.entry, ahead parser.now)) }
 {
-    match Box::new(alloc, tree) {
-        Ok(tree) => Ok((tree, rest)),
+    match Box::new(parser.alloc, tree) {
+        Ok(tree) => Ok(tree),
         Err(refused) => Err(ParseError::from(refused)),
     }
 }
 
-/// A constant.
+/// A constant, which the next token is.
 pub fn constant<'t, 'a>(
-    alloc: Global,
+    parser: &mut Parser<'t, 'a>,
     value: u16,
-    rest: &'t [Token<'a>],
-) -> Result<(Box<Expression<'a>>, &'t [Token<'a>]), ParseError>
-    ensures { ReadsExpression result (Ok (tree.constant value, lexemes rest.now)) }
+) -> Result<Box<Expression<'a>>, ParseError>
+    ensures { TakesExpression result parser.new
+        (Ok (tree.constant value, reading.tail (ahead parser.old))) }
 {
-    in_box(alloc, Expression::Constant(value), rest)
+    pass(parser);
+    in_box(parser, Expression::Constant(value))
 }
 
 /// The value of the reserved word that comes next.
 pub fn word_constant<'t, 'a>(
-    alloc: Global,
+    parser: &mut Parser<'t, 'a>,
     word: Word,
-    tokens: &'t [Token<'a>],
-) -> Result<(Box<Expression<'a>>, &'t [Token<'a>]), ParseError>
-    ensures { ReadsExpression result
-        (spec.valued (spec.word_value word) (spec.tail (lexemes tokens.now))) }
+) -> Result<Box<Expression<'a>>, ParseError>
+    ensures { TakesExpression result parser.new
+        (spec.valued (spec.word_value word) (reading.tail (ahead parser.old))) }
 {
     match word_value(word) {
-        Some(value) => constant(alloc, value, skip(tokens)),
-        None => Err(fault_at(Fault::Grammar, tokens)),
+        Some(value) => constant(parser, value),
+        None => Err(fault_at(Fault::Grammar, parser.tokens)),
     }
 }
 
-/// A dictionary word.
+/// A dictionary word, which the next token is.
 pub fn word<'t, 'a>(
-    alloc: Global,
+    parser: &mut Parser<'t, 'a>,
     word: &'a [u8],
-    rest: &'t [Token<'a>],
-) -> Result<(Box<Expression<'a>>, &'t [Token<'a>]), ParseError>
-    ensures { ReadsExpression result (Ok (tree.word word.entry.now, lexemes rest.now)) }
+) -> Result<Box<Expression<'a>>, ParseError>
+    ensures { TakesExpression result parser.new
+        (Ok (tree.word word.entry.now, reading.tail (ahead parser.old))) }
 {
-    in_box(alloc, Expression::Word(word), rest)
+    pass(parser);
+    in_box(parser, Expression::Word(word))
 }
 
 /// The value of a name.
 pub fn named<'t, 'a>(
-    alloc: Global,
+    parser: &Parser<'t, 'a>,
     name: Name<'a>,
-    rest: &'t [Token<'a>],
-) -> Result<(Box<Expression<'a>>, &'t [Token<'a>]), ParseError>
-    ensures { ReadsExpression result (Ok (tree.named (name_tree name.entry), lexemes rest.now)) }
+) -> Result<Box<Expression<'a>>, ParseError>
+    ensures { TakesExpression result parser.now
+        (Ok (tree.named (name_tree name.entry), ahead parser.now)) }
 {
-    in_box(alloc, Expression::Named(name), rest)
+    in_box(parser, Expression::Named(name))
 }
 
 /// A chain.
 pub fn chain<'t, 'a>(
-    alloc: Global,
+    parser: &Parser<'t, 'a>,
     first: Box<Expression<'a>>,
     operator: Binary,
     second: Box<Expression<'a>>,
     links: Vec<(Binary, Expression<'a>)>,
-    rest: &'t [Token<'a>],
-) -> Result<(Box<Expression<'a>>, &'t [Token<'a>]), ParseError>
-    ensures { ReadsExpression result (Ok (
+) -> Result<Box<Expression<'a>>, ParseError>
+    ensures { TakesExpression result parser.now (Ok (
       chained (tree.binary operator (expression_tree first.entry.value)
           (expression_tree second.entry.value)) (map link links.entry.items),
-      lexemes rest.now,
+      ahead parser.now,
     )) }
 {
-    in_box(
-        alloc,
-        Expression::Chain(first, operator, second, links),
-        rest,
-    )
+    in_box(parser, Expression::Chain(first, operator, second, links))
 }
 
 /// One more operator and operand in a chain.
@@ -139,337 +135,270 @@ pub fn add<'a>(
 }
 
 /// An operator before its operand.
-#[tactic(auto, using(crate::proofs::GoesOn::part_fails, crate::proofs::GoesOn::part_made))]
 pub fn prefixed<'t, 'a>(
-    alloc: Global,
+    parser: &Parser<'t, 'a>,
     operator: Prefix,
-    operand: Result<(Box<Expression<'a>>, &'t [Token<'a>]), ParseError>,
-) -> Result<(Box<Expression<'a>>, &'t [Token<'a>]), ParseError>
-    ensures { BuildsOn operand.entry result (λ x. Ok (tree.prefixed operator x.0, x.1)) }
+    operand: Box<Expression<'a>>,
+) -> Result<Box<Expression<'a>>, ParseError>
+    ensures { TakesExpression result parser.now
+        (Ok (tree.prefixed operator (expression_tree operand.entry.value), ahead parser.now)) }
 {
-    match operand {
-        Ok((operand, rest)) => in_box(alloc, Expression::Prefixed(operator, operand), rest),
-        Err(e) => Err(e),
-    }
+    in_box(parser, Expression::Prefixed(operator, operand))
 }
 
 /// An entry of an array.
-#[tactic(auto, using(crate::proofs::GoesOn::part_fails, crate::proofs::GoesOn::part_made))]
 pub fn index<'t, 'a>(
-    alloc: Global,
+    parser: &Parser<'t, 'a>,
     array: Name<'a>,
     width: Width,
-    index: Result<(Box<Expression<'a>>, &'t [Token<'a>]), ParseError>,
-) -> Result<(Box<Expression<'a>>, &'t [Token<'a>]), ParseError>
-    ensures { BuildsOn index.entry result
-        (λ x. Ok (tree.index (name_tree array.entry) width x.0, x.1)) }
+    index: Box<Expression<'a>>,
+) -> Result<Box<Expression<'a>>, ParseError>
+    ensures { TakesExpression result parser.now (Ok (
+      tree.index (name_tree array.entry) width (expression_tree index.entry.value),
+      ahead parser.now,
+    )) }
 {
-    match index {
-        Ok((index, rest)) => in_box(alloc, Expression::Index(array, width, index), rest),
-        Err(e) => Err(e),
-    }
+    in_box(parser, Expression::Index(array, width, index))
 }
 
 /// An entry of a property.
-#[tactic(auto, using(crate::proofs::GoesOn::part_fails, crate::proofs::GoesOn::part_made))]
 pub fn property_entry<'t, 'a>(
-    alloc: Global,
+    parser: &Parser<'t, 'a>,
     owner: Box<Expression<'a>>,
     name: Name<'a>,
-    index: Result<(Box<Expression<'a>>, &'t [Token<'a>]), ParseError>,
-) -> Result<(Box<Expression<'a>>, &'t [Token<'a>]), ParseError>
-    ensures { BuildsOn index.entry result
-        (λ x. Ok (
-          tree.property_entry (expression_tree owner.entry.value)
-              (name_tree name.entry) x.0,
-          x.1,
-        )) }
+    index: Box<Expression<'a>>,
+) -> Result<Box<Expression<'a>>, ParseError>
+    ensures { TakesExpression result parser.now (Ok (
+      tree.property_entry (expression_tree owner.entry.value) (name_tree name.entry)
+          (expression_tree index.entry.value),
+      ahead parser.now,
+    )) }
 {
-    match index {
-        Ok((index, rest)) => in_box(alloc, Expression::PropertyEntry(owner, name, index), rest),
-        Err(e) => Err(e),
-    }
+    in_box(parser, Expression::PropertyEntry(owner, name, index))
 }
 
-// The properties that stand behind an owner, each a property of what stands before it.
-fn properties<'t, 'a>(
-    alloc: Global,
+/// An owner, with the properties that stand behind it, each a property of what stands before it.
+pub fn properties<'t, 'a>(
+    parser: &mut Parser<'t, 'a>,
     owner: Box<Expression<'a>>,
-    tokens: &'t [Token<'a>],
-) -> Result<(Box<Expression<'a>>, &'t [Token<'a>]), ParseError>
-    ensures { ReadsExpression result (spec.properties (length (lexemes tokens.now))
-        (expression_tree owner.entry.value) (lexemes tokens.now)) }
+) -> Result<Box<Expression<'a>>, ParseError>
+    ensures { TakesExpression result parser.new (spec.properties (length (ahead parser.old))
+        (expression_tree owner.entry.value) (ahead parser.old)) }
 {
-    if !is_sign(peek(tokens), Sign::Dot) {
-        return Ok((owner, tokens));
+    if !is_sign(peek(parser.tokens), Sign::Dot) {
+        return Ok(owner);
     }
-    let turns = tokens.len();
-    let (first, mut rest) = expect_name(skip(tokens))?;
-    let mut others = Vec::new(alloc);
+    let turns = parser.tokens.len();
+    pass(parser);
+    let first = name(parser)?;
+    let mut others = Vec::new(parser.alloc);
     for _turn in 1..turns {
-        if !is_sign(peek(rest), Sign::Dot) {
+        if !is_sign(peek(parser.tokens), Sign::Dot) {
             break;
         }
-        let (next, after) = expect_name(skip(rest))?;
+        pass(parser);
+        let next = name(parser)?;
         others.push(next)?;
-        rest = after;
     }
-    in_box(alloc, Expression::Property(owner, first, others), rest)
-}
-
-/// A constant, a name, a call or what stands in parentheses, with the properties that stand behind it.
-#[tactic(auto, using(crate::proofs::GoesOn::part_fails, crate::proofs::GoesOn::part_made))]
-pub fn with_properties<'t, 'a>(
-    alloc: Global,
-    owner: Result<(Box<Expression<'a>>, &'t [Token<'a>]), ParseError>,
-) -> Result<(Box<Expression<'a>>, &'t [Token<'a>]), ParseError>
-    ensures { BuildsOn owner.entry result (λ x. spec.properties (length x.1) x.0 x.1) }
-{
-    match owner {
-        Ok((owner, rest)) => properties(alloc, owner, rest),
-        Err(e) => Err(e),
-    }
+    in_box(parser, Expression::Property(owner, first, others))
 }
 
 /// `++` or `--` before its operand.
-#[tactic(auto, using(crate::proofs::GoesOn::part_fails, crate::proofs::GoesOn::part_made))]
 pub fn step_before<'t, 'a>(
-    alloc: Global,
+    parser: &Parser<'t, 'a>,
     step: Step,
     position: Position,
-    operand: Result<(Box<Expression<'a>>, &'t [Token<'a>]), ParseError>,
-) -> Result<(Box<Expression<'a>>, &'t [Token<'a>]), ParseError>
-    ensures { BuildsOn operand.entry result (λ x. Ok (tree.step_before step position x.0, x.1)) }
+    operand: Box<Expression<'a>>,
+) -> Result<Box<Expression<'a>>, ParseError>
+    ensures { TakesExpression result parser.now (Ok (
+      tree.step_before step position (expression_tree operand.entry.value),
+      ahead parser.now,
+    )) }
 {
-    match operand {
-        Ok((operand, rest)) => in_box(alloc, Expression::StepBefore(step, position, operand), rest),
-        Err(e) => Err(e),
-    }
+    in_box(parser, Expression::StepBefore(step, position, operand))
 }
 
 // `++` or `--` after its operand, from the operator on.
-#[tactic(auto, using(crate::proofs::GoesOn::part_fails, crate::proofs::GoesOn::part_made))]
 fn step_after<'t, 'a>(
-    alloc: Global,
-    step: Step,
+    parser: &mut Parser<'t, 'a>,
     operand: Box<Expression<'a>>,
-    tokens: &'t [Token<'a>],
-) -> Result<(Box<Expression<'a>>, &'t [Token<'a>]), ParseError>
-    ensures { ReadsExpression result (Ok (
+    step: Step,
+) -> Result<Box<Expression<'a>>, ParseError>
+    ensures { TakesExpression result parser.new (Ok (
       tree.step_after (expression_tree operand.entry.value) step (position_of
-          (spec.head (lexemes tokens.now))),
-      spec.tail (lexemes tokens.now),
+          (reading.head (ahead parser.old))),
+      reading.tail (ahead parser.old),
     )) }
 {
-    let tree = Expression::StepAfter(operand, step, position(tokens));
-    in_box(alloc, tree, skip(tokens))
+    let sign = position(parser.tokens);
+    pass(parser);
+    in_box(parser, Expression::StepAfter(operand, step, sign))
 }
 
 // An operand, with the length of its property where that is asked for after it.
+#[tactic(auto, unfolding(crate::specs::Parse::lengthened))]
 fn lengthened<'t, 'a>(
-    alloc: Global,
+    parser: &mut Parser<'t, 'a>,
     operand: Box<Expression<'a>>,
-    tokens: &'t [Token<'a>],
-) -> Result<(Box<Expression<'a>>, &'t [Token<'a>]), ParseError>
-    ensures { ReadsExpression result
-        (spec.lengthened (expression_tree operand.entry.value) (lexemes tokens.now)) }
+) -> Result<Box<Expression<'a>>, ParseError>
+    ensures { TakesExpression result parser.new
+        (spec.lengthened (expression_tree operand.entry.value) (ahead parser.old)) }
 {
-    if !is_sign(peek(tokens), Sign::DotHash) {
-        return Ok((operand, tokens));
+    if !is_sign(peek(parser.tokens), Sign::DotHash) {
+        return Ok(operand);
     }
-    match expect_name(skip(tokens)) {
-        Ok((name, rest)) => in_box(alloc, Expression::PropertyLength(operand, name), rest),
-        Err(e) => Err(e),
-    }
+    pass(parser);
+    let name = name(parser)?;
+    in_box(parser, Expression::PropertyLength(operand, name))
 }
 
 /// An operand, with `++`, `--` or `.#` where it stands after it.
 #[tactic(auto, unfolding(crate::specs::Parse::suffixed))]
-pub fn suffix<'t, 'a>(
-    alloc: Global,
-    operand: Box<Expression<'a>>,
-    tokens: &'t [Token<'a>],
-) -> Result<(Box<Expression<'a>>, &'t [Token<'a>]), ParseError>
-    ensures { ReadsExpression result
-        (spec.suffixed (expression_tree operand.entry.value) (lexemes tokens.now)) }
-{
-    match stepping(peek(tokens)) {
-        Some(step) => step_after(alloc, step, operand, tokens),
-        None => lengthened(alloc, operand, tokens),
-    }
-}
-
-/// An operand that was read, with `++`, `--` or `.#` where it stands after it.
-#[tactic(auto, using(crate::proofs::GoesOn::part_fails, crate::proofs::GoesOn::part_made))]
 pub fn suffixed<'t, 'a>(
-    alloc: Global,
-    operand: Result<(Box<Expression<'a>>, &'t [Token<'a>]), ParseError>,
-) -> Result<(Box<Expression<'a>>, &'t [Token<'a>]), ParseError>
-    ensures { BuildsOn operand.entry result (λ x. spec.suffixed x.0 x.1) }
+    parser: &mut Parser<'t, 'a>,
+    operand: Box<Expression<'a>>,
+) -> Result<Box<Expression<'a>>, ParseError>
+    ensures { TakesExpression result parser.new
+        (spec.suffixed (expression_tree operand.entry.value) (ahead parser.old)) }
 {
-    match operand {
-        Ok((operand, rest)) => suffix(alloc, operand, rest),
-        Err(e) => Err(e),
+    match stepping(peek(parser.tokens)) {
+        Some(step) => step_after(parser, operand, step),
+        None => lengthened(parser, operand),
     }
 }
 
 /// An expression in parentheses, with the second of them.
-#[tactic(auto, using(crate::proofs::GoesOn::part_fails, crate::proofs::GoesOn::part_made))]
 pub fn parenthesised<'t, 'a>(
-    alloc: Global,
-    enclosed: Result<(Box<Expression<'a>>, &'t [Token<'a>]), ParseError>,
-) -> Result<(Box<Expression<'a>>, &'t [Token<'a>]), ParseError>
-    ensures { BuildsOn enclosed.entry result (spec.closed tree.parenthesised) }
+    parser: &mut Parser<'t, 'a>,
+    enclosed: Box<Expression<'a>>,
+) -> Result<Box<Expression<'a>>, ParseError>
+    ensures { TakesExpression result parser.new (spec.closed tree.parenthesised
+        (expression_tree enclosed.entry.value, ahead parser.old)) }
 {
-    match enclosed {
-        Ok((enclosed, rest)) => match expect(Sign::CloseParenthesis, rest) {
-            Ok(rest) => in_box(alloc, Expression::Parenthesised(enclosed), rest),
-            Err(e) => Err(e),
-        },
-        Err(e) => Err(e),
-    }
+    expect(parser, Sign::CloseParenthesis)?;
+    in_box(parser, Expression::Parenthesised(enclosed))
 }
 
 /// The parent, the child or the sibling of what stands in parentheses, with the second of them.
-#[tactic(auto, using(crate::proofs::GoesOn::part_fails, crate::proofs::GoesOn::part_made))]
 pub fn relative_of<'t, 'a>(
-    alloc: Global,
+    parser: &mut Parser<'t, 'a>,
     relative: Relative,
-    enclosed: Result<(Box<Expression<'a>>, &'t [Token<'a>]), ParseError>,
-) -> Result<(Box<Expression<'a>>, &'t [Token<'a>]), ParseError>
-    ensures { BuildsOn enclosed.entry result (spec.closed (tree.relative_of relative)) }
+    enclosed: Box<Expression<'a>>,
+) -> Result<Box<Expression<'a>>, ParseError>
+    ensures { TakesExpression result parser.new (spec.closed (tree.relative_of relative)
+        (expression_tree enclosed.entry.value, ahead parser.old)) }
 {
-    match enclosed {
-        Ok((enclosed, rest)) => match expect(Sign::CloseParenthesis, rest) {
-            Ok(rest) => in_box(alloc, Expression::RelativeOf(relative, enclosed), rest),
-            Err(e) => Err(e),
-        },
-        Err(e) => Err(e),
-    }
+    expect(parser, Sign::CloseParenthesis)?;
+    in_box(parser, Expression::RelativeOf(relative, enclosed))
 }
 
-/// Whether an object is, or is not, a child of another.
-#[tactic(auto, using(crate::proofs::GoesOn::part_fails, crate::proofs::GoesOn::part_made))]
+/// `in` or `notin`.
 pub fn contained<'t, 'a>(
-    alloc: Global,
+    parser: &Parser<'t, 'a>,
     left: Box<Expression<'a>>,
     operator: Containment,
-    right: Result<(Box<Expression<'a>>, &'t [Token<'a>]), ParseError>,
-) -> Result<(Box<Expression<'a>>, &'t [Token<'a>]), ParseError>
-    ensures { BuildsOn right.entry result
-        (λ x. Ok (tree.contained operator (expression_tree left.entry.value) x.0, x.1)) }
+    right: Box<Expression<'a>>,
+) -> Result<Box<Expression<'a>>, ParseError>
+    ensures { TakesExpression result parser.now
+        (Ok (
+          tree.contained operator (expression_tree left.entry.value)
+              (expression_tree right.entry.value),
+          ahead parser.now,
+        )) }
 {
-    match right {
-        Ok((right, rest)) => in_box(alloc, Expression::Contained(left, operator, right), rest),
-        Err(e) => Err(e),
-    }
+    in_box(parser, Expression::Contained(left, operator, right))
 }
 
 /// An operand, with `has`, `hasnt` or `provides` and a name where they stand behind it.
+#[tactic(auto, unfolding(crate::specs::Parse::tested_next))]
 pub fn tested<'t, 'a>(
-    alloc: Global,
+    parser: &mut Parser<'t, 'a>,
     left: Box<Expression<'a>>,
-    tokens: &'t [Token<'a>],
-) -> Result<(Box<Expression<'a>>, &'t [Token<'a>]), ParseError>
-    ensures { ReadsExpression result
-        (spec.tested_next (expression_tree left.entry.value) (lexemes tokens.now)) }
+) -> Result<Box<Expression<'a>>, ParseError>
+    ensures { TakesExpression result parser.new
+        (spec.tested_next (expression_tree left.entry.value) (ahead parser.old)) }
 {
-    let Some(test) = testing(peek(tokens)) else {
-        return Ok((left, tokens));
+    let Some(test) = testing(peek(parser.tokens)) else {
+        return Ok(left);
     };
-    match expect_name(skip(tokens)) {
-        Ok((name, rest)) => in_box(alloc, Expression::Tested(left, test, name), rest),
-        Err(e) => Err(e),
-    }
+    pass(parser);
+    let name = name(parser)?;
+    in_box(parser, Expression::Tested(left, test, name))
 }
 
 /// A comparison of two.
-#[tactic(auto, using(crate::proofs::GoesOn::part_fails, crate::proofs::GoesOn::part_made))]
 pub fn compare<'t, 'a>(
-    alloc: Global,
+    parser: &Parser<'t, 'a>,
     left: Box<Expression<'a>>,
     operator: Comparison,
-    right: Result<(Box<Expression<'a>>, &'t [Token<'a>]), ParseError>,
-) -> Result<(Box<Expression<'a>>, &'t [Token<'a>]), ParseError>
-    ensures { BuildsOn right.entry result
-        (λ x. Ok (tree.compare operator (expression_tree left.entry.value) x.0, x.1)) }
+    right: Box<Expression<'a>>,
+) -> Result<Box<Expression<'a>>, ParseError>
+    ensures { TakesExpression result parser.now
+        (Ok (
+          tree.compare operator (expression_tree left.entry.value)
+              (expression_tree right.entry.value),
+          ahead parser.now,
+        )) }
 {
-    match right {
-        Ok((right, rest)) => in_box(alloc, Expression::Compare(left, operator, right), rest),
-        Err(e) => Err(e),
-    }
+    in_box(parser, Expression::Compare(left, operator, right))
 }
 
 /// An assignment.
-#[tactic(auto, using(crate::proofs::GoesOn::part_fails, crate::proofs::GoesOn::part_made))]
 pub fn assign<'t, 'a>(
-    alloc: Global,
+    parser: &Parser<'t, 'a>,
     left: Box<Expression<'a>>,
     position: Position,
-    right: Result<(Box<Expression<'a>>, &'t [Token<'a>]), ParseError>,
-) -> Result<(Box<Expression<'a>>, &'t [Token<'a>]), ParseError>
-    ensures { BuildsOn right.entry result
-        (λ x. Ok (tree.assign (expression_tree left.entry.value) position x.0, x.1)) }
+    right: Box<Expression<'a>>,
+) -> Result<Box<Expression<'a>>, ParseError>
+    ensures { TakesExpression result parser.now
+        (Ok (
+          tree.assign (expression_tree left.entry.value) position
+              (expression_tree right.entry.value),
+          ahead parser.now,
+        )) }
 {
-    match right {
-        Ok((right, rest)) => in_box(alloc, Expression::Assign(left, position, right), rest),
-        Err(e) => Err(e),
-    }
+    in_box(parser, Expression::Assign(left, position, right))
 }
 
 /// A comparison with one value or several.
-#[tactic(auto, using(crate::proofs::GoesOn::part_fails, crate::proofs::GoesOn::part_made))]
 pub fn equal<'t, 'a>(
-    alloc: Global,
+    parser: &Parser<'t, 'a>,
     left: Box<Expression<'a>>,
     operator: Equality,
-    values: Result<(Box<Expression<'a>>, Vec<Expression<'a>>, &'t [Token<'a>]), ParseError>,
-) -> Result<(Box<Expression<'a>>, &'t [Token<'a>]), ParseError>
-    ensures { GoesOn {B = ReadOne} values_tree values.entry
-        (λ x. (expression_tree x.0.value, lexemes x.1.now)) result
-        (λ x. Ok (tree.equal operator (expression_tree left.entry.value) (trees_of x.0), x.1)) }
+    first: Box<Expression<'a>>,
+    others: Vec<Expression<'a>>,
+) -> Result<Box<Expression<'a>>, ParseError>
+    ensures { TakesExpression result parser.now (Ok (
+      tree.equal operator (expression_tree left.entry.value) (trees_of
+          (expression_tree first.entry.value ∷ map expression_tree others.entry.items)),
+      ahead parser.now,
+    )) }
 {
-    match values {
-        Ok((first, others, rest)) => {
-            in_box(
-                alloc,
-                Expression::Equal(left, operator, first, others),
-                rest,
-            )
-        }
-        Err(e) => Err(e),
-    }
+    in_box(parser, Expression::Equal(left, operator, first, others))
 }
 
 /// A call, with the second of its parentheses.
-#[tactic(auto, using(crate::proofs::GoesOn::part_fails, crate::proofs::GoesOn::part_made))]
 pub fn call<'t, 'a>(
-    alloc: Global,
+    parser: &mut Parser<'t, 'a>,
     name: Name<'a>,
-    arguments: Result<(Vec<Expression<'a>>, &'t [Token<'a>]), ParseError>,
-) -> Result<(Box<Expression<'a>>, &'t [Token<'a>]), ParseError>
-    ensures { GoesOn {A = List ExpressionTree × List Lexeme} {B = ReadOne}
-        (λ x. (map expression_tree x.0.items, lexemes x.1.now)) arguments.entry
-        (λ x. (expression_tree x.0.value, lexemes x.1.now)) result
-        (spec.closed (λ xs. tree.call (name_tree name.entry) (trees_of xs))) }
+    arguments: Vec<Expression<'a>>,
+) -> Result<Box<Expression<'a>>, ParseError>
+    ensures { TakesExpression result parser.new
+        (spec.closed (λ xs. tree.call (name_tree name.entry) (trees_of xs))
+        (map expression_tree arguments.entry.items, ahead parser.old)) }
 {
-    match arguments {
-        Ok((arguments, rest)) => match expect(Sign::CloseParenthesis, rest) {
-            Ok(rest) => in_box(alloc, Expression::Call(name, arguments), rest),
-            Err(e) => Err(e),
-        },
-        Err(e) => Err(e),
-    }
+    expect(parser, Sign::CloseParenthesis)?;
+    in_box(parser, Expression::Call(name, arguments))
 }
 
-/// A call without arguments.
+/// A call without arguments, from the second of its parentheses on.
 pub fn call_alone<'t, 'a>(
-    alloc: Global,
+    parser: &mut Parser<'t, 'a>,
     name: Name<'a>,
-    rest: &'t [Token<'a>],
-) -> Result<(Box<Expression<'a>>, &'t [Token<'a>]), ParseError>
-    ensures { ReadsExpression result
-        (Ok (tree.call (name_tree name.entry) tree.none, lexemes rest.now)) }
+) -> Result<Box<Expression<'a>>, ParseError>
+    ensures { TakesExpression result parser.new
+        (Ok (tree.call (name_tree name.entry) tree.none, reading.tail (ahead parser.old))) }
 {
-    in_box(alloc, Expression::Call(name, Vec::new(alloc)), rest)
+    pass(parser);
+    in_box(parser, Expression::Call(name, Vec::new(parser.alloc)))
 }

@@ -1,22 +1,22 @@
 -- The instructions of items on words, of calls, branches and prints (Z-Machine Standards Document 1.1, sections 4 and
 -- 15).
-use Rattle.std.specs.Prelude.{◌+◌, ◌-◌, ◌%◌, ◌==◌, ◌&&◌, not, ℕ, nat_le, nat_lt, Bool, true, false, if◌then◌else◌}
-use Rattle.std.specs.Prelude.{List, [], ◌∷◌, ◌++◌, map, take, length, Option, Some, None}
+use Rattle.std.specs.Prelude.{◌+◌, ◌-◌, ◌%◌, ◌==◌, ◌&&◌, not, ℕ, nat_le, nat_lt, Bool, true, false, if◌then◌else◌, List}
+use Rattle.std.specs.Prelude.{[], ◌∷◌, ◌++◌, map, take, length, Option, Some, None}
 use Rattle.zcore.specs.declared.instruction.Operand.{Operand}
 use Rattle.zcore.specs.declared.instruction.Operand.TheVariants.{Large, Small, Variable}
 use Rattle.zcore.specs.declared.instruction.Operation.{Operation}
-use Rattle.zcore.specs.declared.instruction.Operation.TheVariants.{JumpIfEqual, JumpIfLess, JumpIfGreater, Or, And}
-use Rattle.zcore.specs.declared.instruction.Operation.TheVariants.{Add, Sub, Mul, Div, Mod, JumpIfZero, Increment}
-use Rattle.zcore.specs.declared.instruction.Operation.TheVariants.{Decrement, Call1s, Return, Jump, Call1n, ReturnTrue}
+use Rattle.zcore.specs.declared.instruction.Operation.TheVariants.{JumpIfEqual, JumpIfLess, JumpIfGreater, Or, And, Add}
+use Rattle.zcore.specs.declared.instruction.Operation.TheVariants.{Sub, Mul, Div, Mod, JumpIfZero, Increment, Decrement}
+use Rattle.zcore.specs.declared.instruction.Operation.TheVariants.{Call1s, Return, Jump, Call1n, ReturnTrue}
 use Rattle.zcore.specs.declared.instruction.Operation.TheVariants.{ReturnFalse, ReturnPopped, CallVs, PrintCharacter}
 use Rattle.zcore.specs.declared.instruction.Operation.TheVariants.{CallVs2, Not, CallVn, CallVn2}
 use Rattle.zcore.specs.Instruction.{Instruction}
-use Rattle.expressions.specs.declared.tree.Binary.{Binary}
-use Rattle.expressions.specs.declared.tree.Binary.TheVariants as binaries
-use Rattle.expressions.specs.declared.tree.Prefix.{Prefix}
-use Rattle.expressions.specs.declared.tree.Prefix.TheVariants as prefixes
-use Rattle.expressions.specs.declared.tree.Step.{Step}
-use Rattle.expressions.specs.declared.tree.Step.TheVariants as steps
+use Rattle.expression_trees.specs.declared.tree.Binary.{Binary}
+use Rattle.expression_trees.specs.declared.tree.Binary.TheVariants as binaries
+use Rattle.expression_trees.specs.declared.tree.Prefix.{Prefix}
+use Rattle.expression_trees.specs.declared.tree.Prefix.TheVariants as prefixes
+use Rattle.expression_trees.specs.declared.tree.Step.{Step}
+use Rattle.expression_trees.specs.declared.tree.Step.TheVariants as steps
 use Rattle.meaning.specs.declared.cause.Cause.{Cause}
 use Rattle.meaning.specs.declared.cause.Cause.TheVariants as causes
 use Rattle.meaning.specs.declared.resolved.Variable as source

@@ -4,10 +4,11 @@ ghost use Rattle.std.specs.Prelude.{◌∷◌, OnOk};
 ghost use Rattle.zcore.specs.declared.instruction.Operation.TheVariants.{Div};
 ghost use Rattle.drafts.specs.Items as source_items;
 ghost use Rattle.drafts.specs.Code.{as_operand, as_destination};
-ghost use Rattle.instructions.specs.Instructions.{prefix_code, arithmetic, divided, divided_by, binary_code};
-ghost use Rattle.instructions.specs.Instructions.{first_equal_code, also_equal_code, flag};
 ghost use Rattle.encoding.specs.Bytes.{AddsCode};
 ghost use Rattle.encoding.specs.Written.{addresses_of, instruction_of};
+ghost use Rattle.instructions.specs.Instructions.{prefix_code, arithmetic, divided, divided_by};
+ghost use Rattle.instructions.specs.Instructions.{binary_code, first_equal_code, also_equal_code};
+ghost use Rattle.instructions.specs.Instructions.{flag};
 
 use drafts::Destination;
 use encoding::{
@@ -15,7 +16,7 @@ use encoding::{
     fault_address, giving, in_place, plain, print_fault, pull, push, put_all, put_instruction,
     put_named, put_takes, quit, result_in, variable_number,
 };
-use expressions::{Binary, Prefix};
+use expression_trees::{Binary, Prefix};
 use meaning::Cause;
 use std::alloc::{AllocError, Global};
 use zcore::{Operand, Operation};

@@ -4,18 +4,18 @@ ghost use Rattle.std.specs.Prelude.{◌≡◌, [], ◌∷◌, OnOk};
 ghost use Rattle.drafts.specs.Items as source_items;
 ghost use Rattle.drafts.specs.Code.{as_operand, as_destination};
 ghost use Rattle.encoding.specs.Instructions.{number_of};
-ghost use Rattle.instructions.specs.Instructions.{move_code, step_code, stepping, step_operation};
 ghost use Rattle.encoding.specs.Instructions as basic;
-ghost use Rattle.instructions.specs.Instructions as spec;
 ghost use Rattle.encoding.specs.Bytes.{AddsCode};
 ghost use Rattle.encoding.specs.Written.{instruction_of};
+ghost use Rattle.instructions.specs.Instructions.{move_code, step_code, stepping, step_operation};
+ghost use Rattle.instructions.specs.Instructions as spec;
 
 use drafts::Destination;
 use encoding::{
     CHOSEN, FIRST, Instruction, Operands, copy, in_place, plain, pull, push, put_all, store,
     variable_number,
 };
-use expressions::Step;
+use expression_trees::Step;
 use meaning::Variable;
 use std::alloc::AllocError;
 use zcore::{Operand, Operation};

@@ -2,18 +2,18 @@
 use Rattle.std.proofs.Common.{◌≡◌, ℕ, ◌+◌, ◌≤◌, List, ◌∷◌, length, Some, refl, ap, arith}
 use Rattle.std.specs.Prelude.{if◌then◌else◌, slice_get}
 use Rattle.std.proofs.lemmas.Bool.{le-leb}
-use Rattle.expressions.specs.declared.tree.Step.{Step}
+use Rattle.expression_trees.specs.declared.tree.Step.{Step}
 use Rattle.meaning.specs.declared.resolved.Variable.{Variable}
 use Rattle.meaning.specs.Resolved.{Value}
 use Rattle.meaning.specs.Resolved as source
 use Rattle.meaning.specs.Accepted.{need_of}
 use Rattle.meaning.specs.World.{Situation, to, Part, ◌>>=◌, give, write_variable, value_in, with_value}
 use Rattle.meaning.specs.Meaning.{stepped, evaluate}
-use Rattle.drafts.specs.Items.{pushed, variable, Destination, push, into, nowhere, value_count, after_items}
-use Rattle.drafts.specs.Items.{kept_items, value_items}
+use Rattle.drafts.specs.Items.{pushed, variable, Destination, push, into, nowhere, value_count, after_items, kept_items}
+use Rattle.drafts.specs.Items.{value_items}
 use Rattle.drafts.specs.Items as items
-use Rattle.items.specs.Stack.{stuck, act}
 use Rattle.drafts.proofs.Counts.{value_length}
+use Rattle.items.specs.Stack.{stuck, act}
 use Rattle.items.proofs.Acts.{keeps_give, keeps_write}
 use Rattle.items.proofs.Running.{steps_on, Running, code, setting}
 use Rattle.items.proofs.Standing.{HasAt, split}

@@ -1,18 +1,18 @@
 -- Entries of arrays.
 use Rattle.std.proofs.Common.{◌≡◌, ℕ, ◌+◌, ◌≤◌, List, [], ◌∷◌, length, Some, ◌∙◌, arith}
 use Rattle.std.specs.Prelude.{slice_get}
-use Rattle.expressions.specs.declared.tree.Width.{Width}
+use Rattle.expression_trees.specs.declared.tree.Width.{Width}
 use Rattle.meaning.specs.Operands.{operands}
 use Rattle.meaning.specs.Resolved.{Value, none}
 use Rattle.meaning.specs.Resolved as source
 use Rattle.meaning.specs.Accepted.{need_of}
 use Rattle.meaning.specs.World.{Situation, read_entry}
 use Rattle.meaning.specs.Meaning.{evaluate}
-use Rattle.drafts.specs.Items.{Operand, Destination, push, alone, left_of, if_pushed, branch_true, pushed}
-use Rattle.drafts.specs.Items.{operand_count, value_items, alone_items}
+use Rattle.drafts.specs.Items.{Operand, Destination, push, alone, left_of, branch_true, pushed, operand_count}
+use Rattle.drafts.specs.Items.{alone_items}
 use Rattle.drafts.specs.Items as items
-use Rattle.items.specs.Stack.{with_operand, gives, assigned_entry}
 use Rattle.drafts.proofs.Counts.{alone_length}
+use Rattle.items.specs.Stack.{with_operand, gives, assigned_entry}
 use Rattle.items.proofs.Acts.{keeps_read_entry, keeps_assigned_entry}
 use Rattle.items.proofs.Running.{Running, code, setting}
 use Rattle.items.proofs.Standing.{HasAt, split}

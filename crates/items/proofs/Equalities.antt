@@ -4,8 +4,8 @@ use Rattle.std.proofs.Common.{subst, arith, length-append}
 use Rattle.std.specs.Prelude.{◌||◌, ◌==◌, not, nat_le, if◌then◌else◌}
 use Rattle.std.specs.List.{list_any}
 use Rattle.std.proofs.lemmas.Bool.{le-leb}
-use Rattle.expressions.specs.declared.tree.Comparison.{Comparison}
-use Rattle.expressions.specs.declared.tree.Equality.{Equality}
+use Rattle.expression_trees.specs.declared.tree.Comparison.{Comparison}
+use Rattle.expression_trees.specs.declared.tree.Equality.{Equality}
 use Rattle.meaning.specs.Operands.{operands}
 use Rattle.meaning.specs.Resolved.{Value, Values, none, more}
 use Rattle.meaning.specs.Resolved as source
@@ -17,9 +17,9 @@ use Rattle.drafts.specs.Items.{agrees, is_few, comparison_test, comparison_when,
 use Rattle.drafts.specs.Items.{operand_count, operands_count, many_count, truth_items, value_items, operands_items}
 use Rattle.drafts.specs.Items.{branch_items, many_items, also_items}
 use Rattle.drafts.specs.Items as items
-use Rattle.items.specs.Stack.{stuck}
 use Rattle.drafts.proofs.CountedForms.{if_length}
 use Rattle.drafts.proofs.Counts.{value_length, branch_length, operands_length, many_length}
+use Rattle.items.specs.Stack.{stuck}
 use Rattle.items.proofs.Unchanged.{all_unchanged}
 use Rattle.items.proofs.Running.{Running, code, setting}
 use Rattle.items.proofs.Standing.{HasAt, split}

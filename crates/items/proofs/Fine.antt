@@ -1,12 +1,11 @@
 -- Items that name only what is there, and parts of which they are made.
-use Rattle.std.proofs.Common.{◌≡◌, ℕ, ◌+◌, ◌<◌, ◌≤◌, List, [], ◌∷◌, ◌++◌, length, Bool, true, false, refl, subst}
-use Rattle.std.proofs.Common.{arith}
+use Rattle.std.proofs.Common.{◌≡◌, ℕ, ◌+◌, ◌<◌, ◌≤◌, List, [], ◌∷◌, ◌++◌, length, Bool, true, false, refl, subst, arith}
 use Rattle.std.specs.Prelude.{if◌then◌else◌}
 use Rattle.std.specs.List.{All}
 use Rattle.std.proofs.lemmas.List.Elements.{All-nil, All-cons, All-head, All-tail}
 use Rattle.std.proofs.lemmas.Bool.{leb-true}
-use Rattle.expressions.specs.declared.tree.Comparison.{Comparison}
-use Rattle.expressions.specs.declared.tree.Comparison.TheVariants as comparisons
+use Rattle.expression_trees.specs.declared.tree.Comparison.{Comparison}
+use Rattle.expression_trees.specs.declared.tree.Comparison.TheVariants as comparisons
 use Rattle.meaning.specs.declared.resolved.Variable.{Variable}
 use Rattle.meaning.specs.Resolved.{Value, Values, none, more, ProgramOf}
 use Rattle.meaning.specs.Resolved as source

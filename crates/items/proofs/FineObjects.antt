@@ -1,12 +1,12 @@
 -- The items of values on objects name only what is there.
 use Rattle.std.proofs.Common.{ℕ, ◌+◌, ◌<◌, List, [], ◌∷◌, ◌++◌, Bool, true, arith}
-use Rattle.expressions.specs.declared.tree.Containment.{Containment}
-use Rattle.expressions.specs.declared.tree.Relative.{Relative}
+use Rattle.expression_trees.specs.declared.tree.Containment.{Containment}
+use Rattle.expression_trees.specs.declared.tree.Relative.{Relative}
 use Rattle.meaning.specs.Resolved.{Value, none, more}
 use Rattle.meaning.specs.Resolved as source
 use Rattle.meaning.specs.Accepted.{IsValue, IsProperty}
-use Rattle.drafts.specs.Items.{Item, pushed, Destination, push, alone, left_of, first_of, if_pushed, agrees}
-use Rattle.drafts.specs.Items.{containment_when, branch_true, operand_count, value_count, value_items, branch_items}
+use Rattle.drafts.specs.Items.{Item, pushed, push, alone, left_of, first_of, if_pushed, agrees, branch_true}
+use Rattle.drafts.specs.Items.{operand_count, value_count, value_items, branch_items}
 use Rattle.drafts.specs.Items as items
 use Rattle.items.specs.Laws.{IsItem}
 use Rattle.items.proofs.Fine.{Bounds, Fine, first, last, last_two, nothing, operand_fine, three_fine, true_fine}

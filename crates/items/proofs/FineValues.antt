@@ -1,21 +1,21 @@
 -- The items of values name only what is there.
 use Rattle.std.proofs.Common.{◌≡◌, ℕ, ◌+◌, ◌<◌, List, [], ◌∷◌, ◌++◌, length, Bool, true, false, arith}
 use Rattle.std.specs.Prelude.{if◌then◌else◌, not}
-use Rattle.expressions.specs.declared.tree.Binary.{Binary}
-use Rattle.expressions.specs.declared.tree.Binary.TheVariants as binaries
-use Rattle.expressions.specs.declared.tree.Comparison.{Comparison}
-use Rattle.expressions.specs.declared.tree.Equality.{Equality}
-use Rattle.expressions.specs.declared.tree.Prefix.{Prefix}
-use Rattle.expressions.specs.declared.tree.Prefix.TheVariants as prefixes
-use Rattle.expressions.specs.declared.tree.Width.{Width}
+use Rattle.expression_trees.specs.declared.tree.Binary.{Binary}
+use Rattle.expression_trees.specs.declared.tree.Binary.TheVariants as binaries
+use Rattle.expression_trees.specs.declared.tree.Comparison.{Comparison}
+use Rattle.expression_trees.specs.declared.tree.Equality.{Equality}
+use Rattle.expression_trees.specs.declared.tree.Prefix.{Prefix}
+use Rattle.expression_trees.specs.declared.tree.Prefix.TheVariants as prefixes
+use Rattle.expression_trees.specs.declared.tree.Width.{Width}
 use Rattle.meaning.specs.declared.resolved.Variable.{Variable}
 use Rattle.meaning.specs.Resolved.{Value, Values, none, more}
 use Rattle.meaning.specs.Resolved as source
 use Rattle.meaning.specs.Accepted.{IsVariable, IsValue, AreValues}
-use Rattle.drafts.specs.Items.{Item, Operand, pushed, number, variable, Destination, push, into, operand_of}
-use Rattle.drafts.specs.Items.{operands_of, alone, left_of, if_pushed, agrees, is_few, comparison_when, equality_when}
-use Rattle.drafts.specs.Items.{truth_count, value_count, operand_count, operands_count, branch_count, many_count}
-use Rattle.drafts.specs.Items.{also_count, value_items, operands_items, branch_items, many_items, also_items}
+use Rattle.drafts.specs.Items.{Item, Operand, pushed, Destination, push, into, operand_of, operands_of, alone, left_of}
+use Rattle.drafts.specs.Items.{if_pushed, is_few, comparison_when, equality_when, truth_count, value_count}
+use Rattle.drafts.specs.Items.{operand_count, operands_count, branch_count, many_count, also_count, value_items}
+use Rattle.drafts.specs.Items.{operands_items, branch_items, many_items, also_items}
 use Rattle.drafts.specs.Items as items
 use Rattle.items.specs.Laws.{IsDestination, IsItem}
 use Rattle.items.proofs.Fine.{Bounds, Fine, branch_same, branch_two, chosen, counted_else, counted_then, either_fine}

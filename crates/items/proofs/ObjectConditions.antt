@@ -2,8 +2,8 @@
 use Rattle.std.proofs.Common.{◌≡◌, ℕ, ◌+◌, ◌≤◌, List, [], ◌∷◌, ◌++◌, length, Some, Bool, true, refl, sym, ◌∙◌, subst}
 use Rattle.std.proofs.Common.{arith, length-append}
 use Rattle.std.specs.Prelude.{◌==◌, not, if◌then◌else◌, is_some}
-use Rattle.expressions.specs.declared.tree.Containment.{Containment}
-use Rattle.expressions.specs.declared.tree.Relative.TheVariants as relatives
+use Rattle.expression_trees.specs.declared.tree.Containment.{Containment}
+use Rattle.expression_trees.specs.declared.tree.Relative.TheVariants as relatives
 use Rattle.meaning.specs.Operands.{operands}
 use Rattle.meaning.specs.Accepted.{need_of}
 use Rattle.meaning.specs.Resolved.{Value, none}
@@ -14,11 +14,11 @@ use Rattle.meaning.specs.Meaning.{truth, is_true, contains, evaluate, test_objec
 use Rattle.drafts.specs.Items.{Item, Operand, Destination, alone, left_of, containment_when, agrees, truth_items}
 use Rattle.drafts.specs.Items.{value_items, operand_count, alone_items, branch_items}
 use Rattle.drafts.specs.Items as items
+use Rattle.drafts.proofs.Counts.{alone_length, branch_length}
 use Rattle.items.specs.Stack.{State, with_operand, act, stands_in, tested_attribute, is_provided}
 use Rattle.items.specs.Stack as stack
 use Rattle.items.proofs.Acts.{Keeps, came, bound_bound, bound_alike}
 use Rattle.items.proofs.ObjectParts.{keeps_stands_in, keeps_attribute, keeps_is_provided}
-use Rattle.drafts.proofs.Counts.{alone_length, branch_length}
 use Rattle.items.proofs.Conditions.{truth_truth, contains_asks, has_asks}
 use Rattle.items.proofs.Needs.{some_needed}
 use Rattle.items.proofs.Standing.{HasAt, split}

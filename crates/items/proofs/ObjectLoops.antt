@@ -3,8 +3,8 @@ use Rattle.std.proofs.Common.{◌≡◌, ℕ, zero, suc, ◌+◌, ◌≤◌, Lis
 use Rattle.std.proofs.Common.{sym, subst, arith}
 use Rattle.std.specs.Prelude.{◌==◌, not, nat_lt, if◌then◌else◌, slice_get}
 use Rattle.std.proofs.lemmas.Bool.{lt-ltb, ne_eqb}
-use Rattle.expressions.specs.declared.tree.Relative.{Relative}
-use Rattle.expressions.specs.declared.tree.Relative.TheVariants as relatives
+use Rattle.expression_trees.specs.declared.tree.Relative.{Relative}
+use Rattle.expression_trees.specs.declared.tree.Relative.TheVariants as relatives
 use Rattle.meaning.specs.declared.resolved.Variable.{Variable}
 use Rattle.meaning.specs.Resolved.{Value, none, Action}
 use Rattle.meaning.specs.Resolved as source
@@ -13,15 +13,14 @@ use Rattle.meaning.specs.World.{Situation, Comes, to, over, Part, bound, ◌>>=�
 use Rattle.meaning.specs.World.{relative_of}
 use Rattle.meaning.specs.Meaning.{is_true, evaluate, test_object, Ending, goes_on, rounds, next_object, sibling_next}
 use Rattle.meaning.specs.Meaning.{count_next, each_of, run}
-use Rattle.drafts.specs.Items.{Item, Operand, variable, push, alone, agrees, branch_count, branch_items, operand_count}
-use Rattle.drafts.specs.Items.{alone_items}
+use Rattle.drafts.specs.Items.{Item, Operand, variable, push, alone, agrees, branch_count, operand_count, alone_items}
+use Rattle.drafts.specs.Items as items
+use Rattle.drafts.proofs.Counts.{alone_length}
 use Rattle.items.specs.Statements.{action_count, Exits, exits_to, action_items, each_items, relative_items}
 use Rattle.items.specs.Statements.{children_items}
-use Rattle.drafts.specs.Items as items
 use Rattle.items.specs.Stack.{Next, gives, relative_to, begins_objects, steps_object}
 use Rattle.items.proofs.Acts.{bound_bound, keeps_write}
 use Rattle.items.proofs.ObjectParts.{keeps_relative, keeps_begins, keeps_steps}
-use Rattle.drafts.proofs.Counts.{alone_length}
 use Rattle.items.proofs.StatementCounts.{action_length}
 use Rattle.items.proofs.Running.{Running, code, locals, setting}
 use Rattle.items.proofs.Standing.{HasAt, split}

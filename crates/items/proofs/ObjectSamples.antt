@@ -4,22 +4,21 @@ use Rattle.std.specs.Prelude.{codes, replicate}
 use Rattle.zcore.specs.Arithmetic.{signed_text, decimal, quotient, remainder}
 use Rattle.zcore.specs.declared.place.Place.TheVariants as places
 use Rattle.zcore.specs.declared.place.Limit.TheVariants as limits
-use Rattle.expressions.specs.declared.tree.Containment.TheVariants as containments
-use Rattle.expressions.specs.declared.tree.Relative.TheVariants as relatives
+use Rattle.expression_trees.specs.declared.tree.Containment.TheVariants as containments
+use Rattle.expression_trees.specs.declared.tree.Relative.TheVariants as relatives
 use Rattle.meaning.specs.declared.resolved.Variable.{Variable}
 use Rattle.meaning.specs.declared.resolved.Variable.TheVariants.{Local, Global}
 use Rattle.meaning.specs.Objects.{ObjectOf}
-use Rattle.meaning.specs.Resolved.{Value, Action, ProgramOf, none, read, number, call, assign, relative, contained}
-use Rattle.meaning.specs.Resolved.{has, provides, property, property_size, property_word, assign_property}
+use Rattle.meaning.specs.Resolved.{Value, Action, ProgramOf, none, read, number, call, assign, relative, contained, has}
+use Rattle.meaning.specs.Resolved.{provides, property, property_size, property_word, assign_property}
 use Rattle.meaning.specs.Resolved.{assign_property_word, effect, if_then, Printed, print, text, number_of, name_of}
-use Rattle.meaning.specs.Resolved.{new_line, give_to, move_to, remove_from, each_object, each_where, each_in}
-use Rattle.meaning.specs.Resolved.{actions_of}
+use Rattle.meaning.specs.Resolved.{give_to, move_to, remove_from, each_object, each_where, each_in, actions_of}
 use Rattle.meaning.specs.Resolved as source
 use Rattle.meaning.specs.World.{Outcome}
-use Rattle.drafts.specs.Items.{pushed, push, into, nowhere, is_zero, branch, keep, back, print_number, print_name}
-use Rattle.drafts.specs.Items.{move, move_object, remove_object, give, is_in, first_object, next_object}
-use Rattle.items.specs.Statements.{Exits, exits_to, action_items}
+use Rattle.drafts.specs.Items.{pushed, push, into, nowhere, is_zero, branch, keep, back, print_number, print_name, move}
+use Rattle.drafts.specs.Items.{move_object, remove_object, give, is_in, first_object, next_object}
 use Rattle.drafts.specs.Items as items
+use Rattle.items.specs.Statements.{Exits, exits_to, action_items}
 use Rattle.items.specs.Stack.{from, exec, start}
 
 abbrev x : Variable

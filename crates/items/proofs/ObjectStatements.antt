@@ -1,14 +1,14 @@
 -- `give`, `move` and `remove`.
 use Rattle.std.proofs.Common.{◌≡◌, ℕ, ◌+◌, ◌≤◌, List, [], ◌∷◌, Bool, refl, sym, ◌∙◌, arith}
 use Rattle.meaning.specs.Operands.{operands}
-use Rattle.meaning.specs.Resolved.{Value, none}
+use Rattle.meaning.specs.Resolved.{Value}
 use Rattle.meaning.specs.Resolved as source
 use Rattle.meaning.specs.Accepted.{need_of, IsWhole}
 use Rattle.meaning.specs.World.{Situation, Part, ◌>>=◌, give}
 use Rattle.meaning.specs.World as world
 use Rattle.meaning.specs.Meaning.{evaluate, test_object, Ending, goes_on, run}
 use Rattle.meaning.specs.Meaning as meaning
-use Rattle.drafts.specs.Items.{Item, Operand, alone, left_of, operand_count, alone_items}
+use Rattle.drafts.specs.Items.{alone, left_of, operand_count}
 use Rattle.drafts.specs.Items as items
 use Rattle.items.specs.Stack.{State, with_operand, prints, gives_attributes, moves_object, removes_object}
 use Rattle.items.proofs.Acts.{bound_bound, bound_alike}

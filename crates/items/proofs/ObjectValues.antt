@@ -1,7 +1,7 @@
 -- Expressions on objects that have a word.
 use Rattle.std.proofs.Common.{◌≡◌, ℕ, ◌+◌, ◌≤◌, List, [], ◌∷◌, ◌++◌, length, Some, Bool, ◌∙◌, refl, arith}
 use Rattle.std.specs.Prelude.{slice_get}
-use Rattle.expressions.specs.declared.tree.Relative.{Relative}
+use Rattle.expression_trees.specs.declared.tree.Relative.{Relative}
 use Rattle.meaning.specs.Operands.{operands}
 use Rattle.meaning.specs.Accepted.{need_of}
 use Rattle.meaning.specs.Resolved.{Value, none}
@@ -11,12 +11,12 @@ use Rattle.meaning.specs.Meaning.{evaluate}
 use Rattle.drafts.specs.Items.{Item, Operand, pushed, Destination, push, alone, left_of, first_of, if_pushed}
 use Rattle.drafts.specs.Items.{value_items, operand_count, alone_items, branch_true}
 use Rattle.drafts.specs.Items as items
+use Rattle.drafts.proofs.Counts.{alone_length}
 use Rattle.items.specs.Stack.{State, with_operand, gives, act, relative_to, property_of, property_bytes}
 use Rattle.items.specs.Stack.{word_of_property, assigned_property, assigned_property_word}
 use Rattle.items.proofs.Acts.{Keeps}
 use Rattle.items.proofs.ObjectParts.{keeps_relative, keeps_property, keeps_size, keeps_word, keeps_assigned}
 use Rattle.items.proofs.ObjectParts.{keeps_assigned_word}
-use Rattle.drafts.proofs.Counts.{alone_length}
 use Rattle.items.proofs.Standing.{HasAt, split}
 use Rattle.items.proofs.Held.{onto, with_held, AllHeld, onto_all}
 use Rattle.items.proofs.Running.{Running, code, setting}

@@ -2,9 +2,9 @@
 use Rattle.std.proofs.Common.{◌≡◌, ℕ, ◌+◌, ◌≤◌, List, [], ◌∷◌, ◌++◌, length, Some, Bool, true, false, refl, sym, ap}
 use Rattle.std.proofs.Common.{◌∙◌, subst, arith}
 use Rattle.std.specs.Prelude.{◌==◌, not, if◌then◌else◌, slice_get}
-use Rattle.expressions.specs.declared.tree.Binary.{Binary}
-use Rattle.expressions.specs.declared.tree.Prefix.{Prefix}
-use Rattle.expressions.specs.declared.tree.Prefix.TheVariants as prefixes
+use Rattle.expression_trees.specs.declared.tree.Binary.{Binary}
+use Rattle.expression_trees.specs.declared.tree.Prefix.{Prefix}
+use Rattle.expression_trees.specs.declared.tree.Prefix.TheVariants as prefixes
 use Rattle.meaning.specs.declared.resolved.Variable.{Variable}
 use Rattle.meaning.specs.Operands.{operands}
 use Rattle.meaning.specs.Resolved.{Value, Values, none}
@@ -16,9 +16,9 @@ use Rattle.drafts.specs.Items.{Operand, pushed, number, variable, Destination, p
 use Rattle.drafts.specs.Items.{left_of, if_pushed, branch_true, agrees, operand_count, operands_count, branch_count}
 use Rattle.drafts.specs.Items.{value_items, operands_items, branch_items, alone_items}
 use Rattle.drafts.specs.Items as items
+use Rattle.drafts.proofs.Counts.{branch_length, operands_length, alone_length}
 use Rattle.items.specs.Stack.{with_operand, delivered, gives, enter, act}
 use Rattle.items.specs.Stack as stack
-use Rattle.drafts.proofs.Counts.{branch_length, operands_length, alone_length}
 use Rattle.items.proofs.Acts.{keeps_give, keeps_operate}
 use Rattle.items.proofs.Running.{Does, steps_on, Running, code, setting}
 use Rattle.items.proofs.Standing.{HasAt, split}

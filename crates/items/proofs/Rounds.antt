@@ -2,26 +2,26 @@
 use Rattle.std.proofs.Common.{◌≡◌, ℕ, ◌+◌, ◌-◌, List, [], ◌∷◌, ◌++◌, length, slice_set, true, false, Option, refl, sym}
 use Rattle.std.proofs.Common.{ap, ◌∙◌, arith, append_assoc, length-append}
 use Rattle.std.proofs.Math.Seq.{set-append_seam}
-use Rattle.expressions.specs.declared.tree.Relative.TheVariants as relatives
+use Rattle.expression_trees.specs.declared.tree.Relative.TheVariants as relatives
 use Rattle.meaning.specs.declared.resolved.Variable.{Variable}
 use Rattle.meaning.specs.Resolved.{Value, Action}
 use Rattle.meaning.specs.Resolved as source
 use Rattle.drafts.specs.Items.{Item, Operand, alone, if_pushed, push, value_count, value_items, branch_count}
 use Rattle.drafts.specs.Items.{branch_items}
-use Rattle.items.specs.Statements.{action_count, action_items, once_count, once_items, test_count, test_items}
-use Rattle.items.specs.Statements.{for_items, exits_to, each_items, relative_items, children_items}
 use Rattle.drafts.specs.Items as items
-use Rattle.items.specs.Statements as statements
 use Rattle.drafts.specs.declared.wanted.Wanted.TheVariants.{Branch}
-use Rattle.items.specs.declared.exits.Exits.{Exits}
 use Rattle.drafts.specs.Writing.{Written, wanted_items}
-use Rattle.values.specs.Writing.{pushes}
-use Rattle.items.specs.Writing.{exits_of}
 use Rattle.drafts.proofs.CountedForms.{joined}
 use Rattle.drafts.proofs.Counts.{branch_length}
-use Rattle.items.proofs.StatementCounts.{action_length, once_length, test_length}
 use Rattle.drafts.proofs.WrittenItems.{one, counted, both, as_items, then_one}
+use Rattle.values.specs.Writing.{pushes}
 use Rattle.values.proofs.Values.{pushes_length}
+use Rattle.items.specs.Statements.{action_count, action_items, once_count, once_items, test_count, test_items}
+use Rattle.items.specs.Statements.{for_items, exits_to, each_items, relative_items, children_items}
+use Rattle.items.specs.Statements as statements
+use Rattle.items.specs.declared.exits.Exits.{Exits}
+use Rattle.items.specs.Writing.{exits_of}
+use Rattle.items.proofs.StatementCounts.{action_length, once_length, test_length}
 
 -- a round that ends in a way back to its first item
 looped : (c c1 c2 c3 : List Item) (f : ℕ → ℕ → List Item) (k end : ℕ) → ((n at : ℕ) → length (f n at) ≡ k)

@@ -1,12 +1,12 @@
 -- What stands for some statements.
 use Rattle.std.proofs.Common.{◌≡◌, [], ◌∷◌, Some, None, true, false, refl}
 use Rattle.std.specs.Prelude.{codes}
-use Rattle.expressions.specs.declared.tree.Binary.TheVariants as binaries
-use Rattle.expressions.specs.declared.tree.Comparison.TheVariants as comparisons
-use Rattle.expressions.specs.declared.tree.Equality.TheVariants as equalities
-use Rattle.expressions.specs.declared.tree.Prefix.TheVariants as prefixes
-use Rattle.expressions.specs.declared.tree.Step.TheVariants as steps
-use Rattle.expressions.specs.declared.tree.Width.TheVariants as widths
+use Rattle.expression_trees.specs.declared.tree.Binary.TheVariants as binaries
+use Rattle.expression_trees.specs.declared.tree.Comparison.TheVariants as comparisons
+use Rattle.expression_trees.specs.declared.tree.Equality.TheVariants as equalities
+use Rattle.expression_trees.specs.declared.tree.Prefix.TheVariants as prefixes
+use Rattle.expression_trees.specs.declared.tree.Step.TheVariants as steps
+use Rattle.expression_trees.specs.declared.tree.Width.TheVariants as widths
 use Rattle.meaning.specs.declared.resolved.Variable.{Variable}
 use Rattle.meaning.specs.declared.resolved.Variable.TheVariants.{Local, Global}
 use Rattle.meaning.specs.Resolved.{Value, none, more, read, number, call, compare, equal, binary, prefixed, assign}
@@ -17,8 +17,8 @@ use Rattle.meaning.specs.Resolved as source
 use Rattle.drafts.specs.Items.{pushed, push, into, nowhere, less, greater, same, is_zero, move, operate, step, branch}
 use Rattle.drafts.specs.Items.{choose, jump, back, print_text, print_character, print_number, new_line, quit}
 use Rattle.drafts.specs.Items.{apply_prefix, keep, first_equal, also_equal, drop_below}
-use Rattle.items.specs.Statements.{Exits, exits_to, action_items, return_true}
 use Rattle.drafts.specs.Items as items
+use Rattle.items.specs.Statements.{Exits, exits_to, action_items, return_true}
 
 abbrev x : Variable
 x = Local 0

@@ -2,21 +2,21 @@
 use Rattle.std.proofs.Common.{◌≡◌, ℕ, ◌+◌, List, [], ◌∷◌, ◌++◌, length, Bool, true, false, Option, Some, None, refl}
 use Rattle.std.proofs.Common.{arith, length-append}
 use Rattle.std.specs.Prelude.{◌==◌, if◌then◌else◌}
+use Rattle.expression_trees.specs.declared.tree.Relative.TheVariants as relatives
 use Rattle.meaning.specs.Resolved.{Value, Printed, Action, Actions, CasesOf, stop, next}
 use Rattle.meaning.specs.Resolved as source
-use Rattle.expressions.specs.declared.tree.Relative.TheVariants as relatives
 use Rattle.meaning.specs.declared.resolved.Variable.{Variable}
 use Rattle.drafts.specs.Items.{Operand, variable, push, left_of, if_pushed, value_items, nowhere, alone, branch_count}
 use Rattle.drafts.specs.Items.{branch_items, operand_count, alone_items}
+use Rattle.drafts.specs.Items as items
+use Rattle.drafts.proofs.CountedForms.{joined, if_length}
+use Rattle.drafts.proofs.Counts.{value_length, branch_length, alone_length}
 use Rattle.items.specs.Statements.{each_items, children_items, relative_items, printed_count, prints_count}
 use Rattle.items.specs.Statements.{action_count, actions_count, cases_count, once_count, test_count, tests_count}
 use Rattle.items.specs.Statements.{group_count, groups_of, over_count, printed_items, prints_items, once_items}
-use Rattle.items.specs.Statements.{test_items, Group, group_items, last_items, tests_items, over_items, Exits}
-use Rattle.items.specs.Statements.{exits_to, action_items, actions_items, cases_items, for_items, case_items}
-use Rattle.drafts.specs.Items as items
+use Rattle.items.specs.Statements.{test_items, Group, group_items, last_items, tests_items, over_items, Exits, exits_to}
+use Rattle.items.specs.Statements.{action_items, actions_items, cases_items, for_items, case_items}
 use Rattle.items.specs.Statements as statements
-use Rattle.drafts.proofs.CountedForms.{joined, if_length}
-use Rattle.drafts.proofs.Counts.{value_length, branch_length, alone_length}
 
 pub printed_length : (i : Printed) (at : ℕ) → length (printed_items at i) ≡ printed_count i
 printed_length (source.text bytes) at = refl

@@ -6,20 +6,19 @@ use Rattle.meaning.specs.declared.resolved.Span.{Span}
 use Rattle.meaning.specs.declared.resolved.Action as code_action
 use Rattle.meaning.specs.Resolved.{Value, RangeOf, Action, Actions, CasesOf, case_of}
 use Rattle.meaning.specs.Resolved as source
-use Rattle.drafts.specs.Items.{Item, Operand, alone, if_pushed, push, value_count, value_items, operand_count}
-use Rattle.drafts.specs.Items.{alone_items}
-use Rattle.items.specs.Statements.{actions_count, cases_count, tests_count, over_count, groups_of, tests_items}
-use Rattle.items.specs.Statements.{over_items, action_items, actions_items, cases_items}
+use Rattle.drafts.specs.Items.{Item, Operand, alone, if_pushed, push, value_items, operand_count, alone_items}
 use Rattle.drafts.specs.Items as items
-use Rattle.items.specs.Statements as statements
 use Rattle.drafts.specs.declared.draft.Draft.{Draft}
-use Rattle.items.specs.declared.exits.Exits.{Exits}
 use Rattle.drafts.specs.Writing.{written_in, Written}
-use Rattle.items.specs.Writing.{taken_items, exits_of, cases_before, LeavesCases}
 use Rattle.drafts.proofs.CountedForms.{joined}
-use Rattle.items.proofs.StatementCounts.{actions_length, cases_length, tests_length, over_length}
 use Rattle.drafts.proofs.WrittenItems.{counted, both, as_items}
 use Rattle.values.proofs.Values.{pushes_length}
+use Rattle.items.specs.Statements.{actions_count, cases_count, tests_count, over_count, groups_of, tests_items}
+use Rattle.items.specs.Statements.{over_items, action_items, actions_items, cases_items}
+use Rattle.items.specs.Statements as statements
+use Rattle.items.specs.declared.exits.Exits.{Exits}
+use Rattle.items.specs.Writing.{taken_items, exits_of, cases_before, LeavesCases}
+use Rattle.items.proofs.StatementCounts.{actions_length, cases_length, tests_length, over_length}
 
 -- a case before others
 pub case_more : (start c c1 c2 c3 : List Item) (x : Exits) (gs : List RangeOf) (xs : Actions) (later : CasesOf)

@@ -9,10 +9,10 @@ use Rattle.meaning.specs.declared.resolved.Printed as code_printed
 use Rattle.meaning.specs.declared.resolved.Action as code_action
 use Rattle.meaning.specs.declared.resolved.Action.TheVariants as s
 use Rattle.meaning.specs.declared.resolved.Action.TheFolds.{fold-roll-Action}
-use Rattle.meaning.specs.Resolved.{give_to, move_to, remove_from, each_object, each_where, each_in, Action}
-use Rattle.meaning.specs.Resolved.{block, text_alone, print, print_return, if_then, if_else, while_do, do_until}
-use Rattle.meaning.specs.Resolved.{for_loop, switch_on, return_value, effect, actions_of, cases_of, value_of}
-use Rattle.meaning.specs.Resolved.{printed_of, case_of, other_of, action_of, action_layer}
+use Rattle.meaning.specs.Resolved.{give_to, move_to, remove_from, each_object, each_where, each_in, Action, block}
+use Rattle.meaning.specs.Resolved.{text_alone, print, print_return, if_then, if_else, while_do, do_until, for_loop}
+use Rattle.meaning.specs.Resolved.{switch_on, return_value, effect, actions_of, cases_of, value_of, printed_of, case_of}
+use Rattle.meaning.specs.Resolved.{other_of, action_of, action_layer}
 use Rattle.meaning.proofs.Mapped.{mapped_twice}
 
 pub block_is : (t : code_action.Action) (xs : Vec code_action.Action) → t ≡ s.Block xs → action_of t

@@ -2,10 +2,10 @@
 use Rattle.std.proofs.Common.{◌≡◌, ℕ, ◌+◌, ◌≤◌, List, [], ◌∷◌, ◌++◌, length, Some, Bool, true, false, refl, sym, ap}
 use Rattle.std.proofs.Common.{◌∙◌, subst, arith}
 use Rattle.std.specs.Prelude.{◌==◌, if◌then◌else◌, slice_get}
-use Rattle.expressions.specs.declared.tree.Binary.TheVariants as binaries
-use Rattle.expressions.specs.declared.tree.Comparison.{Comparison}
-use Rattle.expressions.specs.declared.tree.Equality.{Equality}
-use Rattle.expressions.specs.declared.tree.Prefix.TheVariants as prefixes
+use Rattle.expression_trees.specs.declared.tree.Binary.TheVariants as binaries
+use Rattle.expression_trees.specs.declared.tree.Comparison.{Comparison}
+use Rattle.expression_trees.specs.declared.tree.Equality.{Equality}
+use Rattle.expression_trees.specs.declared.tree.Prefix.TheVariants as prefixes
 use Rattle.meaning.specs.Resolved.{Value, Values}
 use Rattle.meaning.specs.Resolved as source
 use Rattle.meaning.specs.Accepted.{need_of}

@@ -4,21 +4,21 @@ use Rattle.std.proofs.Common.{arith, length-append}
 use Rattle.std.specs.Prelude.{◌==◌, ◌++◌}
 use Rattle.std.specs.List.{All}
 use Rattle.std.proofs.lemmas.List.Elements.{All-head, All-tail}
-use Rattle.expressions.specs.declared.tree.Relative.{Relative}
-use Rattle.expressions.specs.declared.tree.Relative.TheVariants as relatives
+use Rattle.expression_trees.specs.declared.tree.Relative.{Relative}
+use Rattle.expression_trees.specs.declared.tree.Relative.TheVariants as relatives
 use Rattle.meaning.specs.declared.resolved.Variable.{Variable}
 use Rattle.meaning.specs.Resolved.{Value, none, more, Printed, Action, Actions, stop, next, CasesOf}
 use Rattle.meaning.specs.Resolved as source
 use Rattle.meaning.specs.Accepted.{IsVariable, IsValue, IsPart, IsPrinted, IsAction, AreActions, AreCases}
 use Rattle.drafts.specs.Items.{nowhere, alone, operand_count, branch_count, branch_items, alone_items, Test, less}
 use Rattle.drafts.specs.Items.{greater, same, Item, Operand, pushed, variable}
+use Rattle.drafts.specs.Items as items
 use Rattle.items.specs.Statements.{printed_count, prints_count, action_count, actions_count, printed_items}
 use Rattle.items.specs.Statements.{prints_items, return_true, Exits, exits_to, action_items, actions_items}
-use Rattle.items.specs.Statements.{routine_items, once_count, once_items, test_count, test_items, Group, numbers}
-use Rattle.items.specs.Statements.{range, groups_of, group_count, group_items, last_items, tests_count, tests_items}
+use Rattle.items.specs.Statements.{routine_items, once_count, once_items, test_count, test_items, Group, numbers, range}
+use Rattle.items.specs.Statements.{groups_of, group_count, group_items, last_items, tests_count, tests_items}
 use Rattle.items.specs.Statements.{over_count, over_items, cases_count, cases_items, each_items, children_items}
 use Rattle.items.specs.Statements.{relative_items}
-use Rattle.drafts.specs.Items as items
 use Rattle.items.specs.Laws.{IsTested, IsItem, IsOperand, ItemsAreWithin}
 use Rattle.items.proofs.StatementCounts.{actions_length}
 use Rattle.items.proofs.Fine.{Bounds, Fine, either_fine, first, joined, last, last_two, nothing, operand_fine}

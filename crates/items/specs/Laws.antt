@@ -1,16 +1,16 @@
 -- The laws of items that functions of `laws` carry as their contracts.
 use Rattle.std.specs.Prelude.{◌≡◌, ◌≢◌, ◌+◌, ◌<◌, ◌≤◌, ℕ, Bool, List, length, Some}
 use Rattle.std.specs.List.{All}
-use Rattle.expressions.specs.declared.tree.Binary.TheVariants as binaries
-use Rattle.expressions.specs.declared.tree.Prefix.TheVariants as prefixes
+use Rattle.expression_trees.specs.declared.tree.Binary.TheVariants as binaries
+use Rattle.expression_trees.specs.declared.tree.Prefix.TheVariants as prefixes
 use Rattle.meaning.specs.Resolved.{RoutineOf, ProgramOf}
 use Rattle.meaning.specs.Accepted.{IsVariable, IsRoutine, IsAccepted, IsProperty}
 use Rattle.meaning.specs.Meaning.{routine_at, meaning}
 use Rattle.drafts.specs.Items.{Operand, variable, Destination, into, Test, is_zero, less, greater, same, Item, move}
 use Rattle.drafts.specs.Items.{apply_prefix, operate, step, entry, assign_entry, keep, print_character, print_number}
 use Rattle.drafts.specs.Items.{branch, read_line, choose, case, jump, back, call, return, print_name, relative}
-use Rattle.drafts.specs.Items.{property, property_size, property_word, assign_property, assign_property_word, give}
-use Rattle.drafts.specs.Items.{has, move_object, remove_object, is_in, provides, first_object, next_object}
+use Rattle.drafts.specs.Items.{property, property_size, property_word, assign_property, assign_property_word, give, has}
+use Rattle.drafts.specs.Items.{move_object, remove_object, is_in, provides, first_object, next_object}
 use Rattle.items.specs.Statements.{routine_items}
 use Rattle.items.specs.Stack.{from, exec, start}
 

@@ -6,9 +6,9 @@ use Rattle.std.specs.List.{list_any}
 use Rattle.zcore.specs.Arithmetic.{signed_less, signed_text}
 use Rattle.zcore.specs.declared.place.Place.TheVariants as places
 use Rattle.zcore.specs.declared.place.Limit.TheVariants as limits
-use Rattle.expressions.specs.declared.tree.Relative.{Relative}
-use Rattle.expressions.specs.declared.tree.Relative.TheVariants as relatives
-use Rattle.expressions.specs.declared.tree.Width.{Width}
+use Rattle.expression_trees.specs.declared.tree.Relative.{Relative}
+use Rattle.expression_trees.specs.declared.tree.Relative.TheVariants as relatives
+use Rattle.expression_trees.specs.declared.tree.Width.{Width}
 use Rattle.meaning.specs.declared.resolved.Variable.{Variable}
 use Rattle.meaning.specs.Resolved.{ProgramOf}
 use Rattle.meaning.specs.World.{Outcome, World, Situation, Comes, to, over, Part, ended, put, shown, spend, value_in}
@@ -22,10 +22,10 @@ use Rattle.meaning.specs.Meaning.{first_world}
 use Rattle.meaning.specs.Reading.{read_next}
 use Rattle.meaning.specs.Places.{number_in}
 use Rattle.meaning.specs.Meaning as meaning
-use Rattle.drafts.specs.Items.{Item, Operand, pushed, number, variable, Destination, push, into, nowhere, Test}
-use Rattle.drafts.specs.Items.{is_zero, less, greater, same, agrees}
-use Rattle.items.specs.Statements.{routine_items}
+use Rattle.drafts.specs.Items.{Item, Operand, pushed, number, variable, Destination, push, into, nowhere, Test, is_zero}
+use Rattle.drafts.specs.Items.{less, greater, same, agrees}
 use Rattle.drafts.specs.Items as items
+use Rattle.items.specs.Statements.{routine_items}
 
 -- a call that waits for another: its routine, the item to go on with, where the word goes, its stack and its locals
 pub record Caller : Type 0 where

@@ -1,8 +1,8 @@
 -- The items of statements and of a routine, and how many they are.
 use Rattle.std.specs.Prelude.{◌+◌, ◌==◌, ℕ, true, false, if◌then◌else◌, List, [], ◌∷◌, ◌++◌, nat_lt, length, Option}
 use Rattle.std.specs.Prelude.{Some, None}
-use Rattle.expressions.specs.declared.tree.Relative.{Relative}
-use Rattle.expressions.specs.declared.tree.Relative.TheVariants as relatives
+use Rattle.expression_trees.specs.declared.tree.Relative.{Relative}
+use Rattle.expression_trees.specs.declared.tree.Relative.TheVariants as relatives
 use Rattle.meaning.specs.declared.resolved.Variable.{Variable}
 use Rattle.meaning.specs.Resolved.{Value, Printed, RangeOf, Action, Actions, stop, next, CasesOf, RoutineOf}
 use Rattle.meaning.specs.Resolved as source

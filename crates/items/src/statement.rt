@@ -2,15 +2,16 @@
 
 ghost use Rattle.std.specs.Prelude.{◌-◌, [], ◌∷◌, map, IfOk, OnOk};
 ghost use Rattle.std.specs.Option.{option_map};
-ghost use Rattle.meaning.specs.Resolved.{block, if_then, if_else, while_do, do_until, for_loop, switch_on};
-ghost use Rattle.meaning.specs.Resolved.{return_value, value_of, give_to, move_to, remove_from, each_object};
-ghost use Rattle.meaning.specs.Resolved.{each_where, each_in, printed_of, action_of, actions_of, case_of, cases_of};
-ghost use Rattle.meaning.specs.Resolved.{other_of};
+ghost use Rattle.meaning.specs.Resolved.{block, if_then, if_else, while_do, do_until, for_loop};
+ghost use Rattle.meaning.specs.Resolved.{switch_on, return_value, value_of, give_to, move_to};
+ghost use Rattle.meaning.specs.Resolved.{remove_from, each_object, each_where, each_in, printed_of};
+ghost use Rattle.meaning.specs.Resolved.{action_of, actions_of, case_of, cases_of, other_of};
 ghost use Rattle.drafts.specs.Code.{as_operand};
 ghost use Rattle.drafts.specs.Items.{new_line};
-ghost use Rattle.items.specs.Statements.{return_true, printed_items, relative_items};
 ghost use Rattle.drafts.specs.Writing.{Writes};
-ghost use Rattle.items.specs.Writing.{WritesAction, WritesPrinted, WritesTaken, WritesCases, LeavesCases, PutsNext};
+ghost use Rattle.items.specs.Statements.{return_true, printed_items, relative_items};
+ghost use Rattle.items.specs.Writing.{WritesAction, WritesPrinted, WritesTaken, WritesCases};
+ghost use Rattle.items.specs.Writing.{LeavesCases, PutsNext};
 
 use crate::cases::{put_over, put_tests};
 use crate::exits::Exits;
@@ -18,7 +19,7 @@ use crate::heading::{put_once, put_test};
 use drafts::{
     Destination, Draft, Item, Operand, Wanted, alone, lead_back, left_of, put, put_branch, written,
 };
-use expressions::Relative;
+use expression_trees::Relative;
 use meaning::{Action, Printed, Span, Value, Variable};
 use std::alloc::AllocError;
 use values::{put_operand, put_value};

@@ -1,6 +1,6 @@
 -- Sizes that are folded, and the Z-characters of names.
-use Rattle.std.proofs.Common.{◌≡◌, ◌+◌, ◌*◌, ◌%◌, ◌<◌, ◌≤◌, ℕ, suc, Bool, ltb, true, false, List, [], ◌∷◌, length}
-use Rattle.std.proofs.Common.{drop, get_or, ap, sym, ◌∙◌, arith, refl}
+use Rattle.std.proofs.Common.{◌≡◌, ◌+◌, ◌*◌, ◌%◌, ◌<◌, ◌≤◌, ℕ, suc, Bool, ltb, true, false, List, [], ◌∷◌, length, drop}
+use Rattle.std.proofs.Common.{get_or, ap, sym, ◌∙◌, arith, refl}
 use Rattle.std.specs.Prelude.{map}
 use Rattle.std.specs.Global.{Vec}
 use Rattle.std.proofs.lemmas.Bool.{lt-ltb, le-ltb, ltb-false, ltb-true}
@@ -9,10 +9,9 @@ use Rattle.ztext.specs.Alphabets.{spelling_of, spelled}
 use Rattle.meaning.specs.declared.checked.CheckedObject.{CheckedObject}
 use Rattle.meaning.specs.declared.places.Places.{Places}
 use Rattle.meaning.specs.Resolved.{ProgramOf, object_of, property_of}
-use Rattle.meaning.specs.Places.{folded, machine_character, total, property_size, table_size, objects_size}
-use Rattle.meaning.specs.Places.{text_size, abbreviations_size, arrays_size, key_count, defaults_place}
-use Rattle.meaning.specs.Places.{dictionary_place, dictionary_end, filling_before, texts_place, start_place}
-use Rattle.meaning.specs.Places.{routines_place, places_of}
+use Rattle.meaning.specs.Places.{folded, machine_character, total, property_size, table_size, objects_size, text_size}
+use Rattle.meaning.specs.Places.{abbreviations_size, arrays_size, key_count, defaults_place, dictionary_place}
+use Rattle.meaning.specs.Places.{dictionary_end, filling_before, texts_place, start_place, routines_place, places_of}
 
 -- Folding
 

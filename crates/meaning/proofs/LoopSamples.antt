@@ -4,13 +4,13 @@ use Rattle.std.specs.Prelude.{codes}
 use Rattle.zcore.specs.Arithmetic.{signed_text, decimal, quotient, remainder}
 use Rattle.zcore.specs.declared.place.Place.TheVariants as places
 use Rattle.zcore.specs.declared.place.Limit.TheVariants as limits
-use Rattle.expressions.specs.declared.tree.Comparison.TheVariants as comparison
-use Rattle.expressions.specs.declared.tree.Equality.TheVariants as equality
-use Rattle.expressions.specs.declared.tree.Step.TheVariants as steps
+use Rattle.expression_trees.specs.declared.tree.Comparison.TheVariants as comparison
+use Rattle.expression_trees.specs.declared.tree.Equality.TheVariants as equality
+use Rattle.expression_trees.specs.declared.tree.Step.TheVariants as steps
 use Rattle.meaning.specs.declared.resolved.Variable.TheVariants as variables
-use Rattle.meaning.specs.Resolved.{Value, Action, ProgramOf, number, read, step_after, compare, equal, none, more}
-use Rattle.meaning.specs.Resolved.{text, number_of, one, between, actions_of, block, print, while_do, do_until}
-use Rattle.meaning.specs.Resolved.{for_loop, switch_on, break_out, continue_on, effect, no_case, default_case, case}
+use Rattle.meaning.specs.Resolved.{Value, Action, ProgramOf, number, read, step_after, compare, equal, none, more, text}
+use Rattle.meaning.specs.Resolved.{number_of, one, between, actions_of, block, print, while_do, do_until, for_loop}
+use Rattle.meaning.specs.Resolved.{switch_on, break_out, continue_on, effect, no_case, default_case, case}
 use Rattle.meaning.specs.World.{Outcome}
 use Rattle.meaning.specs.Meaning.{meaning}
 

@@ -4,17 +4,16 @@ use Rattle.std.specs.Prelude.{codes, replicate}
 use Rattle.zcore.specs.Arithmetic.{signed_text, decimal, quotient, remainder}
 use Rattle.zcore.specs.declared.place.Place.TheVariants as places
 use Rattle.zcore.specs.declared.place.Limit.TheVariants as limits
-use Rattle.expressions.specs.declared.tree.Containment.TheVariants as containment
-use Rattle.expressions.specs.declared.tree.Equality.TheVariants as equality
-use Rattle.expressions.specs.declared.tree.Relative.TheVariants as relatives
+use Rattle.expression_trees.specs.declared.tree.Containment.TheVariants as containment
+use Rattle.expression_trees.specs.declared.tree.Equality.TheVariants as equality
+use Rattle.expression_trees.specs.declared.tree.Relative.TheVariants as relatives
 use Rattle.meaning.specs.declared.cause.Cause.TheVariants as causes
 use Rattle.meaning.specs.declared.resolved.Variable.TheVariants as variables
 use Rattle.meaning.specs.Objects.{ObjectOf}
 use Rattle.meaning.specs.Resolved.{Value, Action, ProgramOf, number, read, relative, contained, has, property}
-use Rattle.meaning.specs.Resolved.{property_size, equal, more, none, block, if_then}
-use Rattle.meaning.specs.Resolved.{property_word, assign_property_word, Printed, text, number_of, name_of, actions_of}
-use Rattle.meaning.specs.Resolved.{print}
-use Rattle.meaning.specs.Resolved.{new_line, effect, move_to, remove_from, each_object, each_in}
+use Rattle.meaning.specs.Resolved.{property_size, equal, more, none, block, if_then, property_word}
+use Rattle.meaning.specs.Resolved.{assign_property_word, Printed, text, number_of, name_of, actions_of, print, new_line}
+use Rattle.meaning.specs.Resolved.{effect, move_to, remove_from, each_object, each_in}
 use Rattle.meaning.specs.World.{Outcome, Situation, test_word, fault}
 use Rattle.meaning.specs.Meaning.{meaning}
 

@@ -2,17 +2,17 @@
 use Rattle.std.proofs.Common.{◌≡◌, ℕ, List, [], ◌∷◌, ◌++◌, refl}
 use Rattle.std.specs.Prelude.{codes, replicate}
 use Rattle.ztext.specs.Alphabets.{spelling_of}
+use Rattle.ztext.specs.Text.{key_of}
+use Rattle.ztext.specs.Words.{packed}
 use Rattle.zcore.specs.Arithmetic.{signed_text, decimal, quotient, remainder}
 use Rattle.zcore.specs.Cutting.{words_of}
 use Rattle.zcore.specs.Dictionary.{number_of_key}
-use Rattle.ztext.specs.Text.{key_of}
-use Rattle.ztext.specs.Words.{packed}
 use Rattle.zcore.specs.declared.place.Place.TheVariants as places
-use Rattle.expressions.specs.declared.tree.Step.TheVariants as steps
+use Rattle.expression_trees.specs.declared.tree.Step.TheVariants as steps
 use Rattle.meaning.specs.declared.resolved.Variable.TheVariants as variables
 use Rattle.meaning.specs.Objects.{first_objects}
-use Rattle.meaning.specs.Resolved.{Action, ProgramOf, number, read, step_after, text, number_of}
-use Rattle.meaning.specs.Resolved.{actions_of, block, print, while_do, read_line, effect}
+use Rattle.meaning.specs.Resolved.{Action, ProgramOf, number, read, step_after, text, number_of, actions_of, block}
+use Rattle.meaning.specs.Resolved.{print, while_do, read_line, effect}
 use Rattle.meaning.specs.World.{Situation, Comes, to}
 use Rattle.meaning.specs.Reading.{words_for, read_next}
 use Rattle.meaning.specs.Meaning.{meaning}

@@ -4,21 +4,20 @@
 use Rattle.std.specs.Prelude.{◌≡◌, ◌≢◌, ◌+◌, ◌^◌, ◌<◌, ◌≤◌, ℕ, Bool, true, List, [], ◌∷◌, length, Option, Some, None}
 use Rattle.std.specs.List.{All}
 use Rattle.std.specs.List.Sorted.{IsStrictlyIncreasing}
+use Rattle.ztext.specs.Abbreviations.{most_abbreviations}
 use Rattle.meaning.specs.declared.resolved.Variable.{Variable}
 use Rattle.meaning.specs.declared.resolved.Variable.TheVariants as variables
 use Rattle.meaning.specs.Operands.{operands}
 use Rattle.meaning.specs.Resolved.{Value, Values, number, read, call, prefixed, step_before, step_after, binary}
 use Rattle.meaning.specs.Resolved.{compare, equal, assign, entry, assign_entry, relative, contained, has, provides}
 use Rattle.meaning.specs.Resolved.{property, property_size, property_word, assign_property, assign_property_word}
-use Rattle.meaning.specs.Resolved.{name_of, give_to, move_to, remove_from, each_object, each_where, each_in}
-use Rattle.meaning.specs.Resolved.{none, more, Printed, text}
+use Rattle.meaning.specs.Resolved.{name_of, give_to, move_to, remove_from, each_object, each_where, each_in, none, more}
+use Rattle.meaning.specs.Resolved.{Printed, text, character_of, number_of, Action, Actions, CasesOf, empty, block}
+use Rattle.meaning.specs.Resolved.{text_alone, print, print_return, new_line, if_then, if_else, while_do, do_until}
+use Rattle.meaning.specs.Resolved.{for_loop, switch_on, break_out, continue_on, read_line, return_value, quit, effect}
+use Rattle.meaning.specs.Resolved.{stop, next, no_case, default_case, case, RoutineOf, ProgramOf}
 use Rattle.meaning.specs.Objects.{ObjectOf, object_at}
-use Rattle.ztext.specs.Abbreviations.{most_abbreviations}
 use Rattle.meaning.specs.Places.{name_words}
-use Rattle.meaning.specs.Resolved.{character_of, number_of, Action, Actions, CasesOf, empty, block, text_alone, print}
-use Rattle.meaning.specs.Resolved.{print_return, new_line, if_then, if_else, while_do, do_until, for_loop, switch_on}
-use Rattle.meaning.specs.Resolved.{break_out, continue_on, read_line, return_value, quit, effect, stop, next, no_case}
-use Rattle.meaning.specs.Resolved.{default_case, case, RoutineOf, ProgramOf}
 use Rattle.meaning.specs.Meaning.{routine_at}
 use Rattle.meaning.specs.declared.around.Around.{Around}
 use Rattle.meaning.specs.Around.{outside, in_loop, in_switch}

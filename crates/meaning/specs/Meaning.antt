@@ -1,43 +1,42 @@
 -- What an accepted program means: the texts that it prints and where it ends, on every list of lines. Operands,
 -- arguments and print items are evaluated from left to right; then an operation's tests are made; then it is done.
-use Rattle.std.specs.Prelude.{◌||◌, ◌&&◌, ◌+◌, ◌-◌, ◌*◌, ◌%◌, ◌==◌, not, ℕ, zero, suc, nat_le, nat_lt, bit_and}
-use Rattle.std.specs.Prelude.{bit_or, Bool, true, false, if◌then◌else◌, List, [], ◌∷◌, ◌++◌, map, take, Option, Some}
-use Rattle.std.specs.Prelude.{None, replicate, is_some, length, slice_index, slice_set}
+use Rattle.std.specs.Prelude.{◌||◌, ◌&&◌, ◌+◌, ◌-◌, ◌*◌, ◌%◌, ◌==◌, not, ℕ, zero, suc, nat_le, nat_lt, bit_and, bit_or}
+use Rattle.std.specs.Prelude.{Bool, true, false, if◌then◌else◌, List, [], ◌∷◌, ◌++◌, map, take, Option, Some, None}
+use Rattle.std.specs.Prelude.{replicate, is_some, length, slice_index, slice_set}
 use Rattle.std.specs.List.{list_any}
 use Rattle.zcore.specs.Arithmetic.{quotient, remainder, signed_less, signed_text}
 use Rattle.zcore.specs.Parts.{transcribed}
 use Rattle.zcore.specs.declared.place.Place.TheVariants as places
 use Rattle.zcore.specs.declared.place.Limit.TheVariants as limits
+use Rattle.expression_trees.specs.declared.tree.Binary.{Binary}
+use Rattle.expression_trees.specs.declared.tree.Binary.TheVariants as op
+use Rattle.expression_trees.specs.declared.tree.Containment.{Containment}
+use Rattle.expression_trees.specs.declared.tree.Containment.TheVariants as containment
+use Rattle.expression_trees.specs.declared.tree.Relative.TheVariants as relatives
+use Rattle.expression_trees.specs.declared.tree.Comparison.{Comparison}
+use Rattle.expression_trees.specs.declared.tree.Comparison.TheVariants as comparison
+use Rattle.expression_trees.specs.declared.tree.Equality.{Equality}
+use Rattle.expression_trees.specs.declared.tree.Equality.TheVariants as equality
+use Rattle.expression_trees.specs.declared.tree.Prefix.{Prefix}
+use Rattle.expression_trees.specs.declared.tree.Prefix.TheVariants as prefix
+use Rattle.expression_trees.specs.declared.tree.Step.{Step}
+use Rattle.expression_trees.specs.declared.tree.Step.TheVariants as steps
 use Rattle.meaning.specs.declared.cause.Cause.TheVariants as causes
-use Rattle.expressions.specs.declared.tree.Binary.{Binary}
-use Rattle.expressions.specs.declared.tree.Binary.TheVariants as op
-use Rattle.expressions.specs.declared.tree.Containment.{Containment}
-use Rattle.expressions.specs.declared.tree.Containment.TheVariants as containment
-use Rattle.expressions.specs.declared.tree.Relative.TheVariants as relatives
-use Rattle.expressions.specs.declared.tree.Comparison.{Comparison}
-use Rattle.expressions.specs.declared.tree.Comparison.TheVariants as comparison
-use Rattle.expressions.specs.declared.tree.Equality.{Equality}
-use Rattle.expressions.specs.declared.tree.Equality.TheVariants as equality
-use Rattle.expressions.specs.declared.tree.Prefix.{Prefix}
-use Rattle.expressions.specs.declared.tree.Prefix.TheVariants as prefix
-use Rattle.expressions.specs.declared.tree.Step.{Step}
-use Rattle.expressions.specs.declared.tree.Step.TheVariants as steps
 use Rattle.meaning.specs.Resolved.{Value, Values, number, read, call, prefixed, step_before, step_after, binary}
 use Rattle.meaning.specs.Resolved.{compare, equal, assign, entry, assign_entry, relative, contained, has, provides}
 use Rattle.meaning.specs.Resolved.{property, property_size, property_word, assign_property, assign_property_word}
-use Rattle.meaning.specs.Resolved.{name_of, give_to, move_to, remove_from, each_object, each_where, each_in}
-use Rattle.meaning.specs.Resolved.{none, more, Printed, text}
+use Rattle.meaning.specs.Resolved.{name_of, give_to, move_to, remove_from, each_object, each_where, each_in, none, more}
+use Rattle.meaning.specs.Resolved.{Printed, text, character_of, number_of, RangeOf, one, between, Action, Actions}
+use Rattle.meaning.specs.Resolved.{CasesOf, empty, block, text_alone, print, print_return, new_line, if_then, if_else}
+use Rattle.meaning.specs.Resolved.{while_do, do_until, for_loop, switch_on, break_out, continue_on, read_line}
+use Rattle.meaning.specs.Resolved.{return_value, quit, effect, stop, next, no_case, default_case, case, RoutineOf}
+use Rattle.meaning.specs.Resolved.{ProgramOf}
 use Rattle.meaning.specs.declared.resolved.Variable.{Variable}
 use Rattle.meaning.specs.Objects.{ObjectOf, object_at, first_objects}
-use Rattle.meaning.specs.Resolved.{character_of, number_of, RangeOf, one, between, Action, Actions, CasesOf, empty}
-use Rattle.meaning.specs.Resolved.{block, text_alone, print, print_return, new_line, if_then, if_else, while_do}
-use Rattle.meaning.specs.Resolved.{do_until}
-use Rattle.meaning.specs.Resolved.{for_loop, switch_on, break_out, continue_on, read_line, return_value, quit, effect}
-use Rattle.meaning.specs.Resolved.{stop, next, no_case, default_case, case, RoutineOf, ProgramOf}
-use Rattle.meaning.specs.World.{Outcome, World, Situation, Comes, to, over, Part, bound, ◌>>=◌, give, ended, put}
-use Rattle.meaning.specs.World.{shown, fault, spend, units, read_variable, write_variable, read_entry, write_entry}
-use Rattle.meaning.specs.World.{relative_of, has_attribute, give_attribute, words_provided, test_provided, test_single}
-use Rattle.meaning.specs.World.{test_word, single_word, size_of, write_words, remove_object, move_object}
+use Rattle.meaning.specs.World.{Outcome, World, Comes, to, over, Part, ◌>>=◌, give, ended, put, shown, fault, spend}
+use Rattle.meaning.specs.World.{units, read_variable, write_variable, read_entry, write_entry, relative_of}
+use Rattle.meaning.specs.World.{has_attribute, give_attribute, words_provided, test_provided, test_single, test_word}
+use Rattle.meaning.specs.World.{single_word, size_of, write_words, remove_object, move_object}
 use Rattle.meaning.specs.World as world
 use Rattle.meaning.specs.Reading.{read_next}
 use Rattle.meaning.specs.Places.{number_in}

@@ -1,10 +1,10 @@
 -- The objects of a running source: who stands in whom, attributes, and the words of properties. Objects are numbered
 -- from 1; 0 is none.
-use Rattle.std.specs.Prelude.{◌==◌, ◌&&◌, ℕ, zero, suc, Bool, if◌then◌else◌, List, [], ◌∷◌, Option, Some}
-use Rattle.std.specs.Prelude.{None, slice_index_or}
+use Rattle.std.specs.Prelude.{◌==◌, ◌&&◌, ℕ, zero, suc, Bool, if◌then◌else◌, List, [], ◌∷◌, Option, Some, None}
+use Rattle.std.specs.Prelude.{slice_index_or}
 use Rattle.std.specs.List.{list_any}
-use Rattle.expressions.specs.declared.tree.Relative.{Relative}
-use Rattle.expressions.specs.declared.tree.Relative.TheVariants as relatives
+use Rattle.expression_trees.specs.declared.tree.Relative.{Relative}
+use Rattle.expression_trees.specs.declared.tree.Relative.TheVariants as relatives
 
 -- The tree: the parent of each object, 0 for none, and the list of its children.
 pub record Tree : Type 0 where

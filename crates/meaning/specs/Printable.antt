@@ -5,11 +5,11 @@ use Rattle.std.specs.List.{All, list_all}
 use Rattle.ztext.specs.Alphabets.{is_printable}
 use Rattle.lexer.specs.Printable.{IsPrintable}
 use Rattle.meaning.specs.Resolved.{Printed, text, character_of, number_of, Action, Actions, CasesOf, empty, block}
+use Rattle.meaning.specs.Resolved.{name_of, give_to, move_to, remove_from, each_object, each_where, each_in, text_alone}
+use Rattle.meaning.specs.Resolved.{print, print_return, new_line, if_then, if_else, while_do, do_until, for_loop}
+use Rattle.meaning.specs.Resolved.{switch_on, break_out, continue_on, read_line, return_value, quit, effect, stop, next}
+use Rattle.meaning.specs.Resolved.{no_case, default_case, case, RoutineOf, ProgramOf}
 use Rattle.meaning.specs.Objects.{ObjectOf}
-use Rattle.meaning.specs.Resolved.{name_of, give_to, move_to, remove_from, each_object, each_where, each_in}
-use Rattle.meaning.specs.Resolved.{text_alone, print, print_return, new_line, if_then, if_else, while_do, do_until}
-use Rattle.meaning.specs.Resolved.{for_loop, switch_on, break_out, continue_on, read_line, return_value, quit}
-use Rattle.meaning.specs.Resolved.{effect, stop, next, no_case, default_case, case, RoutineOf, ProgramOf}
 
 abbrev pub IsPrintableItem : Printed → Type 0
 IsPrintableItem (text bytes) = All IsPrintable bytes

@@ -8,9 +8,9 @@ use Rattle.zcore.specs.declared.place.Place.{Place}
 use Rattle.zcore.specs.declared.place.Place.TheVariants as places
 use Rattle.zcore.specs.declared.place.Limit.TheVariants as limits
 use Rattle.zcore.specs.Turn.{notice}
-use Rattle.expressions.specs.declared.tree.Relative.{Relative}
-use Rattle.expressions.specs.declared.tree.Width.{Width}
-use Rattle.expressions.specs.declared.tree.Width.TheVariants as widths
+use Rattle.expression_trees.specs.declared.tree.Relative.{Relative}
+use Rattle.expression_trees.specs.declared.tree.Width.{Width}
+use Rattle.expression_trees.specs.declared.tree.Width.TheVariants as widths
 use Rattle.meaning.specs.declared.cause.Cause.{Cause}
 use Rattle.meaning.specs.declared.cause.Cause.TheVariants as causes
 use Rattle.meaning.specs.Objects.{Objects, Tree, Climbed, clear, inside, spent, climb, relative_in, removed, moved}

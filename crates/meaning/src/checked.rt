@@ -6,13 +6,12 @@ ghost use Rattle.std.specs.Option.{option_map};
 ghost use Rattle.std.specs.Coded.{codes};
 ghost use denote.Signature.{static_lft};
 ghost use Rattle.meaning.specs.contracts.resolved.Action as statement;
-ghost use Rattle.meaning.specs.Resolved.{CheckedProgram, routine_of, program_of, cut};
-ghost use Rattle.meaning.specs.Resolved.{AreArrays};
+ghost use Rattle.meaning.specs.Resolved.{CheckedProgram, routine_of, program_of, cut, AreArrays};
 ghost use Rattle.meaning.specs.Meaning.{routine_at};
 
 use crate::arrays::Arrays;
 use crate::resolved::Action;
-use expressions::Name;
+use expression_trees::Name;
 use std::marker::Model;
 use zcore::Abbreviations;
 

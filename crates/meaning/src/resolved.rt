@@ -1,6 +1,6 @@
 //! Statements and expressions whose names are resolved.
 
-use expressions::{Binary, Comparison, Containment, Equality, Prefix, Relative, Step, Width};
+use expression_trees::{Binary, Comparison, Containment, Equality, Prefix, Relative, Step, Width};
 
 /// A variable.
 #[derive(Clone, Copy, Debug, PartialEq, Eq)]

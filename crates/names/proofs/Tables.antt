@@ -4,8 +4,8 @@ use Rattle.std.proofs.Common.{sym, ap, ◌∙◌}
 use Rattle.std.specs.Map.{lookup}
 use Rattle.std.proofs.lemmas.Cmp.{nat_list_eq_equiv}
 use Rattle.indexmap.specs.IndexMap.{insert_entry}
+use Rattle.expression_trees.specs.Tree.{NameTree}
 use Rattle.names.specs.declared.binding.Binding.{Binding}
-use Rattle.expressions.specs.Tree.{NameTree}
 use Rattle.names.specs.Names.{same_key, key_of, Table, in_table, with_name}
 
 pub same_key_back : (a b : List ℕ) → same_key a b ≡ same_key b a

@@ -3,9 +3,9 @@
 use Rattle.std.specs.Prelude.{◌&&◌, ◌+◌, ◌%◌, ◌<◌, ℕ, zero, suc, nat_eq, nat_le, Bool, true, false, if◌then◌else◌, List}
 use Rattle.std.specs.Prelude.{[], ◌∷◌, ◌++◌, codes, length, Option, Some, None, is_some}
 use Rattle.std.specs.Cmp.Lexicographic.{pointwise}
-use Rattle.expressions.specs.Tree as trees
-use Rattle.expressions.specs.Tree.{NameTree, ExpressionTree}
-use Rattle.statements.specs.Tree.{LiteralTree, number_value, word_value, named_value}
+use Rattle.expression_trees.specs.Tree as trees
+use Rattle.expression_trees.specs.Tree.{NameTree, ExpressionTree}
+use Rattle.statement_parts.specs.Tree.{LiteralTree, number_value, word_value, named_value}
 use Rattle.directives.specs.Tree.{DirectiveTree, global, constant, array, attribute, property, object, routine}
 use Rattle.names.specs.declared.binding.Binding.{Binding}
 use Rattle.names.specs.declared.binding.Binding.TheVariants as bindings

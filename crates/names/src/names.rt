@@ -1,8 +1,8 @@
 //! The names of a file, in order of definition.
 
 ghost use Rattle.std.specs.Prelude.{◌≡◌, ◌^◌, IfOk, OnOk, map};
-ghost use Rattle.expressions.specs.Tree.{name_tree};
-ghost use Rattle.statements.specs.Tree.{literal_tree};
+ghost use Rattle.expression_trees.specs.Tree.{name_tree};
+ghost use Rattle.statement_parts.specs.Tree.{literal_tree};
 ghost use Rattle.directives.specs.Tree.{directive_tree};
 ghost use Rattle.names.specs.Keys as keys;
 ghost use Rattle.names.specs.Names as spec;

@@ -1,7 +1,7 @@
 //! Tables of names.
 
 ghost use Rattle.std.specs.Prelude.{◌≡◌, OnOk};
-ghost use Rattle.expressions.specs.Tree.{name_tree};
+ghost use Rattle.expression_trees.specs.Tree.{name_tree};
 ghost use Rattle.names.specs.Names.{key_of, in_table, with_name};
 ghost use Rattle.names.specs.Names as spec;
 ghost use Rattle.names.specs.Scope.{look_in};
@@ -9,7 +9,7 @@ ghost use Rattle.names.specs.Scope.{look_in};
 use crate::binding::Binding;
 use crate::file::File;
 use crate::key::{Key, key_of};
-use expressions::Name;
+use expression_trees::Name;
 use indexmap::IndexMap;
 use std::alloc::AllocError;
 

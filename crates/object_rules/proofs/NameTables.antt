@@ -1,11 +1,10 @@
 -- Names, one at a time: the table of those that came before, and the ones that stand twice.
-use Rattle.std.proofs.Common.{◌≡◌, ℕ, zero, suc, ◌+◌, ◌<◌, ◌≤◌, Bool, true, false, List, [], ◌∷◌, ◌++◌}
-use Rattle.std.proofs.Common.{length, take, drop, slice_index_or, Option, Some, None, is_some, cond, refl, sym, ap}
-use Rattle.std.proofs.Common.{◌∙◌, arith}
+use Rattle.std.proofs.Common.{◌≡◌, ℕ, zero, suc, ◌+◌, ◌<◌, ◌≤◌, Bool, true, false, List, [], ◌∷◌, ◌++◌, length, take}
+use Rattle.std.proofs.Common.{drop, slice_index_or, Option, Some, None, is_some, cond, refl, sym, ap, ◌∙◌, arith}
 use Rattle.std.specs.Prelude.{map}
 use Rattle.std.specs.Cmp.Lexicographic.{same_text}
-use Rattle.expressions.specs.declared.tree.Name.{Name}
-use Rattle.expressions.specs.Tree.{NameTree, name_tree}
+use Rattle.expression_trees.specs.declared.tree.Name.{Name}
+use Rattle.expression_trees.specs.Tree.{NameTree, name_tree}
 use Rattle.names.specs.declared.binding.Binding.{Binding}
 use Rattle.names.specs.declared.binding.Binding.TheVariants as bindings
 use Rattle.names.specs.declared.breach.Breach.{Breach}
@@ -13,8 +12,8 @@ use Rattle.names.specs.Breaches.{at}
 use Rattle.names.specs.Names.{Table, key_of, same_key, in_table, with_name, local_from}
 use Rattle.names.specs.Noted.{noted}
 use Rattle.names.specs.Scope.{either, local_binding}
-use Rattle.object_rules.specs.Repeated.{has_name, repeated_breaches, twice}
 use Rattle.names.proofs.Noted.{noted_none, noted_two}
+use Rattle.object_rules.specs.Repeated.{has_name, repeated_breaches, twice}
 
 -- The number of a local
 

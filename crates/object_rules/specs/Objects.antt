@@ -4,8 +4,10 @@ use Rattle.std.specs.Prelude.{◌∷◌, ◌++◌, map, length, slice_get, Optio
 use Rattle.std.specs.List.{flat_map}
 use Rattle.lexer.specs.declared.fault.TheConstants.{TOO_MANY, UNKNOWN_NAME, WRONG_KIND}
 use Rattle.lexer.specs.declared.token.Position.{Position}
-use Rattle.expressions.specs.Tree.{NameTree}
+use Rattle.expression_trees.specs.Tree.{NameTree}
 use Rattle.directives.specs.Tree.{ValueTree, TextTree, PropertyTree, ObjectTree}
+use Rattle.meaning.specs.Objects.{ObjectOf}
+use Rattle.meaning.specs.Places.{name_words}
 use Rattle.names.specs.declared.binding.Binding.{Binding}
 use Rattle.names.specs.declared.binding.Binding.TheVariants as bindings
 use Rattle.names.specs.declared.breach.Breach.{Breach}
@@ -14,8 +16,6 @@ use Rattle.names.specs.Names.{Table, File, key_of, in_table, literal_value}
 use Rattle.value_rules.specs.Literals.{literal_breaches}
 use Rattle.value_rules.specs.Expressions.{attribute_breaches, property_breaches, attribute_of_binding}
 use Rattle.value_rules.specs.Expressions.{property_of_binding}
-use Rattle.meaning.specs.Objects.{ObjectOf}
-use Rattle.meaning.specs.Places.{name_words}
 use Rattle.object_rules.specs.Repeated.{repeated_breaches}
 
 -- What an object provides

@@ -1,7 +1,7 @@
 -- Names that stand twice: in a list, and beside those of a table.
 use Rattle.std.specs.Prelude.{Bool, true, false, if◌then◌else◌, List, [], ◌∷◌, ◌++◌, is_some}
 use Rattle.lexer.specs.declared.fault.TheConstants.{DEFINED_TWICE}
-use Rattle.expressions.specs.Tree.{NameTree}
+use Rattle.expression_trees.specs.Tree.{NameTree}
 use Rattle.names.specs.declared.breach.Breach.{Breach}
 use Rattle.names.specs.Breaches.{at}
 use Rattle.names.specs.Names.{Table, key_of, same_key, in_table}

@@ -1,11 +1,11 @@
 //! Names that are defined twice.
 
 ghost use Rattle.std.specs.Prelude.{◌≡◌};
-ghost use Rattle.expressions.specs.Tree.{name_tree};
+ghost use Rattle.expression_trees.specs.Tree.{name_tree};
 ghost use Rattle.names.specs.Noted.{noted};
 ghost use Rattle.object_rules.specs.Repeated as spec;
 
-use expressions::Name;
+use expression_trees::Name;
 use lexer::DEFINED_TWICE;
 use names::{Breach, Table, find, note};
 

@@ -2,14 +2,14 @@
 
 ghost use Rattle.std.specs.Prelude.{◌≡◌, ◌%◌, ◌<◌, ◌^◌, ℕ, IfOk, OnOk, length, map, slice_index_or};
 ghost use Rattle.std.specs.Option.{option_map};
-ghost use Rattle.expressions.specs.Tree.{name_tree};
+ghost use Rattle.expression_trees.specs.Tree.{name_tree};
 ghost use Rattle.directives.specs.Tree.{object_tree, directive_tree};
-ghost use Rattle.names.specs.Noted.{noted};
 ghost use Rattle.meaning.specs.Resolved.{object_of};
+ghost use Rattle.names.specs.Noted.{noted};
 ghost use Rattle.object_rules.specs.Files.{object_trees};
 ghost use Rattle.object_rules.specs.Objects as spec;
 
-use expressions::Name;
+use expression_trees::Name;
 use lexer::{Position, UNKNOWN_NAME, WRONG_KIND};
 use meaning::CheckedObject;
 use names::{Binding, Breach, Table, find, note};

@@ -11,8 +11,8 @@ use Rattle.zcore.specs.declared.instruction.Operation.TheVariants.{ClearAttribut
 use Rattle.zcore.specs.declared.instruction.Operation.TheVariants.{GetPropertyLength, InsertObject, RemoveObject}
 use Rattle.zcore.specs.declared.instruction.Operation.TheVariants.{PrintObject}
 use Rattle.zcore.specs.Instruction.{Instruction}
-use Rattle.expressions.specs.declared.tree.Relative.{Relative}
-use Rattle.expressions.specs.declared.tree.Relative.TheVariants as relatives
+use Rattle.expression_trees.specs.declared.tree.Relative.{Relative}
+use Rattle.expression_trees.specs.declared.tree.Relative.TheVariants as relatives
 use Rattle.meaning.specs.declared.cause.Cause.{Cause}
 use Rattle.meaning.specs.declared.cause.Cause.TheVariants as causes
 use Rattle.meaning.specs.declared.resolved.Variable as source

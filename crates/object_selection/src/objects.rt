@@ -5,10 +5,10 @@ ghost use Rattle.zcore.specs.declared.instruction.Operand.TheVariants.{Small};
 ghost use Rattle.meaning.specs.declared.cause.Cause.TheVariants.{NotAnObject};
 ghost use Rattle.drafts.specs.Code.{as_operand, as_destination};
 ghost use Rattle.encoding.specs.Instructions.{pulled_into};
-ghost use Rattle.instructions.specs.Instructions.{tested_between};
 ghost use Rattle.encoding.specs.Instructions as basic;
 ghost use Rattle.encoding.specs.Bytes.{AddsCode};
 ghost use Rattle.encoding.specs.Written.{addresses_of, instruction_of};
+ghost use Rattle.instructions.specs.Instructions.{tested_between};
 ghost use Rattle.object_selection.specs.ObjectCode.{at_object, tests_in};
 ghost use Rattle.object_selection.specs.ObjectCode as spec;
 ghost use Rattle.object_selection.specs.Written.{objects_in, found_in};
@@ -18,7 +18,7 @@ use encoding::{
     Addresses, FIRST, Instruction, Operands, ShortBranch, Sizes, giving, plain, put_all, result_in,
     variable_number,
 };
-use expressions::Relative;
+use expression_trees::Relative;
 use instructions::{
     FIRST_NEGATIVE, put_fail, put_labelled, put_pulled, put_tested_between, word_in,
 };

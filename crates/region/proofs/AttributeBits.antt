@@ -1,6 +1,6 @@
 -- The bits of a byte of attributes, and tests of two numbers.
-use Rattle.std.proofs.Common.{◌≡◌, ◌≢◌, ◌==◌, ◌&&◌, ◌≤◌, ◌<◌, ◌+◌, ◌-◌, ◌%◌, ◌^◌, ℕ, Bool, true, false}
-use Rattle.std.proofs.Common.{if◌then◌else◌, ap, ◌∙◌, arith, inl, inr, w8}
+use Rattle.std.proofs.Common.{◌≡◌, ◌≢◌, ◌==◌, ◌&&◌, ◌≤◌, ◌<◌, ◌+◌, ◌-◌, ◌%◌, ◌^◌, ℕ, Bool, true, false, if◌then◌else◌}
+use Rattle.std.proofs.Common.{ap, ◌∙◌, arith, inl, inr, w8}
 use Rattle.std.specs.Int.{bit_at}
 use Rattle.std.proofs.lemmas.Bool.{cases_order, eq-eqb, ne_eqb}
 use Rattle.std.proofs.lemmas.Nat.{pow_below}

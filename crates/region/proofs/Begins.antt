@@ -1,21 +1,20 @@
 -- An object table that was written holds the objects with which a source begins.
-use Rattle.std.proofs.Common.{◌≡◌, ◌==◌, ◌||◌, ◌≤◌, ◌<◌, ◌+◌, ◌-◌, ◌*◌, ◌/◌, ℕ, suc, nat_le, Bool}
-use Rattle.std.proofs.Common.{true, false, if◌then◌else◌, List, [], ◌∷◌, ◌++◌, length, refl, ap}
-use Rattle.std.proofs.Common.{sym, ◌∙◌, arith, subst, inl, inr}
+use Rattle.std.proofs.Common.{◌≡◌, ◌==◌, ◌||◌, ◌≤◌, ◌<◌, ◌+◌, ◌-◌, ◌*◌, ◌/◌, ℕ, suc, nat_le, Bool, true, false}
+use Rattle.std.proofs.Common.{if◌then◌else◌, List, [], ◌∷◌, ◌++◌, length, refl, ap, sym, ◌∙◌, arith, subst, inl, inr}
 use Rattle.std.specs.Prelude.{map, take}
 use Rattle.std.specs.List.{All, flat_map, list_all}
 use Rattle.std.proofs.lemmas.Bool.{cases_eq, le-leb, and_from}
 use Rattle.std.proofs.lemmas.List.{length-append, length-map, get_or-map}
 use Rattle.std.proofs.lemmas.List.Elements.{All-head, All-tail}
-use Rattle.lexer.specs.Printable.{IsPrintable}
 use Rattle.ztext.specs.Alphabets.{is_printable}
-use Rattle.zcore.specs.Entries.{object_entry, is_set}
-use Rattle.zcore.specs.Header.{defaults_of, static_base_of}
 use Rattle.ztext.specs.Text.{Holds}
 use Rattle.ztext.proofs.Holding.{holds_append}
+use Rattle.zcore.specs.Entries.{object_entry, is_set}
+use Rattle.zcore.specs.Header.{defaults_of, static_base_of}
 use Rattle.tables.specs.Rows.{word}
 use Rattle.tables.proofs.Listed.{length_words}
 use Rattle.tables.proofs.Written.{byte_of}
+use Rattle.lexer.specs.Printable.{IsPrintable}
 use Rattle.meaning.specs.Accepted.{IsObject}
 use Rattle.meaning.specs.Forests.{IsObjectNumber}
 use Rattle.meaning.specs.Objects.{ObjectOf, no_object, object_at, first_objects, words_in}

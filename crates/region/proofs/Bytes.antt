@@ -1,13 +1,12 @@
 -- Bytes and words that are written.
 use Rattle.std.proofs.Common.{◌≡◌, ◌≢◌, ◌⊎◌, inl, inr, ℕ, zero, suc, ◌+◌, ◌-◌, ◌*◌, ◌/◌, ◌%◌, ◌<◌, ◌≤◌, List, [], ◌∷◌}
-use Rattle.std.proofs.Common.{◌++◌}
-use Rattle.std.proofs.Common.{length, drop, slice_index, slice_set, refl, ap, sym, ◌∙◌, arith, subst}
+use Rattle.std.proofs.Common.{◌++◌, length, drop, slice_index, slice_set, refl, ap, sym, ◌∙◌, arith, subst}
 use Rattle.std.proofs.lemmas.List.{length-set, get_or-set_same, get_or-set_other, ext_get_or, get_or-drop, length-drop}
 use Rattle.std.proofs.lemmas.List.{set-append_left}
 use Rattle.ztext.specs.Bytes.{word_at}
-use Rattle.zcore.specs.Parts.{with_word}
 use Rattle.ztext.specs.Text.{Holds}
 use Rattle.ztext.proofs.Holding.{holds_byte, byte_holds}
+use Rattle.zcore.specs.Parts.{with_word}
 
 module _ (memory : List ℕ) (at word : ℕ) where
   pub length_with : length (with_word memory at word) ≡ length memory

@@ -1,12 +1,12 @@
 -- What stands in memory as before where its bytes are as before.
-use Rattle.std.proofs.Common.{◌≡◌, ◌≤◌, ◌<◌, ◌+◌, ◌-◌, ◌*◌, ℕ, List, length, slice_index, ap, sym, ◌∙◌}
-use Rattle.std.proofs.Common.{arith, subst, inl, inr, ◌⊎◌}
+use Rattle.std.proofs.Common.{◌≡◌, ◌≤◌, ◌<◌, ◌+◌, ◌-◌, ◌*◌, ℕ, List, length, slice_index, ap, sym, ◌∙◌, arith, subst}
+use Rattle.std.proofs.Common.{inl, inr, ◌⊎◌}
 use Rattle.std.specs.List.{flat_map}
 use Rattle.std.proofs.lemmas.Bool.{cases_order}
 use Rattle.ztext.specs.Bytes.{word_at}
+use Rattle.ztext.specs.Text.{Holds}
 use Rattle.zcore.specs.Entries.{owner, object_entry, place_of, properties_place, attribute_place, is_set}
 use Rattle.zcore.specs.Header.{defaults_of, static_base_of}
-use Rattle.ztext.specs.Text.{Holds}
 use Rattle.meaning.specs.Forests.{IsObjectNumber}
 use Rattle.meaning.specs.Objects.{Objects, ObjectOf}
 use Rattle.region.specs.Links.{links_of}

@@ -1,7 +1,6 @@
 -- The opcodes on links, in memory that holds objects.
-use Rattle.std.proofs.Common.{◌≡◌, ◌==◌, ◌+◌, ◌-◌, ◌*◌, ◌/◌, ℕ, List, length, slice_index, Option, refl, ap}
-use Rattle.std.proofs.Common.{◌∙◌, arith, subst, inl, inr}
-use Rattle.expressions.specs.declared.tree.Relative.TheVariants as relatives
+use Rattle.std.proofs.Common.{◌≡◌, ◌==◌, ◌+◌, ◌-◌, ◌*◌, ◌/◌, ℕ, List, length, slice_index, Option, refl, ap, ◌∙◌, arith}
+use Rattle.std.proofs.Common.{subst, inl, inr}
 use Rattle.zcore.specs.declared.instruction.Branch.{Branch}
 use Rattle.zcore.specs.declared.next.Next.{Next}
 use Rattle.zcore.specs.Effects.{give_result}
@@ -11,6 +10,7 @@ use Rattle.zcore.specs.Objects.{jump_if_in, get_parent, get_child, get_sibling, 
 use Rattle.zcore.specs.Objects.{insert_object}
 use Rattle.zcore.specs.Parts.{branch_on}
 use Rattle.zcore.specs.State.{State}
+use Rattle.expression_trees.specs.declared.tree.Relative.TheVariants as relatives
 use Rattle.meaning.specs.Forests.{IsObjectNumber, IsForest}
 use Rattle.meaning.specs.Objects.{Tree, Objects, ObjectOf, relative_in, removed, moved}
 use Rattle.meaning.proofs.Forests.{removed_forest, inserted_forest}

@@ -1,16 +1,15 @@
 -- Property lists that stand in memory.
 use Rattle.std.proofs.Common.{◌≡◌, ◌==◌, ◌+◌, ◌-◌, ◌*◌, ◌/◌, ◌%◌, ◌≤◌, ◌<◌, ℕ, zero, suc, nat_lt, Bool, true, false}
-use Rattle.std.proofs.Common.{if◌then◌else◌, List, [], ◌∷◌, length, slice_index, Some, None, refl, ap}
-use Rattle.std.proofs.Common.{sym, ◌∙◌, arith, subst, inl, inr}
+use Rattle.std.proofs.Common.{if◌then◌else◌, List, [], ◌∷◌, length, slice_index, Some, None, refl, ap, sym, ◌∙◌, arith}
+use Rattle.std.proofs.Common.{subst, inl, inr}
 use Rattle.std.specs.List.{All, flat_map}
 use Rattle.std.proofs.lemmas.Bool.{cases_eq, ne_eqb, lt-ltb, le-ltb}
 use Rattle.std.proofs.lemmas.List.{length-append}
 use Rattle.std.proofs.lemmas.List.Elements.{All-head, All-tail}
-use Rattle.zcore.specs.ObjectProperties.{size_before}
-use Rattle.zcore.specs.Properties.{Property, Standing, Terminator, Listed, long_size, standing, found_at}
-use Rattle.zcore.specs.Properties.{found_in}
 use Rattle.ztext.specs.Text.{Holds}
 use Rattle.ztext.proofs.Holding.{holds_byte, holds_append}
+use Rattle.zcore.specs.ObjectProperties.{size_before}
+use Rattle.zcore.specs.Properties.{Property, Standing, Terminator, Listed, long_size, standing, found_at, found_in}
 use Rattle.tables.specs.Rows.{word}
 use Rattle.tables.proofs.Listed.{length_words}
 use Rattle.meaning.specs.Objects.{words_in}

@@ -1,12 +1,13 @@
 -- The opcode that prints a short name, in memory that holds objects.
-use Rattle.std.proofs.Common.{◌≡◌, ◌≤◌, ◌<◌, ◌+◌, ◌*◌, ◌-◌, ◌%◌, ◌^◌, ℕ, nat_le, Bool, true, if◌then◌else◌}
-use Rattle.std.proofs.Common.{List, [], ◌∷◌, ◌++◌, length, slice_index, Ok, refl, ap, sym, ◌∙◌, arith, append-nil, inl}
-use Rattle.std.proofs.Common.{inr}
+use Rattle.std.proofs.Common.{◌≡◌, ◌≤◌, ◌<◌, ◌+◌, ◌*◌, ◌-◌, ◌%◌, ◌^◌, ℕ, nat_le, Bool, true, if◌then◌else◌, List, []}
+use Rattle.std.proofs.Common.{◌∷◌, ◌++◌, length, slice_index, Ok, refl, ap, sym, ◌∙◌, arith, append-nil, inl, inr}
 use Rattle.std.specs.Prelude.{map, replicate, take}
 use Rattle.std.specs.List.{list_all}
 use Rattle.std.proofs.lemmas.Bool.{eq-eqb, ne_eqb, le-leb, cases_eq}
 use Rattle.std.proofs.lemmas.List.{length-append, length-replicate}
 use Rattle.ztext.specs.Alphabets.{is_printable, spelled}
+use Rattle.ztext.specs.Text.{Holds, encoded, decoded}
+use Rattle.ztext.specs.Words.{missing, packed, padded}
 use Rattle.zcore.specs.declared.next.Next.{Next}
 use Rattle.zcore.specs.declared.place.Limit.TheVariants as limits
 use Rattle.zcore.specs.declared.place.Place.TheVariants as places
@@ -14,8 +15,6 @@ use Rattle.zcore.specs.Effects.{read_text, text_at, print_characters, print_addr
 use Rattle.zcore.specs.Objects.{print_name, print_object}
 use Rattle.zcore.specs.Parts.{goes_on, print}
 use Rattle.zcore.specs.State.{State, done, halt, bound}
-use Rattle.ztext.specs.Text.{Holds, encoded, decoded}
-use Rattle.ztext.specs.Words.{missing, packed, padded}
 use Rattle.tables.specs.Rows.{name_bytes, name_words}
 use Rattle.tables.proofs.Names.{name_read, name_even}
 use Rattle.meaning.specs.Forests.{IsObjectNumber}

@@ -1,7 +1,7 @@
 -- Places of links in the bytes of entries.
 use Rattle.std.proofs.Common.{◌≡◌, ◌==◌, ◌≤◌, ◌<◌, ◌+◌, ◌*◌, ℕ, zero, suc, nat_le, Bool, true, false, if◌then◌else◌}
-use Rattle.std.proofs.Common.{List, length, slice_index, Option, Some, None, refl, ap, sym, ◌∙◌, arith, subst, inl}
-use Rattle.std.proofs.Common.{inr, ◌⊎◌}
+use Rattle.std.proofs.Common.{List, length, slice_index, Option, Some, None, refl, ap, sym, ◌∙◌, arith, subst, inl, inr}
+use Rattle.std.proofs.Common.{◌⊎◌}
 use Rattle.std.proofs.lemmas.Bool.{cases_order, and_from, le-leb}
 use Rattle.ztext.specs.Bytes.{word_at}
 use Rattle.zcore.specs.Entries.{Link, Parent, Sibling, Child, owner, object_entry, has_entry, place_of, named_from}

@@ -1,10 +1,11 @@
 -- The opcodes that read properties, in memory that holds objects.
-use Rattle.std.proofs.Common.{◌≡◌, ◌==◌, ◌≤◌, ◌<◌, ◌+◌, ◌-◌, ◌*◌, ◌%◌, ℕ, nat_le, Bool, false, List}
-use Rattle.std.proofs.Common.{if◌then◌else◌, [], ◌∷◌, length, slice_index, Option, Some, None, ap, sym, ◌∙◌, arith}
-use Rattle.std.proofs.Common.{subst, zero, suc}
+use Rattle.std.proofs.Common.{◌≡◌, ◌==◌, ◌≤◌, ◌<◌, ◌+◌, ◌-◌, ◌*◌, ◌%◌, ℕ, nat_le, Bool, false, List, if◌then◌else◌, []}
+use Rattle.std.proofs.Common.{◌∷◌, length, slice_index, Option, Some, None, ap, sym, ◌∙◌, arith, subst, zero, suc}
 use Rattle.std.proofs.lemmas.Bool.{ne_eqb, le-leb, and_from}
 use Rattle.std.specs.List.{flat_map}
 use Rattle.ztext.specs.Bytes.{word_at}
+use Rattle.ztext.specs.Text.{Holds}
+use Rattle.ztext.proofs.Holding.{holds_append}
 use Rattle.zcore.specs.declared.next.Next.{Next}
 use Rattle.zcore.specs.declared.place.Fault.TheVariants as faults
 use Rattle.zcore.specs.Effects.{give_result}
@@ -18,8 +19,6 @@ use Rattle.zcore.specs.Objects.{property_table}
 use Rattle.zcore.specs.Parts.{test, read_byte, read_word}
 use Rattle.zcore.specs.Properties.{Property, list_start}
 use Rattle.zcore.specs.State.{State, done, ◌>>=◌}
-use Rattle.ztext.specs.Text.{Holds}
-use Rattle.ztext.proofs.Holding.{holds_append}
 use Rattle.tables.specs.Rows.{word}
 use Rattle.tables.proofs.Listed.{word_held}
 use Rattle.meaning.specs.Forests.{IsObjectNumber}

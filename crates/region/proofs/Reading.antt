@@ -1,8 +1,8 @@
 -- What links tell of the tree that they hold.
 use Rattle.std.proofs.Common.{◌≡◌, ℕ, List, [], ◌∷◌, refl, ap, sym, subst, ◌∙◌, inl, inr}
 use Rattle.std.proofs.lemmas.Bool.{cases_eq}
-use Rattle.expressions.specs.declared.tree.Relative.TheVariants as relatives
 use Rattle.zcore.specs.Entries.{Link, Parent, Sibling, Child, owner}
+use Rattle.expression_trees.specs.declared.tree.Relative.TheVariants as relatives
 use Rattle.meaning.specs.Objects.{Tree, first_of, behind_in, relative_in}
 use Rattle.meaning.specs.Forests.{Among, Once, IsObjectNumber, IsForest}
 use Rattle.meaning.proofs.ObjectLists.{if_same, if_other}

@@ -1,20 +1,19 @@
 -- A word of a property that is stored, in memory that holds objects.
-use Rattle.std.proofs.Common.{◌≡◌, ◌≢◌, ◌≤◌, ◌<◌, ◌+◌, ◌-◌, ◌*◌, ◌%◌, ℕ, List}
-use Rattle.std.proofs.Common.{length, slice_index, slice_set, Some, ap, sym}
-use Rattle.std.proofs.Common.{◌∙◌, arith, subst, inl, inr}
+use Rattle.std.proofs.Common.{◌≡◌, ◌≢◌, ◌≤◌, ◌<◌, ◌+◌, ◌-◌, ◌*◌, ◌%◌, ℕ, List, length, slice_index, slice_set, Some, ap}
+use Rattle.std.proofs.Common.{sym, ◌∙◌, arith, subst, inl, inr}
 use Rattle.std.specs.Prelude.{take}
 use Rattle.std.specs.List.{flat_map}
 use Rattle.std.proofs.lemmas.Bool.{cases_eq}
 use Rattle.std.proofs.lemmas.List.{length-append, length-set, get_or-set_same, get_or-set_other}
 use Rattle.std.proofs.lemmas.List.Elements.{All-set}
 use Rattle.std.proofs.lemmas.List.Folds.{length-flat_map-take}
+use Rattle.ztext.specs.Text.{Holds}
 use Rattle.zcore.specs.declared.next.Next.{Next}
 use Rattle.zcore.specs.Entries.{owner, place_of, properties_place}
 use Rattle.zcore.specs.Execution.{store_word}
 use Rattle.zcore.specs.Header.{defaults_of, static_base_of}
 use Rattle.zcore.specs.Parts.{write_word, with_word}
 use Rattle.zcore.specs.State.{State}
-use Rattle.ztext.specs.Text.{Holds}
 use Rattle.tables.specs.Rows.{name_bytes}
 use Rattle.tables.proofs.Names.{name_even}
 use Rattle.meaning.specs.Forests.{IsObjectNumber}

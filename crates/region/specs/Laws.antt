@@ -3,6 +3,7 @@
 use Rattle.std.specs.Prelude.{◌≡◌, ◌==◌, ◌+◌, ◌-◌, ◌*◌, ◌<◌, ◌≤◌, ℕ, true, false, List, [], ◌∷◌, length, map}
 use Rattle.std.specs.Prelude.{slice_index, slice_set, Option, Some, None}
 use Rattle.std.specs.List.{All}
+use Rattle.ztext.specs.Text.{Holds}
 use Rattle.zcore.specs.declared.instruction.Branch.{Branch}
 use Rattle.zcore.specs.declared.next.Next.{Next}
 use Rattle.zcore.specs.Effects.{give_result, print_characters}
@@ -13,9 +14,8 @@ use Rattle.zcore.specs.Objects.{get_sibling, give_object, remove_object, insert_
 use Rattle.zcore.specs.ObjectProperties.{get_property, get_property_address, get_property_length}
 use Rattle.zcore.specs.Parts.{branch_on}
 use Rattle.zcore.specs.State.{State, Out, done}
-use Rattle.ztext.specs.Text.{Holds}
-use Rattle.expressions.specs.declared.tree.Relative.TheVariants as relatives
 use Rattle.lexer.specs.Printable.{IsPrintable}
+use Rattle.expression_trees.specs.declared.tree.Relative.TheVariants as relatives
 use Rattle.meaning.specs.Accepted.{IsObject}
 use Rattle.meaning.specs.Forests.{IsObjectNumber}
 use Rattle.meaning.specs.Objects.{Objects, ObjectOf, object_at, relative_in, first_objects, with_attribute, with_words}

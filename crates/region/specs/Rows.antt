@@ -2,9 +2,9 @@
 -- 1.1, section 12).
 use Rattle.std.specs.Prelude.{◌+◌, ◌*◌, ◌==◌, ℕ, suc, if◌then◌else◌, List, [], ◌∷◌, ◌++◌, map, length}
 use Rattle.std.specs.List.{list_any, flat_map}
-use Rattle.expressions.specs.declared.tree.Relative.TheVariants as relatives
 use Rattle.tables.specs.declared.row.ObjectRow.{ObjectRow}
 use Rattle.tables.specs.Rows.{word}
+use Rattle.expression_trees.specs.declared.tree.Relative.TheVariants as relatives
 use Rattle.meaning.specs.Objects.{ObjectOf, relative_in, first_objects}
 use Rattle.meaning.specs.Places.{machine_character}
 use Rattle.region.specs.Tables.{Table, table_bytes}

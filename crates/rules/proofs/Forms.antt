@@ -1,32 +1,32 @@
 -- Lists of statements, cases and their parts: what they break and what they resolve to, part by part.
-use Rattle.std.proofs.Common.{◌≡◌, List, [], ◌∷◌, ◌++◌, append_assoc, Option, Some, None, refl, sym, ap, ◌∙◌}
-use Rattle.std.proofs.Common.{subst}
+use Rattle.std.proofs.Common.{◌≡◌, List, [], ◌∷◌, ◌++◌, append_assoc, Option, Some, None, refl, sym, ap, ◌∙◌, subst}
 use Rattle.std.specs.Prelude.{map}
 use Rattle.std.specs.Global.{Vec}
 use Rattle.std.specs.List.{flat_map}
 use Rattle.lexer.specs.declared.token.Position.{Position}
-use Rattle.expressions.specs.Tree.{ExpressionTree}
+use Rattle.expression_trees.specs.Tree.{ExpressionTree}
+use Rattle.statement_parts.specs.declared.tree.Range.{Range}
+use Rattle.statement_parts.specs.Tree.{range_tree}
 use Rattle.statements.specs.declared.tree.Statement.{Statement}
-use Rattle.statements.specs.declared.tree.Range.{Range}
-use Rattle.statements.specs.Tree.{StatementTree, statement_tree, range_tree, case_tree}
-use Rattle.meaning.proofs.Mapped.{mapped_twice}
+use Rattle.statements.specs.Tree.{StatementTree, statement_tree, case_tree}
 use Rattle.statements.specs.Tree as written
+use Rattle.meaning.proofs.Mapped.{mapped_twice}
 use Rattle.meaning.specs.declared.around.Around.{Around}
-use Rattle.names.specs.declared.breach.Breach.{Breach}
-use Rattle.names.specs.Noted.{noted}
-use Rattle.names.specs.Names.{Seen}
 use Rattle.meaning.specs.Resolved as values
 use Rattle.meaning.specs.declared.resolved.Action as code_action
 use Rattle.meaning.specs.declared.resolved.Span.{Span}
 use Rattle.meaning.specs.Resolved.{Value, RangeOf, Action, Actions, range_of, actions_of, action_of, case_of}
+use Rattle.meaning.specs.Around.{in_switch}
+use Rattle.names.specs.declared.breach.Breach.{Breach}
+use Rattle.names.specs.Noted.{noted}
+use Rattle.names.specs.Names.{Seen}
+use Rattle.value_rules.specs.Walk.{IsWalked}
+use Rattle.value_rules.proofs.Walks.{two}
 use Rattle.simple_rules.specs.Statements.{range_breaches, resolve_range, statements_breaches, cases_breaches}
 use Rattle.simple_rules.specs.Statements.{resolve_statement, resolve_statements, resolve_cases}
-use Rattle.meaning.specs.Around.{in_switch}
-use Rattle.value_rules.specs.Walk.{IsWalked}
 use Rattle.simple_rules.specs.Walk.{own_range_breaches, resolved_range, IsWhole, IsAction, AreRanges}
 use Rattle.rules.specs.Walk.{AreActions, own_statement_breaches, resolved_statement, IsCase, AreCases, IsOther}
 use Rattle.rules.specs.Walk.{own_case_breaches, resolved_case, other_breaches, resolved_other}
-use Rattle.value_rules.proofs.Walks.{two}
 
 module _ (seen : Seen) where
   pub statements_break : (around : Around) (ss : List Statement)

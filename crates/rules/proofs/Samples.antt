@@ -1,16 +1,16 @@
 -- Rules of `objectloop`, and what it resolves to, computed.
 use Rattle.std.proofs.Common.{◌≡◌, true, [], refl}
 use Rattle.std.specs.Prelude.{codes}
-use Rattle.expressions.specs.declared.tree.ObjectTest.TheVariants as tests
-use Rattle.expressions.specs.Tree.{named, tested}
+use Rattle.expression_trees.specs.declared.tree.ObjectTest.TheVariants as tests
+use Rattle.expression_trees.specs.Tree.{named, tested}
 use Rattle.statements.specs.Tree.{each, each_in, each_where, break_at, empty}
 use Rattle.meaning.specs.Around.{outside}
 use Rattle.meaning.specs.declared.resolved.Variable.TheVariants as variables
 use Rattle.meaning.specs.Resolved as values
 use Rattle.names.specs.Breaches.{at}
 use Rattle.names.specs.Names.{key_of}
-use Rattle.simple_rules.specs.Statements.{statement_breaches, resolve_statement}
 use Rattle.value_rules.proofs.SampleFile.{p, the, look, seen, box}
+use Rattle.simple_rules.specs.Statements.{statement_breaches, resolve_statement}
 
 -- objectloop (g) break;
 loops : statement_breaches look outside (each (the 1 (codes "g")) (break_at (p 2))) ≡ []

@@ -3,18 +3,18 @@ use Rattle.std.proofs.Common.{◌≡◌, Option, sym, ap, ◌∙◌}
 use Rattle.std.specs.Prelude.{map}
 use Rattle.std.specs.Global.{Vec, Box}
 use Rattle.lexer.specs.declared.token.Position.{Position}
-use Rattle.expressions.specs.declared.tree.Expression.{Expression}
-use Rattle.expressions.specs.Tree.{expression_tree}
-use Rattle.statements.specs.declared.tree.Heading.{Heading}
-use Rattle.statements.specs.declared.tree.Loop.{Loop}
-use Rattle.statements.specs.declared.tree.Range.{Range}
+use Rattle.expression_trees.specs.declared.tree.Expression.{Expression}
+use Rattle.expression_trees.specs.Tree.{expression_tree}
+use Rattle.statement_parts.specs.declared.tree.Heading.{Heading}
+use Rattle.statement_parts.specs.declared.tree.Loop.{Loop}
+use Rattle.statement_parts.specs.declared.tree.Range.{Range}
+use Rattle.statement_parts.specs.Tree.{heading_tree, loop_tree}
 use Rattle.statements.specs.declared.tree.SimpleStatement.{SimpleStatement}
 use Rattle.statements.specs.declared.tree.Statement.{Statement}
 use Rattle.statements.specs.declared.tree.Statement.TheVariants as said
 use Rattle.statements.specs.declared.tree.Statement.TheFolds.{fold-roll-Statement}
 use Rattle.statements.specs.Tree as written
-use Rattle.statements.specs.Tree.{StatementTree, statement_tree, simple_tree, heading_tree, loop_tree, case_tree}
-use Rattle.statements.specs.Tree.{other_tree}
+use Rattle.statements.specs.Tree.{StatementTree, statement_tree, simple_tree, case_tree, other_tree}
 use Rattle.statements.proofs.Shapes.{is_switch}
 
 pub is_simple_statement : (s : Statement) (x : Box SimpleStatement) → s ≡ said.Simple x

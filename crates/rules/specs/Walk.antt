@@ -3,16 +3,16 @@ use Rattle.std.specs.Prelude.{List, [], ◌++◌, Option, Some, None, map}
 use Rattle.std.specs.Global.{Vec}
 use Rattle.std.specs.List.{flat_map}
 use Rattle.std.specs.Option.{option_map}
-use Rattle.statements.specs.declared.tree.Range.{Range}
+use Rattle.statement_parts.specs.declared.tree.Range.{Range}
 use Rattle.statements.specs.declared.tree.Statement.{Statement}
 use Rattle.statements.specs.Tree.{StatementTree, CaseTree, trees_of, statement_tree, case_tree}
 use Rattle.meaning.specs.declared.around.Around.{Around}
+use Rattle.meaning.specs.Resolved.{RangeOf, Action, Actions}
 use Rattle.names.specs.declared.breach.Breach.{Breach}
 use Rattle.names.specs.Names.{Seen}
-use Rattle.meaning.specs.Resolved.{RangeOf, Action, Actions}
+use Rattle.value_rules.specs.Walk.{IsWalked}
 use Rattle.simple_rules.specs.Statements.{range_breaches, resolve_range, statement_breaches, statements_breaches}
 use Rattle.simple_rules.specs.Statements.{resolve_statement, resolve_statements}
-use Rattle.value_rules.specs.Walk.{IsWalked}
 
 -- in a routine that sees so much of the file
 module _ (seen : Seen) where

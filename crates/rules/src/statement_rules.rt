@@ -1,21 +1,23 @@
 //! Statements, and those inside them: the rules that they can break, and what they resolve to.
 
 ghost use Rattle.std.specs.Prelude.{◌≡◌, IfOk, map};
-ghost use Rattle.expressions.specs.Tree.{expression_tree, name_tree};
+ghost use Rattle.expression_trees.specs.Tree.{expression_tree, name_tree};
+ghost use Rattle.statement_parts.specs.Tree.{heading_tree, loop_tree};
 ghost use Rattle.statements.specs.Tree as trees;
-ghost use Rattle.statements.specs.Tree.{statement_tree, trees_of, heading_tree, loop_tree, case_tree, other_tree};
+ghost use Rattle.statements.specs.Tree.{statement_tree, trees_of, case_tree, other_tree};
 ghost use Rattle.meaning.specs.Around.{in_switch};
-ghost use Rattle.names.specs.Scope.{seen_in};
 ghost use Rattle.meaning.specs.Resolved.{action_of, case_of, other_of};
+ghost use Rattle.names.specs.Scope.{seen_in};
 ghost use Rattle.simple_rules.specs.Walk.{IsAction, GivesAction};
 ghost use Rattle.rules.specs.Walk.{AreActions, IsCase, AreCases, IsOther};
 
-use expressions::{Expression, Name};
+use expression_trees::{Expression, Name};
 use lexer::Position;
 use meaning::{Action, Around, IN_LOOP, Span, in_switch};
 use names::{Breach, Scope};
 use simple_rules::{heading, loop_variable, ranges, simple, whole};
-use statements::{Heading, Loop, Range, Statement};
+use statement_parts::{Heading, Loop, Range};
+use statements::Statement;
 use std::alloc::{AllocError, Global};
 
 // A statement. The tree is the first argument of all these functions: there its lifetime has the place that it has where a

@@ -1,14 +1,14 @@
 -- The instructions of each item (Z-Machine Standards Document 1.1, sections 4 and 15): those on arrays and lines beside
 -- those on words and on objects.
-use Rattle.std.specs.Prelude.{◌+◌, ◌-◌, ◌/◌, ◌%◌, ◌&&◌, not, ℕ, nat_lt, Bool, List, [], ◌∷◌, ◌++◌, take, slice_index}
+use Rattle.std.specs.Prelude.{◌+◌, ◌-◌, ◌/◌, ◌%◌, ◌&&◌, ℕ, nat_lt, Bool, List, [], ◌∷◌, ◌++◌, take, slice_index}
 use Rattle.zcore.specs.declared.instruction.Operand.{Operand}
 use Rattle.zcore.specs.declared.instruction.Operand.TheVariants.{Large, Small}
 use Rattle.zcore.specs.declared.instruction.Operation.{Operation}
 use Rattle.zcore.specs.declared.instruction.Operation.TheVariants.{Print, Quit, NewLine, PrintNumber, LoadWord}
 use Rattle.zcore.specs.declared.instruction.Operation.TheVariants.{LoadByte, StoreWord, StoreByte, Read}
 use Rattle.zcore.specs.Instruction.{Instruction}
-use Rattle.expressions.specs.declared.tree.Width.{Width}
-use Rattle.expressions.specs.declared.tree.Width.TheVariants as widths
+use Rattle.expression_trees.specs.declared.tree.Width.{Width}
+use Rattle.expression_trees.specs.declared.tree.Width.TheVariants as widths
 use Rattle.meaning.specs.declared.cause.Cause.TheVariants as causes
 use Rattle.drafts.specs.Items.{Item, Destination}
 use Rattle.drafts.specs.Items as items

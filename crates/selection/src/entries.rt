@@ -8,8 +8,8 @@ ghost use Rattle.drafts.specs.Code.{as_operand, as_destination};
 ghost use Rattle.encoding.specs.Instructions as basic;
 ghost use Rattle.encoding.specs.Bytes.{AddsCode};
 ghost use Rattle.encoding.specs.Written.{addresses_of};
-ghost use Rattle.selection.specs.ItemCode.{tested_index, at_index, entry_code, assign_entry_code};
 ghost use Rattle.object_selection.specs.ObjectCode.{passed_on};
+ghost use Rattle.selection.specs.ItemCode.{tested_index, at_index, entry_code, assign_entry_code};
 ghost use Rattle.selection.specs.ItemCode as spec;
 
 use drafts::Destination;
@@ -17,7 +17,7 @@ use encoding::{
     Addresses, FIRST, Operands, SECOND, Sizes, array_address, constant, giving, in_place, plain,
     pull, push, put_all, result_in, store, variable_number,
 };
-use expressions::Width;
+use expression_trees::Width;
 use instructions::{FIRST_NEGATIVE, put_fail, put_tested_between};
 use meaning::Cause;
 use std::alloc::AllocError;

@@ -6,7 +6,8 @@ ghost use Rattle.drafts.specs.Code.{item_of, as_operand};
 ghost use Rattle.encoding.specs.Instructions as basic;
 ghost use Rattle.encoding.specs.Bytes.{Adds, AddsCode};
 ghost use Rattle.encoding.specs.Written.{addresses_of, sizes_in};
-ghost use Rattle.selection.specs.declared.kind.Kind.TheVariants.{Words, Printing, Tree, Properties, ByObject, Flow};
+ghost use Rattle.selection.specs.declared.kind.Kind.TheVariants.{Words, Printing, Tree, Properties};
+ghost use Rattle.selection.specs.declared.kind.Kind.TheVariants.{ByObject, Flow};
 ghost use Rattle.selection.specs.ItemCode as spec;
 ghost use Rattle.selection.specs.ItemBytes.{item_bytes};
 ghost use Rattle.selection.specs.Written.{kind_of};
@@ -16,7 +17,7 @@ use crate::kind::{Kind, kind_of};
 use crate::lines::put_read;
 use drafts::Item;
 use encoding::{Addresses, Operands, Sizes, in_place, plain, pull, put_all, routine_address};
-use expressions::Width;
+use expression_trees::Width;
 use instructions::{
     put_also_equal, put_binary, put_branch, put_call, put_case, put_character, put_choose,
     put_first_equal, put_jump, put_keep, put_move, put_prefix, put_return, put_step, put_text,

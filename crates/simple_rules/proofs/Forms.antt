@@ -2,16 +2,16 @@
 use Rattle.std.proofs.Common.{◌≡◌, ℕ, List, [], ◌∷◌, ◌++◌, Bool, Option, refl, sym, ap, ◌∙◌}
 use Rattle.std.specs.Prelude.{map}
 use Rattle.std.specs.List.{flat_map}
-use Rattle.expressions.specs.declared.tree.Name.{Name}
-use Rattle.statements.specs.declared.tree.PrintItem.{PrintItem}
-use Rattle.statements.specs.Tree.{flag_tree, item_tree}
+use Rattle.expression_trees.specs.declared.tree.Name.{Name}
+use Rattle.statement_parts.specs.declared.tree.PrintItem.{PrintItem}
+use Rattle.statement_parts.specs.Tree.{flag_tree, item_tree}
 use Rattle.meaning.proofs.Mapped.{mapped_twice}
+use Rattle.meaning.specs.Resolved.{Printed}
 use Rattle.names.specs.declared.breach.Breach.{Breach}
 use Rattle.names.specs.Noted.{noted}
 use Rattle.names.specs.Names.{Seen}
-use Rattle.meaning.specs.Resolved.{Printed}
-use Rattle.simple_rules.specs.Statements.{flag_breaches, resolve_flag, item_breaches, resolve_item}
 use Rattle.value_rules.specs.Walk.{IsWalked}
+use Rattle.simple_rules.specs.Statements.{flag_breaches, resolve_flag, item_breaches, resolve_item}
 use Rattle.simple_rules.specs.Walk.{AreItems, own_item_breaches, resolved_item, own_flag_breaches, resolved_flag}
 use Rattle.simple_rules.specs.Walk.{AreFlags}
 

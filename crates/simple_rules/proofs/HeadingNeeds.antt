@@ -1,7 +1,7 @@
 -- What the parts of a `for` need: those that are there are operands of one form.
 use Rattle.std.proofs.Common.{◌≡◌, nat_le, ◌&&◌, Option, Some, None, refl, arith}
 use Rattle.std.proofs.lemmas.Bool.Decides.{nat_tests}
-use Rattle.expressions.specs.Tree.{ExpressionTree}
+use Rattle.expression_trees.specs.Tree.{ExpressionTree}
 use Rattle.simple_rules.specs.Walk.{part_fits, room_behind}
 use Rattle.simple_rules.specs.Statements.{heading_need}
 

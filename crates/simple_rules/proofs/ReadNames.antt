@@ -1,15 +1,15 @@
 -- A `read`, by its two names.
 use Rattle.std.proofs.Common.{◌≡◌, ℕ, ◌++◌, Option, ap, ◌∙◌}
-use Rattle.expressions.specs.Tree.{NameTree}
+use Rattle.expression_trees.specs.Tree.{NameTree}
+use Rattle.meaning.specs.Resolved as values
 use Rattle.names.specs.declared.binding.Binding.{Binding}
 use Rattle.names.specs.declared.breach.Breach.{Breach}
-use Rattle.simple_rules.specs.Buffers.{buffer_breaches, same_breaches, read_breaches}
-use Rattle.value_rules.specs.Expressions.{array_of_binding}
 use Rattle.names.specs.Names.{Seen}
 use Rattle.names.specs.Noted.{noted}
-use Rattle.meaning.specs.Resolved as values
-use Rattle.value_rules.specs.Walk.{IsWalked}
 use Rattle.names.proofs.Noted.{noted_two}
+use Rattle.value_rules.specs.Expressions.{array_of_binding}
+use Rattle.value_rules.specs.Walk.{IsWalked}
+use Rattle.simple_rules.specs.Buffers.{buffer_breaches, same_breaches, read_breaches}
 
 pub read_walked : (seen : Seen) (n m : NameTree) (first second : Option Binding) (a b : ℕ)
     {x y z w : Option Breach}

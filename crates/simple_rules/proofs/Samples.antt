@@ -1,15 +1,15 @@
 -- Rules of `give`, `move` and `remove`, and what these resolve to, computed.
 use Rattle.std.proofs.Common.{◌≡◌, ℕ, zero, suc, true, false, [], ◌∷◌, refl}
 use Rattle.std.specs.Prelude.{codes}
-use Rattle.expressions.specs.declared.tree.Binary.TheVariants as op
-use Rattle.expressions.specs.Tree.{ExpressionTree, constant, parenthesised, binary}
+use Rattle.expression_trees.specs.declared.tree.Binary.TheVariants as op
+use Rattle.expression_trees.specs.Tree.{ExpressionTree, constant, parenthesised, binary}
 use Rattle.statements.specs.Tree.{give, move, remove}
 use Rattle.meaning.specs.Around.{outside}
 use Rattle.meaning.specs.Resolved as values
 use Rattle.names.specs.Breaches.{at}
 use Rattle.names.specs.Names.{key_of}
-use Rattle.simple_rules.specs.Statements.{statement_breaches, resolve_statement}
 use Rattle.value_rules.proofs.SampleFile.{p, the, look, seen, box}
+use Rattle.simple_rules.specs.Statements.{statement_breaches, resolve_statement}
 
 -- 1 + (1 + (1 + ..)), which needs one more than it has operators
 abbrev sum : ℕ → ExpressionTree

@@ -4,30 +4,31 @@ use Rattle.std.specs.List.{flat_map}
 use Rattle.std.specs.Option.{option_map}
 use Rattle.lexer.specs.declared.fault.TheConstants.{BREAK_OUTSIDE, EXPRESSION_TOO_LARGE, UNKNOWN_NAME, WRONG_KIND}
 use Rattle.lexer.specs.declared.token.Position.{Position}
-use Rattle.expressions.specs.Tree.{NameTree, ExpressionTree}
+use Rattle.expression_trees.specs.Tree.{NameTree, ExpressionTree}
+use Rattle.statement_parts.specs.Tree as parts
+use Rattle.statement_parts.specs.Tree.{LiteralTree, RangeTree, FlagTree, PrintItemTree, HeadingTree}
 use Rattle.statements.specs.Tree as trees
-use Rattle.statements.specs.Tree.{LiteralTree, RangeTree, FlagTree, PrintItemTree, HeadingTree, StatementTree}
-use Rattle.statements.specs.Tree.{StatementTrees, CaseTrees}
+use Rattle.statements.specs.Tree.{StatementTree, StatementTrees, CaseTrees}
 use Rattle.meaning.specs.declared.around.Around.{Around}
 use Rattle.meaning.specs.Around.{in_loop, in_switch}
 use Rattle.meaning.specs.declared.resolved.Variable.{Variable}
-use Rattle.names.specs.declared.binding.Binding.{Binding}
-use Rattle.names.specs.declared.binding.Binding.TheVariants as bindings
-use Rattle.names.specs.declared.breach.Breach.{Breach}
-use Rattle.names.specs.Breaches.{at}
-use Rattle.value_rules.specs.Literals.{constant_breaches}
-use Rattle.names.specs.Keys.{key_of_word, value_of_known, or_zero}
-use Rattle.simple_rules.specs.Buffers.{read_breaches}
-use Rattle.names.specs.Names.{constant_known, Seen}
-use Rattle.value_rules.specs.Temporaries.{need}
 use Rattle.meaning.specs.Operands.{operands}
 use Rattle.meaning.specs.Resolved.{RangeOf, one, between, Printed, text, character_of, number_of, Action, Actions}
 use Rattle.meaning.specs.Resolved.{CasesOf, empty, block, text_alone, print, print_return, new_line, if_then, if_else}
 use Rattle.meaning.specs.Resolved.{while_do, do_until, for_loop, switch_on, break_out, continue_on, read_line}
 use Rattle.meaning.specs.Resolved.{return_value, quit, effect, stop, next, no_case, default_case, case, number, name_of}
 use Rattle.meaning.specs.Resolved.{give_to, move_to, remove_from, each_object, each_in, each_where}
+use Rattle.names.specs.declared.binding.Binding.{Binding}
+use Rattle.names.specs.declared.binding.Binding.TheVariants as bindings
+use Rattle.names.specs.declared.breach.Breach.{Breach}
+use Rattle.names.specs.Breaches.{at}
+use Rattle.names.specs.Keys.{key_of_word, value_of_known, or_zero}
+use Rattle.names.specs.Names.{constant_known, Seen}
+use Rattle.value_rules.specs.Literals.{constant_breaches}
+use Rattle.value_rules.specs.Temporaries.{need}
 use Rattle.value_rules.specs.Expressions.{breaches, attribute_breaches, array_of_binding, attribute_of_binding}
 use Rattle.value_rules.specs.Expressions.{variable_of_binding, resolve}
+use Rattle.simple_rules.specs.Buffers.{read_breaches}
 
 -- `break` may stand in a loop or a `switch`, `continue` in a loop; in the body of a routine neither may
 
@@ -84,9 +85,9 @@ module _ (look : List ℕ → Option Binding) where
 
   -- a value of a case: a name in it is a constant, and a local hides one
   abbrev pub known_breaches : LiteralTree → List Breach
-  known_breaches (trees.number_value n) = []
-  known_breaches (trees.word_value s) = []
-  known_breaches (trees.named_value n) = constant_breaches n.position (look n.text)
+  known_breaches (parts.number_value n) = []
+  known_breaches (parts.word_value s) = []
+  known_breaches (parts.named_value n) = constant_breaches n.position (look n.text)
 
   abbrev pub high_breaches : Option LiteralTree → List Breach
   high_breaches None = []
@@ -96,10 +97,10 @@ module _ (look : List ℕ → Option Binding) where
   range_breaches g = known_breaches g.low ++ high_breaches g.high
 
   abbrev pub item_breaches : PrintItemTree → List Breach
-  item_breaches (trees.text_item s) = []
-  item_breaches (trees.character_item p e) = whole_breaches p e
-  item_breaches (trees.object_item p e) = whole_breaches p e
-  item_breaches (trees.number_item p e) = whole_breaches p e
+  item_breaches (parts.text_item s) = []
+  item_breaches (parts.character_item p e) = whole_breaches p e
+  item_breaches (parts.object_item p e) = whole_breaches p e
+  item_breaches (parts.number_item p e) = whole_breaches p e
 
   -- an attribute of a `give`
   abbrev pub flag_breaches : FlagTree → List Breach
@@ -156,9 +157,9 @@ module _ (look : List ℕ → Option Binding) where
 -- Resolving, in a routine that sees so much of the file
 module _ (seen : Seen) where
   abbrev pub known_number : LiteralTree → ℕ
-  known_number (trees.number_value n) = n
-  known_number (trees.word_value s) = seen.number (key_of_word s)
-  known_number (trees.named_value n) = value_of_known seen.number (or_zero (constant_known (seen.look n.text)))
+  known_number (parts.number_value n) = n
+  known_number (parts.word_value s) = seen.number (key_of_word s)
+  known_number (parts.named_value n) = value_of_known seen.number (or_zero (constant_known (seen.look n.text)))
 
   abbrev pub range_to : ℕ → Option LiteralTree → RangeOf
   range_to low None = one low
@@ -168,10 +169,10 @@ module _ (seen : Seen) where
   resolve_range g = range_to (known_number g.low) g.high
 
   abbrev pub resolve_item : PrintItemTree → Printed
-  resolve_item (trees.text_item s) = text s
-  resolve_item (trees.character_item p e) = character_of (resolve seen e)
-  resolve_item (trees.object_item p e) = name_of (resolve seen e)
-  resolve_item (trees.number_item p e) = number_of (resolve seen e)
+  resolve_item (parts.text_item s) = text s
+  resolve_item (parts.character_item p e) = character_of (resolve seen e)
+  resolve_item (parts.object_item p e) = name_of (resolve seen e)
+  resolve_item (parts.number_item p e) = number_of (resolve seen e)
 
   -- an attribute of a `give`, and whether it is set
   abbrev pub resolve_flag : FlagTree → Bool × ℕ

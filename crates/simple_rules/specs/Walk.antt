@@ -3,24 +3,24 @@ use Rattle.std.specs.Prelude.{ℕ, Bool, List, ◌++◌, Option, Some, None, map
 use Rattle.std.specs.List.{flat_map}
 use Rattle.std.specs.Option.{option_map}
 use Rattle.lexer.specs.declared.token.Position.{Position}
-use Rattle.expressions.specs.declared.tree.Name.{Name}
-use Rattle.expressions.specs.Tree.{ExpressionTree}
-use Rattle.statements.specs.declared.tree.PrintItem.{PrintItem}
-use Rattle.statements.specs.declared.tree.Range.{Range}
-use Rattle.statements.specs.Tree.{HeadingTree, RangeTree, PrintItemTree, StatementTree, range_tree, flag_tree}
-use Rattle.statements.specs.Tree.{item_tree}
+use Rattle.expression_trees.specs.declared.tree.Name.{Name}
+use Rattle.expression_trees.specs.Tree.{ExpressionTree}
+use Rattle.statement_parts.specs.declared.tree.PrintItem.{PrintItem}
+use Rattle.statement_parts.specs.declared.tree.Range.{Range}
+use Rattle.statement_parts.specs.Tree.{HeadingTree, RangeTree, PrintItemTree, range_tree, flag_tree, item_tree}
+use Rattle.statements.specs.Tree.{StatementTree}
 use Rattle.meaning.specs.declared.around.Around.{Around}
-use Rattle.names.specs.declared.breach.Breach.{Breach}
 use Rattle.meaning.specs.declared.resolved.Value as code_value
 use Rattle.meaning.specs.declared.resolved.Action as code_action
-use Rattle.names.specs.Names.{Seen}
 use Rattle.meaning.specs.Resolved.{Value, RangeOf, Printed, Action, value_of, action_of}
+use Rattle.names.specs.declared.breach.Breach.{Breach}
+use Rattle.names.specs.Names.{Seen}
 use Rattle.value_rules.specs.Expressions.{resolve}
+use Rattle.value_rules.specs.Temporaries.{need}
+use Rattle.value_rules.specs.Walk.{IsWalked}
 use Rattle.simple_rules.specs.Statements.{whole_breaches, part_breaches, heading_breaches, range_breaches}
 use Rattle.simple_rules.specs.Statements.{resolve_range, flag_breaches, resolve_flag, item_breaches, resolve_item}
 use Rattle.simple_rules.specs.Statements.{statement_breaches, resolve_statement}
-use Rattle.value_rules.specs.Temporaries.{need}
-use Rattle.value_rules.specs.Walk.{IsWalked}
 
 abbrev pub parts_of : Option code_value.Value × Option code_value.Value × Option code_value.Value
     → Option Value × Option Value × Option Value

@@ -1,16 +1,16 @@
 //! The statement `read`: the rules that the names of its two arrays can break, and what it resolves to.
 
 ghost use Rattle.std.specs.Prelude.{◌≡◌};
-ghost use Rattle.expressions.specs.Tree.{name_tree};
+ghost use Rattle.expression_trees.specs.Tree.{name_tree};
 ghost use Rattle.statements.specs.Tree as trees;
-ghost use Rattle.simple_rules.specs.Buffers as spec;
-ghost use Rattle.value_rules.specs.Expressions.{array_of_binding};
-ghost use Rattle.names.specs.Noted.{noted};
 ghost use Rattle.meaning.specs.Resolved.{action_of};
+ghost use Rattle.names.specs.Noted.{noted};
 ghost use Rattle.names.specs.Scope.{seen_in};
+ghost use Rattle.value_rules.specs.Expressions.{array_of_binding};
+ghost use Rattle.simple_rules.specs.Buffers as spec;
 ghost use Rattle.simple_rules.specs.Walk.{IsAction};
 
-use expressions::Name;
+use expression_trees::Name;
 use lexer::{Position, UNKNOWN_NAME, WRONG_KIND};
 use meaning::Action;
 use names::{Binding, Breach, Scope, note};

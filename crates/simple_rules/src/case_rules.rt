@@ -2,16 +2,16 @@
 
 ghost use Rattle.std.specs.Prelude.{◌≡◌, IfOk, map};
 ghost use Rattle.std.specs.Option.{option_map};
-ghost use Rattle.statements.specs.Tree.{literal_tree, range_tree};
-ghost use Rattle.names.specs.Noted.{noted};
+ghost use Rattle.statement_parts.specs.Tree.{literal_tree, range_tree};
 ghost use Rattle.meaning.specs.Resolved.{range_of};
+ghost use Rattle.names.specs.Noted.{noted};
 ghost use Rattle.names.specs.Scope.{look_in, seen_in};
 ghost use Rattle.simple_rules.specs.Statements as spec;
 ghost use Rattle.simple_rules.specs.Walk.{IsRange, AreRanges};
 
 use meaning::Span;
 use names::{Breach, Scope, constant_known, key_of_word, or_zero};
-use statements::{Literal, Range};
+use statement_parts::{Literal, Range};
 use std::alloc::{AllocError, Global};
 use value_rules::constant_name;
 

@@ -2,18 +2,19 @@
 
 ghost use Rattle.std.specs.Prelude.{◌≡◌, ◌&&◌, IfOk, nat_le};
 ghost use Rattle.std.specs.Option.{option_map};
-ghost use Rattle.statements.specs.Tree.{part_tree, heading_tree};
-ghost use Rattle.names.specs.Noted.{noted};
+ghost use Rattle.statement_parts.specs.Tree.{part_tree, heading_tree};
 ghost use Rattle.meaning.specs.Resolved.{value_of};
+ghost use Rattle.names.specs.Noted.{noted};
 ghost use Rattle.names.specs.Scope.{seen_in};
 ghost use Rattle.simple_rules.specs.Statements as spec;
-ghost use Rattle.simple_rules.specs.Walk.{part_fits, room_behind, IsPart, AreParts, IsHeading, parts_of};
+ghost use Rattle.simple_rules.specs.Walk.{part_fits, room_behind, IsPart, AreParts, IsHeading};
+ghost use Rattle.simple_rules.specs.Walk.{parts_of};
 
-use expressions::Expression;
+use expression_trees::Expression;
 use lexer::{EXPRESSION_TOO_LARGE, Position};
 use meaning::Value;
 use names::{Breach, Scope, note};
-use statements::Heading;
+use statement_parts::Heading;
 use std::alloc::{AllocError, Global};
 use value_rules::{expression, fits};
 

@@ -6,7 +6,7 @@ ghost use Rattle.names.specs.Noted.{noted};
 ghost use Rattle.value_rules.specs.Expressions.{variable_of_binding};
 ghost use Rattle.simple_rules.specs.Statements.{loop_breaches};
 
-use expressions::Name;
+use expression_trees::Name;
 use lexer::{Position, UNKNOWN_NAME, WRONG_KIND};
 use meaning::Variable;
 use names::{Binding, Breach, note};

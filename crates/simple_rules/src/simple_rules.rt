@@ -1,22 +1,24 @@
 //! Statements in which no other stands: the rules that they can break, and what they resolve to.
 
 ghost use Rattle.std.specs.Prelude.{◌≡◌, IfOk, map};
-ghost use Rattle.expressions.specs.Tree.{expression_tree};
+ghost use Rattle.expression_trees.specs.Tree.{expression_tree};
+ghost use Rattle.statement_parts.specs.Tree.{flag_tree, item_tree};
 ghost use Rattle.statements.specs.Tree as trees;
-ghost use Rattle.statements.specs.Tree.{flag_tree, item_tree, simple_tree};
-ghost use Rattle.simple_rules.specs.Statements.{outside_breaches, room_breaches, move_need};
+ghost use Rattle.statements.specs.Tree.{simple_tree};
+ghost use Rattle.meaning.specs.Resolved.{value_of, printed_of};
 ghost use Rattle.names.specs.Noted.{noted};
 ghost use Rattle.names.specs.Scope.{seen_in};
 ghost use Rattle.value_rules.specs.Temporaries.{need};
-ghost use Rattle.meaning.specs.Resolved.{value_of, printed_of};
+ghost use Rattle.simple_rules.specs.Statements.{outside_breaches, room_breaches, move_need};
 ghost use Rattle.simple_rules.specs.Walk.{IsWhole, IsFlag, AreFlags, IsItem, AreItems, GivesAction};
 
 use crate::buffer_rules::read;
-use expressions::{Expression, Name};
+use expression_trees::{Expression, Name};
 use lexer::{BREAK_OUTSIDE, EXPRESSION_TOO_LARGE, Position};
 use meaning::{Action, Around, Printed, Value};
 use names::{Breach, Scope, note};
-use statements::{PrintItem, SimpleStatement};
+use statement_parts::PrintItem;
+use statements::SimpleStatement;
 use std::alloc::{AllocError, Global};
 use value_rules::{attribute, both_fit, expression, fits};
 

@@ -1,19 +1,19 @@
 -- The items of an expression have 20 bytes less than 32 for each of its tokens, whatever the forms of their branches.
 use Rattle.std.proofs.Common.{ℕ, ◌+◌, ◌-◌, ◌*◌, ◌≤◌, List, [], ◌∷◌, ◌++◌, Bool, true, false, arith}
 use Rattle.std.specs.Prelude.{if◌then◌else◌}
-use Rattle.expressions.specs.declared.tree.Containment.{Containment}
-use Rattle.expressions.specs.declared.tree.Relative.{Relative}
+use Rattle.expression_trees.specs.declared.tree.Containment.{Containment}
+use Rattle.expression_trees.specs.declared.tree.Relative.{Relative}
 use Rattle.meaning.specs.Resolved.{Value, Values, none, more}
 use Rattle.meaning.specs.Resolved as source
 use Rattle.meaning.specs.Meaning.{is_true}
 use Rattle.drafts.specs.Items.{Item, pushed, number, variable, Destination, push, into, operands_of, alone, left_of}
-use Rattle.drafts.specs.Items.{if_pushed, branch_true, agrees, operand_count, value_items, operands_items}
-use Rattle.drafts.specs.Items.{branch_items, first_of, containment_when}
+use Rattle.drafts.specs.Items.{if_pushed, branch_true, agrees, operand_count, value_items, operands_items, branch_items}
+use Rattle.drafts.specs.Items.{first_of, containment_when}
 use Rattle.drafts.specs.Items as items
-use Rattle.sizes.proofs.Most.{most_of, tokens, most_append, if_small, moved_small, after_small, kept_small}
-use Rattle.sizes.proofs.Most.{truth_small, operands_length}
-use Rattle.sizes.proofs.BoundsOfForms.{Small, AreSmall, two_small, alone_small, prefixed_small, binary_small}
-use Rattle.sizes.proofs.BoundsOfForms.{list_none, list_more, compare_small, FirstSmall, equal_small, entry_small}
+use Rattle.sizes.proofs.Most.{most_of, tokens, most_append, if_small, moved_small, after_small, kept_small, truth_small}
+use Rattle.sizes.proofs.Most.{operands_length}
+use Rattle.sizes.proofs.BoundsOfForms.{Small, AreSmall, two_small, alone_small, prefixed_small, binary_small, list_none}
+use Rattle.sizes.proofs.BoundsOfForms.{list_more, compare_small, FirstSmall, equal_small, entry_small}
 use Rattle.sizes.proofs.BoundsOfForms.{assign_entry_small}
 
 -- Objects

@@ -1,13 +1,13 @@
 -- How large the items of the forms of expressions are, but for those on objects.
 use Rattle.std.proofs.Common.{ℕ, ◌+◌, ◌-◌, ◌*◌, ◌≤◌, List, [], ◌∷◌, ◌++◌, Bool, true, false, arith}
 use Rattle.std.specs.Prelude.{if◌then◌else◌, not}
-use Rattle.expressions.specs.declared.tree.Binary.{Binary}
-use Rattle.expressions.specs.declared.tree.Binary.TheVariants as binaries
-use Rattle.expressions.specs.declared.tree.Comparison.{Comparison}
-use Rattle.expressions.specs.declared.tree.Equality.{Equality}
-use Rattle.expressions.specs.declared.tree.Prefix.{Prefix}
-use Rattle.expressions.specs.declared.tree.Prefix.TheVariants as prefixes
-use Rattle.expressions.specs.declared.tree.Width.{Width}
+use Rattle.expression_trees.specs.declared.tree.Binary.{Binary}
+use Rattle.expression_trees.specs.declared.tree.Binary.TheVariants as binaries
+use Rattle.expression_trees.specs.declared.tree.Comparison.{Comparison}
+use Rattle.expression_trees.specs.declared.tree.Equality.{Equality}
+use Rattle.expression_trees.specs.declared.tree.Prefix.{Prefix}
+use Rattle.expression_trees.specs.declared.tree.Prefix.TheVariants as prefixes
+use Rattle.expression_trees.specs.declared.tree.Width.{Width}
 use Rattle.meaning.specs.Resolved.{Value, Values, none, more}
 use Rattle.meaning.specs.Resolved as source
 use Rattle.meaning.specs.Accepted.{count_of}

@@ -1,34 +1,36 @@
 -- What the items of some programs do, computed.
 use Rattle.std.proofs.Common.{◌≡◌, ℕ, List, [], ◌∷◌, ◌++◌, Option, Some, None, refl}
 use Rattle.std.specs.Prelude.{codes, replicate}
+use Rattle.ztext.specs.Alphabets.{spelling_of}
+use Rattle.ztext.specs.Text.{key_of as word_key}
+use Rattle.ztext.specs.Words.{packed}
+use Rattle.zcore.specs.Arithmetic.{signed_text, decimal, quotient, remainder}
+use Rattle.zcore.specs.declared.place.Place.TheVariants as places
+use Rattle.zcore.specs.declared.place.Limit.TheVariants as limits
+use Rattle.zcore.specs.Cutting.{words_of}
+use Rattle.zcore.specs.Dictionary.{number_of_key}
 use Rattle.lexer.specs.declared.token.Position.{Position}
-use Rattle.expressions.specs.Tree.{NameTree, ExpressionTree, constant, named, call, index, prefixed, step_after}
-use Rattle.expressions.specs.Tree.{binary, compare, equal, assign, none, more}
-use Rattle.expressions.specs.declared.tree.Binary.TheVariants as op
-use Rattle.expressions.specs.declared.tree.Comparison.TheVariants as comparison
-use Rattle.expressions.specs.declared.tree.Equality.TheVariants as equality
-use Rattle.expressions.specs.declared.tree.Prefix.TheVariants as prefix
-use Rattle.expressions.specs.declared.tree.Step.TheVariants as steps
-use Rattle.expressions.specs.declared.tree.Width.TheVariants as widths
+use Rattle.expression_trees.specs.Tree.{NameTree, ExpressionTree, constant, named, call, index, prefixed, step_after}
+use Rattle.expression_trees.specs.Tree.{binary, compare, equal, assign, none, more}
+use Rattle.expression_trees.specs.declared.tree.Binary.TheVariants as op
+use Rattle.expression_trees.specs.declared.tree.Comparison.TheVariants as comparison
+use Rattle.expression_trees.specs.declared.tree.Equality.TheVariants as equality
+use Rattle.expression_trees.specs.declared.tree.Prefix.TheVariants as prefix
+use Rattle.expression_trees.specs.declared.tree.Step.TheVariants as steps
+use Rattle.expression_trees.specs.declared.tree.Width.TheVariants as widths
+use Rattle.statement_parts.specs.Tree as parts
+use Rattle.statement_parts.specs.Tree.{RangeTree}
 use Rattle.statements.specs.Tree as s
-use Rattle.statements.specs.Tree.{StatementTree, StatementTrees, RangeTree}
+use Rattle.statements.specs.Tree.{StatementTree, StatementTrees}
 use Rattle.directives.specs.declared.tree.ArrayKind.TheVariants as kinds
 use Rattle.directives.specs.Tree as d
 use Rattle.directives.specs.Tree.{DirectiveTree}
 use Rattle.syntax.specs.Tree.{ProgramTree}
-use Rattle.zcore.specs.Arithmetic.{signed_text, decimal, quotient, remainder}
-use Rattle.zcore.specs.declared.place.Place.TheVariants as places
-use Rattle.zcore.specs.declared.place.Limit.TheVariants as limits
-use Rattle.checker.specs.Programs.{resolve_with, file_of, resolve_program}
-use Rattle.names.specs.Names.{table_of, key_of, look_up}
 use Rattle.meaning.specs.Resolved as source
 use Rattle.meaning.specs.World.{Outcome}
 use Rattle.meaning.specs.Reading.{words_for}
-use Rattle.ztext.specs.Alphabets.{spelling_of}
-use Rattle.zcore.specs.Cutting.{words_of}
-use Rattle.zcore.specs.Dictionary.{number_of_key}
-use Rattle.ztext.specs.Text.{key_of as word_key}
-use Rattle.ztext.specs.Words.{packed}
+use Rattle.names.specs.Names.{table_of, key_of, look_up}
+use Rattle.checker.specs.Programs.{resolve_with, file_of, resolve_program}
 use Rattle.items.specs.Stack.{from, exec, start}
 
 -- the position of a token, by its number
@@ -38,11 +40,11 @@ p n = record { offset = n; line = 1 }
 abbrev the : ℕ → List ℕ → NameTree
 the n text = record { text = text; position = p n }
 
-abbrev item : ExpressionTree → s.PrintItemTree
-item e = s.number_item (p 0) e
+abbrev item : ExpressionTree → parts.PrintItemTree
+item e = parts.number_item (p 0) e
 
-abbrev words : List ℕ → s.PrintItemTree
-words text = s.text_item text
+abbrev words : List ℕ → parts.PrintItemTree
+words text = parts.text_item text
 
 abbrev body : List StatementTree → StatementTrees
 body xs = s.trees_of xs
@@ -177,7 +179,7 @@ entries = program
     ∷ d.array (record {
       name = the 1 (codes "b");
       kind = kinds.Bytes;
-      values = record { position = p 2; value = s.number_value 4 } ∷ [];
+      values = record { position = p 2; value = parts.number_value 4 } ∷ [];
     })
     ∷ routine (codes "Main") []
     (s.effect (p 3) (assign (index (the 3 (codes "b")) widths.Byte (named (the 4 (codes "i")))) (p 5)
@@ -195,10 +197,10 @@ unfolding resolve_program resolve_with file_of table_of key_of look_up signed_te
 entries_do = refl
 
 abbrev from_to : ℕ → ℕ → RangeTree
-from_to low high = record { low = s.number_value low; high = Some (s.number_value high) }
+from_to low high = record { low = parts.number_value low; high = Some (parts.number_value high) }
 
 abbrev alone : ℕ → RangeTree
-alone n = record { low = s.number_value n; high = None }
+alone n = record { low = parts.number_value n; high = None }
 
 -- Global i; [ Main; for (i = 0: i < 12: i++) {
 --   switch (i) { 0 to 2: continue; 4, 5, 6, 7, 8: break; 11: return; default: print "d"; } print i; } ];

@@ -4,21 +4,22 @@ use Rattle.std.specs.Prelude.{nat_lt, if◌then◌else◌}
 use Rattle.std.proofs.lemmas.List.{length-map}
 use Rattle.lexer.specs.declared.token.Position.{Position}
 use Rattle.lexer.specs.Token.{Lexeme}
-use Rattle.expressions.specs.Tree.{ExpressionTree}
-use Rattle.statements.specs.Tree.{RangeTree, StatementTrees, CaseTrees}
+use Rattle.expression_trees.specs.Tree.{ExpressionTree}
+use Rattle.statement_parts.specs.Tree.{RangeTree}
+use Rattle.statement_parts.specs.Grammar.{IsRanges, ranges_last, ranges_comma}
+use Rattle.statements.specs.Tree.{StatementTrees, CaseTrees}
 use Rattle.statements.specs.Tree as statements
-use Rattle.statements.specs.Grammar.{IsRanges, ranges_last, ranges_comma}
 use Rattle.directives.specs.Weight.{range_weights, case_weights}
-use Rattle.names.specs.Names.{Seen}
-use Rattle.value_rules.specs.Expressions.{resolve}
 use Rattle.meaning.specs.Resolved.{RangeOf}
 use Rattle.meaning.specs.Resolved as resolved
+use Rattle.names.specs.Names.{Seen}
+use Rattle.value_rules.specs.Expressions.{resolve}
 use Rattle.simple_rules.specs.Statements.{resolve_range, resolve_statements, resolve_cases}
 use Rattle.drafts.specs.Items.{operand_count, alone, alone_items}
-use Rattle.items.specs.Statements.{Group, numbers, range, with_number, groups_of, group_count, group_items}
-use Rattle.items.specs.Statements.{tests_count, tests_items, over_count, over_items, actions_count, cases_count, Exits}
-use Rattle.items.specs.Statements.{actions_items, cases_items}
 use Rattle.drafts.specs.Items as items
+use Rattle.items.specs.Statements.{Group, numbers, range, with_number, groups_of, group_count, group_items, tests_count}
+use Rattle.items.specs.Statements.{tests_items, over_count, over_items, actions_count, cases_count, Exits}
+use Rattle.items.specs.Statements.{actions_items, cases_items}
 use Rattle.sizes.proofs.Most.{most_of, most_append}
 use Rattle.sizes.proofs.SizesOfExpressions.{Fits, few_alone}
 use Rattle.sizes.proofs.SizesOfStatements.{StatementFits, BodyFits}

@@ -5,20 +5,20 @@ use Rattle.std.specs.Prelude.{nat_lt, if◌then◌else◌}
 use Rattle.std.specs.List.{All}
 use Rattle.std.proofs.lemmas.List.Elements.{All-nil, All-cons, All-head, All-tail}
 use Rattle.std.proofs.lemmas.Bool.{ltb-false}
+use Rattle.zcore.specs.declared.header.Version.{Version}
 use Rattle.lexer.specs.declared.token.Position.{Position}
 use Rattle.lexer.specs.declared.fault.SourceFault.{SourceFault}
-use Rattle.expressions.specs.Tree.{NameTree}
+use Rattle.expression_trees.specs.Tree.{NameTree}
 use Rattle.directives.specs.Tree.{RoutineTree, DirectiveTree}
-use Rattle.syntax.specs.Tree.{ProgramTree}
 use Rattle.directives.specs.Tree as trees
-use Rattle.zcore.specs.declared.header.Version.{Version}
+use Rattle.syntax.specs.Tree.{ProgramTree}
 use Rattle.meaning.specs.declared.checked.CheckedRoutine.{CheckedRoutine}
-use Rattle.names.specs.Names.{File}
-use Rattle.checker.specs.Programs.{resolve_routine, resolve_with, file_of, resolve_program, routines_of, routine_trees}
-use Rattle.checker.specs.Programs.{title, IsCheckedOf}
 use Rattle.meaning.specs.Places.{routines_place}
 use Rattle.meaning.specs.Resolved.{RoutineOf, ProgramOf, CheckedProgram, program_of, routine_of, title_of}
 use Rattle.meaning.specs.Sizes.{greatest_weight, first_heavy, heavy_fault, size_fault, fault}
+use Rattle.names.specs.Names.{File}
+use Rattle.checker.specs.Programs.{resolve_routine, resolve_with, file_of, resolve_program, routines_of, routine_trees}
+use Rattle.checker.specs.Programs.{title, IsCheckedOf}
 use Rattle.encoding.specs.Addresses.{Sizes}
 use Rattle.code.specs.HeldProgram.{sizes_of}
 use Rattle.code.specs.Sizes.{routine_size, routines_size}

@@ -2,17 +2,16 @@
 use Rattle.std.proofs.Common.{◌≤◌, List, Option, arith}
 use Rattle.lexer.specs.declared.token.Position.{Position}
 use Rattle.lexer.specs.Token.{Lexeme}
-use Rattle.expressions.specs.Tree.{NameTree}
-use Rattle.statements.specs.Tree.{LiteralTree}
-use Rattle.statements.specs.Grammar.{IsK, k_number, k_negative, k_character, k_word, k_true, k_false, k_nothing}
-use Rattle.statements.specs.Grammar.{k_name}
+use Rattle.expression_trees.specs.Tree.{NameTree}
+use Rattle.statement_parts.specs.Tree.{LiteralTree}
+use Rattle.statement_parts.specs.Grammar.{IsK, k_number, k_negative, k_character, k_word, k_true, k_false, k_nothing}
+use Rattle.statement_parts.specs.Grammar.{k_name}
 use Rattle.directives.specs.Tree.{ValueTree, TextTree, HeadTree, PropertyTree}
 use Rattle.directives.specs.Grammar.{weight_of, v_value, IsValues, values_stop, values_next, IsArrows, arrows_stop}
 use Rattle.directives.specs.Grammar.{arrows_next, IsShort, short_none, short_text, IsHead, head_arrows, head_parent}
 use Rattle.directives.specs.Grammar.{IsProp, prop_values, IsProps, props_last, props_comma, IsComma, comma_none}
-use Rattle.directives.specs.Grammar.{comma_one}
-use Rattle.directives.specs.Grammar.{IsProperties, properties_none, properties_with, IsAttributes, attributes_none}
-use Rattle.directives.specs.Grammar.{attributes_has}
+use Rattle.directives.specs.Grammar.{comma_one, IsProperties, properties_none, properties_with, IsAttributes}
+use Rattle.directives.specs.Grammar.{attributes_none, attributes_has}
 use Rattle.directives.proofs.SpelledStatements.{spelled_Names}
 use Rattle.directives.proofs.Spelled.{weighs}
 

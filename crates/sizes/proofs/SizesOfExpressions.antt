@@ -2,17 +2,17 @@
 use Rattle.std.proofs.Common.{◌≤◌, ◌+◌, ◌*◌, ℕ, List, [], ◌++◌, Bool, arith}
 use Rattle.lexer.specs.declared.token.Position.{Position}
 use Rattle.lexer.specs.Token.{Lexeme}
-use Rattle.expressions.specs.declared.tree.Binary.{Binary}
-use Rattle.expressions.specs.declared.tree.Equality.{Equality}
-use Rattle.expressions.specs.declared.tree.Comparison.{Comparison}
-use Rattle.expressions.specs.declared.tree.Containment.{Containment}
-use Rattle.expressions.specs.declared.tree.ObjectTest.{ObjectTest}
-use Rattle.expressions.specs.declared.tree.Prefix.{Prefix}
-use Rattle.expressions.specs.declared.tree.Relative.{Relative}
-use Rattle.expressions.specs.declared.tree.Step.{Step}
-use Rattle.expressions.specs.declared.tree.Width.{Width}
-use Rattle.expressions.specs.Tree.{NameTree, ExpressionTree, ExpressionTrees}
-use Rattle.expressions.specs.Tree as trees
+use Rattle.expression_trees.specs.declared.tree.Binary.{Binary}
+use Rattle.expression_trees.specs.declared.tree.Equality.{Equality}
+use Rattle.expression_trees.specs.declared.tree.Comparison.{Comparison}
+use Rattle.expression_trees.specs.declared.tree.Containment.{Containment}
+use Rattle.expression_trees.specs.declared.tree.ObjectTest.{ObjectTest}
+use Rattle.expression_trees.specs.declared.tree.Prefix.{Prefix}
+use Rattle.expression_trees.specs.declared.tree.Relative.{Relative}
+use Rattle.expression_trees.specs.declared.tree.Step.{Step}
+use Rattle.expression_trees.specs.declared.tree.Width.{Width}
+use Rattle.expression_trees.specs.Tree.{NameTree, ExpressionTree, ExpressionTrees}
+use Rattle.expression_trees.specs.Tree as trees
 use Rattle.expressions.specs.Grammar.{IsE, e_plain, e_assign, IsE1, e1_plain, e1_logical, IsN1, n1_plain, n1_not, IsE2}
 use Rattle.expressions.specs.Grammar.{e2_plain, e2_compare, e2_equal, e2_contained, e2_tested, IsChoice, choice_last}
 use Rattle.expressions.specs.Grammar.{choice_or, IsE3, e3_plain, e3_add, IsE4, e4_plain, e4_scale, IsN4, n4_plain}
@@ -21,8 +21,8 @@ use Rattle.expressions.specs.Grammar.{u_before, u_after, u_length, IsP, p_proper
 use Rattle.expressions.specs.Grammar.{p_true, p_false, p_nothing, p_name, p_call, p_call_with, p_relative}
 use Rattle.expressions.specs.Grammar.{p_parenthesised, IsArguments, arguments_last, arguments_comma}
 use Rattle.directives.specs.Weight.{expression_weight, expression_weights}
-use Rattle.names.specs.Names.{Seen}
 use Rattle.meaning.specs.Accepted.{count_of}
+use Rattle.names.specs.Names.{Seen}
 use Rattle.value_rules.specs.Expressions.{resolve, resolve_all}
 use Rattle.drafts.specs.Items.{Item, Destination, push, alone, left_of, if_pushed, operand_count, value_items}
 use Rattle.drafts.specs.Items.{branch_items, alone_items}

@@ -2,20 +2,21 @@
 use Rattle.std.proofs.Common.{◌≤◌, ◌+◌, ℕ, false, List, [], ◌∷◌, ◌++◌, arith}
 use Rattle.lexer.specs.declared.token.Position.{Position}
 use Rattle.lexer.specs.Token.{Lexeme}
-use Rattle.expressions.specs.declared.tree.Relative.TheVariants as relatives
-use Rattle.expressions.specs.Tree.{NameTree, ExpressionTree}
-use Rattle.statements.specs.Tree.{StatementTree, LoopTree, loop_over}
+use Rattle.expression_trees.specs.declared.tree.Relative.TheVariants as relatives
+use Rattle.expression_trees.specs.Tree.{NameTree, ExpressionTree}
+use Rattle.statement_parts.specs.Tree.{LoopTree}
+use Rattle.statement_parts.specs.Grammar.{IsLoop, loop_all, loop_in, loop_where}
+use Rattle.statements.specs.Tree.{StatementTree, loop_over}
 use Rattle.statements.specs.Tree as statements
-use Rattle.statements.specs.Grammar.{IsLoop, loop_all, loop_in, loop_where}
 use Rattle.directives.specs.Weight.{expression_weight, statement_weight}
+use Rattle.meaning.specs.declared.resolved.Variable.{Variable}
 use Rattle.names.specs.Names.{Seen}
 use Rattle.value_rules.specs.Expressions.{resolve}
-use Rattle.meaning.specs.declared.resolved.Variable.{Variable}
 use Rattle.simple_rules.specs.Statements.{loop_variable, resolve_statement}
 use Rattle.drafts.specs.Items.{Item, operand_count, branch_count, alone, branch_items, alone_items, Operand}
+use Rattle.drafts.specs.Items as items
 use Rattle.items.specs.Statements.{action_count, Exits, exits_to, action_items, each_items, relative_items}
 use Rattle.items.specs.Statements.{children_items}
-use Rattle.drafts.specs.Items as items
 use Rattle.sizes.proofs.Most.{most_of, most_append}
 use Rattle.sizes.proofs.SizesOfExpressions.{Fits, fits_E1, fits_E3, few_branch, few_alone}
 use Rattle.sizes.proofs.SizesOfStatements.{StatementFits}

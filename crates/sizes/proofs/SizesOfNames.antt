@@ -1,12 +1,12 @@
 -- How much the value weighs of a name, an assignment and a test of an object.
 use Rattle.std.proofs.Common.{◌≡◌, ◌≤◌, ◌+◌, ℕ, Option, Some, None, refl, arith}
-use Rattle.expressions.specs.declared.tree.ObjectTest.{ObjectTest}
-use Rattle.expressions.specs.declared.tree.ObjectTest.TheVariants as tests
+use Rattle.expression_trees.specs.declared.tree.ObjectTest.{ObjectTest}
+use Rattle.expression_trees.specs.declared.tree.ObjectTest.TheVariants as tests
+use Rattle.meaning.specs.Resolved.{Value}
+use Rattle.meaning.specs.Resolved as source
 use Rattle.names.specs.declared.binding.Binding.{Binding}
 use Rattle.names.specs.declared.binding.Binding.TheVariants as bindings
 use Rattle.value_rules.specs.Expressions.{value_of_binding, tested_for, assigned}
-use Rattle.meaning.specs.Resolved.{Value}
-use Rattle.meaning.specs.Resolved as source
 use Rattle.sizes.proofs.Most.{tokens, alternatives_are}
 
 -- what a name stands for

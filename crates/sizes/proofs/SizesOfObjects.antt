@@ -5,8 +5,8 @@ use Rattle.zcore.specs.declared.instruction.Operand.{Operand}
 use Rattle.zcore.specs.declared.instruction.Operand.TheVariants.{Large, Small, Variable}
 use Rattle.zcore.specs.declared.instruction.Operation.TheVariants as operations
 use Rattle.zcore.specs.Instruction.{Instruction, operand_bytes, bytes_of}
-use Rattle.expressions.specs.declared.tree.Relative.{Relative}
-use Rattle.expressions.specs.declared.tree.Relative.TheVariants as relatives
+use Rattle.expression_trees.specs.declared.tree.Relative.{Relative}
+use Rattle.expression_trees.specs.declared.tree.Relative.TheVariants as relatives
 use Rattle.meaning.specs.declared.cause.Cause.TheVariants as causes
 use Rattle.meaning.specs.declared.resolved.Variable as source
 use Rattle.drafts.specs.Items.{Destination}
@@ -14,13 +14,13 @@ use Rattle.drafts.specs.Items as items
 use Rattle.encoding.specs.Addresses.{fault_address}
 use Rattle.encoding.specs.Instructions.{plain, giving, branching, fail, result_in, temporary, number_of, pulled_into}
 use Rattle.encoding.specs.Instructions.{word_in, store}
-use Rattle.instructions.specs.Instructions.{labelled}
 use Rattle.encoding.specs.Bytes.{bytes_of_all}
+use Rattle.instructions.specs.Instructions.{labelled}
 use Rattle.object_selection.specs.ObjectCode as spec
-use Rattle.object_selection.specs.ObjectCode.{tests_in, assigned_takes, assigned_word, at_object, at_label}
-use Rattle.object_selection.specs.ObjectCode.{relative_of, relative_code, is_in_code, has_code, changing, give_code}
-use Rattle.object_selection.specs.ObjectCode.{climbing, moved_into, move_object_code, first_object_code}
-use Rattle.object_selection.specs.ObjectCode.{next_object_code, tested_in, jump_by}
+use Rattle.object_selection.specs.ObjectCode.{tests_in, assigned_takes, assigned_word, at_object, at_label, relative_of}
+use Rattle.object_selection.specs.ObjectCode.{relative_code, is_in_code, has_code, changing, give_code, climbing}
+use Rattle.object_selection.specs.ObjectCode.{moved_into, move_object_code, first_object_code, next_object_code}
+use Rattle.object_selection.specs.ObjectCode.{tested_in, jump_by}
 use Rattle.code.specs.Bytes.{no_addresses}
 use Rattle.code.proofs.AddressLengths.{all_length, one_length}
 use Rattle.sizes.proofs.SizesOfInstructions.{few_bytes, one_count, two_count}

@@ -7,28 +7,28 @@ use Rattle.zcore.specs.declared.instruction.Operation.{Operation}
 use Rattle.zcore.specs.declared.instruction.Operation.TheVariants as operations
 use Rattle.zcore.specs.Operations.{has_more_types}
 use Rattle.zcore.specs.Instruction.{operand_bytes, bytes_of}
-use Rattle.forms.specs.Layout.{first}
-use Rattle.expressions.specs.declared.tree.Binary.{Binary}
-use Rattle.expressions.specs.declared.tree.Binary.TheVariants as binaries
-use Rattle.expressions.specs.declared.tree.Prefix.{Prefix}
-use Rattle.expressions.specs.declared.tree.Prefix.TheVariants as prefixes
-use Rattle.expressions.specs.declared.tree.Step.{Step}
-use Rattle.expressions.specs.declared.tree.Step.TheVariants as steps
-use Rattle.expressions.specs.declared.tree.Width.{Width}
-use Rattle.expressions.specs.declared.tree.Width.TheVariants as widths
+use Rattle.expression_trees.specs.declared.tree.Binary.{Binary}
+use Rattle.expression_trees.specs.declared.tree.Binary.TheVariants as binaries
+use Rattle.expression_trees.specs.declared.tree.Prefix.{Prefix}
+use Rattle.expression_trees.specs.declared.tree.Prefix.TheVariants as prefixes
+use Rattle.expression_trees.specs.declared.tree.Step.{Step}
+use Rattle.expression_trees.specs.declared.tree.Step.TheVariants as steps
+use Rattle.expression_trees.specs.declared.tree.Width.{Width}
+use Rattle.expression_trees.specs.declared.tree.Width.TheVariants as widths
 use Rattle.meaning.specs.declared.resolved.Variable as source
 use Rattle.meaning.specs.Meaning.{is_character}
-use Rattle.drafts.specs.Items.{Destination}
 use Rattle.meaning.specs.declared.cause.Cause.TheVariants as causes
+use Rattle.drafts.specs.Items.{Destination}
 use Rattle.drafts.specs.Items as items
+use Rattle.forms.specs.Layout.{first}
 use Rattle.encoding.specs.Instructions as spec
 use Rattle.encoding.specs.Instructions.{plain, giving, in_place, constant, operands, takes, result_in, fail}
+use Rattle.encoding.specs.Bytes.{bytes_of_all}
 use Rattle.instructions.specs.Instructions.{arithmetic, divided, binary_code, prefix_code, move_code, step_code}
 use Rattle.instructions.specs.Instructions.{character_code}
-use Rattle.encoding.specs.Bytes.{bytes_of_all}
+use Rattle.object_selection.specs.ObjectCode.{assigned_takes, assigned_word, passed_on}
 use Rattle.selection.specs.ItemCode.{entries_in, load_operation, store_operation, at_index, entry_code}
 use Rattle.selection.specs.ItemCode.{assign_entry_code}
-use Rattle.object_selection.specs.ObjectCode.{assigned_takes, assigned_word, passed_on}
 use Rattle.code.specs.Bytes.{no_addresses}
 use Rattle.code.proofs.AddressLengths.{all_length, one_length}
 use Rattle.sizes.proofs.SizesOfInstructions.{few_bytes, constant_few, operand_few, one_count, three_count, taken_few}

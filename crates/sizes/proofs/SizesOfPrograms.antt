@@ -5,22 +5,20 @@ use Rattle.std.proofs.lemmas.List.Elements.{All-nil, All-cons}
 use Rattle.lexer.specs.declared.token.Position.{Position}
 use Rattle.lexer.specs.declared.token.Sign.TheVariants as s
 use Rattle.lexer.specs.Token.{Lexeme, name, sign}
-use Rattle.expressions.specs.Tree.{NameTree}
+use Rattle.expression_trees.specs.Tree.{NameTree}
 use Rattle.statements.specs.Tree.{StatementTrees}
 use Rattle.statements.specs.Grammar.{IsSs}
 use Rattle.directives.specs.Tree.{RoutineTree, TextTree, DirectiveTree}
-use Rattle.syntax.specs.Tree.{EntryTree, directives_of, ProgramTree}
 use Rattle.directives.specs.Grammar.{weight_of, IsNames, IsDirective, d_global, d_global_value, d_constant, d_array}
 use Rattle.directives.specs.Grammar.{d_attribute, d_property, d_property_value, d_object, d_routine, IsTexts}
-use Rattle.directives.specs.Grammar.{texts_stop}
-use Rattle.directives.specs.Grammar.{texts_next}
-use Rattle.syntax.specs.Grammar.{e_directive, e_abbreviate, IsEntries, entries_stop, entries_next}
-use Rattle.syntax.specs.Grammar.{IsProgram, program}
+use Rattle.directives.specs.Grammar.{texts_stop, texts_next}
 use Rattle.directives.proofs.SpelledStatements.{weight_Ss, spelled_Names}
 use Rattle.directives.proofs.Spelled.{weighs}
+use Rattle.syntax.specs.Tree.{EntryTree, directives_of, ProgramTree}
+use Rattle.syntax.specs.Grammar.{e_directive, e_abbreviate, IsEntries, entries_stop, entries_next, IsProgram, program}
 use Rattle.names.specs.Names.{File, seen_from}
-use Rattle.checker.specs.Programs.{resolve_routine, routines_of, routine_trees}
 use Rattle.simple_rules.specs.Statements.{resolve_statements}
+use Rattle.checker.specs.Programs.{resolve_routine, routines_of, routine_trees}
 use Rattle.items.specs.Statements.{return_true, actions_count, exits_to, actions_items}
 use Rattle.encoding.specs.Addresses.{Sizes}
 use Rattle.code.specs.Sizes.{routine_size, routines_size}

@@ -3,19 +3,20 @@ use Rattle.std.proofs.Common.{◌≤◌, ◌+◌, ℕ, true, false, List, [], �
 use Rattle.std.specs.Option.{option_map}
 use Rattle.lexer.specs.declared.token.Position.{Position}
 use Rattle.lexer.specs.Token.{Lexeme}
-use Rattle.expressions.specs.Tree.{ExpressionTree}
-use Rattle.statements.specs.Tree.{PrintItemTree, StatementTree, StatementTrees}
+use Rattle.expression_trees.specs.Tree.{ExpressionTree}
+use Rattle.statement_parts.specs.Tree.{PrintItemTree}
+use Rattle.statement_parts.specs.Grammar.{IsItem, item_text, item_character, item_object, item_number, IsItems}
+use Rattle.statement_parts.specs.Grammar.{items_last, items_comma, IsOptional, optional_none, optional_some}
+use Rattle.statements.specs.Tree.{StatementTree, StatementTrees}
 use Rattle.statements.specs.Tree as statements
-use Rattle.statements.specs.Grammar.{IsItem, item_text, item_character, item_object, item_number, IsItems, items_last}
-use Rattle.statements.specs.Grammar.{items_comma, IsOptional, optional_none, optional_some}
 use Rattle.directives.specs.Weight.{item_weight, item_weights, optional_weight, statement_weight, statement_weights}
 use Rattle.names.specs.Names.{Seen}
 use Rattle.value_rules.specs.Expressions.{resolve}
 use Rattle.simple_rules.specs.Statements.{resolve_item, resolve_statement, resolve_statements}
 use Rattle.drafts.specs.Items.{nowhere, branch_count, alone, branch_items, alone_items}
+use Rattle.drafts.specs.Items as items
 use Rattle.items.specs.Statements.{printed_count, printed_items, prints_items, once_count, test_count, once_items}
 use Rattle.items.specs.Statements.{test_items, return_true, action_count, Exits, exits_to, action_items, actions_items}
-use Rattle.drafts.specs.Items as items
 use Rattle.sizes.proofs.Most.{most_of, most_append}
 use Rattle.sizes.proofs.SizesOfExpressions.{Fits, fits_E, few_value, few_branch, few_alone}
 

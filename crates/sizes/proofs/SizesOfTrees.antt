@@ -3,8 +3,9 @@ use Rattle.std.proofs.Common.{◌+◌, List, [], ◌∷◌, map, arith}
 use Rattle.std.proofs.lemmas.List.{length-map}
 use Rattle.lexer.specs.declared.token.Position.{Position}
 use Rattle.lexer.specs.Token.{Lexeme}
-use Rattle.expressions.specs.Tree.{NameTree, ExpressionTree}
-use Rattle.statements.specs.Tree.{FlagTree, PrintItemTree, StatementTree, StatementTrees, CaseTrees}
+use Rattle.expression_trees.specs.Tree.{NameTree, ExpressionTree}
+use Rattle.statement_parts.specs.Tree.{FlagTree, PrintItemTree}
+use Rattle.statements.specs.Tree.{StatementTree, StatementTrees, CaseTrees}
 use Rattle.statements.specs.Tree as statements
 use Rattle.statements.specs.Grammar.{IsS, s_empty, s_block, s_text, s_print, s_print_ret, s_new_line, s_if, s_if_else}
 use Rattle.statements.specs.Grammar.{s_while, s_do, s_for, s_objectloop, s_switch, s_break, s_continue, s_return}
@@ -14,13 +15,13 @@ use Rattle.names.specs.Names.{Seen}
 use Rattle.value_rules.specs.Expressions.{resolve}
 use Rattle.simple_rules.specs.Statements.{resolve_flag, resolve_statement, resolve_statements}
 use Rattle.drafts.specs.Items.{nowhere, alone, alone_items, left_of}
-use Rattle.items.specs.Statements.{action_count, action_items, actions_items}
 use Rattle.drafts.specs.Items as items
+use Rattle.items.specs.Statements.{action_count, action_items, actions_items}
 use Rattle.sizes.proofs.Most.{most_append}
 use Rattle.sizes.proofs.SizesOfExpressions.{Fits, fits_E, few_value, few_alone, few_two}
 use Rattle.sizes.proofs.SizesOfStatements.{PrintedFit, fits_Items, StatementFits, BodyFits, text_fits}
-use Rattle.sizes.proofs.SizesOfStatements.{print_return_fits, if_fits, if_else_fits, while_fits, do_fits}
-use Rattle.sizes.proofs.SizesOfStatements.{fits_Optional, for_fits}
+use Rattle.sizes.proofs.SizesOfStatements.{print_return_fits, if_fits, if_else_fits, while_fits, do_fits, fits_Optional}
+use Rattle.sizes.proofs.SizesOfStatements.{for_fits}
 use Rattle.sizes.proofs.SizesOfLoops.{loop_fits}
 use Rattle.sizes.proofs.SizesOfCases.{CasesFit, no_case_fits, default_fits, case_fits, switch_fits}
 

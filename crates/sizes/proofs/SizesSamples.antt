@@ -1,34 +1,33 @@
 -- Sizes of items and routines, computed, and a program whose weight bounds them.
 use Rattle.std.proofs.Common.{◌≡◌, ◌+◌, ℕ, true, false, List, [], ◌∷◌, refl}
 use Rattle.std.specs.Prelude.{codes}
+use Rattle.ztext.specs.Alphabets.{spelling_of}
+use Rattle.ztext.specs.Words.{packed}
+use Rattle.ztext.specs.Abbreviations.{encoded_with}
+use Rattle.zcore.specs.Instruction.{bytes_of}
 use Rattle.lexer.specs.declared.token.Position.{Position}
 use Rattle.lexer.specs.declared.token.Sign.TheVariants as s
 use Rattle.lexer.specs.declared.token.Word.TheVariants as w
 use Rattle.lexer.specs.Token.{Lexeme, name, number, text, dictionary_word, reserved, sign, end}
-use Rattle.expressions.specs.declared.tree.Binary.TheVariants as binaries
-use Rattle.expressions.specs.declared.tree.Relative.TheVariants as relatives
-use Rattle.expressions.specs.declared.tree.Width.TheVariants as widths
-use Rattle.expressions.specs.Tree.{ExpressionTree}
-use Rattle.expressions.specs.Tree as trees
+use Rattle.expression_trees.specs.declared.tree.Binary.TheVariants as binaries
+use Rattle.expression_trees.specs.declared.tree.Relative.TheVariants as relatives
+use Rattle.expression_trees.specs.declared.tree.Width.TheVariants as widths
+use Rattle.expression_trees.specs.Tree.{ExpressionTree}
+use Rattle.expression_trees.specs.Tree as trees
 use Rattle.expressions.specs.Grammar.{IsE, e_plain, e1_plain, n1_plain, e2_plain, e3_plain, e4_plain, e4_scale}
 use Rattle.expressions.specs.Grammar.{n4_plain, e5_plain, IsU, u_plain, p_property, p_name, p_number, p_word}
-use Rattle.statements.specs.Grammar.{loop_in, items_last, items_comma, item_text, item_number, s_print, s_objectloop}
-use Rattle.statements.specs.Grammar.{s_read, s_move, ss_stop, ss_next}
+use Rattle.statement_parts.specs.Grammar.{loop_in, items_last, items_comma, item_text, item_number}
+use Rattle.statements.specs.Grammar.{s_print, s_objectloop, s_read, s_move, ss_stop, ss_next}
 use Rattle.directives.specs.declared.tree.ArrayKind.TheVariants as kinds
-use Rattle.syntax.specs.Tree.{ProgramTree}
 use Rattle.directives.specs.Grammar.{names_stop, names_next, d_routine}
-use Rattle.syntax.specs.Grammar.{e_directive, entries_stop, entries_next, IsProgram}
-use Rattle.syntax.specs.Grammar.{program}
-use Rattle.names.specs.declared.binding.Binding.TheVariants as bindings
-use Rattle.names.specs.Names.{key_of, first_table, File, look_up}
-use Rattle.checker.specs.Programs.{routines_of}
+use Rattle.syntax.specs.Tree.{ProgramTree}
+use Rattle.syntax.specs.Grammar.{e_directive, entries_stop, entries_next, IsProgram, program}
 use Rattle.meaning.specs.declared.resolved.Variable.{Variable}
 use Rattle.meaning.specs.declared.resolved.Variable.TheVariants as variables
 use Rattle.meaning.specs.Resolved as source
-use Rattle.zcore.specs.Instruction.{bytes_of}
-use Rattle.ztext.specs.Alphabets.{spelling_of}
-use Rattle.ztext.specs.Words.{packed}
-use Rattle.ztext.specs.Abbreviations.{encoded_with}
+use Rattle.names.specs.declared.binding.Binding.TheVariants as bindings
+use Rattle.names.specs.Names.{key_of, first_table, File, look_up}
+use Rattle.checker.specs.Programs.{routines_of}
 use Rattle.drafts.specs.Items as items
 use Rattle.encoding.specs.Addresses.{Sizes}
 use Rattle.code.specs.Bytes.{least_size}

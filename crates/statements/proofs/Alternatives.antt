@@ -5,22 +5,24 @@ use Rattle.lexer.specs.declared.token.Sign.{Sign}
 use Rattle.lexer.specs.declared.token.Sign.TheVariants as s
 use Rattle.lexer.specs.declared.token.Word.TheVariants as w
 use Rattle.lexer.specs.Token.{Lexeme, name, number, text, character, dictionary_word, reserved, sign, position_of}
-use Rattle.expressions.specs.Tree.{ExpressionTree}
+use Rattle.expression_trees.specs.Tree.{ExpressionTree}
+use Rattle.parsing.specs.Parse.{◌>>=◌, head, is_sign, is_word, expect, expect_word}
 use Rattle.expressions.specs.Nesting.{begins_expression}
-use Rattle.expressions.specs.Parse.{◌>>=◌, head, is_sign, is_word, expect, expect_word, whole, nested, expression}
+use Rattle.expressions.specs.Parse.{whole, nested, expression, expect_name}
 use Rattle.expressions.proofs.Limited.{Limited, bound, then, at_once, same}
-use Rattle.statements.specs.Tree.{RangeTree, HeadingTree, PrintItemTree, StatementTree, StatementTrees, CaseTrees}
-use Rattle.statements.specs.Tree.{empty, block, text_alone, print, print_return, new_line, if_then, if_else, while_do}
-use Rattle.statements.specs.Tree.{do_until, for_loop, switch_on, break_at, continue_at, return_alone, return_value}
-use Rattle.statements.specs.Tree.{return_true, return_false, quit, read_line, effect, FlagTree, give, move, remove}
-use Rattle.statements.specs.Tree.{LoopTree, loop_over}
-use Rattle.statements.specs.Grammar.{has_effect, else_follows, effect_or_none}
+use Rattle.statement_parts.specs.Tree.{RangeTree, HeadingTree, PrintItemTree, FlagTree, LoopTree}
+use Rattle.statement_parts.specs.Grammar.{has_effect, effect_or_none}
+use Rattle.statement_parts.specs.Parse.{ranges, items, enclosed_condition, optional, optional_effect, heading}
+use Rattle.statement_parts.specs.Parse.{heading_in, enclosed_heading, flags, looped_in, enclosed_loop}
+use Rattle.statements.specs.Tree.{StatementTree, StatementTrees, CaseTrees, empty, block, text_alone, print}
+use Rattle.statements.specs.Tree.{print_return, new_line, if_then, if_else, while_do, do_until, for_loop, switch_on}
+use Rattle.statements.specs.Tree.{break_at, continue_at, return_alone, return_value, return_true, return_false, quit}
+use Rattle.statements.specs.Tree.{read_line, effect, give, move, remove, loop_over}
+use Rattle.statements.specs.Grammar.{else_follows}
 use Rattle.statements.specs.Nesting.{begins_statement}
-use Rattle.statements.specs.Parse.{ranges, named, ended, line_read, items, printed, enclosed_condition, optional}
-use Rattle.statements.specs.Parse.{optional_effect, heading, heading_in, enclosed_heading, returned, alone, choice}
-use Rattle.statements.specs.Parse.{repetition, entered, until, iteration, one_case, cases, otherwise, selection}
-use Rattle.statements.specs.Parse.{braced, statement_over, inside, braces, bodies, statement, flags, given, moved}
-use Rattle.statements.specs.Parse.{removed, looped_in, enclosed_loop, traversal}
+use Rattle.statements.specs.Parse.{ended, line_read, printed, returned, alone, choice, repetition, entered, until}
+use Rattle.statements.specs.Parse.{iteration, one_case, cases, otherwise, selection, braced, statement_over, inside}
+use Rattle.statements.specs.Parse.{braces, bodies, statement, given, moved, removed, traversal}
 use Rattle.statements.proofs.Deepest.{step_ended, listed, listed_back, case_list, default_list, cases_back}
 
 module _ (d : ℕ) where
@@ -74,7 +76,7 @@ module _ (d : ℕ) where
   pub step_read : (p q o j : Position) (a b : List ℕ) (r : List Lexeme)
       → Limited (statement d (reserved w.Read p ∷ name a q ∷ name b o ∷ sign s.Semicolon j ∷ r)) d 0
       (read_line (record { text = a; position = q }) (record { text = b; position = o })) r
-  unfolding statement statement_over line_read named
+  unfolding statement statement_over line_read expect_name
   step_read p q o j a b r = at_once
       (step_ended (read_line (record { text = a; position = q }) (record { text = b; position = o })) j r)
 

@@ -1,18 +1,19 @@
 -- What is read behind `if`, the words of loops and `switch`, by what reading their parts gave.
-use Rattle.std.proofs.Common.{◌≡◌, ℕ, ◌+◌, true, List, [], ◌∷◌, Option, Some, Ok, refl, sym, ap, ◌∙◌}
+use Rattle.std.proofs.Common.{◌≡◌, ℕ, ◌+◌, true, false, List, Option, Some, Ok, Err, refl, ◌∙◌}
 use Rattle.lexer.specs.declared.token.Position.{Position}
-use Rattle.lexer.specs.declared.token.Sign.{Sign}
 use Rattle.lexer.specs.declared.token.Sign.TheVariants as s
 use Rattle.lexer.specs.declared.token.Word.TheVariants as w
 use Rattle.lexer.specs.Token.{Lexeme}
-use Rattle.expressions.specs.Tree.{ExpressionTree}
-use Rattle.expressions.specs.Parse.{◌>>=◌, Parse, head, tail, is_word, expect, closed, nested, expression}
+use Rattle.expression_trees.specs.Tree.{ExpressionTree}
+use Rattle.parsing.specs.declared.error.Fault.TheVariants.{Grammar}
+use Rattle.parsing.specs.Parse.{◌>>=◌, Parse, head, tail, is_sign, is_word, expect}
+use Rattle.expressions.specs.Parse.{closed, nested, expression}
 use Rattle.expressions.proofs.Nested.{nested_whole}
-use Rattle.expressions.proofs.Tokens.{expect_ok}
-use Rattle.statements.specs.Tree.{HeadingTree, StatementTree, CaseTree, cases_of, while_do}
-use Rattle.statements.specs.Tree.{for_loop, switch_on, LoopTree, loop_over}
-use Rattle.statements.specs.Parse.{block_of, braced, enclosed_condition, enclosed_heading, repetition}
-use Rattle.statements.specs.Parse.{iteration, enclosed_loop, traversal, cases, switch_of, otherwise, selection}
+use Rattle.statement_parts.specs.Tree.{HeadingTree, LoopTree}
+use Rattle.statement_parts.specs.Parse.{enclosed_condition, enclosed_heading, enclosed_loop}
+use Rattle.statements.specs.Tree.{StatementTree, CaseTree, cases_of, while_do, for_loop, switch_on, loop_over}
+use Rattle.statements.specs.Parse.{block_of, braced, repetition, iteration, traversal, cases, switch_of, otherwise}
+use Rattle.statements.specs.Parse.{selection}
 
 pub condition_read : (d k : ℕ) (ts us : List Lexeme) → d ≡ k + 1 → expect s.OpenParenthesis ts ≡ Ok us
     → enclosed_condition d ts
@@ -55,24 +56,22 @@ pub selection_made : (d : ℕ) (braces bodies : Parse (List StatementTree)) (p :
 unfolding selection
 selection_made d braces bodies p ts m us r k e cs o read h c g = rw (read, h, c, g) refl
 
-none_taken : (s : Sign) (r : List Lexeme) → expect s [] ≡ Ok r → ⊥
-unfolding expect
-none_taken s r e = cc
+-- what stands behind `default`, whose colon is looked at before its statements are read
 
-taken : (s : Sign) (ts r : List Lexeme) → expect s ts ≡ Ok r → r ≡ tail ts
-taken s [] r e = absurd (none_taken s r e)
-taken s (t ∷ ts) r e = sym (ap tail (expect_ok s (t ∷ ts) r e))
+module _ (braces : Parse (List StatementTree)) (ts us : List Lexeme) (is : is_word w.Default (head ts) ≡ true)
+    (behind : us ≡ tail ts) where
+  pub otherwise_default : is_sign s.Colon (head us) ≡ true
+      → otherwise braces ts ≡ (braces (tail us) >>= λ xs. Ok (Some xs.0, xs.1))
+  unfolding otherwise expect
+  otherwise_default colon = rw (is, ← behind, colon) refl
 
-pub otherwise_default : (braces : Parse (List StatementTree)) (ts us r : List Lexeme)
-    → is_word w.Default (head ts) ≡ true → us ≡ tail ts → expect s.Colon us ≡ Ok r
-    → otherwise braces ts ≡ (braces (tail us) >>= λ xs. Ok (Some xs.0, xs.1))
-unfolding otherwise
-otherwise_default braces ts us r is u e = rw (is, ← u, e, taken s.Colon us r e) refl
+  pub otherwise_made : (k : List Lexeme) (xs : List StatementTree) → is_sign s.Colon (head us) ≡ true
+      → braces (tail us) ≡ Ok (xs, k) → otherwise braces ts ≡ Ok (Some xs, k)
+  otherwise_made k xs colon read = otherwise_default colon ∙ rw read refl
 
-pub otherwise_made : (braces : Parse (List StatementTree)) (ts us r k : List Lexeme) (xs : List StatementTree)
-    → is_word w.Default (head ts) ≡ true → us ≡ tail ts → expect s.Colon us ≡ Ok r → braces (tail us) ≡ Ok (xs, k)
-    → otherwise braces ts ≡ Ok (Some xs, k)
-otherwise_made braces ts us r k xs is u e g = otherwise_default braces ts us r is u e ∙ rw g refl
+  pub otherwise_uncoloned : is_sign s.Colon (head us) ≡ false → otherwise braces ts ≡ Err Grammar
+  unfolding otherwise expect
+  otherwise_uncoloned none = rw (is, ← behind, none) refl
 
 pub switch_made : (p : Position) (e : ExpressionTree) (cs : List CaseTree) (o : Option (List StatementTree))
     (ts r : List Lexeme) → expect s.CloseBrace ts ≡ Ok r

@@ -4,12 +4,13 @@ use Rattle.lexer.specs.declared.token.Position.{Position}
 use Rattle.lexer.specs.declared.token.Sign.TheVariants as s
 use Rattle.lexer.specs.declared.token.Word.TheVariants as w
 use Rattle.lexer.specs.Token.{Lexeme, name, number, character, dictionary_word, reserved, sign}
+use Rattle.parsing.specs.Parse.{head, is_sign, as_long, repeated}
 use Rattle.expressions.specs.Grammar.{nesting}
 use Rattle.expressions.specs.Nesting.{begins_expression}
-use Rattle.expressions.specs.Parse.{head, is_sign}
 use Rattle.expressions.proofs.Begins.{first_E}
 use Rattle.expressions.proofs.Limited.{Limited, same, in_whole}
 use Rattle.expressions.proofs.Complete.{at_E}
+use Rattle.statement_parts.specs.Parse.{begins_value}
 use Rattle.statements.specs.Tree.{StatementTree, StatementTrees, CaseTrees}
 use Rattle.statements.specs.Grammar.{IsS, s_empty, s_block, s_text, s_print, s_print_ret, s_new_line, s_if, s_if_else}
 use Rattle.statements.specs.Grammar.{s_while, s_do, s_for, s_switch, s_break, s_continue, s_return, s_return_value}
@@ -17,8 +18,7 @@ use Rattle.statements.specs.Grammar.{s_rtrue, s_rfalse, s_quit, s_read, s_effect
 use Rattle.statements.specs.Grammar.{cases_none, cases_default, cases_next, statement_nesting, inside_nesting}
 use Rattle.statements.specs.Grammar.{body_nesting, s_give, s_move, s_remove, s_objectloop}
 use Rattle.statements.specs.Nesting.{begins_statement, begins_in_case}
-use Rattle.statements.specs.Parse.{as_long, repeated, begins_value, one_case, cases, otherwise, inside, braces, bodies}
-use Rattle.statements.specs.Parse.{statement, statements}
+use Rattle.statements.specs.Parse.{one_case, cases, otherwise, inside, braces, bodies, statement, statements}
 use Rattle.statements.proofs.Follow.{short_S, short_Ss}
 use Rattle.statements.proofs.KnownValues.{short_Ranges, ranges_read, begins_Ranges, case_Ranges}
 use Rattle.statements.proofs.Labels.{case_S}
@@ -26,15 +26,14 @@ use Rattle.statements.proofs.LoopHeads.{at_Loop, nests_over}
 use Rattle.statements.proofs.ItemsRead.{at_Items}
 use Rattle.statements.proofs.Deepest.{up, in_statement, in_block, listed, in_bodies, in_heading, in_loop, case_list}
 use Rattle.statements.proofs.Deepest.{default_list, list_nesting, default_nesting, deepest_case}
-use Rattle.statements.proofs.Alternatives.{step_empty, step_block, step_text, step_print, step_print_ret}
-use Rattle.statements.proofs.Alternatives.{step_new_line, step_rtrue, step_rfalse, step_quit, step_read, step_return}
+use Rattle.statements.proofs.Alternatives.{step_empty, step_block, step_text, step_print, step_print_ret, step_new_line}
+use Rattle.statements.proofs.Alternatives.{step_rtrue, step_rfalse, step_quit, step_read, step_return}
 use Rattle.statements.proofs.Alternatives.{step_return_value, step_condition, step_if, step_if_else, step_while}
 use Rattle.statements.proofs.Alternatives.{step_enclosed, step_for, step_enclosed_loop, step_objectloop, step_entered}
-use Rattle.statements.proofs.Alternatives.{step_do, step_break, step_continue, step_case, step_no_default}
-use Rattle.statements.proofs.Alternatives.{step_default, step_switch, step_give, step_move, step_remove, statement_of}
-use Rattle.statements.proofs.Alternatives.{step_alone}
-use Rattle.statements.proofs.PartsRead.{as_long_stop, as_long_next, repeated_stop, repeated_next, at_Given}
-use Rattle.statements.proofs.PartsRead.{stops_Given, at_Heading}
+use Rattle.statements.proofs.Alternatives.{step_do, step_break, step_continue, step_case, step_no_default, step_default}
+use Rattle.statements.proofs.Alternatives.{step_switch, step_give, step_move, step_remove, statement_of, step_alone}
+use Rattle.statements.proofs.PartsRead.{as_long_stop, as_long_next, repeated_stop, repeated_next, at_Given, stops_Given}
+use Rattle.statements.proofs.PartsRead.{at_Heading}
 
 expression_semicolon : (t : Lexeme) → begins_expression t ≡ true → is_sign s.Semicolon t ≡ false
 expression_semicolon (sign s.Semicolon p) e = absurd cc

@@ -4,15 +4,16 @@ use Rattle.std.proofs.Common.{arith}
 use Rattle.lexer.specs.declared.token.Position.{Position}
 use Rattle.lexer.specs.declared.token.Sign.TheVariants as s
 use Rattle.lexer.specs.Token.{Lexeme, sign}
-use Rattle.expressions.specs.declared.error.Fault.{Fault}
-use Rattle.expressions.specs.Parse.{expect}
+use Rattle.parsing.specs.declared.error.Fault.{Fault}
+use Rattle.parsing.specs.Parse.{expect, as_long, repeated}
 use Rattle.expressions.proofs.Limited.{Limited}
-use Rattle.statements.specs.Tree.{HeadingTree, StatementTree, StatementTrees, CaseTree, CaseTrees, trees_of, cases_of}
-use Rattle.statements.specs.Tree.{stop, next, no_case, default_case, case, LoopTree}
+use Rattle.statement_parts.specs.Tree.{HeadingTree, LoopTree}
+use Rattle.statement_parts.specs.Parse.{heading, heading_in, looped, looped_in}
+use Rattle.statements.specs.Tree.{StatementTree, StatementTrees, CaseTree, CaseTrees, trees_of, cases_of, stop, next}
+use Rattle.statements.specs.Tree.{no_case, default_case, case}
 use Rattle.statements.specs.Grammar.{inside_nesting, cases_nesting}
 use Rattle.statements.specs.Nesting.{begins_statement, begins_in_case}
-use Rattle.statements.specs.Parse.{as_long, repeated, ended, heading, heading_in, inside, braces, bodies, statement}
-use Rattle.statements.specs.Parse.{looped, looped_in}
+use Rattle.statements.specs.Parse.{ended, inside, braces, bodies, statement}
 
 -- by another bound that is the same number
 pub up : {A : Type 0} {R : Result (A × List Lexeme) Fault} {d m n : ℕ} {a : A} {r : List Lexeme} → Limited R d m a r

@@ -3,29 +3,29 @@ use Rattle.std.proofs.Common.{◌≡◌, ◌&&◌, ◌<◌, ◌≤◌, Bool, tru
 use Rattle.lexer.specs.declared.token.Sign.TheVariants as s
 use Rattle.lexer.specs.declared.token.Word.TheVariants as w
 use Rattle.lexer.specs.Token.{Lexeme, reserved, sign}
-use Rattle.expressions.specs.declared.tree.Relative.{Relative}
-use Rattle.expressions.specs.declared.tree.Step.{Step}
+use Rattle.expression_trees.specs.declared.tree.Relative.{Relative}
+use Rattle.expression_trees.specs.declared.tree.Step.{Step}
+use Rattle.expression_trees.specs.Tree.{ExpressionTree}
+use Rattle.parsing.specs.Parse.{head, tail, is_sign, is_word}
 use Rattle.expressions.specs.Operators.{stepping, relating}
-use Rattle.expressions.specs.Tree.{ExpressionTree}
-use Rattle.expressions.specs.Grammar.{IsE, e_plain, e_assign, IsE1, e1_plain, e1_logical, IsN1, n1_plain, n1_not}
-use Rattle.expressions.specs.Grammar.{IsE2, e2_plain, e2_compare, e2_equal, e2_contained, e2_tested, IsE3, e3_plain}
-use Rattle.expressions.specs.Grammar.{e3_add, IsE4, e4_plain, e4_scale, IsN4, n4_plain, n4_complement, IsE5, e5_plain}
-use Rattle.expressions.specs.Grammar.{e5_index, e5_entry, IsU, u_plain, u_minus, u_before, u_after, u_length, IsP}
-use Rattle.expressions.specs.Grammar.{p_property, p_number, p_character, p_word, p_true, p_false, p_nothing, p_name}
-use Rattle.expressions.specs.Grammar.{p_call, p_call_with, p_relative, p_parenthesised}
+use Rattle.expressions.specs.Grammar.{IsE, e_plain, e_assign, IsE1, e1_plain, e1_logical, IsN1, n1_plain, n1_not, IsE2}
+use Rattle.expressions.specs.Grammar.{e2_plain, e2_compare, e2_equal, e2_contained, e2_tested, IsE3, e3_plain, e3_add}
+use Rattle.expressions.specs.Grammar.{IsE4, e4_plain, e4_scale, IsN4, n4_plain, n4_complement, IsE5, e5_plain, e5_index}
+use Rattle.expressions.specs.Grammar.{e5_entry, IsU, u_plain, u_minus, u_before, u_after, u_length, IsP, p_property}
+use Rattle.expressions.specs.Grammar.{p_number, p_character, p_word, p_true, p_false, p_nothing, p_name, p_call}
+use Rattle.expressions.specs.Grammar.{p_call_with, p_relative, p_parenthesised}
 use Rattle.expressions.specs.Nesting.{begins_expression}
-use Rattle.expressions.specs.Parse.{head, tail, is_sign, is_word}
 use Rattle.expressions.proofs.Begins.{first_E}
 use Rattle.expressions.proofs.Short.{short_E}
-use Rattle.statements.specs.Tree.{PrintItemTree, StatementTree, StatementTrees, CaseTrees}
-use Rattle.statements.specs.Grammar.{IsOptional, optional_none, optional_some, IsItem, item_text, item_character}
-use Rattle.statements.specs.Grammar.{item_number, IsItems, items_last, items_comma, IsS, s_empty, s_block, s_text}
-use Rattle.statements.specs.Grammar.{s_print, s_print_ret, s_new_line, s_if, s_if_else, s_while, s_do, s_for, s_switch}
-use Rattle.statements.specs.Grammar.{s_break, s_continue, s_return, s_return_value, s_rtrue, s_rfalse, s_quit, s_read}
-use Rattle.statements.specs.Grammar.{s_effect, IsSs, ss_stop, ss_next, IsCases, cases_none, cases_default, cases_next}
-use Rattle.statements.specs.Tree.{FlagTree}
-use Rattle.statements.specs.Grammar.{item_object, IsFlag, flag_given, flag_taken, IsFlags, flags_none, flags_next}
-use Rattle.statements.specs.Grammar.{IsGiven, given_first, s_give, s_move, s_remove, s_objectloop}
+use Rattle.statement_parts.specs.Tree.{PrintItemTree, FlagTree}
+use Rattle.statement_parts.specs.Grammar.{IsOptional, optional_none, optional_some, IsItem, item_text, item_character}
+use Rattle.statement_parts.specs.Grammar.{item_number, IsItems, items_last, items_comma, item_object, IsFlag}
+use Rattle.statement_parts.specs.Grammar.{flag_given, flag_taken, IsFlags, flags_none, flags_next, IsGiven, given_first}
+use Rattle.statements.specs.Tree.{StatementTree, StatementTrees, CaseTrees}
+use Rattle.statements.specs.Grammar.{IsS, s_empty, s_block, s_text, s_print, s_print_ret, s_new_line, s_if, s_if_else}
+use Rattle.statements.specs.Grammar.{s_while, s_do, s_for, s_switch, s_break, s_continue, s_return, s_return_value}
+use Rattle.statements.specs.Grammar.{s_rtrue, s_rfalse, s_quit, s_read, s_effect, IsSs, ss_stop, ss_next, IsCases}
+use Rattle.statements.specs.Grammar.{cases_none, cases_default, cases_next, s_give, s_move, s_remove, s_objectloop}
 use Rattle.statements.proofs.KnownValues.{short_Ranges}
 use Rattle.statements.proofs.LoopHeads.{short_Loop}
 

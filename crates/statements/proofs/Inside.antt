@@ -1,42 +1,16 @@
 -- One nesting further in.
-use Rattle.std.proofs.Common.{◌≡◌, ℕ, zero, suc, ◌+◌, ◌-◌, ◌<◌, true, false, List, [], ◌∷◌, length, Result, Ok, Err}
-use Rattle.std.proofs.Common.{refl, ap, arith}
+use Rattle.std.proofs.Common.{◌≡◌, ℕ, zero, suc, ◌+◌, ◌-◌, ◌<◌, true, false, List, [], ◌∷◌, length, Ok, Err, refl, ap}
+use Rattle.std.proofs.Common.{arith}
 use Rattle.std.specs.Prelude.{map}
 use Rattle.lexer.specs.declared.token.Token.{Token}
 use Rattle.lexer.specs.Token.{Lexeme, lexemes}
-use Rattle.expressions.specs.declared.error.Fault.{Fault}
-use Rattle.expressions.specs.declared.error.Fault.TheVariants.{Deep}
-use Rattle.expressions.specs.Parse.{head}
+use Rattle.parsing.specs.declared.error.Fault.TheVariants.{Deep}
+use Rattle.parsing.specs.Parse.{head, as_long, repeated}
+use Rattle.parsing.proofs.Loops.{joined, joined_none}
 use Rattle.statements.specs.declared.tree.Statement.{Statement}
 use Rattle.statements.specs.Tree.{statement_tree}
 use Rattle.statements.specs.Nesting.{begins_statement, begins_in_case}
-use Rattle.statements.specs.Parse.{opened, heading_in, heading, looped_in, looped, as_long, repeated, inside, braces}
-use Rattle.statements.specs.Parse.{bodies, statement, statements}
-use Rattle.statements.proofs.Loops.{joined, joined_none}
-
-pub opened_zero : {A : Type 0} (d : ℕ) (R : Result A Fault) → d ≡ 0 → opened d R ≡ Err Deep
-opened_zero zero R e = refl
-opened_zero (suc d) R e = absurd (omega arith)
-
-pub opened_more : {A : Type 0} (d k : ℕ) (R : Result A Fault) → d ≡ k + 1 → opened d R ≡ R
-opened_more zero k R e = absurd (omega arith)
-opened_more (suc d) k R e = refl
-
-pub heading_zero : (d : ℕ) (ts : List Lexeme) → d ≡ 0 → heading_in d ts ≡ Err Deep
-heading_zero zero ts e = refl
-heading_zero (suc d) ts e = absurd (omega arith)
-
-pub heading_more : (d k : ℕ) (ts : List Lexeme) → d ≡ k + 1 → heading_in d ts ≡ heading k ts
-heading_more zero k ts e = absurd (omega arith)
-heading_more (suc d) k ts e = let same : d ≡ k = omega arith in ap (λ j. heading j ts) same
-
-pub looped_zero : (d : ℕ) (ts : List Lexeme) → d ≡ 0 → looped_in d ts ≡ Err Deep
-looped_zero zero ts e = refl
-looped_zero (suc d) ts e = absurd (omega arith)
-
-pub looped_more : (d k : ℕ) (ts : List Lexeme) → d ≡ k + 1 → looped_in d ts ≡ looped k ts
-looped_more zero k ts e = absurd (omega arith)
-looped_more (suc d) k ts e = let same : d ≡ k = omega arith in ap (λ j. looped j ts) same
+use Rattle.statements.specs.Parse.{inside, braces, bodies, statement, statements}
 
 pub inside_zero : (d : ℕ) (ts : List Lexeme) → d ≡ 0 → inside d ts ≡ Err Deep
 unfolding inside

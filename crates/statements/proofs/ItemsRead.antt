@@ -4,18 +4,19 @@ use Rattle.lexer.specs.declared.token.Position.{Position}
 use Rattle.lexer.specs.declared.token.Sign.TheVariants as s
 use Rattle.lexer.specs.declared.token.Word.TheVariants as w
 use Rattle.lexer.specs.Token.{Lexeme, text, reserved, sign, position_of}
-use Rattle.expressions.specs.declared.error.Fault.{Fault}
-use Rattle.expressions.specs.Tree.{ExpressionTree}
+use Rattle.expression_trees.specs.Tree.{ExpressionTree}
+use Rattle.parsing.specs.declared.error.Fault.{Fault}
+use Rattle.parsing.specs.Parse.{◌>>=◌, head, tail, is_sign, is_word, expect}
 use Rattle.expressions.specs.Nesting.{begins_expression}
-use Rattle.expressions.specs.Parse.{◌>>=◌, head, tail, is_sign, is_word, expect, nested, expression}
+use Rattle.expressions.specs.Parse.{nested, expression}
 use Rattle.expressions.proofs.Follow.{Stops}
 use Rattle.expressions.proofs.Begins.{first_E}
 use Rattle.expressions.proofs.Limited.{Limited, then, at_once, same, Listed, listed_last, listed_next, listed_all}
 use Rattle.expressions.proofs.Complete.{at_E}
-use Rattle.statements.specs.Tree.{PrintItemTree, text_item, character_item, number_item, object_item}
-use Rattle.statements.specs.Grammar.{IsItem, item_text, item_character, item_number, IsItems, items_last, items_comma}
-use Rattle.statements.specs.Grammar.{item_nesting, items_nesting, item_object}
-use Rattle.statements.specs.Parse.{cast, value, item, items}
+use Rattle.statement_parts.specs.Tree.{PrintItemTree, text_item, character_item, number_item, object_item}
+use Rattle.statement_parts.specs.Grammar.{IsItem, item_text, item_character, item_number, IsItems, items_last}
+use Rattle.statement_parts.specs.Grammar.{items_comma, item_nesting, items_nesting, item_object}
+use Rattle.statement_parts.specs.Parse.{cast, value, item, items}
 use Rattle.statements.proofs.Follow.{short_Item, no_cast, no_object_cast}
 
 -- ---- what `print` prints

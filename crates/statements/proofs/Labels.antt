@@ -4,30 +4,30 @@ use Rattle.lexer.specs.declared.token.Position.{Position}
 use Rattle.lexer.specs.declared.token.Sign.TheVariants as s
 use Rattle.lexer.specs.declared.token.Word.TheVariants as w
 use Rattle.lexer.specs.Token.{Lexeme, number, reserved, sign}
-use Rattle.expressions.specs.declared.tree.Binary.{Binary}
-use Rattle.expressions.specs.declared.tree.Comparison.{Comparison}
-use Rattle.expressions.specs.declared.tree.Equality.{Equality}
-use Rattle.expressions.specs.declared.tree.Containment.{Containment}
-use Rattle.expressions.specs.declared.tree.ObjectTest.{ObjectTest}
-use Rattle.expressions.specs.declared.tree.Relative.{Relative}
-use Rattle.expressions.specs.declared.tree.Step.{Step}
-use Rattle.expressions.specs.declared.tree.Width.{Width}
+use Rattle.expression_trees.specs.declared.tree.Binary.{Binary}
+use Rattle.expression_trees.specs.declared.tree.Comparison.{Comparison}
+use Rattle.expression_trees.specs.declared.tree.Equality.{Equality}
+use Rattle.expression_trees.specs.declared.tree.Containment.{Containment}
+use Rattle.expression_trees.specs.declared.tree.ObjectTest.{ObjectTest}
+use Rattle.expression_trees.specs.declared.tree.Relative.{Relative}
+use Rattle.expression_trees.specs.declared.tree.Step.{Step}
+use Rattle.expression_trees.specs.declared.tree.Width.{Width}
+use Rattle.expression_trees.specs.Tree.{ExpressionTree}
+use Rattle.parsing.specs.Parse.{head}
 use Rattle.expressions.specs.Operators.{logical, comparing, equating, containing, testing, adding, scaling, stepping}
 use Rattle.expressions.specs.Operators.{relating, indexing}
-use Rattle.expressions.specs.Tree.{ExpressionTree}
-use Rattle.expressions.specs.Grammar.{IsE, e_plain, e_assign, IsE1, e1_plain, e1_logical, IsN1, n1_plain, n1_not}
-use Rattle.expressions.specs.Grammar.{IsE2, e2_plain, e2_compare, e2_equal, e2_contained, e2_tested, IsE3, e3_plain}
-use Rattle.expressions.specs.Grammar.{e3_add, IsE4, e4_plain, e4_scale, IsN4, n4_plain, n4_complement, IsE5, e5_plain}
-use Rattle.expressions.specs.Grammar.{e5_index, e5_entry, IsU, u_plain, u_minus, u_before, u_after, u_length, IsP}
-use Rattle.expressions.specs.Grammar.{p_property, p_number, p_character, p_word, p_true, p_false, p_nothing, p_name}
-use Rattle.expressions.specs.Grammar.{p_call, p_call_with, p_relative, p_parenthesised}
-use Rattle.expressions.specs.Parse.{head}
+use Rattle.expressions.specs.Grammar.{IsE, e_plain, e_assign, IsE1, e1_plain, e1_logical, IsN1, n1_plain, n1_not, IsE2}
+use Rattle.expressions.specs.Grammar.{e2_plain, e2_compare, e2_equal, e2_contained, e2_tested, IsE3, e3_plain, e3_add}
+use Rattle.expressions.specs.Grammar.{IsE4, e4_plain, e4_scale, IsN4, n4_plain, n4_complement, IsE5, e5_plain, e5_index}
+use Rattle.expressions.specs.Grammar.{e5_entry, IsU, u_plain, u_minus, u_before, u_after, u_length, IsP, p_property}
+use Rattle.expressions.specs.Grammar.{p_number, p_character, p_word, p_true, p_false, p_nothing, p_name, p_call}
+use Rattle.expressions.specs.Grammar.{p_call_with, p_relative, p_parenthesised}
+use Rattle.statement_parts.specs.Nesting.{goes_on_in_case, begins_case}
 use Rattle.statements.specs.Tree.{StatementTree}
 use Rattle.statements.specs.Grammar.{IsS, s_empty, s_block, s_text, s_print, s_print_ret, s_new_line, s_if, s_if_else}
 use Rattle.statements.specs.Grammar.{s_while, s_do, s_for, s_switch, s_break, s_continue, s_return, s_return_value}
 use Rattle.statements.specs.Grammar.{s_rtrue, s_rfalse, s_quit, s_read, s_give, s_move, s_remove, s_effect}
 use Rattle.statements.specs.Grammar.{s_objectloop}
-use Rattle.statements.specs.Nesting.{goes_on_in_case, begins_case}
 
 -- ---- operators
 

@@ -1,9 +1,6 @@
 pub mod Shapes
-pub mod NamesRead
 pub mod Inside
 pub mod Cases
-pub mod Loops
-pub mod Roots
 pub mod KnownValues
 pub mod Labels
 pub mod LoopForms

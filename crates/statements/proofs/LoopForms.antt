@@ -3,20 +3,20 @@ use Rattle.std.proofs.Common.{◌≡◌, max, false, List, ◌∷◌, Some, None
 use Rattle.lexer.specs.declared.token.Position.{Position}
 use Rattle.lexer.specs.declared.token.Word.TheVariants as w
 use Rattle.lexer.specs.Token.{Lexeme, name, reserved, position_of}
-use Rattle.expressions.specs.declared.tree.Containment.{Containment}
-use Rattle.expressions.specs.declared.tree.Containment.TheVariants as containment
+use Rattle.expression_trees.specs.declared.tree.Containment.{Containment}
+use Rattle.expression_trees.specs.declared.tree.Containment.TheVariants as containment
+use Rattle.expression_trees.specs.Tree as tree
+use Rattle.expression_trees.specs.Tree.{NameTree, ExpressionTree, contained}
 use Rattle.expressions.specs.Operators.{containing}
-use Rattle.expressions.specs.Tree as tree
-use Rattle.expressions.specs.Tree.{NameTree, ExpressionTree, contained}
 use Rattle.expressions.specs.Grammar.{IsE1, e1_plain, e1_logical, n1_plain, n1_not, IsE2, e2_plain, e2_compare}
 use Rattle.expressions.specs.Grammar.{e2_equal, e2_contained, e2_tested, IsE3, e3_plain, e3_add, e4_plain, e4_scale}
 use Rattle.expressions.specs.Grammar.{IsN4, n4_plain, n4_complement, e5_plain, e5_index, e5_entry, IsU, u_plain}
 use Rattle.expressions.specs.Grammar.{u_minus, u_before, u_after, u_length, IsP, p_property, p_number, p_character}
 use Rattle.expressions.specs.Grammar.{p_word, p_true, p_false, p_nothing, p_name, p_call, p_call_with, p_relative}
 use Rattle.expressions.specs.Grammar.{p_parenthesised, nesting}
-use Rattle.statements.specs.Tree.{over_where}
-use Rattle.statements.specs.Grammar.{tells_objects}
-use Rattle.statements.specs.Parse.{named, name_alone, member, holder, loop_of}
+use Rattle.statement_parts.specs.Tree.{over_where}
+use Rattle.statement_parts.specs.Grammar.{tells_objects}
+use Rattle.statement_parts.specs.Parse.{name_alone, member, holder, loop_of}
 
 -- ---- which expressions are a name alone
 

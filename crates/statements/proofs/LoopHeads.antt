@@ -6,23 +6,25 @@ use Rattle.lexer.specs.declared.token.Position.{Position}
 use Rattle.lexer.specs.declared.token.Sign.TheVariants as s
 use Rattle.lexer.specs.declared.token.Word.TheVariants as w
 use Rattle.lexer.specs.Token.{Lexeme, name, reserved, sign, position_of}
-use Rattle.expressions.specs.Tree as tree
-use Rattle.expressions.specs.Tree.{NameTree, ExpressionTree}
+use Rattle.expression_trees.specs.Tree as tree
+use Rattle.expression_trees.specs.Tree.{NameTree, ExpressionTree}
+use Rattle.parsing.specs.Parse.{head, expect}
 use Rattle.expressions.specs.Grammar.{IsE1, e1_plain, n1_plain, e2_plain, e2_contained, IsE3, e3_plain, e4_plain}
 use Rattle.expressions.specs.Grammar.{n4_plain, e5_plain, u_plain, p_name, nesting}
 use Rattle.expressions.specs.Nesting.{DeepE1}
-use Rattle.expressions.specs.Parse.{head, expect, condition, nested}
+use Rattle.expressions.specs.Parse.{condition, nested, expect_name}
 use Rattle.expressions.proofs.Complete.{at_E1}
 use Rattle.expressions.proofs.Judged.{Judged, judged_read, judged_deep, judged_then, judged_after, judged_as}
 use Rattle.expressions.proofs.Limited.{Limited, then}
 use Rattle.expressions.proofs.Short.{short_E1, short_E3}
 use Rattle.expressions.proofs.Sound.{judged_E1}
 use Rattle.expressions.proofs.Tokens.{expect_ok, expect_not_deep}
-use Rattle.statements.specs.Tree.{LoopTree, over_all, over_in, over_where, loop_over, StatementTree}
-use Rattle.statements.specs.Grammar.{IsLoop, loop_all, loop_in, loop_where, statement_nesting}
-use Rattle.statements.specs.Parse.{named, name_alone, member, holder, loop_on, loop_of, looped, looped_in}
-use Rattle.statements.specs.Parse.{enclosed_loop}
-use Rattle.statements.proofs.NamesRead.{named_judged}
+use Rattle.expressions.proofs.NamesRead.{name_judged}
+use Rattle.statement_parts.specs.Tree.{LoopTree, over_all, over_in, over_where}
+use Rattle.statement_parts.specs.Grammar.{IsLoop, loop_all, loop_in, loop_where}
+use Rattle.statement_parts.specs.Parse.{name_alone, member, holder, loop_on, loop_of, looped, looped_in, enclosed_loop}
+use Rattle.statements.specs.Tree.{loop_over, StatementTree}
+use Rattle.statements.specs.Grammar.{statement_nesting}
 use Rattle.statements.proofs.LoopForms.{alone_E1, member_E1, held_member, alone_nesting, member_nesting, tells_none}
 use Rattle.statements.proofs.LoopForms.{tells_where}
 
@@ -82,7 +84,7 @@ pub record IsLooped (ts : List Lexeme) (l : LoopTree) (n : ℕ) (r : List Lexeme
 looped_judged : (d : ℕ) (ts : List Lexeme) → Judged (λ l r. IsLooped ts l d r) (DeepLoop (suc d) ts) (looped d ts)
 unfolding looped
 looped_judged d ts =
-    judged_then _ (named_judged ts)
+    judged_then _ (name_judged ts)
     (λ x m at. judged_then _ (judged_E1 d ts)
     (λ e u h. judged_after (expect s.CloseParenthesis u) _
     (λ r f.
@@ -148,7 +150,7 @@ just_name = e3_plain (e4_plain (n4_plain (e5_plain (u_plain p_name))))
 step_looped : {n : ℕ} {e : ExpressionTree} (d : ℕ) (x : List ℕ) (p q : Position) (m r : List Lexeme)
     → Limited (condition (nested d) (name x p ∷ m)) d n e (sign s.CloseParenthesis q ∷ r)
     → Limited (looped d (name x p ∷ m)) d n (loop_of (record { text = x; position = p }) e) r
-unfolding looped named expect
+unfolding looped expect_name expect
 step_looped d x p q m r a = then _ a refl
 
 at_condition : {ts r : List Lexeme} {e : ExpressionTree} {q : Position} → IsE1 ts e (sign s.CloseParenthesis q ∷ r)

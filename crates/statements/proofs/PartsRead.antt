@@ -5,18 +5,19 @@ use Rattle.lexer.specs.declared.token.Position.{Position}
 use Rattle.lexer.specs.declared.token.Sign.{Sign}
 use Rattle.lexer.specs.declared.token.Sign.TheVariants as s
 use Rattle.lexer.specs.Token.{Lexeme, sign}
-use Rattle.expressions.specs.Tree.{ExpressionTree}
+use Rattle.expression_trees.specs.Tree.{ExpressionTree}
+use Rattle.parsing.specs.Parse.{◌>>=◌, Parse, head, is_sign, as_long, repeated}
 use Rattle.expressions.specs.Nesting.{begins_expression}
-use Rattle.expressions.specs.Parse.{◌>>=◌, Parse, head, is_sign}
 use Rattle.expressions.proofs.Follow.{Stops}
 use Rattle.expressions.proofs.Begins.{first_E}
 use Rattle.expressions.proofs.Limited.{Limited, bound, then, at_once, same}
 use Rattle.expressions.proofs.Complete.{at_E}
-use Rattle.statements.specs.Tree.{FlagTree}
-use Rattle.statements.specs.Grammar.{effect_or_none, IsOptional, optional_none, optional_some, optional_nesting}
-use Rattle.statements.specs.Grammar.{IsFlag, flag_given, flag_taken, IsFlags, flags_none, flags_next, IsGiven}
-use Rattle.statements.specs.Grammar.{given_first}
-use Rattle.statements.specs.Parse.{as_long, repeated, named, optional, heading, flag, flags, begins_flag}
+use Rattle.expressions.specs.Parse.{expect_name}
+use Rattle.statement_parts.specs.Tree.{FlagTree}
+use Rattle.statement_parts.specs.Grammar.{effect_or_none, IsOptional, optional_none, optional_some, optional_nesting}
+use Rattle.statement_parts.specs.Grammar.{IsFlag, flag_given, flag_taken, IsFlags, flags_none, flags_next, IsGiven}
+use Rattle.statement_parts.specs.Grammar.{given_first}
+use Rattle.statement_parts.specs.Parse.{optional, heading, flag, flags, begins_flag}
 use Rattle.statements.proofs.Follow.{short_Flag}
 use Rattle.statements.proofs.Deepest.{up}
 use Rattle.statements.proofs.Alternatives.{step_optional_none, step_optional_some, step_effect, step_heading}
@@ -50,7 +51,7 @@ module _ {A : Type 0} (begins : Lexeme → Bool) (p : Parse A) (d : ℕ) where
 -- ---- attributes of `give`
 
 flag_read : {ts r : List Lexeme} {x : FlagTree} → IsFlag ts x r → flag ts ≡ Ok (x, r)
-unfolding flag named
+unfolding flag expect_name
 flag_read flag_given = refl
 flag_read flag_taken = refl
 

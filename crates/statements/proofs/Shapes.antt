@@ -3,9 +3,9 @@ use Rattle.std.proofs.Common.{◌≡◌, List, [], ◌∷◌, Option, Some, None
 use Rattle.std.specs.Prelude.{map}
 use Rattle.std.specs.Global.{Vec, Box}
 use Rattle.lexer.specs.declared.token.Position.{Position}
-use Rattle.expressions.specs.declared.tree.Expression.{Expression}
-use Rattle.expressions.specs.Tree.{expression_tree}
-use Rattle.statements.specs.declared.tree.Range.{Range}
+use Rattle.expression_trees.specs.declared.tree.Expression.{Expression}
+use Rattle.expression_trees.specs.Tree.{expression_tree}
+use Rattle.statement_parts.specs.declared.tree.Range.{Range}
 use Rattle.statements.specs.declared.tree.Statement.{Statement}
 use Rattle.statements.specs.declared.tree.Statement.TheVariants as said
 use Rattle.statements.specs.declared.tree.Statement.TheFolds.{fold-roll-Statement}

@@ -1,11 +1,11 @@
 -- What is read derives in the grammar and is nested no deeper than was allowed; and where the fault is that a token
 -- stands too deep, one does.
-use Rattle.std.proofs.Common.{◌≡◌, ℕ, zero, suc, ◌-◌, ◌<◌, ◌≤◌, ◌⊎◌, true, List, [], ◌∷◌, length, refl, sym, subst}
-use Rattle.std.proofs.Common.{inl, inr, arith}
+use Rattle.std.proofs.Common.{◌≡◌, ℕ, zero, suc, ◌<◌, ◌≤◌, ◌⊎◌, true, List, [], ◌∷◌, length, refl, sym, subst, inl, inr}
+use Rattle.std.proofs.Common.{arith}
 use Rattle.lexer.specs.declared.token.Sign.TheVariants as s
 use Rattle.lexer.specs.declared.token.Word.TheVariants as w
 use Rattle.lexer.specs.Token.{Lexeme, text, reserved, sign}
-use Rattle.expressions.specs.Parse.{head}
+use Rattle.parsing.specs.Parse.{head, as_long, repeated}
 use Rattle.expressions.proofs.Judged.{Judged, judged_read, judged_deep, judged_as}
 use Rattle.statements.specs.Tree.{trees_of, empty, text_alone, print, print_return, new_line, break_at, continue_at}
 use Rattle.statements.specs.Tree.{return_true, return_false, quit}
@@ -16,13 +16,12 @@ use Rattle.statements.specs.Nesting.{begins_statement, begins_in_case, DeepS, de
 use Rattle.statements.specs.Nesting.{DeepInside, deep_inside_begins, deep_inside_first, deep_inside_next, DeepInCase}
 use Rattle.statements.specs.Nesting.{deep_in_case_begins, deep_in_case_first, deep_in_case_next, DeepSs, deep_ss_first}
 use Rattle.statements.specs.Nesting.{deep_ss_next}
-use Rattle.statements.specs.Parse.{as_long, repeated, statement_over, inside, braces, bodies, statement, statements}
+use Rattle.statements.specs.Parse.{statement_over, inside, braces, bodies, statement, statements}
 use Rattle.statements.proofs.SoundRows.{deeper, as_long_judged, repeated_judged}
 use Rattle.statements.proofs.SoundSimple.{ended_judged, printed_judged, returned_judged, read_judged, given_judged}
 use Rattle.statements.proofs.SoundSimple.{moved_judged, removed_judged, alone_judged}
-use Rattle.statements.proofs.SoundNested.{Inner, until_judged, iteration_judged}
-use Rattle.statements.proofs.SoundNested.{traversal_judged, selection_judged, choice_judged, repetition_judged}
-use Rattle.statements.proofs.SoundNested.{braced_judged}
+use Rattle.statements.proofs.SoundNested.{Inner, until_judged, iteration_judged, traversal_judged, selection_judged}
+use Rattle.statements.proofs.SoundNested.{choice_judged, repetition_judged, braced_judged}
 
 module _ (d : ℕ) (inner : Inner d) where
   over_judged : (ts : List Lexeme) → Judged (λ x r. IsS ts x r × (statement_nesting x ≤ d)) (DeepS (suc d) ts)

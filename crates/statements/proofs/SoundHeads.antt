@@ -1,26 +1,26 @@
 -- What is read in the parentheses of a `for`, of an `objectloop` and of a condition derives in the grammar.
-use Rattle.std.proofs.Common.{◌≡◌, ℕ, zero, suc, ◌-◌, ◌<◌, ◌≤◌, max, ◌⊎◌, true, List, [], ◌∷◌, Some, None, refl, sym}
-use Rattle.std.proofs.Common.{subst, inl, inr, arith}
+use Rattle.std.proofs.Common.{◌≡◌, ℕ, zero, suc, ◌<◌, ◌≤◌, max, ◌⊎◌, true, List, [], ◌∷◌, Some, None, refl, sym, subst}
+use Rattle.std.proofs.Common.{inl, inr, arith}
 use Rattle.lexer.specs.declared.token.Position.{Position}
 use Rattle.lexer.specs.declared.token.Sign.{Sign}
 use Rattle.lexer.specs.declared.token.Sign.TheVariants as s
 use Rattle.lexer.specs.declared.token.Word.TheVariants as w
 use Rattle.lexer.specs.Token.{Lexeme, reserved, sign, position_of}
-use Rattle.expressions.specs.Tree.{ExpressionTree}
+use Rattle.expression_trees.specs.Tree.{ExpressionTree}
+use Rattle.parsing.specs.Parse.{head, tail, is_sign, expect}
 use Rattle.expressions.specs.Grammar.{IsE, nesting}
 use Rattle.expressions.specs.Nesting.{DeepE}
-use Rattle.expressions.specs.Parse.{head, tail, is_sign, expect}
 use Rattle.expressions.proofs.Judged.{Judged, judged_read, judged_grammar, judged_deep, judged_then, judged_after}
 use Rattle.expressions.proofs.Judged.{judged_by, judged_as}
 use Rattle.expressions.proofs.Tokens.{expect_ok, expect_not_deep}
 use Rattle.expressions.proofs.Sound.{judged_E, judged_whole}
-use Rattle.statements.specs.Tree.{HeadingTree}
-use Rattle.statements.specs.Grammar.{else_follows, effect_or_none, IsOptional, optional_none, optional_some}
-use Rattle.statements.specs.Grammar.{optional_nesting}
-use Rattle.statements.specs.Nesting.{DeepHeading, deep_heading_before, deep_heading_test, deep_heading_behind, DeepS}
-use Rattle.statements.specs.Nesting.{deep_s_objectloop_head}
-use Rattle.statements.specs.Parse.{enclosed_condition, optional, optional_effect, heading, heading_in}
-use Rattle.statements.specs.Parse.{enclosed_heading}
+use Rattle.statement_parts.specs.Tree.{HeadingTree}
+use Rattle.statement_parts.specs.Grammar.{effect_or_none, IsOptional, optional_none, optional_some, optional_nesting}
+use Rattle.statement_parts.specs.Nesting.{DeepHeading, deep_heading_before, deep_heading_test, deep_heading_behind}
+use Rattle.statement_parts.specs.Parse.{enclosed_condition, optional, optional_effect, heading, heading_in}
+use Rattle.statement_parts.specs.Parse.{enclosed_heading}
+use Rattle.statements.specs.Grammar.{else_follows}
+use Rattle.statements.specs.Nesting.{DeepS, deep_s_objectloop_head}
 use Rattle.statements.proofs.LoopHeads.{DeepLoop}
 
 -- ---- the parts of a `for`

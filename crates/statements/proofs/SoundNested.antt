@@ -1,30 +1,33 @@
 -- What is read of a statement in which others stand derives in the grammar, where what is read of those does.
-use Rattle.std.proofs.Common.{◌≡◌, ℕ, suc, ◌-◌, ◌<◌, ◌≤◌, ◌⊎◌, true, List, [], ◌∷◌, length, Option, Some, None, sym}
-use Rattle.std.proofs.Common.{ap, subst, ◌∙◌, inl, inr, arith}
+use Rattle.std.proofs.Common.{◌≡◌, ℕ, suc, ◌-◌, ◌<◌, ◌≤◌, ◌⊎◌, true, List, [], ◌∷◌, length, Option, Some, None, sym, ap}
+use Rattle.std.proofs.Common.{subst, ◌∙◌, inl, inr, arith}
 use Rattle.lexer.specs.declared.token.Position.{Position}
 use Rattle.lexer.specs.declared.token.Sign.TheVariants as s
 use Rattle.lexer.specs.declared.token.Word.TheVariants as w
 use Rattle.lexer.specs.Token.{Lexeme, reserved, sign, position_of}
+use Rattle.parsing.specs.Parse.{head, tail, is_word, expect, expect_word}
 use Rattle.expressions.specs.Grammar.{IsE}
 use Rattle.expressions.specs.Nesting.{DeepE}
-use Rattle.expressions.specs.Parse.{head, tail, is_word, expect, expect_word}
 use Rattle.expressions.proofs.Judged.{Judged, judged_read, judged_grammar, judged_then, judged_after, judged_by}
 use Rattle.expressions.proofs.Judged.{judged_as}
 use Rattle.expressions.proofs.Tokens.{at_word, expect_ok, expect_not_deep, expect_word_ok, expect_word_not_deep}
+use Rattle.statement_parts.specs.Grammar.{IsRanges}
+use Rattle.statement_parts.specs.Nesting.{DeepHeading}
+use Rattle.statement_parts.specs.Parse.{begins_value, value}
 use Rattle.statements.specs.Tree.{StatementTree, CaseTree, trees_of, cases_of, block, if_then, if_else, while_do}
 use Rattle.statements.specs.Tree.{do_until, for_loop, switch_on, default_case, loop_over}
-use Rattle.statements.specs.Grammar.{else_follows, IsRanges, IsS, s_block, s_if, s_if_else, s_while, s_do, s_for}
-use Rattle.statements.specs.Grammar.{s_switch, IsSs, IsCases, cases_none, cases_default, cases_next, statement_nesting}
-use Rattle.statements.specs.Grammar.{inside_nesting, cases_nesting, s_objectloop}
-use Rattle.statements.specs.Nesting.{begins_statement, DeepHeading, DeepS, deep_s_brace, deep_s_block, deep_s_if}
+use Rattle.statements.specs.Grammar.{else_follows, IsS, s_block, s_if, s_if_else, s_while, s_do, s_for, s_switch, IsSs}
+use Rattle.statements.specs.Grammar.{IsCases, cases_none, cases_default, cases_next, statement_nesting, inside_nesting}
+use Rattle.statements.specs.Grammar.{cases_nesting, s_objectloop}
+use Rattle.statements.specs.Nesting.{begins_statement, DeepS, deep_s_brace, deep_s_block, deep_s_if}
 use Rattle.statements.specs.Nesting.{deep_s_if_condition, deep_s_if_then, deep_s_if_else, deep_s_while}
-use Rattle.statements.specs.Nesting.{deep_s_while_condition, deep_s_while_do, deep_s_do_begins, deep_s_do}
-use Rattle.statements.specs.Nesting.{deep_s_until, deep_s_until_condition, deep_s_for, deep_s_for_parts}
-use Rattle.statements.specs.Nesting.{deep_s_for_body, deep_s_switch, deep_s_switch_value, deep_s_switch_brace}
-use Rattle.statements.specs.Nesting.{deep_s_switch_cases, DeepInside, DeepCases, deep_cases_first, deep_cases_next}
-use Rattle.statements.specs.Nesting.{deep_cases_default, DeepInCase, deep_s_objectloop, deep_s_objectloop_body}
-use Rattle.statements.specs.Parse.{traversal, begins_value, value, choice, repetition, entered, until, iteration}
-use Rattle.statements.specs.Parse.{one_case, cases, otherwise, selection, braced, inside, braces, bodies}
+use Rattle.statements.specs.Nesting.{deep_s_while_condition, deep_s_while_do, deep_s_do_begins, deep_s_do, deep_s_until}
+use Rattle.statements.specs.Nesting.{deep_s_until_condition, deep_s_for, deep_s_for_parts, deep_s_for_body}
+use Rattle.statements.specs.Nesting.{deep_s_switch, deep_s_switch_value, deep_s_switch_brace, deep_s_switch_cases}
+use Rattle.statements.specs.Nesting.{DeepInside, DeepCases, deep_cases_first, deep_cases_next, deep_cases_default}
+use Rattle.statements.specs.Nesting.{DeepInCase, deep_s_objectloop, deep_s_objectloop_body}
+use Rattle.statements.specs.Parse.{traversal, choice, repetition, entered, until, iteration, one_case, cases, otherwise}
+use Rattle.statements.specs.Parse.{selection, braced, inside, braces, bodies}
 use Rattle.statements.proofs.KnownValues.{ranges_judged}
 use Rattle.statements.proofs.LoopHeads.{DeepLoop, nests_over, enclosed_loop_judged}
 use Rattle.statements.proofs.SoundRows.{deeper, repeated_judged}

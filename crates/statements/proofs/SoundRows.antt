@@ -1,10 +1,9 @@
 -- Items as long as one begins: what is read of them, from what is read of each.
-use Rattle.std.proofs.Common.{◌≡◌, ◌&&◌, ℕ, zero, suc, ◌-◌, ◌⊎◌, Bool, true, false, List, [], ◌∷◌, refl, sym, subst}
-use Rattle.std.proofs.Common.{inl, inr}
+use Rattle.std.proofs.Common.{◌≡◌, ◌&&◌, ℕ, zero, suc, ◌⊎◌, Bool, true, false, List, [], ◌∷◌, refl, sym, subst, inl}
+use Rattle.std.proofs.Common.{inr}
 use Rattle.lexer.specs.Token.{Lexeme}
-use Rattle.expressions.specs.Parse.{Parse, head}
+use Rattle.parsing.specs.Parse.{Parse, head, as_long, repeated}
 use Rattle.expressions.proofs.Judged.{Judged, judged_read, judged_then, judged_by}
-use Rattle.statements.specs.Parse.{as_long, repeated}
 
 -- one nesting further in: at its first token, or behind that
 pub deeper : (D E : ℕ → Type 0) (d : ℕ) → E 1 → ((n : ℕ) → D n → E (suc n)) → (d ≡ 0) ⊎ D d → E (suc d)

@@ -1,13 +1,13 @@
 -- What is read of a statement in which no other stands derives in the grammar, nested no deeper than was allowed.
-use Rattle.std.proofs.Common.{◌≡◌, ◌&&◌, ℕ, zero, suc, ◌-◌, ◌≤◌, true, false, List, [], ◌∷◌, length, refl, sym, ap}
-use Rattle.std.proofs.Common.{subst, ◌∙◌, arith}
+use Rattle.std.proofs.Common.{◌≡◌, ◌&&◌, ℕ, zero, suc, ◌≤◌, true, false, List, [], ◌∷◌, length, refl, sym, ap, subst}
+use Rattle.std.proofs.Common.{◌∙◌, arith}
 use Rattle.lexer.specs.declared.token.Position.{Position}
 use Rattle.lexer.specs.declared.token.Sign.TheVariants as s
 use Rattle.lexer.specs.declared.token.Word.TheVariants as w
 use Rattle.lexer.specs.Token.{Lexeme, name, text, reserved, sign, position_of}
-use Rattle.expressions.specs.Tree.{ExpressionTree}
+use Rattle.expression_trees.specs.Tree.{ExpressionTree}
+use Rattle.parsing.specs.Parse.{head, tail, is_sign, is_word, expect, expect_word, repeated}
 use Rattle.expressions.specs.Grammar.{IsE}
-use Rattle.expressions.specs.Parse.{head, tail, is_sign, is_word, expect, expect_word}
 use Rattle.expressions.proofs.Judged.{Judged, judged_read, judged_grammar, judged_deep, judged_then, judged_after}
 use Rattle.expressions.proofs.Judged.{judged_by}
 use Rattle.expressions.proofs.Tokens.{at_sign, at_word, is_that_sign, expect_ok, expect_not_deep, expect_word_ok}
@@ -15,19 +15,21 @@ use Rattle.expressions.proofs.Tokens.{expect_word_not_deep}
 use Rattle.expressions.proofs.Repeated.{list_judged}
 use Rattle.expressions.proofs.Short.{short_E}
 use Rattle.expressions.proofs.Sound.{judged_E}
-use Rattle.statements.specs.Tree.{PrintItemTree, text_item, character_item, number_item, StatementTree, return_alone}
-use Rattle.statements.specs.Tree.{return_value, read_line, effect, object_item, give, move, remove}
-use Rattle.statements.specs.Grammar.{has_effect, IsItem, item_text, item_character, item_number, IsItems, items_last}
-use Rattle.statements.specs.Grammar.{items_comma, IsS, s_return, s_return_value, s_read, s_effect, item_nesting}
-use Rattle.statements.specs.Grammar.{items_nesting, statement_nesting, item_object, IsFlag, flag_given, flag_taken}
-use Rattle.statements.specs.Grammar.{IsFlags, flags_none, flags_next, IsGiven, given_first, s_give, s_move, s_remove}
-use Rattle.statements.specs.Nesting.{DeepItem, deep_item_parenthesis, deep_item_character, deep_item_number, DeepItems}
-use Rattle.statements.specs.Nesting.{deep_items_first, deep_items_next, DeepS, deep_s_return, deep_s_effect}
-use Rattle.statements.specs.Nesting.{deep_item_object_parenthesis, deep_item_object, deep_s_give, deep_s_move}
-use Rattle.statements.specs.Nesting.{deep_s_move_to, deep_s_remove}
-use Rattle.statements.specs.Parse.{flag, flags, begins_flag, given, moved, removed, repeated, ended, line_read, cast}
-use Rattle.statements.specs.Parse.{value, item, items, printed, returned, alone}
-use Rattle.statements.proofs.NamesRead.{named_judged}
+use Rattle.expressions.proofs.NamesRead.{name_judged}
+use Rattle.statement_parts.specs.Tree.{PrintItemTree, text_item, character_item, number_item, object_item}
+use Rattle.statement_parts.specs.Grammar.{has_effect, IsItem, item_text, item_character, item_number, IsItems}
+use Rattle.statement_parts.specs.Grammar.{items_last, items_comma, item_nesting, items_nesting, item_object, IsFlag}
+use Rattle.statement_parts.specs.Grammar.{flag_given, flag_taken, IsFlags, flags_none, flags_next, IsGiven, given_first}
+use Rattle.statement_parts.specs.Nesting.{DeepItem, deep_item_parenthesis, deep_item_character, deep_item_number}
+use Rattle.statement_parts.specs.Nesting.{DeepItems, deep_items_first, deep_items_next, deep_item_object_parenthesis}
+use Rattle.statement_parts.specs.Nesting.{deep_item_object}
+use Rattle.statement_parts.specs.Parse.{flag, flags, begins_flag, cast, value, item, items}
+use Rattle.statements.specs.Tree.{StatementTree, return_alone, return_value, read_line, effect, give, move, remove}
+use Rattle.statements.specs.Grammar.{IsS, s_return, s_return_value, s_read, s_effect, statement_nesting, s_give, s_move}
+use Rattle.statements.specs.Grammar.{s_remove}
+use Rattle.statements.specs.Nesting.{DeepS, deep_s_return, deep_s_effect, deep_s_give, deep_s_move, deep_s_move_to}
+use Rattle.statements.specs.Nesting.{deep_s_remove}
+use Rattle.statements.specs.Parse.{given, moved, removed, ended, line_read, printed, returned, alone}
 use Rattle.statements.proofs.SoundRows.{both, repeated_judged}
 
 -- ---- statements without statements inside them
@@ -177,8 +179,8 @@ pub read_judged : (d : ℕ) (p : Position) (ts : List Lexeme)
     (DeepS (suc d) (reserved w.Read p ∷ ts)) (line_read ts)
 unfolding line_read
 read_judged d p ts =
-    judged_then _ (named_judged ts)
-    (λ a m h. judged_then _ (named_judged m)
+    judged_then _ (name_judged ts)
+    (λ a m h. judged_then _ (name_judged m)
     (λ b u g. ended_judged (read_line a b) u
     (λ j r e.
     let at = h ∙ ap (λ us. name a.text a.position ∷ us) (g ∙ ap (λ us. name b.text b.position ∷ us) e) in
@@ -190,12 +192,12 @@ flag_judged : (ts : List Lexeme) → Judged (IsFlag ts) ⊥ (flag ts)
 unfolding flag
 flag_judged ts =
     judged_by (is_sign s.Tilde (head ts)) _ _
-    (λ e. judged_then _ (named_judged (tail ts))
+    (λ e. judged_then _ (name_judged (tail ts))
     (λ n r h.
     let at = at_sign s.Tilde ts e ∙ ap (λ us. sign s.Tilde (position_of (head ts)) ∷ us) h in
     judged_read (false, n) r (subst (λ us. IsFlag us (false, n) r) (sym at) flag_taken))
     (λ x. x))
-    (λ e. judged_then _ (named_judged ts)
+    (λ e. judged_then _ (name_judged ts)
     (λ n r h. judged_read (true, n) r (subst (λ us. IsFlag us (true, n) r) (sym h) flag_given))
     (λ x. x))
 

@@ -11,13 +11,16 @@ use Rattle.lexer.specs.declared.token.Position.{Position}
 use Rattle.lexer.specs.declared.token.Sign.TheVariants as s
 use Rattle.lexer.specs.declared.token.Word.{Word}
 use Rattle.lexer.specs.declared.token.Word.TheVariants as w
-use Rattle.lexer.specs.Token.{Lexeme, name, number, text, character, dictionary_word, reserved, sign}
-use Rattle.expressions.specs.Tree.{ExpressionTree}
+use Rattle.lexer.specs.Token.{Lexeme, name, text, reserved, sign}
+use Rattle.expression_trees.specs.Tree.{ExpressionTree}
+use Rattle.parsing.specs.Parse.{head}
 use Rattle.expressions.specs.Grammar.{IsE}
 use Rattle.expressions.specs.Nesting.{begins_expression, DeepE, DeepE1}
-use Rattle.expressions.specs.Parse.{head, tail}
-use Rattle.statements.specs.Tree.{RangeTree, LoopTree, PrintItemTree, StatementTree, StatementTrees}
-use Rattle.statements.specs.Grammar.{IsRanges, IsOptional, effect_or_none, IsLoop, IsItem, IsS, IsSs}
+use Rattle.statement_parts.specs.Nesting.{begins_case, DeepItems, DeepHeading}
+use Rattle.statement_parts.specs.Tree.{RangeTree, LoopTree}
+use Rattle.statement_parts.specs.Grammar.{IsRanges, IsOptional, effect_or_none, IsLoop}
+use Rattle.statements.specs.Tree.{StatementTree, StatementTrees}
+use Rattle.statements.specs.Grammar.{IsS, IsSs}
 
 -- the words with which a statement can begin
 abbrev pub word_opens : Word → Bool
@@ -54,58 +57,9 @@ opens_statement _ = false
 unfoldable pub begins_statement : Lexeme → Bool
 begins_statement t = opens_statement t || begins_expression t
 
--- the tokens that can stand behind a value at the beginning of a case
-abbrev pub goes_on_in_case : Lexeme → Bool
-goes_on_in_case (sign s.Comma _) = true
-goes_on_in_case (sign s.Colon _) = true
-goes_on_in_case (reserved w.To _) = true
-goes_on_in_case _ = false
-
--- three tokens with which a case can begin: a value, and `,`, `to` or `:` behind it
-abbrev pub case_begins : Lexeme → Lexeme → Lexeme → Bool
-case_begins (number _ _) t u = goes_on_in_case t
-case_begins (character _ _) t u = goes_on_in_case t
-case_begins (dictionary_word _ _) t u = goes_on_in_case t
-case_begins (reserved w.True _) t u = goes_on_in_case t
-case_begins (reserved w.False _) t u = goes_on_in_case t
-case_begins (reserved w.Nothing _) t u = goes_on_in_case t
-case_begins (name _ _) t u = goes_on_in_case t
-case_begins (sign s.Minus _) (number _ _) u = goes_on_in_case u
-case_begins _ t u = false
-
-unfoldable pub begins_case : List Lexeme → Bool
-begins_case ts = case_begins (head ts) (head (tail ts)) (head (tail (tail ts)))
-
 -- a statement of a case goes on with it
 abbrev pub begins_in_case : List Lexeme → Bool
 begins_in_case ts = begins_statement (head ts) && not (begins_case ts)
-
--- Item = text | "(" "char" ")" E | "(" "object" ")" E | E
-pub data DeepItem : ℕ → List Lexeme → Type 0 where
-  deep_item_parenthesis : {m : List Lexeme} {p q : Position}
-      → DeepItem 1 (sign s.OpenParenthesis p ∷ reserved w.Char q ∷ m)
-  deep_item_character : {n : ℕ} {m : List Lexeme} {p q o : Position} → DeepE n m
-      → DeepItem n (sign s.OpenParenthesis p ∷ reserved w.Char q ∷ sign s.CloseParenthesis o ∷ m)
-  deep_item_object_parenthesis : {m : List Lexeme} {p q : Position}
-      → DeepItem 1 (sign s.OpenParenthesis p ∷ reserved w.Object q ∷ m)
-  deep_item_object : {n : ℕ} {m : List Lexeme} {p q o : Position} → DeepE n m
-      → DeepItem n (sign s.OpenParenthesis p ∷ reserved w.Object q ∷ sign s.CloseParenthesis o ∷ m)
-  deep_item_number : {n : ℕ} {ts : List Lexeme} → DeepE n ts → DeepItem n ts
-
--- Item {"," Item}
-pub data DeepItems : ℕ → List Lexeme → Type 0 where
-  deep_items_first : {n : ℕ} {ts : List Lexeme} → DeepItem n ts → DeepItems n ts
-  deep_items_next : {n : ℕ} {ts m : List Lexeme} {p : Position} {i : PrintItemTree}
-      → IsItem ts i (sign s.Comma p ∷ m) → DeepItems n m → DeepItems n ts
-
--- [X] ":" [E] ":" [X]
-pub data DeepHeading : ℕ → List Lexeme → Type 0 where
-  deep_heading_before : {n : ℕ} {m : List Lexeme} → DeepE n m → DeepHeading n m
-  deep_heading_test : {n : ℕ} {m k : List Lexeme} {p : Position} {a : Option ExpressionTree}
-      → IsOptional m a (sign s.Colon p ∷ k) → effect_or_none a ≡ true → DeepE n k → DeepHeading n m
-  deep_heading_behind : {n : ℕ} {m k l : List Lexeme} {p q : Position} {a b : Option ExpressionTree}
-      → IsOptional m a (sign s.Colon p ∷ k) → effect_or_none a ≡ true → IsOptional k b (sign s.Colon q ∷ l)
-      → DeepE n l → DeepHeading n m
 
 mutual
   -- S = .. | "{" {S} "}" | ("print" | "print_ret") Item {"," Item} ";" | "if" "(" E ")" S ["else" S]

@@ -1,55 +1,17 @@
 -- Trees of statements, without where they lie in memory.
-use Rattle.std.specs.Prelude.{Bool, ℕ, List, [], ◌∷◌, map, Option, Some, None}
-use Rattle.std.specs.Global.{Vec, Box}
+use Rattle.std.specs.Prelude.{ℕ, List, [], ◌∷◌, map, Option, Some, None}
+use Rattle.std.specs.Global.{Vec}
 use Rattle.std.specs.Option.{option_map}
 use Rattle.lexer.specs.declared.token.Position.{Position}
-use Rattle.expressions.specs.declared.tree.Expression.{Expression}
-use Rattle.expressions.specs.declared.tree.Name.{Name}
-use Rattle.expressions.specs.Tree.{NameTree, name_tree, ExpressionTree, expression_tree}
-use Rattle.statements.specs.declared.tree.Literal.{Literal}
-use Rattle.statements.specs.declared.tree.Literal.TheVariants as values
-use Rattle.statements.specs.declared.tree.Range.{Range}
-use Rattle.statements.specs.declared.tree.Heading.{Heading}
-use Rattle.statements.specs.declared.tree.Loop.{Loop}
-use Rattle.statements.specs.declared.tree.Loop.TheVariants as loops
-use Rattle.statements.specs.declared.tree.PrintItem.{PrintItem}
-use Rattle.statements.specs.declared.tree.PrintItem.TheVariants as items
+use Rattle.expression_trees.specs.Tree.{NameTree, name_tree, ExpressionTree, expression_tree}
+use Rattle.statement_parts.specs.Tree.{RangeTree, LoopTree, over_all, over_in, over_where, FlagTree, PrintItemTree}
+use Rattle.statement_parts.specs.Tree.{range_tree, part_tree, loop_tree, flag_tree, item_tree}
+use Rattle.statement_parts.specs.declared.tree.Range.{Range}
+use Rattle.statement_parts.specs.declared.tree.PrintItem.TheVariants as items
 use Rattle.statements.specs.declared.tree.SimpleStatement.{SimpleStatement}
 use Rattle.statements.specs.declared.tree.SimpleStatement.TheVariants as simple
 use Rattle.statements.specs.declared.tree.Statement.{Statement, fold-Statement}
 use Rattle.statements.specs.declared.tree.Statement.TheOpen.{Statement-F}
-
-pub data LiteralTree : Type 0 where
-  number_value : ℕ → LiteralTree
-  word_value : List ℕ → LiteralTree
-  named_value : NameTree → LiteralTree
-
-pub record RangeTree : Type 0 where
-  pub low : LiteralTree
-  pub high : Option LiteralTree
-
--- what stands in the parentheses of a `for`
-pub record HeadingTree : Type 0 where
-  pub before : Option ExpressionTree
-  pub test : Option ExpressionTree
-  pub behind : Option ExpressionTree
-
--- what stands in the parentheses of an `objectloop`: its variable alone, over all objects; its variable, and the object
--- whose children it goes over; its variable, and a condition that begins with it
-pub data LoopTree : Type 0 where
-  over_all : NameTree → LoopTree
-  over_in : NameTree → ExpressionTree → LoopTree
-  over_where : NameTree → ExpressionTree → LoopTree
-
--- an attribute, and whether it is given or taken
-abbrev pub FlagTree : Type 0
-FlagTree = Bool × NameTree
-
-pub data PrintItemTree : Type 0 where
-  text_item : List ℕ → PrintItemTree
-  character_item : Position → ExpressionTree → PrintItemTree
-  object_item : Position → ExpressionTree → PrintItemTree
-  number_item : Position → ExpressionTree → PrintItemTree
 
 mutual
   pub data StatementTree : Type 0 where
@@ -104,37 +66,9 @@ loop_over p (over_where n e) x = each_where p n e x
 
 -- The tree of a statement of the code
 
-abbrev pub literal_tree : Literal → LiteralTree
-literal_tree (values.Number n) = number_value n
-literal_tree (values.Word s) = word_value s.now
-literal_tree (values.Named n) = named_value (name_tree n)
-
-abbrev pub range_tree : Range → RangeTree
-range_tree r = record { low = literal_tree r.low; high = option_map literal_tree r.high }
-
 -- a case: its ranges and its statements
 abbrev pub CaseTree : Type 0
 CaseTree = List RangeTree × StatementTrees
-
-abbrev pub part_tree : Option (Box Expression) → Option ExpressionTree
-part_tree e = option_map (λ x. expression_tree x.value) e
-
-abbrev pub heading_tree : Heading → HeadingTree
-heading_tree h = record { before = part_tree h.before; test = part_tree h.test; behind = part_tree h.behind }
-
-abbrev pub loop_tree : Loop → LoopTree
-loop_tree (loops.All n) = over_all (name_tree n)
-loop_tree (loops.In n e) = over_in (name_tree n) (expression_tree e.value)
-loop_tree (loops.Where n e) = over_where (name_tree n) (expression_tree e.value)
-
-abbrev pub flag_tree : Bool × Name → FlagTree
-flag_tree x = (x.0, name_tree x.1)
-
-abbrev pub item_tree : PrintItem → PrintItemTree
-item_tree (items.Text s) = text_item s.now
-item_tree (items.Character p e) = character_item p (expression_tree e.value)
-item_tree (items.Object p e) = object_item p (expression_tree e.value)
-item_tree (items.Number p e) = number_item p (expression_tree e.value)
 
 abbrev pub simple_tree : SimpleStatement → StatementTree
 simple_tree simple.Empty = empty

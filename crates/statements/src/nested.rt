@@ -2,25 +2,25 @@
 
 ghost use Rattle.std.specs.Prelude.{◌≡◌, ◌<◌, map};
 ghost use Rattle.lexer.specs.Token.{lexeme, lexemes};
-ghost use Rattle.expressions.specs.Parse.{tail};
-ghost use Rattle.expressions.specs.Returned.{Reads};
+ghost use Rattle.parsing.specs.Parse.{tail};
+ghost use Rattle.parsing.specs.Returned.{ahead, Takes};
 ghost use Rattle.statements.specs.Grammar as grammar;
 ghost use Rattle.statements.specs.Nesting as nesting;
 ghost use Rattle.statements.specs.Tree.{statement_tree, case_tree, other_tree};
-ghost use Rattle.statements.specs.Returned.{ahead, Takes, TakesStatement};
+ghost use Rattle.statements.specs.Returned.{TakesStatement};
 ghost use Rattle.statements.specs.Parse as spec;
 
-use crate::conditions::enclosed_condition;
-use crate::headings::enclosed_heading;
-use crate::objectloop::enclosed_loop;
-use crate::parser::{Parser, expect, expect_word, pass};
 use crate::parts;
 use crate::parts::plain;
-use crate::tree::{Range, Statement};
-use crate::values::{begins_case, begins_value, ranges};
-use expressions::{Fault, ParseError, begins_expression, fault_at, is_word, open, peek};
+use crate::tree::Statement;
+use expressions::begins_expression;
 use lexer::{Kind, Position, Sign, Token, Word};
-use std::alloc::Global;
+use parsing::{
+    Fault, ParseError, Parser, expect, expect_word, fault_at, is_sign, is_word, open, pass, peek,
+};
+use statement_parts::{
+    Range, begins_case, begins_value, enclosed_condition, enclosed_heading, enclosed_loop, ranges,
+};
 
 // Whether the word begins a statement.
 fn word_opens(word: Word) -> bool
@@ -83,8 +83,7 @@ fn else_follows(tokens: &[Token<'_>]) -> bool
     is_word(peek(tokens), Word::Else)
 }
 
-/// Statements in a row, up to a token with which none can begin, and the tokens from there on. In each of them `depth`
-/// nestings more may be opened.
+/// Statements in a row, up to a token with which none can begin. In each of them `depth` nestings more may be opened.
 ///
 /// A statement is
 ///
@@ -113,25 +112,12 @@ fn else_follows(tokens: &[Token<'_>]) -> bool
 /// - `Fault::Grammar` at the first token with which no derivation goes on.
 /// - `Fault::Deep` at the token for which no nesting is left.
 /// - `Memory`: a growth is refused.
-pub fn statements<'t, 'a>(
-    alloc: Global,
-    depth: usize,
-    tokens: &'t [Token<'a>],
-) -> Result<(Vec<Statement<'a>>, &'t [Token<'a>]), ParseError>
-    ensures { Reads (λ xs. map statement_tree xs.items) result
-        (spec.statements depth (lexemes tokens.now)) }
-{
-    let mut parser = Parser { alloc, tokens };
-    match row(&mut parser, depth) {
-        Ok(found) => Ok((found, parser.tokens)),
-        Err(e) => Err(e),
-    }
-}
-
-// Statements in a row, up to a token with which none can begin. In each of them `depth` nestings more may be opened.
 #[cycle(statement)]
-#[tactic(auto, unfolding(crate::specs::Parse::statements), using(crate::proofs::Loops::repeated_out, crate::proofs::Loops::repeated_done, crate::proofs::Loops::repeated_more, crate::proofs::Loops::repeated_fails, crate::proofs::Loops::joined_none))]
-fn row<'t, 'a>(parser: &mut Parser<'t, 'a>, depth: usize) -> Result<Vec<Statement<'a>>, ParseError>
+#[tactic(auto, unfolding(crate::specs::Parse::statements), using(parsing::proofs::Loops::repeated_out, parsing::proofs::Loops::repeated_done, parsing::proofs::Loops::repeated_more, parsing::proofs::Loops::repeated_fails, parsing::proofs::Loops::joined_none))]
+pub fn statements<'t, 'a>(
+    parser: &mut Parser<'t, 'a>,
+    depth: usize,
+) -> Result<Vec<Statement<'a>>, ParseError>
     ensures { Takes (λ xs. map statement_tree xs.items) result parser.new
         (spec.statements depth (ahead parser.old)) }
 {
@@ -165,7 +151,7 @@ fn braces<'t, 'a>(
         return Ok(Vec::new(parser.alloc));
     }
     let inside = open(inside, parser.tokens)?;
-    row(parser, inside)
+    statements(parser, inside)
 }
 
 // A block, from its brace on.
@@ -317,7 +303,7 @@ fn traversal<'t, 'a>(
 
 // The statements of a case, up to the next case. The brace of its `switch` is a nesting, and so is each statement.
 #[cycle(statement)]
-#[tactic(auto, using(crate::proofs::Inside::bodies_zero, crate::proofs::Loops::as_long_out, crate::proofs::Loops::as_long_done, crate::proofs::Loops::as_long_more, crate::proofs::Loops::as_long_fails, crate::proofs::Loops::joined_none))]
+#[tactic(auto, using(crate::proofs::Inside::bodies_zero, parsing::proofs::Loops::as_long_out, parsing::proofs::Loops::as_long_done, parsing::proofs::Loops::as_long_more, parsing::proofs::Loops::as_long_fails, parsing::proofs::Loops::joined_none))]
 fn bodies<'t, 'a>(
     parser: &mut Parser<'t, 'a>,
     depth: usize,
@@ -359,7 +345,7 @@ fn one_case<'t, 'a>(
 
 // Cases, up to `default` or a brace.
 #[cycle(statement)]
-#[tactic(auto, unfolding(crate::specs::Parse::cases), using(crate::proofs::Loops::repeated_out, crate::proofs::Loops::repeated_done, crate::proofs::Loops::repeated_more, crate::proofs::Loops::repeated_fails, crate::proofs::Loops::joined_none))]
+#[tactic(auto, unfolding(crate::specs::Parse::cases), using(parsing::proofs::Loops::repeated_out, parsing::proofs::Loops::repeated_done, parsing::proofs::Loops::repeated_more, parsing::proofs::Loops::repeated_fails, parsing::proofs::Loops::joined_none))]
 fn cases<'t, 'a>(
     parser: &mut Parser<'t, 'a>,
     depth: usize,
@@ -395,7 +381,9 @@ fn otherwise<'t, 'a>(
     }
     pass(parser);
     // The colon stands for the brace of a block, and is not passed here.
-    expressions::expect(Sign::Colon, parser.tokens)?;
+    if !is_sign(peek(parser.tokens), Sign::Colon) {
+        return Err(fault_at(Fault::Grammar, parser.tokens));
+    }
     match braces(parser, depth) {
         Ok(found) => Ok(Some(found)),
         Err(e) => Err(e),

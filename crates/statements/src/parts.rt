@@ -2,19 +2,21 @@
 //! is spelled here and in `simple` alone.
 
 ghost use Rattle.std.specs.Prelude.{◌≡◌, IfErr, IfOk, Ok, map, [], ◌∷◌, ◌++◌};
-ghost use Rattle.expressions.specs.Tree.{expression_tree};
-ghost use Rattle.expressions.specs.Parse as reading;
+ghost use Rattle.expression_trees.specs.Tree.{expression_tree};
+ghost use Rattle.parsing.specs.Parse as reading;
+ghost use Rattle.parsing.specs.Returned.{ahead};
+ghost use Rattle.statement_parts.specs.Tree.{heading_tree, loop_tree};
 ghost use Rattle.statements.specs.Tree as tree;
 ghost use Rattle.statements.specs.Tree.{statement_tree, case_tree, other_tree};
-ghost use Rattle.statements.specs.Tree.{heading_tree, loop_tree};
-ghost use Rattle.statements.specs.Returned.{ahead, TakesStatement};
+ghost use Rattle.statements.specs.Returned.{TakesStatement};
 ghost use Rattle.statements.specs.Parse as spec;
 
-use crate::parser::{Parser, expect};
 use crate::simple::simple;
-use crate::tree::{Heading, Loop, Range, Statement};
-use expressions::{Expression, ParseError};
+use crate::tree::Statement;
+use expression_trees::Expression;
 use lexer::{Position, Sign};
+use parsing::{ParseError, Parser, expect};
+use statement_parts::{Heading, Loop, Range};
 
 /// A statement in a box. Where memory is refused the statement is dropped here. The parser comes first here and in what
 /// follows, also where nothing is read: so the lifetimes of the arguments have the places that they have in the callers,

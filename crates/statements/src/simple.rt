@@ -1,20 +1,20 @@
 //! Statements without statements inside them, read from tokens.
 
-ghost use Rattle.std.specs.Prelude.{◌≡◌, Ok};
-ghost use Rattle.expressions.specs.Tree.{expression_tree};
-ghost use Rattle.expressions.specs.Parse as reading;
-ghost use Rattle.statements.specs.Grammar as grammar;
+ghost use Rattle.std.specs.Prelude.{Ok};
+ghost use Rattle.parsing.specs.Parse as reading;
+ghost use Rattle.parsing.specs.Returned.{ahead};
 ghost use Rattle.statements.specs.Tree as tree;
 ghost use Rattle.statements.specs.Tree.{simple_tree};
-ghost use Rattle.statements.specs.Returned.{ahead, TakesSimple};
+ghost use Rattle.statements.specs.Returned.{TakesSimple};
 ghost use Rattle.statements.specs.Parse as spec;
 
-use crate::items::items;
-use crate::names::flags;
-use crate::parser::{Parser, expect, expect_word, expression, name, pass};
 use crate::tree::SimpleStatement;
-use expressions::{Expression, Fault, ParseError, fault_at, is_sign, peek, position};
+use expressions::{expression, name};
 use lexer::{Kind, Position, Sign, Word};
+use parsing::{
+    Fault, ParseError, Parser, expect, expect_word, fault_at, is_sign, pass, peek, position,
+};
+use statement_parts::{flags, has_effect, items};
 
 // The statement in a box. The parser comes first here, in `ended` and in all that makes statements, also where nothing is
 // read: so the lifetimes of the arguments have the places that they have in the callers, else the prover compares their
@@ -181,33 +181,6 @@ fn removed<'t, 'a>(
     match expression(parser, depth) {
         Ok(object) => ended(parser, SimpleStatement::Remove(position, object)),
         Err(e) => Err(e),
-    }
-}
-
-/// Whether the expression can stand alone: parentheses apart, it is an assignment, a step or a call.
-pub fn has_effect(e: &Expression<'_>) -> bool
-    ensures { result ≡ grammar.has_effect (expression_tree e.now) }
-{
-    match e {
-        Expression::Call(_, _) => true,
-        Expression::StepBefore(_, _, _) => true,
-        Expression::StepAfter(_, _, _) => true,
-        Expression::Assign(_, _, _) => true,
-        Expression::Parenthesised(inner) => has_effect(inner),
-        Expression::Constant(_) => false,
-        Expression::Word(_) => false,
-        Expression::Named(_) => false,
-        Expression::Index(_, _, _) => false,
-        Expression::RelativeOf(_, _) => false,
-        Expression::Property(_, _, _) => false,
-        Expression::PropertyLength(_, _) => false,
-        Expression::PropertyEntry(_, _, _) => false,
-        Expression::Prefixed(_, _) => false,
-        Expression::Chain(_, _, _, _) => false,
-        Expression::Compare(_, _, _) => false,
-        Expression::Equal(_, _, _, _) => false,
-        Expression::Contained(_, _, _) => false,
-        Expression::Tested(_, _, _) => false,
     }
 }
 

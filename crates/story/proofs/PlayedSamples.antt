@@ -1,25 +1,25 @@
 -- Small stories, computed: what the machine prints.
 use Rattle.std.proofs.Common.{◌≡◌, [], ◌∷◌, ◌++◌, take, drop, Some, refl}
 use Rattle.std.specs.Prelude.{codes, option_map}
-use Rattle.zcore.specs.declared.header.Version.TheVariants.{V5, V8}
-use Rattle.zcore.specs.declared.place.Place.TheVariants as places
 use Rattle.ztext.specs.Abbreviations.{encoded_with}
 use Rattle.ztext.specs.Alphabets.{spelling_of}
+use Rattle.ztext.specs.Reading.{reads}
+use Rattle.ztext.specs.Text.{encoded, decoded, abbreviation}
+use Rattle.ztext.specs.Words.{packed, unpacked_text}
+use Rattle.zcore.specs.declared.header.Version.TheVariants.{V5, V8}
+use Rattle.zcore.specs.declared.place.Place.TheVariants as places
 use Rattle.zcore.specs.Arithmetic.{signed_text, decimal}
 use Rattle.zcore.specs.Instruction.{decode, bytes_of, opcode, operands, operand, byte, large, result_variable, branch}
 use Rattle.zcore.specs.Parts.{read_in_place, write_in_place, push, pop, read_local, write_local, read_global}
 use Rattle.zcore.specs.Parts.{write_global, read_variable, write_variable, test_variable, test_pull, operand_value}
 use Rattle.zcore.specs.Parts.{operand_values, test_result, store_result, test_target, spend, go, test_routine}
-use Rattle.zcore.specs.Parts.{read_word, read_byte}
-use Rattle.zcore.specs.Parts.{test_calls, enter, call, test_return, leave, give_back, take_branch, branch_on, print}
-use Rattle.ztext.specs.Reading.{reads}
+use Rattle.zcore.specs.Parts.{read_word, read_byte, test_calls, enter, call, test_return, leave, give_back, take_branch}
+use Rattle.zcore.specs.Parts.{branch_on, print}
 use Rattle.zcore.specs.Execution.{step, perform, push_word, pull, load_word, load_byte, call_packed, return_popped}
 use Rattle.zcore.specs.Execution.{print_characters, print_inline, print_packed, text_at, give_result}
-use Rattle.ztext.specs.Text.{encoded, decoded, abbreviation}
 use Rattle.zcore.specs.Turn.{opening, turn_from, weight}
-use Rattle.ztext.specs.Words.{packed, unpacked_text}
-use Rattle.expressions.specs.declared.tree.Binary.TheVariants as binaries
-use Rattle.expressions.specs.declared.tree.Width.TheVariants as widths
+use Rattle.expression_trees.specs.declared.tree.Binary.TheVariants as binaries
+use Rattle.expression_trees.specs.declared.tree.Width.TheVariants as widths
 use Rattle.meaning.specs.declared.resolved.Variable.TheVariants as variables
 use Rattle.meaning.specs.Meaning.{meaning}
 use Rattle.meaning.specs.Resolved.{ProgramOf, binary, call as calls, effect, entry, more, none, number, number_of}

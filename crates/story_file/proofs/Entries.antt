@@ -1,15 +1,14 @@
 -- The dictionary of keys: how long it is, and what a story reads where it stands.
-use Rattle.std.proofs.Common.{◌≡◌, ℕ, ◌+◌, ◌*◌, ◌^◌, ◌<◌, ◌≤◌, List, [], ◌∷◌, length, refl, sym, ap, ◌∙◌}
-use Rattle.std.proofs.Common.{subst, arith}
+use Rattle.std.proofs.Common.{◌≡◌, ℕ, ◌+◌, ◌*◌, ◌^◌, ◌<◌, ◌≤◌, List, [], ◌∷◌, length, refl, sym, ap, ◌∙◌, subst, arith}
 use Rattle.std.specs.Prelude.{map}
 use Rattle.std.specs.List.{All}
 use Rattle.std.specs.List.Sorted.{IsStrictlyIncreasing}
 use Rattle.std.proofs.lemmas.List.{length-map}
 use Rattle.std.proofs.lemmas.List.Elements.{All-head, All-tail}
 use Rattle.byteorder.specs.Numbers.{length-bytes_high_first, big_number-reads_back}
+use Rattle.ztext.specs.Text.{Holds}
 use Rattle.zcore.specs.Header.{static_end}
 use Rattle.zcore.specs.Dictionary.{number_of_key}
-use Rattle.ztext.specs.Text.{Holds}
 use Rattle.tables.specs.Dictionary.{ReadsKeys}
 use Rattle.tables.proofs.Written.{AreKeys, length_dictionary, reads_back}
 use Rattle.story_file.specs.Layout.{key_bytes, dictionary_bytes}

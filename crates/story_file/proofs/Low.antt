@@ -1,20 +1,20 @@
 -- What stands below the routines of a story.
-use Rattle.std.proofs.Common.{◌≡◌, ℕ, zero, suc, ◌+◌, ◌*◌, ◌/◌, ◌%◌, ◌<◌, ◌≤◌, List, [], ◌∷◌, ◌++◌, length, take}
-use Rattle.std.proofs.Common.{drop, map, refl, sym, ap, ◌∙◌, subst, arith}
+use Rattle.std.proofs.Common.{◌≡◌, ℕ, zero, suc, ◌+◌, ◌*◌, ◌/◌, ◌%◌, ◌<◌, ◌≤◌, List, [], ◌∷◌, ◌++◌, length, take, drop}
+use Rattle.std.proofs.Common.{map, refl, sym, ap, ◌∙◌, subst, arith}
 use Rattle.std.specs.Prelude.{replicate, slice_index}
 use Rattle.std.specs.List.{flat_map, concat}
 use Rattle.std.proofs.lemmas.List.{append_assoc, length-append, length-replicate, length-take-le, get_or-drop}
 use Rattle.std.proofs.lemmas.List.{get_or-take, get_or_append_left, length-map}
-use Rattle.zcore.specs.declared.header.Version.{Version}
 use Rattle.ztext.specs.Bytes.{word_at}
-use Rattle.zcore.specs.Instruction.{bytes_of}
 use Rattle.ztext.specs.Text.{Holds, encoded}
 use Rattle.ztext.specs.Words.{packed}
+use Rattle.ztext.specs.Abbreviations.{abbreviation_at}
+use Rattle.zcore.specs.declared.header.Version.{Version}
+use Rattle.zcore.specs.Instruction.{bytes_of}
 use Rattle.meaning.specs.declared.places.Places.{Places}
 use Rattle.meaning.specs.Places.{arrays_place, defaults_place, dictionary_place, start_place, routines_place}
 use Rattle.meaning.specs.Places.{objects_size, dictionary_end, filling_before, texts_place, abbreviations_size}
 use Rattle.meaning.specs.Resolved.{ProgramOf}
-use Rattle.ztext.specs.Abbreviations.{abbreviation_at}
 use Rattle.code.specs.HeldProgram.{start_code}
 use Rattle.story_file.specs.Layout.{word, abbreviation_bytes, global_bytes, object_bytes, dictionary_bytes, low_bytes}
 use Rattle.story_file.specs.Layout.{abbreviation_texts, text_places, header_of}

@@ -1,15 +1,15 @@
 -- The object table of a program: how long it is, and that its rows can be written.
-use Rattle.std.proofs.Common.{◌≡◌, ◌+◌, ◌*◌, ◌<◌, ◌≤◌, ◌==◌, ◌%◌, ℕ, zero, suc, Bool, true, false, if◌then◌else◌}
-use Rattle.std.proofs.Common.{List, [], ◌∷◌, ◌++◌, length, slice_index_or, refl, ap, sym, ◌∙◌, arith, subst}
+use Rattle.std.proofs.Common.{◌≡◌, ◌+◌, ◌*◌, ◌<◌, ◌≤◌, ◌==◌, ◌%◌, ℕ, zero, suc, Bool, true, false, if◌then◌else◌, List}
+use Rattle.std.proofs.Common.{[], ◌∷◌, ◌++◌, length, slice_index_or, refl, ap, sym, ◌∙◌, arith, subst}
 use Rattle.std.specs.Prelude.{map}
 use Rattle.std.specs.List.{All, flat_map}
 use Rattle.std.proofs.lemmas.List.{length-append, length-map, get_or-map}
-use Rattle.lexer.specs.Printable.{IsPrintable}
 use Rattle.tables.specs.declared.row.ObjectRow.{ObjectRow}
 use Rattle.tables.specs.Rows.{word, sizes, name_bytes, IsRow, HasShortName}
 use Rattle.tables.specs.Rows as written
 use Rattle.tables.proofs.Listed.{length_words}
 use Rattle.tables.proofs.Names.{name_even}
+use Rattle.lexer.specs.Printable.{IsPrintable}
 use Rattle.meaning.specs.Accepted.{IsObject}
 use Rattle.meaning.specs.Objects.{ObjectOf, no_object, object_at}
 use Rattle.meaning.specs.Places.{machine_character, name_words, property_size, table_size, objects_size, total}

@@ -1,13 +1,13 @@
 -- Parts that stand one behind another, each at a multiple of the scale of packed addresses.
-use Rattle.std.proofs.Common.{◌≡◌, ℕ, zero, suc, ◌+◌, ◌-◌, ◌*◌, ◌/◌, ◌<◌, ◌≤◌, List, [], ◌∷◌, ◌++◌, length, take}
-use Rattle.std.proofs.Common.{drop, refl, sym, ap, ◌∙◌, subst, arith}
+use Rattle.std.proofs.Common.{◌≡◌, ℕ, zero, suc, ◌+◌, ◌-◌, ◌*◌, ◌/◌, ◌<◌, ◌≤◌, List, [], ◌∷◌, ◌++◌, length, take, drop}
+use Rattle.std.proofs.Common.{refl, sym, ap, ◌∙◌, subst, arith}
 use Rattle.std.specs.Prelude.{map, replicate, slice_index, slice_index_or}
 use Rattle.std.proofs.lemmas.List.{append_assoc, length-append, length-replicate, length-drop, drop-drop, drop_at}
 use Rattle.std.proofs.lemmas.List.{take_at}
+use Rattle.ztext.specs.Text.{Holds}
 use Rattle.zcore.specs.declared.header.Version.{Version}
 use Rattle.zcore.specs.declared.header.Version.TheVariants.{V5, V8}
 use Rattle.zcore.specs.Header.{scale_of}
-use Rattle.ztext.specs.Text.{Holds}
 use Rattle.story_file.specs.Layout.{aligned, addresses_from, parts_from}
 
 -- Lists

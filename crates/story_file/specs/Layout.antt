@@ -7,14 +7,13 @@ use Rattle.std.specs.Prelude.{drop, slice_index, sum}
 use Rattle.std.specs.List.{flat_map, concat}
 use Rattle.byteorder.specs.Endian.{big_bytes}
 use Rattle.ztext.specs.Abbreviations.{most_abbreviations}
+use Rattle.ztext.specs.Text.{encoded}
 use Rattle.zcore.specs.declared.header.Version.{Version}
 use Rattle.zcore.specs.Header.{version_number, scale_of}
-use Rattle.ztext.specs.Text.{encoded}
 use Rattle.tables.specs.Dictionary as tables
 use Rattle.meaning.specs.declared.places.Places.{Places}
-use Rattle.meaning.specs.Places.{header_size, abbreviations_place, empty_text_place, global_count}
-use Rattle.meaning.specs.Places.{arrays_place, defaults_place, dictionary_end, filling_before, texts_place}
-use Rattle.meaning.specs.Places.{routines_place, places_of}
+use Rattle.meaning.specs.Places.{header_size, abbreviations_place, empty_text_place, global_count, arrays_place}
+use Rattle.meaning.specs.Places.{defaults_place, dictionary_end, filling_before, texts_place, routines_place, places_of}
 use Rattle.meaning.specs.Resolved.{RoutineOf, ProgramOf}
 use Rattle.meaning.specs.World.{words_of}
 use Rattle.items.specs.Statements.{routine_items}

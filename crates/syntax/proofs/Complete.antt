@@ -4,21 +4,20 @@ use Rattle.std.proofs.Common.{refl, arith}
 use Rattle.lexer.specs.declared.token.Position.{Position}
 use Rattle.lexer.specs.declared.token.Word.TheVariants as w
 use Rattle.lexer.specs.Token.{Lexeme, end}
-use Rattle.expressions.specs.declared.error.Fault.{Fault}
-use Rattle.expressions.specs.declared.error.Fault.TheVariants.{Deep}
-use Rattle.expressions.specs.Parse.{head, is_word}
+use Rattle.parsing.specs.declared.error.Fault.{Fault}
+use Rattle.parsing.specs.declared.error.Fault.TheVariants.{Deep}
+use Rattle.parsing.specs.Parse.{head, is_word, repeated}
 use Rattle.expressions.proofs.Limited.{Limited, then, at_once}
-use Rattle.statements.specs.Parse.{repeated}
 use Rattle.statements.proofs.PartsRead.{repeated_stop, repeated_next}
 use Rattle.directives.specs.Tree.{DirectiveTree}
 use Rattle.directives.specs.Grammar.{IsDirective, d_global, d_global_value, d_constant, d_array, d_attribute}
 use Rattle.directives.specs.Grammar.{d_property, d_property_value, d_object, d_routine, directive_nesting}
+use Rattle.directives.proofs.Complete.{short_Directive, at_Directive}
+use Rattle.directives.proofs.TextsRead.{short_Texts, abbreviate_read}
 use Rattle.syntax.specs.Tree.{EntryTree, entry, abbreviate, directives_of, ProgramTree}
 use Rattle.syntax.specs.Grammar.{IsEntry, e_directive, e_abbreviate, IsEntries, entries_stop, entries_next, IsProgram}
 use Rattle.syntax.specs.Grammar.{program as program_is, directives_nesting, program_nesting}
 use Rattle.syntax.specs.Parse.{goes_on, parts_of, one_entry, all_entries, entries, program}
-use Rattle.directives.proofs.Complete.{short_Directive, at_Directive}
-use Rattle.directives.proofs.TextsRead.{short_Texts, abbreviate_read}
 
 -- ---- directives
 

@@ -1,90 +1,89 @@
 -- The loop over what stands in a file, a turn at a time: the directives and the abbreviations that were read so far,
 -- and what is still to come.
-use Rattle.std.proofs.Common.{◌≡◌, ℕ, zero, suc, ◌+◌, ◌-◌, ◌<◌, ◌≤◌, true, false, List, [], ◌∷◌, ◌++◌, append_assoc}
-use Rattle.std.proofs.Common.{Result, Ok, Err, refl, sym, ap, ◌∙◌, arith}
+use Rattle.std.proofs.Common.{◌≡◌, ℕ, zero, suc, ◌+◌, ◌-◌, ◌<◌, ◌≤◌, Bool, true, false, List, [], ◌∷◌, ◌++◌}
+use Rattle.std.proofs.Common.{append_assoc, Result, Ok, Err, refl, sym, ap, ◌∙◌, arith}
 use Rattle.std.specs.Prelude.{map}
 use Rattle.lexer.specs.declared.token.Word.TheVariants as w
 use Rattle.lexer.specs.Token.{Lexeme}
-use Rattle.expressions.specs.declared.error.Fault.{Fault}
-use Rattle.expressions.specs.declared.error.ParseError.{ParseError}
-use Rattle.expressions.specs.declared.error.ParseError.TheVariants as errors
-use Rattle.expressions.specs.Parse.{◌>>=◌, Fails, head, tail, is_word}
-use Rattle.statements.specs.Parse.{as_long, repeated}
+use Rattle.parsing.specs.declared.error.Fault.{Fault}
+use Rattle.parsing.specs.declared.error.ParseError.{ParseError}
+use Rattle.parsing.specs.declared.error.ParseError.TheVariants as errors
+use Rattle.parsing.specs.Parse.{◌>>=◌, Fails, head, tail, is_word, as_long, repeated}
 use Rattle.directives.specs.Tree.{TextTree, DirectiveTree}
 use Rattle.directives.specs.Parse.{abbreviate_behind, directive}
 use Rattle.syntax.specs.Tree.{EntryTree, entry, abbreviate, directives_of, abbreviations_of}
-use Rattle.syntax.specs.Parse.{Parts, goes_on, one_entry}
+use Rattle.syntax.specs.Parse.{Parts, goes_on, texts_more, one_entry, directive_more, one_more}
 
-abbrev pub gathered : List DirectiveTree → List TextTree → Result (List EntryTree × List Lexeme) Fault
-    → Result (Parts × List Lexeme) Fault
-gathered ds xs r = r >>= λ x. Ok ((ds ++ directives_of x.0, xs ++ abbreviations_of x.0), x.1)
+abbrev pub gathered : Parts → Result (List EntryTree × List Lexeme) Fault → Result (Parts × List Lexeme) Fault
+gathered p r = r >>= λ x. Ok ((p.0 ++ directives_of x.0, p.1 ++ abbreviations_of x.0), x.1)
 
 append_none : {A : Type 0} (xs : List A) → xs ++ [] ≡ xs
 append_none [] = refl
 append_none (x ∷ xs) = ap (λ ys. x ∷ ys) (append_none xs)
 
-map_push : {X A : Type 0} (view : X → A) (xs : List X) (x : X) → map view (xs ++ x ∷ []) ≡ map view xs ++ view x ∷ []
-map_push view [] x = refl
-map_push view (y ∷ xs) x = ap (λ ys. view y ∷ ys) (map_push view xs x)
-
-map_both : {X A : Type 0} (view : X → A) (xs ys : List X) → map view (xs ++ ys) ≡ map view xs ++ map view ys
+pub map_both : {X A : Type 0} (view : X → A) (xs ys : List X) → map view (xs ++ ys) ≡ map view xs ++ map view ys
 map_both view [] ys = refl
 map_both view (x ∷ xs) ys = ap (λ zs. view x ∷ zs) (map_both view xs ys)
 
+pub map_last : {X A : Type 0} (view : X → A) (xs : List X) (x : X) → map view (xs ++ x ∷ []) ≡ map view xs ++ view x ∷ []
+map_last view xs x = map_both view xs (x ∷ [])
+
 -- ---- of what was gathered
 
-gathered_last : (ds : List DirectiveTree) (xs : List TextTree) (ts : List Lexeme)
-    → gathered ds xs (Ok ([], ts)) ≡ Ok ((ds, xs), ts)
-gathered_last ds xs ts = ap (λ z. Ok ((z, xs ++ []), ts)) (append_none ds) ∙ ap (λ z. Ok ((ds, z), ts)) (append_none xs)
+-- with one entry more
+abbrev added : Parts → EntryTree → Parts
+added p (entry d) = (p.0 ++ d ∷ [], p.1)
+added p (abbreviate new) = (p.0, p.1 ++ new)
 
-gathered_directive : (ds : List DirectiveTree) (xs : List TextTree) (d : DirectiveTree)
-    (r : Result (List EntryTree × List Lexeme) Fault)
-    → gathered ds xs (r >>= λ y. Ok (entry d ∷ y.0, y.1)) ≡ gathered (ds ++ d ∷ []) xs r
-gathered_directive ds xs d (Ok y) =
-    ap (λ z. Ok ((z, xs ++ abbreviations_of y.0), y.1)) (sym (append_assoc ds (d ∷ []) (directives_of y.0)))
-gathered_directive ds xs d (Err f) = refl
+gathered_last : (p : Parts) (ts : List Lexeme) → gathered p (Ok ([], ts)) ≡ Ok (p, ts)
+gathered_last p ts = ap (λ z. Ok ((z, p.1 ++ []), ts)) (append_none p.0) ∙ ap (λ z. Ok ((p.0, z), ts)) (append_none p.1)
 
-gathered_texts : (ds : List DirectiveTree) (xs new : List TextTree) (r : Result (List EntryTree × List Lexeme) Fault)
-    → gathered ds xs (r >>= λ y. Ok (abbreviate new ∷ y.0, y.1)) ≡ gathered ds (xs ++ new) r
-gathered_texts ds xs new (Ok y) =
-    ap (λ z. Ok ((ds ++ directives_of y.0, z), y.1)) (sym (append_assoc xs new (abbreviations_of y.0)))
-gathered_texts ds xs new (Err f) = refl
+gathered_more : (p : Parts) (e : EntryTree) (r : Result (List EntryTree × List Lexeme) Fault)
+    → gathered p (r >>= λ y. Ok (e ∷ y.0, y.1)) ≡ gathered (added p e) r
+gathered_more p (entry d) (Ok y) =
+    ap (λ z. Ok ((z, p.1 ++ abbreviations_of y.0), y.1)) (sym (append_assoc p.0 (d ∷ []) (directives_of y.0)))
+gathered_more p (abbreviate new) (Ok y) =
+    ap (λ z. Ok ((p.0 ++ directives_of y.0, z), y.1)) (sym (append_assoc p.1 new (abbreviations_of y.0)))
+gathered_more p e (Err f) = refl
 
 -- ---- one entry
 
+module _ (p : Parts) where
+  abbrev with_entry : EntryTree × List Lexeme → Result (Parts × List Lexeme) Fault
+  with_entry e = Ok (added p e.0, e.1)
+
+  abbrev of_directive : DirectiveTree × List Lexeme → Result (EntryTree × List Lexeme) Fault
+  of_directive x = Ok (entry x.0, x.1)
+
+  abbrev with_directive : DirectiveTree × List Lexeme → Result (Parts × List Lexeme) Fault
+  with_directive x = Ok ((p.0 ++ x.0 ∷ [], p.1), x.1)
+
+  by_directive : (R : Result (DirectiveTree × List Lexeme) Fault)
+      → (R >>= with_directive) ≡ ((R >>= of_directive) >>= with_entry)
+  by_directive (Ok x) = refl
+  by_directive (Err f) = refl
+
+  abbrev of_texts : List TextTree × List Lexeme → Result (EntryTree × List Lexeme) Fault
+  of_texts xs = Ok (abbreviate xs.0, xs.1)
+
+  abbrev with_texts : List TextTree × List Lexeme → Result (Parts × List Lexeme) Fault
+  with_texts xs = Ok ((p.0, p.1 ++ xs.0), xs.1)
+
+  by_texts : (R : Result (List TextTree × List Lexeme) Fault)
+      → (R >>= with_texts) ≡ ((R >>= of_texts) >>= with_entry)
+  by_texts (Ok xs) = refl
+  by_texts (Err f) = refl
+
 module _ (d : ℕ) where
-  one_directive : (ts : List Lexeme) (x : DirectiveTree) (r : List Lexeme) → is_word w.Abbreviate (head ts) ≡ false
-      → directive d ts ≡ Ok (x, r) → one_entry d ts ≡ Ok (entry x, r)
-  unfolding one_entry
-  one_directive ts x r e h = rw (e, h) refl
-
-  no_directive : (ts : List Lexeme) (f : Fault) → is_word w.Abbreviate (head ts) ≡ false → directive d ts ≡ Err f
-      → one_entry d ts ≡ Err f
-  unfolding one_entry
-  no_directive ts f e h = rw (e, h) refl
-
-  some_texts : (ts : List Lexeme) (xs : List TextTree) (r : List Lexeme) → is_word w.Abbreviate (head ts) ≡ true
-      → abbreviate_behind (tail ts) ≡ Ok (xs, r) → one_entry d ts ≡ Ok (abbreviate xs, r)
-  unfolding one_entry
-  some_texts ts xs r e h = rw (e, h) refl
-
-  no_texts : (ts : List Lexeme) (f : Fault) → is_word w.Abbreviate (head ts) ≡ true
-      → abbreviate_behind (tail ts) ≡ Err f → one_entry d ts ≡ Err f
-  unfolding one_entry
-  no_texts ts f e h = rw (e, h) refl
+  by_entry : (p : Parts) (ts : List Lexeme) → one_more d p ts ≡ (one_entry d ts >>= with_entry p)
+  unfolding one_more one_entry texts_more directive_more
+  by_entry p ts = go (is_word w.Abbreviate (head ts)) refl
+    where
+      go : (b : Bool) → is_word w.Abbreviate (head ts) ≡ b → one_more d p ts ≡ (one_entry d ts >>= with_entry p)
+      go true e = rw e (by_texts p (abbreviate_behind (tail ts)))
+      go false e = rw e (by_directive p (directive d ts))
 
   -- ---- a turn
-
-  turn : (n i : ℕ) (ts : List Lexeme) (e : EntryTree) (r : List Lexeme) → i < n → goes_on (head ts) ≡ true
-      → one_entry d ts ≡ Ok (e, r) → repeated goes_on (one_entry d) (n - i) ts
-      ≡ (repeated goes_on (one_entry d) (n - (i + 1)) r >>= λ y. Ok (e ∷ y.0, y.1))
-  unfolding repeated as_long
-  turn n i ts e r lt g h = let k : n - i ≡ suc (n - (i + 1)) = omega arith in rw (k, g, h) refl
-
-  last_turn : (n i : ℕ) (ts : List Lexeme) (f : Fault) → i < n → goes_on (head ts) ≡ true → one_entry d ts ≡ Err f
-      → repeated goes_on (one_entry d) (n - i) ts ≡ Err f
-  unfolding repeated as_long
-  last_turn n i ts f lt g h = let k : n - i ≡ suc (n - (i + 1)) = omega arith in rw (k, g, h) refl
 
   stopped : (n : ℕ) (ts : List Lexeme) → goes_on (head ts) ≡ false → repeated goes_on (one_entry d) n ts ≡ Ok ([], ts)
   unfolding repeated as_long
@@ -95,55 +94,40 @@ module _ (d : ℕ) where
   unfolding repeated as_long
   worn_out n i ts le = let k : n - i ≡ 0 = omega arith in rw k refl
 
-  pub entries_out : (n i : ℕ) (ds : List DirectiveTree) (xs : List TextTree) (ts : List Lexeme) → n ≤ i
-      → gathered ds xs (repeated goes_on (one_entry d) (n - i) ts) ≡ Ok ((ds, xs), ts)
-  entries_out n i ds xs ts le = ap (gathered ds xs) (worn_out n i ts le) ∙ gathered_last ds xs ts
+  pub entries_out : (n i : ℕ) (p : Parts) (ts : List Lexeme) → n ≤ i
+      → gathered p (repeated goes_on (one_entry d) (n - i) ts) ≡ Ok (p, ts)
+  entries_out n i p ts le = ap (gathered p) (worn_out n i ts le) ∙ gathered_last p ts
 
-  pub entries_done : (n : ℕ) (ds : List DirectiveTree) (xs : List TextTree) (ts : List Lexeme)
-      → goes_on (head ts) ≡ false
-      → gathered ds xs (repeated goes_on (one_entry d) n ts) ≡ Ok ((ds, xs), ts)
-  entries_done n ds xs ts g = ap (gathered ds xs) (stopped n ts g) ∙ gathered_last ds xs ts
+  pub entries_done : (n : ℕ) (p : Parts) (ts : List Lexeme) → goes_on (head ts) ≡ false
+      → gathered p (repeated goes_on (one_entry d) n ts) ≡ Ok (p, ts)
+  entries_done n p ts g = ap (gathered p) (stopped n ts g) ∙ gathered_last p ts
 
-  pub directive_more : {X : Type 0} (view : X → DirectiveTree) (n i : ℕ) (ds : List X) (xs : List TextTree)
-      (ts : List Lexeme) (x : X) (r : List Lexeme) → i < n → goes_on (head ts) ≡ true
-      → is_word w.Abbreviate (head ts) ≡ false → directive d ts ≡ Ok (view x, r)
-      → gathered (map view ds) xs (repeated goes_on (one_entry d) (n - i) ts)
-      ≡ gathered (map view (ds ++ x ∷ [])) xs (repeated goes_on (one_entry d) (n - (i + 1)) r)
-  directive_more view n i ds xs ts x r lt g e h =
-      ap (gathered (map view ds) xs) (turn n i ts (entry (view x)) r lt g (one_directive ts (view x) r e h))
-      ∙ gathered_directive (map view ds) xs (view x) (repeated goes_on (one_entry d) (n - (i + 1)) r)
-      ∙ ap (λ zs. gathered zs xs (repeated goes_on (one_entry d) (n - (i + 1)) r)) (sym (map_push view ds x))
+  -- the entries behind one, with it; and those behind what was read before
+  abbrev behind_entry : ℕ → EntryTree × List Lexeme → Result (List EntryTree × List Lexeme) Fault
+  behind_entry n e = repeated goes_on (one_entry d) n e.1 >>= λ y. Ok (e.0 ∷ y.0, y.1)
 
-  pub texts_more : {X : Type 0} (view : X → TextTree) (n i : ℕ) (ds : List DirectiveTree) (xs new : List X)
-      (ts : List Lexeme) (r : List Lexeme) → i < n → goes_on (head ts) ≡ true
-      → is_word w.Abbreviate (head ts) ≡ true → abbreviate_behind (tail ts) ≡ Ok (map view new, r)
-      → gathered ds (map view xs) (repeated goes_on (one_entry d) (n - i) ts)
-      ≡ gathered ds (map view (xs ++ new)) (repeated goes_on (one_entry d) (n - (i + 1)) r)
-  texts_more view n i ds xs new ts r lt g e h =
-      ap (gathered ds (map view xs))
-      (turn n i ts (abbreviate (map view new)) r lt g (some_texts ts (map view new) r e h))
-      ∙ gathered_texts ds (map view xs) (map view new) (repeated goes_on (one_entry d) (n - (i + 1)) r)
-      ∙ ap (λ zs. gathered ds zs (repeated goes_on (one_entry d) (n - (i + 1)) r)) (sym (map_both view xs new))
+  abbrev behind_parts : ℕ → Parts × List Lexeme → Result (Parts × List Lexeme) Fault
+  behind_parts n x = gathered x.0 (repeated goes_on (one_entry d) n x.1)
 
-  fails : (e : ParseError) (n i : ℕ) (ds : List DirectiveTree) (xs : List TextTree) (ts : List Lexeme)
-      (total : Result (Parts × List Lexeme) Fault) → i < n → goes_on (head ts) ≡ true → Fails e (one_entry d ts)
-      → gathered ds xs (repeated goes_on (one_entry d) (n - i) ts) ≡ total → Fails e total
-  fails errors.Memory n i ds xs ts total lt g h so_far = tt
-  fails (errors.Fault f line) n i ds xs ts total lt g h so_far =
-      sym so_far ∙ ap (gathered ds xs) (last_turn n i ts f lt g h)
+  turned : (n : ℕ) (p : Parts) (R : Result (EntryTree × List Lexeme) Fault)
+      → gathered p (R >>= behind_entry n) ≡ ((R >>= with_entry p) >>= behind_parts n)
+  turned n p (Ok e) = gathered_more p e.0 (repeated goes_on (one_entry d) n e.1)
+  turned n p (Err f) = refl
 
-  pub directive_fails : (e : ParseError) (n i : ℕ) (ds : List DirectiveTree) (xs : List TextTree) (ts : List Lexeme)
-      (total : Result (Parts × List Lexeme) Fault) → i < n → goes_on (head ts) ≡ true
-      → is_word w.Abbreviate (head ts) ≡ false → Fails e (directive d ts)
-      → gathered ds xs (repeated goes_on (one_entry d) (n - i) ts) ≡ total → Fails e total
-  directive_fails errors.Memory n i ds xs ts total lt g a h so_far = tt
-  directive_fails (errors.Fault f line) n i ds xs ts total lt g a h so_far =
-      fails (errors.Fault f line) n i ds xs ts total lt g (no_directive ts f a h) so_far
+  turn : (n i : ℕ) (p : Parts) (ts : List Lexeme) → i < n → goes_on (head ts) ≡ true
+      → gathered p (repeated goes_on (one_entry d) (n - i) ts) ≡ (one_more d p ts >>= behind_parts (n - (i + 1)))
+  unfolding repeated as_long
+  turn n i p ts lt g =
+      let k : n - i ≡ suc (n - (i + 1)) = omega arith in
+      rw (k, g, by_entry p ts) (turned (n - (i + 1)) p (one_entry d ts))
 
-  pub texts_fail : (e : ParseError) (n i : ℕ) (ds : List DirectiveTree) (xs : List TextTree) (ts : List Lexeme)
-      (total : Result (Parts × List Lexeme) Fault) → i < n → goes_on (head ts) ≡ true
-      → is_word w.Abbreviate (head ts) ≡ true → Fails e (abbreviate_behind (tail ts))
-      → gathered ds xs (repeated goes_on (one_entry d) (n - i) ts) ≡ total → Fails e total
-  texts_fail errors.Memory n i ds xs ts total lt g a h so_far = tt
-  texts_fail (errors.Fault f line) n i ds xs ts total lt g a h so_far =
-      fails (errors.Fault f line) n i ds xs ts total lt g (no_texts ts f a h) so_far
+  pub entries_more : (n i : ℕ) (p q : Parts) (ts r : List Lexeme) → i < n → goes_on (head ts) ≡ true
+      → one_more d p ts ≡ Ok (q, r) → gathered p (repeated goes_on (one_entry d) (n - i) ts)
+      ≡ gathered q (repeated goes_on (one_entry d) (n - (i + 1)) r)
+  entries_more n i p q ts r lt g h = turn n i p ts lt g ∙ rw h refl
+
+  pub entries_fail : (e : ParseError) (n i : ℕ) (p : Parts) (ts : List Lexeme)
+      (total : Result (Parts × List Lexeme) Fault) → i < n → goes_on (head ts) ≡ true → Fails e (one_more d p ts)
+      → gathered p (repeated goes_on (one_entry d) (n - i) ts) ≡ total → Fails e total
+  entries_fail errors.Memory n i p ts total lt g h so_far = tt
+  entries_fail (errors.Fault f line) n i p ts total lt g h so_far = sym so_far ∙ turn n i p ts lt g ∙ rw h refl

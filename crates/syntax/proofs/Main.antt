@@ -1,19 +1,19 @@
 -- The laws of the public calls.
-use Rattle.std.proofs.Common.{◌≡◌, ℕ, suc, ◌<◌, ◌≤◌, ◌⊎◌, max, List, [], ◌∷◌, Option, Some, None, Result, Ok, Err}
-use Rattle.std.proofs.Common.{refl, sym, ap, subst, ◌∙◌, inl, inr, arith}
+use Rattle.std.proofs.Common.{◌≡◌, ℕ, suc, ◌<◌, ◌≤◌, ◌⊎◌, max, List, [], ◌∷◌, Option, Some, None, Result, Ok, Err, refl}
+use Rattle.std.proofs.Common.{sym, ap, subst, ◌∙◌, inl, inr, arith}
 use Rattle.std.proofs.lemmas.Bool.{cases_lt}
 use Rattle.lexer.specs.declared.fault.SourceFault.{SourceFault}
 use Rattle.lexer.specs.declared.token.Position.{Position}
 use Rattle.lexer.specs.Results.{no_memory}
 use Rattle.lexer.specs.Token.{Lexeme, end}
-use Rattle.expressions.specs.declared.error.Fault.{Fault}
-use Rattle.expressions.specs.declared.error.Fault.TheVariants.{Grammar, Deep}
-use Rattle.expressions.specs.declared.error.ParseError.{ParseError}
-use Rattle.expressions.specs.declared.error.ParseError.TheVariants as errors
-use Rattle.expressions.specs.Errors.{source_fault}
-use Rattle.expressions.specs.Parse.{◌>>=◌, Fails}
-use Rattle.syntax.specs.declared.tree.Program.{Program}
+use Rattle.parsing.specs.declared.error.Fault.{Fault}
+use Rattle.parsing.specs.declared.error.Fault.TheVariants.{Grammar, Deep}
+use Rattle.parsing.specs.declared.error.ParseError.{ParseError}
+use Rattle.parsing.specs.declared.error.ParseError.TheVariants as errors
+use Rattle.parsing.specs.Errors.{source_fault}
+use Rattle.parsing.specs.Parse.{◌>>=◌, Fails}
 use Rattle.directives.specs.Grammar.{weight_of}
+use Rattle.syntax.specs.declared.tree.Program.{Program}
 use Rattle.syntax.specs.Tree.{ProgramTree, program_tree}
 use Rattle.syntax.specs.Grammar.{dictionary_words, IsProgram, program as program_is, program_nesting}
 use Rattle.syntax.specs.Nesting.{DeepProgram}

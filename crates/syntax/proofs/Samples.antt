@@ -5,9 +5,10 @@ use Rattle.lexer.specs.declared.token.Position.{Position}
 use Rattle.lexer.specs.declared.token.Sign.TheVariants as s
 use Rattle.lexer.specs.declared.token.Word.TheVariants as w
 use Rattle.lexer.specs.Token.{Lexeme, name, number, text, dictionary_word, reserved, sign, end}
-use Rattle.expressions.specs.declared.error.Fault.TheVariants.{Grammar}
-use Rattle.expressions.specs.Tree.{NameTree, named}
-use Rattle.statements.specs.Tree.{text_item, number_item, print, read_line, give, stop, next}
+use Rattle.expression_trees.specs.Tree.{NameTree, named}
+use Rattle.parsing.specs.declared.error.Fault.TheVariants.{Grammar}
+use Rattle.statement_parts.specs.Tree.{text_item, number_item}
+use Rattle.statements.specs.Tree.{print, read_line, give, stop, next}
 use Rattle.directives.specs.Tree.{TextTree, DirectiveTree, attribute, routine}
 use Rattle.directives.specs.Grammar.{d_attribute, IsTexts, texts_stop, texts_next}
 use Rattle.directives.specs.Parse.{one_text, texts, abbreviate_behind}

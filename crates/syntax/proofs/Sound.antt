@@ -5,20 +5,20 @@ use Rattle.lexer.specs.declared.token.Position.{Position}
 use Rattle.lexer.specs.declared.token.Sign.TheVariants as s
 use Rattle.lexer.specs.declared.token.Word.TheVariants as w
 use Rattle.lexer.specs.Token.{Lexeme, reserved, position_of}
-use Rattle.expressions.specs.Parse.{head, tail, is_word, expect}
+use Rattle.parsing.specs.Parse.{head, tail, is_word, expect}
 use Rattle.expressions.proofs.Judged.{Judged, judged_read, judged_then, judged_after, judged_by}
 use Rattle.expressions.proofs.Tokens.{at_word, expect_ok, expect_not_deep}
 use Rattle.statements.proofs.SoundRows.{repeated_judged}
 use Rattle.directives.specs.Grammar.{IsTexts}
 use Rattle.directives.specs.Nesting.{DeepDirective}
 use Rattle.directives.specs.Parse.{abbreviate_behind}
+use Rattle.directives.proofs.TextsRead.{texts_judged}
+use Rattle.directives.proofs.Sound.{directive_judged}
 use Rattle.syntax.specs.Tree.{EntryTree, entry, abbreviate, directives_of}
 use Rattle.syntax.specs.Grammar.{e_abbreviate, IsEntry, e_directive, IsEntries, entries_stop, entries_next}
 use Rattle.syntax.specs.Grammar.{directives_nesting}
 use Rattle.syntax.specs.Nesting.{DeepProgram, deep_program_first, deep_program_next}
 use Rattle.syntax.specs.Parse.{goes_on, Parts, parts_of, one_entry, all_entries, entries}
-use Rattle.directives.proofs.TextsRead.{texts_judged}
-use Rattle.directives.proofs.Sound.{directive_judged}
 
 -- ---- abbreviations
 

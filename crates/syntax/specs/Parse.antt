@@ -1,17 +1,17 @@
 -- Words of proofs: programs, read from left to right: functions from a list of tokens to a tree and the tokens after
 -- it.
-use Rattle.std.specs.Prelude.{if◌then◌else◌, Bool, true, false, ℕ, List, [], ◌∷◌, length, Option, Some, None, Result}
-use Rattle.std.specs.Prelude.{Ok, Err}
+use Rattle.std.specs.Prelude.{if◌then◌else◌, Bool, true, false, ℕ, List, [], ◌∷◌, ◌++◌, length, map, Option, Some, None}
+use Rattle.std.specs.Prelude.{Result, Ok, Err}
 use Rattle.lexer.specs.declared.token.Position.{Position}
 use Rattle.lexer.specs.declared.token.Word.TheVariants as w
 use Rattle.lexer.specs.Token.{Lexeme, end}
-use Rattle.expressions.specs.declared.error.Fault.{Fault}
-use Rattle.expressions.specs.declared.error.Fault.TheVariants.{Grammar}
-use Rattle.expressions.specs.Parse.{Parse, ◌>>=◌, head, tail, is_word}
-use Rattle.statements.specs.Parse.{repeated}
-use Rattle.directives.specs.Tree.{TextTree, DirectiveTree}
+use Rattle.parsing.specs.declared.error.Fault.{Fault}
+use Rattle.parsing.specs.declared.error.Fault.TheVariants.{Grammar}
+use Rattle.parsing.specs.Parse.{Parse, ◌>>=◌, head, tail, is_word, repeated}
+use Rattle.directives.specs.Tree.{TextTree, DirectiveTree, directive_tree, text_tree}
 use Rattle.directives.specs.Grammar.{weight_of}
 use Rattle.directives.specs.Parse.{abbreviate_behind, directive}
+use Rattle.syntax.specs.declared.entries.Found.{Found}
 use Rattle.syntax.specs.Tree.{EntryTree, entry, abbreviate, directives_of, abbreviations_of, ProgramTree}
 use Rattle.syntax.specs.Grammar.{dictionary_words}
 
@@ -32,6 +32,14 @@ Parts = List DirectiveTree × List TextTree
 abbrev pub parts_of : List EntryTree → Parts
 parts_of es = (directives_of es, abbreviations_of es)
 
+-- those that the code found
+abbrev pub parts_in : Found → Parts
+parts_in found = (map directive_tree found.directives.items, map text_tree found.abbreviations.items)
+
+-- with the texts of an `abbreviate`, from its word on
+unfoldable pub texts_more : Parts → Parse Parts
+texts_more x ts = abbreviate_behind (tail ts) >>= λ new. Ok ((x.0, x.1 ++ new.0), new.1)
+
 -- a program of these parts and all of these tokens
 abbrev pub whole : List Lexeme → Parts → Option Position → Result ProgramTree Fault
 whole ts x (Some p) = Ok
@@ -51,6 +59,14 @@ module _ (d : ℕ) where
   one_entry ts =
       if is_word w.Abbreviate (head ts) then (abbreviate_behind (tail ts) >>= λ xs. Ok (abbreviate xs.0, xs.1))
       else (directive d ts >>= λ x. Ok (entry x.0, x.1))
+
+  -- what was read before, with a directive behind it; and with an entry of either kind
+
+  unfoldable pub directive_more : Parts → Parse Parts
+  directive_more x ts = directive d ts >>= λ new. Ok ((x.0 ++ new.0 ∷ [], x.1), new.1)
+
+  unfoldable pub one_more : Parts → Parse Parts
+  one_more x ts = if is_word w.Abbreviate (head ts) then texts_more x ts else directive_more x ts
 
   unfoldable pub all_entries : Parse (List EntryTree)
   all_entries ts = repeated goes_on one_entry (length ts) ts

@@ -1,15 +1,21 @@
 //! What stands in a file, read from tokens: directives, and the texts of each `abbreviate`.
 
-ghost use Rattle.std.specs.Prelude.{◌≡◌, map};
-ghost use Rattle.lexer.specs.Token.{lexeme, lexemes};
-ghost use Rattle.expressions.specs.Parse.{Gives};
-ghost use Rattle.directives.specs.Tree.{text_tree, directive_tree};
+ghost use Rattle.std.specs.Prelude.{◌≡◌, IfErr, IfOk, [], ◌∷◌, ◌++◌, map};
+ghost use Rattle.lexer.specs.Token.{lexeme};
+ghost use Rattle.parsing.specs.Returned.{ahead, Takes};
 ghost use Rattle.syntax.specs.Parse as spec;
+ghost use Rattle.syntax.specs.Parse.{parts_in};
 
 use directives::{Directive, Text, abbreviate, directive};
-use expressions::{ParseError, is_word, peek, skip};
 use lexer::{Kind, Token, Word};
-use std::alloc::Global;
+use parsing::{ParseError, Parser, is_word, pass, peek};
+
+/// What stands in a file: its directives, and the texts of all `abbreviate`, each in order.
+#[derive(Drop)]
+pub struct Found<'a> {
+    pub directives: Vec<Directive<'a>>,
+    pub abbreviations: Vec<Text<'a>>,
+}
 
 fn goes_on(token: Token<'_>) -> bool
     ensures { result ≡ spec.goes_on (lexeme token.entry) }
@@ -17,11 +23,61 @@ fn goes_on(token: Token<'_>) -> bool
     !matches!(token.kind, Kind::End)
 }
 
-// The same tokens, as a slice of its own.
-fn same<'t, 'a>(tokens: &'t [Token<'a>]) -> &'t [Token<'a>]
-    ensures { result.now ≡ tokens.now }
+// One more directive in a row.
+fn add<'a>(directives: &mut Vec<Directive<'a>>, next: Box<Directive<'a>>) -> Result<(), ParseError>
+    ensures ok { IfOk result (λ _. directives.new.items
+        ≡ directives.old.items ++ next.entry.value ∷ []) }
+    ensures err { IfErr result (λ e. e ≡ ParseError.Memory) }
 {
-    tokens
+    directives.push(Box::into_inner(next))?;
+    Ok(())
+}
+
+// The directive that comes next, behind what was read before.
+#[tactic(auto, unfolding(crate::specs::Parse::directive_more), using(crate::proofs::EntriesRead::map_last))]
+fn add_directive<'t, 'a>(
+    parser: &mut Parser<'t, 'a>,
+    found: &mut Found<'a>,
+    depth: usize,
+) -> Result<(), ParseError>
+    ensures { Takes (λ _. parts_in found.new) result parser.new
+        (spec.directive_more depth (parts_in found.old) (ahead parser.old)) }
+{
+    match directive(parser, depth) {
+        Ok(next) => {
+            add(&mut found.directives, next)?;
+            Ok(())
+        }
+        Err(e) => Err(e),
+    }
+}
+
+// The texts of an `abbreviate`, from its word on, behind what was read before.
+#[tactic(auto, unfolding(crate::specs::Parse::texts_more), using(crate::proofs::EntriesRead::map_both))]
+fn add_texts<'t, 'a>(parser: &mut Parser<'t, 'a>, found: &mut Found<'a>) -> Result<(), ParseError>
+    ensures { Takes (λ _. parts_in found.new) result parser.new
+        (spec.texts_more (parts_in found.old) (ahead parser.old)) }
+{
+    pass(parser);
+    let texts = abbreviate(parser)?;
+    found.abbreviations.extend_from_slice(&texts)?;
+    Ok(())
+}
+
+// A directive, or the texts of an `abbreviate`, behind what was read before.
+#[tactic(auto, unfolding(crate::specs::Parse::one_more))]
+fn entry<'t, 'a>(
+    parser: &mut Parser<'t, 'a>,
+    found: &mut Found<'a>,
+    depth: usize,
+) -> Result<(), ParseError>
+    ensures { Takes (λ _. parts_in found.new) result parser.new
+        (spec.one_more depth (parts_in found.old) (ahead parser.old)) }
+{
+    if is_word(peek(parser.tokens), Word::Abbreviate) {
+        return add_texts(parser, found);
+    }
+    add_directive(parser, found, depth)
 }
 
 /// The directives and the abbreviations, up to the end, with `depth` nestings to open in a statement.
@@ -30,32 +86,22 @@ fn same<'t, 'a>(tokens: &'t [Token<'a>]) -> &'t [Token<'a>]
 ///
 /// `Fault::Grammar` at the first token with which no derivation goes on, `Fault::Deep` at the token for
 /// which no nesting is left, and `Memory` where a growth is refused.
-#[tactic(auto, unfolding(crate::specs::Parse::entries, crate::specs::Parse::all_entries), using(crate::proofs::EntriesRead::entries_out, crate::proofs::EntriesRead::entries_done, crate::proofs::EntriesRead::directive_more, crate::proofs::EntriesRead::directive_fails, crate::proofs::EntriesRead::texts_more, crate::proofs::EntriesRead::texts_fail))]
-pub fn entries<'t, 'a>(
-    tokens: &'t [Token<'a>],
-    alloc: Global,
-    depth: usize,
-) -> Result<(Vec<Directive<'a>>, Vec<Text<'a>>, &'t [Token<'a>]), ParseError>
-    ensures { Gives
-        (λ x. ((map directive_tree x.0.items, map text_tree x.1.items), lexemes x.2.now))
-        result (spec.entries depth (lexemes tokens.now)) }
+#[tactic(auto, unfolding(crate::specs::Parse::entries, crate::specs::Parse::all_entries), using(crate::proofs::EntriesRead::entries_out, crate::proofs::EntriesRead::entries_done, crate::proofs::EntriesRead::entries_more, crate::proofs::EntriesRead::entries_fail))]
+pub fn entries<'t, 'a>(parser: &mut Parser<'t, 'a>, depth: usize) -> Result<Found<'a>, ParseError>
+    ensures { Takes parts_in result parser.new (spec.entries depth (ahead parser.old)) }
 {
-    let mut directives = Vec::new(alloc);
-    let mut abbreviations = Vec::new(alloc);
-    let mut rest = tokens;
-    for _turn in 0..tokens.len() {
-        if !goes_on(peek(rest)) {
+    let mut found = Found {
+        directives: Vec::new(parser.alloc),
+        abbreviations: Vec::new(parser.alloc),
+    };
+    for _turn in 0..parser.tokens.len() {
+        if !goes_on(peek(parser.tokens)) {
             break;
         }
-        if is_word(peek(rest), Word::Abbreviate) {
-            let (texts, after) = abbreviate(skip(rest), alloc)?;
-            abbreviations.extend_from_slice(&texts)?;
-            rest = same(after);
-        } else {
-            let (next, after) = directive(rest, alloc, depth)?;
-            directives.push(next)?;
-            rest = same(after);
+        match entry(parser, &mut found, depth) {
+            Ok(()) => (),
+            Err(e) => return Err(e),
         }
     }
-    Ok((directives, abbreviations, rest))
+    Ok(found)
 }

@@ -3,19 +3,21 @@
 ghost use Rattle.std.specs.Prelude.{◌≡◌, ◌≤◌, ◌<◌, ◌⊎◌, ◌∷◌, [], IfOk, IfErr, List};
 ghost use Rattle.lexer.specs.Results.{no_memory};
 ghost use Rattle.lexer.specs.Token.{Lexeme, lexeme, lexemes};
-ghost use Rattle.expressions.specs.Parse.{Gives};
+ghost use Rattle.parsing.specs.Parse.{Gives};
+ghost use Rattle.parsing.specs.Returned.{ahead};
 ghost use Rattle.syntax.specs.Answers.{IfNumber, Answers};
 ghost use Rattle.syntax.specs.Grammar.{IsProgram, program_nesting};
 ghost use Rattle.syntax.specs.Nesting.{DeepProgram};
 ghost use Rattle.syntax.specs.Tree.{ProgramTree, program_tree};
 ghost use Rattle.syntax.specs.Parse as spec;
+ghost use Rattle.syntax.specs.Parse.{parts_in};
 
-use crate::entries::entries;
+use crate::entries::{Found, entries};
 use crate::tree::Program;
 use crate::words::dictionary_words;
 use directives::weight_of;
-use expressions::{Fault, ParseError, fault_at};
 use lexer::{Kind, Position, SourceFault, Token};
+use parsing::{Fault, ParseError, Parser, fault_at};
 use std::alloc::Global;
 
 // How many nestings may be opened in a statement of a routine.
@@ -43,21 +45,37 @@ fn end_alone(tokens: &[Token<'_>]) -> Option<Position>
     }
 }
 
+// The program whose parts were found among the tokens, where the parser has but the end before it.
+fn whole<'t, 'a>(
+    parser: &Parser<'t, 'a>,
+    found: Found<'a>,
+    tokens: &[Token<'a>],
+) -> Result<Program<'a>, ParseError>
+    ensures { Gives program_tree result
+        (spec.whole (lexemes tokens.now) (parts_in found.entry) (spec.end_alone (ahead parser.now))) }
+{
+    let Some(end) = end_alone(parser.tokens) else {
+        return Err(fault_at(Fault::Grammar, parser.tokens));
+    };
+    let words = dictionary_words(parser.alloc, tokens)?;
+    Ok(Program {
+        directives: found.directives,
+        abbreviations: found.abbreviations,
+        end,
+        weight: weight_of(tokens),
+        words,
+    })
+}
+
 #[tactic(auto, unfolding(crate::specs::Parse::program))]
 fn program<'a>(alloc: Global, tokens: &[Token<'a>]) -> Result<Program<'a>, ParseError>
     ensures { Gives program_tree result (spec.program 100 (lexemes tokens.now)) }
 {
-    let (directives, abbreviations, rest) = entries(tokens, alloc, MOST_NESTED)?;
-    let Some(end) = end_alone(rest) else {
-        return Err(fault_at(Fault::Grammar, rest));
-    };
-    Ok(Program {
-        directives,
-        abbreviations,
-        end,
-        weight: weight_of(tokens),
-        words: dictionary_words(alloc, tokens)?,
-    })
+    let mut parser = Parser { alloc, tokens };
+    match entries(&mut parser, MOST_NESTED) {
+        Ok(found) => whole(&parser, found, tokens),
+        Err(e) => Err(e),
+    }
 }
 
 /// The program that the tokens of a source are, up to its end, which is the last of them and no other.

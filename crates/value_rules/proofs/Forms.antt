@@ -3,30 +3,30 @@ use Rattle.std.proofs.Common.{◌≡◌, ℕ, List, [], ◌∷◌, ◌++◌, len
 use Rattle.std.proofs.Common.{sym, ap, ◌∙◌, arith}
 use Rattle.std.specs.Prelude.{map, Result, Ok, Err, IfOk}
 use Rattle.std.specs.List.{flat_map}
-use Rattle.expressions.specs.declared.tree.Binary.{Binary}
-use Rattle.expressions.specs.declared.tree.Expression.{Expression}
-use Rattle.expressions.specs.declared.tree.Width.{Width}
 use Rattle.lexer.specs.declared.token.Position.{Position}
-use Rattle.expressions.specs.Tree as trees
-use Rattle.expressions.specs.declared.tree.Name.{Name}
-use Rattle.expressions.specs.Tree.{NameTree, name_tree, ExpressionTree, expression_tree, trees_of, chained, link}
-use Rattle.expressions.specs.Tree.{propertied}
+use Rattle.expression_trees.specs.declared.tree.Binary.{Binary}
+use Rattle.expression_trees.specs.declared.tree.Expression.{Expression}
+use Rattle.expression_trees.specs.declared.tree.Width.{Width}
+use Rattle.expression_trees.specs.Tree as trees
+use Rattle.expression_trees.specs.declared.tree.Name.{Name}
+use Rattle.expression_trees.specs.Tree.{NameTree, name_tree, ExpressionTree, expression_tree, trees_of, chained, link}
+use Rattle.expression_trees.specs.Tree.{propertied}
+use Rattle.meaning.specs.Resolved as values
+use Rattle.meaning.specs.declared.resolved.Value as code_value
+use Rattle.meaning.specs.Resolved.{Value, values_of, value_of}
+use Rattle.meaning.specs.declared.resolved.Variable.TheVariants as variables
 use Rattle.names.specs.declared.binding.Binding.{Binding}
 use Rattle.names.specs.declared.breach.Breach.{Breach}
 use Rattle.names.specs.Noted.{noted}
 use Rattle.names.specs.Names.{name_of, is_place, Seen}
-use Rattle.meaning.specs.Resolved as values
-use Rattle.meaning.specs.declared.resolved.Value as code_value
-use Rattle.meaning.specs.Resolved.{Value, values_of, value_of}
+use Rattle.names.specs.Breaches.{at}
+use Rattle.names.proofs.Noted.{noted_none, noted_append, noted_two}
 use Rattle.value_rules.specs.Expressions.{breaches, all_breaches, resolve, resolve_all, count, call_breaches}
 use Rattle.value_rules.specs.Expressions.{routine_of_binding, value_of_binding, array_name_breaches, array_of_binding}
 use Rattle.value_rules.specs.Expressions.{target_breaches, assigned_breaches, assigned}
-use Rattle.meaning.specs.declared.resolved.Variable.TheVariants as variables
-use Rattle.names.specs.Breaches.{at}
 use Rattle.value_rules.specs.Walk.{own_breaches, resolved, link_breaches, resolved_link, IsWalked, IsResolved}
 use Rattle.value_rules.specs.Walk.{AreResolved, IsAssigned, AreLinks, own_property_breaches, resolved_property}
 use Rattle.value_rules.specs.Walk.{properties_of, AreProperties}
-use Rattle.names.proofs.Noted.{noted_none, noted_append, noted_two}
 use Rattle.value_rules.proofs.Walks.{two}
 
 pub count_all : (es : List Expression) → count (trees_of (map expression_tree es)) ≡ length es

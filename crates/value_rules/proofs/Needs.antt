@@ -3,14 +3,14 @@ use Rattle.std.proofs.Common.{◌≡◌, ℕ, zero, suc, ◌+◌, ◌-◌, ◌<�
 use Rattle.std.proofs.Common.{[], ◌∷◌, ◌++◌, length, drop, slice_index_or, refl, sym, ap, ◌∙◌, subst, arith}
 use Rattle.std.specs.Prelude.{map}
 use Rattle.std.proofs.lemmas.Bool.Decides.{nat_tests}
-use Rattle.expressions.specs.declared.tree.Binary.{Binary}
-use Rattle.expressions.specs.declared.tree.Expression.{Expression}
-use Rattle.expressions.specs.declared.tree.Name.{Name}
-use Rattle.expressions.specs.Tree as trees
-use Rattle.expressions.specs.Tree.{NameTree, name_tree, ExpressionTree, expression_tree, trees_of, chained, propertied}
-use Rattle.expressions.specs.Tree.{link}
-use Rattle.value_rules.specs.Temporaries.{need, needs, greatest, left_needs}
+use Rattle.expression_trees.specs.declared.tree.Binary.{Binary}
+use Rattle.expression_trees.specs.declared.tree.Expression.{Expression}
+use Rattle.expression_trees.specs.declared.tree.Name.{Name}
+use Rattle.expression_trees.specs.Tree as trees
+use Rattle.expression_trees.specs.Tree.{NameTree, name_tree, ExpressionTree, expression_tree, trees_of, chained}
+use Rattle.expression_trees.specs.Tree.{propertied, link}
 use Rattle.meaning.specs.Operands.{operands}
+use Rattle.value_rules.specs.Temporaries.{need, needs, greatest, left_needs}
 
 operands_one : (b : ℕ) (ns : List ℕ) → 1 ≤ operands b ns
 operands_one b [] = omega arith

@@ -1,12 +1,12 @@
 -- Rules of expressions on objects, what these resolve to and how many temporaries they need, computed.
 use Rattle.std.proofs.Common.{◌≡◌, false, [], ◌++◌, refl}
 use Rattle.std.specs.Prelude.{codes}
-use Rattle.expressions.specs.declared.tree.Containment.TheVariants as containments
-use Rattle.expressions.specs.declared.tree.ObjectTest.TheVariants as tests
-use Rattle.expressions.specs.declared.tree.Relative.TheVariants as relatives
-use Rattle.expressions.specs.declared.tree.Step.TheVariants as steps
-use Rattle.expressions.specs.Tree.{constant, named, parenthesised, relative_of, property, property_length}
-use Rattle.expressions.specs.Tree.{property_entry, step_before, step_after, contained, tested, assign}
+use Rattle.expression_trees.specs.declared.tree.Containment.TheVariants as containments
+use Rattle.expression_trees.specs.declared.tree.ObjectTest.TheVariants as tests
+use Rattle.expression_trees.specs.declared.tree.Relative.TheVariants as relatives
+use Rattle.expression_trees.specs.declared.tree.Step.TheVariants as steps
+use Rattle.expression_trees.specs.Tree.{constant, named, parenthesised, relative_of, property, property_length}
+use Rattle.expression_trees.specs.Tree.{property_entry, step_before, step_after, contained, tested, assign}
 use Rattle.meaning.specs.declared.resolved.Variable.TheVariants as variables
 use Rattle.meaning.specs.Resolved as values
 use Rattle.names.specs.Breaches.{at}

@@ -3,21 +3,21 @@ use Rattle.std.proofs.Common.{◌≡◌, ℕ, List, Bor, sym, ap, ◌∙◌}
 use Rattle.std.specs.Prelude.{map}
 use Rattle.std.specs.Global.{Vec, Box}
 use Rattle.lexer.specs.declared.token.Position.{Position}
-use Rattle.expressions.specs.declared.tree.Name.{Name}
-use Rattle.expressions.specs.declared.tree.Binary.{Binary}
-use Rattle.expressions.specs.declared.tree.Comparison.{Comparison}
-use Rattle.expressions.specs.declared.tree.Containment.{Containment}
-use Rattle.expressions.specs.declared.tree.Equality.{Equality}
-use Rattle.expressions.specs.declared.tree.ObjectTest.{ObjectTest}
-use Rattle.expressions.specs.declared.tree.Prefix.{Prefix}
-use Rattle.expressions.specs.declared.tree.Relative.{Relative}
-use Rattle.expressions.specs.declared.tree.Step.{Step}
-use Rattle.expressions.specs.declared.tree.Width.{Width}
-use Rattle.expressions.specs.declared.tree.Expression.{Expression}
-use Rattle.expressions.specs.declared.tree.Expression.TheVariants as from
-use Rattle.expressions.specs.declared.tree.Expression.TheFolds.{fold-roll-Expression}
-use Rattle.expressions.specs.Tree as trees
-use Rattle.expressions.specs.Tree.{ExpressionTree, expression_tree, name_tree, trees_of, propertied, link, layer}
+use Rattle.expression_trees.specs.declared.tree.Name.{Name}
+use Rattle.expression_trees.specs.declared.tree.Binary.{Binary}
+use Rattle.expression_trees.specs.declared.tree.Comparison.{Comparison}
+use Rattle.expression_trees.specs.declared.tree.Containment.{Containment}
+use Rattle.expression_trees.specs.declared.tree.Equality.{Equality}
+use Rattle.expression_trees.specs.declared.tree.ObjectTest.{ObjectTest}
+use Rattle.expression_trees.specs.declared.tree.Prefix.{Prefix}
+use Rattle.expression_trees.specs.declared.tree.Relative.{Relative}
+use Rattle.expression_trees.specs.declared.tree.Step.{Step}
+use Rattle.expression_trees.specs.declared.tree.Width.{Width}
+use Rattle.expression_trees.specs.declared.tree.Expression.{Expression}
+use Rattle.expression_trees.specs.declared.tree.Expression.TheVariants as from
+use Rattle.expression_trees.specs.declared.tree.Expression.TheFolds.{fold-roll-Expression}
+use Rattle.expression_trees.specs.Tree as trees
+use Rattle.expression_trees.specs.Tree.{ExpressionTree, expression_tree, name_tree, trees_of, propertied, link, layer}
 
 pub is_constant : (e : Expression) (n : ℕ) → e ≡ from.Constant n → expression_tree e ≡ trees.constant n
 is_constant e n same = ap expression_tree (same ∙ sym (from.rolls-Constant n))

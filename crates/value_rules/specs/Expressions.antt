@@ -3,22 +3,22 @@ use Rattle.std.specs.Prelude.{◌+◌, ◌%◌, ℕ, nat_lt, Bool, true, false, 
 use Rattle.lexer.specs.declared.fault.TheConstants.{NOT_ASSIGNABLE, TOO_MANY, TOO_MANY_ARGUMENTS, UNKNOWN_NAME}
 use Rattle.lexer.specs.declared.fault.TheConstants.{WRONG_KIND}
 use Rattle.lexer.specs.declared.token.Position.{Position}
-use Rattle.expressions.specs.declared.tree.ObjectTest.{ObjectTest}
-use Rattle.expressions.specs.declared.tree.ObjectTest.TheVariants as tests
-use Rattle.expressions.specs.Tree as trees
-use Rattle.expressions.specs.Tree.{NameTree, ExpressionTree, ExpressionTrees}
-use Rattle.names.specs.declared.binding.Binding.{Binding}
-use Rattle.names.specs.declared.binding.Binding.TheVariants as bindings
-use Rattle.names.specs.declared.breach.Breach.{Breach}
+use Rattle.expression_trees.specs.declared.tree.ObjectTest.{ObjectTest}
+use Rattle.expression_trees.specs.declared.tree.ObjectTest.TheVariants as tests
+use Rattle.expression_trees.specs.Tree as trees
+use Rattle.expression_trees.specs.Tree.{NameTree, ExpressionTree, ExpressionTrees}
 use Rattle.meaning.specs.declared.resolved.Variable.{Variable}
 use Rattle.meaning.specs.declared.resolved.Variable.TheVariants as variables
-use Rattle.names.specs.Breaches.{at}
-use Rattle.names.specs.Keys.{key_of_word, value_of_known}
-use Rattle.names.specs.Names.{name_of, is_place, Seen}
 use Rattle.meaning.specs.Resolved.{Value, Values, number, read, call, prefixed, step_before, step_after, binary}
 use Rattle.meaning.specs.Resolved.{compare, equal, assign, entry, assign_entry, relative, contained, has, provides}
 use Rattle.meaning.specs.Resolved.{property, property_size, property_word, assign_property, assign_property_word, none}
 use Rattle.meaning.specs.Resolved.{more}
+use Rattle.names.specs.declared.binding.Binding.{Binding}
+use Rattle.names.specs.declared.binding.Binding.TheVariants as bindings
+use Rattle.names.specs.declared.breach.Breach.{Breach}
+use Rattle.names.specs.Breaches.{at}
+use Rattle.names.specs.Keys.{key_of_word, value_of_known}
+use Rattle.names.specs.Names.{name_of, is_place, Seen}
 
 -- a name as a value: E20 where it is unknown, E23 where it is an array, a routine, an attribute or a property
 abbrev pub value_breaches : Position → Option Binding → List Breach

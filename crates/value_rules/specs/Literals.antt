@@ -2,7 +2,7 @@
 use Rattle.std.specs.Prelude.{ℕ, List, [], Option, Some, None}
 use Rattle.lexer.specs.declared.fault.TheConstants.{UNKNOWN_NAME, WRONG_KIND}
 use Rattle.lexer.specs.declared.token.Position.{Position}
-use Rattle.statements.specs.Tree.{LiteralTree, number_value, word_value, named_value}
+use Rattle.statement_parts.specs.Tree.{LiteralTree, number_value, word_value, named_value}
 use Rattle.names.specs.declared.binding.Binding.{Binding}
 use Rattle.names.specs.declared.binding.Binding.TheVariants as bindings
 use Rattle.names.specs.declared.breach.Breach.{Breach}

@@ -4,9 +4,10 @@
 -- is assigned is no operand, and a word of a property has two, its object and its index. An entry of an array needs
 -- what its index needs, also as the left side of an assignment; so does a property what its object needs.
 use Rattle.std.specs.Prelude.{ℕ, max, List, [], ◌∷◌, ◌++◌}
-use Rattle.expressions.specs.Tree.{ExpressionTree, ExpressionTrees, constant, word, named, call, index, parenthesised}
-use Rattle.expressions.specs.Tree.{relative_of, property, property_length, property_entry, prefixed, step_before}
-use Rattle.expressions.specs.Tree.{step_after, binary, compare, equal, contained, tested, assign, none, more}
+use Rattle.expression_trees.specs.Tree.{ExpressionTree, ExpressionTrees, constant, word, named, call, index}
+use Rattle.expression_trees.specs.Tree.{parenthesised, relative_of, property, property_length, property_entry, prefixed}
+use Rattle.expression_trees.specs.Tree.{step_before, step_after, binary, compare, equal, contained, tested, assign}
+use Rattle.expression_trees.specs.Tree.{none, more}
 use Rattle.meaning.specs.Operands.{operands}
 
 abbrev mutual

@@ -2,16 +2,16 @@
 use Rattle.std.specs.Prelude.{◌≡◌, ℕ, List, [], ◌∷◌, Option, map, Result, IfOk}
 use Rattle.std.specs.List.{flat_map}
 use Rattle.lexer.specs.declared.token.Position.{Position}
-use Rattle.expressions.specs.declared.tree.Binary.{Binary}
-use Rattle.expressions.specs.declared.tree.Expression.{Expression}
-use Rattle.expressions.specs.declared.tree.Name.{Name}
-use Rattle.expressions.specs.Tree.{ExpressionTree, expression_tree, name_tree}
-use Rattle.names.specs.declared.breach.Breach.{Breach}
+use Rattle.expression_trees.specs.declared.tree.Binary.{Binary}
+use Rattle.expression_trees.specs.declared.tree.Expression.{Expression}
+use Rattle.expression_trees.specs.declared.tree.Name.{Name}
+use Rattle.expression_trees.specs.Tree.{ExpressionTree, expression_tree, name_tree}
 use Rattle.meaning.specs.declared.resolved.Variable.{Variable}
 use Rattle.meaning.specs.declared.resolved.Value as code_value
+use Rattle.meaning.specs.Resolved.{Value, value_of, property}
+use Rattle.names.specs.declared.breach.Breach.{Breach}
 use Rattle.names.specs.Names.{name_of, is_place, Seen}
 use Rattle.names.specs.Noted.{noted}
-use Rattle.meaning.specs.Resolved.{Value, value_of, property}
 use Rattle.value_rules.specs.Expressions.{breaches, property_breaches, left_breaches, assigned_breaches, target}
 use Rattle.value_rules.specs.Expressions.{property_of_binding, resolve}
 

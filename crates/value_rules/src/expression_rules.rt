@@ -2,18 +2,20 @@
 
 ghost use Rattle.std.specs.Prelude.{◌≡◌, ◌++◌, [], if◌then◌else◌, IfOk, map};
 ghost use Rattle.std.specs.Option.{option_map};
-ghost use Rattle.expressions.specs.Tree as trees;
-ghost use Rattle.expressions.specs.Tree.{expression_tree, name_tree, trees_of, propertied, link};
+ghost use Rattle.expression_trees.specs.Tree as trees;
+ghost use Rattle.expression_trees.specs.Tree.{expression_tree, name_tree, trees_of, propertied};
+ghost use Rattle.expression_trees.specs.Tree.{link};
+ghost use Rattle.meaning.specs.Resolved.{value_of};
 ghost use Rattle.names.specs.Breaches.{at};
 ghost use Rattle.names.specs.Noted.{noted};
 ghost use Rattle.names.specs.Scope.{seen_in};
-ghost use Rattle.meaning.specs.Resolved.{value_of};
-ghost use Rattle.value_rules.specs.Expressions.{tested_breaches, tested_for, assigned};
 ghost use Rattle.names.specs.Names as names;
-ghost use Rattle.value_rules.specs.Walk.{IsResolved, GivesValue, AreResolved, AreLinks, AreProperties, IsTarget, IsAssigned, value_link};
+ghost use Rattle.value_rules.specs.Expressions.{tested_breaches, tested_for, assigned};
+ghost use Rattle.value_rules.specs.Walk.{IsResolved, GivesValue, AreResolved, AreLinks};
+ghost use Rattle.value_rules.specs.Walk.{AreProperties, IsTarget, IsAssigned, value_link};
 
 use crate::name_rules::{array, attribute, named, property, routine, target_of, value};
-use expressions::{
+use expression_trees::{
     Binary, Comparison, Containment, Equality, Expression, Name, ObjectTest, Prefix, Relative,
     Step, Width,
 };

@@ -1,12 +1,12 @@
 //! Values that are known before a story runs: the rules that they can break, and what they are.
 
 ghost use Rattle.std.specs.Prelude.{◌≡◌};
-ghost use Rattle.statements.specs.Tree.{literal_tree};
+ghost use Rattle.statement_parts.specs.Tree.{literal_tree};
 ghost use Rattle.directives.specs.Tree.{optional_tree};
-ghost use Rattle.value_rules.specs.Literals as spec;
 ghost use Rattle.names.specs.Names as names;
 ghost use Rattle.names.specs.Noted.{noted};
 ghost use Rattle.names.specs.Scope.{file_in};
+ghost use Rattle.value_rules.specs.Literals as spec;
 
 use lexer::{Position, UNKNOWN_NAME, WRONG_KIND};
 use names::{Binding, Breach, File, Known, Table, find, literal_known, note, or_zero};

@@ -1,13 +1,18 @@
 //! Names: the rules that they can break by what they are used for, and what they resolve to.
 
 ghost use Rattle.std.specs.Prelude.{◌≡◌, ◌++◌, [], if◌then◌else◌};
+ghost use Rattle.meaning.specs.Resolved.{value_of};
 ghost use Rattle.names.specs.Breaches.{at};
 ghost use Rattle.names.specs.Noted.{noted};
 ghost use Rattle.names.specs.Scope.{number_at};
-ghost use Rattle.meaning.specs.Resolved.{value_of};
-ghost use Rattle.value_rules.specs.Expressions.{value_breaches, argument_breaches, call_breaches, array_name_breaches, attribute_breaches, property_breaches, target_breaches, value_of_binding, variable_of_binding, routine_of_binding, array_of_binding, attribute_of_binding, property_of_binding};
+ghost use Rattle.value_rules.specs.Expressions.{value_breaches, argument_breaches, call_breaches};
+ghost use Rattle.value_rules.specs.Expressions.{array_name_breaches, attribute_breaches};
+ghost use Rattle.value_rules.specs.Expressions.{property_breaches, target_breaches};
+ghost use Rattle.value_rules.specs.Expressions.{value_of_binding, variable_of_binding};
+ghost use Rattle.value_rules.specs.Expressions.{routine_of_binding, array_of_binding};
+ghost use Rattle.value_rules.specs.Expressions.{attribute_of_binding, property_of_binding};
 
-use expressions::Name;
+use expression_trees::Name;
 use lexer::{NOT_ASSIGNABLE, Position, TOO_MANY, TOO_MANY_ARGUMENTS, UNKNOWN_NAME, WRONG_KIND};
 use meaning::{Value, Variable};
 use names::{Binding, Breach, Numbers, note};

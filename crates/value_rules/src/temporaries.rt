@@ -1,11 +1,11 @@
 //! How many temporaries an expression needs.
 
 ghost use Rattle.std.specs.Prelude.{◌≡◌, ◌-◌, ◌++◌, ◌∷◌, ℕ, [], nat_le, length, map};
-ghost use Rattle.expressions.specs.Tree.{expression_tree, trees_of};
-ghost use Rattle.value_rules.specs.Temporaries.{need, needs, greatest, left_needs};
+ghost use Rattle.expression_trees.specs.Tree.{expression_tree, trees_of};
 ghost use Rattle.meaning.specs.Operands.{operands};
+ghost use Rattle.value_rules.specs.Temporaries.{need, needs, greatest, left_needs};
 
-use expressions::{Binary, Expression};
+use expression_trees::{Binary, Expression};
 
 // How many operands the left side of an assignment is.
 fn left_operands(e: &Expression<'_>) -> u8

@@ -2,25 +2,24 @@
 use Rattle.std.proofs.Common.{◌≡◌, ℕ, zero, suc, ◌+◌, ◌-◌, ◌<◌, List, [], ◌∷◌, ◌++◌, length, map, drop, slice_index_or}
 use Rattle.std.proofs.Common.{Bool, true, false, refl, sym, ap, subst, ◌∙◌, arith, append_assoc, length-append}
 use Rattle.std.specs.Prelude.{nat_le, nat_lt, if◌then◌else◌}
-use Rattle.expressions.specs.declared.tree.Binary.{Binary}
-use Rattle.expressions.specs.declared.tree.Equality.{Equality}
+use Rattle.expression_trees.specs.declared.tree.Binary.{Binary}
+use Rattle.expression_trees.specs.declared.tree.Equality.{Equality}
 use Rattle.meaning.specs.declared.resolved.Value as code_value
 use Rattle.meaning.specs.Resolved.{Value, Values, none, more, value_of, values_of}
 use Rattle.meaning.specs.Resolved as source
 use Rattle.meaning.specs.Accepted.{count_of}
-use Rattle.drafts.specs.Items.{Item, Operand, pushed, Destination, push, Test, same, operand_of, operands_of}
-use Rattle.drafts.specs.Items.{if_pushed, is_few, branch_true, equality_when, value_count, operands_count}
-use Rattle.drafts.specs.Items.{branch_count, many_count, also_count, truth_items, value_items, operands_items}
-use Rattle.drafts.specs.Items.{branch_items, many_items, also_items}
+use Rattle.drafts.specs.Items.{Item, Operand, pushed, push, same, operand_of, operands_of, if_pushed, is_few}
+use Rattle.drafts.specs.Items.{branch_true, equality_when, value_count, truth_items, value_items, operands_items}
+use Rattle.drafts.specs.Items.{also_items}
 use Rattle.drafts.specs.Items as items
 use Rattle.drafts.specs.declared.wanted.Wanted.{Wanted}
 use Rattle.drafts.specs.declared.wanted.Wanted.TheVariants.{Word}
 use Rattle.drafts.specs.declared.item.Destination.TheVariants as destinations
 use Rattle.drafts.specs.Writing.{Written, wanted_items, first_operand, second_operand, link_of, IsCondition}
 use Rattle.drafts.specs.Writing.{ReducesTruth}
-use Rattle.values.specs.Writing.{pushes, both_push, folded_items, ReducesLinks, ReducesLink, ReducesEquality}
 use Rattle.drafts.proofs.Counts.{value_length, operands_length}
 use Rattle.drafts.proofs.WrittenItems.{one, both, as_items, then_one, after_one}
+use Rattle.values.specs.Writing.{pushes, both_push, folded_items, ReducesLinks, ReducesLink, ReducesEquality}
 use Rattle.values.proofs.OperationForms.{links_next}
 use Rattle.values.proofs.Values.{pushes_length}
 

@@ -1,14 +1,13 @@
 -- What is written for assignments, calls, operations and comparisons, as the code comes to them: with its own
 -- operands, destinations and tests.
-use Rattle.std.proofs.Common.{◌≡◌, ℕ, List, [], ◌∷◌, ◌++◌, length, map, Bool, true, false, sym, ap, subst, ◌∙◌, refl}
+use Rattle.std.proofs.Common.{◌≡◌, ℕ, List, [], ◌∷◌, ◌++◌, length, Bool, true, false, sym, ap, subst, ◌∙◌, refl}
 use Rattle.std.specs.Prelude.{nat_lt, if◌then◌else◌}
-use Rattle.expressions.specs.declared.tree.Binary.{Binary}
-use Rattle.expressions.specs.declared.tree.Binary.TheVariants as binaries
-use Rattle.expressions.specs.declared.tree.Comparison.{Comparison}
-use Rattle.expressions.specs.declared.tree.Equality.{Equality}
+use Rattle.expression_trees.specs.declared.tree.Binary.{Binary}
+use Rattle.expression_trees.specs.declared.tree.Binary.TheVariants as binaries
+use Rattle.expression_trees.specs.declared.tree.Comparison.{Comparison}
+use Rattle.expression_trees.specs.declared.tree.Equality.{Equality}
 use Rattle.meaning.specs.declared.resolved.Variable.{Variable}
-use Rattle.meaning.specs.declared.resolved.Value as code_value
-use Rattle.meaning.specs.Resolved.{Value, Values, value_of, values_of}
+use Rattle.meaning.specs.Resolved.{Value, Values}
 use Rattle.meaning.specs.Resolved as source
 use Rattle.meaning.specs.Accepted.{count_of}
 use Rattle.drafts.specs.Items.{Item, Operand, Destination, Test, pushed, into, branch_true, alone, operands_of}

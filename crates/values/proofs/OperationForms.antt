@@ -2,10 +2,10 @@
 use Rattle.std.proofs.Common.{◌≡◌, ℕ, ◌+◌, ◌-◌, List, [], ◌∷◌, ◌++◌, Bool, true, false, refl, sym, ap, ◌∙◌}
 use Rattle.std.proofs.Common.{append_assoc}
 use Rattle.std.specs.Prelude.{if◌then◌else◌}
-use Rattle.expressions.specs.declared.tree.Binary.{Binary}
-use Rattle.expressions.specs.declared.tree.Binary.TheVariants as binaries
-use Rattle.expressions.specs.declared.tree.Comparison.{Comparison}
-use Rattle.expressions.specs.declared.tree.Width.{Width}
+use Rattle.expression_trees.specs.declared.tree.Binary.{Binary}
+use Rattle.expression_trees.specs.declared.tree.Binary.TheVariants as binaries
+use Rattle.expression_trees.specs.declared.tree.Comparison.{Comparison}
+use Rattle.expression_trees.specs.declared.tree.Width.{Width}
 use Rattle.meaning.specs.declared.resolved.Variable.{Variable}
 use Rattle.meaning.specs.Resolved.{Value, chained}
 use Rattle.meaning.specs.Resolved as source
@@ -17,9 +17,9 @@ use Rattle.drafts.specs.declared.item.Destination.TheVariants as destinations
 use Rattle.drafts.specs.declared.wanted.Wanted.{Wanted}
 use Rattle.drafts.specs.declared.wanted.Wanted.TheVariants.{Word}
 use Rattle.drafts.specs.Writing.{Written, wanted_items, is_logical, ReducesWord, ReducesTruth}
+use Rattle.drafts.proofs.WrittenItems.{nothing, both, as_items, after_one}
 use Rattle.values.specs.Writing.{pushes, first_items, ReducesLink, ReducesLinks, ReducesComparison}
 use Rattle.values.specs.Writing.{ReducesAssignedEntry}
-use Rattle.drafts.proofs.WrittenItems.{nothing, both, as_items, after_one}
 use Rattle.values.proofs.Values.{pushes_length}
 
 -- Other operations

@@ -2,11 +2,10 @@
 use Rattle.std.proofs.Common.{◌≡◌, ℕ, ◌+◌, ◌-◌, List, [], ◌∷◌, ◌++◌, length, Bool, true, false, refl, sym, ap, subst}
 use Rattle.std.proofs.Common.{◌∙◌, arith, append_assoc}
 use Rattle.std.specs.Prelude.{not, if◌then◌else◌}
-use Rattle.expressions.specs.declared.tree.Binary.{Binary}
-use Rattle.expressions.specs.declared.tree.Binary.TheVariants as binaries
-use Rattle.expressions.specs.declared.tree.Prefix.{Prefix}
-use Rattle.expressions.specs.declared.tree.Prefix.TheVariants as prefixes
-use Rattle.meaning.specs.declared.resolved.Variable.{Variable}
+use Rattle.expression_trees.specs.declared.tree.Binary.{Binary}
+use Rattle.expression_trees.specs.declared.tree.Binary.TheVariants as binaries
+use Rattle.expression_trees.specs.declared.tree.Prefix.{Prefix}
+use Rattle.expression_trees.specs.declared.tree.Prefix.TheVariants as prefixes
 use Rattle.meaning.specs.Resolved.{Value, Values}
 use Rattle.meaning.specs.Resolved as source
 use Rattle.drafts.specs.Items.{Item, Operand, pushed, Destination, push, operands_of, alone, if_pushed, branch_true}
@@ -15,10 +14,10 @@ use Rattle.drafts.specs.Items as items
 use Rattle.drafts.specs.declared.wanted.Wanted.{Wanted}
 use Rattle.drafts.specs.declared.wanted.Wanted.TheVariants.{Branch}
 use Rattle.drafts.specs.Writing.{Written, wanted_items, ReducesWord, ReducesTruth}
-use Rattle.values.specs.Writing.{pushes, ReducesLink}
 use Rattle.drafts.proofs.CountedForms.{if_length}
 use Rattle.drafts.proofs.Counts.{value_length, branch_length, operands_length}
-use Rattle.drafts.proofs.WrittenItems.{one, counted, both, as_items, after_one}
+use Rattle.drafts.proofs.WrittenItems.{counted, both, as_items, after_one}
+use Rattle.values.specs.Writing.{pushes, ReducesLink}
 
 pub pushes_length : (o : Operand) (v : Value) (n at : ℕ)
     → length (pushes o v n at) ≡ if_pushed o (value_count v push) 0

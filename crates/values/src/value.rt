@@ -1,14 +1,15 @@
 //! Expressions as items.
 
 ghost use Rattle.std.specs.Prelude.{map, IfOk, OnOk};
-ghost use Rattle.meaning.specs.Resolved.{call, prefixed, assign, entry, relative, has, provides, property};
-ghost use Rattle.meaning.specs.Resolved.{property_size, chained, binary, compare, equal, assign_entry, contained};
-ghost use Rattle.meaning.specs.Resolved.{property_word, value_of, assign_property, assign_property_word};
+ghost use Rattle.meaning.specs.Resolved.{call, prefixed, assign, entry, relative, has, provides};
+ghost use Rattle.meaning.specs.Resolved.{property, property_size, chained, binary, compare, equal};
+ghost use Rattle.meaning.specs.Resolved.{assign_entry, contained, property_word, value_of};
+ghost use Rattle.meaning.specs.Resolved.{assign_property, assign_property_word};
 ghost use Rattle.drafts.specs.Writing.{link_of, more_in, values_in, WritesValue};
-ghost use Rattle.values.specs.Writing.{WritesOperand, WritesOperands, WritesFolded, WritesLink, WritesLinks};
-ghost use Rattle.values.specs.Writing.{WritesComparison, WritesEquality, WritesFirst, WritesAssignedEntry};
-ghost use Rattle.values.specs.Writing.{WritesContained, WritesPropertyWord, WritesAssignedProperty};
-ghost use Rattle.values.specs.Writing.{WritesAssignedWord};
+ghost use Rattle.values.specs.Writing.{WritesOperand, WritesOperands, WritesFolded, WritesLink};
+ghost use Rattle.values.specs.Writing.{WritesLinks, WritesComparison, WritesEquality, WritesFirst};
+ghost use Rattle.values.specs.Writing.{WritesAssignedEntry, WritesContained, WritesPropertyWord};
+ghost use Rattle.values.specs.Writing.{WritesAssignedProperty, WritesAssignedWord};
 
 use drafts::{
     Destination, Draft, Item, Operand, Test, Wanted, alone, are_few, before, comparison_test,
@@ -16,7 +17,7 @@ use drafts::{
     has_when, is_logical, left_of, push_operands, put, put_branch, put_number, put_read,
     put_step_after, put_step_before, put_truth, put_word, side_operands, written,
 };
-use expressions::{Binary, Comparison, Containment, Equality, Prefix, Relative, Width};
+use expression_trees::{Binary, Comparison, Containment, Equality, Prefix, Relative, Width};
 use meaning::{Value, Variable};
 use std::alloc::AllocError;
 

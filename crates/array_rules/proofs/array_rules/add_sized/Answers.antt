@@ -1,9 +1,9 @@
 use Rattle.std.proofs.Common.{◌++◌, ap, ◌∙◌}
 use Rattle.std.specs.Prelude.{replicate}
 use Rattle.std.specs.List.{flat_map}
-use Rattle.expressions.specs.declared.tree.Width.{Width}
-use Rattle.array_rules.specs.Arrays.{entry_bytes}
+use Rattle.expression_trees.specs.declared.tree.Width.{Width}
 use Rattle.names.specs.Scope.{file_in}
+use Rattle.array_rules.specs.Arrays.{entry_bytes}
 use Rattle.array_rules.proofs.ArrayBytes.{sized_breaks, sized_adds}
 use Rattle.array_rules.proofs.array_rules.add_sized.Goals as goal
 

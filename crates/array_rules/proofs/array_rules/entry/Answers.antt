@@ -1,12 +1,12 @@
 use Rattle.std.proofs.Common.{ap, ◌∙◌}
-use Rattle.statements.specs.Tree.{literal_tree}
+use Rattle.statement_parts.specs.Tree.{literal_tree}
 use Rattle.names.specs.declared.known.Known.{Known}
 use Rattle.names.specs.Keys.{or_zero}
 use Rattle.names.specs.Names.{literal_known}
 use Rattle.names.specs.Noted.{noted}
+use Rattle.names.proofs.Noted.{noted_two}
 use Rattle.value_rules.specs.Literals.{literal_breaches}
 use Rattle.array_rules.specs.Arrays.{wide_breaches}
-use Rattle.names.proofs.Noted.{noted_two}
 use Rattle.array_rules.proofs.array_rules.entry.Goals as goal
 
 pub returns-clause-breaches : goal.returns-clause-breaches

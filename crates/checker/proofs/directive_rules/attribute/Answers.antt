@@ -1,7 +1,7 @@
-use Rattle.expressions.specs.Tree.{name_tree}
+use Rattle.expression_trees.specs.Tree.{name_tree}
+use Rattle.names.proofs.Noted.{noted_two}
 use Rattle.object_rules.specs.Repeated.{twice}
 use Rattle.checker.specs.Programs.{limit_breaches}
-use Rattle.names.proofs.Noted.{noted_two}
 use Rattle.checker.proofs.directive_rules.attribute.Goals as goal
 
 pub returns : goal.returns

@@ -1,10 +1,10 @@
 use Rattle.std.proofs.Common.{◌++◌}
-use Rattle.expressions.specs.Tree.{name_tree}
+use Rattle.expression_trees.specs.Tree.{name_tree}
 use Rattle.directives.specs.Tree.{object_tree}
+use Rattle.names.proofs.Noted.{noted_two}
 use Rattle.object_rules.specs.Objects.{object_breaches}
 use Rattle.object_rules.specs.Repeated.{twice}
 use Rattle.checker.specs.Programs.{limit_breaches}
-use Rattle.names.proofs.Noted.{noted_two}
 use Rattle.checker.proofs.directive_rules.defined_object.Goals as goal
 
 pub returns-clause-breaches : goal.returns-clause-breaches

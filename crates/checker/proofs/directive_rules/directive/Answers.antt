@@ -1,18 +1,17 @@
 use Rattle.std.proofs.Common.{◌≡◌, refl, sym, ap, ◌∙◌}
-use Rattle.expressions.specs.Tree.{name_tree}
+use Rattle.expression_trees.specs.Tree.{name_tree}
+use Rattle.statement_parts.specs.Tree.{literal_tree}
 use Rattle.directives.specs.Tree.{DirectiveTree, global, constant, array, attribute, property, object, routine}
-use Rattle.directives.specs.Tree.{directive_tree, optional_tree}
-use Rattle.statements.specs.Tree.{literal_tree}
-use Rattle.directives.specs.Tree.{array_tree, object_tree, routine_tree}
+use Rattle.directives.specs.Tree.{directive_tree, optional_tree, array_tree, object_tree, routine_tree}
 use Rattle.names.specs.Noted.{noted}
+use Rattle.names.specs.Scope.{file_in}
+use Rattle.names.proofs.Noted.{noted_two}
 use Rattle.value_rules.specs.Literals.{named_breaches}
 use Rattle.array_rules.specs.Arrays.{array_breaches}
 use Rattle.object_rules.specs.Repeated.{twice}
 use Rattle.checker.specs.Programs.{routine_breaches, directive_breaches}
-use Rattle.names.specs.Scope.{file_in}
-use Rattle.names.proofs.Noted.{noted_two}
-use Rattle.checker.proofs.Directives.{added_global, added_constant, added_array, added_attribute}
-use Rattle.checker.proofs.Directives.{added_property, added_object, added_routine}
+use Rattle.checker.proofs.Directives.{added_global, added_constant, added_array, added_attribute, added_property}
+use Rattle.checker.proofs.Directives.{added_object, added_routine}
 use Rattle.checker.proofs.directive_rules.directive.Goals as goal
 
 pub returns-in_ok-push-in-Global-clause-added : goal.returns-in_ok-push-in-Global-clause-added

@@ -1,7 +1,8 @@
 use Rattle.std.proofs.Common.{◌≡◌, map, ◌-◌}
-use Rattle.lexer.specs.Token.{lexemes}
-use Rattle.statements.specs.Parse.{repeated, begins_value}
-use Rattle.statements.proofs.Loops.{joined}
+use Rattle.parsing.specs.Returned.{ahead}
+use Rattle.parsing.specs.Parse.{repeated}
+use Rattle.parsing.proofs.Loops.{joined}
+use Rattle.statement_parts.specs.Parse.{begins_value}
 use Rattle.directives.specs.Tree.{value_tree}
 use Rattle.directives.specs.Parse as spec
 use Rattle.directives.proofs.arrays.values.Given as goal
@@ -9,5 +10,5 @@ use Rattle.directives.proofs.arrays.values.Given as goal
 abbrev pub invariant-loop-turn : goal.invariant-loop-turn
 invariant-loop-turn l =
     joined (map value_tree l.found.items)
-    (repeated begins_value spec.placed (l._turn-end - l._turn) (lexemes l.rest))
-    ≡ spec.values (lexemes l.fn.tokens)
+    (repeated begins_value spec.placed (l._turn-end - l._turn) (ahead l.parser))
+    ≡ spec.values (ahead l.fn.parser)

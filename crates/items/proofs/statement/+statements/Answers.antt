@@ -1,19 +1,19 @@
 use Rattle.std.proofs.Common.{◌≡◌, ℕ, ◌+◌, ◌-◌, ◌<◌, Bool, List, [], length, map, drop, refl, sym, subst, arith}
-use Rattle.meaning.specs.declared.resolved.Printed as code_printed
-use Rattle.meaning.specs.declared.resolved.Action as code_action
 use Rattle.std.specs.Global.{Vec}
 use Rattle.std.specs.Option.{option_map}
+use Rattle.meaning.specs.declared.resolved.Printed as code_printed
+use Rattle.meaning.specs.declared.resolved.Action as code_action
 use Rattle.meaning.specs.declared.resolved.Span.{Span}
 use Rattle.meaning.specs.Resolved.{Action, CasesOf, while_do, do_until, for_loop, switch_on, value_of, printed_of}
 use Rattle.meaning.specs.Resolved.{range_of, action_of, actions_of, case_of, cases_of, other_of, give_to, each_object}
 use Rattle.meaning.specs.Resolved.{each_where, each_in}
+use Rattle.drafts.specs.Writing.{written_in, Written}
 use Rattle.items.specs.Statements.{action_items, actions_items, cases_items, prints_items, groups_of, tests_items}
 use Rattle.items.specs.Statements.{action_count}
 use Rattle.items.specs.declared.exits.Exits.{Exits}
-use Rattle.drafts.specs.Writing.{written_in, Written}
 use Rattle.items.specs.Writing.{exits_of, LeavesCases}
-use Rattle.items.proofs.Trees.{text_is, print_return_is, if_else_is, while_is, do_is, for_is, switch_is, return_is}
-use Rattle.items.proofs.Trees.{give_is, move_is, remove_is, each_is, each_where_is, each_in_is}
+use Rattle.items.proofs.Trees.{text_is, print_return_is, while_is, do_is, for_is, switch_is, return_is, give_is}
+use Rattle.items.proofs.Trees.{move_is, remove_is, each_is, each_where_is, each_in_is}
 use Rattle.items.proofs.Rounds.{do_more, for_more, each_more, each_where_more, each_in_more}
 use Rattle.items.proofs.StatementCounts.{action_length}
 use Rattle.items.proofs.SwitchCases.{case_leaves, case_next, cases_all, switch_more}

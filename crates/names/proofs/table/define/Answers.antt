@@ -1,4 +1,4 @@
-use Rattle.expressions.specs.Tree.{name_tree}
+use Rattle.expression_trees.specs.Tree.{name_tree}
 use Rattle.names.proofs.Tables.{define_new}
 use Rattle.names.proofs.table.define.Goals as goal
 

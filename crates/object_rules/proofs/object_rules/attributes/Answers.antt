@@ -1,7 +1,7 @@
-use Rattle.expressions.specs.Tree.{name_tree}
+use Rattle.expression_trees.specs.Tree.{name_tree}
 use Rattle.names.specs.Scope.{file_in}
-use Rattle.object_rules.specs.Objects.{given_of, given_breaches}
 use Rattle.names.proofs.Mapped.{list_there, list_end, note_there, note_end}
+use Rattle.object_rules.specs.Objects.{given_of, given_breaches}
 use Rattle.object_rules.proofs.object_rules.attributes.Goals as goal
 
 pub loop-name-preserved : goal.loop-name-preserved

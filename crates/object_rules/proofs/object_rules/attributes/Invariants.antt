@@ -1,7 +1,7 @@
 use Rattle.std.proofs.Common.{◌≡◌, ◌++◌, drop}
 use Rattle.std.specs.Prelude.{map}
 use Rattle.std.specs.List.{flat_map}
-use Rattle.expressions.specs.Tree.{name_tree}
+use Rattle.expression_trees.specs.Tree.{name_tree}
 use Rattle.names.specs.Noted.{noted}
 use Rattle.names.specs.Scope.{file_in}
 use Rattle.object_rules.specs.Objects.{given_of, given_breaches}

@@ -1,9 +1,9 @@
 use Rattle.std.proofs.Common.{refl, ap, ◌∙◌}
 use Rattle.std.specs.Prelude.{map}
-use Rattle.expressions.specs.Tree.{name_tree}
+use Rattle.expression_trees.specs.Tree.{name_tree}
 use Rattle.directives.specs.Tree.{property_tree}
-use Rattle.object_rules.specs.Objects.{property_name}
 use Rattle.names.proofs.Mapped.{list_next, list_end, map_push}
+use Rattle.object_rules.specs.Objects.{property_name}
 use Rattle.object_rules.proofs.object_rules.names_of.Goals as goal
 
 pub loop-one-preserved : goal.loop-one-preserved

@@ -1,6 +1,6 @@
 use Rattle.std.proofs.Common.{◌≡◌, ◌++◌, drop}
 use Rattle.std.specs.Prelude.{map}
-use Rattle.expressions.specs.Tree.{name_tree}
+use Rattle.expression_trees.specs.Tree.{name_tree}
 use Rattle.directives.specs.Tree.{property_tree}
 use Rattle.object_rules.specs.Objects.{property_name}
 use Rattle.object_rules.proofs.object_rules.names_of.Given as goal

@@ -2,8 +2,8 @@ use Rattle.std.proofs.Common.{List, [], ◌++◌, ap, ◌∙◌}
 use Rattle.std.specs.Prelude.{map}
 use Rattle.std.specs.List.{flat_map}
 use Rattle.std.specs.Option.{option_map}
-use Rattle.expressions.specs.declared.tree.Name.{Name}
-use Rattle.expressions.specs.Tree.{NameTree, name_tree}
+use Rattle.expression_trees.specs.declared.tree.Name.{Name}
+use Rattle.expression_trees.specs.Tree.{NameTree, name_tree}
 use Rattle.directives.specs.declared.tree.Property.{Property}
 use Rattle.directives.specs.Tree.{text_tree, property_tree}
 use Rattle.names.specs.Noted.{noted}

@@ -1,6 +1,6 @@
 use Rattle.std.proofs.Common.{sym, ◌∙◌, take}
 use Rattle.std.specs.Prelude.{map}
-use Rattle.expressions.specs.Tree.{name_tree}
+use Rattle.expression_trees.specs.Tree.{name_tree}
 use Rattle.object_rules.proofs.NameTables.{table_next, repeated_next, repeated_end}
 use Rattle.object_rules.proofs.object_rules.repeated.Goals as goal
 

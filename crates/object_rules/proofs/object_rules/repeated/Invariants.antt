@@ -1,6 +1,6 @@
 use Rattle.std.proofs.Common.{◌≡◌, ℕ, List, [], take, drop}
 use Rattle.std.specs.Prelude.{map}
-use Rattle.expressions.specs.Tree.{name_tree}
+use Rattle.expression_trees.specs.Tree.{name_tree}
 use Rattle.names.specs.Names.{in_table, local_from}
 use Rattle.names.specs.Noted.{noted}
 use Rattle.names.specs.Scope.{local_binding}

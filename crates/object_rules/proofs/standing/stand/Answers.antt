@@ -2,7 +2,7 @@ use Rattle.std.proofs.Common.{◌≡◌, ◌-◌, ℕ, List, Option, length, ap,
 use Rattle.std.specs.Prelude.{slice_get}
 use Rattle.std.specs.Option.{option_map}
 use Rattle.lexer.specs.declared.token.Position.{Position}
-use Rattle.expressions.specs.Tree.{name_tree}
+use Rattle.expression_trees.specs.Tree.{name_tree}
 use Rattle.names.specs.Noted.{noted}
 use Rattle.names.proofs.Noted.{noted_two}
 use Rattle.object_rules.specs.Objects.{Open, open_to, above_of, arrow_breaches, named_parent_breaches}

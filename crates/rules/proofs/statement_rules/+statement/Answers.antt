@@ -1,23 +1,24 @@
 use Rattle.std.proofs.Common.{◌≡◌, Option, None, sym, ap, ◌∙◌}
 use Rattle.std.specs.Global.{Vec}
 use Rattle.std.specs.Prelude.{map}
-use Rattle.expressions.specs.Tree.{name_tree, expression_tree}
-use Rattle.statements.specs.declared.tree.Range.{Range}
+use Rattle.expression_trees.specs.Tree.{name_tree, expression_tree}
+use Rattle.statement_parts.specs.declared.tree.Range.{Range}
+use Rattle.statement_parts.specs.Tree.{loop_tree, over_in, over_where}
 use Rattle.statements.specs.declared.tree.Statement.{Statement}
-use Rattle.statements.specs.Tree.{other_tree, loop_tree, over_in, over_where}
+use Rattle.statements.specs.Tree.{other_tree}
 use Rattle.meaning.specs.Resolved as values
 use Rattle.meaning.specs.Resolved.{Value, Action, value_of, action_of, case_of, other_of}
 use Rattle.names.specs.Scope.{seen_in}
+use Rattle.names.proofs.Each.{each_next, each_end, value_next, value_end}
 use Rattle.value_rules.specs.Expressions.{variable_of_binding}
+use Rattle.value_rules.proofs.Walks.{leaf, named_part, one, two, three}
 use Rattle.simple_rules.specs.Statements.{loop_breaches}
 use Rattle.rules.specs.Walk.{resolved_statement, own_statement_breaches, resolved_case, own_case_breaches}
-use Rattle.names.proofs.Each.{each_next, each_end, value_next, value_end}
 use Rattle.rules.proofs.Shapes.{is_simple_statement, is_block_statement, is_if_statement, is_if_else_statement}
 use Rattle.rules.proofs.Shapes.{is_while_statement, is_do_statement, is_for_statement, is_objectloop_statement}
 use Rattle.rules.proofs.Shapes.{is_switch_statement}
-use Rattle.value_rules.proofs.Walks.{leaf, named_part, one, two, three}
-use Rattle.rules.proofs.MadeActions.{made_block, made_if_then, made_if_else, made_while_do}
-use Rattle.rules.proofs.MadeActions.{made_do, made_for, made_switch, made_each_object, made_each_in, made_each_where}
+use Rattle.rules.proofs.MadeActions.{made_block, made_if_then, made_if_else, made_while_do, made_do, made_for}
+use Rattle.rules.proofs.MadeActions.{made_switch, made_each_object, made_each_in, made_each_where}
 use Rattle.rules.proofs.Forms.{statements_walked, case_walked, other_walked, switch_walked}
 use Rattle.rules.proofs.statement_rules.+statement.Goals as goal
 

@@ -1,4 +1,4 @@
-use Rattle.expressions.specs.Tree.{name_tree}
+use Rattle.expression_trees.specs.Tree.{name_tree}
 use Rattle.names.specs.Scope.{seen_in}
 use Rattle.simple_rules.proofs.ReadNames.{read_walked}
 use Rattle.simple_rules.proofs.MadeActions.{made_read}

@@ -1,10 +1,10 @@
 use Rattle.std.proofs.Common.{ℕ, ap, ◌∙◌}
 use Rattle.std.specs.Option.{option_map}
-use Rattle.statements.specs.Tree.{literal_tree}
+use Rattle.statement_parts.specs.Tree.{literal_tree}
 use Rattle.meaning.specs.Resolved.{RangeOf}
 use Rattle.names.specs.Scope.{seen_in}
-use Rattle.simple_rules.specs.Statements.{range_to}
 use Rattle.value_rules.proofs.Walks.{two, walked}
+use Rattle.simple_rules.specs.Statements.{range_to}
 use Rattle.simple_rules.proofs.case_rules.range.Goals as goal
 
 pub returns : goal.returns

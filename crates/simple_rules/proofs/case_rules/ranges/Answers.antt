@@ -1,9 +1,9 @@
 use Rattle.std.proofs.Common.{sym, ◌∙◌}
-use Rattle.statements.specs.declared.tree.Range.{Range}
-use Rattle.names.specs.Scope.{seen_in}
+use Rattle.statement_parts.specs.declared.tree.Range.{Range}
 use Rattle.meaning.specs.Resolved.{range_of}
-use Rattle.simple_rules.specs.Walk.{own_range_breaches, resolved_range}
+use Rattle.names.specs.Scope.{seen_in}
 use Rattle.names.proofs.Each.{each_there, each_end, value_there, value_end}
+use Rattle.simple_rules.specs.Walk.{own_range_breaches, resolved_range}
 use Rattle.simple_rules.proofs.case_rules.ranges.Goals as goal
 
 pub loop-x-preserved : goal.loop-x-preserved

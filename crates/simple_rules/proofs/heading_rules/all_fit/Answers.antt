@@ -1,5 +1,5 @@
 use Rattle.std.proofs.Common.{◌∙◌}
-use Rattle.statements.specs.Tree.{part_tree}
+use Rattle.statement_parts.specs.Tree.{part_tree}
 use Rattle.simple_rules.proofs.HeadingNeeds.{parts_fit}
 use Rattle.simple_rules.proofs.heading_rules.all_fit.Goals as goal
 

@@ -1,9 +1,9 @@
 use Rattle.std.proofs.Common.{Bool, ℕ, sym, ◌∙◌}
-use Rattle.expressions.specs.declared.tree.Name.{Name}
+use Rattle.expression_trees.specs.declared.tree.Name.{Name}
 use Rattle.names.specs.Scope.{seen_in}
-use Rattle.simple_rules.specs.Walk.{own_flag_breaches, resolved_flag}
 use Rattle.names.proofs.Each.{each_there, each_end, value_end}
 use Rattle.value_rules.proofs.Mapping.{more_there}
+use Rattle.simple_rules.specs.Walk.{own_flag_breaches, resolved_flag}
 use Rattle.simple_rules.proofs.simple_rules.flags.Goals as goal
 
 pub loop-x-preserved : goal.loop-x-preserved

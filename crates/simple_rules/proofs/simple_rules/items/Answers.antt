@@ -1,9 +1,9 @@
 use Rattle.std.proofs.Common.{sym, ◌∙◌}
-use Rattle.statements.specs.declared.tree.PrintItem.{PrintItem}
-use Rattle.names.specs.Scope.{seen_in}
+use Rattle.statement_parts.specs.declared.tree.PrintItem.{PrintItem}
 use Rattle.meaning.specs.Resolved.{printed_of}
-use Rattle.simple_rules.specs.Walk.{own_item_breaches, resolved_item}
+use Rattle.names.specs.Scope.{seen_in}
 use Rattle.names.proofs.Each.{each_next, each_end, value_next, value_end}
+use Rattle.simple_rules.specs.Walk.{own_item_breaches, resolved_item}
 use Rattle.simple_rules.proofs.simple_rules.items.Goals as goal
 
 pub loop-x-preserved : goal.loop-x-preserved

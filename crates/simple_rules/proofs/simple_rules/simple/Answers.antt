@@ -1,8 +1,9 @@
 use Rattle.std.proofs.Common.{◌≡◌, refl, ap}
 use Rattle.std.specs.Prelude.{map}
-use Rattle.expressions.specs.Tree.{expression_tree}
+use Rattle.expression_trees.specs.Tree.{expression_tree}
+use Rattle.statement_parts.specs.Tree.{flag_tree, item_tree}
 use Rattle.statements.specs.Tree as written
-use Rattle.statements.specs.Tree.{simple_tree, flag_tree, item_tree}
+use Rattle.statements.specs.Tree.{simple_tree}
 use Rattle.meaning.specs.declared.resolved.Value.TheVariants as made
 use Rattle.meaning.specs.Resolved as values
 use Rattle.value_rules.proofs.Walks.{leaf, made_number}

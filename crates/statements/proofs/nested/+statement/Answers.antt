@@ -1,14 +1,15 @@
 use Rattle.std.proofs.Common.{◌-◌, length, sym, ap, ◌∙◌, arith}
-use Rattle.expressions.specs.Parse.{tail}
-use Rattle.expressions.proofs.GoesOn.{part_fails}
+use Rattle.parsing.specs.Parse.{tail}
+use Rattle.parsing.proofs.Failing.{part_fails}
+use Rattle.parsing.specs.Returned.{ahead}
+use Rattle.parsing.proofs.Loops.{repeated_out, repeated_done, repeated_more, repeated_fails, as_long_more}
+use Rattle.parsing.proofs.Loops.{as_long_fails}
+use Rattle.statement_parts.specs.Parse.{begins_value}
 use Rattle.statements.specs.Nesting.{begins_statement, begins_in_case}
 use Rattle.statements.specs.Tree.{statement_tree, case_tree}
-use Rattle.statements.specs.Parse.{begins_value, one_case, statement, inside, braces, bodies}
-use Rattle.statements.specs.Returned.{ahead}
-use Rattle.statements.proofs.Loops.{repeated_out, repeated_done, repeated_more, repeated_fails, as_long_more}
-use Rattle.statements.proofs.Loops.{as_long_fails}
-use Rattle.statements.proofs.Cases.{block_behind, block_read, repetition_made, iteration_made}
-use Rattle.statements.proofs.Cases.{traversal_made, otherwise_default, otherwise_made, selection_made}
+use Rattle.statements.specs.Parse.{one_case, statement, inside, braces, bodies}
+use Rattle.statements.proofs.Cases.{block_behind, block_read, repetition_made, iteration_made, traversal_made}
+use Rattle.statements.proofs.Cases.{otherwise_default, otherwise_made, otherwise_uncoloned, selection_made}
 use Rattle.statements.proofs.Inside.{bodies_begun}
 use Rattle.statements.proofs.nested.+statement.Goals as goal
 use Rattle.statements.proofs.nested.+statement.Goals.{cases-else-loop-turn-test}
@@ -36,14 +37,17 @@ traversal-returns-in-Ok t c = rw
     (traversal_made c.args.depth (inside c.args.depth) c.args.position (ahead c.args.parser.now) _ _ _ _
     c.in_ok-over.ensures.gives c.in-Ok.ensures) c.loop_over.ensures
 
+pub otherwise-returns-then-not-is_sign : goal.otherwise-returns-then-not-is_sign
+otherwise-returns-then-not-is_sign t c = rw c.fault_at.ensures
+    (otherwise_uncoloned (braces c.args.depth) (ahead c.args.parser.now) _ (grind arith) c.pass.ensures (grind arith))
+
 pub otherwise-returns-in-Ok : goal.otherwise-returns-in-Ok
-otherwise-returns-in-Ok t c = otherwise_made (braces c.args.depth) (ahead c.args.parser.now) _ _ _ _ (grind arith)
-    c.pass.ensures c.in_ok-expect.ensures c.in-Ok.ensures
+otherwise-returns-in-Ok t c = otherwise_made (braces c.args.depth) (ahead c.args.parser.now) _ (grind arith)
+    c.pass.ensures _ _ (grind arith) c.in-Ok.ensures
 
 pub otherwise-returns-in-Err : goal.otherwise-returns-in-Err
 otherwise-returns-in-Err t c = part_fails c.in-Err.e _ _ _ c.in-Err.ensures
-    (otherwise_default (braces c.args.depth) (ahead c.args.parser.now) _ _ (grind arith) c.pass.ensures
-    c.in_ok-expect.ensures)
+    (otherwise_default (braces c.args.depth) (ahead c.args.parser.now) _ (grind arith) c.pass.ensures (grind arith))
 
 pub selection-returns-in-Ok-otherwise : goal.selection-returns-in-Ok-otherwise
 selection-returns-in-Ok-otherwise t c = rw
@@ -51,16 +55,16 @@ selection-returns-in-Ok-otherwise t c = rw
     (ahead c.args.parser.now) _ _ _ _ _ _ _ c.in_ok-value.ensures.gives c.in_ok-expect.ensures c.in-Ok.ensures
     c.in-Ok-otherwise.ensures) c.switch_on.ensures
 
-pub row-loop-turn-preserved : goal.row-loop-turn-preserved
-row-loop-turn-preserved t c = rw c.in_ok-add-in-Ok.ensures.ok
+pub statements-loop-turn-preserved : goal.statements-loop-turn-preserved
+statements-loop-turn-preserved t c = rw c.in_ok-add-in-Ok.ensures.ok
     (sym (repeated_more statement_tree begins_statement (statement c.args.depth) (length c.args.parser.now.tokens.now)
     c.loop-turn._turn c.loop-turn.found.items (ahead c.loop-turn.parser) c.in-Ok.next.value
     _ c.loop-turn-test.true
     (ap begins_statement (sym c.peek.ensures) ∙ sym c.begins_statement.ensures ∙ c.if-not-begins_statement.false)
     c.in-Ok.ensures) ∙ c.loop-turn.invariant)
 
-pub row-returns-in-Err : goal.row-returns-in-Err
-row-returns-in-Err t c = repeated_fails statement_tree begins_statement (statement c.args.depth) c.in-Err.e
+pub statements-returns-in-Err : goal.statements-returns-in-Err
+statements-returns-in-Err t c = repeated_fails statement_tree begins_statement (statement c.args.depth) c.in-Err.e
     (length c.args.parser.now.tokens.now) c.loop-turn._turn c.loop-turn.found.items (ahead c.loop-turn.parser) _
     c.loop-turn-test.true
     (ap begins_statement (sym c.peek.ensures) ∙ sym c.begins_statement.ensures ∙ c.if-not-begins_statement.false)

@@ -1,13 +1,15 @@
 use Rattle.std.proofs.Common.{◌≡◌, map, ◌+◌, ◌-◌, ◌*◌}
+use Rattle.parsing.specs.Returned.{ahead}
+use Rattle.parsing.specs.Parse as reading
+use Rattle.parsing.proofs.Loops.{joined}
+use Rattle.statement_parts.specs.Parse as parts
 use Rattle.statements.specs.Nesting.{begins_statement, begins_in_case}
 use Rattle.statements.specs.Tree.{statement_tree, case_tree}
-use Rattle.statements.specs.Returned.{ahead}
 use Rattle.statements.specs.Parse as spec
-use Rattle.statements.proofs.Loops.{joined}
 use Rattle.statements.proofs.nested.+statement.Given as goal
 
-abbrev pub decreases-row : goal.decreases-row
-decreases-row l = 8 * l.depth + 7
+abbrev pub decreases-statements : goal.decreases-statements
+decreases-statements l = 8 * l.depth + 7
 
 abbrev pub decreases-statement : goal.decreases-statement
 decreases-statement l = 8 * l.depth + 6
@@ -54,20 +56,20 @@ decreases-otherwise l = 8 * l.depth + 1
 abbrev pub decreases-selection : goal.decreases-selection
 decreases-selection l = 8 * l.depth + 5
 
-abbrev pub invariant-row-loop-turn : goal.invariant-row-loop-turn
-invariant-row-loop-turn l =
+abbrev pub invariant-statements-loop-turn : goal.invariant-statements-loop-turn
+invariant-statements-loop-turn l =
     joined (map statement_tree l.found.items)
-    (spec.repeated begins_statement (spec.statement l.depth) (l._turn-end - l._turn) (ahead l.parser))
+    (reading.repeated begins_statement (spec.statement l.depth) (l._turn-end - l._turn) (ahead l.parser))
     ≡ spec.statements l.depth (ahead l.fn.parser)
 
 abbrev pub invariant-bodies-loop-turn : goal.invariant-bodies-loop-turn
 invariant-bodies-loop-turn l =
     joined (map statement_tree l.found.items)
-    (spec.as_long begins_in_case (spec.inside l.inside) (l._turn-end - l._turn) (ahead l.parser))
+    (reading.as_long begins_in_case (spec.inside l.inside) (l._turn-end - l._turn) (ahead l.parser))
     ≡ spec.bodies l.depth (ahead l.fn.parser)
 
 abbrev pub invariant-cases-loop-turn : goal.invariant-cases-loop-turn
 invariant-cases-loop-turn l =
     joined (map case_tree l.found.items)
-    (spec.repeated spec.begins_value (spec.one_case (spec.bodies l.depth)) (l._turn-end - l._turn) (ahead l.parser))
+    (reading.repeated parts.begins_value (spec.one_case (spec.bodies l.depth)) (l._turn-end - l._turn) (ahead l.parser))
     ≡ spec.cases (spec.bodies l.depth) (ahead l.fn.parser)

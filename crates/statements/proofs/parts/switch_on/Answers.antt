@@ -1,7 +1,7 @@
 use Rattle.std.specs.Prelude.{map}
-use Rattle.expressions.specs.Tree.{expression_tree}
+use Rattle.expression_trees.specs.Tree.{expression_tree}
+use Rattle.parsing.specs.Returned.{ahead}
 use Rattle.statements.specs.Tree.{case_tree, other_tree}
-use Rattle.statements.specs.Returned.{ahead}
 use Rattle.statements.proofs.Shapes.{is_switch}
 use Rattle.statements.proofs.Cases.{switch_made}
 use Rattle.statements.proofs.parts.switch_on.Goals as goal

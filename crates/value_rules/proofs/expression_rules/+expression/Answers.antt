@@ -1,21 +1,21 @@
 use Rattle.std.proofs.Common.{◌≡◌, Option, Some, None, length, refl, sym, ap, ◌∙◌}
 use Rattle.std.specs.Prelude.{map}
 use Rattle.std.specs.Option.{option_map}
-use Rattle.expressions.specs.declared.tree.Binary.{Binary}
-use Rattle.expressions.specs.declared.tree.Expression.{Expression}
-use Rattle.expressions.specs.Tree as trees
-use Rattle.expressions.specs.Tree.{expression_tree, name_tree}
+use Rattle.expression_trees.specs.declared.tree.Binary.{Binary}
+use Rattle.expression_trees.specs.declared.tree.Expression.{Expression}
+use Rattle.expression_trees.specs.Tree as trees
+use Rattle.expression_trees.specs.Tree.{expression_tree, name_tree}
+use Rattle.meaning.specs.Resolved as values
+use Rattle.meaning.specs.Resolved.{Value, value_of}
 use Rattle.names.specs.declared.binding.Binding.{Binding}
 use Rattle.names.specs.Names.{name_of}
 use Rattle.names.specs.Breaches.{at}
-use Rattle.meaning.specs.Resolved as values
-use Rattle.meaning.specs.Resolved.{Value, value_of}
 use Rattle.names.specs.Scope.{number_at, look_in, seen_in}
+use Rattle.names.proofs.Noted.{noted_none, noted_two}
+use Rattle.names.proofs.Each.{each_next, each_end, value_next, value_end}
 use Rattle.value_rules.specs.Expressions.{breaches, property_breaches, tested_breaches, property_of_binding, tested_for}
 use Rattle.value_rules.specs.Expressions.{assigned}
 use Rattle.value_rules.specs.Walk.{value_link, own_breaches, resolved, link_breaches, resolved_link}
-use Rattle.names.proofs.Noted.{noted_none, noted_two}
-use Rattle.names.proofs.Each.{each_next, each_end, value_next, value_end}
 use Rattle.value_rules.proofs.Shapes.{is_constant, is_word, is_named, is_call, is_index, is_parenthesised, is_prefixed}
 use Rattle.value_rules.proofs.Shapes.{is_relative_of, is_property, is_property_length, is_property_entry}
 use Rattle.value_rules.proofs.Shapes.{is_step_before, is_step_after, is_chain, is_compare, is_equal, is_contained}

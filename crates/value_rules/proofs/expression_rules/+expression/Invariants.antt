@@ -1,10 +1,10 @@
 use Rattle.std.proofs.Common.{◌≡◌, ◌+◌, ◌*◌, max, take, drop}
 use Rattle.std.specs.Prelude.{map}
 use Rattle.std.specs.List.{flat_map}
-use Rattle.expressions.specs.declared.tree.Expression.{size-Expression}
+use Rattle.expression_trees.specs.declared.tree.Expression.{size-Expression}
+use Rattle.meaning.specs.Resolved.{value_of}
 use Rattle.names.specs.Noted.{noted}
 use Rattle.names.specs.Scope.{seen_in}
-use Rattle.meaning.specs.Resolved.{value_of}
 use Rattle.value_rules.specs.Walk.{own_breaches, resolved, link_breaches, resolved_link, value_link}
 use Rattle.value_rules.proofs.expression_rules.+expression.Given as goal
 

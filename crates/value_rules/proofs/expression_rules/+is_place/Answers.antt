@@ -1,6 +1,6 @@
 use Rattle.std.proofs.Common.{sym}
 use Rattle.std.specs.Prelude.{map}
-use Rattle.expressions.specs.Tree.{expression_tree, name_tree, link}
+use Rattle.expression_trees.specs.Tree.{expression_tree, name_tree, link}
 use Rattle.value_rules.proofs.Shapes.{is_chain, is_property}
 use Rattle.value_rules.proofs.Forms.{chain_place, properties_place}
 use Rattle.value_rules.proofs.expression_rules.+is_place.Goals as goal

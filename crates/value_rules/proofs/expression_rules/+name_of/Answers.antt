@@ -1,6 +1,6 @@
 use Rattle.std.proofs.Common.{sym}
 use Rattle.std.specs.Prelude.{map}
-use Rattle.expressions.specs.Tree.{expression_tree, name_tree, link}
+use Rattle.expression_trees.specs.Tree.{expression_tree, name_tree, link}
 use Rattle.value_rules.proofs.Shapes.{is_chain, is_property}
 use Rattle.value_rules.proofs.Forms.{chain_name, properties_name}
 use Rattle.value_rules.proofs.expression_rules.+name_of.Goals as goal

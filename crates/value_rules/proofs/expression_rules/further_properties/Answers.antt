@@ -1,13 +1,13 @@
 use Rattle.std.proofs.Common.{List, ℕ, sym, ap, ◌+◌, ◌∙◌, drop}
 use Rattle.std.specs.Prelude.{map}
-use Rattle.expressions.specs.declared.tree.Name.{Name}
-use Rattle.names.specs.Scope.{seen_in}
+use Rattle.expression_trees.specs.declared.tree.Name.{Name}
 use Rattle.meaning.specs.Resolved as values
 use Rattle.meaning.specs.Resolved.{Value, value_of}
 use Rattle.meaning.specs.declared.resolved.Value as code_value
+use Rattle.names.specs.Scope.{seen_in}
+use Rattle.names.proofs.Each.{each_there, each_end}
 use Rattle.value_rules.specs.Expressions.{property_breaches, property_of_binding}
 use Rattle.value_rules.specs.Walk.{own_property_breaches, resolved_property, properties_of}
-use Rattle.names.proofs.Each.{each_there, each_end}
 use Rattle.value_rules.proofs.Walks.{named_part, made_property}
 use Rattle.value_rules.proofs.Mapping.{map_there, map_end}
 use Rattle.value_rules.proofs.expression_rules.further_properties.Goals as goal

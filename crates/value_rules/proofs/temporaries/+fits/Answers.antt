@@ -1,16 +1,13 @@
 use Rattle.std.proofs.Common.{◌≡◌, ◌+◌, nat_le, sym, ap, ◌∙◌, arith}
-use Rattle.expressions.specs.declared.tree.Expression.{Expression}
-use Rattle.expressions.specs.Tree as trees
-use Rattle.expressions.specs.Tree.{expression_tree, name_tree}
+use Rattle.expression_trees.specs.declared.tree.Expression.{Expression}
+use Rattle.expression_trees.specs.Tree as trees
+use Rattle.expression_trees.specs.Tree.{expression_tree, name_tree}
 use Rattle.value_rules.specs.Temporaries.{need}
 use Rattle.value_rules.proofs.Shapes.{is_call, is_index, is_parenthesised, is_prefixed, is_step_before, is_step_after}
-use Rattle.value_rules.proofs.Shapes.{is_chain}
-use Rattle.value_rules.proofs.Shapes.{is_compare, is_assign, is_relative_of, is_property, is_property_length}
-use Rattle.value_rules.proofs.Shapes.{is_property_entry}
-use Rattle.value_rules.proofs.Shapes.{is_contained, is_tested}
+use Rattle.value_rules.proofs.Shapes.{is_chain, is_compare, is_assign, is_relative_of, is_property, is_property_length}
+use Rattle.value_rules.proofs.Shapes.{is_property_entry, is_contained, is_tested}
 use Rattle.value_rules.proofs.Needs.{need_one, one_need, both_next, both_bad, chain_next, chain_bad, properties_need}
-use Rattle.value_rules.proofs.Needs.{left_none, left_next, left_bad, operands_next}
-use Rattle.value_rules.proofs.Needs.{operands_full, operands_bad}
+use Rattle.value_rules.proofs.Needs.{left_none, left_next, left_bad, operands_next, operands_full, operands_bad}
 use Rattle.value_rules.proofs.temporaries.+fits.Goals as goal
 use Rattle.value_rules.proofs.temporaries.+fits.Goals.{operands_fit-then-left-eq0-via-then-left-eq0}
 use Rattle.value_rules.proofs.temporaries.+fits.Goals.{operands_fit-then-left-eq0-via-else-left-eq0+then-not-fits}

@@ -1,8 +1,8 @@
 use Rattle.std.proofs.Common.{◌≡◌, ◌+◌, ◌-◌, ◌*◌, max, drop, nat_le}
 use Rattle.std.specs.Prelude.{map}
-use Rattle.expressions.specs.declared.tree.Expression.{size-Expression}
-use Rattle.value_rules.specs.Temporaries.{greatest}
+use Rattle.expression_trees.specs.declared.tree.Expression.{size-Expression}
 use Rattle.meaning.specs.Operands.{operands}
+use Rattle.value_rules.specs.Temporaries.{greatest}
 use Rattle.value_rules.proofs.Needs.{operand_needs, link_need}
 use Rattle.value_rules.proofs.temporaries.+fits.Given as goal
 

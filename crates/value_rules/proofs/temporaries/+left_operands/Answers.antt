@@ -1,6 +1,6 @@
 use Rattle.std.proofs.Common.{List, ℕ, length, sym, ap}
 use Rattle.std.specs.Prelude.{map}
-use Rattle.expressions.specs.Tree.{expression_tree, name_tree, link}
+use Rattle.expression_trees.specs.Tree.{expression_tree, name_tree, link}
 use Rattle.value_rules.proofs.Shapes.{is_chain, is_property}
 use Rattle.value_rules.proofs.Needs.{chain_left, properties_left}
 use Rattle.value_rules.proofs.temporaries.+left_operands.Goals as goal

@@ -15,8 +15,8 @@ use Rattle.values.proofs.ObjectValues.{assigned_property_written, contained_more
 use Rattle.values.proofs.ObjectValues.{assign_property_more}
 use Rattle.values.proofs.BoxedForms.{number_form, read_form, step_before_form, step_after_form, call_form}
 use Rattle.values.proofs.BoxedForms.{prefixed_form, assign_form, entry_form, relative_form, has_form, provides_form}
-use Rattle.values.proofs.BoxedForms.{property_form, property_size_form, compare_form, assign_entry_form}
-use Rattle.values.proofs.BoxedForms.{contained_form, property_word_form, assign_property_form, chain_form, equal_form}
+use Rattle.values.proofs.BoxedForms.{property_form, property_size_form, compare_form, assign_entry_form, contained_form}
+use Rattle.values.proofs.BoxedForms.{property_word_form, assign_property_form, chain_form, equal_form}
 use Rattle.values.proofs.BoxedForms.{assign_property_word_form}
 use Rattle.values.proofs.value.+values.Goals as goal
 

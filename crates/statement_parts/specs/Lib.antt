@@ -1,0 +1,4 @@
+pub mod Tree
+pub mod Grammar
+pub mod Nesting
+pub mod Parse
