@@ -1,6 +1,6 @@
 -- Abbreviations where no rule is broken: how many there may be, how long they are, and that they print.
-use Rattle.std.proofs.Common.{◌≡◌, ℕ, ◌+◌, ◌≤◌, nat_lt, nat_le, Bool, true, false, ◌&&◌, ◌||◌, ◌==◌}
-use Rattle.std.proofs.Common.{List, [], ◌∷◌, ◌++◌, length, cond, refl, length-append, arith}
+use Rattle.std.proofs.Common.{◌≡◌, ℕ, ◌+◌, ◌≤◌, nat_lt, nat_le, Bool, true, false, ◌&&◌, ◌||◌, ◌==◌, List, [], ◌∷◌}
+use Rattle.std.proofs.Common.{◌++◌, length, cond, refl, length-append, arith}
 use Rattle.std.specs.Prelude.{map}
 use Rattle.std.specs.List.{All, list_all}
 use Rattle.std.proofs.lemmas.Bool.Decides.{nat_tests}
@@ -11,9 +11,9 @@ use Rattle.lexer.specs.Printable.{IsPrintable}
 use Rattle.lexer.specs.declared.token.Position.{Position}
 use Rattle.directives.specs.Tree.{TextTree}
 use Rattle.directives.specs.Printable.{IsPrintableText}
+use Rattle.meaning.specs.Places.{machine_character}
 use Rattle.names.specs.Breaches.{at}
 use Rattle.names.proofs.Kept.{left_empty, right_empty, below}
-use Rattle.meaning.specs.Places.{machine_character}
 use Rattle.checker.specs.Programs.{has_text, abbreviation_breaches, abbreviations_breaches}
 use Rattle.checker.proofs.Whole.{characters_of}
 

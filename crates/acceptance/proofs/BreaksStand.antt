@@ -5,14 +5,13 @@ use Rattle.lexer.specs.declared.token.Position.{Position}
 use Rattle.statements.specs.Tree as written
 use Rattle.statements.specs.Tree.{StatementTree, StatementTrees, CaseTrees}
 use Rattle.meaning.specs.declared.around.Around.{Around}
-use Rattle.names.specs.Names.{Seen}
-use Rattle.simple_rules.specs.Statements.{loop_breaches, outside_breaches, whole_breaches, heading_breaches}
-use Rattle.simple_rules.specs.Statements.{range_breaches}
-use Rattle.simple_rules.specs.Statements.{statement_breaches, statements_breaches, cases_breaches, resolve_statement}
-use Rattle.simple_rules.specs.Statements.{resolve_statements, resolve_cases}
 use Rattle.meaning.specs.Around.{in_loop, in_switch}
 use Rattle.meaning.specs.Accepted.{StandsIn, AllStandIn, CasesStandIn}
+use Rattle.names.specs.Names.{Seen}
 use Rattle.names.proofs.Kept.{left_empty, right_empty}
+use Rattle.simple_rules.specs.Statements.{loop_breaches, outside_breaches, whole_breaches, heading_breaches}
+use Rattle.simple_rules.specs.Statements.{range_breaches, statement_breaches, statements_breaches, cases_breaches}
+use Rattle.simple_rules.specs.Statements.{resolve_statement, resolve_statements, resolve_cases}
 
 allowed : (stands : Bool) (q : Position) → outside_breaches stands q ≡ [] → stands ≡ true
 allowed true q h = refl

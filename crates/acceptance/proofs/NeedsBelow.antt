@@ -1,7 +1,7 @@
 -- What a resolved expression needs is no more than its tree needs.
 use Rattle.std.proofs.Common.{◌≡◌, ℕ, ◌+◌, ◌≤◌, List, [], ◌∷◌, ◌++◌, Option, Some, None, refl, ap, arith}
 use Rattle.expression_trees.specs.Tree as trees
-use Rattle.expression_trees.specs.Tree.{NameTree, ExpressionTree, ExpressionTrees}
+use Rattle.expression_trees.specs.Tree.{ExpressionTree, ExpressionTrees}
 use Rattle.expression_trees.specs.declared.tree.ObjectTest.{ObjectTest}
 use Rattle.expression_trees.specs.declared.tree.ObjectTest.TheVariants as tests
 use Rattle.meaning.specs.Operands.{operands}

@@ -1,15 +1,13 @@
 -- The numbers of keys: where the dictionary stands does not rest on them.
 use Rattle.std.proofs.Common.{◌≡◌, ◌==◌, ℕ, suc, nat_lt, ◌+◌, ◌*◌, Bool, true, false, cond, if◌then◌else◌, List, []}
-use Rattle.std.proofs.Common.{◌∷◌}
-use Rattle.std.proofs.Common.{length, refl, sym, ap, ◌∙◌, length-append, arith}
+use Rattle.std.proofs.Common.{◌∷◌, length, refl, sym, ap, ◌∙◌, length-append, arith}
 use Rattle.std.specs.Prelude.{map}
 use Rattle.std.specs.List.{concat}
 use Rattle.directives.specs.Tree.{DirectiveTree, global, constant, array, attribute, property, object, routine}
-use Rattle.directives.specs.Tree.{ValueTree}
-use Rattle.directives.specs.Tree.{PropertyTree, ObjectTree}
+use Rattle.directives.specs.Tree.{ValueTree, PropertyTree, ObjectTree}
+use Rattle.meaning.specs.Places.{dictionary_place, name_words, property_size, table_size, objects_size, total}
 use Rattle.names.specs.Keys.{keys_of}
 use Rattle.names.specs.Names.{Table, File, table_of}
-use Rattle.meaning.specs.Places.{dictionary_place, name_words, property_size, table_size, objects_size, total}
 use Rattle.array_rules.specs.Arrays.{array_bytes, arrays_of}
 use Rattle.array_rules.proofs.ArraySizes.{array_alike}
 use Rattle.object_rules.specs.Objects.{word_of, with_property, with_properties, provided_of, short_name, object_in}

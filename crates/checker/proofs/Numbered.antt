@@ -1,25 +1,25 @@
 -- The numbers of keys: where the dictionary stands.
-use Rattle.std.proofs.Common.{◌≡◌, ◌==◌, ◌<◌, ◌≤◌, ◌⊎◌, inl, inr, ℕ, ◌+◌, ◌*◌, ◌%◌, Bool, true, false}
-use Rattle.std.proofs.Common.{cond, List, [], ◌∷◌, length, Bor, refl, sym, ap, ◌∙◌, arith}
+use Rattle.std.proofs.Common.{◌≡◌, ◌==◌, ◌<◌, ◌≤◌, ◌⊎◌, inl, inr, ℕ, ◌+◌, ◌*◌, ◌%◌, Bool, true, false, cond, List, []}
+use Rattle.std.proofs.Common.{◌∷◌, length, Bor, refl, sym, ap, ◌∙◌, arith}
 use Rattle.std.specs.Prelude.{map}
 use Rattle.std.specs.List.{concat}
-use Rattle.directives.specs.declared.tree.Directive.{Directive}
-use Rattle.syntax.specs.declared.tree.Program.{Program}
-use Rattle.directives.specs.Tree.{directive_tree}
-use Rattle.syntax.specs.Tree.{ProgramTree, program_tree}
 use Rattle.std.proofs.Math.Path.{fun_ext}
 use Rattle.std.proofs.lemmas.Bool.{cases_lt}
 use Rattle.tables.specs.Dictionary.{key_number, place_in}
-use Rattle.names.specs.Keys.{keys_of}
-use Rattle.names.specs.Names.{Table, File, table_of}
+use Rattle.directives.specs.declared.tree.Directive.{Directive}
+use Rattle.directives.specs.Tree.{directive_tree}
+use Rattle.syntax.specs.declared.tree.Program.{Program}
+use Rattle.syntax.specs.Tree.{ProgramTree, program_tree}
 use Rattle.meaning.specs.Objects.{ObjectOf}
 use Rattle.meaning.specs.Places.{dictionary_place, folded, table_size, objects_size, total}
 use Rattle.meaning.proofs.Folding.{fold_small, fold_great, fold_part}
-use Rattle.object_rules.specs.Objects.{placed, parents_of}
+use Rattle.names.specs.Keys.{keys_of}
+use Rattle.names.specs.Names.{Table, File, table_of}
 use Rattle.array_rules.specs.Arrays.{arrays_of}
+use Rattle.object_rules.specs.Objects.{placed, parents_of}
 use Rattle.object_rules.specs.Files.{objects_in, object_trees}
-use Rattle.checker.specs.Programs.{resolve_with, no_numbers, file_of}
 use Rattle.object_rules.proofs.Chains.{placed_many}
+use Rattle.checker.specs.Programs.{resolve_with, no_numbers, file_of}
 
 abbrev pub numbered : Table → (ℕ → ℕ) → File
 numbered table number = record { table = table; number = number }

@@ -1,31 +1,30 @@
 -- A whole program.
-use Rattle.std.proofs.Common.{◌≡◌, ℕ, List, [], ◌++◌, Option, refl}
-use Rattle.std.proofs.Common.{subst, ap, ◌∙◌}
+use Rattle.std.proofs.Common.{◌≡◌, ℕ, List, [], ◌++◌, Option, refl, subst, ap, ◌∙◌}
 use Rattle.std.specs.Prelude.{map}
-use Rattle.syntax.specs.declared.tree.Program.{Program}
 use Rattle.directives.specs.declared.tree.Directive.{Directive}
 use Rattle.directives.specs.declared.tree.Text.{Text}
 use Rattle.directives.specs.Tree.{directive_tree, TextTree, text_tree}
+use Rattle.syntax.specs.declared.tree.Program.{Program}
 use Rattle.syntax.specs.Tree.{ProgramTree, program_tree}
-use Rattle.names.specs.declared.breach.Breach.{Breach}
-use Rattle.names.specs.Keys.{keys_of}
-use Rattle.names.specs.Names.{Table, File, in_table, first_table, no_counts, table_of}
-use Rattle.names.specs.Noted.{noted}
 use Rattle.meaning.specs.Objects.{ObjectOf}
 use Rattle.meaning.specs.Places.{machine_character}
 use Rattle.meaning.specs.declared.checked.CheckedObject.{CheckedObject}
 use Rattle.meaning.specs.Resolved.{RoutineOf, ProgramOf, CheckedProgram, object_of, routine_of, cut}
 use Rattle.meaning.specs.declared.checked.CheckedRoutine.{CheckedRoutine}
+use Rattle.meaning.proofs.Cutting.{cut_is}
+use Rattle.names.specs.declared.breach.Breach.{Breach}
+use Rattle.names.specs.Keys.{keys_of}
+use Rattle.names.specs.Names.{Table, File, in_table, first_table, no_counts, table_of}
+use Rattle.names.specs.Noted.{noted}
+use Rattle.names.proofs.Noted.{noted_two}
+use Rattle.array_rules.specs.Arrays.{arrays_of}
+use Rattle.object_rules.specs.Objects.{all_defaults, standing_breaches, parents_of, placed}
+use Rattle.object_rules.specs.Files.{object_trees, objects_of}
 use Rattle.checker.specs.declared.directive_rules.Found.{Found}
 use Rattle.checker.specs.Found.{IsFound}
 use Rattle.checker.specs.Programs.{main_key, first_routine, main_breaches, directives_breaches, program_breaches}
-use Rattle.object_rules.specs.Objects.{all_defaults, standing_breaches, parents_of, placed}
-use Rattle.object_rules.specs.Files.{object_trees, objects_of}
 use Rattle.checker.specs.Programs.{defaults_in, globals_of, routines_of, routine_number, resolve_with, file_of}
-use Rattle.array_rules.specs.Arrays.{arrays_of}
 use Rattle.checker.specs.Programs.{abbreviations_breaches, resolve_program, IsCheckedOf}
-use Rattle.names.proofs.Noted.{noted_two}
-use Rattle.meaning.proofs.Cutting.{cut_is}
 
 -- the characters of abbreviations
 abbrev pub characters_of : TextTree → List ℕ

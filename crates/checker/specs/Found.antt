@@ -1,9 +1,7 @@
 -- Words of proofs: what walks over directives find, and what they note.
 use Rattle.std.specs.Prelude.{◌≡◌, ℕ, List, ◌++◌, length, Option, map}
 use Rattle.std.specs.List.{concat}
-use Rattle.expression_trees.specs.declared.tree.Width.TheVariants as widths
 use Rattle.expression_trees.specs.Tree.{NameTree}
-use Rattle.directives.specs.declared.tree.ArrayKind.TheVariants as kinds
 use Rattle.directives.specs.Tree.{RoutineTree, DirectiveTree}
 use Rattle.meaning.specs.declared.checked.CheckedRoutine.{CheckedRoutine}
 use Rattle.meaning.specs.Resolved.{RoutineOf, object_of, routine_of, title_of}

@@ -1,7 +1,7 @@
 //! Directives: the rules that they can break, and what they resolve to.
 
-ghost use Rattle.std.specs.Prelude.{◌≡◌, ◌%◌, ◌∷◌, ◌++◌, [], ℕ, List, IfOk, OnOk, length, map};
-ghost use Rattle.std.specs.Prelude.{nat_le, if◌then◌else◌};
+ghost use Rattle.std.specs.Prelude.{◌≡◌, ◌%◌, ◌∷◌, ◌++◌, [], ℕ, List, IfOk, OnOk, map, nat_le};
+ghost use Rattle.std.specs.Prelude.{if◌then◌else◌};
 ghost use Rattle.expression_trees.specs.Tree.{name_tree};
 ghost use Rattle.directives.specs.Tree.{optional_tree, object_tree, routine_tree, directive_tree};
 ghost use Rattle.meaning.specs.Resolved.{object_of};

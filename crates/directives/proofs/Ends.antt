@@ -1,6 +1,6 @@
 -- What a routine leaves is what its tokens end with, and so its weight is that of the tokens before.
 use Rattle.std.proofs.Common.{◌≡◌, ℕ, suc, ◌+◌, ◌-◌, ◌≤◌, List, [], ◌∷◌, ◌++◌, append_assoc, length, take, Result, Ok}
-use Rattle.std.proofs.Common.{Err, refl, sym, ap, subst, ◌∙◌, arith}
+use Rattle.std.proofs.Common.{Err, refl, sym, ap, ◌∙◌, arith}
 use Rattle.lexer.specs.declared.token.Token.{Token}
 use Rattle.lexer.specs.declared.token.Sign.{Sign}
 use Rattle.lexer.specs.declared.token.Sign.TheVariants as s
@@ -13,7 +13,6 @@ use Rattle.expressions.proofs.Tokens.{expect_ok, expect_not_deep}
 use Rattle.expressions.proofs.NamesRead.{name_judged}
 use Rattle.statements.specs.Tree.{StatementTree, StatementTrees}
 use Rattle.statements.specs.Grammar.{IsSs}
-use Rattle.statements.specs.Parse.{statements}
 use Rattle.statements.proofs.Sound.{judged_Ss}
 use Rattle.directives.specs.Grammar.{weight_of, IsNames}
 use Rattle.directives.specs.Parse.{routine_heading, closed, routine_body}

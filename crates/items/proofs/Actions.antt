@@ -1,6 +1,7 @@
 -- What is written for statements.
 use Rattle.std.proofs.Common.{◌≡◌, ℕ, zero, suc, ◌+◌, ◌-◌, ◌<◌, List, [], ◌∷◌, ◌++◌, length, map, drop, slice_set}
 use Rattle.std.proofs.Common.{slice_index_or, false, refl, sym, ap, ◌∙◌, arith, append_assoc, length-append}
+use Rattle.std.specs.Prelude.{OnOk, Result, Ok, Err}
 use Rattle.std.proofs.Math.Seq.{set-append_seam}
 use Rattle.meaning.specs.declared.resolved.Printed as code_printed
 use Rattle.meaning.specs.declared.resolved.Action as code_action
@@ -8,19 +9,19 @@ use Rattle.meaning.specs.Resolved.{Value, Printed, Action, Actions, actions_of, 
 use Rattle.meaning.specs.Resolved as source
 use Rattle.drafts.specs.Items.{Item, Operand, alone, if_pushed, push, branch_count, value_count, value_items}
 use Rattle.drafts.specs.Items.{branch_items, alone_items, left_of, operand_count}
+use Rattle.drafts.specs.Items as items
+use Rattle.drafts.specs.declared.wanted.Wanted.TheVariants.{Branch}
+use Rattle.drafts.specs.Writing.{in_order, Written, wanted_items}
+use Rattle.drafts.proofs.Counts.{branch_length}
+use Rattle.drafts.proofs.WrittenItems.{in_order_append, one, counted, both, as_items, then_one, after_one}
+use Rattle.values.specs.Writing.{pushes}
+use Rattle.values.proofs.Values.{pushes_length}
 use Rattle.items.specs.Statements.{printed_count, prints_count, action_count, printed_items, prints_items}
 use Rattle.items.specs.Statements.{actions_count, action_items, actions_items, return_true}
-use Rattle.drafts.specs.Items as items
 use Rattle.items.specs.Statements as statements
-use Rattle.drafts.specs.declared.wanted.Wanted.TheVariants.{Branch}
 use Rattle.items.specs.declared.exits.Exits.{Exits}
-use Rattle.drafts.specs.Writing.{in_order, Written, wanted_items}
-use Rattle.values.specs.Writing.{pushes}
 use Rattle.items.specs.Writing.{taken_items, exits_of}
-use Rattle.drafts.proofs.Counts.{branch_length}
 use Rattle.items.proofs.StatementCounts.{printed_length, prints_length, action_length, actions_length}
-use Rattle.drafts.proofs.WrittenItems.{in_order_append, one, counted, both, as_items, then_one, after_one}
-use Rattle.values.proofs.Values.{pushes_length}
 
 pub end_more : (c c1 c2 : List Item) → c1 ≡ c ++ return_true ∷ [] → c2 ≡ c1 ++ items.new_line ∷ []
     → Written c c2 (λ n at. items.new_line ∷ return_true ∷ [])
@@ -233,3 +234,9 @@ routine_more c c1 code x locals xs e w eb es ec =
     whole : (more : List Item) → in_order (length c1) ((return_true ∷ []) ++ more)
         ≡ in_order (length c1) more ++ return_true ∷ []
     whole more = in_order_append (length c1) (return_true ∷ []) more
+
+-- ---- what was written, by what it is called
+
+pub on_ok : {T E P Q : Type 0} (result : Result T E) → (P → Q) → OnOk result P → OnOk result Q
+on_ok (Ok x) more h = more h
+on_ok (Err e) more h = tt

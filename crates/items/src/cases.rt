@@ -3,9 +3,10 @@
 ghost use Rattle.std.specs.Prelude.{◌-◌, ◌∷◌, [], true, length, map, OnOk};
 ghost use Rattle.meaning.specs.Resolved.{range_of};
 ghost use Rattle.drafts.specs.Items.{case, same, less, greater};
-ghost use Rattle.items.specs.Statements.{groups_of, group_items, last_items, tests_items, over_items};
-ghost use Rattle.items.specs.Code.{group_of};
 ghost use Rattle.drafts.specs.Writing.{Writes, Puts, written_in};
+ghost use Rattle.items.specs.Statements.{groups_of, group_items, last_items, tests_items};
+ghost use Rattle.items.specs.Statements.{over_items};
+ghost use Rattle.items.specs.Code.{group_of};
 
 use crate::group::{Group, groups};
 use drafts::{Draft, Item, Test, put, written};

@@ -6,6 +6,7 @@ ghost use Rattle.meaning.specs.Resolved.{block, if_then, if_else, while_do, do_u
 ghost use Rattle.meaning.specs.Resolved.{switch_on, return_value, value_of, give_to, move_to};
 ghost use Rattle.meaning.specs.Resolved.{remove_from, each_object, each_where, each_in, printed_of};
 ghost use Rattle.meaning.specs.Resolved.{action_of, actions_of, case_of, cases_of, other_of};
+ghost use Rattle.meaning.specs.Resolved.{text_alone, print_return};
 ghost use Rattle.drafts.specs.Code.{as_operand};
 ghost use Rattle.drafts.specs.Items.{new_line};
 ghost use Rattle.drafts.specs.Writing.{Writes};
@@ -51,41 +52,50 @@ fn put_statement<'a>(
     ensures { OnOk result (WritesAction draft.old draft.new exits (action_of statement.now)) }
 {
     match statement {
-        Action::Empty => {}
-        Action::Block(statements) => put_statements(draft, exits, statements)?,
-        Action::Text(text) => {
-            put_end_of_line(draft)?;
-            put(draft, Item::PrintText(text))?;
-        }
-        Action::Print(items) => put_prints(draft, items)?,
-        Action::PrintReturn(items) => {
-            put_end_of_line(draft)?;
-            put_prints(draft, items)?;
-        }
-        Action::NewLine => put(draft, Item::NewLine)?,
-        Action::If(test, then) => put_if(draft, exits, then, test)?,
-        Action::IfElse(test, then, otherwise) => {
-            put_if_else(draft, exits, then, otherwise, test)?;
-        }
-        Action::While(test, body) => put_while(draft, body, test)?,
-        Action::Do(body, test) => put_do(draft, body, test)?,
-        Action::For(before, test, behind, body) => put_for(draft, body, before, test, behind)?,
-        Action::Switch(value, cases, other) => put_switch(draft, exits, cases, other, value)?,
-        Action::Break => put(draft, Item::Jump(exits.breaks))?,
-        Action::Continue => put(draft, Item::Jump(exits.continues))?,
-        Action::ReturnValue(value) => put_return(draft, value)?,
-        Action::Read(text, parse) => put(draft, Item::Read(*text, *parse))?,
-        Action::Give(object, changes) => put_give(draft, object, changes)?,
-        Action::Move(object, into) => put_move(draft, object, into)?,
-        Action::Remove(object) => put_remove(draft, object)?,
-        Action::EachObject(variable, body) => put_each(draft, body, *variable)?,
-        Action::EachWhere(variable, test, body) => put_each_where(draft, body, *variable, test)?,
-        Action::EachIn(variable, parent, body) => put_each_in(draft, body, *variable, parent)?,
-        Action::Quit => put(draft, Item::Quit)?,
-        Action::Effect(value) => {
-            put_value(draft, value, Wanted::Word(Destination::Nowhere))?;
-        }
+        Action::Empty => Ok(()),
+        Action::Block(statements) => put_statements(draft, exits, statements),
+        Action::Text(text) => put_text(draft, text),
+        Action::Print(items) => put_prints(draft, items),
+        Action::PrintReturn(items) => put_print_return(draft, items),
+        Action::NewLine => put(draft, Item::NewLine),
+        Action::If(test, then) => put_if(draft, exits, then, test),
+        Action::IfElse(test, then, otherwise) => put_if_else(draft, exits, then, otherwise, test),
+        Action::While(test, body) => put_while(draft, body, test),
+        Action::Do(body, test) => put_do(draft, body, test),
+        Action::For(before, test, behind, body) => put_for(draft, body, before, test, behind),
+        Action::Switch(value, cases, other) => put_switch(draft, exits, cases, other, value),
+        Action::Break => put(draft, Item::Jump(exits.breaks)),
+        Action::Continue => put(draft, Item::Jump(exits.continues)),
+        Action::ReturnValue(value) => put_return(draft, value),
+        Action::Read(text, parse) => put(draft, Item::Read(*text, *parse)),
+        Action::Give(object, changes) => put_give(draft, object, changes),
+        Action::Move(object, into) => put_move(draft, object, into),
+        Action::Remove(object) => put_remove(draft, object),
+        Action::EachObject(variable, body) => put_each(draft, body, *variable),
+        Action::EachWhere(variable, test, body) => put_each_where(draft, body, *variable, test),
+        Action::EachIn(variable, parent, body) => put_each_in(draft, body, *variable, parent),
+        Action::Quit => put(draft, Item::Quit),
+        Action::Effect(value) => put_value(draft, value, Wanted::Word(Destination::Nowhere)),
     }
+}
+
+/// A text alone: it is printed with a new line, and the routine returns true.
+fn put_text<'a>(draft: &mut Draft<'a>, text: &'a [u8]) -> Result<(), AllocError>
+    ensures { OnOk result ((x : _) → WritesAction draft.old draft.new x
+        (text_alone text.entry.now)) }
+{
+    put_end_of_line(draft)?;
+    put(draft, Item::PrintText(text))?;
+    Ok(())
+}
+
+/// `print_ret`.
+fn put_print_return<'a>(draft: &mut Draft<'a>, items: &[Printed<'a>]) -> Result<(), AllocError>
+    ensures { OnOk result ((x : _) → WritesAction draft.old draft.new x
+        (print_return (map printed_of items.now))) }
+{
+    put_end_of_line(draft)?;
+    put_prints(draft, items)?;
     Ok(())
 }
 

@@ -1,6 +1,6 @@
 -- The keys of words have six bytes.
-use Rattle.std.proofs.Common.{◌≡◌, ℕ, zero, suc, ◌%◌, ◌^◌, ◌<◌, inl, inr, List, [], ◌∷◌, length, map, refl, sym}
-use Rattle.std.proofs.Common.{◌∙◌, subst, arith}
+use Rattle.std.proofs.Common.{◌≡◌, ℕ, zero, suc, ◌%◌, ◌^◌, ◌<◌, inl, inr, List, [], ◌∷◌, length, map, refl, sym, ◌∙◌}
+use Rattle.std.proofs.Common.{subst, arith}
 use Rattle.std.specs.Prelude.{slice_index_or}
 use Rattle.std.specs.List.{All}
 use Rattle.std.proofs.Math.Nat.{mod-eq_of_lt}

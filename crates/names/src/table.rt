@@ -3,7 +3,6 @@
 ghost use Rattle.std.specs.Prelude.{◌≡◌, OnOk};
 ghost use Rattle.expression_trees.specs.Tree.{name_tree};
 ghost use Rattle.names.specs.Names.{key_of, in_table, with_name};
-ghost use Rattle.names.specs.Names as spec;
 ghost use Rattle.names.specs.Scope.{look_in};
 
 use crate::binding::Binding;

@@ -1,12 +1,11 @@
 //! Definitions of objects: the rules that they can break, and what they are.
 
-ghost use Rattle.std.specs.Prelude.{◌≡◌, ◌≤◌, ◌++◌, List, [], IfOk, OnOk, length, map};
+ghost use Rattle.std.specs.Prelude.{◌≡◌, ◌≤◌, ◌++◌, [], IfOk, OnOk, length, map};
 ghost use Rattle.std.specs.List.{flat_map};
 ghost use Rattle.std.specs.Option.{option_map};
 ghost use Rattle.expression_trees.specs.Tree.{name_tree};
 ghost use Rattle.directives.specs.Tree.{value_tree, text_tree, property_tree, object_tree};
 ghost use Rattle.meaning.specs.Resolved.{property_of, object_of};
-ghost use Rattle.names.specs.Names.{key_of, in_table};
 ghost use Rattle.names.specs.Noted.{noted};
 ghost use Rattle.names.specs.Scope.{file_in};
 ghost use Rattle.object_rules.specs.Repeated.{repeated_breaches};

@@ -1,6 +1,6 @@
 //! Where objects stand at the start: each in the one that its arrows or a name give it.
 
-ghost use Rattle.std.specs.Prelude.{◌≡◌, ◌%◌, ◌<◌, ◌^◌, ℕ, IfOk, OnOk, length, map, slice_index_or};
+ghost use Rattle.std.specs.Prelude.{◌≡◌, ◌%◌, ◌<◌, ◌^◌, IfOk, OnOk, length, map, slice_index_or};
 ghost use Rattle.std.specs.Option.{option_map};
 ghost use Rattle.expression_trees.specs.Tree.{name_tree};
 ghost use Rattle.directives.specs.Tree.{object_tree, directive_tree};

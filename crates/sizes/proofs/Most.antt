@@ -8,11 +8,8 @@ use Rattle.meaning.specs.Resolved as source
 use Rattle.meaning.specs.Resolved.{Value, Values, none, more}
 use Rattle.meaning.specs.declared.resolved.Variable.{Variable}
 use Rattle.drafts.specs.Items as items
-use Rattle.drafts.specs.Items.{Item, Operand, pushed, number, variable, Destination, push, into, nowhere, operand_of}
-use Rattle.drafts.specs.Items.{operands_of, alone, left_of, if_pushed, branch_true, agrees, is_few, comparison_test}
-use Rattle.drafts.specs.Items.{comparison_when, equality_when, value_count, operand_count, operands_count, branch_count}
-use Rattle.drafts.specs.Items.{many_count, moved, truth_items, after_items, kept_items, and_items, or_items}
-use Rattle.drafts.specs.Items.{value_items, operands_items, branch_items, many_items, also_items}
+use Rattle.drafts.specs.Items.{Item, Operand, pushed, number, variable, Destination, push, into, nowhere, operands_of}
+use Rattle.drafts.specs.Items.{if_pushed, moved, truth_items, after_items, kept_items}
 
 -- An operand has 2 bytes, or 1 and an instruction `pull`; a label has 4 bytes at most, a fault inline 4, and the tests
 -- of an index or an object 10. A case compares its word with three numbers at most; `read` tests the first bytes of two

@@ -4,23 +4,22 @@ use Rattle.std.proofs.Common.{append-nil}
 use Rattle.std.specs.Prelude.{slice_index}
 use Rattle.zcore.specs.declared.instruction.Operation.TheVariants as operations
 use Rattle.zcore.specs.Instruction.{Instruction, bytes_of}
-use Rattle.forms.specs.Layout.{first, form_for, offset_over, part_size, lefts}
 use Rattle.drafts.specs.Items.{Item}
 use Rattle.drafts.specs.Items as items
+use Rattle.forms.specs.Layout.{first, form_for, offset_over, part_size, lefts}
 use Rattle.encoding.specs.Instructions.{plain, in_place, most_arguments}
-use Rattle.instructions.specs.Instructions.{binary_code, prefix_code, move_code, step_code, character_code, call_code}
-use Rattle.instructions.specs.Instructions.{return_code, choose_code}
 use Rattle.encoding.specs.Addresses.{Sizes}
 use Rattle.encoding.specs.Bytes.{bytes_of_all}
+use Rattle.instructions.specs.Instructions.{binary_code, prefix_code, move_code, step_code, character_code, call_code}
+use Rattle.instructions.specs.Instructions.{return_code, choose_code}
+use Rattle.object_selection.specs.ObjectCode.{objects_of, relative_code, is_in_code, has_code, provides_code, give_code}
+use Rattle.object_selection.specs.ObjectCode.{remove_code, print_name_code, property_code, property_size_code}
+use Rattle.object_selection.specs.ObjectCode.{property_word_code, assign_property_code, assign_property_word_code}
+use Rattle.object_selection.specs.ObjectCode.{move_object_code, first_object_code, next_object_code}
 use Rattle.selection.specs.ItemCode.{entry_code, assign_entry_code, read_code}
-use Rattle.object_selection.specs.ObjectCode.{objects_of, relative_code, is_in_code, has_code, provides_code}
-use Rattle.object_selection.specs.ObjectCode.{give_code, remove_code, print_name_code, property_code}
-use Rattle.object_selection.specs.ObjectCode.{property_size_code, property_word_code, assign_property_code}
-use Rattle.object_selection.specs.ObjectCode.{assign_property_word_code, move_object_code, first_object_code}
-use Rattle.object_selection.specs.ObjectCode.{next_object_code}
 use Rattle.code.specs.Bytes.{no_addresses, part_of, parts_of, code_size}
-use Rattle.sizes.proofs.Most.{most, most_of}
 use Rattle.code.proofs.AddressLengths.{one_length}
+use Rattle.sizes.proofs.Most.{most, most_of}
 use Rattle.sizes.proofs.SizesOfInstructions.{operand_few}
 use Rattle.sizes.proofs.SizesOfOperands.{plain_few, label_few}
 use Rattle.sizes.proofs.SizesOfObjects.{relative_few, remove_few, name_few, give_few, is_in_few, has_few}

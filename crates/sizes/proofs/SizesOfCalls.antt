@@ -1,23 +1,22 @@
 -- How many bytes the items have that read a line, return or call.
-use Rattle.std.proofs.Common.{◌≤◌, ◌+◌, ◌*◌, ◌==◌, ℕ, Bool, true, false, List, [], ◌∷◌, ◌++◌, length, take, refl}
-use Rattle.std.proofs.Common.{arith}
+use Rattle.std.proofs.Common.{◌≤◌, ◌+◌, ◌*◌, ◌==◌, ℕ, Bool, true, false, List, [], ◌∷◌, ◌++◌, length, take, refl, arith}
 use Rattle.std.specs.Prelude.{nat_lt, if◌then◌else◌}
 use Rattle.std.proofs.lemmas.List.{length-take}
 use Rattle.zcore.specs.declared.instruction.Operand.TheVariants.{Large, Small, Variable}
 use Rattle.zcore.specs.declared.instruction.Operation.TheVariants as operations
 use Rattle.zcore.specs.Operations.{count_of, number_of, has_more_types}
 use Rattle.zcore.specs.Instruction.{Instruction, result_bytes, bytes_of}
-use Rattle.drafts.specs.Items.{Destination}
 use Rattle.meaning.specs.declared.cause.Cause.TheVariants as causes
+use Rattle.drafts.specs.Items.{Destination}
 use Rattle.drafts.specs.Items as items
 use Rattle.encoding.specs.Instructions as spec
 use Rattle.encoding.specs.Instructions.{plain, constant, takes}
-use Rattle.instructions.specs.Instructions.{call_result, calling, call_code, return_code}
 use Rattle.encoding.specs.Bytes.{bytes_of_all}
+use Rattle.instructions.specs.Instructions.{call_result, calling, call_code, return_code}
 use Rattle.selection.specs.ItemCode.{first_byte, tested_first, letters_in, words_in, line_code, read_code}
 use Rattle.code.specs.Bytes.{no_addresses}
-use Rattle.sizes.proofs.Most.{most}
 use Rattle.code.proofs.AddressLengths.{all_length, one_length}
+use Rattle.sizes.proofs.Most.{most}
 use Rattle.sizes.proofs.SizesOfInstructions.{opcode_most, parts_length, few_bytes, constant_few, two_count, taken_few}
 use Rattle.sizes.proofs.SizesOfOperands.{plain_few, between_few}
 

@@ -10,7 +10,6 @@ use Rattle.zcore.specs.declared.operations.OperandCount.TheVariants.{Two, One, Z
 use Rattle.zcore.specs.Operations.{count_of, number_of, has_more_types}
 use Rattle.zcore.specs.Instruction.{Instruction, type_of, opcode_bytes, operand_bytes, result_bytes, branch_bytes}
 use Rattle.zcore.specs.Instruction.{bytes_of}
-use Rattle.drafts.specs.Items.{Item, Destination, Test}
 use Rattle.drafts.specs.Items as items
 use Rattle.encoding.specs.Instructions.{in_place, constant, pushed_count, named_from, operands, takes}
 use Rattle.encoding.specs.Bytes.{bytes_of_all}

@@ -4,12 +4,11 @@ use Rattle.std.proofs.Common.{Option, Some, None, arith, length-append}
 use Rattle.std.specs.Prelude.{◌++◌, if◌then◌else◌, nat_lt, replicate}
 use Rattle.std.specs.List.{filter}
 use Rattle.std.proofs.lemmas.List.{length-map, length-replicate}
-use Rattle.zcore.specs.Instruction.{bytes_of}
 use Rattle.ztext.specs.Alphabets.{is_printable, punctuation, upper_letters, lower_letters, place_in}
 use Rattle.ztext.specs.Alphabets.{spelling_in_punctuation, spelling_in_upper, spelling_in_lower, spelling_of}
 use Rattle.ztext.specs.Words.{packed, missing, padded}
 use Rattle.ztext.specs.Abbreviations.{Found, longest, spelling_or, more_of, spelled_behind, encoded_with}
-use Rattle.drafts.specs.Items.{Item, Destination, Test}
+use Rattle.zcore.specs.Instruction.{bytes_of}
 use Rattle.drafts.specs.Items as items
 use Rattle.encoding.specs.Addresses.{Sizes}
 use Rattle.encoding.specs.Bytes.{character_of}

@@ -4,6 +4,9 @@ use Rattle.std.proofs.Common.{ap, ◌∙◌, subst}
 use Rattle.std.specs.Prelude.{◌++◌}
 use Rattle.std.specs.List.{All}
 use Rattle.std.specs.Result.{IsErr, IsErrAnd}
+use Rattle.zcore.specs.declared.header.Version.{Version}
+use Rattle.zcore.specs.Header.{scale_of, Reads}
+use Rattle.zcore.specs.declared.header.Header.{Header}
 use Rattle.lexer.specs.declared.fault.SourceFault.{SourceFault}
 use Rattle.lexer.specs.declared.token.Token.{Token}
 use Rattle.lexer.specs.Token.{lexemes}
@@ -14,26 +17,22 @@ use Rattle.syntax.specs.Tree.{ProgramTree}
 use Rattle.syntax.specs.Grammar.{IsProgram, program_nesting}
 use Rattle.syntax.specs.Nesting.{DeepProgram}
 use Rattle.syntax.specs.Laws.{PrintableTrees}
-use Rattle.zcore.specs.declared.header.Version.{Version}
-use Rattle.zcore.specs.Header.{scale_of, Reads}
-use Rattle.zcore.specs.declared.header.Header.{Header}
-use Rattle.names.specs.declared.breach.Breach.{Breach}
 use Rattle.meaning.specs.Accepted.{IsAccepted}
-use Rattle.names.specs.Breaches.{IsAmong, IsFirst}
-use Rattle.acceptance.specs.Laws.{AcceptedPrograms, PrintablePrograms}
 use Rattle.meaning.specs.Printable.{HasPrintableTexts}
-use Rattle.checker.specs.Programs.{program_breaches, IsCheckedOf}
 use Rattle.meaning.specs.Places.{routines_place}
 use Rattle.meaning.specs.Resolved.{CheckedProgram, program_of}
 use Rattle.meaning.specs.Sizes as checked
+use Rattle.names.specs.declared.breach.Breach.{Breach}
+use Rattle.names.specs.Breaches.{IsAmong, IsFirst}
+use Rattle.checker.specs.Programs.{program_breaches, IsCheckedOf}
+use Rattle.acceptance.specs.Laws.{AcceptedPrograms, PrintablePrograms}
 use Rattle.code.specs.Laws.{CodePlays, Plays}
 use Rattle.sizes.specs.Laws.{IsSmall, SmallSourcesHaveSmallCode}
-use Rattle.story.specs.Compiled.{IsTreeOf, IsStoryOf, Refuses, Compiles, lexemes_of, first_heavy, heavy_fault}
-use Rattle.story.specs.Compiled.{NumbersKeys, size_fault, fault}
-use Rattle.story.specs.Compiled as spec
 use Rattle.story_file.specs.Layout.{addresses_in, greatest_word, story_of}
-use Rattle.story.specs.Laws.{StoriesHold}
 use Rattle.story_file.specs.Written.{Fits}
+use Rattle.story.specs.Compiled.{IsTreeOf, IsStoryOf, Refuses, Compiles, lexemes_of, NumbersKeys}
+use Rattle.story.specs.Compiled as spec
+use Rattle.story.specs.Laws.{StoriesHold}
 use Rattle.story.proofs.Faults.{by_weight, size_faults, placed_of}
 use Rattle.story.proofs.Sizes.{stories_are_short, is_story}
 use Rattle.story.proofs.Numbered.{keys_numbered}

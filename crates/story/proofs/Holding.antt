@@ -1,23 +1,23 @@
 -- Stories hold their programs.
-use Rattle.std.proofs.Common.{◌≡◌, ℕ, suc, ◌+◌, ◌*◌, ◌/◌, ◌<◌, ◌≤◌, List, [], ◌++◌, length, drop}
-use Rattle.std.proofs.Common.{sym, ap, ◌∙◌, subst, arith}
+use Rattle.std.proofs.Common.{◌≡◌, ℕ, suc, ◌+◌, ◌*◌, ◌/◌, ◌<◌, ◌≤◌, List, [], ◌++◌, length, drop, sym, ap, ◌∙◌, subst}
+use Rattle.std.proofs.Common.{arith}
 use Rattle.std.specs.Prelude.{map, slice_index, slice_index_or}
 use Rattle.std.specs.List.{All}
 use Rattle.std.proofs.lemmas.List.{length-map, get_or-drop}
-use Rattle.zcore.specs.declared.header.Version.{Version}
 use Rattle.ztext.specs.Bytes.{word_at}
 use Rattle.ztext.specs.Abbreviations.{abbreviation_at}
-use Rattle.zcore.specs.Header.{abbreviations_of, scale_of}
-use Rattle.zcore.specs.Parts.{unpacked}
 use Rattle.ztext.specs.Text.{Holds, encoded}
 use Rattle.ztext.specs.Words.{packed}
+use Rattle.zcore.specs.declared.header.Version.{Version}
+use Rattle.zcore.specs.Header.{abbreviations_of, scale_of}
+use Rattle.zcore.specs.Parts.{unpacked}
 use Rattle.tables.specs.Dictionary.{ReadsKeys}
 use Rattle.meaning.specs.Resolved.{ProgramOf}
 use Rattle.meaning.specs.Accepted.{IsAccepted}
 use Rattle.meaning.specs.Places.{arrays_place, start_place, routines_place, texts_place}
 use Rattle.meaning.specs.Meaning.{routine_at}
-use Rattle.items.specs.Statements.{routine_items}
 use Rattle.meaning.specs.World.{words_of}
+use Rattle.items.specs.Statements.{routine_items}
 use Rattle.region.specs.Laws.{HoldsRows}
 use Rattle.region.specs.Rows.{rows_of, rows_bytes}
 use Rattle.encoding.specs.Addresses.{Addresses, number_of}
@@ -27,16 +27,16 @@ use Rattle.code.specs.HeldProgram.{sizes_of}
 use Rattle.code.specs.Sizes.{routine_size}
 use Rattle.story_file.specs.Layout.{addresses_in, fault_texts, packed_addresses, parts_from, addresses_from}
 use Rattle.story_file.specs.Layout.{greatest_word, low_bytes, routine_bytes, story_of, text_places}
-use Rattle.story.specs.Laws.{IsShort, StoriesHold}
 use Rattle.story_file.proofs.Parts.{HasPartAt, holds_first, parts_rise, parts_stand, addresses_count}
 use Rattle.story_file.proofs.Lengths.{routine_length, sizes_are}
 use Rattle.story_file.proofs.AbbreviationTables.{texts_above, texts_below}
-use Rattle.story_file.proofs.Low.{global_stands, arrays_hold, objects_hold, high_stands, start_stands}
-use Rattle.story_file.proofs.Low.{place_stands, abbreviation_stands}
+use Rattle.story_file.proofs.Low.{global_stands, arrays_hold, objects_hold, high_stands, start_stands, place_stands}
+use Rattle.story_file.proofs.Low.{abbreviation_stands}
 use Rattle.story_file.proofs.ObjectTables.{rows_sized}
+use Rattle.story.specs.Laws.{IsShort, StoriesHold}
 use Rattle.story.proofs.Reading.{Says, behind_header, says, header_read, laid_length, laid_out, laid_read, laid_keys}
-use Rattle.story.proofs.PackedParts.{packed_is, scale_is, is_packed, size_at, routine_is, few_causes, text_of}
-use Rattle.story.proofs.PackedParts.{parts_of, parts_count, routine_part, text_part, part_long, array_found}
+use Rattle.story.proofs.PackedParts.{packed_is, scale_is, is_packed, size_at, routine_is, few_causes, text_of, parts_of}
+use Rattle.story.proofs.PackedParts.{parts_count, routine_part, text_part, part_long, array_found}
 
 -- Programs
 

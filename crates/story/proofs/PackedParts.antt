@@ -1,16 +1,16 @@
 -- Packed addresses, parts by their numbers, and where arrays stand.
-use Rattle.std.proofs.Common.{◌≡◌, ℕ, zero, suc, ◌+◌, ◌*◌, ◌/◌, ◌==◌, ◌<◌, ◌≤◌, List, [], ◌∷◌, ◌++◌, length, take}
-use Rattle.std.proofs.Common.{refl, sym, ap, ◌∙◌, subst, arith}
+use Rattle.std.proofs.Common.{◌≡◌, ℕ, zero, suc, ◌+◌, ◌*◌, ◌/◌, ◌==◌, ◌<◌, ◌≤◌, List, [], ◌∷◌, ◌++◌, length, take, refl}
+use Rattle.std.proofs.Common.{sym, ap, ◌∙◌, subst, arith}
 use Rattle.std.specs.Prelude.{map, if◌then◌else◌, slice_index, slice_index_or}
 use Rattle.std.specs.List.{concat}
 use Rattle.std.proofs.lemmas.List.{length-append, length-map, get_or-append-add}
-use Rattle.zcore.specs.declared.header.Version.{Version}
-use Rattle.zcore.specs.declared.header.Version.TheVariants.{V5, V8}
 use Rattle.ztext.specs.Alphabets.{spelling_of}
-use Rattle.zcore.specs.Header.{scale_of, version_number}
-use Rattle.zcore.specs.Parts.{scale_in}
 use Rattle.ztext.specs.Text.{encoded}
 use Rattle.ztext.specs.Words.{packed}
+use Rattle.zcore.specs.declared.header.Version.{Version}
+use Rattle.zcore.specs.declared.header.Version.TheVariants.{V5, V8}
+use Rattle.zcore.specs.Header.{scale_of, version_number}
+use Rattle.zcore.specs.Parts.{scale_in}
 use Rattle.meaning.specs.Resolved.{RoutineOf}
 use Rattle.meaning.specs.Meaning.{routine_at}
 use Rattle.meaning.specs.World.{words_of}

@@ -5,11 +5,11 @@ use Rattle.std.specs.Prelude.{map, slice_index, sum}
 use Rattle.std.specs.List.{All}
 use Rattle.std.specs.List.Sorted.{IsStrictlyIncreasing}
 use Rattle.std.proofs.lemmas.List.{length-append, length-map, drop_at}
+use Rattle.ztext.specs.Bytes.{word_at}
 use Rattle.zcore.specs.declared.header.Version.{Version}
 use Rattle.zcore.specs.declared.header.Header.{Header}
-use Rattle.ztext.specs.Bytes.{word_at}
-use Rattle.zcore.specs.Header.{IsDictionary, IsDictionaryOf, IsPlaced, Reads, StatesSum, abbreviations_of}
-use Rattle.zcore.specs.Header.{defaults_of, dictionary_of, first_instruction_of, globals_of, high_memory_of, scale_of}
+use Rattle.zcore.specs.Header.{IsDictionary, IsDictionaryOf, IsPlaced, Reads, StatesSum, abbreviations_of, defaults_of}
+use Rattle.zcore.specs.Header.{dictionary_of, first_instruction_of, globals_of, high_memory_of, scale_of}
 use Rattle.zcore.specs.Header.{separator_count, entry_length_of, entry_count, static_base_of, version_number}
 use Rattle.tables.specs.Dictionary.{ReadsKeys}
 use Rattle.meaning.specs.Accepted.{IsAccepted}

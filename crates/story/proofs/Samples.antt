@@ -2,29 +2,28 @@
 use Rattle.std.proofs.Common.{◌≡◌, ℕ, List, [], ◌∷◌, ◌++◌, length, Some, None, refl}
 use Rattle.std.specs.Prelude.{codes, option_map, replicate}
 use Rattle.std.specs.List.{flat_map}
+use Rattle.ztext.specs.Alphabets.{spelling_of}
+use Rattle.ztext.specs.Text.{encoded}
+use Rattle.ztext.specs.Words.{packed}
 use Rattle.zcore.specs.declared.header.Version.TheVariants.{V5, V8}
 use Rattle.zcore.specs.declared.place.Place.{Place}
 use Rattle.zcore.specs.declared.place.Place.TheVariants as places
-use Rattle.ztext.specs.Alphabets.{spelling_of}
 use Rattle.zcore.specs.Instruction.{decode, bytes_of, opcode, operands, operand, byte, large, result_variable, branch}
-use Rattle.zcore.specs.Parts.{read_in_place, push, pop, read_variable, operand_value}
-use Rattle.zcore.specs.Parts.{operand_values, store_result, spend, go, test_routine}
-use Rattle.zcore.specs.Parts.{test_calls, enter, call, test_return, leave, give_back}
+use Rattle.zcore.specs.Parts.{read_in_place, push, pop, read_variable, operand_value, operand_values, store_result}
+use Rattle.zcore.specs.Parts.{spend, go, test_routine, test_calls, enter, call, test_return, leave, give_back}
 use Rattle.zcore.specs.Execution.{step, perform, call_packed}
-use Rattle.ztext.specs.Text.{encoded}
 use Rattle.zcore.specs.Turn.{Whole, opening, turn_from, weight}
-use Rattle.ztext.specs.Words.{packed}
 use Rattle.statements.specs.Tree as trees
 use Rattle.directives.specs.Tree.{routine}
 use Rattle.syntax.specs.Tree.{ProgramTree}
 use Rattle.meaning.specs.Meaning.{meaning}
+use Rattle.meaning.specs.Resolved.{ProgramOf, number, stop, text}
 use Rattle.names.specs.Names.{table_of}
 use Rattle.names.specs.Names as names
 use Rattle.checker.specs.Programs.{resolve_program, resolve_with}
-use Rattle.meaning.specs.Resolved.{ProgramOf, number, stop, text}
+use Rattle.story_file.specs.Layout.{abbreviation_bytes, abbreviation_texts, fault_texts, low_bytes, packed_addresses}
+use Rattle.story_file.specs.Layout.{story_of}
 use Rattle.story.specs.Compiled.{size_fault}
-use Rattle.story_file.specs.Layout.{abbreviation_bytes, abbreviation_texts, fault_texts, low_bytes}
-use Rattle.story_file.specs.Layout.{packed_addresses, story_of}
 
 texts : fault_texts
     ≡ (20 ∷ 229 ∷ 24 ∷ 91 ∷ 17 ∷ 102 ∷ 106 ∷ 57 ∷ 23 ∷ 160 ∷ 37 ∷ 219 ∷ 59 ∷ 14 ∷ 82 ∷ 96 ∷ 31 ∷ 192 ∷ 125 ∷ 87

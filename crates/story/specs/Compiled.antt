@@ -1,9 +1,13 @@
 -- What a source is compiled to, and why it is refused.
 use Rattle.std.specs.Prelude.{◌≡◌, ◌≢◌, ◌≤◌, ◌<◌, ◌+◌, ℕ, nat_lt, if◌then◌else◌, List, [], ◌∷◌, map, Option, Some, None}
 use Rattle.std.specs.Prelude.{Result, Ok, Err}
+use Rattle.zcore.specs.declared.header.Version.{Version}
+use Rattle.zcore.specs.declared.header.Header.{Header}
+use Rattle.zcore.specs.Header.{Reads, dictionary_of}
+use Rattle.zcore.specs.Dictionary.{entry_of}
 use Rattle.lexer.specs.declared.fault.SourceFault.{SourceFault}
-use Rattle.lexer.specs.declared.fault.TheConstants.{NESTED_TOO_DEEP, NOT_IN_GRAMMAR, TABLES_TOO_LARGE}
-use Rattle.lexer.specs.declared.fault.TheConstants.{STORY_TOO_LARGE, ROUTINE_TOO_LARGE}
+use Rattle.lexer.specs.declared.fault.TheConstants.{NESTED_TOO_DEEP, NOT_IN_GRAMMAR, TABLES_TOO_LARGE, STORY_TOO_LARGE}
+use Rattle.lexer.specs.declared.fault.TheConstants.{ROUTINE_TOO_LARGE}
 use Rattle.lexer.specs.Results as faults
 use Rattle.lexer.specs.declared.token.Position.{Position}
 use Rattle.lexer.specs.Token.{Lexeme}
@@ -12,17 +16,13 @@ use Rattle.directives.specs.Tree.{RoutineTree}
 use Rattle.syntax.specs.Tree.{ProgramTree}
 use Rattle.syntax.specs.Grammar.{IsProgram, program_nesting}
 use Rattle.syntax.specs.Nesting.{DeepProgram}
+use Rattle.meaning.specs.Places.{routines_place, number_in}
+use Rattle.meaning.specs.Resolved.{ProgramOf}
+use Rattle.meaning.specs.Sizes.{greatest_weight}
 use Rattle.names.specs.declared.breach.Breach.{Breach}
 use Rattle.names.specs.Breaches.{IsAmong, IsFirst}
 use Rattle.names.specs.Keys as keys
 use Rattle.checker.specs.Programs.{program_breaches, resolve_program, routine_trees}
-use Rattle.meaning.specs.Places.{routines_place, number_in}
-use Rattle.meaning.specs.Resolved.{ProgramOf}
-use Rattle.meaning.specs.Sizes.{greatest_weight}
-use Rattle.zcore.specs.declared.header.Version.{Version}
-use Rattle.zcore.specs.declared.header.Header.{Header}
-use Rattle.zcore.specs.Header.{Reads, dictionary_of}
-use Rattle.zcore.specs.Dictionary.{entry_of}
 use Rattle.code.specs.Laws.{Plays}
 use Rattle.story_file.specs.Layout.{story_of, greatest_word}
 

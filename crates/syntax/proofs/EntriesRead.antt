@@ -25,7 +25,8 @@ pub map_both : {X A : Type 0} (view : X → A) (xs ys : List X) → map view (xs
 map_both view [] ys = refl
 map_both view (x ∷ xs) ys = ap (λ zs. view x ∷ zs) (map_both view xs ys)
 
-pub map_last : {X A : Type 0} (view : X → A) (xs : List X) (x : X) → map view (xs ++ x ∷ []) ≡ map view xs ++ view x ∷ []
+pub map_last : {X A : Type 0} (view : X → A) (xs : List X) (x : X)
+    → map view (xs ++ x ∷ []) ≡ map view xs ++ view x ∷ []
 map_last view xs x = map_both view xs (x ∷ [])
 
 -- ---- of what was gathered

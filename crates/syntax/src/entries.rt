@@ -1,6 +1,6 @@
 //! What stands in a file, read from tokens: directives, and the texts of each `abbreviate`.
 
-ghost use Rattle.std.specs.Prelude.{◌≡◌, IfErr, IfOk, [], ◌∷◌, ◌++◌, map};
+ghost use Rattle.std.specs.Prelude.{◌≡◌, IfErr, IfOk, [], ◌∷◌, ◌++◌};
 ghost use Rattle.lexer.specs.Token.{lexeme};
 ghost use Rattle.parsing.specs.Returned.{ahead, Takes};
 ghost use Rattle.syntax.specs.Parse as spec;

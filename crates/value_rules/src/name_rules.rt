@@ -1,6 +1,6 @@
 //! Names: the rules that they can break by what they are used for, and what they resolve to.
 
-ghost use Rattle.std.specs.Prelude.{◌≡◌, ◌++◌, [], if◌then◌else◌};
+ghost use Rattle.std.specs.Prelude.{◌≡◌, ◌++◌, if◌then◌else◌};
 ghost use Rattle.meaning.specs.Resolved.{value_of};
 ghost use Rattle.names.specs.Breaches.{at};
 ghost use Rattle.names.specs.Noted.{noted};

@@ -1,23 +1,21 @@
 use Rattle.std.proofs.Common.{◌≡◌, ℕ, ◌+◌, ◌-◌, ◌<◌, Bool, List, [], length, map, drop, refl, sym, subst, arith}
 use Rattle.std.specs.Global.{Vec}
 use Rattle.std.specs.Option.{option_map}
-use Rattle.meaning.specs.declared.resolved.Printed as code_printed
 use Rattle.meaning.specs.declared.resolved.Action as code_action
 use Rattle.meaning.specs.declared.resolved.Span.{Span}
-use Rattle.meaning.specs.Resolved.{Action, CasesOf, while_do, do_until, for_loop, switch_on, value_of, printed_of}
-use Rattle.meaning.specs.Resolved.{range_of, action_of, actions_of, case_of, cases_of, other_of, give_to, each_object}
-use Rattle.meaning.specs.Resolved.{each_where, each_in}
+use Rattle.meaning.specs.Resolved.{Action, CasesOf, while_do, do_until, for_loop, switch_on, value_of, range_of}
+use Rattle.meaning.specs.Resolved.{action_of, actions_of, case_of, cases_of, other_of, give_to, each_object, each_where}
+use Rattle.meaning.specs.Resolved.{each_in}
 use Rattle.drafts.specs.Writing.{written_in, Written}
-use Rattle.items.specs.Statements.{action_items, actions_items, cases_items, prints_items, groups_of, tests_items}
-use Rattle.items.specs.Statements.{action_count}
+use Rattle.items.specs.Statements.{action_items, actions_items, cases_items, groups_of, tests_items, action_count}
 use Rattle.items.specs.declared.exits.Exits.{Exits}
 use Rattle.items.specs.Writing.{exits_of, LeavesCases}
-use Rattle.items.proofs.Trees.{text_is, print_return_is, while_is, do_is, for_is, switch_is, return_is, give_is}
-use Rattle.items.proofs.Trees.{move_is, remove_is, each_is, each_where_is, each_in_is}
+use Rattle.items.proofs.Trees.{while_is, do_is, for_is, switch_is, return_is, give_is, move_is, remove_is, each_is}
+use Rattle.items.proofs.Trees.{each_where_is, each_in_is}
 use Rattle.items.proofs.Rounds.{do_more, for_more, each_more, each_where_more, each_in_more}
 use Rattle.items.proofs.StatementCounts.{action_length}
 use Rattle.items.proofs.SwitchCases.{case_leaves, case_next, cases_all, switch_more}
-use Rattle.items.proofs.Actions.{if_more, else_more, while_more, text_more, print_return_more, action_next}
+use Rattle.items.proofs.Actions.{if_more, else_more, while_more, action_next, on_ok}
 use Rattle.items.proofs.statement.+statements.Goals as goal
 
 pub put_statements-loop-done-preserved : goal.put_statements-loop-done-preserved
@@ -44,34 +42,14 @@ put_while-returns t c =
     while_more _ _ _ _ _ (value_of c.args.test.now) (action_of c.args.body.now) _ c.written-end.ensures
     c.in_ok-put.ensures c.written.ensures c.in_ok-put_statement.ensures c.in_ok-put_value.ensures c.lead_back.ensures
 
-pub put_statement-returns-in_ok-put-in-Text : goal.put_statement-returns-in_ok-put-in-Text
-put_statement-returns-in_ok-put-in-Text t c =
-    let P : Action → Type 0 = λ a. Written (written_in c.args.draft.now) (written_in c.put.new.draft)
-    (λ n at. action_items (exits_of n c.args.exits) at a) in
-    subst P (sym (text_is _ _ c.in-Text.is))
-    (text_more _ _ _ c.args.exits c.in-Text.text.now c.in_ok-put_end_of_line-in-Text.ensures
-    c.in_ok-put-in-Text.ensures)
-
-pub put_statement-returns-in_ok-put_prints-in-PrintReturn : goal.put_statement-returns-in_ok-put_prints-in-PrintReturn
-put_statement-returns-in_ok-put_prints-in-PrintReturn t c =
-    let P : Action → Type 0 =
-    λ a. Written (written_in c.args.draft.now) (written_in c.put_prints-in-PrintReturn.new.draft)
-    (λ n at. action_items (exits_of n c.args.exits) at a) in
-    let Q : List code_printed.Printed → Type 0 = λ l. Written (written_in c.put_end_of_line-in-PrintReturn.new.draft)
-    (written_in c.put_prints-in-PrintReturn.new.draft) (λ n at. prints_items at (map printed_of l)) in
-    subst P (sym (print_return_is _ _ c.in-PrintReturn.is))
-    (print_return_more _ _ _ c.args.exits
-    (map printed_of c.in-PrintReturn.items.items) c.in_ok-put_end_of_line-in-PrintReturn.ensures
-    (subst Q c.deref-in-PrintReturn.ensures.value c.in_ok-put_prints-in-PrintReturn.ensures))
-
 pub put_if_else-returns : goal.put_if_else-returns
 put_if_else-returns t c = else_more _ _ _ _ _ c.args.exits (value_of c.args.test.now) (action_of c.args.then.now)
     (action_of c.args.otherwise.now) c.written-end.result c.written-next.result c.written-end.ensures
     c.in_ok-put_statement.ensures c.written-next.ensures c.in_ok-put.ensures c.in_ok-put_statement-2.ensures
     c.in_ok-put_value.ensures
 
-pub put_statement-returns-in_ok-put_while-in-While : goal.put_statement-returns-in_ok-put_while-in-While
-put_statement-returns-in_ok-put_while-in-While t c =
+pub put_statement-returns-in-While : goal.put_statement-returns-in-While
+put_statement-returns-in-While t c = on_ok c.put_while.result (λ w.
     let x = c.in-While in
     let P : Action → Type 0 = λ a. Written (written_in c.args.draft.now) (written_in c.put_while.new.draft)
     (λ n at. action_items (exits_of n c.args.exits) at a) in
@@ -79,14 +57,14 @@ put_statement-returns-in_ok-put_while-in-While t c =
     λ s. Written (written_in c.args.draft.now) (written_in c.put_while.new.draft)
     (λ n at. action_items (exits_of n c.args.exits) at (while_do (value_of x.test) (action_of s))) in
     subst P (sym (while_is _ _ _ x.is)) (subst Q c.deref-in-While.ensures
-    (c.in_ok-put_while-in-While.ensures c.args.exits))
+    (w c.args.exits))) c.put_while.ensures
 
-pub put_statement-returns-in_ok-put_return-in-ReturnValue : goal.put_statement-returns-in_ok-put_return-in-ReturnValue
-put_statement-returns-in_ok-put_return-in-ReturnValue t c =
+pub put_statement-returns-in-ReturnValue : goal.put_statement-returns-in-ReturnValue
+put_statement-returns-in-ReturnValue t c = on_ok c.put_return.result (λ w.
     let x = c.in-ReturnValue in
     let P : Action → Type 0 = λ a. Written (written_in c.args.draft.now) (written_in c.put_return.new.draft)
     (λ n at. action_items (exits_of n c.args.exits) at a) in
-    subst P (sym (return_is _ _ x.is)) (c.in_ok-put_return-in-ReturnValue.ensures c.args.exits)
+    subst P (sym (return_is _ _ x.is)) (w c.args.exits)) c.put_return.ensures
 
 pub put_do-returns : goal.put_do-returns
 put_do-returns t c = do_more _ _ _ _ _ (value_of c.args.test.now) (action_of c.args.body.now) _
@@ -140,18 +118,18 @@ put_switch-returns t c =
     (sym c.written-end.ensures) (c.in_ok-put_other.ensures end)))
     c.in_ok-put_after.ensures
 
-pub put_statement-returns-in_ok-put_do-in-Do : goal.put_statement-returns-in_ok-put_do-in-Do
-put_statement-returns-in_ok-put_do-in-Do t c =
+pub put_statement-returns-in-Do : goal.put_statement-returns-in-Do
+put_statement-returns-in-Do t c = on_ok c.put_do.result (λ w.
     let x = c.in-Do in
     let P : Action → Type 0 = λ a. Written (written_in c.args.draft.now) (written_in c.put_do.new.draft)
     (λ n at. action_items (exits_of n c.args.exits) at a) in
     let Q : code_action.Action → Type 0 =
     λ s. Written (written_in c.args.draft.now) (written_in c.put_do.new.draft)
     (λ n at. action_items (exits_of n c.args.exits) at (do_until (action_of s) (value_of x.test))) in
-    subst P (sym (do_is _ _ _ x.is)) (subst Q c.deref-in-Do.ensures (c.in_ok-put_do-in-Do.ensures c.args.exits))
+    subst P (sym (do_is _ _ _ x.is)) (subst Q c.deref-in-Do.ensures (w c.args.exits))) c.put_do.ensures
 
-pub put_statement-returns-in_ok-put_for-in-For : goal.put_statement-returns-in_ok-put_for-in-For
-put_statement-returns-in_ok-put_for-in-For t c =
+pub put_statement-returns-in-For : goal.put_statement-returns-in-For
+put_statement-returns-in-For t c = on_ok c.put_for.result (λ w.
     let x = c.in-For in
     let P : Action → Type 0 = λ a. Written (written_in c.args.draft.now) (written_in c.put_for.new.draft)
     (λ n at. action_items (exits_of n c.args.exits) at a) in
@@ -160,10 +138,10 @@ put_statement-returns-in_ok-put_for-in-For t c =
     (λ n at. action_items (exits_of n c.args.exits) at (for_loop (option_map value_of x.before)
     (option_map value_of x.test) (option_map value_of x.behind) (action_of s))) in
     subst P (sym (for_is _ _ _ _ _ x.is)) (subst Q c.deref-in-For.ensures
-    (c.in_ok-put_for-in-For.ensures c.args.exits))
+    (w c.args.exits))) c.put_for.ensures
 
-pub put_statement-returns-in_ok-put_switch-in-Switch : goal.put_statement-returns-in_ok-put_switch-in-Switch
-put_statement-returns-in_ok-put_switch-in-Switch t c =
+pub put_statement-returns-in-Switch : goal.put_statement-returns-in-Switch
+put_statement-returns-in-Switch t c = on_ok c.put_switch.result (λ w.
     let x = c.in-Switch in
     let P : Action → Type 0 = λ a. Written (written_in c.args.draft.now) (written_in c.put_switch.new.draft)
     (λ n at. action_items (exits_of n c.args.exits) at a) in
@@ -172,7 +150,7 @@ put_statement-returns-in_ok-put_switch-in-Switch t c =
     (λ n at. action_items (exits_of n c.args.exits) at (switch_on (value_of x.value)
     (cases_of (map case_of l) (other_of x.other)))) in
     subst P (sym (switch_is _ _ _ _ x.is)) (subst Q c.deref-in-Switch.ensures.value
-    c.in_ok-put_switch-in-Switch.ensures)
+    w)) c.put_switch.ensures
 
 -- Objects
 
@@ -197,30 +175,30 @@ put_each_in-returns t c =
     c.written-end.ensures c.in_ok-put.ensures c.in_ok-put_kin.ensures c.written.ensures c.in_ok-put_statement.ensures
     c.lead_back.ensures c.alone-operand.ensures c.in_ok-put_kin-2.ensures c.in_ok-put_operand.ensures
 
-pub put_statement-returns-in_ok-put_give-in-Give : goal.put_statement-returns-in_ok-put_give-in-Give
-put_statement-returns-in_ok-put_give-in-Give t c =
+pub put_statement-returns-in-Give : goal.put_statement-returns-in-Give
+put_statement-returns-in-Give t c = on_ok c.put_give.result (λ w.
     let x = c.in-Give in
     let P : Action → Type 0 = λ a. Written (written_in c.args.draft.now) (written_in c.put_give.new.draft)
     (λ n at. action_items (exits_of n c.args.exits) at a) in
     let Q : List (Bool × ℕ) → Type 0 = λ l. Written (written_in c.args.draft.now) (written_in c.put_give.new.draft)
     (λ n at. action_items (exits_of n c.args.exits) at (give_to (value_of x.object) l)) in
     subst P (sym (give_is _ _ _ x.is)) (subst Q c.deref-in-Give.ensures.value
-    (c.in_ok-put_give-in-Give.ensures c.args.exits))
+    (w c.args.exits))) c.put_give.ensures
 
-pub put_statement-returns-in_ok-put_move-in-Move : goal.put_statement-returns-in_ok-put_move-in-Move
-put_statement-returns-in_ok-put_move-in-Move t c =
+pub put_statement-returns-in-Move : goal.put_statement-returns-in-Move
+put_statement-returns-in-Move t c = on_ok c.put_move.result (λ w.
     let P : Action → Type 0 = λ a. Written (written_in c.args.draft.now) (written_in c.put_move.new.draft)
     (λ n at. action_items (exits_of n c.args.exits) at a) in
-    subst P (sym (move_is _ _ _ c.in-Move.is)) (c.in_ok-put_move-in-Move.ensures c.args.exits)
+    subst P (sym (move_is _ _ _ c.in-Move.is)) (w c.args.exits)) c.put_move.ensures
 
-pub put_statement-returns-in_ok-put_remove-in-Remove : goal.put_statement-returns-in_ok-put_remove-in-Remove
-put_statement-returns-in_ok-put_remove-in-Remove t c =
+pub put_statement-returns-in-Remove : goal.put_statement-returns-in-Remove
+put_statement-returns-in-Remove t c = on_ok c.put_remove.result (λ w.
     let P : Action → Type 0 = λ a. Written (written_in c.args.draft.now) (written_in c.put_remove.new.draft)
     (λ n at. action_items (exits_of n c.args.exits) at a) in
-    subst P (sym (remove_is _ _ c.in-Remove.is)) (c.in_ok-put_remove-in-Remove.ensures c.args.exits)
+    subst P (sym (remove_is _ _ c.in-Remove.is)) (w c.args.exits)) c.put_remove.ensures
 
-pub put_statement-returns-in_ok-put_each-in-EachObject : goal.put_statement-returns-in_ok-put_each-in-EachObject
-put_statement-returns-in_ok-put_each-in-EachObject t c =
+pub put_statement-returns-in-EachObject : goal.put_statement-returns-in-EachObject
+put_statement-returns-in-EachObject t c = on_ok c.put_each.result (λ w.
     let x = c.in-EachObject in
     let P : Action → Type 0 = λ a. Written (written_in c.args.draft.now) (written_in c.put_each.new.draft)
     (λ n at. action_items (exits_of n c.args.exits) at a) in
@@ -228,11 +206,10 @@ put_statement-returns-in_ok-put_each-in-EachObject t c =
     λ s. Written (written_in c.args.draft.now) (written_in c.put_each.new.draft)
     (λ n at. action_items (exits_of n c.args.exits) at (each_object x.variable (action_of s))) in
     subst P (sym (each_is _ _ _ x.is)) (subst Q c.deref-in-EachObject.ensures
-    (c.in_ok-put_each-in-EachObject.ensures c.args.exits))
+    (w c.args.exits))) c.put_each.ensures
 
-pub put_statement-returns-in_ok-put_each_where-in-EachWhere :
-    goal.put_statement-returns-in_ok-put_each_where-in-EachWhere
-put_statement-returns-in_ok-put_each_where-in-EachWhere t c =
+pub put_statement-returns-in-EachWhere : goal.put_statement-returns-in-EachWhere
+put_statement-returns-in-EachWhere t c = on_ok c.put_each_where.result (λ w.
     let x = c.in-EachWhere in
     let P : Action → Type 0 = λ a. Written (written_in c.args.draft.now) (written_in c.put_each_where.new.draft)
     (λ n at. action_items (exits_of n c.args.exits) at a) in
@@ -240,10 +217,10 @@ put_statement-returns-in_ok-put_each_where-in-EachWhere t c =
     λ s. Written (written_in c.args.draft.now) (written_in c.put_each_where.new.draft)
     (λ n at. action_items (exits_of n c.args.exits) at (each_where x.variable (value_of x.test) (action_of s))) in
     subst P (sym (each_where_is _ _ _ _ x.is)) (subst Q c.deref-in-EachWhere.ensures
-    (c.in_ok-put_each_where-in-EachWhere.ensures c.args.exits))
+    (w c.args.exits))) c.put_each_where.ensures
 
-pub put_statement-returns-in_ok-put_each_in-in-EachIn : goal.put_statement-returns-in_ok-put_each_in-in-EachIn
-put_statement-returns-in_ok-put_each_in-in-EachIn t c =
+pub put_statement-returns-in-EachIn : goal.put_statement-returns-in-EachIn
+put_statement-returns-in-EachIn t c = on_ok c.put_each_in.result (λ w.
     let x = c.in-EachIn in
     let P : Action → Type 0 = λ a. Written (written_in c.args.draft.now) (written_in c.put_each_in.new.draft)
     (λ n at. action_items (exits_of n c.args.exits) at a) in
@@ -251,4 +228,5 @@ put_statement-returns-in_ok-put_each_in-in-EachIn t c =
     λ s. Written (written_in c.args.draft.now) (written_in c.put_each_in.new.draft)
     (λ n at. action_items (exits_of n c.args.exits) at (each_in x.variable (value_of x.parent) (action_of s))) in
     subst P (sym (each_in_is _ _ _ _ x.is)) (subst Q c.deref-in-EachIn.ensures
-    (c.in_ok-put_each_in-in-EachIn.ensures c.args.exits))
+    (w c.args.exits))
+    ) c.put_each_in.ensures

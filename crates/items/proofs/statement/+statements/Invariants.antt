@@ -1,7 +1,7 @@
 use Rattle.std.proofs.Common.{◌-◌, ◌+◌, ◌*◌, max, [], length, map, drop}
 use Rattle.meaning.specs.Resolved.{action_of, actions_of}
-use Rattle.items.specs.Statements.{actions_items}
 use Rattle.drafts.specs.Writing.{written_in, Written}
+use Rattle.items.specs.Statements.{actions_items}
 use Rattle.items.specs.Writing.{exits_of, LeavesCases}
 use Rattle.items.proofs.statement.+statements.Given as goal
 

@@ -1,7 +1,7 @@
 use Rattle.std.proofs.Common.{◌≡◌, ℕ, ◌+◌, ◌-◌, ◌<◌, length, map, drop, subst, arith}
 use Rattle.meaning.specs.Resolved.{printed_of}
-use Rattle.items.specs.Statements.{prints_items}
 use Rattle.drafts.specs.Writing.{written_in, Written}
+use Rattle.items.specs.Statements.{prints_items}
 use Rattle.items.proofs.Actions.{printed_next}
 use Rattle.items.proofs.statement.put_prints.Goals as goal
 

@@ -1,7 +1,7 @@
 use Rattle.std.proofs.Common.{◌-◌, length, map, drop}
 use Rattle.meaning.specs.Resolved.{printed_of}
-use Rattle.items.specs.Statements.{prints_items}
 use Rattle.drafts.specs.Writing.{written_in, Written}
+use Rattle.items.specs.Statements.{prints_items}
 use Rattle.items.proofs.statement.put_prints.Given as goal
 
 abbrev pub invariant-loop-done : goal.invariant-loop-done

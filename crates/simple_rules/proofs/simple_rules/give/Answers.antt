@@ -1,5 +1,4 @@
 use Rattle.meaning.specs.Resolved as values
-use Rattle.meaning.specs.Resolved.{Value, value_of}
 use Rattle.names.specs.Scope.{seen_in}
 use Rattle.value_rules.proofs.Walks.{two}
 use Rattle.simple_rules.proofs.MadeActions.{made_give}
