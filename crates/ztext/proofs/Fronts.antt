@@ -2,7 +2,7 @@
 use Rattle.std.proofs.Common.{◌≡◌, ℕ, zero, suc, ◌≤◌, List, [], ◌∷◌, ◌++◌, length, take, refl, ap, sym, ◌∙◌, arith}
 use Rattle.std.specs.Prelude.{◌<◌, ◌^◌, min, Vec, IfOk}
 use Rattle.std.proofs.Common.{Result, Ok, Err}
-use Rattle.std.proofs.lemmas.List.{append-nil, take_all, length-take}
+use Rattle.std.proofs.lemmas.List.{append-nil, take_all, take-take, take-append-le, length-take}
 use Rattle.ztext.specs.Results.{◌>>=◌}
 use Rattle.ztext.specs.declared.fault.TextFault.{TextFault}
 use Rattle.ztext.specs.declared.fault.TextFault.TheVariants as faults
@@ -21,11 +21,6 @@ take_front zero xs ys = refl
 take_front (suc n) [] ys = refl
 take_front (suc n) (x ∷ xs) ys = ap (λ l. x ∷ l) (take_front n xs ys)
 
-pub front_after : (most after : ℕ) (r : Result (List ℕ) Cause)
-    → front_of most (r >>= λ text. Ok (text, after)) ≡ (front most r >>= λ text. Ok (text, after))
-front_after most after (Ok x) = refl
-front_after most after (Err f) = refl
-
 -- nothing is added
 pub still : (most : ℕ) (text : List ℕ) → length text ≤ most → text ≡ take most (text ++ [])
 still most text le = sym (ap (take most) (append-nil text) ∙ take_all most text le)
@@ -33,6 +28,16 @@ still most text le = sym (ap (take most) (append-nil text) ∙ take_all most tex
 -- a front has room
 pub front_room : (most : ℕ) (now text : List ℕ) → now ≡ take most text → length now ≤ most
 front_room most now text e = rw e (omega (arith, length-take most text))
+
+-- what stood there stays
+pub front_stays : (most : ℕ) (old text got now : List ℕ) → length text ≤ most → take (length old) text ≡ old
+    → now ≡ take most (text ++ got) → take (length old) now ≡ old
+front_stays most old text got now room stays grown =
+    let long : length old ≤ length text =
+    (let n : length old ≡ min (length old) (length text) = ap length (sym stays) ∙ length-take (length old) text in
+    omega (arith, n)) in
+    ap (take (length old)) grown ∙ take-take (length old) most (text ++ got) (omega (arith, long, room))
+    ∙ take-append-le (length old) text got long ∙ stays
 
 -- the faults of a front are those of the whole
 pub front_fails : (most : ℕ) (fault : TextFault) (r : Result (List ℕ × ℕ) Cause) → Fails fault (front_of most r)

@@ -9,6 +9,7 @@ pub mod Keys
 pub mod RoundTrip
 pub mod Shortening
 pub mod Expanding
+pub mod Copies
 pub mod Printable
 pub mod Holding
 mod Samples

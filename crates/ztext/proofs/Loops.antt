@@ -1,6 +1,7 @@
 -- Reading, a Z-character at a time.
 use Rattle.std.proofs.Common.{◌≡◌, ℕ, suc, ◌+◌, ◌*◌, ◌<◌, ◌≤◌, Bool, true, false, List, [], ◌∷◌, ◌++◌, length, get_or}
-use Rattle.std.proofs.Common.{drop, Result, Ok, Err, refl, sym, ap, subst, ◌∙◌, append_assoc, arith, add-one}
+use Rattle.std.proofs.Common.{if◌then◌else◌, eqb, ltb, drop, Result, Ok, Err}
+use Rattle.std.proofs.Common.{refl, sym, ap, subst, ◌∙◌, append_assoc, arith, add-one}
 use Rattle.std.proofs.Common.{drop-cons, ◌⊎◌, inl, inr, take}
 use Rattle.std.proofs.lemmas.Bool.{ne_eqb, le-ltb}
 use Rattle.std.proofs.lemmas.List.{append-nil, drop_all, take_all}
@@ -11,16 +12,17 @@ use Rattle.ztext.specs.declared.reading.State.TheVariants as code
 use Rattle.ztext.specs.declared.reading.Output.{Output}
 use Rattle.ztext.specs.declared.reading.Output.TheVariants as outputs
 use Rattle.ztext.specs.Results.{◌>>=◌}
-use Rattle.ztext.specs.Reading.{Cause, Character, End, Abbreviation, State, Lower, Upper, Punctuation, next, letter}
-use Rattle.ztext.specs.Reading.{escaped, printed, reads}
-use Rattle.ztext.specs.Text.{read_with, refused, has_abbreviations, abbreviation_address, abbreviation}
+use Rattle.ztext.specs.Reading.{Cause, Character, End, Abbreviation, State}
+use Rattle.ztext.specs.Reading.{Lower, Upper, Punctuation, EscapeHigh, EscapeLow}
+use Rattle.ztext.specs.Reading.{Abbreviated, next, letter, escaped, printed, reads}
+use Rattle.ztext.specs.Text.{read_with, refused}
 use Rattle.ztext.specs.Words.{unpacked_text}
 use Rattle.ztext.specs.Faults.{Fails}
 use Rattle.ztext.specs.Fronts.{front_of}
-use Rattle.ztext.specs.TextParts.{words_of, z_character_at, state_of, Prints, expansion, after_text}
-use Rattle.ztext.proofs.Causes.{cause_is}
+use Rattle.ztext.specs.TextParts.{words_of, z_character_at, state_of, Prints, after_text}
+use Rattle.ztext.specs.Expansions.{read_on, rest_of}
 use Rattle.ztext.proofs.Packing.{z_character-is, length-words_of}
-use Rattle.ztext.proofs.Fronts.{front, take_front, front_after}
+use Rattle.ztext.proofs.Fronts.{front, take_front}
 
 -- characters, and then those that are still read
 abbrev pub before : List ℕ → Result (List ℕ) Cause → Result (List ℕ) Cause
@@ -35,6 +37,11 @@ front_before : (most : ℕ) (text : List ℕ) (r : Result (List ℕ) Cause)
     → front most (before (take most text) r) ≡ front most (before text r)
 front_before most text (Ok x) = ap (λ y. Ok y) (take_front most text x)
 front_before most text (Err f) = refl
+
+front_all : (most : ℕ) (text : List ℕ) (r : Result (List ℕ) Cause)
+    → front most (before text r) ≡ (r >>= λ more. Ok (take most (text ++ more)))
+front_all most text (Ok x) = refl
+front_all most text (Err f) = refl
 
 module _ (expand : ℕ → Result (List ℕ) Cause) where
   reads_step : (s : State) (zs text got : List ℕ) (i : ℕ) → i < length zs → printed expand s (get_or zs i 0) ≡ Ok got
@@ -84,28 +91,11 @@ module _ (expand : ℕ → Result (List ℕ) Cause) where
   read_end bytes words text state place le = reads_end state (words_of words bytes) text place
       (omega (arith, length-words_of words bytes))
 
-  after_before : (old : List ℕ) (after : ℕ) (r : Result (List ℕ) Cause)
-      → after_text old (r >>= λ text. Ok (text, after)) ≡ (before old r >>= λ text. Ok (text, after))
-  after_before old after (Ok x) = refl
-  after_before old after (Err f) = refl
-
-  -- the text at an address, by what its Z-characters print
-  pub read_whole : (story : List ℕ) (at words : ℕ) (old : List ℕ)
-      → unpacked_text at (drop at story) ≡ Ok (words_of words (drop at story), at + 2 * words)
-      → after_text old (read_with expand story at)
-      ≡ (read_from (drop at story) words old Lower 0 >>= λ text. Ok (text, at + 2 * words))
+  pub read_on_is : (most : ℕ) (bytes : List ℕ) (words : ℕ) (text : List ℕ) (place : ℕ)
+      → front most (read_from bytes words text Lower place)
+      ≡ read_on expand most text (drop place (words_of words bytes))
   unfolding read_from
-  read_whole story at words old e =
-      ap (λ r. after_text old (r >>= λ x. reads expand Lower x.0 >>= λ text. Ok (text, x.1))) e
-      ∙ after_before old (at + 2 * words) (reads expand Lower (words_of words (drop at story)))
-
-  pub read_nowhere : (most : ℕ) (story : List ℕ) (at : ℕ) (old : List ℕ) (fault : TextFault)
-      → Fails fault (unpacked_text at (drop at story))
-      → Fails fault (front_of most (after_text old (read_with expand story at)))
-  read_nowhere most story at old faults.Character e = rw e refl
-  read_nowhere most story at old faults.End e = rw e refl
-  read_nowhere most story at old faults.Abbreviation e = rw e refl
-  read_nowhere most story at old faults.Memory e = tt
+  read_on_is most bytes words text place = front_all most text (reads expand Lower (drop place (words_of words bytes)))
 
 pub printed_escape : (state : declared.State) (high z number : ℕ) (r : Result Output TextFault)
     → state ≡ code.EscapeLow high → number ≡ 32 * high + z
@@ -161,52 +151,48 @@ module _ (expand : ℕ → Result (List ℕ) Cause) where
       Abbreviation lt h
   fails_from faults.Memory bytes words text state place lt h = tt
 
-  whole_from : (story bytes : List ℕ) (at words : ℕ) (old : List ℕ) → bytes ≡ drop at story
-      → unpacked_text at bytes ≡ Ok (words_of words bytes, at + 2 * words)
-      → after_text old (read_with expand story at)
-      ≡ (read_from expand bytes words old Lower 0 >>= λ text. Ok (text, at + 2 * words))
-  whole_from story bytes at words old from found =
-      read_whole expand story at words old
-      (subst (λ bs. unpacked_text at bs ≡ Ok (words_of words bs, at + 2 * words)) from found)
-      ∙ ap (λ bs. read_from expand bs words old Lower 0 >>= λ text. Ok (text, at + 2 * words)) (sym from)
-
-  front_whole : (most : ℕ) (story bytes : List ℕ) (at words : ℕ) (old : List ℕ) → bytes ≡ drop at story
-      → unpacked_text at bytes ≡ Ok (words_of words bytes, at + 2 * words)
-      → front_of most (after_text old (read_with expand story at))
-      ≡ (front most (read_from expand bytes words old Lower 0) >>= λ text. Ok (text, at + 2 * words))
-  front_whole most story bytes at words old from found =
-      ap (front_of most) (whole_from story bytes at words old from found)
-      ∙ front_after most (at + 2 * words) (read_from expand bytes words old Lower 0)
+  named_from : (most : ℕ) (bytes : List ℕ) (words : ℕ) (text : List ℕ) (state : State) (place : ℕ)
+      (read : Result (List ℕ) Cause) → place < 3 * words
+      → printed expand state (z_character_at bytes place) ≡ read → next state (z_character_at bytes place) ≡ Lower
+      → front most (read_from expand bytes words text state place)
+      ≡ (read >>= λ more. read_on expand most (text ++ more) (drop (place + 1) (words_of words bytes)))
+  unfolding read_from
+  named_from most bytes words text state place (Ok more) lt e lower =
+      ap (front most) (read_step expand bytes words text more state place lt e)
+      ∙ ap (λ s. front most (read_from expand bytes words (text ++ more) s (place + 1))) lower
+      ∙ read_on_is expand most bytes words (text ++ more) (place + 1)
+  named_from most bytes words text state place (Err f) lt e lower =
+      ap (front most) (read_err expand bytes words text state place f lt e)
 
   -- a Z-character that cannot be read
-  pub fault_at : (most : ℕ) (fault : TextFault) (story bytes : List ℕ) (at words z : ℕ) (old text : List ℕ)
-      (state : State) (place : ℕ)
-      → bytes ≡ drop at story → unpacked_text at bytes ≡ Ok (words_of words bytes, at + 2 * words)
-      → z ≡ z_character_at bytes place → place < 3 * words
-      → front most (read_from expand bytes words text state place)
-      ≡ front most (read_from expand bytes words old Lower 0)
-      → Fails fault (printed expand state z)
-      → Fails fault (front_of most (after_text old (read_with expand story at)))
-  fault_at most fault story bytes at words z old text state place from found is lt so_far h =
+  pub fault_at : (most : ℕ) (fault : TextFault) (bytes : List ℕ) (words z : ℕ) (text : List ℕ) (state : State)
+      (place : ℕ) (whole : Result (List ℕ) Cause) → z ≡ z_character_at bytes place → place < 3 * words
+      → front most (read_from expand bytes words text state place) ≡ whole → Fails fault (printed expand state z)
+      → Fails fault whole
+  fault_at most fault bytes words z text state place whole is lt so_far h =
       let here = fails_from fault bytes words text state place lt
       (subst (λ y. Fails fault (printed expand state y)) is h) in
-      let seen = fails_bind fault (read_from expand bytes words text state place) (λ got. Ok (take most got)) here in
-      let whole = fails_bind fault (front most (read_from expand bytes words old Lower 0))
-      (λ got. Ok (got, at + 2 * words)) (subst (Fails fault) so_far seen) in
-      subst (Fails fault) (sym (front_whole most story bytes at words old from found)) whole
+      subst (Fails fault) so_far
+      (fails_bind fault (read_from expand bytes words text state place) (λ got. Ok (take most got)) here)
 
   -- the end of the text
-  pub done_at : (most : ℕ) (story bytes : List ℕ) (at words : ℕ) (old text : List ℕ) (state : State) (place : ℕ)
-      → bytes ≡ drop at story → unpacked_text at bytes ≡ Ok (words_of words bytes, at + 2 * words) → 3 * words ≤ place
-      → length text ≤ most
-      → front most (read_from expand bytes words text state place)
-      ≡ front most (read_from expand bytes words old Lower 0)
-      → front_of most (after_text old (read_with expand story at)) ≡ Ok (text, at + 2 * words)
-  done_at most story bytes at words old text state place from found le room so_far =
-      front_whole most story bytes at words old from found
-      ∙ ap (λ r. r >>= λ got. Ok (got, at + 2 * words))
-      (sym so_far ∙ ap (front most) (read_end expand bytes words text state place le))
-      ∙ ap (λ got. Ok (got, at + 2 * words)) (take_all most text room)
+  pub done_at : (most : ℕ) (bytes : List ℕ) (words : ℕ) (text : List ℕ) (state : State) (place : ℕ)
+      (whole : Result (List ℕ) Cause) → 3 * words ≤ place → length text ≤ most
+      → front most (read_from expand bytes words text state place) ≡ whole → whole ≡ Ok text
+  done_at most bytes words text state place whole le room so_far =
+      sym so_far ∙ ap (front most) (read_end expand bytes words text state place le)
+      ∙ ap (λ got. Ok got) (take_all most text room)
+
+  -- a Z-character that names an abbreviation
+  pub named_at : (most : ℕ) (bytes : List ℕ) (words z number : ℕ) (text : List ℕ) (state : State) (place : ℕ)
+      (whole : Result (List ℕ) Cause) → z ≡ z_character_at bytes place → place < 3 * words
+      → front most (read_from expand bytes words text state place) ≡ whole
+      → printed expand state z ≡ expand number → next state z ≡ Lower
+      → whole ≡ rest_of expand most text (words_of words bytes) (record { number = number; after = place + 1 })
+  named_at most bytes words z number text state place whole is lt so_far e lower =
+      sym so_far
+      ∙ named_from most bytes words text state place (expand number) lt (ap (printed expand state) (sym is) ∙ e)
+      (ap (next state) (sym is) ∙ lower)
 
   front_from : (most : ℕ) (bytes : List ℕ) (words : ℕ) (text : List ℕ) (state : State) (place : ℕ)
       → front most (read_from expand bytes words (take most text) state place)
@@ -216,15 +202,12 @@ module _ (expand : ℕ → Result (List ℕ) Cause) where
       front_before most text (reads expand state (drop place (words_of words bytes)))
 
   -- a Z-character that prints
-  pub turn_at : (most : ℕ) (bytes : List ℕ) (words z : ℕ) (old text got now : List ℕ) (state after : State)
-      (place : ℕ)
-      → z ≡ z_character_at bytes place → place < 3 * words
-      → front most (read_from expand bytes words text state place)
-      ≡ front most (read_from expand bytes words old Lower 0)
+  pub turn_at : (most : ℕ) (bytes : List ℕ) (words z : ℕ) (text got now : List ℕ) (state after : State)
+      (place : ℕ) (whole : Result (List ℕ) Cause) → z ≡ z_character_at bytes place → place < 3 * words
+      → front most (read_from expand bytes words text state place) ≡ whole
       → printed expand state z ≡ Ok got → now ≡ take most (text ++ got) → after ≡ next state z
-      → front most (read_from expand bytes words now after (place + 1))
-      ≡ front most (read_from expand bytes words old Lower 0)
-  turn_at most bytes words z old text got now state after place is lt so_far e grown moved =
+      → front most (read_from expand bytes words now after (place + 1)) ≡ whole
+  turn_at most bytes words z text got now state after place whole is lt so_far e grown moved =
       ap (λ ts. front most (read_from expand bytes words ts after (place + 1))) grown
       ∙ front_from most bytes words (text ++ got) after (place + 1)
       ∙ ap (λ s. front most (read_from expand bytes words (text ++ got) s (place + 1))) moved
@@ -247,48 +230,43 @@ pub named : (expand : ℕ → Result (List ℕ) Cause) (read : Result (List ℕ)
     → (read ≡ expand number) × (number < 96)
 named expand read output number is h = subst (λ o. Prints expand read (Ok o)) is h
 
-pub refused_within : (story : List ℕ) (number : ℕ) (is_abbreviation : Bool) → is_abbreviation ≡ true
-    → expansion is_abbreviation story number ≡ Err Abbreviation
-refused_within story number is_abbreviation e = ap (λ b. expansion b story number) e
+-- an abbreviation stands behind its first Z-character, and no shift is left behind its second
 
-pub no_table : (fault : TextFault) (story : List ℕ) (number : ℕ) (is_abbreviation : Bool)
-    (read : Result (List ℕ) Cause) → is_abbreviation ≡ false → read ≡ expansion is_abbreviation story number
-    → fault ≡ faults.Abbreviation → has_abbreviations story ≡ false → Fails fault read
-unfolding abbreviation
-no_table fault story number is_abbreviation read e is named lost =
-    let out : abbreviation story number ≡ Err Abbreviation = rw lost refl in
-    let whole : read ≡ Err Abbreviation = is ∙ ap (λ b. expansion b story number) e ∙ out in
-    subst (λ f. Fails f read) (sym named) whole
+is_ok : (a b : Bool) (x y z : List ℕ) (f : Cause)
+    → (if a then Ok x else (if b then Ok y else Ok z)) ≡ Err f → ⊥
+is_ok true b x y z f e = cc
+is_ok false true x y z f e = cc
+is_ok false false x y z f e = cc
 
-pub expanded : (story : List ℕ) (number place : ℕ) (is_abbreviation : Bool) (read : Result (List ℕ) Cause)
-    → is_abbreviation ≡ false → read ≡ expansion is_abbreviation story number
-    → has_abbreviations story ≡ true → place ≡ abbreviation_address story number
-    → read ≡ (read_with refused story place >>= λ x. Ok x.0)
-unfolding abbreviation
-expanded story number place is_abbreviation read e is table named =
-    let out : abbreviation story number
-    ≡ (read_with refused story (abbreviation_address story number) >>= λ x. Ok x.0) = rw table refl in
-    is ∙ ap (λ b. expansion b story number) e ∙ out ∙ ap (λ k. read_with refused story k >>= λ x. Ok x.0) (sym named)
+pub named_next : (state : State) (z : ℕ) → printed refused state z ≡ Err Abbreviation → next state z ≡ Lower
+named_next EscapeHigh z e = absurd cc
+named_next (EscapeLow high) z e = refl
+named_next (Abbreviated row) z e = refl
+named_next Lower z e = absurd (is_ok (eqb z 0) (ltb z 6) (32 ∷ []) [] (letter Lower z) Abbreviation e)
+named_next Upper z e = absurd (is_ok (eqb z 0) (ltb z 6) (32 ∷ []) [] (letter Upper z) Abbreviation e)
+named_next Punctuation z e = absurd (is_ok (eqb z 0) (ltb z 6) (32 ∷ []) [] (letter Punctuation z) Abbreviation e)
 
-abbrev found : List ℕ × ℕ → Result (List ℕ × ℕ) Cause
-found x = Ok x
+-- ---- the text at an address, by what its Z-characters print
 
-pair_is : (x y : List ℕ × ℕ) → found x ≡ found y → x ≡ y
-pair_is x y e = cc
+joined : (most : ℕ) (old : List ℕ) (after : ℕ) (r : Result (List ℕ) Cause)
+    → front_of most (after_text old (r >>= λ text. Ok (text, after)))
+    ≡ ((r >>= λ more. Ok (take most (old ++ more))) >>= λ text. Ok (text, after))
+joined most old after (Ok x) = refl
+joined most old after (Err f) = refl
 
-pub grown : (most : ℕ) (text now : List ℕ) (after : ℕ) (r : Result (List ℕ × ℕ) Cause)
-    → front_of most (after_text text r) ≡ Ok (now, after)
-    → (got : List ℕ) × ((r >>= λ x. Ok x.0) ≡ Ok got) × (now ≡ take most (text ++ got))
-grown most text now after (Ok x) e =
-    (x.0, refl, sym (ap (λ y. y.0) (pair_is (take most (text ++ x.0), x.1) (now, after) e)))
-grown most text now after (Err f) e = absurd cc
+pub whole : (expand : ℕ → Result (List ℕ) Cause) (most : ℕ) (story bytes : List ℕ) (at after : ℕ) (zs old : List ℕ)
+    → bytes ≡ drop at story → unpacked_text at bytes ≡ Ok (zs, after)
+    → front_of most (after_text old (read_with expand story at))
+    ≡ (read_on expand most old zs >>= λ text. Ok (text, after))
+whole expand most story bytes at after zs old from found =
+    ap (λ r. front_of most (after_text old (r >>= λ x. reads expand Lower x.0 >>= λ text. Ok (text, x.1))))
+    (ap (unpacked_text at) (sym from) ∙ found)
+    ∙ joined most old after (reads expand Lower zs)
 
-pub fails_alone : (most : ℕ) (fault : TextFault) (text : List ℕ) (r : Result (List ℕ × ℕ) Cause)
-    → Fails fault (front_of most (after_text text r)) → Fails fault (r >>= λ x. Ok x.0)
-fails_alone most faults.Memory text r h = tt
-fails_alone most faults.Character text (Ok x) h = absurd cc
-fails_alone most faults.End text (Ok x) h = absurd cc
-fails_alone most faults.Abbreviation text (Ok x) h = absurd cc
-fails_alone most faults.Character text (Err f) h = ap (λ y. Err y) (cause_is f Character h)
-fails_alone most faults.End text (Err f) h = ap (λ y. Err y) (cause_is f End h)
-fails_alone most faults.Abbreviation text (Err f) h = ap (λ y. Err y) (cause_is f Abbreviation h)
+pub fails_whole : (expand : ℕ → Result (List ℕ) Cause) (most : ℕ) (fault : TextFault) (story bytes : List ℕ)
+    (at after : ℕ) (zs old : List ℕ) → bytes ≡ drop at story → unpacked_text at bytes ≡ Ok (zs, after)
+    → Fails fault (read_on expand most old zs)
+    → Fails fault (front_of most (after_text old (read_with expand story at)))
+fails_whole expand most fault story bytes at after zs old from found h =
+    subst (Fails fault) (sym (whole expand most story bytes at after zs old from found))
+    (fails_bind fault (read_on expand most old zs) (λ text. Ok (text, after)) h)

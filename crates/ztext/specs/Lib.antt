@@ -8,3 +8,4 @@ pub mod Abbreviations
 pub mod Faults
 pub mod Fronts
 pub mod TextParts
+pub mod Expansions

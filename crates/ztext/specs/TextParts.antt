@@ -1,5 +1,5 @@
 -- Words for the contracts of the functions within the crate.
-use Rattle.std.specs.Prelude.{◌≡◌, ◌+◌, ◌*◌, ◌/◌, ◌%◌, ◌<◌, ℕ, zero, suc, min, Bool, true, false, List, [], ◌∷◌, ◌++◌}
+use Rattle.std.specs.Prelude.{◌≡◌, ◌+◌, ◌*◌, ◌/◌, ◌%◌, ◌<◌, ℕ, zero, suc, min, true, false, List, [], ◌∷◌, ◌++◌}
 use Rattle.std.specs.Prelude.{length, take, replicate, slice_index, if◌then◌else◌, Option, Some, None, Result, Ok, Err}
 use Rattle.std.specs.Prelude.{MatchResult}
 use Rattle.ztext.specs.declared.abbreviations.Found as declared_found
@@ -13,7 +13,7 @@ use Rattle.ztext.specs.Results.{◌>>=◌}
 use Rattle.ztext.specs.Reading.{Cause, Character, State, Lower, Upper, Punctuation, EscapeHigh, EscapeLow}
 use Rattle.ztext.specs.Reading.{Abbreviated}
 use Rattle.ztext.specs.Words.{three_of}
-use Rattle.ztext.specs.Text.{refused, abbreviation, has_abbreviations, abbreviation_address}
+use Rattle.ztext.specs.Text.{has_abbreviations, abbreviation_address}
 use Rattle.ztext.specs.Abbreviations.{Found, begins}
 
 -- Z-characters are of five bits
@@ -58,11 +58,6 @@ abbrev pub FindsAbbreviation : List ℕ → ℕ → Result ℕ TextFault → Typ
 FindsAbbreviation story number result = MatchResult result
     (λ place. (has_abbreviations story ≡ true) × (place ≡ abbreviation_address story number))
     (λ fault. (fault ≡ faults.Abbreviation) × (has_abbreviations story ≡ false))
-
--- the texts of abbreviations, of which the text of an abbreviation has none
-abbrev pub expansion : Bool → List ℕ → ℕ → Result (List ℕ) Cause
-expansion true story = refused
-expansion false story = abbreviation story
 
 -- characters, then those of a text and the address after it
 abbrev pub after_text : List ℕ → Result (List ℕ × ℕ) Cause → Result (List ℕ × ℕ) Cause

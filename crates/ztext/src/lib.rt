@@ -4,6 +4,7 @@
 mod abbreviations;
 mod alphabets;
 mod bytes;
+mod expansions;
 mod fault;
 mod reading;
 mod text;

@@ -76,7 +76,7 @@ pub fn decode_front(
         → list_all is_printable x.0 ≡ true }
 {
     let mut text = Vec::new(alloc);
-    let after = put_text(&mut text, story, at, false, most)?;
+    let after = put_text(&mut text, story, at, most)?;
     Ok((text, after))
 }
 

@@ -1,0 +1,46 @@
+use Rattle.std.proofs.Common.{◌≡◌, ◌∙◌, ◌+◌, ◌*◌, Ok, ap, sym, subst}
+use Rattle.std.proofs.lemmas.Result.{err_from_is_err_and}
+use Rattle.ztext.specs.Results.{◌>>=◌}
+use Rattle.ztext.specs.Text.{abbreviation}
+use Rattle.ztext.specs.Faults.{Fails}
+use Rattle.ztext.specs.TextParts.{words_of}
+use Rattle.ztext.specs.Expansions.{read_on}
+use Rattle.ztext.proofs.Loops.{whole, fails_whole}
+use Rattle.ztext.proofs.Copies.{met, ended}
+use Rattle.ztext.proofs.reading.put_text.Goals as goal
+
+pub returns-in_err-put_rest : goal.returns-in_err-put_rest
+returns-in_err-put_rest c =
+    let p = err_from_is_err_and c.from_residual-in_err-put_rest.result c.from_residual-in_err-put_rest.ensures.1 in
+    let fault = c.in_err-put_rest.field-0.0 in
+    let expand = abbreviation c.args.story.now in
+    let bytes = c.bytes_from-bytes.result.now in
+    let zs = words_of c.in_ok-words.words bytes in
+    let old = c.args.text.now.items in
+    rw (p.1, p.2)
+    (fails_whole expand c.args.most fault c.args.story.now bytes c.args.at (c.args.at + 2 * c.in_ok-words.words) zs old
+    c.bytes_from-bytes.ensures c.in_ok-words.ensures.words
+    (subst (Fails fault) (sym (met expand c.args.most old c.put_plain.new.text.items zs 0 c.in_ok-first.field-0
+    c.in-Some.first c.in-Some.is (c.in_ok-first.ensures.read expand))) c.in_err-put_rest.ensures))
+
+pub returns : goal.returns
+returns c =
+    let expand = abbreviation c.args.story.now in
+    let bytes = c.bytes_from-bytes.result.now in
+    let words = c.in_ok-words.words in
+    let zs = words_of words bytes in
+    let old = c.args.text.now.items in
+    let plain = c.put_plain.new.text.items in
+    let read : read_on expand c.args.most old zs ≡ Ok c.match-branch-3.text.items = elim c.match-branch-3.branch [
+      | goal.in-Some+in_ok-put_rest w ↦
+          met expand c.args.most old plain zs 0 c.in_ok-first.field-0 w.in-Some.first w.in-Some.is
+          (c.in_ok-first.ensures.read expand)
+          ∙ w.in_ok-put_rest.ensures ∙ ap (λ v. Ok v.items) (sym w.text-is)
+      | goal.in_default w ↦
+          ended expand c.args.most old plain zs 0 c.in_ok-first.field-0 w.in_default.is
+          (c.in_ok-first.ensures.read expand)
+          ∙ ap (λ v. Ok v.items) (sym w.text-is)
+    ] in
+    whole expand c.args.most c.args.story.now bytes c.args.at (c.args.at + 2 * words) zs old
+    c.bytes_from-bytes.ensures c.in_ok-words.ensures.words
+    ∙ ap (λ r. r >>= λ text. Ok (text, c.args.at + 2 * words)) read
