@@ -1,14 +1,19 @@
 //! Compiles a source file to a story file.
 #![tactic(auto)]
 
+mod name;
 mod output;
+mod source;
 mod words;
 
+use crate::name::Name;
 use crate::output::{is_one_file, write_whole};
+use crate::source::read_source;
 use crate::words::{Words, command, words_of};
 use std::fmt::Display;
+use std::fs::File;
 use std::process::ExitCode;
-use std::{env, fs};
+use std::{env, io};
 use story::compile_for;
 
 /// The exit status where the source is refused.
@@ -50,25 +55,41 @@ fn misused<W: Display + Drop>(rt: &HostRuntime, what: W) -> ExitCode {
     ExitCode::from(MISUSED)
 }
 
+/// The source in a file of this name; `None` where it is too large.
+fn source_in(rt: &HostRuntime, name: &str) -> io::Result<Option<Vec<u8>>> {
+    read_source(rt.alloc(), File::open(rt, name)?)
+}
+
 /// Compiles the source, and writes the story where no rule is broken.
 fn build(rt: &HostRuntime, words: Words<'_>) -> ExitCode {
-    let Ok(source) = fs::read(rt, words.source) else {
-        return misused(rt, format_args!("cannot read {}", words.source));
+    let name = Name(words.source);
+    let source = match source_in(rt, words.source) {
+        Ok(Some(source)) => source,
+        Ok(None) => {
+            return misused(
+                rt,
+                format_args!("cannot read {name}: it is larger than 67,108,864 bytes"),
+            );
+        }
+        Err(_) => return misused(rt, format_args!("cannot read {name}")),
     };
-    if is_one_file(rt, words.source, words.story) {
-        return misused(
-            rt,
-            format_args!("cannot write {}: it is the source", words.story),
-        );
-    }
     match compile_for(rt.alloc(), &source, words.version) {
-        Ok(story) => match write_whole(rt, words.story, story.bytes()) {
-            Ok(()) => ExitCode::SUCCESS,
-            Err(_) => misused(rt, format_args!("cannot write {}", words.story)),
-        },
+        Ok(story) => put(rt, words, story.bytes()),
         Err(fault) => {
             let _ = eprintln!(rt; "{fault}");
             ExitCode::from(REFUSED)
         }
+    }
+}
+
+/// Writes the bytes of a story, unless its file is the source.
+fn put(rt: &HostRuntime, words: Words<'_>, story: &[u8]) -> ExitCode {
+    let name = Name(words.story);
+    if is_one_file(rt, words.source, words.story) {
+        return misused(rt, format_args!("cannot write {name}: it is the source"));
+    }
+    match write_whole(rt, words.story, story) {
+        Ok(()) => ExitCode::SUCCESS,
+        Err(_) => misused(rt, format_args!("cannot write {name}")),
     }
 }

@@ -4,6 +4,10 @@ use clap::{Arg, ArgAction, ArgMatches, Command, value_parser};
 use std::alloc::{AllocError, Global};
 use zcore::Version;
 
+/// Where help ends: what is written elsewhere.
+const MORE: &str = "The language, with the faults by which a source is refused: docs/LANGUAGE.md
+The story file: docs/STORY_FILE.md";
+
 /// What the command line asks for.
 #[derive(Clone, Copy)]
 pub struct Words<'a> {
@@ -38,6 +42,7 @@ pub fn command<'a>(alloc: Global) -> Result<Command<'a>, AllocError> {
     Command::new(alloc, "inform")
         .version("0.1.0")
         .about("Compiles a source file to a Z-machine story file")
+        .after_help(MORE)
         .arg(version)?
         .arg(source)?
         .arg(story)

@@ -1,3 +1,4 @@
 pub mod Range
 pub mod Arguments
 pub mod Filling
+pub mod Reading

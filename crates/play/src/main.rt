@@ -2,16 +2,20 @@
 #![tactic(auto)]
 
 mod filling;
+mod name;
+mod reading;
 mod words;
 
 ghost use Rattle.play.specs.Range.{IsInRange};
 
-use crate::filling::drop_filling;
+use crate::name::Name;
+use crate::reading::read_story;
 use crate::words::{Words, words_of};
 use session::{Session, run, status};
 use std::fmt::Display;
+use std::fs::File;
 use std::process::ExitCode;
-use std::{env, fs, mem};
+use std::{env, io, mem};
 
 /// The exit status where the story cannot be played.
 const REFUSED: u8 = 1;
@@ -46,15 +50,19 @@ fn refuse<W: Display + Drop>(rt: &HostRuntime, why: W) -> ExitCode {
     ExitCode::from(REFUSED)
 }
 
+/// The story in a file of this name.
+fn story_in(rt: &HostRuntime, name: &str) -> io::Result<Vec<u8>> {
+    read_story(rt.alloc(), File::open(rt, name)?)
+}
+
 /// Plays a story file on the lines of standard input. The transcript goes to standard output, each reply as soon as its
 /// line was read. Zero bytes with which Inform 6 filled the file do not count.
 fn play(rt: &HostRuntime, words: Words<'_>) -> ExitCode
     requires { IsInRange words }
 {
-    let Ok(mut story) = fs::read(rt, words.story) else {
-        return refuse(rt, format_args!("cannot read {}", words.story));
+    let Ok(story) = story_in(rt, words.story) else {
+        return refuse(rt, format_args!("cannot read {}", Name(words.story)));
     };
-    drop_filling(&mut story);
     let mut session = match Session::open_with(rt.alloc(), story, words.fuel, words.keep) {
         Ok(session) => session,
         Err(fault) => return refuse(rt, fault),

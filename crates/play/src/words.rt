@@ -10,6 +10,12 @@ use std::alloc::Global;
 /// The fuel of a turn where `--fuel` does not say.
 const FUEL: u32 = 1_000_000;
 
+/// Where help ends: the player's own lines, and what is written elsewhere.
+const MORE: &str = "The line /undo takes the latest turn back, and the line /redo does it again.
+
+The player, with its limits and machine faults: docs/MACHINE.md
+The story file, with the causes Z4 to Z8 for which one is refused: docs/STORY_FILE.md";
+
 /// What the command line asks for.
 #[derive(Clone, Copy)]
 pub struct Words<'a> {
@@ -66,7 +72,8 @@ fn program<'a>(alloc: Global) -> Command<'a>
 {
     Command::new(alloc, "play")
         .version("0.1.0")
-        .about("Plays a Z-machine story file")
+        .about("Plays a Z-machine story file on the lines of standard input")
+        .after_help(MORE)
 }
 
 /// Reads the words of a command line. Its numbers are in their ranges.
