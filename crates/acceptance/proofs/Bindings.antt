@@ -8,7 +8,6 @@ use Rattle.meaning.specs.Meaning.{routine_at}
 use Rattle.names.specs.declared.binding.Binding.{Binding}
 use Rattle.names.specs.declared.binding.Binding.TheVariants as bindings
 use Rattle.names.specs.declared.counts.Counts.{Counts}
-use Rattle.names.specs.Keys.{or_zero}
 use Rattle.names.specs.Names.{Table, File, key_of, same_key, in_table, first_table, earlier_known, with_name, no_counts}
 use Rattle.names.specs.Names.{counts_after, with_directive, table_from, table_of, local_from, local_first, look_up}
 use Rattle.array_rules.specs.Arrays.{arrays_of}
@@ -73,7 +72,7 @@ module _ (globals arrays attributes properties : ℕ) (routines : List RoutineOf
   table_entries file whole t counts front (constant name v ∷ ds) h g a b p n r =
       let d = constant name v in
       table_entries file whole (with_directive whole t counts d) (counts_after counts d) front ds
-      (name_more t name (bindings.Constant (or_zero (earlier_known whole t v))) h tt) g a b p n r
+      (name_more t name (bindings.Constant (earlier_known whole t v)) h tt) g a b p n r
   table_entries file whole t counts front (array x ∷ ds) h g a b p n r =
       let d = array x in
       table_entries file whole (with_directive whole t counts d) (counts_after counts d) front ds

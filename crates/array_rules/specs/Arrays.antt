@@ -4,7 +4,7 @@
 use Rattle.std.specs.Prelude.{◌&&◌, ◌+◌, ◌*◌, ◌/◌, ◌%◌, ℕ, nat_le, nat_lt, Bool, true, if◌then◌else◌, List, [], ◌∷◌}
 use Rattle.std.specs.Prelude.{◌++◌, map, length, replicate, Option, Some, None}
 use Rattle.std.specs.List.{flat_map}
-use Rattle.lexer.specs.declared.fault.TheConstants.{BAD_ARRAY}
+use Rattle.names.specs.Numbers.{bad_array}
 use Rattle.lexer.specs.declared.token.Position.{Position}
 use Rattle.expression_trees.specs.declared.tree.Width.{Width}
 use Rattle.expression_trees.specs.declared.tree.Width.TheVariants as widths
@@ -51,19 +51,19 @@ is_size kind n = nat_le 1 n && nat_le (array_size kind n) 32000 && is_told kind 
 
 -- E28 at the array's name, where it may not have so many entries
 abbrev pub count_breaches : Position → ArrayKind → ℕ → List Breach
-count_breaches p kind n = if is_size kind n then [] else at p BAD_ARRAY
+count_breaches p kind n = if is_size kind n then [] else at p bad_array
 
 -- The same of a size. No word is one, since the numbers of words rest on the sizes of arrays. A size that breaks a rule
 -- itself is not tested.
 abbrev pub size_breaches : Position → ArrayKind → Option Known → List Breach
 size_breaches p kind None = []
 size_breaches p kind (Some (knowns.Number n)) = count_breaches p kind n
-size_breaches p kind (Some (knowns.Key key)) = at p BAD_ARRAY
+size_breaches p kind (Some (knowns.Key key)) = at p bad_array
 
 -- E28 at an entry of a byte that is above 255, as every word is
 abbrev pub wide_breaches : Position → Width → Known → List Breach
-wide_breaches p widths.Byte (knowns.Number n) = if nat_lt 255 n then at p BAD_ARRAY else []
-wide_breaches p widths.Byte (knowns.Key key) = at p BAD_ARRAY
+wide_breaches p widths.Byte (knowns.Number n) = if nat_lt 255 n then at p bad_array else []
+wide_breaches p widths.Byte (knowns.Key key) = at p bad_array
 wide_breaches p widths.Word known = []
 
 abbrev pub entry_breaches : Table → Width → ValueTree → List Breach

@@ -2,7 +2,7 @@
 use Rattle.std.specs.Prelude.{◌≡◌, ◌==◌, ◌||◌, ◌%◌, ℕ, nat_le, nat_lt, Bool, true, false, map, if◌then◌else◌, List, []}
 use Rattle.std.specs.Prelude.{◌∷◌, ◌++◌, codes, length, Option, Some, None}
 use Rattle.ztext.specs.Abbreviations.{most_abbreviations}
-use Rattle.lexer.specs.declared.fault.TheConstants.{BAD_ABBREVIATION, DEFINED_TWICE, NO_PROPER_MAIN, TOO_MANY}
+use Rattle.names.specs.Numbers.{bad_abbreviation, defined_twice, no_proper_main, too_many}
 use Rattle.lexer.specs.declared.token.Position.{Position}
 use Rattle.expression_trees.specs.Tree.{NameTree}
 use Rattle.statement_parts.specs.Tree.{LiteralTree}
@@ -32,7 +32,7 @@ use Rattle.object_rules.specs.Files.{object_trees, objects_of}
 
 -- of a kind of which there may be so many
 abbrev pub limit_breaches : ℕ → ℕ → NameTree → List Breach
-limit_breaches most before name = if nat_le most before then at name.position TOO_MANY else []
+limit_breaches most before name = if nat_le most before then at name.position too_many else []
 
 -- Locals: E22 at the second of two, E24 at the 16th
 
@@ -40,8 +40,8 @@ limit_breaches most before name = if nat_le most before then at name.position TO
 abbrev pub locals_breaches : List NameTree → List NameTree → List Breach
 locals_breaches before [] = []
 locals_breaches before (l ∷ ls) =
-    (if has_name before l then at l.position DEFINED_TWICE else [])
-    ++ ((if nat_le 15 (length before) then at l.position TOO_MANY else [])
+    (if has_name before l then at l.position defined_twice else [])
+    ++ ((if nat_le 15 (length before) then at l.position too_many else [])
     ++ locals_breaches (before ++ l ∷ []) ls)
 
 abbrev pub routine_breaches : Table → RoutineTree → List Breach
@@ -99,16 +99,16 @@ position_or end None = end
 position_or end (Some name) = name.position
 
 abbrev pub main_breaches : Position → Option NameTree → Option Binding → List Breach
-main_breaches end name None = at end NO_PROPER_MAIN
-main_breaches end name (Some (bindings.Constant n)) = at end NO_PROPER_MAIN
-main_breaches end name (Some (bindings.Global g)) = at end NO_PROPER_MAIN
-main_breaches end name (Some (bindings.Array a kind)) = at end NO_PROPER_MAIN
+main_breaches end name None = at end no_proper_main
+main_breaches end name (Some (bindings.Constant n)) = at end no_proper_main
+main_breaches end name (Some (bindings.Global g)) = at end no_proper_main
+main_breaches end name (Some (bindings.Array a kind)) = at end no_proper_main
 main_breaches end name (Some (bindings.Routine r locals)) =
-    if nat_le 1 locals then at (position_or end name) NO_PROPER_MAIN else []
-main_breaches end name (Some (bindings.Attribute a)) = at end NO_PROPER_MAIN
-main_breaches end name (Some (bindings.Property n)) = at end NO_PROPER_MAIN
-main_breaches end name (Some (bindings.Object o)) = at end NO_PROPER_MAIN
-main_breaches end name (Some (bindings.Local l)) = at end NO_PROPER_MAIN
+    if nat_le 1 locals then at (position_or end name) no_proper_main else []
+main_breaches end name (Some (bindings.Attribute a)) = at end no_proper_main
+main_breaches end name (Some (bindings.Property n)) = at end no_proper_main
+main_breaches end name (Some (bindings.Object o)) = at end no_proper_main
+main_breaches end name (Some (bindings.Local l)) = at end no_proper_main
 
 -- Abbreviations: E24 from the 97th on; else E33 at one of fewer than two characters, or that stands earlier
 
@@ -125,8 +125,8 @@ has_text (t ∷ ts) bytes = same_bytes t.bytes bytes || has_text ts bytes
 -- of one that follows some
 abbrev pub abbreviation_breaches : List TextTree → TextTree → List Breach
 abbreviation_breaches before t =
-    if nat_le most_abbreviations (length before) then at t.position TOO_MANY
-    else (if nat_lt (length t.bytes) 2 || has_text before t.bytes then at t.position BAD_ABBREVIATION else [])
+    if nat_le most_abbreviations (length before) then at t.position too_many
+    else (if nat_lt (length t.bytes) 2 || has_text before t.bytes then at t.position bad_abbreviation else [])
 
 abbrev pub abbreviations_breaches : List TextTree → List TextTree → List Breach
 abbreviations_breaches before [] = []

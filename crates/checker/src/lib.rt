@@ -7,3 +7,4 @@ mod directive_rules;
 mod main_rules;
 
 pub use check_program::check;
+pub use meaning::Checked;

@@ -17,7 +17,7 @@ use Rattle.meaning.specs.declared.resolved.Value.TheFolds.{fold-roll-Value}
 use Rattle.meaning.specs.Resolved.{Value, number, read, call, prefixed, step_before, step_after, binary, compare, equal}
 use Rattle.meaning.specs.Resolved.{entry, assign_entry, assign_property_word, relative, contained, has, provides}
 use Rattle.meaning.specs.Resolved.{property, property_size, property_word, assign_property, assign, more, values_of}
-use Rattle.meaning.specs.Resolved.{chained, value_of, value_layer}
+use Rattle.meaning.specs.Resolved.{chained, propertied, value_of, value_layer}
 use Rattle.meaning.specs.Accepted.{count_of}
 use Rattle.drafts.specs.Items as items
 use Rattle.drafts.specs.Writing.{link_of, change_links}
@@ -98,9 +98,10 @@ pub provides_is : (e : code_value.Value) (b : Box code_value.Value) (p : ℕ) �
     → value_of e ≡ provides (value_of b.value) p
 provides_is e b p is = ap value_of is ∙ ap value_of (sym (v.rolls-Provides b p)) ∙ fold-roll-Value Value value_layer _
 
-pub property_is : (e : code_value.Value) (b : Box code_value.Value) (p : ℕ) → e ≡ v.Property b p
-    → value_of e ≡ property (value_of b.value) p
-property_is e b p is = ap value_of is ∙ ap value_of (sym (v.rolls-Property b p)) ∙ fold-roll-Value Value value_layer _
+pub property_is : (e : code_value.Value) (b : Box code_value.Value) (p : ℕ) (ps : Vec ℕ) → e ≡ v.Property b p ps
+    → value_of e ≡ propertied (property (value_of b.value) p) ps.items
+property_is e b p ps is =
+    ap value_of is ∙ ap value_of (sym (v.rolls-Property b p ps)) ∙ fold-roll-Value Value value_layer _
 
 pub property_size_is : (e : code_value.Value) (b : Box code_value.Value) (p : ℕ) → e ≡ v.PropertySize b p
     → value_of e ≡ property_size (value_of b.value) p
@@ -160,3 +161,22 @@ chain_changes z e a op b ls is = ap (items.changes z) (chain_is e a op b ls is)
         ≡ (items.changes z x || change_links z ls)
     go x [] = false_last (items.changes z x)
     go x (l ∷ ls) = go (binary l.0 x l.1) ls ∙ together (items.changes z x) (items.changes z l.1) (change_links z ls)
+
+-- Properties, of which each is one of the word before it
+
+pub property_pushed : (e : code_value.Value) (b : Box code_value.Value) (p : ℕ) (ps : Vec ℕ) → e ≡ v.Property b p ps
+    → items.pushed ≡ items.alone (value_of e)
+property_pushed e b p ps is = go (value_of b.value) p ps.items ∙ ap items.alone (sym (property_is e b p ps is))
+  where
+    go : (x : Value) (p : ℕ) (ps : List ℕ) → items.pushed ≡ items.alone (propertied (property x p) ps)
+    go x p [] = refl
+    go x p (q ∷ ps) = go (property x p) q ps
+
+pub property_changes : (z : Variable) (e : code_value.Value) (b : Box code_value.Value) (p : ℕ) (ps : Vec ℕ)
+    → e ≡ v.Property b p ps → items.changes z (value_of e) ≡ items.changes z (value_of b.value)
+property_changes z e b p ps is =
+    ap (items.changes z) (property_is e b p ps is) ∙ go (property (value_of b.value) p) ps.items
+  where
+    go : (x : Value) (ps : List ℕ) → items.changes z (propertied x ps) ≡ items.changes z x
+    go x [] = refl
+    go x (q ∷ ps) = go (property x q) ps

@@ -70,7 +70,7 @@ fn changes(variable: Variable, value: &Value) -> bool
         Value::Contained(left, _, right) => changes(variable, left) || changes(variable, right),
         Value::Has(_, object, _) => changes(variable, object),
         Value::Provides(object, _) => changes(variable, object),
-        Value::Property(object, _) => changes(variable, object),
+        Value::Property(object, _, _) => changes(variable, object),
         Value::PropertySize(object, _) => changes(variable, object),
         Value::PropertyWord(object, _, index) => {
             changes(variable, object) || changes(variable, index)
@@ -117,6 +117,7 @@ pub fn alone(value: &Value) -> Operand
         Value::Number(number) => Operand::Number(*number),
         Value::Read(variable) => Operand::Variable(*variable),
         Value::Chain(..) => Operand::Pushed,
+        Value::Property(..) => Operand::Pushed,
         Value::Call(..)
         | Value::Prefixed(..)
         | Value::StepBefore(..)
@@ -130,7 +131,6 @@ pub fn alone(value: &Value) -> Operand
         | Value::Contained(..)
         | Value::Has(..)
         | Value::Provides(..)
-        | Value::Property(..)
         | Value::PropertySize(..)
         | Value::PropertyWord(..)
         | Value::AssignProperty(..)

@@ -649,7 +649,8 @@ fn arguments<'t, 'a>(
     ensures { Takes (λ xs. map expression_tree xs.items) result parser.new (reading.list
         (reading.is_sign Sign.Comma) (spec.expression (spec.nested depth)) (ahead parser.old)) }
 {
-    let mut arguments = Vec::new(parser.alloc);
+    // Most calls have one argument. A first `push` would ask for several places.
+    let mut arguments = Vec::with_capacity(parser.alloc, 1)?;
     match expression(parser, depth) {
         Ok(first) => parts::add(&mut arguments, first)?,
         Err(e) => return Err(e),

@@ -12,7 +12,7 @@ use Rattle.meaning.specs.declared.resolved.Action.TheFolds.{fold-roll-Action}
 use Rattle.meaning.specs.Resolved.{give_to, move_to, remove_from, each_object, each_where, each_in, Action, block}
 use Rattle.meaning.specs.Resolved.{text_alone, print, print_return, if_then, if_else, while_do, do_until, for_loop}
 use Rattle.meaning.specs.Resolved.{switch_on, return_value, effect, actions_of, cases_of, value_of, printed_of, case_of}
-use Rattle.meaning.specs.Resolved.{other_of, action_of, action_layer}
+use Rattle.meaning.specs.Resolved.{boxed_value, other_of, action_of, action_layer}
 use Rattle.meaning.proofs.Mapped.{mapped_twice}
 
 pub block_is : (t : code_action.Action) (xs : Vec code_action.Action) → t ≡ s.Block xs → action_of t
@@ -50,28 +50,29 @@ pub do_is : (t : code_action.Action) (x : Box code_action.Action) (e : code_valu
     ≡ do_until (action_of x.value) (value_of e)
 do_is t x e is = ap action_of is ∙ ap action_of (sym (s.rolls-Do x e)) ∙ fold-roll-Action Action action_layer _
 
-pub for_is : (t : code_action.Action) (a b c : Option code_value.Value) (x : Box code_action.Action)
+pub for_is : (t : code_action.Action) (a b c : Option (Box code_value.Value)) (x : Box code_action.Action)
     → t ≡ s.For a b c x
-    → action_of t ≡ for_loop (option_map value_of a) (option_map value_of b) (option_map value_of c) (action_of x.value)
+    → action_of t ≡ for_loop (option_map boxed_value a) (option_map boxed_value b) (option_map boxed_value c)
+    (action_of x.value)
 for_is t a b c x is =
     ap action_of is ∙ ap action_of (sym (s.rolls-For a b c x)) ∙ fold-roll-Action Action action_layer _
 
-made_switch : (e : code_value.Value) (cases : Vec (Vec Span × Vec code_action.Action))
+made_switch : (e : Box code_value.Value) (cases : Vec (Vec Span × Vec code_action.Action))
     (other : Option (Vec code_action.Action))
     → action_of (s.Switch e cases other)
-    ≡ switch_on (value_of e) (cases_of (map case_of cases.items) (other_of other))
+    ≡ switch_on (value_of e.value) (cases_of (map case_of cases.items) (other_of other))
 unfolding case_of
 made_switch e cases None = ap action_of (sym (s.rolls-Switch e cases None))
     ∙ fold-roll-Action Action action_layer _
-    ∙ ap (λ cs. switch_on (value_of e) (cases_of cs None)) (mapped_twice _ _ case_of (λ c. refl) cases.items)
+    ∙ ap (λ cs. switch_on (value_of e.value) (cases_of cs None)) (mapped_twice _ _ case_of (λ c. refl) cases.items)
 made_switch e cases (Some xs) = ap action_of (sym (s.rolls-Switch e cases (Some xs)))
     ∙ fold-roll-Action Action action_layer _
-    ∙ ap (λ cs. switch_on (value_of e) (cases_of cs (Some (map action_of xs.items))))
+    ∙ ap (λ cs. switch_on (value_of e.value) (cases_of cs (Some (map action_of xs.items))))
     (mapped_twice _ _ case_of (λ c. refl) cases.items)
 
-pub switch_is : (t : code_action.Action) (e : code_value.Value) (cases : Vec (Vec Span × Vec code_action.Action))
+pub switch_is : (t : code_action.Action) (e : Box code_value.Value) (cases : Vec (Vec Span × Vec code_action.Action))
     (other : Option (Vec code_action.Action)) → t ≡ s.Switch e cases other → action_of t
-    ≡ switch_on (value_of e) (cases_of (map case_of cases.items) (other_of other))
+    ≡ switch_on (value_of e.value) (cases_of (map case_of cases.items) (other_of other))
 switch_is t e cases other is = rw is (made_switch e cases other)
 
 pub return_is : (t : code_action.Action) (e : code_value.Value) → t ≡ s.ReturnValue e
@@ -86,8 +87,8 @@ pub give_is : (t : code_action.Action) (e : code_value.Value) (changes : _) → 
 give_is t e changes is =
     ap action_of is ∙ ap action_of (sym (s.rolls-Give e changes)) ∙ fold-roll-Action Action action_layer _
 
-pub move_is : (t : code_action.Action) (e d : code_value.Value) → t ≡ s.Move e d
-    → action_of t ≡ move_to (value_of e) (value_of d)
+pub move_is : (t : code_action.Action) (e d : Box code_value.Value) → t ≡ s.Move e d
+    → action_of t ≡ move_to (value_of e.value) (value_of d.value)
 move_is t e d is = ap action_of is ∙ ap action_of (sym (s.rolls-Move e d)) ∙ fold-roll-Action Action action_layer _
 
 pub remove_is : (t : code_action.Action) (e : code_value.Value) → t ≡ s.Remove e

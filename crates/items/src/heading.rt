@@ -2,7 +2,7 @@
 
 ghost use Rattle.std.specs.Prelude.{◌-◌, OnOk};
 ghost use Rattle.std.specs.Option.{option_map};
-ghost use Rattle.meaning.specs.Resolved.{value_of};
+ghost use Rattle.meaning.specs.Resolved.{boxed_value};
 ghost use Rattle.items.specs.Statements.{once_items, test_items};
 ghost use Rattle.drafts.specs.Writing.{Writes};
 
@@ -12,9 +12,9 @@ use std::alloc::AllocError;
 use values::put_value;
 
 /// A part whose word goes nowhere, if it is there.
-pub fn put_once(draft: &mut Draft<'_>, part: &Option<Value>) -> Result<(), AllocError>
+pub fn put_once(draft: &mut Draft<'_>, part: &Option<Box<Value>>) -> Result<(), AllocError>
     ensures { OnOk result (Writes draft.old draft.new
-        (λ n at. once_items at (option_map value_of part.now))) }
+        (λ n at. once_items at (option_map boxed_value part.now))) }
 {
     match part {
         None => Ok(()),
@@ -23,9 +23,13 @@ pub fn put_once(draft: &mut Draft<'_>, part: &Option<Value>) -> Result<(), Alloc
 }
 
 /// The test, if it is there: where it does not hold it leads to where so many items are left.
-pub fn put_test(draft: &mut Draft<'_>, test: &Option<Value>, end: usize) -> Result<(), AllocError>
+pub fn put_test(
+    draft: &mut Draft<'_>,
+    test: &Option<Box<Value>>,
+    end: usize,
+) -> Result<(), AllocError>
     ensures { OnOk result (Writes draft.old draft.new
-        (λ n at. test_items at (option_map value_of test.now) (n - end))) }
+        (λ n at. test_items at (option_map boxed_value test.now) (n - end))) }
 {
     match test {
         None => Ok(()),

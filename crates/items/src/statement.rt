@@ -6,7 +6,7 @@ ghost use Rattle.meaning.specs.Resolved.{block, if_then, if_else, while_do, do_u
 ghost use Rattle.meaning.specs.Resolved.{switch_on, return_value, value_of, give_to, move_to};
 ghost use Rattle.meaning.specs.Resolved.{remove_from, each_object, each_where, each_in, printed_of};
 ghost use Rattle.meaning.specs.Resolved.{action_of, actions_of, case_of, cases_of, other_of};
-ghost use Rattle.meaning.specs.Resolved.{text_alone, print_return};
+ghost use Rattle.meaning.specs.Resolved.{text_alone, print_return, boxed_value};
 ghost use Rattle.drafts.specs.Code.{as_operand};
 ghost use Rattle.drafts.specs.Items.{new_line};
 ghost use Rattle.drafts.specs.Writing.{Writes};
@@ -147,15 +147,15 @@ fn put_while<'a>(draft: &mut Draft<'a>, body: &Action<'a>, test: &Value) -> Resu
     ensures { OnOk result ((x : _) → WritesAction draft.old draft.new x
         (while_do (value_of test.now) (action_of body.now))) }
 {
-    let end = written(draft);
+    let behind = written(draft);
     put(draft, Item::Back(0))?;
-    let inside = Exits {
-        breaks: end,
+    let within = Exits {
+        breaks: behind,
         continues: written(draft),
     };
-    put_statement(draft, inside, body)?;
-    put_value(draft, test, Wanted::Branch(false, end))?;
-    lead_back(draft, end);
+    put_statement(draft, within, body)?;
+    put_value(draft, test, Wanted::Branch(false, behind))?;
+    lead_back(draft, behind);
     Ok(())
 }
 
@@ -182,13 +182,13 @@ fn put_do<'a>(draft: &mut Draft<'a>, body: &Action<'a>, test: &Value) -> Result<
 fn put_for<'a>(
     draft: &mut Draft<'a>,
     body: &Action<'a>,
-    before: &Option<Value>,
-    test: &Option<Value>,
-    behind: &Option<Value>,
+    before: &Option<Box<Value>>,
+    test: &Option<Box<Value>>,
+    behind: &Option<Box<Value>>,
 ) -> Result<(), AllocError>
     ensures { OnOk result ((x : _) → WritesAction draft.old draft.new x
-        (for_loop (option_map value_of before.now) (option_map value_of test.now)
-        (option_map value_of behind.now) (action_of body.now))) }
+        (for_loop (option_map boxed_value before.now) (option_map boxed_value test.now)
+        (option_map boxed_value behind.now) (action_of body.now))) }
 {
     let end = written(draft);
     put(draft, Item::Back(0))?;

@@ -1,6 +1,6 @@
 -- Statements and expressions whose names are resolved, without where they lie in memory.
 use Rattle.std.specs.Prelude.{◌≡◌, ℕ, Bool, List, [], ◌∷◌, length, map, take, drop, Option, Some, None}
-use Rattle.std.specs.Global.{Vec}
+use Rattle.std.specs.Global.{Box, Vec}
 use Rattle.std.specs.List.{concat}
 use Rattle.std.specs.Option.{option_map}
 use Rattle.expression_trees.specs.declared.tree.Binary.{Binary}
@@ -138,6 +138,11 @@ abbrev pub chained : Value → List (Binary × Value) → Value
 chained v [] = v
 chained v (l ∷ ls) = chained (binary l.0 v l.1) ls
 
+-- properties, each of the word of the one before it
+abbrev pub propertied : Value → List ℕ → Value
+propertied v [] = v
+propertied v (p ∷ ps) = propertied (property v p) ps
+
 abbrev pub value_layer : Value-F Value → Value
 value_layer (Value-F.Number n) = number n
 value_layer (Value-F.Read x) = read x
@@ -155,7 +160,7 @@ value_layer (Value-F.Relative r v) = relative r v.value
 value_layer (Value-F.Contained a op b) = contained op a.value b.value
 value_layer (Value-F.Has positive v a) = has positive v.value a
 value_layer (Value-F.Provides v p) = provides v.value p
-value_layer (Value-F.Property v p) = property v.value p
+value_layer (Value-F.Property v p ps) = propertied (property v.value p) ps.items
 value_layer (Value-F.PropertySize v p) = property_size v.value p
 value_layer (Value-F.PropertyWord v p i) = property_word v.value p i.value
 value_layer (Value-F.AssignProperty v p w) = assign_property v.value p w.value
@@ -163,6 +168,9 @@ value_layer (Value-F.AssignPropertyWord v p i w) = assign_property_word v.value 
 
 abbrev pub value_of : code_value.Value → Value
 value_of = code_value.fold-Value Value value_layer
+
+abbrev pub boxed_value : Box code_value.Value → Value
+boxed_value b = value_of b.value
 
 abbrev pub printed_of : code_printed.Printed → Printed
 printed_of (items.Text s) = text s.now
@@ -196,16 +204,16 @@ action_layer (Action-F.If v x) = if_then (value_of v) x.value
 action_layer (Action-F.IfElse v x y) = if_else (value_of v) x.value y.value
 action_layer (Action-F.While v x) = while_do (value_of v) x.value
 action_layer (Action-F.Do x v) = do_until x.value (value_of v)
-action_layer (Action-F.For a b c x) = for_loop (option_map value_of a) (option_map value_of b) (option_map value_of c)
-    x.value
-action_layer (Action-F.Switch v cases other) = switch_on (value_of v)
+action_layer (Action-F.For a b c x) = for_loop (option_map boxed_value a) (option_map boxed_value b)
+    (option_map boxed_value c) x.value
+action_layer (Action-F.Switch v cases other) = switch_on (boxed_value v)
     (cases_of (map (λ c. (map range_of c.0.items, actions_of c.1.items)) cases.items)
     (option_map (λ xs. xs.items) other))
 action_layer Action-F.Break = break_out
 action_layer Action-F.Continue = continue_on
 action_layer (Action-F.Read t p) = read_line t p
 action_layer (Action-F.Give v changes) = give_to (value_of v) changes.items
-action_layer (Action-F.Move v w) = move_to (value_of v) (value_of w)
+action_layer (Action-F.Move v w) = move_to (boxed_value v) (boxed_value w)
 action_layer (Action-F.Remove v) = remove_from (value_of v)
 action_layer (Action-F.EachObject x a) = each_object x a.value
 action_layer (Action-F.EachWhere x v a) = each_where x (value_of v) a.value

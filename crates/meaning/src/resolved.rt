@@ -12,7 +12,7 @@ pub enum Variable {
     Global(usize),
 }
 
-/// An expression. Chains that group to the left are flat.
+/// An expression. Chains that group to the left are flat: what walks a tree takes stack by its nesting alone.
 #[derive(Drop)]
 pub enum Value {
     Number(u16),
@@ -47,8 +47,9 @@ pub enum Value {
     /// Whether an object provides the property of a number.
     Provides(Box<Value>, usize),
 
-    /// The word of an object's property, by the property's number.
-    Property(Box<Value>, usize),
+    /// The word of an object's property, by the property's number, and then of a property of each such word: so
+    /// `o.p.q` is as flat as `o.p`.
+    Property(Box<Value>, usize, Vec<usize>),
 
     /// How many bytes the property has.
     PropertySize(Box<Value>, usize),
@@ -83,7 +84,8 @@ pub enum Span {
     Between(u16, u16),
 }
 
-/// A statement.
+/// A statement. Where a kind holds several values they stand in boxes: a statement is as large as the largest kind,
+/// also `;`.
 #[derive(Drop)]
 pub enum Action<'a> {
     Empty,
@@ -98,10 +100,10 @@ pub enum Action<'a> {
     Do(Box<Action<'a>>, Value),
 
     /// A `for`: what is done before the first round, the test, what is done behind each round, and the body.
-    For(Option<Value>, Option<Value>, Option<Value>, Box<Action<'a>>),
+    For(Option<Box<Value>>, Option<Box<Value>>, Option<Box<Value>>, Box<Action<'a>>),
 
     /// A `switch`: its value, its cases, and the statements of its `default`.
-    Switch(Value, Vec<(Vec<Span>, Vec<Action<'a>>)>, Option<Vec<Action<'a>>>),
+    Switch(Box<Value>, Vec<(Vec<Span>, Vec<Action<'a>>)>, Option<Vec<Action<'a>>>),
 
     Break,
     Continue,
@@ -113,7 +115,7 @@ pub enum Action<'a> {
     Give(Value, Vec<(bool, usize)>),
 
     /// `move` the first object into the second.
-    Move(Value, Value),
+    Move(Box<Value>, Box<Value>),
 
     Remove(Value),
 

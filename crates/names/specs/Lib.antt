@@ -1,3 +1,4 @@
+pub mod Numbers
 pub mod Breaches
 pub mod Keys
 pub mod Names

@@ -97,7 +97,7 @@ first_table = (key_of (codes "name"), bindings.Property 1) ∷ []
 -- what a name stands for, where it is a constant or an object, which is its number
 abbrev pub constant_known : Option Binding → Option Known
 constant_known None = None
-constant_known (Some (bindings.Constant known)) = Some known
+constant_known (Some (bindings.Constant known)) = known
 constant_known (Some (bindings.Global g)) = None
 constant_known (Some (bindings.Array a kind)) = None
 constant_known (Some (bindings.Routine r locals)) = None
@@ -171,7 +171,7 @@ counts_after counts (routine r) = record counts { routines = counts.routines + 1
 -- defined before it
 abbrev pub binding_of : Table → Table → Counts → DirectiveTree → Binding
 binding_of whole table counts (global n v) = bindings.Global counts.globals
-binding_of whole table counts (constant n v) = bindings.Constant (or_zero (earlier_known whole table v))
+binding_of whole table counts (constant n v) = bindings.Constant (earlier_known whole table v)
 binding_of whole table counts (array a) = bindings.Array counts.arrays a.kind
 binding_of whole table counts (attribute n) = bindings.Attribute counts.attributes
 binding_of whole table counts (property n v) = bindings.Property (counts.properties + 2)

@@ -6,8 +6,8 @@ use syntax::ArrayKind;
 /// What a name stands for in a routine.
 #[derive(Clone, Copy)]
 pub enum Binding {
-    /// A value.
-    Constant(Known),
+    /// A value. Nothing is known of one whose definition breaks a rule itself.
+    Constant(Option<Known>),
 
     /// A global variable, numbered from 0 in order of definition.
     Global(usize),

@@ -32,7 +32,7 @@ pub fn constant_known(found: Option<Binding>) -> Option<Known>
 {
     match found {
         None => None,
-        Some(Binding::Constant(known)) => Some(known),
+        Some(Binding::Constant(known)) => known,
         Some(Binding::Global(_)) => None,
         Some(Binding::Array(_, _)) => None,
         Some(Binding::Routine(_, _)) => None,
@@ -130,7 +130,7 @@ impl Names {
         match directive {
             Directive::Global(_, _) => Binding::Global(self.counts.globals),
             Directive::Constant(_, value) => {
-                Binding::Constant(or_zero(earlier_known(value, whole, &self.table)))
+                Binding::Constant(earlier_known(value, whole, &self.table))
             }
             Directive::Array(array) => Binding::Array(self.counts.arrays, array.kind),
             Directive::Attribute(_) => Binding::Attribute(self.counts.attributes),

@@ -1,8 +1,10 @@
 -- Lists of what objects provide.
 use Rattle.std.proofs.Common.{◌≡◌, ◌<◌, ◌≤◌, ◌+◌, ℕ, zero, suc, nat_lt, Bool, true, false, cond, List, [], ◌∷◌, ◌++◌}
-use Rattle.std.proofs.Common.{length, take, drop, slice_index_or, Option, Some, None, refl, sym, ap, ◌∙◌, arith}
+use Rattle.std.proofs.Common.{length, min, take, drop, slice_index_or, Option, Some, None, refl, sym, ap, ◌∙◌, arith}
 use Rattle.std.specs.Prelude.{◌==◌, map, slice_get}
+use Rattle.std.proofs.lemmas.List.{take_min}
 use Rattle.std.proofs.lemmas.Bool.Decides.{nat_tests}
+use Rattle.std.specs.List.{flat_map}
 use Rattle.std.specs.Option.{option_map}
 use Rattle.std.specs.Global.{Vec}
 use Rattle.directives.specs.declared.tree.ArrayValue.{ArrayValue}
@@ -12,6 +14,9 @@ use Rattle.names.specs.Names.{File}
 use Rattle.directives.specs.declared.tree.Property.{Property}
 use Rattle.directives.specs.Tree.{PropertyTree, value_tree, property_tree}
 use Rattle.meaning.specs.Resolved.{property_of}
+use Rattle.names.specs.declared.breach.Breach.{Breach}
+use Rattle.names.specs.Noted.{noted}
+use Rattle.names.proofs.Noted.{noted_none, noted_append}
 use Rattle.names.proofs.Dropped.{drop_here, drop_end}
 use Rattle.object_rules.specs.Objects.{with_property, with_properties, provided_of, place_below, count_breaches}
 use Rattle.object_rules.specs.Objects.{excess_breaches}
@@ -35,6 +40,24 @@ drop_mapped f (x ∷ xs) (suc n) = drop_mapped f xs n
 append_mapped : {A B : Type 0} (f : A → B) (xs ys : List A) → map f (xs ++ ys) ≡ map f xs ++ map f ys
 append_mapped f [] ys = refl
 append_mapped f (x ∷ xs) ys = ap (λ r. f x ∷ r) (append_mapped f xs ys)
+
+-- what is noted of the front of a list and then of the rest is what is noted of the whole
+pub noted_apart : (f : PropertyTree → List Breach) (m : Option Breach) (n : ℕ) (xs : List Property)
+    → noted (noted m (flat_map f (map property_tree (take n xs)))) (flat_map f (map property_tree (drop n xs)))
+    ≡ noted m (flat_map f (map property_tree xs))
+noted_apart f m zero xs = ap (λ o. noted o (flat_map f (map property_tree xs))) (noted_none m)
+noted_apart f m (suc n) [] = noted_none (noted m [])
+noted_apart f m (suc n) (x ∷ xs) =
+    let own = f (property_tree x) in
+    ap (λ o. noted o (flat_map f (map property_tree (drop n xs))))
+    (noted_append m own (flat_map f (map property_tree (take n xs))))
+    ∙ noted_apart f (noted m own) n xs
+    ∙ sym (noted_append m own (flat_map f (map property_tree xs)))
+
+-- the front of a list, of as many as it has where these are fewer
+pub front_mapped : {A B : Type 0} (f : A → B) (n : ℕ) (xs : List A)
+    → map f (take (min n (length xs)) xs) ≡ take n (map f xs)
+front_mapped f n xs = ap (λ ys. map f ys) (take_min n xs) ∙ take_mapped f xs n
 
 -- a property is put in its place
 

@@ -1,8 +1,8 @@
 -- Definitions of objects: the rules that they can break, and what they are.
 use Rattle.std.specs.Prelude.{◌==◌, ◌+◌, ◌-◌, ◌%◌, ℕ, zero, suc, nat_le, nat_lt, Bool, false, if◌then◌else◌, List, []}
-use Rattle.std.specs.Prelude.{◌∷◌, ◌++◌, map, length, slice_get, Option, Some, None}
+use Rattle.std.specs.Prelude.{◌∷◌, ◌++◌, map, length, take, slice_get, Option, Some, None}
 use Rattle.std.specs.List.{flat_map}
-use Rattle.lexer.specs.declared.fault.TheConstants.{TOO_MANY, UNKNOWN_NAME, WRONG_KIND}
+use Rattle.names.specs.Numbers.{too_many, unknown_name, wrong_kind}
 use Rattle.lexer.specs.declared.token.Position.{Position}
 use Rattle.expression_trees.specs.Tree.{NameTree}
 use Rattle.directives.specs.Tree.{ValueTree, TextTree, PropertyTree, ObjectTree}
@@ -23,10 +23,10 @@ use Rattle.object_rules.specs.Repeated.{repeated_breaches}
 -- E24 at the 33rd value of a property, and at the name of one without a value, which the grammar does not have
 abbrev pub excess_breaches : Option ValueTree → List Breach
 excess_breaches None = []
-excess_breaches (Some v) = at v.position TOO_MANY
+excess_breaches (Some v) = at v.position too_many
 
 abbrev pub count_breaches : Position → List ValueTree → List Breach
-count_breaches p [] = at p TOO_MANY
+count_breaches p [] = at p too_many
 count_breaches p (v ∷ vs) = excess_breaches (slice_get (v ∷ vs) 32)
 
 abbrev pub value_breaches : Table → ValueTree → List Breach
@@ -48,7 +48,7 @@ given_breaches whole n = attribute_breaches n.position (in_table whole (key_of n
 -- E24 at a short name of more than 255 words of Z-text
 abbrev pub short_breaches : Option TextTree → List Breach
 short_breaches None = []
-short_breaches (Some s) = if nat_le (name_words s.bytes) 255 then [] else at s.position TOO_MANY
+short_breaches (Some s) = if nat_le (name_words s.bytes) 255 then [] else at s.position too_many
 
 -- E22 at the second of two properties of one name
 abbrev pub object_breaches : Table → ObjectTree → List Breach
@@ -85,19 +85,19 @@ is_next (Some x) n = x.0 + 1 == n
 
 abbrev pub arrow_breaches : Option (ℕ × ℕ) → List Position → List Breach
 arrow_breaches above [] = []
-arrow_breaches above (p ∷ ps) = if is_next above (length (p ∷ ps)) then [] else at p UNKNOWN_NAME
+arrow_breaches above (p ∷ ps) = if is_next above (length (p ∷ ps)) then [] else at p unknown_name
 
 -- a parent that is named: one of the objects before, of which there are so many
 abbrev pub parent_breaches : Position → ℕ → Option Binding → List Breach
-parent_breaches p before None = at p UNKNOWN_NAME
-parent_breaches p before (Some (bindings.Constant n)) = at p WRONG_KIND
-parent_breaches p before (Some (bindings.Global g)) = at p WRONG_KIND
-parent_breaches p before (Some (bindings.Array a kind)) = at p WRONG_KIND
-parent_breaches p before (Some (bindings.Routine r locals)) = at p WRONG_KIND
-parent_breaches p before (Some (bindings.Attribute a)) = at p WRONG_KIND
-parent_breaches p before (Some (bindings.Property n)) = at p WRONG_KIND
-parent_breaches p before (Some (bindings.Object o)) = if nat_le o before then [] else at p UNKNOWN_NAME
-parent_breaches p before (Some (bindings.Local l)) = at p WRONG_KIND
+parent_breaches p before None = at p unknown_name
+parent_breaches p before (Some (bindings.Constant n)) = at p wrong_kind
+parent_breaches p before (Some (bindings.Global g)) = at p wrong_kind
+parent_breaches p before (Some (bindings.Array a kind)) = at p wrong_kind
+parent_breaches p before (Some (bindings.Routine r locals)) = at p wrong_kind
+parent_breaches p before (Some (bindings.Attribute a)) = at p wrong_kind
+parent_breaches p before (Some (bindings.Property n)) = at p wrong_kind
+parent_breaches p before (Some (bindings.Object o)) = if nat_le o before then [] else at p unknown_name
+parent_breaches p before (Some (bindings.Local l)) = at p wrong_kind
 
 abbrev pub named_parent_breaches : Table → ℕ → Option NameTree → List Breach
 named_parent_breaches whole before None = []
@@ -139,6 +139,11 @@ abbrev pub with_properties : File → List (ℕ × List ℕ) → List PropertyTr
 with_properties file found [] = found
 with_properties file found (x ∷ xs) = with_properties file (with_property (provided_of file x) found) xs
 
+-- An object provides at most 63 properties: their numbers are from 1 to 63, and a name that stands twice breaks a rule, as
+-- does one that is no property. So what is listed behind 63 others is not looked at.
+abbrev pub most_provided : ℕ
+most_provided = 63
+
 abbrev pub given_of : File → NameTree → ℕ
 given_of file n = attribute_of_binding (in_table file.table (key_of n.text)) % 256
 
@@ -152,7 +157,7 @@ object_in file o = record {
   parent = 0;
   name = short_name o.short;
   attributes = map (given_of file) o.attributes;
-  properties = with_properties file [] o.properties;
+  properties = with_properties file [] (take most_provided o.properties);
 }
 
 -- the parent by arrows, 0 for none

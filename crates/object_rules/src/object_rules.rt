@@ -1,6 +1,6 @@
 //! Definitions of objects: the rules that they can break, and what they are.
 
-ghost use Rattle.std.specs.Prelude.{◌≡◌, ◌≤◌, ◌++◌, [], IfOk, OnOk, length, map};
+ghost use Rattle.std.specs.Prelude.{◌≡◌, ◌≤◌, ◌++◌, [], IfOk, OnOk, length, map, take};
 ghost use Rattle.std.specs.List.{flat_map};
 ghost use Rattle.std.specs.Option.{option_map};
 ghost use Rattle.expression_trees.specs.Tree.{name_tree};
@@ -23,6 +23,9 @@ use value_rules::{attribute, literal, property};
 
 // The most words of a property.
 const MOST_WORDS: usize = 32;
+
+// The most properties that an object can provide. Those that it lists behind them break a rule, also by their number.
+const MOST_PROVIDED: usize = 63;
 
 // The most words of Z-text of a short name.
 const LONGEST_NAME: u128 = 255;
@@ -141,6 +144,43 @@ fn properties(
     Ok(found)
 }
 
+fn note_provided(
+    written: &[Property<'_>],
+    alloc: Global,
+    file: &File,
+    least: &mut Option<Breach>,
+) -> Result<(), AllocError>
+    ensures { OnOk result (least.new ≡ noted least.old
+        (flat_map (spec.provided_breaches file.now.table.entries)
+        (map property_tree written.now))) }
+{
+    for one in written {
+        drop(provided(one, alloc, file, least)?);
+    }
+    Ok(())
+}
+
+// The properties that an object provides, of those that it lists. There may be any number of these, so each that is put in
+// its place has few before it.
+fn provided_of_listed(
+    written: &[Property<'_>],
+    alloc: Global,
+    file: &File,
+    least: &mut Option<Breach>,
+) -> Result<Vec<(u8, Vec<u16>)>, AllocError>
+    ensures value { IfOk result (λ v. map property_of v.items
+        ≡ spec.with_properties (file_in file.now) []
+        (take spec.most_provided (map property_tree written.now))) }
+    ensures breaches { OnOk result (least.new ≡ noted least.old
+        (flat_map (spec.provided_breaches file.now.table.entries)
+        (map property_tree written.now))) }
+{
+    let count = MOST_PROVIDED.min(written.len());
+    let found = properties(&written[..count], alloc, file, least)?;
+    note_provided(&written[count..], alloc, file, least)?;
+    Ok(found)
+}
+
 fn given(name: Name<'_>, file: &File, least: &mut Option<Breach>) -> u8
     ensures value { result ≡ spec.given_of (file_in file.now) (name_tree name.entry) }
     ensures breaches { least.new ≡ noted least.old
@@ -220,7 +260,7 @@ pub fn object<'a>(
     short_rule(&written.short, least);
     let names = names_of(&written.properties, alloc)?;
     repeated(&names, alloc, least)?;
-    let properties = properties(&written.properties, alloc, file, least)?;
+    let properties = provided_of_listed(&written.properties, alloc, file, least)?;
     let attributes = attributes(&written.attributes, alloc, file, least)?;
     Ok(CheckedObject {
         parent: 0,

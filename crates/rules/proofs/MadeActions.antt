@@ -10,8 +10,11 @@ use Rattle.meaning.specs.declared.resolved.Action as code_action
 use Rattle.meaning.specs.declared.resolved.Action.TheVariants as done
 use Rattle.meaning.specs.declared.resolved.Action.TheFolds.{fold-roll-Action}
 use Rattle.meaning.specs.Resolved as values
-use Rattle.meaning.specs.Resolved.{value_of, Action, action_of, action_layer, case_of, other_of}
+use Rattle.meaning.specs.Resolved.{value_of, boxed_value, Action, action_of, action_layer, case_of, other_of}
 use Rattle.meaning.proofs.Mapped.{mapped_twice}
+
+pub made_empty : action_of done.Empty ≡ values.empty
+made_empty = ap action_of (sym done.rolls-Empty) ∙ fold-roll-Action Action action_layer _
 
 pub made_each_object : (x : Variable) (a : Box code_action.Action)
     → action_of (done.EachObject x a) ≡ values.each_object x (action_of a.value)
@@ -45,19 +48,20 @@ pub made_do : (a : Box code_action.Action) (v : code_value.Value)
     → action_of (done.Do a v) ≡ values.do_until (action_of a.value) (value_of v)
 made_do a v = ap action_of (sym (done.rolls-Do a v)) ∙ fold-roll-Action Action action_layer _
 
-pub made_for : (x y z : Option code_value.Value) (a : Box code_action.Action) → action_of (done.For x y z a)
-    ≡ values.for_loop (option_map value_of x) (option_map value_of y) (option_map value_of z) (action_of a.value)
+pub made_for : (x y z : Option (Box code_value.Value)) (a : Box code_action.Action) → action_of (done.For x y z a)
+    ≡ values.for_loop (option_map boxed_value x) (option_map boxed_value y) (option_map boxed_value z)
+    (action_of a.value)
 made_for x y z a = ap action_of (sym (done.rolls-For x y z a)) ∙ fold-roll-Action Action action_layer _
 
-pub made_switch : (v : code_value.Value) (cases : Vec (Vec Span × Vec code_action.Action))
+pub made_switch : (v : Box code_value.Value) (cases : Vec (Vec Span × Vec code_action.Action))
     (other : Option (Vec code_action.Action)) → action_of (done.Switch v cases other)
-    ≡ values.switch_on (value_of v) (values.cases_of (map case_of cases.items) (other_of other))
+    ≡ values.switch_on (boxed_value v) (values.cases_of (map case_of cases.items) (other_of other))
 unfolding case_of
 made_switch v cases None = ap action_of (sym (done.rolls-Switch v cases None))
     ∙ fold-roll-Action Action action_layer _
-    ∙ ap (λ cs. values.switch_on (value_of v) (values.cases_of cs None))
+    ∙ ap (λ cs. values.switch_on (boxed_value v) (values.cases_of cs None))
     (mapped_twice _ _ case_of (λ c. refl) cases.items)
 made_switch v cases (Some xs) = ap action_of (sym (done.rolls-Switch v cases (Some xs)))
     ∙ fold-roll-Action Action action_layer _
-    ∙ ap (λ cs. values.switch_on (value_of v) (values.cases_of cs (Some (map action_of xs.items))))
+    ∙ ap (λ cs. values.switch_on (boxed_value v) (values.cases_of cs (Some (map action_of xs.items))))
     (mapped_twice _ _ case_of (λ c. refl) cases.items)

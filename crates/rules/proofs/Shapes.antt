@@ -17,6 +17,10 @@ use Rattle.statements.specs.Tree as written
 use Rattle.statements.specs.Tree.{StatementTree, statement_tree, simple_tree, case_tree, other_tree}
 use Rattle.statements.proofs.Shapes.{is_switch}
 
+pub is_empty_statement : (s : Statement) → s ≡ said.Empty → statement_tree s ≡ written.empty
+is_empty_statement s same = ap statement_tree (same ∙ sym said.rolls-Empty)
+    ∙ fold-roll-Statement StatementTree written.layer _
+
 pub is_simple_statement : (s : Statement) (x : Box SimpleStatement) → s ≡ said.Simple x
     → statement_tree s ≡ simple_tree x.value
 is_simple_statement s x same = ap statement_tree (same ∙ sym (said.rolls-Simple x))

@@ -15,7 +15,7 @@ use expression_trees::{Expression, Name};
 use lexer::Position;
 use meaning::{Action, Around, IN_LOOP, Span, in_switch};
 use names::{Breach, Scope};
-use simple_rules::{heading, loop_variable, ranges, simple, whole};
+use simple_rules::{boxed_whole, heading, loop_variable, ranges, simple, whole};
 use statement_parts::{Heading, Loop, Range};
 use statements::Statement;
 use std::alloc::{AllocError, Global};
@@ -34,6 +34,7 @@ fn statement<'a>(
         (statement_tree s.now) }
 {
     match s {
+        Statement::Empty => Ok(Action::Empty),
         Statement::Simple(plain) => simple(plain, alloc, scope, around, least),
         Statement::Block(all) => block(all, alloc, scope, around, least),
         Statement::If(position, condition, then) => {
@@ -99,7 +100,7 @@ fn sequence<'a>(
     ensures { IfOk result (λ v. AreActions (seen_in scope.now) around all.now
         least.old least.new (map action_of v.items)) }
 {
-    let mut found = Vec::new(alloc);
+    let mut found = Vec::with_capacity(alloc, all.len())?;
     for s in all {
         let Ok(resolved) = statement(s, alloc, scope, around, least) else {
             return Err(AllocError);
@@ -418,7 +419,7 @@ fn switch_on<'a>(
         (trees.switch_on position (expression_tree value.now)
         (trees.cases_of (map case_tree cases.now) (other_tree other.now))) }
 {
-    let Ok(value) = whole(value, alloc, scope, position, least) else {
+    let Ok(value) = boxed_whole(value, alloc, scope, position, least) else {
         return Err(AllocError);
     };
     let Ok(cases) = all_cases(cases, alloc, scope, inside, least) else {

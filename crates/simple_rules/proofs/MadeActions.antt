@@ -1,19 +1,20 @@
 -- What the actions of the code in which no other stands mean.
 use Rattle.std.proofs.Common.{◌≡◌, ℕ, Bool, List, Bor, sym, ap, ◌∙◌}
 use Rattle.std.specs.Prelude.{map}
-use Rattle.std.specs.Global.{Vec}
+use Rattle.std.specs.Global.{Box, Vec}
 use Rattle.meaning.specs.declared.resolved.Value as code_value
 use Rattle.meaning.specs.declared.resolved.Printed as code_printed
 use Rattle.meaning.specs.declared.resolved.Action.TheVariants as done
 use Rattle.meaning.specs.declared.resolved.Action.TheFolds.{fold-roll-Action}
 use Rattle.meaning.specs.Resolved as values
-use Rattle.meaning.specs.Resolved.{value_of, printed_of, Action, action_of, action_layer}
+use Rattle.meaning.specs.Resolved.{value_of, boxed_value, printed_of, Action, action_of, action_layer}
 
 pub made_give : (v : code_value.Value) (changes : Vec (Bool × ℕ))
     → action_of (done.Give v changes) ≡ values.give_to (value_of v) changes.items
 made_give v changes = ap action_of (sym (done.rolls-Give v changes)) ∙ fold-roll-Action Action action_layer _
 
-pub made_move : (v w : code_value.Value) → action_of (done.Move v w) ≡ values.move_to (value_of v) (value_of w)
+pub made_move : (v w : Box code_value.Value) → action_of (done.Move v w)
+    ≡ values.move_to (boxed_value v) (boxed_value w)
 made_move v w = ap action_of (sym (done.rolls-Move v w)) ∙ fold-roll-Action Action action_layer _
 
 pub made_remove : (v : code_value.Value) → action_of (done.Remove v) ≡ values.remove_from (value_of v)
@@ -38,9 +39,6 @@ made_return_value v = ap action_of (sym (done.rolls-ReturnValue v)) ∙ fold-rol
 
 pub made_effect : (v : code_value.Value) → action_of (done.Effect v) ≡ values.effect (value_of v)
 made_effect v = ap action_of (sym (done.rolls-Effect v)) ∙ fold-roll-Action Action action_layer _
-
-pub made_empty : action_of done.Empty ≡ values.empty
-made_empty = ap action_of (sym done.rolls-Empty) ∙ fold-roll-Action Action action_layer _
 
 pub made_text : (s : Bor (List ℕ)) → action_of (done.Text s) ≡ values.text_alone s.now
 made_text s = ap action_of (sym (done.rolls-Text s)) ∙ fold-roll-Action Action action_layer _

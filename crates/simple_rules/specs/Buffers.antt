@@ -1,6 +1,6 @@
 -- The two arrays of a `read`: the rules that their names can break.
 use Rattle.std.specs.Prelude.{◌==◌, ℕ, Bool, true, false, if◌then◌else◌, List, [], ◌++◌, Option, Some, None}
-use Rattle.lexer.specs.declared.fault.TheConstants.{UNKNOWN_NAME, WRONG_KIND}
+use Rattle.names.specs.Numbers.{unknown_name, wrong_kind}
 use Rattle.lexer.specs.declared.token.Position.{Position}
 use Rattle.expression_trees.specs.Tree.{NameTree}
 use Rattle.directives.specs.declared.tree.ArrayKind.{ArrayKind}
@@ -18,15 +18,15 @@ is_of_bytes kinds.Table = false
 
 -- E20 where a name is unknown, E23 where it is no array of bytes
 abbrev pub buffer_breaches : Position → Option Binding → List Breach
-buffer_breaches p None = at p UNKNOWN_NAME
-buffer_breaches p (Some (bindings.Constant n)) = at p WRONG_KIND
-buffer_breaches p (Some (bindings.Global g)) = at p WRONG_KIND
-buffer_breaches p (Some (bindings.Array a kind)) = if is_of_bytes kind then [] else at p WRONG_KIND
-buffer_breaches p (Some (bindings.Routine r locals)) = at p WRONG_KIND
-buffer_breaches p (Some (bindings.Attribute a)) = at p WRONG_KIND
-buffer_breaches p (Some (bindings.Property n)) = at p WRONG_KIND
-buffer_breaches p (Some (bindings.Object o)) = at p WRONG_KIND
-buffer_breaches p (Some (bindings.Local l)) = at p WRONG_KIND
+buffer_breaches p None = at p unknown_name
+buffer_breaches p (Some (bindings.Constant n)) = at p wrong_kind
+buffer_breaches p (Some (bindings.Global g)) = at p wrong_kind
+buffer_breaches p (Some (bindings.Array a kind)) = if is_of_bytes kind then [] else at p wrong_kind
+buffer_breaches p (Some (bindings.Routine r locals)) = at p wrong_kind
+buffer_breaches p (Some (bindings.Attribute a)) = at p wrong_kind
+buffer_breaches p (Some (bindings.Property n)) = at p wrong_kind
+buffer_breaches p (Some (bindings.Object o)) = at p wrong_kind
+buffer_breaches p (Some (bindings.Local l)) = at p wrong_kind
 
 -- a name stands for the array of a number
 abbrev pub is_array : ℕ → Option Binding → Bool
@@ -45,7 +45,7 @@ abbrev pub same_breaches : Position → Option Binding → Option Binding → Li
 same_breaches p None second = []
 same_breaches p (Some (bindings.Constant n)) second = []
 same_breaches p (Some (bindings.Global g)) second = []
-same_breaches p (Some (bindings.Array a kind)) second = if is_array a second then at p WRONG_KIND else []
+same_breaches p (Some (bindings.Array a kind)) second = if is_array a second then at p wrong_kind else []
 same_breaches p (Some (bindings.Routine r locals)) second = []
 same_breaches p (Some (bindings.Attribute a)) second = []
 same_breaches p (Some (bindings.Property n)) second = []

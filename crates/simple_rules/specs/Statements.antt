@@ -2,7 +2,7 @@
 use Rattle.std.specs.Prelude.{ℕ, nat_lt, Bool, if◌then◌else◌, List, [], ◌∷◌, ◌++◌, map, Option, Some, None}
 use Rattle.std.specs.List.{flat_map}
 use Rattle.std.specs.Option.{option_map}
-use Rattle.lexer.specs.declared.fault.TheConstants.{BREAK_OUTSIDE, EXPRESSION_TOO_LARGE, UNKNOWN_NAME, WRONG_KIND}
+use Rattle.names.specs.Numbers.{break_outside, expression_too_large, unknown_name, wrong_kind}
 use Rattle.lexer.specs.declared.token.Position.{Position}
 use Rattle.expression_trees.specs.Tree.{NameTree, ExpressionTree}
 use Rattle.statement_parts.specs.Tree as parts
@@ -49,23 +49,23 @@ move_need a b = operands 0 (need a ∷ need b ∷ [])
 
 -- what begins at p needs so many temporaries: E29 where they are more than 48
 abbrev pub room_breaches : Position → ℕ → List Breach
-room_breaches p n = if nat_lt 48 n then at p EXPRESSION_TOO_LARGE else []
+room_breaches p n = if nat_lt 48 n then at p expression_too_large else []
 
 -- the variable of an `objectloop`: E20 where it is unknown, E23 where it is no variable
 abbrev pub loop_breaches : Position → Option Binding → List Breach
-loop_breaches p None = at p UNKNOWN_NAME
-loop_breaches p (Some (bindings.Constant n)) = at p WRONG_KIND
+loop_breaches p None = at p unknown_name
+loop_breaches p (Some (bindings.Constant n)) = at p wrong_kind
 loop_breaches p (Some (bindings.Global g)) = []
-loop_breaches p (Some (bindings.Array a kind)) = at p WRONG_KIND
-loop_breaches p (Some (bindings.Routine r locals)) = at p WRONG_KIND
-loop_breaches p (Some (bindings.Attribute a)) = at p WRONG_KIND
-loop_breaches p (Some (bindings.Property n)) = at p WRONG_KIND
-loop_breaches p (Some (bindings.Object o)) = at p WRONG_KIND
+loop_breaches p (Some (bindings.Array a kind)) = at p wrong_kind
+loop_breaches p (Some (bindings.Routine r locals)) = at p wrong_kind
+loop_breaches p (Some (bindings.Attribute a)) = at p wrong_kind
+loop_breaches p (Some (bindings.Property n)) = at p wrong_kind
+loop_breaches p (Some (bindings.Object o)) = at p wrong_kind
 loop_breaches p (Some (bindings.Local l)) = []
 
 -- `break` or `continue` where it may not stand
 abbrev pub outside_breaches : Bool → Position → List Breach
-outside_breaches stands p = if stands then [] else at p BREAK_OUTSIDE
+outside_breaches stands p = if stands then [] else at p break_outside
 
 -- `look` tells what a name stands for
 module _ (look : List ℕ → Option Binding) where

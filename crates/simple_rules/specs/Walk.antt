@@ -1,5 +1,6 @@
 -- Words of proofs: what a walk over a statement or a part of one finds, and what it notes.
 use Rattle.std.specs.Prelude.{ℕ, Bool, List, ◌++◌, Option, Some, None, map, Result, IfOk, true, ◌-◌, nat_le}
+use Rattle.std.specs.Global.{Box}
 use Rattle.std.specs.List.{flat_map}
 use Rattle.std.specs.Option.{option_map}
 use Rattle.lexer.specs.declared.token.Position.{Position}
@@ -12,7 +13,7 @@ use Rattle.statements.specs.Tree.{StatementTree}
 use Rattle.meaning.specs.declared.around.Around.{Around}
 use Rattle.meaning.specs.declared.resolved.Value as code_value
 use Rattle.meaning.specs.declared.resolved.Action as code_action
-use Rattle.meaning.specs.Resolved.{Value, RangeOf, Printed, Action, value_of, action_of}
+use Rattle.meaning.specs.Resolved.{Value, RangeOf, Printed, Action, boxed_value, action_of}
 use Rattle.names.specs.declared.breach.Breach.{Breach}
 use Rattle.names.specs.Names.{Seen}
 use Rattle.value_rules.specs.Expressions.{resolve}
@@ -22,9 +23,9 @@ use Rattle.simple_rules.specs.Statements.{whole_breaches, part_breaches, heading
 use Rattle.simple_rules.specs.Statements.{resolve_range, flag_breaches, resolve_flag, item_breaches, resolve_item}
 use Rattle.simple_rules.specs.Statements.{statement_breaches, resolve_statement}
 
-abbrev pub parts_of : Option code_value.Value × Option code_value.Value × Option code_value.Value
+abbrev pub parts_of : Option (Box code_value.Value) × Option (Box code_value.Value) × Option (Box code_value.Value)
     → Option Value × Option Value × Option Value
-parts_of x = (option_map value_of x.0, option_map value_of x.1, option_map value_of x.2)
+parts_of x = (option_map boxed_value x.0, option_map boxed_value x.1, option_map boxed_value x.2)
 
 -- a part of a `for` that is there needs at most so many, and leaves one less to those behind it
 abbrev pub part_fits : Option ExpressionTree → ℕ → Bool

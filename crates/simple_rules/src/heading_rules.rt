@@ -3,7 +3,7 @@
 ghost use Rattle.std.specs.Prelude.{◌≡◌, ◌&&◌, IfOk, nat_le};
 ghost use Rattle.std.specs.Option.{option_map};
 ghost use Rattle.statement_parts.specs.Tree.{part_tree, heading_tree};
-ghost use Rattle.meaning.specs.Resolved.{value_of};
+ghost use Rattle.meaning.specs.Resolved.{boxed_value};
 ghost use Rattle.names.specs.Noted.{noted};
 ghost use Rattle.names.specs.Scope.{seen_in};
 ghost use Rattle.simple_rules.specs.Statements as spec;
@@ -16,7 +16,7 @@ use meaning::Value;
 use names::{Breach, Scope, note};
 use statement_parts::Heading;
 use std::alloc::{AllocError, Global};
-use value_rules::{expression, fits};
+use value_rules::{boxed, fits};
 
 // Whether a part needs at most so many temporaries.
 fn fits_in(part: &Option<Box<Expression<'_>>>, room: u8) -> bool
@@ -72,14 +72,14 @@ fn part(
     alloc: Global,
     scope: &Scope<'_>,
     least: &mut Option<Breach>,
-) -> Result<Option<Value>, AllocError>
+) -> Result<Option<Box<Value>>, AllocError>
     ensures { IfOk result (λ v. IsPart (seen_in scope.now) (part_tree given.now)
-        least.old least.new (option_map value_of v)) }
+        least.old least.new (option_map boxed_value v)) }
 {
     match given {
         None => Ok(None),
         Some(e) => {
-            let Ok(value) = expression(e, alloc, scope, least) else {
+            let Ok(value) = boxed(e, alloc, scope, least) else {
                 return Err(AllocError);
             };
             Ok(Some(value))
@@ -92,7 +92,7 @@ fn parts(
     alloc: Global,
     scope: &Scope<'_>,
     least: &mut Option<Breach>,
-) -> Result<(Option<Value>, Option<Value>, Option<Value>), AllocError>
+) -> Result<(Option<Box<Value>>, Option<Box<Value>>, Option<Box<Value>>), AllocError>
     ensures { IfOk result (λ x. AreParts (seen_in scope.now) (heading_tree given.now)
         least.old least.new (parts_of x)) }
 {
@@ -122,7 +122,7 @@ pub fn heading(
     scope: &Scope<'_>,
     position: Position,
     least: &mut Option<Breach>,
-) -> Result<(Option<Value>, Option<Value>, Option<Value>), AllocError>
+) -> Result<(Option<Box<Value>>, Option<Box<Value>>, Option<Box<Value>>), AllocError>
     ensures { IfOk result (λ x. IsHeading (seen_in scope.now) position (heading_tree given.now)
         least.old least.new (parts_of x)) }
 {

@@ -10,4 +10,4 @@ mod simple_rules;
 pub use case_rules::ranges;
 pub use heading_rules::heading;
 pub use loop_rules::loop_variable;
-pub use simple_rules::{simple, whole};
+pub use simple_rules::{boxed_whole, simple, whole};

@@ -5,7 +5,7 @@ ghost use Rattle.expression_trees.specs.Tree.{expression_tree};
 ghost use Rattle.statement_parts.specs.Tree.{flag_tree, item_tree};
 ghost use Rattle.statements.specs.Tree as trees;
 ghost use Rattle.statements.specs.Tree.{simple_tree};
-ghost use Rattle.meaning.specs.Resolved.{value_of, printed_of};
+ghost use Rattle.meaning.specs.Resolved.{value_of, boxed_value, printed_of};
 ghost use Rattle.names.specs.Noted.{noted};
 ghost use Rattle.names.specs.Scope.{seen_in};
 ghost use Rattle.value_rules.specs.Temporaries.{need};
@@ -20,7 +20,7 @@ use names::{Breach, Scope, note};
 use statement_parts::PrintItem;
 use statements::SimpleStatement;
 use std::alloc::{AllocError, Global};
-use value_rules::{attribute, both_fit, expression, fits};
+use value_rules::{attribute, both_fit, boxed, expression, fits};
 
 #[tactic(auto, using(names::proofs::Noted::noted_none, value_rules::proofs::Needs::fits_not))]
 fn temporaries(e: &Expression<'_>, position: Position, least: &mut Option<Breach>)
@@ -49,6 +49,25 @@ pub fn whole(
 {
     temporaries(e, position, least);
     expression(e, alloc, scope, least)
+}
+
+/// The same, in a box.
+///
+/// # Errors
+///
+/// `AllocError` where memory is refused.
+pub fn boxed_whole(
+    e: &Expression<'_>,
+    alloc: Global,
+    scope: &Scope<'_>,
+    position: Position,
+    least: &mut Option<Breach>,
+) -> Result<Box<Value>, AllocError>
+    ensures { IfOk result (λ v. IsWhole (seen_in scope.now) position (expression_tree e.now)
+        least.old least.new (boxed_value v)) }
+{
+    temporaries(e, position, least);
+    boxed(e, alloc, scope, least)
 }
 
 #[tactic(auto, using(names::proofs::Noted::noted_none))]
@@ -240,11 +259,10 @@ fn move_to<'a>(
         (trees.move position (expression_tree object.now) (expression_tree parent.now)) }
 {
     move_temporaries(object, parent, position, least);
-    let Ok(object) = expression(object, alloc, scope, least) else {
+    let Ok(object) = boxed(object, alloc, scope, least) else {
         return Err(AllocError);
     };
-    let Ok(parent) = expression(parent, alloc, scope, least) else {
-        drop(object);
+    let Ok(parent) = boxed(parent, alloc, scope, least) else {
         return Err(AllocError);
     };
     Ok(Action::Move(object, parent))
@@ -292,7 +310,6 @@ pub fn simple<'a>(
         (simple_tree s.now) }
 {
     match s {
-        SimpleStatement::Empty => Ok(Action::Empty),
         SimpleStatement::Text(text) => Ok(Action::Text(text)),
         SimpleStatement::Print(all) => print(all, alloc, scope, least),
         SimpleStatement::PrintReturn(all) => print_return(all, alloc, scope, least),

@@ -131,7 +131,8 @@ pub fn ranges<'t, 'a>(parser: &mut Parser<'t, 'a>) -> Result<Vec<Range<'a>>, Par
     ensures { Takes (λ xs. map range_tree xs.items) result parser.new
         (spec.ranges (ahead parser.old)) }
 {
-    let mut found = Vec::new(parser.alloc);
+    // Most cases have one range. A first `push` would ask for several places.
+    let mut found = Vec::with_capacity(parser.alloc, 1)?;
     let first = range(parser)?;
     found.push(first)?;
     for _turn in 0..parser.tokens.len() {

@@ -70,9 +70,8 @@ module _ (d : ℕ) where
     if has_effect x.0 then ended (effect (position_of (head ts)) x.0) x.1
         else Err Grammar
 
-  -- a statement that no other stands in
+  -- a statement that no other stands in, but for `;` alone
   abbrev pub plain_on : Lexeme → List Lexeme → Result (StatementTree × List Lexeme) Fault
-  plain_on (sign s.Semicolon p) ts = Ok (empty, tail ts)
   plain_on (text bytes p) ts = ended (text_alone bytes) (tail ts)
   plain_on (reserved w.Print p) ts = printed print (tail ts)
   plain_on (reserved w.PrintRet p) ts = printed print_return (tail ts)
@@ -167,6 +166,7 @@ module _ (d : ℕ) where
   -- over all of these
   module _ (inside : Parse StatementTree) (braces bodies : Parse (List StatementTree)) where
     abbrev pub statement_on : Lexeme → List Lexeme → Result (StatementTree × List Lexeme) Fault
+    statement_on (sign s.Semicolon p) ts = Ok (empty, tail ts)
     statement_on (sign s.OpenBrace p) ts = braced braces (tail ts)
     statement_on (reserved w.If p) ts = choice inside p (tail ts)
     statement_on (reserved w.While p) ts = repetition inside p (tail ts)

@@ -71,7 +71,6 @@ abbrev pub CaseTree : Type 0
 CaseTree = List RangeTree × StatementTrees
 
 abbrev pub simple_tree : SimpleStatement → StatementTree
-simple_tree simple.Empty = empty
 simple_tree (simple.Text s) = text_alone s.now
 simple_tree (simple.Print items) = print (map item_tree items.items)
 simple_tree (simple.PrintReturn items) = print_return (map item_tree items.items)
@@ -100,6 +99,7 @@ cases_of [] (Some xs) = default_case (trees_of xs)
 cases_of (c ∷ cs) other = case c.0 c.1 (cases_of cs other)
 
 abbrev pub layer : Statement-F StatementTree → StatementTree
+layer Statement-F.Empty = empty
 layer (Statement-F.Simple s) = simple_tree s.value
 layer (Statement-F.Block xs) = block (trees_of xs.items)
 layer (Statement-F.If p c x) = if_then p (expression_tree c.value) x.value

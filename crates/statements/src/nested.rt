@@ -433,6 +433,7 @@ fn statement<'t, 'a>(
         Kind::Reserved(Word::For) => iteration(parser, depth, first.position),
         Kind::Reserved(Word::Objectloop) => traversal(parser, depth, first.position),
         Kind::Reserved(Word::Switch) => selection(parser, depth, first.position),
+        Kind::Sign(Sign::Semicolon) => parts::empty(parser),
         Kind::Sign(Sign::OpenBrace) => {
             parser.tokens = opening;
             block(parser, depth)

@@ -34,7 +34,14 @@ pub fn in_box<'t, 'a>(
     }
 }
 
-/// A statement in which no other stands.
+/// `;` alone, which is read already.
+pub fn empty<'t, 'a>(parser: &Parser<'t, 'a>) -> Result<Box<Statement<'a>>, ParseError>
+    ensures { TakesStatement result parser.now (Ok (tree.empty, ahead parser.now)) }
+{
+    in_box(parser, Statement::Empty)
+}
+
+/// A statement in which no other stands, and which is not `;` alone.
 ///
 /// # Errors
 ///
@@ -61,6 +68,10 @@ pub fn add<'a>(
         ≡ statements.old.items ++ next.entry.value ∷ []) }
     ensures err { IfErr result (λ e. e ≡ ParseError.Memory) }
 {
+    // Most rows inside a statement are of one. A first `push` would ask for several places.
+    if statements.is_empty() {
+        statements.reserve_exact(1)?;
+    }
     statements.push(Box::into_inner(next))?;
     Ok(())
 }

@@ -208,7 +208,7 @@ fn alone<'t, 'a>(
     }
 }
 
-/// A statement in which no other stands.
+/// A statement in which no other stands, and which is not `;` alone.
 ///
 /// # Errors
 ///
@@ -224,7 +224,6 @@ pub fn simple<'t, 'a>(
     let first = peek(opening);
     pass(parser);
     match first.kind {
-        Kind::Sign(Sign::Semicolon) => in_box(parser, SimpleStatement::Empty),
         Kind::Text(bytes) => ended(parser, SimpleStatement::Text(bytes)),
         Kind::Reserved(Word::Print) => print(parser, depth),
         Kind::Reserved(Word::PrintRet) => print_return(parser, depth),

@@ -4,13 +4,10 @@ use expression_trees::{Expression, Name};
 use lexer::Position;
 use statement_parts::{Heading, Loop, PrintItem, Range};
 
-/// A statement in which no other stands. Where it has expressions, and for `break` and `continue`, the position of its first
-/// token stands with it.
+/// A statement in which no other stands, and which is not `;` alone. Where it has expressions, and for `break` and
+/// `continue`, the position of its first token stands with it.
 #[derive(Drop)]
 pub enum SimpleStatement<'a> {
-    /// `;` alone.
-    Empty,
-
     /// A text alone: it is printed with a new line, and the routine returns true.
     Text(&'a [u8]),
 
@@ -46,6 +43,10 @@ pub enum SimpleStatement<'a> {
 /// stands are a type of their own, since a function that has a statement in hand is proved for each of its kinds.
 #[derive(Drop)]
 pub enum Statement<'a> {
+    /// `;` alone. It has no box: so one byte of a source asks for no memory but its place in a row.
+    Empty,
+
+    /// Any other in which no other stands.
     Simple(Box<SimpleStatement<'a>>),
     Block(Vec<Statement<'a>>),
     If(Position, Box<Expression<'a>>, Box<Statement<'a>>),

@@ -6,8 +6,7 @@ use Rattle.zcore.specs.declared.header.Header.{Header}
 use Rattle.zcore.specs.Header.{Reads, dictionary_of}
 use Rattle.zcore.specs.Dictionary.{entry_of}
 use Rattle.lexer.specs.declared.fault.SourceFault.{SourceFault}
-use Rattle.lexer.specs.declared.fault.TheConstants.{NESTED_TOO_DEEP, NOT_IN_GRAMMAR, TABLES_TOO_LARGE, STORY_TOO_LARGE}
-use Rattle.lexer.specs.declared.fault.TheConstants.{ROUTINE_TOO_LARGE}
+use Rattle.names.specs.Numbers as rule_numbers
 use Rattle.lexer.specs.Results as faults
 use Rattle.lexer.specs.declared.token.Position.{Position}
 use Rattle.lexer.specs.Token.{Lexeme}
@@ -57,13 +56,13 @@ first_heavy (r ∷ rs) = if nat_lt greatest_routine_weight r.weight then Some r.
 
 abbrev pub heavy_fault : Option Position → Option SourceFault
 heavy_fault None = None
-heavy_fault (Some p) = Some (fault ROUTINE_TOO_LARGE p.line)
+heavy_fault (Some p) = Some (fault rule_numbers.routine_too_large p.line)
 
 -- E30 where the parts below the routines are too large, else E31 where the source is, else E32 where a routine is
 abbrev pub size_fault : Version → ProgramTree → Option SourceFault
 size_fault version p =
-    if nat_lt greatest_word (routines_place (resolve_program p)) then Some (fault TABLES_TOO_LARGE 0)
-    else (if nat_lt (greatest_weight version) p.weight then Some (fault STORY_TOO_LARGE 0)
+    if nat_lt greatest_word (routines_place (resolve_program p)) then Some (fault rule_numbers.tables_too_large 0)
+    else (if nat_lt (greatest_weight version) p.weight then Some (fault rule_numbers.story_too_large 0)
     else heavy_fault (first_heavy (routine_trees p.directives)))
 
 -- Stories and refusals
@@ -92,11 +91,11 @@ pub data Refuses (version : Version) (source : List ℕ) (f : SourceFault) : Typ
   in_tokens : Lexes 0 1 source (Err f) → Refuses version source f
   not_in_grammar : (tokens : List SourceToken) → Lexes 0 1 source (Ok tokens)
       → ((p : ProgramTree) → IsProgram (lexemes_of tokens) p → ⊥)
-      → f.number ≡ NOT_IN_GRAMMAR → Refuses version source f
+      → f.number ≡ rule_numbers.not_in_grammar → Refuses version source f
   too_deep : (tokens : List SourceToken) → Lexes 0 1 source (Ok tokens)
       → DeepProgram (greatest_nesting + 1) (lexemes_of tokens)
       → ((p : ProgramTree) → IsProgram (lexemes_of tokens) p → greatest_nesting < program_nesting p)
-      → f.number ≡ NESTED_TOO_DEEP → Refuses version source f
+      → f.number ≡ rule_numbers.nested_too_deep → Refuses version source f
   rule_broken : (p : ProgramTree) → IsTreeOf source p → (b : Breach) → IsAmong b (program_breaches p)
       → IsFirst b (program_breaches p)
       → f.number ≡ b.number → f.line ≡ b.position.line → Refuses version source f

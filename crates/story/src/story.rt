@@ -91,6 +91,8 @@ pub fn compile_for(alloc: Global, source: &[u8], version: Version) -> Result<Sto
     code_plays();
     let tokens = lex(alloc, source)?;
     let program = parse(alloc, &tokens)?;
+    // Tokens take more memory than the tree, which names none of them.
+    drop(tokens);
     let checked = check(alloc, program)?;
     test_sizes(&checked, version)?;
     let bytes = write_story(alloc, &checked, version)?;

@@ -26,7 +26,7 @@ use Rattle.value_rules.specs.Expressions.{routine_of_binding, value_of_binding, 
 use Rattle.value_rules.specs.Expressions.{target_breaches, assigned_breaches, assigned}
 use Rattle.value_rules.specs.Walk.{own_breaches, resolved, link_breaches, resolved_link, IsWalked, IsResolved}
 use Rattle.value_rules.specs.Walk.{AreResolved, IsAssigned, AreLinks, own_property_breaches, resolved_property}
-use Rattle.value_rules.specs.Walk.{properties_of, AreProperties}
+use Rattle.value_rules.specs.Walk.{AreProperties}
 use Rattle.value_rules.proofs.Walks.{two}
 
 pub count_all : (es : List Expression) → count (trees_of (map expression_tree es)) ≡ length es
@@ -45,7 +45,14 @@ pub chain_assigned : (op : Binary) (a b : Value) (ls : List (Binary × Value)) (
 chain_assigned op a b [] v = refl
 chain_assigned op a b (l ∷ ls) v = chain_assigned l.0 (values.binary op a b) l.1 ls v
 
--- and is no place
+-- an assignment to properties, one behind another, is one to the last of them
+pub last_assigned : (v : Value) (n : ℕ) (ns : List ℕ) (p : ℕ) (w : Value)
+    → assigned (values.propertied (values.property v n) (ns ++ p ∷ [])) w
+    ≡ values.assign_property (values.propertied (values.property v n) ns) p w
+last_assigned v n [] p w = refl
+last_assigned v n (m ∷ ns) p w = last_assigned (values.property v n) m ns p w
+
+-- a chain is no place
 pub chain_place : (op : Binary) (a b : ExpressionTree) (ls : List (Binary × ExpressionTree))
     → is_place (chained (trees.binary op a b) ls) ≡ false
 chain_place op a b [] = refl
@@ -126,7 +133,7 @@ module _ (seen : Seen) where
       (flat_map (own_property_breaches seen) ns))
 
   properties_resolve : (e : ExpressionTree) (ns : List Name)
-      → resolve seen (propertied e ns) ≡ properties_of (resolve seen e) (map (resolved_property seen) ns)
+      → resolve seen (propertied e ns) ≡ values.propertied (resolve seen e) (map (resolved_property seen) ns)
   properties_resolve e [] = refl
   properties_resolve e (n ∷ ns) = properties_resolve (trees.property e (name_tree n)) ns
 
@@ -151,17 +158,15 @@ module _ (seen : Seen) where
         ∙ sym (chain_break m e ls);
   }
 
-  pub properties_walked : {E : Type 0} (e : ExpressionTree) (ns : List Name) (v : Value)
-      (r : Result code_value.Value E) (o : Option Breach) {m n : Option Breach} → IsResolved seen e m n v
-      → IfOk r (λ w. AreProperties seen ns v n o (value_of w))
-      → IfOk r (λ w. IsResolved seen (propertied e ns) m o (value_of w))
-  properties_walked e ns v (Ok w) o {m = m} x y = record {
-    value = y.value ∙ ap (λ a. properties_of a (map (resolved_property seen) ns)) x.value
+  pub properties_walked : (e : ExpressionTree) (ns : List Name) (v : Value) (numbers : List ℕ)
+      {m n o : Option Breach} → IsResolved seen e m n v → AreProperties seen ns n o numbers
+      → IsResolved seen (propertied e ns) m o (values.propertied v numbers)
+  properties_walked e ns v numbers {m = m} w z = record {
+    value = ap (λ a. values.propertied a numbers) w.value ∙ ap (λ l. values.propertied (resolve seen e) l) z.value
         ∙ sym (properties_resolve e ns);
-    breaches = y.breaches ∙ ap (λ q. noted q (flat_map (own_property_breaches seen) ns)) x.breaches
+    breaches = z.breaches ∙ ap (λ q. noted q (flat_map (own_property_breaches seen) ns)) w.breaches
         ∙ sym (properties_break m e ns);
   }
-  properties_walked e ns v (Err fault) o x y = tt
 
   pub call_walked : (name : NameTree) (number given : ℕ) (found : Option Binding) (es : List Expression)
       (vs : List Value) {m o p : Option Breach}

@@ -41,6 +41,12 @@ named_part f rules found there x {m = m} same v b = record {
   breaches = b ∙ ap (λ y. noted m (rules y)) same;
 }
 
+-- a value that was made of a part, where memory was not refused
+pub made_walked : {E : Type 0} {bs : List Breach} {m n : Option Breach} {x y : Value} (r : Result code_value.Value E)
+    → IfOk r (λ v. value_of v ≡ x) → IsWalked bs m n x y → IfOk r (λ v. IsWalked bs m n (value_of v) y)
+made_walked (Ok v) h w = record { value = h ∙ w.value; breaches = w.breaches }
+made_walked (Err e) h w = tt
+
 -- one part
 pub one : {A B : Type 0} (f : A → B) {bs : List Breach} {m n : Option Breach} {x y : A} → IsWalked bs m n x y
     → IsWalked bs m n (f x) (f y)
@@ -133,9 +139,9 @@ pub made_provides : (v : Box code_value.Value) (n : ℕ)
     → value_of (made.Provides v n) ≡ values.provides (value_of v.value) n
 made_provides v n = ap value_of (sym (made.rolls-Provides v n)) ∙ fold-roll-Value Value value_layer _
 
-pub made_property : (v : Box code_value.Value) (n : ℕ)
-    → value_of (made.Property v n) ≡ values.property (value_of v.value) n
-made_property v n = ap value_of (sym (made.rolls-Property v n)) ∙ fold-roll-Value Value value_layer _
+pub made_property : (v : Box code_value.Value) (n : ℕ) (ns : Vec ℕ)
+    → value_of (made.Property v n ns) ≡ values.propertied (values.property (value_of v.value) n) ns.items
+made_property v n ns = ap value_of (sym (made.rolls-Property v n ns)) ∙ fold-roll-Value Value value_layer _
 
 pub made_property_size : (v : Box code_value.Value) (n : ℕ)
     → value_of (made.PropertySize v n) ≡ values.property_size (value_of v.value) n

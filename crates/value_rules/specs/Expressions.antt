@@ -1,7 +1,7 @@
 -- The rules that an expression can break, and what it resolves to.
 use Rattle.std.specs.Prelude.{◌+◌, ◌%◌, ℕ, nat_lt, Bool, true, false, if◌then◌else◌, List, [], ◌++◌, Option, Some, None}
-use Rattle.lexer.specs.declared.fault.TheConstants.{NOT_ASSIGNABLE, TOO_MANY, TOO_MANY_ARGUMENTS, UNKNOWN_NAME}
-use Rattle.lexer.specs.declared.fault.TheConstants.{WRONG_KIND}
+use Rattle.names.specs.Numbers.{not_assignable, too_many, too_many_arguments, unknown_name}
+use Rattle.names.specs.Numbers.{wrong_kind}
 use Rattle.lexer.specs.declared.token.Position.{Position}
 use Rattle.expression_trees.specs.declared.tree.ObjectTest.{ObjectTest}
 use Rattle.expression_trees.specs.declared.tree.ObjectTest.TheVariants as tests
@@ -17,73 +17,73 @@ use Rattle.names.specs.declared.binding.Binding.{Binding}
 use Rattle.names.specs.declared.binding.Binding.TheVariants as bindings
 use Rattle.names.specs.declared.breach.Breach.{Breach}
 use Rattle.names.specs.Breaches.{at}
-use Rattle.names.specs.Keys.{key_of_word, value_of_known}
+use Rattle.names.specs.Keys.{key_of_word, value_of_known, or_zero}
 use Rattle.names.specs.Names.{name_of, is_place, Seen}
 
 -- a name as a value: E20 where it is unknown, E23 where it is an array, a routine, an attribute or a property
 abbrev pub value_breaches : Position → Option Binding → List Breach
-value_breaches p None = at p UNKNOWN_NAME
+value_breaches p None = at p unknown_name
 value_breaches p (Some (bindings.Constant n)) = []
 value_breaches p (Some (bindings.Global g)) = []
-value_breaches p (Some (bindings.Array a kind)) = at p WRONG_KIND
-value_breaches p (Some (bindings.Routine r locals)) = at p WRONG_KIND
-value_breaches p (Some (bindings.Attribute a)) = at p WRONG_KIND
-value_breaches p (Some (bindings.Property n)) = at p WRONG_KIND
+value_breaches p (Some (bindings.Array a kind)) = at p wrong_kind
+value_breaches p (Some (bindings.Routine r locals)) = at p wrong_kind
+value_breaches p (Some (bindings.Attribute a)) = at p wrong_kind
+value_breaches p (Some (bindings.Property n)) = at p wrong_kind
 value_breaches p (Some (bindings.Object o)) = []
 value_breaches p (Some (bindings.Local l)) = []
 
 -- more than seven arguments are E24; more than the routine has locals are E25
 abbrev pub argument_breaches : Position → ℕ → ℕ → List Breach
-argument_breaches p given locals = (if nat_lt 7 given then at p TOO_MANY else [])
-    ++ (if nat_lt locals given then at p TOO_MANY_ARGUMENTS else [])
+argument_breaches p given locals = (if nat_lt 7 given then at p too_many else [])
+    ++ (if nat_lt locals given then at p too_many_arguments else [])
 
 -- a name that is called: E20 where it is unknown, E23 where it is no routine
 abbrev pub call_breaches : Position → ℕ → Option Binding → List Breach
-call_breaches p given None = at p UNKNOWN_NAME
-call_breaches p given (Some (bindings.Constant n)) = at p WRONG_KIND
-call_breaches p given (Some (bindings.Global g)) = at p WRONG_KIND
-call_breaches p given (Some (bindings.Array a kind)) = at p WRONG_KIND
+call_breaches p given None = at p unknown_name
+call_breaches p given (Some (bindings.Constant n)) = at p wrong_kind
+call_breaches p given (Some (bindings.Global g)) = at p wrong_kind
+call_breaches p given (Some (bindings.Array a kind)) = at p wrong_kind
 call_breaches p given (Some (bindings.Routine r locals)) = argument_breaches p given locals
-call_breaches p given (Some (bindings.Attribute a)) = at p WRONG_KIND
-call_breaches p given (Some (bindings.Property n)) = at p WRONG_KIND
-call_breaches p given (Some (bindings.Object o)) = at p WRONG_KIND
-call_breaches p given (Some (bindings.Local l)) = at p WRONG_KIND
+call_breaches p given (Some (bindings.Attribute a)) = at p wrong_kind
+call_breaches p given (Some (bindings.Property n)) = at p wrong_kind
+call_breaches p given (Some (bindings.Object o)) = at p wrong_kind
+call_breaches p given (Some (bindings.Local l)) = at p wrong_kind
 
 -- a name before `->` or `-->`: E20 where it is unknown, E23 where it is no array
 abbrev pub array_name_breaches : Position → Option Binding → List Breach
-array_name_breaches p None = at p UNKNOWN_NAME
-array_name_breaches p (Some (bindings.Constant n)) = at p WRONG_KIND
-array_name_breaches p (Some (bindings.Global g)) = at p WRONG_KIND
+array_name_breaches p None = at p unknown_name
+array_name_breaches p (Some (bindings.Constant n)) = at p wrong_kind
+array_name_breaches p (Some (bindings.Global g)) = at p wrong_kind
 array_name_breaches p (Some (bindings.Array a kind)) = []
-array_name_breaches p (Some (bindings.Routine r locals)) = at p WRONG_KIND
-array_name_breaches p (Some (bindings.Attribute a)) = at p WRONG_KIND
-array_name_breaches p (Some (bindings.Property n)) = at p WRONG_KIND
-array_name_breaches p (Some (bindings.Object o)) = at p WRONG_KIND
-array_name_breaches p (Some (bindings.Local l)) = at p WRONG_KIND
+array_name_breaches p (Some (bindings.Routine r locals)) = at p wrong_kind
+array_name_breaches p (Some (bindings.Attribute a)) = at p wrong_kind
+array_name_breaches p (Some (bindings.Property n)) = at p wrong_kind
+array_name_breaches p (Some (bindings.Object o)) = at p wrong_kind
+array_name_breaches p (Some (bindings.Local l)) = at p wrong_kind
 
 -- a name after `has` or `hasnt`, and in a `give`: E20 where it is unknown, E23 where it is no attribute
 abbrev pub attribute_breaches : Position → Option Binding → List Breach
-attribute_breaches p None = at p UNKNOWN_NAME
-attribute_breaches p (Some (bindings.Constant n)) = at p WRONG_KIND
-attribute_breaches p (Some (bindings.Global g)) = at p WRONG_KIND
-attribute_breaches p (Some (bindings.Array a kind)) = at p WRONG_KIND
-attribute_breaches p (Some (bindings.Routine r locals)) = at p WRONG_KIND
+attribute_breaches p None = at p unknown_name
+attribute_breaches p (Some (bindings.Constant n)) = at p wrong_kind
+attribute_breaches p (Some (bindings.Global g)) = at p wrong_kind
+attribute_breaches p (Some (bindings.Array a kind)) = at p wrong_kind
+attribute_breaches p (Some (bindings.Routine r locals)) = at p wrong_kind
 attribute_breaches p (Some (bindings.Attribute a)) = []
-attribute_breaches p (Some (bindings.Property n)) = at p WRONG_KIND
-attribute_breaches p (Some (bindings.Object o)) = at p WRONG_KIND
-attribute_breaches p (Some (bindings.Local l)) = at p WRONG_KIND
+attribute_breaches p (Some (bindings.Property n)) = at p wrong_kind
+attribute_breaches p (Some (bindings.Object o)) = at p wrong_kind
+attribute_breaches p (Some (bindings.Local l)) = at p wrong_kind
 
 -- a name after `.`, `.#`, `.&` or `provides`: E20 where it is unknown, E23 where it is no property
 abbrev pub property_breaches : Position → Option Binding → List Breach
-property_breaches p None = at p UNKNOWN_NAME
-property_breaches p (Some (bindings.Constant n)) = at p WRONG_KIND
-property_breaches p (Some (bindings.Global g)) = at p WRONG_KIND
-property_breaches p (Some (bindings.Array a kind)) = at p WRONG_KIND
-property_breaches p (Some (bindings.Routine r locals)) = at p WRONG_KIND
-property_breaches p (Some (bindings.Attribute a)) = at p WRONG_KIND
+property_breaches p None = at p unknown_name
+property_breaches p (Some (bindings.Constant n)) = at p wrong_kind
+property_breaches p (Some (bindings.Global g)) = at p wrong_kind
+property_breaches p (Some (bindings.Array a kind)) = at p wrong_kind
+property_breaches p (Some (bindings.Routine r locals)) = at p wrong_kind
+property_breaches p (Some (bindings.Attribute a)) = at p wrong_kind
 property_breaches p (Some (bindings.Property n)) = []
-property_breaches p (Some (bindings.Object o)) = at p WRONG_KIND
-property_breaches p (Some (bindings.Local l)) = at p WRONG_KIND
+property_breaches p (Some (bindings.Object o)) = at p wrong_kind
+property_breaches p (Some (bindings.Local l)) = at p wrong_kind
 
 -- what an object is tested for
 abbrev pub tested_breaches : ObjectTest → Position → Option Binding → List Breach
@@ -94,14 +94,14 @@ tested_breaches tests.Provides p found = property_breaches p found
 -- A name that is assigned to or stepped, with the operator's position: E20 where it is unknown; E26 at the operator
 -- where it is no variable, and E23 at an array, a routine, an attribute or a property too.
 abbrev pub target_breaches : Position → Position → Option Binding → List Breach
-target_breaches p operator None = at p UNKNOWN_NAME
-target_breaches p operator (Some (bindings.Constant n)) = at operator NOT_ASSIGNABLE
+target_breaches p operator None = at p unknown_name
+target_breaches p operator (Some (bindings.Constant n)) = at operator not_assignable
 target_breaches p operator (Some (bindings.Global g)) = []
-target_breaches p operator (Some (bindings.Array a kind)) = at p WRONG_KIND ++ at operator NOT_ASSIGNABLE
-target_breaches p operator (Some (bindings.Routine r locals)) = at p WRONG_KIND ++ at operator NOT_ASSIGNABLE
-target_breaches p operator (Some (bindings.Attribute a)) = at p WRONG_KIND ++ at operator NOT_ASSIGNABLE
-target_breaches p operator (Some (bindings.Property n)) = at p WRONG_KIND ++ at operator NOT_ASSIGNABLE
-target_breaches p operator (Some (bindings.Object o)) = at operator NOT_ASSIGNABLE
+target_breaches p operator (Some (bindings.Array a kind)) = at p wrong_kind ++ at operator not_assignable
+target_breaches p operator (Some (bindings.Routine r locals)) = at p wrong_kind ++ at operator not_assignable
+target_breaches p operator (Some (bindings.Attribute a)) = at p wrong_kind ++ at operator not_assignable
+target_breaches p operator (Some (bindings.Property n)) = at p wrong_kind ++ at operator not_assignable
+target_breaches p operator (Some (bindings.Object o)) = at operator not_assignable
 target_breaches p operator (Some (bindings.Local l)) = []
 
 abbrev pub count : ExpressionTrees → ℕ
@@ -113,7 +113,7 @@ count (trees.more e es) = count es + 1
 -- where keys have these numbers
 abbrev pub value_of_binding : (ℕ → ℕ) → Option Binding → Value
 value_of_binding numbers None = number 0
-value_of_binding numbers (Some (bindings.Constant known)) = number (value_of_known numbers known)
+value_of_binding numbers (Some (bindings.Constant known)) = number (value_of_known numbers (or_zero known))
 value_of_binding numbers (Some (bindings.Global g)) = read (variables.Global g)
 value_of_binding numbers (Some (bindings.Array a kind)) = number 0
 value_of_binding numbers (Some (bindings.Routine r locals)) = number 0
@@ -211,13 +211,13 @@ module _ (look : List ℕ → Option Binding) where
   -- What is stepped, by the name that it is; `inside` are the rules that it breaks as an expression.
   abbrev pub left_breaches : Position → Option NameTree → List Breach → List Breach
   left_breaches operator (Some n) inside = target_breaches n.position operator (look n.text)
-  left_breaches operator None inside = inside ++ at operator NOT_ASSIGNABLE
+  left_breaches operator None inside = inside ++ at operator not_assignable
 
   -- What is assigned to, by the name that it is, and by whether it is an entry, a property or a word of a property.
   abbrev pub assigned_breaches : Position → Option NameTree → Bool → List Breach → List Breach
   assigned_breaches operator (Some n) is_one inside = target_breaches n.position operator (look n.text)
   assigned_breaches operator None true inside = inside
-  assigned_breaches operator None false inside = inside ++ at operator NOT_ASSIGNABLE
+  assigned_breaches operator None false inside = inside ++ at operator not_assignable
 
   abbrev mutual
     pub breaches : ExpressionTree → List Breach

@@ -1,6 +1,6 @@
 -- Values that are known before a story runs: the rules that they can break.
 use Rattle.std.specs.Prelude.{ℕ, List, [], Option, Some, None}
-use Rattle.lexer.specs.declared.fault.TheConstants.{UNKNOWN_NAME, WRONG_KIND}
+use Rattle.names.specs.Numbers.{unknown_name, wrong_kind}
 use Rattle.lexer.specs.declared.token.Position.{Position}
 use Rattle.statement_parts.specs.Tree.{LiteralTree, number_value, word_value, named_value}
 use Rattle.names.specs.declared.binding.Binding.{Binding}
@@ -12,15 +12,15 @@ use Rattle.names.specs.Names.{Table, File, key_of, in_table, literal_value}
 -- a name in what a global or an entry of an array begins with, or in what begins a case, by what it stands for there:
 -- it is a constant or an object
 abbrev pub constant_breaches : Position → Option Binding → List Breach
-constant_breaches p None = at p UNKNOWN_NAME
+constant_breaches p None = at p unknown_name
 constant_breaches p (Some (bindings.Constant n)) = []
-constant_breaches p (Some (bindings.Global g)) = at p WRONG_KIND
-constant_breaches p (Some (bindings.Array a kind)) = at p WRONG_KIND
-constant_breaches p (Some (bindings.Routine r locals)) = at p WRONG_KIND
-constant_breaches p (Some (bindings.Attribute a)) = at p WRONG_KIND
-constant_breaches p (Some (bindings.Property n)) = at p WRONG_KIND
+constant_breaches p (Some (bindings.Global g)) = at p wrong_kind
+constant_breaches p (Some (bindings.Array a kind)) = at p wrong_kind
+constant_breaches p (Some (bindings.Routine r locals)) = at p wrong_kind
+constant_breaches p (Some (bindings.Attribute a)) = at p wrong_kind
+constant_breaches p (Some (bindings.Property n)) = at p wrong_kind
 constant_breaches p (Some (bindings.Object o)) = []
-constant_breaches p (Some (bindings.Local l)) = at p WRONG_KIND
+constant_breaches p (Some (bindings.Local l)) = at p wrong_kind
 
 abbrev pub literal_breaches : Table → LiteralTree → List Breach
 literal_breaches whole (number_value n) = []
@@ -42,15 +42,15 @@ initial_value file (Some v) = literal_value file v
 -- a name in a constant's value that is no constant there, by what it stands for in the file: a later constant is
 -- unknown, a later object is a value
 abbrev pub later_breaches : Position → Option Binding → List Breach
-later_breaches p None = at p UNKNOWN_NAME
-later_breaches p (Some (bindings.Constant n)) = at p UNKNOWN_NAME
-later_breaches p (Some (bindings.Global g)) = at p WRONG_KIND
-later_breaches p (Some (bindings.Array a kind)) = at p WRONG_KIND
-later_breaches p (Some (bindings.Routine r locals)) = at p WRONG_KIND
-later_breaches p (Some (bindings.Attribute a)) = at p WRONG_KIND
-later_breaches p (Some (bindings.Property n)) = at p WRONG_KIND
+later_breaches p None = at p unknown_name
+later_breaches p (Some (bindings.Constant n)) = at p unknown_name
+later_breaches p (Some (bindings.Global g)) = at p wrong_kind
+later_breaches p (Some (bindings.Array a kind)) = at p wrong_kind
+later_breaches p (Some (bindings.Routine r locals)) = at p wrong_kind
+later_breaches p (Some (bindings.Attribute a)) = at p wrong_kind
+later_breaches p (Some (bindings.Property n)) = at p wrong_kind
 later_breaches p (Some (bindings.Object o)) = []
-later_breaches p (Some (bindings.Local l)) = at p WRONG_KIND
+later_breaches p (Some (bindings.Local l)) = at p wrong_kind
 
 -- a name in a constant's value: `before` is what it stands for there, `anywhere` what it stands for in the file
 abbrev pub earlier_breaches : Position → Option Binding → Option Binding → List Breach

@@ -8,7 +8,7 @@ use Rattle.expression_trees.specs.declared.tree.Name.{Name}
 use Rattle.expression_trees.specs.Tree.{ExpressionTree, expression_tree, name_tree}
 use Rattle.meaning.specs.declared.resolved.Variable.{Variable}
 use Rattle.meaning.specs.declared.resolved.Value as code_value
-use Rattle.meaning.specs.Resolved.{Value, value_of, property}
+use Rattle.meaning.specs.Resolved.{Value, value_of}
 use Rattle.names.specs.declared.breach.Breach.{Breach}
 use Rattle.names.specs.Names.{name_of, is_place, Seen}
 use Rattle.names.specs.Noted.{noted}
@@ -23,11 +23,6 @@ pub record IsWalked {A : Type 0} (broken : List Breach) (before after : Option B
 
 abbrev pub value_link : Binary × code_value.Value → Binary × Value
 value_link l = (l.0, value_of l.1)
-
--- properties of these numbers, each of the value of the one before it
-abbrev pub properties_of : Value → List ℕ → Value
-properties_of v [] = v
-properties_of v (n ∷ ns) = properties_of (property v n) ns
 
 -- in a routine that sees so much of the file
 module _ (seen : Seen) where
@@ -67,10 +62,10 @@ module _ (seen : Seen) where
   abbrev pub AreLinks : List (Binary × Expression) → Option Breach → Option Breach → List (Binary × Value) → Type 0
   AreLinks ls before after vs = IsWalked (flat_map link_breaches ls) before after vs (map resolved_link ls)
 
-  -- properties, behind what resolves to a value
-  abbrev pub AreProperties : List Name → Value → Option Breach → Option Breach → Value → Type 0
-  AreProperties ns first before after v =
-      IsWalked (flat_map own_property_breaches ns) before after v (properties_of first (map resolved_property ns))
+  -- the numbers of properties
+  abbrev pub AreProperties : List Name → Option Breach → Option Breach → List ℕ → Type 0
+  AreProperties ns before after numbers =
+      IsWalked (flat_map own_property_breaches ns) before after numbers (map resolved_property ns)
 
   -- what is stepped by an operator there
   abbrev pub IsTarget : Position → ExpressionTree → Option Breach → Option Breach → Variable → Type 0

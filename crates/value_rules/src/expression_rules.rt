@@ -6,6 +6,7 @@ ghost use Rattle.expression_trees.specs.Tree as trees;
 ghost use Rattle.expression_trees.specs.Tree.{expression_tree, name_tree, trees_of, propertied};
 ghost use Rattle.expression_trees.specs.Tree.{link};
 ghost use Rattle.meaning.specs.Resolved.{value_of};
+ghost use Rattle.meaning.specs.Resolved as meant;
 ghost use Rattle.names.specs.Breaches.{at};
 ghost use Rattle.names.specs.Noted.{noted};
 ghost use Rattle.names.specs.Scope.{seen_in};
@@ -88,34 +89,57 @@ fn not_place(place: bool, operator: Position, least: &mut Option<Breach>)
     }
 }
 
+// An assignment to the last of the properties of an object, which is one of the word of those before it.
+fn assigned_property(
+    right: Box<Value>,
+    alloc: Global,
+    object: Box<Value>,
+    first: usize,
+    mut others: Vec<usize>,
+) -> Result<Value, AllocError>
+    ensures { IfOk result (λ v. value_of v
+        ≡ assigned (meant.propertied (meant.property (value_of object.value) first) others.items)
+        (value_of right.value)) }
+{
+    match others.pop() {
+        None => Ok(Value::AssignProperty(object, first, right)),
+        Some(last) => {
+            let before = Box::new(alloc, Value::Property(object, first, others))?;
+            Ok(Value::AssignProperty(before, last, right))
+        }
+    }
+}
+
 // An assignment to what the left side was resolved to; where that is no place, any will do.
-fn assignment(left: Value, right: Box<Value>) -> Value
-    ensures { value_of result ≡ assigned (value_of left) (value_of right.value) }
+fn assignment(left: Value, right: Box<Value>, alloc: Global) -> Result<Value, AllocError>
+    ensures { IfOk result (λ v. value_of v ≡ assigned (value_of left) (value_of right.value)) }
 {
     match left {
-        Value::Read(variable) => Value::Assign(variable, right),
-        Value::Entry(width, array, index) => Value::AssignEntry(width, array, index, right),
-        Value::Property(object, number) => Value::AssignProperty(object, number, right),
-        Value::PropertyWord(object, number, index) => {
-            Value::AssignPropertyWord(object, number, index, right)
+        Value::Read(variable) => Ok(Value::Assign(variable, right)),
+        Value::Entry(width, array, index) => Ok(Value::AssignEntry(width, array, index, right)),
+        Value::Property(object, first, others) => {
+            assigned_property(right, alloc, object, first, others)
         }
-        Value::Number(_) => Value::Assign(Variable::Local(0), right),
-        Value::Call(_, _) => Value::Assign(Variable::Local(0), right),
-        Value::Prefixed(_, _) => Value::Assign(Variable::Local(0), right),
-        Value::StepBefore(_, _) => Value::Assign(Variable::Local(0), right),
-        Value::StepAfter(_, _) => Value::Assign(Variable::Local(0), right),
-        Value::Chain(_, _, _, _) => Value::Assign(Variable::Local(0), right),
-        Value::Compare(_, _, _) => Value::Assign(Variable::Local(0), right),
-        Value::Equal(_, _, _, _) => Value::Assign(Variable::Local(0), right),
-        Value::Assign(_, _) => Value::Assign(Variable::Local(0), right),
-        Value::AssignEntry(_, _, _, _) => Value::Assign(Variable::Local(0), right),
-        Value::Relative(_, _) => Value::Assign(Variable::Local(0), right),
-        Value::Contained(_, _, _) => Value::Assign(Variable::Local(0), right),
-        Value::Has(_, _, _) => Value::Assign(Variable::Local(0), right),
-        Value::Provides(_, _) => Value::Assign(Variable::Local(0), right),
-        Value::PropertySize(_, _) => Value::Assign(Variable::Local(0), right),
-        Value::AssignProperty(_, _, _) => Value::Assign(Variable::Local(0), right),
-        Value::AssignPropertyWord(_, _, _, _) => Value::Assign(Variable::Local(0), right),
+        Value::PropertyWord(object, number, index) => {
+            Ok(Value::AssignPropertyWord(object, number, index, right))
+        }
+        Value::Number(_) => Ok(Value::Assign(Variable::Local(0), right)),
+        Value::Call(_, _) => Ok(Value::Assign(Variable::Local(0), right)),
+        Value::Prefixed(_, _) => Ok(Value::Assign(Variable::Local(0), right)),
+        Value::StepBefore(_, _) => Ok(Value::Assign(Variable::Local(0), right)),
+        Value::StepAfter(_, _) => Ok(Value::Assign(Variable::Local(0), right)),
+        Value::Chain(_, _, _, _) => Ok(Value::Assign(Variable::Local(0), right)),
+        Value::Compare(_, _, _) => Ok(Value::Assign(Variable::Local(0), right)),
+        Value::Equal(_, _, _, _) => Ok(Value::Assign(Variable::Local(0), right)),
+        Value::Assign(_, _) => Ok(Value::Assign(Variable::Local(0), right)),
+        Value::AssignEntry(_, _, _, _) => Ok(Value::Assign(Variable::Local(0), right)),
+        Value::Relative(_, _) => Ok(Value::Assign(Variable::Local(0), right)),
+        Value::Contained(_, _, _) => Ok(Value::Assign(Variable::Local(0), right)),
+        Value::Has(_, _, _) => Ok(Value::Assign(Variable::Local(0), right)),
+        Value::Provides(_, _) => Ok(Value::Assign(Variable::Local(0), right)),
+        Value::PropertySize(_, _) => Ok(Value::Assign(Variable::Local(0), right)),
+        Value::AssignProperty(_, _, _) => Ok(Value::Assign(Variable::Local(0), right)),
+        Value::AssignPropertyWord(_, _, _, _) => Ok(Value::Assign(Variable::Local(0), right)),
     }
 }
 
@@ -148,23 +172,22 @@ fn named_value(name: Name<'_>, scope: &Scope<'_>, least: &mut Option<Breach>) ->
     value(name, &scope.file.numbers, found, least)
 }
 
-// The properties behind what resolved to a value.
-fn further_properties(
+// The numbers of the properties behind the first.
+fn property_numbers(
     others: &[Name<'_>],
     alloc: Global,
     scope: &Scope<'_>,
-    first: Value,
     least: &mut Option<Breach>,
-) -> Result<Value, AllocError>
-    ensures { IfOk result (λ v. AreProperties (seen_in scope.now) others.now (value_of first)
-        least.old least.new (value_of v)) }
+) -> Result<Vec<usize>, AllocError>
+    ensures { IfOk result (λ numbers. AreProperties (seen_in scope.now) others.now
+        least.old least.new numbers.items) }
 {
-    let mut found = first;
+    let mut numbers = Vec::new(alloc);
     for name in others {
         let number = property(*name, scope.look(name.text), least);
-        found = Value::Property(Box::new(alloc, found)?, number);
+        numbers.push(number)?;
     }
-    Ok(found)
+    Ok(numbers)
 }
 
 /// Resolves the names of an expression, and notes the rules that it breaks.
@@ -220,9 +243,13 @@ pub fn expression(
     }
 }
 
-// The same for an expression inside another, in its box.
+/// The same, in a box.
+///
+/// # Errors
+///
+/// `AllocError` where memory is refused.
 #[cycle(expression)]
-fn boxed(
+pub fn boxed(
     e: &Expression<'_>,
     alloc: Global,
     scope: &Scope<'_>,
@@ -371,7 +398,10 @@ fn properties(
         return Err(AllocError);
     };
     let number = property(name, scope.look(name.text), least);
-    further_properties(others, alloc, scope, Value::Property(object, number), least)
+    let Ok(others) = property_numbers(others, alloc, scope, least) else {
+        return Err(AllocError);
+    };
+    Ok(Value::Property(object, number, others))
 }
 
 #[cycle(expression)]
@@ -626,5 +656,5 @@ fn assign(
         drop(left);
         return Err(AllocError);
     };
-    Ok(assignment(left, right))
+    assignment(left, right, alloc)
 }

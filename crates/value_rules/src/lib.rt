@@ -6,7 +6,7 @@ mod literal_rules;
 mod name_rules;
 mod temporaries;
 
-pub use expression_rules::expression;
+pub use expression_rules::{boxed, expression};
 pub use literal_rules::{constant_name, constant_value, initial, literal};
 pub use name_rules::{attribute, property};
 pub use temporaries::{both_fit, fits};

@@ -15,7 +15,7 @@ ghost use Rattle.value_rules.specs.Expressions.{attribute_of_binding, property_o
 use expression_trees::Name;
 use lexer::{NOT_ASSIGNABLE, Position, TOO_MANY, TOO_MANY_ARGUMENTS, UNKNOWN_NAME, WRONG_KIND};
 use meaning::{Value, Variable};
-use names::{Binding, Breach, Numbers, note};
+use names::{Binding, Breach, Numbers, note, or_zero};
 
 /// What a name is as a value; any number will do where it is none.
 pub fn named(numbers: &Numbers, found: Option<Binding>) -> Value
@@ -23,7 +23,7 @@ pub fn named(numbers: &Numbers, found: Option<Binding>) -> Value
 {
     match found {
         None => Value::Number(0),
-        Some(Binding::Constant(known)) => Value::Number(numbers.value(known)),
+        Some(Binding::Constant(known)) => Value::Number(numbers.value(or_zero(known))),
         Some(Binding::Global(number)) => Value::Read(Variable::Global(number)),
         Some(Binding::Array(_, _)) => Value::Number(0),
         Some(Binding::Routine(_, _)) => Value::Number(0),

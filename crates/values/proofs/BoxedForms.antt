@@ -12,7 +12,7 @@ use Rattle.expression_trees.specs.declared.tree.Width.{Width}
 use Rattle.meaning.specs.declared.resolved.Variable.{Variable}
 use Rattle.meaning.specs.declared.resolved.Value as code_value
 use Rattle.meaning.specs.declared.resolved.Value.TheVariants as forms
-use Rattle.meaning.specs.Resolved.{Value, more, value_of, values_of, chained}
+use Rattle.meaning.specs.Resolved.{Value, more, value_of, values_of, chained, propertied}
 use Rattle.meaning.specs.Resolved as source
 use Rattle.drafts.specs.Items.{Item}
 use Rattle.drafts.specs.declared.wanted.Wanted.{Wanted}
@@ -93,10 +93,13 @@ provides_form r c c1 wanted e b p d is d_is holds =
     one_boxed (λ v. Wrote r c c1 wanted v) _ _ _ (λ v. source.provides v p) (provides_is e b p is) d_is holds
 
 pub property_form : {T E : Type 0} (r : Result T E) (c c1 : List Item) (wanted : Wanted) (e : code_value.Value)
-    (b : Box code_value.Value) (p : ℕ) (d : code_value.Value) → e ≡ forms.Property b p → d ≡ b.value
-    → Wrote r c c1 wanted (source.property (value_of d) p) → Wrote r c c1 wanted (value_of e)
-property_form r c c1 wanted e b p d is d_is holds =
-    one_boxed (λ v. Wrote r c c1 wanted v) _ _ _ (λ v. source.property v p) (property_is e b p is) d_is holds
+    (b : Box code_value.Value) (p : ℕ) (ps : Vec ℕ) (d : code_value.Value) (ds : List ℕ) → e ≡ forms.Property b p ps
+    → d ≡ b.value → ds ≡ ps.items → Wrote r c c1 wanted (propertied (source.property (value_of d) p) ds)
+    → Wrote r c c1 wanted (value_of e)
+property_form r c c1 wanted e b p ps d ds is d_is ps_are holds =
+    let Q : List ℕ → Type 0 = λ l. Wrote r c c1 wanted (propertied (source.property (value_of d) p) l) in
+    one_boxed (λ v. Wrote r c c1 wanted v) _ _ _ (λ v. propertied (source.property v p) ps.items)
+    (property_is e b p ps is) d_is (subst Q ps_are holds)
 
 pub property_size_form : {T E : Type 0} (r : Result T E) (c c1 : List Item) (wanted : Wanted) (e : code_value.Value)
     (b : Box code_value.Value) (p : ℕ) (d : code_value.Value) → e ≡ forms.PropertySize b p → d ≡ b.value

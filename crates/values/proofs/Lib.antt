@@ -4,6 +4,7 @@ pub mod Assigned
 pub mod Alternatives
 pub mod ObjectForms
 pub mod ObjectValues
+pub mod Properties
 pub mod CodeForms
 pub mod ListRounds
 pub mod BoxedForms

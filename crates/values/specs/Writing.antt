@@ -1,14 +1,14 @@
 -- Words of proofs: what is written of the parts of an expression.
-use Rattle.std.specs.Prelude.{◌≡◌, ◌+◌, ◌-◌, ℕ, if◌then◌else◌, List, [], ◌∷◌, ◌++◌, map}
+use Rattle.std.specs.Prelude.{◌≡◌, ◌+◌, ℕ, if◌then◌else◌, List, [], ◌∷◌, ◌++◌, map}
 use Rattle.expression_trees.specs.declared.tree.Binary.{Binary}
 use Rattle.expression_trees.specs.declared.tree.Comparison.{Comparison}
 use Rattle.expression_trees.specs.declared.tree.Containment.{Containment}
 use Rattle.expression_trees.specs.declared.tree.Equality.{Equality}
 use Rattle.expression_trees.specs.declared.tree.Width.{Width}
 use Rattle.meaning.specs.declared.resolved.Value as code_value
-use Rattle.meaning.specs.Resolved.{Value, Values, none, more, value_of, chained}
+use Rattle.meaning.specs.Resolved.{Value, Values, none, more, value_of, chained, propertied}
 use Rattle.meaning.specs.Resolved as source
-use Rattle.drafts.specs.Items.{Item, Operand, pushed, push, left_of, if_pushed, value_count, value_items}
+use Rattle.drafts.specs.Items.{Item, Operand, pushed, push, alone, left_of, if_pushed, value_count, value_items}
 use Rattle.drafts.specs.Items.{operands_items}
 use Rattle.drafts.specs.Items as items
 use Rattle.drafts.specs.Code.{as_operand}
@@ -69,6 +69,11 @@ abbrev pub ReducesContained : List Item → List Item → Wanted → Containment
 ReducesContained old new wanted op o b = (v : Value) → o ≡ left_of v b
     → Leaves old new (wanted_items wanted (source.contained op v b)) (pushes o v)
 
+-- properties, each of the word of the one before it: those of what stands before them
+abbrev pub ReducesProperties : List Item → List Item → Wanted → Wanted → List ℕ → Type 0
+ReducesProperties old new wanted rest ps = (v : Value) → pushed ≡ alone v
+    → Leaves old new (wanted_items wanted (propertied v ps)) (wanted_items rest v)
+
 -- a word of a property: those that push the object
 abbrev pub ReducesPropertyWord : List Item → List Item → Wanted → ℕ → Operand → Value → Type 0
 ReducesPropertyWord old new wanted p o i = (v : Value) → o ≡ left_of v i
@@ -127,6 +132,10 @@ WritesAssignedEntry old new wanted width a o v =
 abbrev pub WritesContained : Draft → Draft → Wanted → Containment → code_operand.Operand → code_value.Value → Type 0
 WritesContained old new wanted op o b =
     ReducesContained (written_in old) (written_in new) wanted op (as_operand o) (value_of b)
+
+-- properties, each of the word of the one before it
+abbrev pub WritesProperties : Draft → Draft → Wanted → Wanted → List ℕ → Type 0
+WritesProperties old new wanted rest ps = ReducesProperties (written_in old) (written_in new) wanted rest ps
 
 -- a word of a property, with the index
 abbrev pub WritesPropertyWord : Draft → Draft → Wanted → ℕ → code_operand.Operand → code_value.Value → Type 0

@@ -2,7 +2,8 @@
 
 ghost use Rattle.std.specs.Prelude.{map, IfOk, OnOk};
 ghost use Rattle.meaning.specs.Resolved.{call, prefixed, assign, entry, relative, has, provides};
-ghost use Rattle.meaning.specs.Resolved.{property, property_size, chained, binary, compare, equal};
+ghost use Rattle.meaning.specs.Resolved.{property, propertied, property_size, chained, binary};
+ghost use Rattle.meaning.specs.Resolved.{compare, equal};
 ghost use Rattle.meaning.specs.Resolved.{assign_entry, contained, property_word, value_of};
 ghost use Rattle.meaning.specs.Resolved.{assign_property, assign_property_word};
 ghost use Rattle.drafts.specs.Writing.{link_of, more_in, values_in, WritesValue};
@@ -10,6 +11,7 @@ ghost use Rattle.values.specs.Writing.{WritesOperand, WritesOperands, WritesFold
 ghost use Rattle.values.specs.Writing.{WritesLinks, WritesComparison, WritesEquality, WritesFirst};
 ghost use Rattle.values.specs.Writing.{WritesAssignedEntry, WritesContained, WritesPropertyWord};
 ghost use Rattle.values.specs.Writing.{WritesAssignedProperty, WritesAssignedWord};
+ghost use Rattle.values.specs.Writing.{WritesProperties};
 
 use drafts::{
     Destination, Draft, Item, Operand, Test, Wanted, alone, are_few, before, comparison_test,
@@ -47,7 +49,9 @@ pub fn put_value<'a>(draft: &mut Draft<'a>, value: &Value, wanted: Wanted) -> Re
         Value::Contained(left, test, right) => put_contained(draft, left, right, *test, wanted),
         Value::Has(positive, object, number) => put_has(draft, object, *positive, *number, wanted),
         Value::Provides(object, number) => put_provides(draft, object, *number, wanted),
-        Value::Property(object, number) => put_property(draft, object, *number, wanted),
+        Value::Property(object, number, others) => {
+            put_property(draft, object, *number, others, wanted)
+        }
         Value::PropertySize(object, number) => put_property_size(draft, object, *number, wanted),
         Value::PropertyWord(object, number, index) => {
             put_property_word(draft, object, index, *number, wanted)
@@ -316,22 +320,44 @@ fn put_provides<'a>(
     Ok(())
 }
 
-/// The word of a property.
+/// The word of a property, or of the last of several of which each is one of the word before it. They are written from
+/// the last one to the object.
 #[cycle(values)]
 fn put_property<'a>(
     draft: &mut Draft<'a>,
     object: &Value,
     number: usize,
+    others: &[usize],
     wanted: Wanted,
 ) -> Result<(), AllocError>
     ensures { OnOk result (WritesValue draft.old draft.new wanted
-        (property (value_of object.now) number)) }
+        (propertied (property (value_of object.now) number) others.now)) }
 {
+    let wanted = put_properties(draft, others, wanted)?;
     let destination = put_word(draft, wanted)?;
     let operand = alone(object);
     put(draft, Item::Property(operand, number, destination))?;
     put_operand(draft, object, operand)?;
     Ok(())
+}
+
+/// Properties of which each is one of the word before it, from the last one on: what is then wanted of what stands
+/// before them.
+fn put_properties(
+    draft: &mut Draft<'_>,
+    numbers: &[usize],
+    wanted: Wanted,
+) -> Result<Wanted, AllocError>
+    ensures { IfOk result (λ rest. WritesProperties draft.old draft.new wanted rest numbers.now) }
+{
+    let mut wanted = wanted;
+    for done in 0..numbers.len() {
+        let number = numbers[numbers.len() - 1 - done];
+        let destination = put_word(draft, wanted)?;
+        put(draft, Item::Property(Operand::Pushed, number, destination))?;
+        wanted = Wanted::Word(Destination::Push);
+    }
+    Ok(wanted)
 }
 
 /// How many bytes a property has.

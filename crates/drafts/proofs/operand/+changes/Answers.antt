@@ -5,7 +5,7 @@ use Rattle.meaning.specs.declared.resolved.Value as code_value
 use Rattle.meaning.specs.Resolved.{value_of}
 use Rattle.drafts.specs.Items as items
 use Rattle.drafts.specs.Writing.{change_links, link_of}
-use Rattle.drafts.proofs.Trees.{chain_changes}
+use Rattle.drafts.proofs.Trees.{chain_changes, property_changes}
 use Rattle.drafts.proofs.operand.+changes.Goals as goal
 
 pub changes-returns-in-Chain : goal.changes-returns-in-Chain
@@ -22,3 +22,9 @@ changes-returns-in-Chain t c =
     ∙ ap (λ b. (items.changes z (value_of c.in-Chain.first.value) || b) || c.links_change-behind.result) second
     ∙ ap (λ b. (items.changes z (value_of c.in-Chain.first.value) || items.changes z
     (value_of c.in-Chain.second.value)) || b) behind ∙ sym (chain_changes z _ _ _ _ _ c.in-Chain.is)
+
+pub changes-returns-in-Property : goal.changes-returns-in-Property
+changes-returns-in-Property t c =
+    let z = c.args.variable in
+    c.changes-in-Property.ensures ∙ ap (λ (e : code_value.Value). items.changes z (value_of e)) c.deref-in-Property.ensures
+    ∙ sym (property_changes z _ _ _ _ c.in-Property.is)

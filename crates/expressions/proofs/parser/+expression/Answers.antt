@@ -89,7 +89,7 @@ arguments-returns-in-Err t c = list_fails expression_tree (is_sign s.Comma) (exp
 
 pub arguments-loop-turn-init : goal.arguments-loop-turn-init
 arguments-loop-turn-init t c =
-    rw (c.in_ok-add-in-Ok.ensures.ok, c.new-arguments.ensures.items)
+    rw (c.in_ok-add-in-Ok.ensures.ok, c.in_ok-arguments.ensures.items)
     (list_begins expression_tree (is_sign s.Comma) (expression (nested c.args.depth)) (ahead c.args.parser.now) _
     c.in-Ok.first.value c.in-Ok.ensures)
 

@@ -2,10 +2,11 @@ use Rattle.std.proofs.Common.{◌≡◌, ℕ, ◌+◌, ◌-◌, ◌<◌, Bool, L
 use Rattle.std.specs.Global.{Vec}
 use Rattle.std.specs.Option.{option_map}
 use Rattle.meaning.specs.declared.resolved.Action as code_action
+use Rattle.meaning.specs.declared.resolved.Value as code_value
 use Rattle.meaning.specs.declared.resolved.Span.{Span}
 use Rattle.meaning.specs.Resolved.{Action, CasesOf, while_do, do_until, for_loop, switch_on, value_of, range_of}
 use Rattle.meaning.specs.Resolved.{action_of, actions_of, case_of, cases_of, other_of, give_to, each_object, each_where}
-use Rattle.meaning.specs.Resolved.{each_in}
+use Rattle.meaning.specs.Resolved.{boxed_value, each_in, move_to}
 use Rattle.drafts.specs.Writing.{written_in, Written}
 use Rattle.items.specs.Statements.{action_items, actions_items, cases_items, groups_of, tests_items, action_count}
 use Rattle.items.specs.declared.exits.Exits.{Exits}
@@ -39,7 +40,7 @@ put_if-returns t c = if_more _ _ _ c.args.exits (value_of c.args.test.now)
 
 pub put_while-returns : goal.put_while-returns
 put_while-returns t c =
-    while_more _ _ _ _ _ (value_of c.args.test.now) (action_of c.args.body.now) _ c.written-end.ensures
+    while_more _ _ _ _ _ (value_of c.args.test.now) (action_of c.args.body.now) _ c.written-behind.ensures
     c.in_ok-put.ensures c.written.ensures c.in_ok-put_statement.ensures c.in_ok-put_value.ensures c.lead_back.ensures
 
 pub put_if_else-returns : goal.put_if_else-returns
@@ -72,8 +73,8 @@ put_do-returns t c = do_more _ _ _ _ _ (value_of c.args.test.now) (action_of c.a
     c.in_ok-put_statement.ensures c.lead_back.ensures
 
 pub put_for-returns : goal.put_for-returns
-put_for-returns t c = for_more _ _ _ _ _ _ _ (option_map value_of c.args.before.now)
-    (option_map value_of c.args.test.now) (option_map value_of c.args.behind.now) (action_of c.args.body.now) _
+put_for-returns t c = for_more _ _ _ _ _ _ _ (option_map boxed_value c.args.before.now)
+    (option_map boxed_value c.args.test.now) (option_map boxed_value c.args.behind.now) (action_of c.args.body.now) _
     c.written-end.ensures c.in_ok-put.ensures c.in_ok-put_once.ensures c.written.ensures
     c.in_ok-put_statement.ensures c.in_ok-put_test.ensures c.lead_back.ensures c.in_ok-put_once-2.ensures
 
@@ -135,8 +136,8 @@ put_statement-returns-in-For t c = on_ok c.put_for.result (λ w.
     (λ n at. action_items (exits_of n c.args.exits) at a) in
     let Q : code_action.Action → Type 0 =
     λ s. Written (written_in c.args.draft.now) (written_in c.put_for.new.draft)
-    (λ n at. action_items (exits_of n c.args.exits) at (for_loop (option_map value_of x.before)
-    (option_map value_of x.test) (option_map value_of x.behind) (action_of s))) in
+    (λ n at. action_items (exits_of n c.args.exits) at (for_loop (option_map boxed_value x.before)
+    (option_map boxed_value x.test) (option_map boxed_value x.behind) (action_of s))) in
     subst P (sym (for_is _ _ _ _ _ x.is)) (subst Q c.deref-in-For.ensures
     (w c.args.exits))) c.put_for.ensures
 
@@ -145,12 +146,12 @@ put_statement-returns-in-Switch t c = on_ok c.put_switch.result (λ w.
     let x = c.in-Switch in
     let P : Action → Type 0 = λ a. Written (written_in c.args.draft.now) (written_in c.put_switch.new.draft)
     (λ n at. action_items (exits_of n c.args.exits) at a) in
-    let Q : List (Vec Span × Vec code_action.Action) → Type 0 =
-    λ l. Written (written_in c.args.draft.now) (written_in c.put_switch.new.draft)
-    (λ n at. action_items (exits_of n c.args.exits) at (switch_on (value_of x.value)
+    let Q : code_value.Value → List (Vec Span × Vec code_action.Action) → Type 0 =
+    λ e l. Written (written_in c.args.draft.now) (written_in c.put_switch.new.draft)
+    (λ n at. action_items (exits_of n c.args.exits) at (switch_on (value_of e)
     (cases_of (map case_of l) (other_of x.other)))) in
-    subst P (sym (switch_is _ _ _ _ x.is)) (subst Q c.deref-in-Switch.ensures.value
-    w)) c.put_switch.ensures
+    subst P (sym (switch_is _ _ _ _ x.is)) (subst (λ (e : code_value.Value). Q e x.cases.items) c.deref-in-Switch-2.ensures
+    (subst (Q _) c.deref-in-Switch.ensures.value w))) c.put_switch.ensures
 
 -- Objects
 
@@ -189,7 +190,11 @@ pub put_statement-returns-in-Move : goal.put_statement-returns-in-Move
 put_statement-returns-in-Move t c = on_ok c.put_move.result (λ w.
     let P : Action → Type 0 = λ a. Written (written_in c.args.draft.now) (written_in c.put_move.new.draft)
     (λ n at. action_items (exits_of n c.args.exits) at a) in
-    subst P (sym (move_is _ _ _ c.in-Move.is)) (w c.args.exits)) c.put_move.ensures
+    let Q : code_value.Value → code_value.Value → Type 0 =
+    λ e d. Written (written_in c.args.draft.now) (written_in c.put_move.new.draft)
+    (λ n at. action_items (exits_of n c.args.exits) at (move_to (value_of e) (value_of d))) in
+    subst P (sym (move_is _ _ _ c.in-Move.is)) (subst (λ (e : code_value.Value). Q e c.in-Move.into.value) c.deref-in-Move.ensures
+    (subst (Q _) c.deref-in-Move-2.ensures (w c.args.exits)))) c.put_move.ensures
 
 pub put_statement-returns-in-Remove : goal.put_statement-returns-in-Remove
 put_statement-returns-in-Remove t c = on_ok c.put_remove.result (λ w.

@@ -29,10 +29,10 @@ returns-clause-breaches c =
     ∙ ap (λ (ns : List NameTree). noted c.short_rule.new.least (repeated_breaches [] ns)) c.in_ok-names.ensures
     ∙ ap (λ (xs : List Property). noted c.short_rule.new.least
     (repeated_breaches [] (map property_name (map property_tree xs)))) c.deref.ensures.value)
-    (noted_two c.repeated.new.least c.properties.new.least c.attributes.new.least provided given
+    (noted_two c.repeated.new.least c.provided_of_listed.new.least c.attributes.new.least provided given
     (c.in_ok-properties.ensures.breaches
     ∙ ap (λ (xs : List Property). noted c.repeated.new.least
     (flat_map (provided_breaches whole) (map property_tree xs))) c.deref-3.ensures.value)
     (c.in_ok-attributes.ensures.breaches
-    ∙ ap (λ (ns : List Name). noted c.properties.new.least (flat_map (given_breaches whole) (map name_tree ns)))
+    ∙ ap (λ (ns : List Name). noted c.provided_of_listed.new.least (flat_map (given_breaches whole) (map name_tree ns)))
     c.deref-4.ensures.value)))

@@ -7,7 +7,7 @@ use Rattle.statement_parts.specs.Tree.{loop_tree, over_in, over_where}
 use Rattle.statements.specs.declared.tree.Statement.{Statement}
 use Rattle.statements.specs.Tree.{other_tree}
 use Rattle.meaning.specs.Resolved as values
-use Rattle.meaning.specs.Resolved.{Value, Action, value_of, action_of, case_of, other_of}
+use Rattle.meaning.specs.Resolved.{Value, Action, boxed_value, action_of, case_of, other_of}
 use Rattle.names.specs.Scope.{seen_in}
 use Rattle.names.proofs.Each.{each_next, each_end, value_next, value_end}
 use Rattle.value_rules.specs.Expressions.{variable_of_binding}
@@ -16,9 +16,9 @@ use Rattle.simple_rules.specs.Statements.{loop_breaches}
 use Rattle.rules.specs.Walk.{resolved_statement, own_statement_breaches, resolved_case, own_case_breaches}
 use Rattle.rules.proofs.Shapes.{is_simple_statement, is_block_statement, is_if_statement, is_if_else_statement}
 use Rattle.rules.proofs.Shapes.{is_while_statement, is_do_statement, is_for_statement, is_objectloop_statement}
-use Rattle.rules.proofs.Shapes.{is_switch_statement}
+use Rattle.rules.proofs.Shapes.{is_switch_statement, is_empty_statement}
 use Rattle.rules.proofs.MadeActions.{made_block, made_if_then, made_if_else, made_while_do, made_do, made_for}
-use Rattle.rules.proofs.MadeActions.{made_switch, made_each_object, made_each_in, made_each_where}
+use Rattle.rules.proofs.MadeActions.{made_empty, made_switch, made_each_object, made_each_in, made_each_where}
 use Rattle.rules.proofs.Forms.{statements_walked, case_walked, other_walked, switch_walked}
 use Rattle.rules.proofs.statement_rules.+statement.Goals as goal
 
@@ -117,7 +117,7 @@ otherwise-returns-in-Ok t c = rw c.in-Some.is
 pub switch_on-returns : goal.switch_on-returns
 switch_on-returns t c around is = rw (made_switch c.in-Ok.value c.in-Ok-all_cases.cases c.in-Ok-otherwise.other)
     (switch_walked (seen_in c.args.scope.now) around c.args.inside c.args.position (expression_tree c.args.value.now)
-    (value_of c.in-Ok.value) c.args.cases.now (other_tree c.args.other.now)
+    (boxed_value c.in-Ok.value) c.args.cases.now (other_tree c.args.other.now)
     (map case_of c.in-Ok-all_cases.cases.items) (other_of c.in-Ok-otherwise.other) is c.in-Ok.ensures
     c.in-Ok-all_cases.ensures c.in-Ok-otherwise.ensures)
 
@@ -179,6 +179,10 @@ pub statement-returns-in-While : goal.statement-returns-in-While
 statement-returns-in-While t c = let v = c.in-While in
     rw (is_while_statement c.args.s.now v.position v.condition v.body v.is, ← c.deref-in-While.ensures)
     (c.while_do.ensures c.args.around)
+
+pub statement-returns-in-Empty : goal.statement-returns-in-Empty
+statement-returns-in-Empty t c = rw (is_empty_statement c.args.s.now c.in-Empty.is, made_empty)
+    (leaf c.args.least.now values.empty)
 
 pub statement-returns-in-Simple : goal.statement-returns-in-Simple
 statement-returns-in-Simple t c = rw

@@ -7,12 +7,9 @@ use Rattle.statements.specs.Tree.{simple_tree}
 use Rattle.meaning.specs.declared.resolved.Value.TheVariants as made
 use Rattle.meaning.specs.Resolved as values
 use Rattle.value_rules.proofs.Walks.{leaf, made_number}
-use Rattle.simple_rules.proofs.MadeActions.{made_empty, made_text, made_new_line, made_quit, made_return_value}
+use Rattle.simple_rules.proofs.MadeActions.{made_text, made_new_line, made_quit, made_return_value}
 use Rattle.simple_rules.proofs.MadeActions.{made_break, made_continue}
 use Rattle.simple_rules.proofs.simple_rules.simple.Goals as goal
-
-pub returns-in-Empty : goal.returns-in-Empty
-returns-in-Empty c = rw (c.in-Empty.is, made_empty) (leaf c.args.least.now values.empty)
 
 pub returns-in-Text : goal.returns-in-Text
 returns-in-Text c = rw (c.in-Text.is, made_text c.in-Text.text)

@@ -23,7 +23,7 @@ use Rattle.value_rules.proofs.Shapes.{is_tested, is_assign}
 use Rattle.value_rules.proofs.Walks.{named_part, one, two, three, made_number, made_call, made_prefixed}
 use Rattle.value_rules.proofs.Walks.{made_step_before, made_step_after, made_chain, made_compare, made_equal}
 use Rattle.value_rules.proofs.Walks.{made_entry, made_relative, made_contained, made_property, made_property_size}
-use Rattle.value_rules.proofs.Walks.{made_property_word}
+use Rattle.value_rules.proofs.Walks.{made_property_word, made_walked}
 use Rattle.value_rules.proofs.Forms.{all_walked, chain_walked, properties_walked, call_walked, index_walked}
 use Rattle.value_rules.proofs.Forms.{name_assigned, part_assigned}
 use Rattle.value_rules.proofs.expression_rules.+expression.Goals as goal
@@ -175,14 +175,14 @@ relative_of-returns t c = rw (made_relative c.args.relative c.in-Ok.object)
 
 pub properties-returns : goal.properties-returns
 properties-returns t c =
-    let own : Value = value_of c.in-Ok.object.value in
-    properties_walked (seen_in c.args.scope.now)
+    rw (made_property c.in-Ok.object c.property-number.result c.in-Ok-property_numbers.others)
+    (properties_walked (seen_in c.args.scope.now)
     (trees.property (expression_tree c.args.object.now) (name_tree c.args.name)) c.args.others.now
-    (values.property own c.property-number.result) c.further_properties.result _
+    (values.property (value_of c.in-Ok.object.value) c.property-number.result) c.in-Ok-property_numbers.others.items
     (two values.property c.in-Ok.ensures
     (named_part property_of_binding (property_breaches c.args.name.position) c.look.result _ c.property-number.result
     c.look.ensures c.property-number.ensures.value c.property-number.ensures.breaches))
-    (rw (← made_property c.in-Ok.object c.property-number.result) c.further_properties.ensures)
+    c.in-Ok-property_numbers.ensures)
 
 pub length_of-returns : goal.length_of-returns
 length_of-returns t c = rw (made_property_size c.in-Ok.object c.property-number.result)
@@ -288,4 +288,4 @@ left_side-returns-in_ok-left-in-None t c =
     (value_of c.in_ok-left-in-None.left) is c.is_place.ensures c.in_ok-left-in-None.ensures c.not_place.ensures
 
 pub assign-returns : goal.assign-returns
-assign-returns t c = rw c.assignment.ensures (two assigned c.in-Ok.ensures c.in-Ok-boxed.ensures)
+assign-returns t c = made_walked c.assignment.result c.assignment.ensures (two assigned c.in-Ok.ensures c.in-Ok-boxed.ensures)

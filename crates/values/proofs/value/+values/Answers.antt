@@ -9,7 +9,8 @@ use Rattle.values.proofs.CodeForms.{assigned_nowhere, assigned_pushed, assigned_
 use Rattle.values.proofs.CodeForms.{or_written, operation_written, comparison_written, few_written, many_written}
 use Rattle.values.proofs.ListRounds.{folded_round, operand_round, link_round, links_done}
 use Rattle.values.proofs.ObjectForms.{assigned_word_link, assigned_word_more}
-use Rattle.values.proofs.ObjectValues.{relative_written, property_written, property_size_written, has_written}
+use Rattle.values.proofs.Properties.{property_more}
+use Rattle.values.proofs.ObjectValues.{relative_written, property_size_written, has_written}
 use Rattle.values.proofs.ObjectValues.{provides_written, containment_written, indexed_property_written}
 use Rattle.values.proofs.ObjectValues.{assigned_property_written, contained_more, property_word_more}
 use Rattle.values.proofs.ObjectValues.{assign_property_more}
@@ -112,8 +113,9 @@ put_relative-returns t c = relative_written _ _ _ _ c.args.wanted _ c.args.relat
     c.alone-operand.ensures c.in_ok-put.ensures c.in_ok-put_operand.ensures
 
 pub put_property-returns : goal.put_property-returns
-put_property-returns t c = property_written _ _ _ _ c.args.wanted _ c.args.number _ _ c.in_ok-destination.ensures
-    c.alone-operand.ensures c.in_ok-put.ensures c.in_ok-put_operand.ensures
+put_property-returns t c = property_more _ _ _ _ _ c.args.wanted _ _ c.args.number _ _ c.args.others.now
+    c.in_ok-wanted.ensures c.in_ok-destination.ensures c.alone-operand.ensures c.in_ok-put.ensures
+    c.in_ok-put_operand.ensures
 
 pub put_property_size-returns : goal.put_property_size-returns
 put_property_size-returns t c = property_size_written _ _ _ _ c.args.wanted _ c.args.number _ _
@@ -229,8 +231,8 @@ put_value-returns-in-Provides t c = provides_form c.put_provides.result _ _ c.ar
     c.deref-in-Provides.ensures c.put_provides.ensures
 
 pub put_value-returns-in-Property : goal.put_value-returns-in-Property
-put_value-returns-in-Property t c = property_form c.put_property.result _ _ c.args.wanted _ _ _ _ c.in-Property.is
-    c.deref-in-Property.ensures c.put_property.ensures
+put_value-returns-in-Property t c = property_form c.put_property.result _ _ c.args.wanted _ _ _ _ _ _
+    c.in-Property.is c.deref-in-Property.ensures c.deref-in-Property-2.ensures.value c.put_property.ensures
 
 pub put_value-returns-in-PropertySize : goal.put_value-returns-in-PropertySize
 put_value-returns-in-PropertySize t c = property_size_form c.put_property_size.result _ _ c.args.wanted _ _ _ _
