@@ -8,6 +8,7 @@ mod journals;
 mod memory;
 mod names;
 mod program;
+mod records;
 mod row;
 mod sessions;
 mod stories;

@@ -5,6 +5,7 @@ use crate::hexadecimal::bytes_in;
 use crate::journals::{Words, put_abandoned, put_closed, recorded, write};
 use crate::memory::put_memory;
 use crate::names::{Recorded, Session};
+use crate::records::put_record;
 use crate::sessions::{put_cells, put_redo, put_reply, put_run, put_undo};
 use crate::stories::{Definition, mend, put_at, put_text_at};
 use crate::texts::{put_decoded, put_encoded, put_key, put_shortened};
@@ -110,6 +111,7 @@ impl Row {
             "decode" => put_decoded(shown, alloc, &self.story, text),
             "key" => put_key(shown, alloc, text),
             "memory" => put_memory(shown, alloc, &self.setting, &self.story, text),
+            "record" => put_record(shown, alloc, &self.setting, &self.story, text),
             "damage" => put_damaged(shown, alloc, &self.setting, &self.story),
             "words" => self.begin_words(text),
             "write" | "close" | "abandon" => self.act_on_words(word, text),
