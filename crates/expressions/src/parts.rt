@@ -117,6 +117,10 @@ pub fn add_link<'a>(
         ≡ links.old.items ++ (operator, operand.entry.value) ∷ []) }
     ensures err { IfErr result (λ e. e ≡ ParseError.Memory) }
 {
+    // Most chains are of one operator. A first `push` would ask for several places.
+    if links.is_empty() {
+        links.reserve_exact(1)?;
+    }
     links.push((operator, Box::into_inner(operand)))?;
     Ok(())
 }

@@ -144,6 +144,7 @@ fn properties(
     Ok(found)
 }
 
+// Notes what is wrong in the properties that an object lists, and keeps none of them.
 fn note_provided(
     written: &[Property<'_>],
     alloc: Global,

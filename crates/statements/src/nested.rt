@@ -131,7 +131,7 @@ pub fn statements<'t, 'a>(
             Err(e) => return Err(e),
         }
     }
-    Ok(found)
+    Ok(parts::row(found))
 }
 
 // The statements of a block or of `default`, from its brace or its colon on. Its brace is a nesting, and so is each
@@ -322,7 +322,7 @@ fn bodies<'t, 'a>(
             Err(e) => return Err(e),
         }
     }
-    Ok(found)
+    Ok(parts::row(found))
 }
 
 // A case: its ranges, and its statements behind a colon.

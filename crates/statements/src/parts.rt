@@ -76,6 +76,16 @@ pub fn add<'a>(
     Ok(())
 }
 
+/// A row of statements as it is kept: it gives back the room in which it grew, so rows of some dozens take no more than
+/// what stands in them.
+pub fn row<'a>(statements: Vec<Statement<'a>>) -> Vec<Statement<'a>>
+    ensures { result.items ≡ statements.entry.items }
+{
+    let mut found = statements;
+    found.shrink_to_fit();
+    found
+}
+
 /// A block, with its second brace.
 pub fn block<'t, 'a>(
     parser: &mut Parser<'t, 'a>,

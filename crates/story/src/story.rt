@@ -91,7 +91,7 @@ pub fn compile_for(alloc: Global, source: &[u8], version: Version) -> Result<Sto
     code_plays();
     let tokens = lex(alloc, source)?;
     let program = parse(alloc, &tokens)?;
-    // Tokens take more memory than the tree, which names none of them.
+    // The tree names no token, and they may take more memory than it.
     drop(tokens);
     let checked = check(alloc, program)?;
     test_sizes(&checked, version)?;
