@@ -6,14 +6,14 @@ use Rattle.std.specs.Prelude.{map}
 use Rattle.std.specs.Str.{bytes_eq}
 use Rattle.std.proofs.lemmas.Bool.Decides.{nat_tests}
 use Rattle.std.proofs.lemmas.List.{length-map}
-use Rattle.lexer.specs.declared.token.Position.{Position}
-use Rattle.directives.specs.declared.tree.Text.{Text}
-use Rattle.directives.specs.Tree.{TextTree, text_tree}
-use Rattle.names.specs.declared.breach.Breach.{Breach}
-use Rattle.names.specs.Breaches.{at}
-use Rattle.names.specs.Noted.{noted}
-use Rattle.names.proofs.Noted.{noted_none, noted_two}
-use Rattle.names.proofs.Dropped.{drop_end}
+use Rattle.syntax_lexer.specs.declared.token.Position.{Position}
+use Rattle.syntax_directives.specs.declared.tree.Text.{Text}
+use Rattle.syntax_directives.specs.Tree.{TextTree, text_tree}
+use Rattle.checker_names.specs.declared.breach.Breach.{Breach}
+use Rattle.checker_names.specs.Breaches.{at}
+use Rattle.checker_names.specs.Noted.{noted}
+use Rattle.checker_names.proofs.Noted.{noted_none, noted_two}
+use Rattle.checker_names.proofs.Dropped.{drop_end}
 use Rattle.checker.specs.Programs.{same_bytes, has_text, abbreviation_breaches, abbreviations_breaches}
 
 -- What stands earlier

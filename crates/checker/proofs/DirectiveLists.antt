@@ -1,10 +1,10 @@
 -- What is found of directives: of the first of a list, and then of the others.
 use Rattle.std.proofs.Common.{◌≡◌, List, [], ◌∷◌, ◌++◌, refl}
 use Rattle.std.specs.Prelude.{map}
-use Rattle.directives.specs.Tree.{DirectiveTree, global, constant, array, attribute, property, object, routine}
-use Rattle.names.specs.Names.{File}
+use Rattle.syntax_directives.specs.Tree.{DirectiveTree, global, constant, array, attribute, property, object, routine}
+use Rattle.checker_names.specs.Names.{File}
 use Rattle.checker.specs.Programs.{globals_of, defaults_in, routines_of, routine_trees, title}
-use Rattle.object_rules.specs.Files.{objects_in}
+use Rattle.checker_objects.specs.Objects.{objects_in}
 
 pub globals_more : (file : File) (d : DirectiveTree) (ds : List DirectiveTree)
     → globals_of file (d ∷ ds) ≡ globals_of file (d ∷ []) ++ globals_of file ds

@@ -4,31 +4,30 @@ use Rattle.std.proofs.Common.{refl, sym, subst, ap, ◌∙◌}
 use Rattle.std.specs.Prelude.{map}
 use Rattle.std.specs.List.{concat}
 use Rattle.std.specs.Global.{Vec}
-use Rattle.expression_trees.specs.Tree.{NameTree}
-use Rattle.statement_parts.specs.Tree.{LiteralTree}
-use Rattle.directives.specs.declared.tree.Directive.{Directive}
-use Rattle.directives.specs.Tree.{ArrayTree, ObjectTree, RoutineTree, DirectiveTree, global, constant, array, attribute}
-use Rattle.directives.specs.Tree.{property, object, routine, directive_tree}
+use Rattle.syntax_trees.specs.Tree.{NameTree}
+use Rattle.syntax_statement_parts.specs.Tree.{LiteralTree}
+use Rattle.syntax_directives.specs.declared.tree.Directive.{Directive}
+use Rattle.syntax_directives.specs.Tree.{ArrayTree, ObjectTree, RoutineTree, DirectiveTree, global, constant, array}
+use Rattle.syntax_directives.specs.Tree.{attribute, property, object, routine, directive_tree}
 use Rattle.meaning.specs.declared.arrays.Arrays.{Arrays}
 use Rattle.meaning.specs.declared.checked.CheckedObject.{CheckedObject}
 use Rattle.meaning.specs.declared.checked.CheckedRoutine.{CheckedRoutine}
 use Rattle.meaning.specs.Objects.{ObjectOf}
 use Rattle.meaning.specs.Resolved.{RoutineOf, object_of, routine_of, title_of}
-use Rattle.names.specs.declared.breach.Breach.{Breach}
-use Rattle.names.specs.declared.counts.Counts.{Counts}
-use Rattle.names.specs.Names.{Table, File, counts_after, with_directive}
-use Rattle.names.specs.Noted.{noted}
-use Rattle.names.proofs.Dropped.{drop_here, drop_end}
-use Rattle.names.proofs.Noted.{noted_append}
-use Rattle.names.proofs.Mapped.{nothing_more, map_push}
-use Rattle.value_rules.specs.Literals.{initial_value}
-use Rattle.array_rules.specs.Arrays.{array_bytes, arrays_of}
-use Rattle.array_rules.specs.Entries.{IsArrayAdded}
-use Rattle.array_rules.proofs.ArrayLists.{bytes_more, list_step, sizes_more}
-use Rattle.object_rules.specs.Objects.{object_in}
-use Rattle.object_rules.specs.Files.{objects_in}
-use Rattle.checker.specs.declared.directive_rules.Found.{Found}
-use Rattle.checker.specs.Found.{IsAdded, IsAdding}
+use Rattle.checker_names.specs.declared.breach.Breach.{Breach}
+use Rattle.checker_names.specs.declared.counts.Counts.{Counts}
+use Rattle.checker_names.specs.Names.{Table, File, counts_after, with_directive}
+use Rattle.checker_names.specs.Noted.{noted}
+use Rattle.checker_names.proofs.Dropped.{drop_here, drop_end}
+use Rattle.checker_names.proofs.Noted.{noted_append}
+use Rattle.checker_names.proofs.Mapped.{nothing_more, map_push}
+use Rattle.checker_values.specs.Literals.{initial_value}
+use Rattle.checker_arrays.specs.Arrays.{array_bytes, arrays_of}
+use Rattle.checker_arrays.specs.Entries.{IsArrayAdded}
+use Rattle.checker_arrays.proofs.ArrayLists.{bytes_more, list_step, sizes_more}
+use Rattle.checker_objects.specs.Objects.{object_in, objects_in}
+use Rattle.checker.specs.declared.directive_rules.ResolvedFile.{ResolvedFile}
+use Rattle.checker.specs.Resolving.{IsAdded, IsAdding}
 use Rattle.checker.specs.Programs.{globals_of, defaults_in, routines_of, resolve_routine, routine_trees, title}
 use Rattle.checker.specs.Programs.{directive_breaches, directives_breaches}
 use Rattle.checker.proofs.DirectiveLists.{defaults_more, globals_more, objects_more, routines_more, titles_more}
@@ -43,37 +42,38 @@ same_sizes old new same = ap (λ (a : Arrays). a.sizes.items) same ∙ nothing_m
 
 -- what was found of other kinds stays as it was
 
-pub record KeepsButGlobals (old new : Found) : Type 0 where
+pub record KeepsButGlobals (old new : ResolvedFile) : Type 0 where
   pub arrays : new.arrays ≡ old.arrays
   pub defaults : new.defaults ≡ old.defaults
   pub objects : new.objects ≡ old.objects
   pub routines : new.routines ≡ old.routines
 
-pub record KeepsButArrays (old new : Found) : Type 0 where
+pub record KeepsButArrays (old new : ResolvedFile) : Type 0 where
   pub globals : new.globals ≡ old.globals
   pub defaults : new.defaults ≡ old.defaults
   pub objects : new.objects ≡ old.objects
   pub routines : new.routines ≡ old.routines
 
-pub record KeepsButDefaults (old new : Found) : Type 0 where
+pub record KeepsButDefaults (old new : ResolvedFile) : Type 0 where
   pub globals : new.globals ≡ old.globals
   pub arrays : new.arrays ≡ old.arrays
   pub objects : new.objects ≡ old.objects
   pub routines : new.routines ≡ old.routines
 
-pub record KeepsButObjects (old new : Found) : Type 0 where
+pub record KeepsButObjects (old new : ResolvedFile) : Type 0 where
   pub globals : new.globals ≡ old.globals
   pub arrays : new.arrays ≡ old.arrays
   pub defaults : new.defaults ≡ old.defaults
   pub routines : new.routines ≡ old.routines
 
-pub record KeepsButRoutines (old new : Found) : Type 0 where
+pub record KeepsButRoutines (old new : ResolvedFile) : Type 0 where
   pub globals : new.globals ≡ old.globals
   pub arrays : new.arrays ≡ old.arrays
   pub defaults : new.defaults ≡ old.defaults
   pub objects : new.objects ≡ old.objects
 
-pub added_global : (file : File) (d : DirectiveTree) (n : NameTree) (v : Option LiteralTree) (old new : Found) (x : ℕ)
+pub added_global : (file : File) (d : DirectiveTree) (n : NameTree) (v : Option LiteralTree) (old new : ResolvedFile)
+    (x : ℕ)
     → d ≡ global n v → new.globals.items ≡ old.globals.items ++ x ∷ [] → x ≡ initial_value file v
     → KeepsButGlobals old new → IsAdded file (d ∷ []) old new
 added_global file d n v old new x is more value keeps = rw is (record {
@@ -90,7 +90,7 @@ added_global file d n v old new x is more value keeps = rw is (record {
 })
 
 -- nothing is added
-nothing_added : (file : File) (ds : List DirectiveTree) (old : Found) → globals_of file ds ≡ []
+nothing_added : (file : File) (ds : List DirectiveTree) (old : ResolvedFile) → globals_of file ds ≡ []
     → concat (arrays_of file ds) ≡ [] → map length (arrays_of file ds) ≡ [] → defaults_in file ds ≡ []
     → objects_in file ds ≡ [] → routines_of file ds ≡ [] → map title (routine_trees ds) ≡ [] → IsAdded file ds old old
 nothing_added file ds old g b s w o r t = record {
@@ -104,15 +104,15 @@ nothing_added file ds old g b s w o r t = record {
   titles = nothing_more (map title_of old.routines.items) ∙ ap (λ x. map title_of old.routines.items ++ x) (sym t);
 }
 
-pub added_constant : (file : File) (d : DirectiveTree) (n : NameTree) (v : LiteralTree) (old : Found)
+pub added_constant : (file : File) (d : DirectiveTree) (n : NameTree) (v : LiteralTree) (old : ResolvedFile)
     → d ≡ constant n v → IsAdded file (d ∷ []) old old
 added_constant file d n v old is = rw is (nothing_added file (constant n v ∷ []) old refl refl refl refl refl refl refl)
 
-pub added_attribute : (file : File) (d : DirectiveTree) (n : NameTree) (old : Found)
+pub added_attribute : (file : File) (d : DirectiveTree) (n : NameTree) (old : ResolvedFile)
     → d ≡ attribute n → IsAdded file (d ∷ []) old old
 added_attribute file d n old is = rw is (nothing_added file (attribute n ∷ []) old refl refl refl refl refl refl refl)
 
-pub added_array : (file : File) (d : DirectiveTree) (a : ArrayTree) (old new : Found) → d ≡ array a
+pub added_array : (file : File) (d : DirectiveTree) (a : ArrayTree) (old new : ResolvedFile) → d ≡ array a
     → IsArrayAdded (array_bytes file a) old.arrays new.arrays → KeepsButArrays old new
     → IsAdded file (d ∷ []) old new
 added_array file d a old new is more keeps = rw is (record {
@@ -129,7 +129,8 @@ added_array file d a old new is more keeps = rw is (record {
       ∙ nothing_more (map title_of old.routines.items);
 })
 
-pub added_property : (file : File) (d : DirectiveTree) (n : NameTree) (v : Option LiteralTree) (old new : Found) (x : ℕ)
+pub added_property : (file : File) (d : DirectiveTree) (n : NameTree) (v : Option LiteralTree)
+    (old new : ResolvedFile) (x : ℕ)
     → d ≡ property n v → new.defaults.items ≡ old.defaults.items ++ x ∷ [] → x ≡ initial_value file v % 65536
     → KeepsButDefaults old new → IsAdded file (d ∷ []) old new
 added_property file d n v old new x is more value keeps = rw is (record {
@@ -145,7 +146,7 @@ added_property file d n v old new x is more value keeps = rw is (record {
       ∙ nothing_more (map title_of old.routines.items);
 })
 
-pub added_object : (file : File) (d : DirectiveTree) (o : ObjectTree) (old new : Found) (c : CheckedObject)
+pub added_object : (file : File) (d : DirectiveTree) (o : ObjectTree) (old new : ResolvedFile) (c : CheckedObject)
     → d ≡ object o → new.objects.items ≡ old.objects.items ++ c ∷ [] → object_of c ≡ object_in file o
     → KeepsButObjects old new → IsAdded file (d ∷ []) old new
 added_object file d o old new c is more value keeps = rw is (record {
@@ -164,7 +165,7 @@ added_object file d o old new c is more value keeps = rw is (record {
 abbrev pub IsSame : RoutineOf × (NameTree × ℕ) → RoutineOf × (NameTree × ℕ) → Type 0
 IsSame p q = p ≡ q
 
-pub added_routine : (file : File) (d : DirectiveTree) (r : RoutineTree) (old new : Found) (c : CheckedRoutine)
+pub added_routine : (file : File) (d : DirectiveTree) (r : RoutineTree) (old new : ResolvedFile) (c : CheckedRoutine)
     → d ≡ routine r → new.routines.items ≡ old.routines.items ++ c ∷ []
     → IsSame (routine_of c, title_of c) (resolve_routine file r, title r) → KeepsButRoutines old new
     → IsAdded file (d ∷ []) old new
@@ -185,7 +186,7 @@ added_routine file d r old new c is more value keeps = rw is (record {
 
 -- one more directive
 
-pub adding_more : (file : File) (ds : List Directive) (i : ℕ) (x : Directive) (first old new : Found)
+pub adding_more : (file : File) (ds : List Directive) (i : ℕ) (x : Directive) (first old new : ResolvedFile)
     → i < length ds → x ≡ slice_index_or ds i x
     → IsAdded file (directive_tree x ∷ []) old new
     → IsAdding file (map directive_tree (drop i ds)) (map directive_tree ds) first old
@@ -207,7 +208,7 @@ adding_more file ds i x first old new lt is a h = record {
       (map title_of old.routines.items) (map title_of new.routines.items) ds i x lt is a.titles ∙ h.titles;
 }
 
-pub adding_end : (file : File) (ds : List Directive) (i : ℕ) (first found : Found) → length ds ≤ i
+pub adding_end : (file : File) (ds : List Directive) (i : ℕ) (first found : ResolvedFile) → length ds ≤ i
     → IsAdding file (map directive_tree (drop i ds)) (map directive_tree ds) first found
     → IsAdded file (map directive_tree ds) first found
 adding_end file ds i first found end h =

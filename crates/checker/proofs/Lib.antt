@@ -11,3 +11,15 @@ pub mod Locals
 pub mod Whole
 pub mod Abbreviated
 pub mod Numbered
+mod AbbreviationLimits
+mod NeedsBelow
+mod MeantNames
+mod UnbrokenValues
+mod Unbroken
+mod BreaksStand
+mod Renumbered
+mod Bindings
+mod Placed
+mod FewDirectives
+mod Acceptance
+mod Printable

@@ -2,16 +2,15 @@
 use Rattle.std.proofs.Common.{◌≡◌, ℕ, zero, suc, ◌+◌, ◌<◌, ◌≤◌, Bool, nat_le, List, [], ◌∷◌, ◌++◌, length, take, drop}
 use Rattle.std.proofs.Common.{slice_index_or, Option, is_some, cond, refl, sym, ap, ◌∙◌, arith}
 use Rattle.std.specs.Prelude.{map}
-use Rattle.expression_trees.specs.declared.tree.Name.{Name}
-use Rattle.expression_trees.specs.Tree.{NameTree, name_tree}
-use Rattle.names.specs.declared.breach.Breach.{Breach}
-use Rattle.names.specs.Breaches.{at}
-use Rattle.names.specs.Names.{Table, key_of, in_table, local_from}
-use Rattle.names.specs.Noted.{noted}
-use Rattle.names.specs.Scope.{local_binding}
-use Rattle.names.proofs.Noted.{noted_none, noted_two}
-use Rattle.object_rules.specs.Repeated.{has_name, twice}
-use Rattle.object_rules.proofs.NameTables.{has_number, some_binding, take_more, taken, left}
+use Rattle.syntax_trees.specs.declared.tree.Name.{Name}
+use Rattle.syntax_trees.specs.Tree.{NameTree, name_tree}
+use Rattle.checker_names.specs.declared.breach.Breach.{Breach}
+use Rattle.checker_names.specs.Breaches.{at}
+use Rattle.checker_names.specs.Names.{Table, key_of, in_table, local_from, has_name, twice}
+use Rattle.checker_names.specs.Noted.{noted}
+use Rattle.checker_names.specs.Scope.{local_binding}
+use Rattle.checker_names.proofs.Noted.{noted_none, noted_two}
+use Rattle.checker_objects.proofs.NameTables.{has_number, some_binding, take_more, taken, left}
 use Rattle.checker.specs.Programs.{locals_breaches}
 
 -- the rules that one more local breaks

@@ -3,26 +3,26 @@ use Rattle.std.proofs.Common.{◌≡◌, ℕ, suc, List, [], ◌∷◌, length, 
 use Rattle.std.specs.Prelude.{map, Result, IfOk}
 use Rattle.std.specs.declared.alloc.AllocError.{AllocError}
 use Rattle.std.proofs.Math.Path.{fun_ext}
-use Rattle.expression_trees.specs.declared.tree.Name.{Name}
-use Rattle.expression_trees.specs.Tree.{NameTree, name_tree}
-use Rattle.statements.specs.declared.tree.Statement.{Statement}
-use Rattle.directives.specs.declared.tree.Routine.{Routine}
-use Rattle.directives.specs.Tree.{routine_tree}
+use Rattle.syntax_trees.specs.declared.tree.Name.{Name}
+use Rattle.syntax_trees.specs.Tree.{NameTree, name_tree}
+use Rattle.syntax_statements.specs.declared.tree.Statement.{Statement}
+use Rattle.syntax_directives.specs.declared.tree.Routine.{Routine}
+use Rattle.syntax_directives.specs.Tree.{routine_tree}
 use Rattle.meaning.specs.declared.checked.CheckedRoutine.{CheckedRoutine}
 use Rattle.meaning.specs.Resolved.{Action, Actions, RoutineOf, actions_of, routine_of, title_of}
 use Rattle.meaning.specs.Around.{outside}
-use Rattle.names.specs.declared.binding.Binding.{Binding}
-use Rattle.names.specs.declared.breach.Breach.{Breach}
-use Rattle.names.specs.declared.table.Scope.{Scope}
-use Rattle.names.specs.Names.{Table, key_of, in_table, local_from, local_first, look_up, File, Seen, seen_from}
-use Rattle.names.specs.Noted.{noted}
-use Rattle.names.specs.Scope.{either, number_at, file_in, look_in, local_binding, seen_in}
-use Rattle.value_rules.specs.Walk.{IsWalked}
-use Rattle.value_rules.proofs.Walks.{before}
-use Rattle.simple_rules.specs.Statements.{statements_breaches}
-use Rattle.rules.specs.Walk.{AreActions}
-use Rattle.rules.proofs.Forms.{statements_walked}
-use Rattle.checker.specs.Found.{IsRoutineIn, IsRoutineOf}
+use Rattle.checker_names.specs.declared.binding.Binding.{Binding}
+use Rattle.checker_names.specs.declared.breach.Breach.{Breach}
+use Rattle.checker_names.specs.declared.table.Scope.{Scope}
+use Rattle.checker_names.specs.Names.{Table, key_of, in_table, local_from, local_first, look_up, File, Seen, seen_from}
+use Rattle.checker_names.specs.Noted.{noted}
+use Rattle.checker_names.specs.Scope.{either, number_at, file_in, look_in, local_binding, seen_in}
+use Rattle.checker_values.specs.Walk.{IsWalked}
+use Rattle.checker_values.proofs.Walks.{before}
+use Rattle.checker_statements.specs.Statements.{statements_breaches}
+use Rattle.checker_statements.specs.StatementWalk.{AreActions}
+use Rattle.checker_statements.proofs.StatementForms.{statements_walked}
+use Rattle.checker.specs.Resolving.{IsRoutineIn, IsRoutineOf}
 use Rattle.checker.specs.Programs.{locals_breaches, title, resolve_body, resolve_routine}
 
 -- What a routine sees

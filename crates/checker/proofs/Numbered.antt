@@ -5,20 +5,19 @@ use Rattle.std.specs.Prelude.{map}
 use Rattle.std.specs.List.{concat}
 use Rattle.std.proofs.Math.Path.{fun_ext}
 use Rattle.std.proofs.lemmas.Bool.{cases_lt}
-use Rattle.tables.specs.Dictionary.{key_number, place_in}
-use Rattle.directives.specs.declared.tree.Directive.{Directive}
-use Rattle.directives.specs.Tree.{directive_tree}
+use Rattle.tables.specs.KeyNumbers.{key_number, place_in}
+use Rattle.syntax_directives.specs.declared.tree.Directive.{Directive}
+use Rattle.syntax_directives.specs.Tree.{directive_tree}
 use Rattle.syntax.specs.declared.tree.Program.{Program}
 use Rattle.syntax.specs.Tree.{ProgramTree, program_tree}
 use Rattle.meaning.specs.Objects.{ObjectOf}
 use Rattle.meaning.specs.Places.{dictionary_place, folded, table_size, objects_size, total}
 use Rattle.meaning.proofs.Folding.{fold_small, fold_great, fold_part}
-use Rattle.names.specs.Keys.{keys_of}
-use Rattle.names.specs.Names.{Table, File, table_of}
-use Rattle.array_rules.specs.Arrays.{arrays_of}
-use Rattle.object_rules.specs.Objects.{placed, parents_of}
-use Rattle.object_rules.specs.Files.{objects_in, object_trees}
-use Rattle.object_rules.proofs.Chains.{placed_many}
+use Rattle.checker_names.specs.Keys.{keys_of}
+use Rattle.checker_names.specs.Names.{Table, File, table_of}
+use Rattle.checker_arrays.specs.Arrays.{arrays_of}
+use Rattle.checker_objects.specs.Objects.{placed, parents_of, object_trees, objects_in}
+use Rattle.checker_objects.proofs.Chains.{placed_many}
 use Rattle.checker.specs.Programs.{resolve_with, no_numbers, file_of}
 
 abbrev pub numbered : Table → (ℕ → ℕ) → File

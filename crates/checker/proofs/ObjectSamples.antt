@@ -4,15 +4,15 @@ use Rattle.std.specs.Prelude.{codes}
 use Rattle.ztext.specs.Text.{encoded}
 use Rattle.ztext.specs.Words.{packed}
 use Rattle.ztext.specs.Alphabets.{spelling_of}
-use Rattle.lexer.specs.declared.token.Position.{Position}
-use Rattle.expression_trees.specs.Tree.{NameTree}
-use Rattle.statement_parts.specs.Tree as s
-use Rattle.directives.specs.Tree as d
-use Rattle.directives.specs.Tree.{DirectiveTree, ObjectTree}
+use Rattle.syntax_lexer.specs.declared.token.Position.{Position}
+use Rattle.syntax_trees.specs.Tree.{NameTree}
+use Rattle.syntax_statement_parts.specs.Tree as s
+use Rattle.syntax_directives.specs.Tree as d
+use Rattle.syntax_directives.specs.Tree.{DirectiveTree, ObjectTree}
 use Rattle.syntax.specs.Tree.{ProgramTree}
 use Rattle.meaning.specs.Objects.{ObjectOf}
-use Rattle.names.specs.Breaches.{at}
-use Rattle.names.specs.Names.{table_of, key_of, look_up}
+use Rattle.checker_names.specs.Breaches.{at}
+use Rattle.checker_names.specs.Names.{table_of, key_of, look_up}
 use Rattle.checker.specs.Programs.{program_breaches, resolve_with, file_of, resolve_program}
 use Rattle.checker.proofs.Samples.{p, the, routine, program}
 

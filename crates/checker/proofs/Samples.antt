@@ -3,24 +3,24 @@ use Rattle.std.proofs.Common.{◌≡◌, ℕ, zero, suc, List, [], ◌∷◌, �
 use Rattle.std.specs.Prelude.{codes}
 use Rattle.zcore.specs.declared.place.Place.TheVariants as places
 use Rattle.zcore.specs.Arithmetic.{signed_text, decimal, quotient, remainder}
-use Rattle.lexer.specs.declared.token.Position.{Position}
-use Rattle.expression_trees.specs.Tree.{NameTree, ExpressionTree, ExpressionTrees, constant, named, call, parenthesised}
-use Rattle.expression_trees.specs.Tree.{prefixed, step_before, step_after, binary, equal, assign, none, more}
-use Rattle.expression_trees.specs.declared.tree.Binary.TheVariants as op
-use Rattle.expression_trees.specs.declared.tree.Equality.TheVariants as equality
-use Rattle.expression_trees.specs.declared.tree.Prefix.TheVariants as prefix
-use Rattle.expression_trees.specs.declared.tree.Step.TheVariants as steps
-use Rattle.statement_parts.specs.Tree as parts
-use Rattle.statements.specs.Tree as s
-use Rattle.statements.specs.Tree.{StatementTree, StatementTrees}
-use Rattle.directives.specs.Tree as d
-use Rattle.directives.specs.Tree.{DirectiveTree}
+use Rattle.syntax_lexer.specs.declared.token.Position.{Position}
+use Rattle.syntax_trees.specs.Tree.{NameTree, ExpressionTree, ExpressionTrees, constant, named, call, parenthesised}
+use Rattle.syntax_trees.specs.Tree.{prefixed, step_before, step_after, binary, equal, assign, none, more}
+use Rattle.syntax_trees.specs.declared.tree.Binary.TheVariants as op
+use Rattle.syntax_trees.specs.declared.tree.Equality.TheVariants as equality
+use Rattle.syntax_trees.specs.declared.tree.Prefix.TheVariants as prefix
+use Rattle.syntax_trees.specs.declared.tree.Step.TheVariants as steps
+use Rattle.syntax_statement_parts.specs.Tree as parts
+use Rattle.syntax_statements.specs.Tree as s
+use Rattle.syntax_statements.specs.Tree.{StatementTree, StatementTrees}
+use Rattle.syntax_directives.specs.Tree as d
+use Rattle.syntax_directives.specs.Tree.{DirectiveTree}
 use Rattle.syntax.specs.Tree.{ProgramTree}
 use Rattle.meaning.specs.World.{Outcome}
 use Rattle.meaning.specs.Meaning.{meaning}
-use Rattle.names.specs.Breaches.{at}
-use Rattle.names.specs.Names.{table_of, key_of, look_up}
-use Rattle.value_rules.specs.Temporaries.{need}
+use Rattle.checker_names.specs.Breaches.{at}
+use Rattle.checker_names.specs.Names.{table_of, key_of, look_up}
+use Rattle.checker_values.specs.Temporaries.{need}
 use Rattle.checker.specs.Programs.{program_breaches, resolve_with, file_of, resolve_program}
 
 -- the position of a token, by its number

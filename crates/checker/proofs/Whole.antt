@@ -1,9 +1,9 @@
 -- A whole program.
 use Rattle.std.proofs.Common.{◌≡◌, ℕ, List, [], ◌++◌, Option, refl, subst, ap, ◌∙◌}
 use Rattle.std.specs.Prelude.{map}
-use Rattle.directives.specs.declared.tree.Directive.{Directive}
-use Rattle.directives.specs.declared.tree.Text.{Text}
-use Rattle.directives.specs.Tree.{directive_tree, TextTree, text_tree}
+use Rattle.syntax_directives.specs.declared.tree.Directive.{Directive}
+use Rattle.syntax_directives.specs.declared.tree.Text.{Text}
+use Rattle.syntax_directives.specs.Tree.{directive_tree, TextTree, text_tree}
 use Rattle.syntax.specs.declared.tree.Program.{Program}
 use Rattle.syntax.specs.Tree.{ProgramTree, program_tree}
 use Rattle.meaning.specs.Objects.{ObjectOf}
@@ -12,16 +12,15 @@ use Rattle.meaning.specs.declared.checked.CheckedObject.{CheckedObject}
 use Rattle.meaning.specs.Resolved.{RoutineOf, ProgramOf, CheckedProgram, object_of, routine_of, cut}
 use Rattle.meaning.specs.declared.checked.CheckedRoutine.{CheckedRoutine}
 use Rattle.meaning.proofs.Cutting.{cut_is}
-use Rattle.names.specs.declared.breach.Breach.{Breach}
-use Rattle.names.specs.Keys.{keys_of}
-use Rattle.names.specs.Names.{Table, File, in_table, first_table, no_counts, table_of}
-use Rattle.names.specs.Noted.{noted}
-use Rattle.names.proofs.Noted.{noted_two}
-use Rattle.array_rules.specs.Arrays.{arrays_of}
-use Rattle.object_rules.specs.Objects.{all_defaults, standing_breaches, parents_of, placed}
-use Rattle.object_rules.specs.Files.{object_trees, objects_of}
-use Rattle.checker.specs.declared.directive_rules.Found.{Found}
-use Rattle.checker.specs.Found.{IsFound}
+use Rattle.checker_names.specs.declared.breach.Breach.{Breach}
+use Rattle.checker_names.specs.Keys.{keys_of}
+use Rattle.checker_names.specs.Names.{Table, File, in_table, first_table, no_counts, table_of}
+use Rattle.checker_names.specs.Noted.{noted}
+use Rattle.checker_names.proofs.Noted.{noted_two}
+use Rattle.checker_arrays.specs.Arrays.{arrays_of}
+use Rattle.checker_objects.specs.Objects.{all_defaults, standing_breaches, parents_of, placed, object_trees, objects_of}
+use Rattle.checker.specs.declared.directive_rules.ResolvedFile.{ResolvedFile}
+use Rattle.checker.specs.Resolving.{IsFound}
 use Rattle.checker.specs.Programs.{main_key, first_routine, main_breaches, directives_breaches, program_breaches}
 use Rattle.checker.specs.Programs.{defaults_in, globals_of, routines_of, routine_number, resolve_with, file_of}
 use Rattle.checker.specs.Programs.{abbreviations_breaches, resolve_program, IsCheckedOf}
@@ -112,7 +111,8 @@ checked globals arrays defaults objects keys abbreviations routines main weight 
 }
 
 pub program_checked : (p : Program) (file : File) (keys : List ℕ) (given again : List Directive) (texts : List Text)
-    (found : Found) (defaults parents : List ℕ) (objects : List CheckedObject) (abbreviations : List (List ℕ)) (n : ℕ)
+    (found : ResolvedFile) (defaults parents : List ℕ) (objects : List CheckedObject) (abbreviations : List (List ℕ))
+    (n : ℕ)
     (c : CheckedProgram) → file ≡ file_of (program_tree p)
     → keys ≡ keys_of (program_tree p).words
     → given ≡ p.directives.items → again ≡ p.directives.items → texts ≡ p.abbreviations.items

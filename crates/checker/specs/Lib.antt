@@ -1,2 +1,3 @@
 pub mod Programs
-pub mod Found
+pub mod Resolving
+pub mod Laws

@@ -2,30 +2,31 @@
 use Rattle.std.specs.Prelude.{◌≡◌, ◌==◌, ◌||◌, ◌%◌, ℕ, nat_le, nat_lt, Bool, true, false, map, if◌then◌else◌, List, []}
 use Rattle.std.specs.Prelude.{◌∷◌, ◌++◌, codes, length, Option, Some, None}
 use Rattle.ztext.specs.Abbreviations.{most_abbreviations}
-use Rattle.names.specs.Numbers.{bad_abbreviation, defined_twice, no_proper_main, too_many}
-use Rattle.lexer.specs.declared.token.Position.{Position}
-use Rattle.expression_trees.specs.Tree.{NameTree}
-use Rattle.statement_parts.specs.Tree.{LiteralTree}
-use Rattle.directives.specs.Tree.{RoutineTree, DirectiveTree, global, constant, array, attribute, property, object}
-use Rattle.directives.specs.Tree.{routine, ObjectTree, TextTree}
+use Rattle.syntax_lexer.specs.FaultNumbers.{bad_abbreviation, defined_twice, no_proper_main, too_many}
+use Rattle.syntax_lexer.specs.declared.token.Position.{Position}
+use Rattle.syntax_trees.specs.Tree.{NameTree}
+use Rattle.syntax_statement_parts.specs.Tree.{LiteralTree}
+use Rattle.syntax_directives.specs.Tree.{RoutineTree, DirectiveTree, global, constant, array, attribute, property}
+use Rattle.syntax_directives.specs.Tree.{object, routine, ObjectTree, TextTree}
 use Rattle.syntax.specs.Tree.{ProgramTree}
 use Rattle.meaning.specs.Places.{machine_character, number_in}
 use Rattle.meaning.specs.Around.{outside}
 use Rattle.meaning.specs.Resolved.{RoutineOf, ProgramOf, CheckedProgram, program_of, title_of}
-use Rattle.names.specs.declared.binding.Binding.{Binding}
-use Rattle.names.specs.declared.binding.Binding.TheVariants as bindings
-use Rattle.names.specs.declared.breach.Breach.{Breach}
-use Rattle.names.specs.Breaches.{at}
-use Rattle.names.specs.declared.counts.Counts.{Counts}
-use Rattle.names.specs.Keys.{keys_of}
-use Rattle.names.specs.Names.{Table, File, key_of, same_key, in_table, first_table, no_counts, with_directive}
-use Rattle.names.specs.Names.{counts_after, table_of, look_up, Seen, seen_from}
-use Rattle.value_rules.specs.Literals.{initial_breaches, named_breaches, initial_value}
-use Rattle.simple_rules.specs.Statements.{statements_breaches, resolve_statements}
-use Rattle.array_rules.specs.Arrays.{array_breaches, arrays_of}
-use Rattle.object_rules.specs.Repeated.{has_name, twice}
-use Rattle.object_rules.specs.Objects.{object_breaches, standing_breaches, all_defaults}
-use Rattle.object_rules.specs.Files.{object_trees, objects_of}
+use Rattle.meaning.specs.Limits.{most_globals, most_objects, most_properties}
+use Rattle.checker_names.specs.declared.binding.Binding.{Binding}
+use Rattle.checker_names.specs.declared.binding.Binding.TheVariants as bindings
+use Rattle.checker_names.specs.declared.breach.Breach.{Breach}
+use Rattle.checker_names.specs.Breaches.{at}
+use Rattle.checker_names.specs.declared.counts.Counts.{Counts}
+use Rattle.checker_names.specs.Keys.{keys_of}
+use Rattle.checker_names.specs.Names.{Table, File, key_of, same_key, in_table, first_table, no_counts, with_directive}
+use Rattle.checker_names.specs.Names.{counts_after, table_of, look_up, Seen, seen_from}
+use Rattle.checker_values.specs.Literals.{initial_breaches, named_breaches, initial_value}
+use Rattle.checker_statements.specs.Statements.{statements_breaches, resolve_statements}
+use Rattle.checker_arrays.specs.Arrays.{array_breaches, arrays_of}
+use Rattle.checker_names.specs.Names.{twice, has_name}
+use Rattle.checker_objects.specs.Objects.{object_breaches, standing_breaches, all_defaults, object_trees, objects_of}
+use Rattle.zcore.specs.Layout.{attribute_count, most_locals}
 
 -- Definitions: E22 at a name that is defined already; E24 at the 233rd global, the 49th attribute, the 63rd property
 -- beside `name` and the 2,001st object
@@ -41,7 +42,7 @@ abbrev pub locals_breaches : List NameTree → List NameTree → List Breach
 locals_breaches before [] = []
 locals_breaches before (l ∷ ls) =
     (if has_name before l then at l.position defined_twice else [])
-    ++ ((if nat_le 15 (length before) then at l.position too_many else [])
+    ++ ((if nat_le most_locals (length before) then at l.position too_many else [])
     ++ locals_breaches (before ++ l ∷ []) ls)
 
 abbrev pub routine_breaches : Table → RoutineTree → List Breach
@@ -49,18 +50,18 @@ routine_breaches whole r = locals_breaches [] r.locals ++ statements_breaches (l
 
 abbrev pub global_directive_breaches : Table → Table → Counts → NameTree → Option LiteralTree → List Breach
 global_directive_breaches whole table counts n v =
-    twice table n ++ (limit_breaches 232 counts.globals n ++ initial_breaches whole v)
+    twice table n ++ (limit_breaches most_globals counts.globals n ++ initial_breaches whole v)
 
 abbrev pub attribute_directive_breaches : Table → Counts → NameTree → List Breach
-attribute_directive_breaches table counts n = twice table n ++ limit_breaches 48 counts.attributes n
+attribute_directive_breaches table counts n = twice table n ++ limit_breaches attribute_count counts.attributes n
 
 abbrev pub property_directive_breaches : Table → Table → Counts → NameTree → Option LiteralTree → List Breach
 property_directive_breaches whole table counts n v =
-    twice table n ++ (limit_breaches 62 counts.properties n ++ initial_breaches whole v)
+    twice table n ++ (limit_breaches most_properties counts.properties n ++ initial_breaches whole v)
 
 abbrev pub object_directive_breaches : Table → Table → Counts → ObjectTree → List Breach
 object_directive_breaches whole table counts o =
-    twice table o.name ++ (limit_breaches 2000 counts.objects o.name ++ object_breaches whole o)
+    twice table o.name ++ (limit_breaches most_objects counts.objects o.name ++ object_breaches whole o)
 
 -- of a directive, with the names of the whole file, and the names and how much is defined before it
 abbrev pub directive_breaches : Table → Table → Counts → DirectiveTree → List Breach

@@ -1,16 +1,16 @@
 //! Abbreviations: the rules that they can break, and their characters.
 
 ghost use Rattle.std.specs.Prelude.{◌≡◌, [], IfOk, map};
-ghost use Rattle.directives.specs.Tree.{TextTree, text_tree};
-ghost use Rattle.names.specs.Noted.{noted};
+ghost use Rattle.syntax_directives.specs.Tree.{TextTree, text_tree};
+ghost use Rattle.checker_names.specs.Noted.{noted};
 ghost use Rattle.meaning.specs.Places as places;
 ghost use Rattle.checker.specs.Programs as spec;
 
-use lexer::{BAD_ABBREVIATION, TOO_MANY};
+use checker_names::{Breach, note};
 use meaning::machine_character;
-use names::{Breach, note};
 use std::alloc::{AllocError, Global};
 use syntax::Text;
+use syntax_lexer::{BAD_ABBREVIATION, TOO_MANY};
 use zcore::{Abbreviations, MOST_ABBREVIATIONS};
 
 fn has_text(texts: &[Text<'_>], bytes: &[u8]) -> bool
@@ -25,7 +25,7 @@ fn has_text(texts: &[Text<'_>], bytes: &[u8]) -> bool
 }
 
 // An abbreviation that follows these.
-#[tactic(auto, using(names::proofs::Noted::noted_none))]
+#[tactic(auto, using(checker_names::proofs::Noted::noted_none))]
 fn text_rule(before: &[Text<'_>], text: Text<'_>, least: &mut Option<Breach>)
     ensures { least.new ≡ noted least.old
         (spec.abbreviation_breaches (map text_tree before.now) (text_tree text.entry)) }
@@ -37,7 +37,8 @@ fn text_rule(before: &[Text<'_>], text: Text<'_>, least: &mut Option<Breach>)
     }
 }
 
-/// Notes the rules that abbreviations break. Each is compared with no more than the first 96 ([`MOST_ABBREVIATIONS`]).
+/// Notes the rules that abbreviations break. Each is compared with no more than the first 96
+/// ([`MOST_ABBREVIATIONS`]).
 pub fn abbreviation_rules(texts: &[Text<'_>], least: &mut Option<Breach>)
     ensures { least.new ≡ noted least.old
         (spec.abbreviations_breaches [] (map text_tree texts.now)) }

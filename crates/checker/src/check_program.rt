@@ -2,24 +2,25 @@
 
 ghost use Rattle.std.specs.Prelude.{◌≡◌, ◌≤◌, ◌^◌, IfOk, OnOk, length};
 ghost use Rattle.syntax.specs.Tree.{program_tree};
-ghost use Rattle.names.specs.Breaches.{Answers};
-ghost use Rattle.names.specs.Noted.{noted};
-ghost use Rattle.names.specs.Scope.{file_in};
-ghost use Rattle.names.specs.Keys.{keys_of};
+ghost use Rattle.checker_names.specs.Breaches.{AnswersBreaches};
+ghost use Rattle.checker_names.specs.Noted.{noted};
+ghost use Rattle.checker_names.specs.Scope.{file_in};
+ghost use Rattle.checker_names.specs.Keys.{keys_of};
 ghost use Rattle.checker.specs.Programs.{program_breaches, no_numbers, file_of, IsCheckedOf};
 
 use crate::abbreviation_rules::{abbreviation_rules, all_abbreviations};
 use crate::directive_rules::all_directives;
 use crate::main_rules::main_number;
-use array_rules::bytes_of_arrays;
-use lexer::{NO_MEMORY, SourceFault};
+use checker_arrays::bytes_of_arrays;
+use checker_names::{Breach, File, Numbers, gather, tabulate};
+use checker_objects::{all_defaults, objects_alone, parents, place};
 use meaning::{Checked, dictionary_behind, objects_size};
-use names::{Breach, File, Numbers, gather, tabulate};
-use object_rules::{all_defaults, objects_alone, parents, place};
 use std::alloc::{AllocError, Global};
 use syntax::{Directive, Program, Text};
+use syntax_lexer::{NO_MEMORY, SourceFault};
 
-// Resolves the names and words of a program, where these are those of its file, and notes the rules that it breaks.
+// Resolves the names and words of a program, where these are those of its file, and notes the rules
+// that it breaks.
 fn resolve_with<'a>(
     program: &Program<'a>,
     alloc: Global,
@@ -65,7 +66,8 @@ fn unnumbered(program: &Program<'_>, alloc: Global) -> Result<File, AllocError>
     Ok(File { table, numbers })
 }
 
-// The names of a program and the numbers of its words, which rest on how many bytes its arrays and its objects have.
+// The names of a program and the numbers of its words, which rest on how many bytes its arrays and
+// its objects have.
 fn numbered(program: &Program<'_>, alloc: Global) -> Result<File, AllocError>
     ensures file { IfOk result (λ f. file_in f ≡ file_of (program_tree program.now)) }
     ensures keys { IfOk result (λ f. f.numbers.keys.items
@@ -104,14 +106,16 @@ fn resolve<'a>(
 ///
 /// # Errors
 ///
-/// The fault is that at the smallest place, and of several there the one with the smallest number: E20 an unknown name,
-/// E21 no proper `Main`, E22 a name that is defined twice, E23 a name of the wrong kind, E24 too many globals, attributes,
-/// properties, objects, locals, arguments, words of a property or abbreviations, or too long a short name, E25 more arguments than the routine has locals, E26 an assignment to what is
-/// neither a variable, nor an entry of an array, nor a property or a word of one, E28 an entry or a size that an array may not have, E29 an expression
-/// that needs too many temporaries, E33 an abbreviation of fewer than two characters, or one that stands earlier. E99, with
-/// line 0: memory was refused.
+/// The fault is that at the smallest place, and of several there the one with the smallest number:
+/// E20 an unknown name, E21 no proper `Main`, E22 a name that is defined twice, E23 a name of the
+/// wrong kind, E24 too many globals, attributes, properties, objects, locals, arguments, words of a
+/// property or abbreviations, or too long a short name, E25 more arguments than the routine has
+/// locals, E26 an assignment to what is neither a variable, nor an entry of an array, nor a
+/// property or a word of one, E28 an entry or a size that an array may not have, E29 an expression
+/// that needs too many temporaries, E33 an abbreviation of fewer than two characters, or one that
+/// stands earlier. E99, with line 0: memory was refused.
 pub fn check<'a>(alloc: Global, program: Program<'a>) -> Result<Checked<'a>, SourceFault>
-    ensures { Answers result (program_breaches (program_tree program.entry))
+    ensures { AnswersBreaches result (program_breaches (program_tree program.entry))
         (λ c. IsCheckedOf (program_tree program.entry) c) }
 {
     let mut least = None;

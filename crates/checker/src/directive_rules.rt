@@ -2,44 +2,40 @@
 
 ghost use Rattle.std.specs.Prelude.{◌≡◌, ◌%◌, ◌∷◌, ◌++◌, [], ℕ, List, IfOk, OnOk, map, nat_le};
 ghost use Rattle.std.specs.Prelude.{if◌then◌else◌};
-ghost use Rattle.expression_trees.specs.Tree.{name_tree};
-ghost use Rattle.directives.specs.Tree.{optional_tree, object_tree, routine_tree, directive_tree};
+ghost use Rattle.syntax_trees.specs.Tree.{name_tree};
+ghost use Rattle.syntax_directives.specs.Tree.{optional_tree, object_tree, routine_tree, directive_tree};
 ghost use Rattle.meaning.specs.Resolved.{object_of};
-ghost use Rattle.names.specs.Names.{in_table, local_from, first_table, no_counts};
-ghost use Rattle.names.specs.Breaches.{at};
-ghost use Rattle.names.specs.Noted.{noted};
-ghost use Rattle.names.specs.Scope.{file_in, seen_in, local_binding};
-ghost use Rattle.value_rules.specs.Literals.{initial_value};
-ghost use Rattle.object_rules.specs.Objects.{object_in};
-ghost use Rattle.checker.specs.Found.{IsRoutineIn, IsRoutineOf, IsAdded, IsFound};
+ghost use Rattle.checker_names.specs.Names.{in_table, local_from, first_table, no_counts};
+ghost use Rattle.checker_names.specs.Breaches.{at};
+ghost use Rattle.checker_names.specs.Noted.{noted};
+ghost use Rattle.checker_names.specs.Scope.{file_in, seen_in, local_binding};
+ghost use Rattle.checker_values.specs.Literals.{initial_value};
+ghost use Rattle.checker_objects.specs.Objects.{object_in};
+ghost use Rattle.checker.specs.Resolving.{IsRoutineIn, IsRoutineOf, IsAdded, IsFound};
 ghost use Rattle.checker.specs.Programs as spec;
+ghost use Rattle.zcore.specs.Layout.{most_locals};
+ghost use Rattle.syntax_lexer.specs.FaultNumbers.{too_many};
 
-use array_rules::array;
-use expression_trees::Name;
+use checker_arrays::array;
+use checker_names::{Binding, Breach, File, Names, Scope, Table, define, note};
+use checker_objects::{object, twice};
+use checker_statements::all_statements;
+use checker_values::{constant_value, initial};
 use indexmap::IndexMap;
-use lexer::{Position, TOO_MANY};
+use meaning::limits::{MOST_GLOBALS, MOST_OBJECTS, MOST_PROPERTIES};
 use meaning::{Arrays, CheckedObject, CheckedRoutine, OUTSIDE};
-use names::{Binding, Breach, File, Names, Scope, Table, define, note};
-use object_rules::{object, twice};
-use rules::all_statements;
 use std::alloc::{AllocError, Global};
 use syntax::{Directive, Literal, Object, Routine, Statement};
-use value_rules::{constant_value, initial};
+use syntax_lexer::{Position, TOO_MANY};
+use syntax_trees::Name;
+use zcore::layout::{ATTRIBUTE_COUNT, MOST_LOCALS};
 
-// What there may be of each kind; of properties, beside `name`.
-const MOST_GLOBALS: usize = 232;
-
-const MOST_ATTRIBUTES: usize = 48;
-
-const MOST_PROPERTIES: usize = 62;
-
-const MOST_OBJECTS: usize = 2000;
-
-#[tactic(auto, using(names::proofs::Noted::noted_none))]
+#[tactic(auto, using(checker_names::proofs::Noted::noted_none))]
 fn count_locals(number: usize, position: Position, least: &mut Option<Breach>)
-    ensures { least.new ≡ noted least.old (if nat_le 15 number then at position 24 else []) }
+    ensures { least.new ≡ noted least.old
+        (if nat_le most_locals number then at position too_many else []) }
 {
-    if number >= 15 {
+    if number >= MOST_LOCALS {
         note(least, TOO_MANY, position);
     }
 }
@@ -112,7 +108,7 @@ fn routine<'a>(
 
 /// What the directives of a file resolve to.
 #[derive(Drop)]
-pub struct Found<'a> {
+pub struct ResolvedFile<'a> {
     /// What the global variables begin with, in order of definition.
     pub globals: Vec<u16>,
 
@@ -130,7 +126,7 @@ pub struct Found<'a> {
 }
 
 // A name of a kind of which there may be so many.
-#[tactic(auto, using(names::proofs::Noted::noted_none))]
+#[tactic(auto, using(checker_names::proofs::Noted::noted_none))]
 fn limit(name: Name<'_>, most: usize, before: usize, least: &mut Option<Breach>)
     ensures { least.new ≡ noted least.old (spec.limit_breaches most before (name_tree name.entry)) }
 {
@@ -162,7 +158,12 @@ fn attribute(name: Name<'_>, names: &Names, least: &mut Option<Breach>)
         (name_tree name.entry)) }
 {
     twice(name, &names.table, least);
-    limit(name, MOST_ATTRIBUTES, names.counts.attributes, least);
+    limit(
+        name,
+        ATTRIBUTE_COUNT as usize,
+        names.counts.attributes,
+        least,
+    );
 }
 
 // The default of a property.
@@ -208,7 +209,7 @@ fn directive<'a>(
     alloc: Global,
     file: &File,
     names: &Names,
-    found: &mut Found<'a>,
+    found: &mut ResolvedFile<'a>,
     least: &mut Option<Breach>,
 ) -> Result<(), AllocError>
     ensures added { OnOk result
@@ -264,7 +265,7 @@ fn add_all<'a>(
     alloc: Global,
     file: &File,
     names: &mut Names,
-    found: &mut Found<'a>,
+    found: &mut ResolvedFile<'a>,
     least: &mut Option<Breach>,
 ) -> Result<(), AllocError>
     requires first { names.old.counts ≡ no_counts }
@@ -281,8 +282,8 @@ fn add_all<'a>(
     Ok(())
 }
 
-/// Resolves the names and the words of a file's directives, where these are those of the whole file, and notes the rules
-/// that they break.
+/// Resolves the names and the words of a file's directives, where these are those of the whole
+/// file, and notes the rules that they break.
 ///
 /// # Errors
 ///
@@ -292,7 +293,7 @@ pub fn all_directives<'a>(
     alloc: Global,
     file: &File,
     least: &mut Option<Breach>,
-) -> Result<Found<'a>, AllocError>
+) -> Result<ResolvedFile<'a>, AllocError>
     ensures found { IfOk result
         (λ f. IsFound (file_in file.now) (map directive_tree directives.now) f) }
     ensures breaches { OnOk result (least.new ≡ noted least.old
@@ -300,7 +301,7 @@ pub fn all_directives<'a>(
         (map directive_tree directives.now))) }
 {
     let mut names = Names::new(alloc)?;
-    let mut found = Found {
+    let mut found = ResolvedFile {
         globals: Vec::new(alloc),
         arrays: Arrays::none(alloc),
         defaults: Vec::new(alloc),

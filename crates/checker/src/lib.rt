@@ -4,7 +4,9 @@
 mod abbreviation_rules;
 mod check_program;
 mod directive_rules;
+mod laws;
 mod main_rules;
 
 pub use check_program::check;
+pub use laws::{accepted_programs, printable_programs, words_are_numbered};
 pub use meaning::Checked;

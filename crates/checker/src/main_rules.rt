@@ -2,17 +2,17 @@
 
 ghost use Rattle.std.specs.Prelude.{◌≡◌, map};
 ghost use Rattle.std.specs.Option.{option_map};
-ghost use Rattle.expression_trees.specs.Tree.{name_tree};
-ghost use Rattle.directives.specs.Tree.{directive_tree};
-ghost use Rattle.names.specs.Names.{in_table};
-ghost use Rattle.names.specs.Noted.{noted};
+ghost use Rattle.syntax_trees.specs.Tree.{name_tree};
+ghost use Rattle.syntax_directives.specs.Tree.{directive_tree};
+ghost use Rattle.checker_names.specs.Names.{in_table};
+ghost use Rattle.checker_names.specs.Noted.{noted};
 ghost use Rattle.checker.specs.Programs.{main_key, position_or, main_breaches, routine_number};
 ghost use Rattle.checker.specs.Programs as spec;
 
-use expression_trees::Name;
-use lexer::{NO_PROPER_MAIN, Position};
-use names::{Binding, Breach, Key, Table, find, key_of, note};
+use checker_names::{Binding, Breach, Key, Table, find, key_of, note};
 use syntax::Directive;
+use syntax_lexer::{NO_PROPER_MAIN, Position};
+use syntax_trees::Name;
 
 // The name of the first routine with a key.
 fn first_routine<'a>(directives: &[Directive<'a>], key: &Key) -> Option<Name<'a>>
@@ -40,7 +40,7 @@ fn main_position(directives: &[Directive<'_>], end: Position) -> Position
 }
 
 /// The number of the routine `Main`, in a file that ends there.
-#[tactic(auto, using(names::proofs::Noted::noted_none))]
+#[tactic(auto, using(checker_names::proofs::Noted::noted_none))]
 pub fn main_number(
     directives: &[Directive<'_>],
     end: Position,

@@ -13,21 +13,22 @@ use Rattle.zcore.specs.declared.operations.OperandCount.TheVariants.{Two, One, Z
 use Rattle.zcore.specs.Operations.{count_of, has_more_types}
 use Rattle.zcore.specs.Operations as numbers
 use Rattle.zcore.specs.Instruction.{Instruction, opcode_bytes, operand_bytes, result_bytes, bytes_of}
-use Rattle.expression_trees.specs.declared.tree.Width.{Width}
+use Rattle.syntax_trees.specs.declared.tree.Width.{Width}
 use Rattle.meaning.specs.Meaning.{is_character}
 use Rattle.meaning.specs.declared.cause.Cause.{Cause}
 use Rattle.meaning.specs.declared.cause.Cause.TheVariants as causes
-use Rattle.drafts.specs.Items.{Destination}
-use Rattle.drafts.specs.Items as items
-use Rattle.encoding.specs.Addresses.{Addresses, fault_address}
-use Rattle.encoding.specs.Instructions.{plain, branching, fail, takes, operands, number_of, temporary, constant, giving}
-use Rattle.encoding.specs.Instructions.{result_in, pulled_into, store}
-use Rattle.encoding.specs.Bytes.{bytes_of_all}
-use Rattle.instructions.specs.Instructions.{calling, call_operation, call_result, call_code, divided, character_code}
-use Rattle.instructions.specs.Instructions.{behind_comparison, tested_between, is_between}
-use Rattle.object_selection.specs.ObjectCode.{tests_in, tested_in, at_tested, assigned_takes, assigned_word, passed_on}
-use Rattle.selection.specs.ItemCode.{entries_in, load_operation, store_operation, at_index, first_byte, tested_first}
-use Rattle.selection.specs.ItemCode.{letters_in, words_in, line_code, read_code, entry_code, assign_entry_code}
+use Rattle.code_values.specs.Items.{Destination}
+use Rattle.code_values.specs.Items as items
+use Rattle.code_encoding.specs.Addresses.{Addresses, fault_address}
+use Rattle.code_encoding.specs.Instructions.{plain, branching, fail, takes, operands, number_of, temporary, constant}
+use Rattle.code_encoding.specs.Instructions.{giving, result_in, pulled_into, store}
+use Rattle.code_encoding.specs.Bytes.{bytes_of_all}
+use Rattle.code_instructions.specs.Instructions.{calling, call_operation, call_result, call_code, divided}
+use Rattle.code_instructions.specs.Instructions.{character_code, behind_comparison, tested_between, is_between}
+use Rattle.code_objects.specs.ObjectCode.{tests_in, tested_in, at_tested, assigned_takes, assigned_word, passed_on}
+use Rattle.code_selection.specs.ItemCode.{entries_in, load_operation, store_operation, at_index, first_byte}
+use Rattle.code_selection.specs.ItemCode.{tested_first, letters_in, words_in, line_code, read_code, entry_code}
+use Rattle.code_selection.specs.ItemCode.{assign_entry_code}
 
 -- Lists of instructions
 

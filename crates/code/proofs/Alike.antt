@@ -18,11 +18,11 @@ use Rattle.meaning.specs.World.{array_at}
 use Rattle.meaning.specs.Reading.{holds_letters, holds_words, separators, words_for, word_bytes, words_bytes, with_line}
 use Rattle.code.specs.HeldProgram.{offset_in}
 use Rattle.code.proofs.Flat.{array_within, byte_at, bytes_set, length_bytes, offset_same}
-use Rattle.code.proofs.Regions.{Stands, stands_bytes, KeepsOutside, keeps_then, keeps_bytes}
+use Rattle.code.proofs.Regions.{stands_bytes, KeepsOutside, keeps_then, keeps_bytes, StandsIn}
 
 -- One array
 
-pub first_byte_is : (memory : List ℕ) (base : ℕ) (arrays : List (List ℕ)) (k : ℕ) → Stands memory base (concat arrays)
+pub first_byte_is : (memory : List ℕ) (base : ℕ) (arrays : List (List ℕ)) (k : ℕ) → StandsIn memory base (concat arrays)
     → k < length arrays → 0 < length (array_at arrays k)
     → slice_index memory (base + offset_in arrays k) ≡ slice_index (array_at arrays k) 0
 first_byte_is memory base arrays k s lt some =
@@ -33,13 +33,13 @@ first_byte_is memory base arrays k s lt some =
 
 -- bytes that are written to it from byte 1 on
 record WritesArray (memory : List ℕ) (base to : ℕ) (arrays : List (List ℕ)) (k : ℕ) (bytes : List ℕ) : Type 0 where
-  stands : Stands (with_bytes memory (base + offset_in arrays k + 1) bytes) base
+  stands : StandsIn (with_bytes memory (base + offset_in arrays k + 1) bytes) base
       (concat (set arrays k (with_bytes (array_at arrays k) 1 bytes)))
   kept : KeepsOutside base to memory (with_bytes memory (base + offset_in arrays k + 1) bytes)
   size : length (concat (set arrays k (with_bytes (array_at arrays k) 1 bytes))) ≡ length (concat arrays)
 
 writes_array : (memory : List ℕ) (base to : ℕ) (arrays : List (List ℕ)) (k : ℕ) (bytes : List ℕ)
-    → Stands memory base (concat arrays) → base + length (concat arrays) ≤ to → k < length arrays
+    → StandsIn memory base (concat arrays) → base + length (concat arrays) ≤ to → k < length arrays
     → 1 + length bytes ≤ length (array_at arrays k) → WritesArray memory base to arrays k bytes
 writes_array memory base to arrays k bytes s below lt room =
     let z : base + (offset_in arrays k + 1) ≡ base + offset_in arrays k + 1 = omega arith in
@@ -47,9 +47,9 @@ writes_array memory base to arrays k bytes s below lt room =
     let fits : offset_in arrays k + 1 + length bytes ≤ length (concat arrays) = omega (arith, within, room) in
     let e = bytes_set arrays k 1 bytes lt room in
     record {
-      stands = subst (λ n. Stands (with_bytes memory n bytes) base
+      stands = subst (λ n. StandsIn (with_bytes memory n bytes) base
           (concat (set arrays k (with_bytes (array_at arrays k) 1 bytes)))) z
-          (subst (Stands (with_bytes memory (base + (offset_in arrays k + 1)) bytes) base) e
+          (subst (StandsIn (with_bytes memory (base + (offset_in arrays k + 1)) bytes) base) e
           (stands_bytes memory base (concat arrays) (offset_in arrays k + 1) bytes s fits));
       kept = keeps_bytes base to (base + offset_in arrays k + 1) bytes memory (omega arith)
           (omega (arith, fits, below));
@@ -85,7 +85,7 @@ few_letters text line = omega (
 
 -- two arrays in memory, and a dictionary by which the story numbers keys
 pub record AreBuffers (number : ℕ → ℕ) (memory : List ℕ) (base : ℕ) (arrays : List (List ℕ)) (t p : ℕ) : Type 0 where
-  pub stands : Stands memory base (concat arrays)
+  pub stands : StandsIn memory base (concat arrays)
   pub behind_header : 64 ≤ base
   pub dynamic : base + length (concat arrays) ≤ static_base_of memory
   pub text : t < length arrays
@@ -100,7 +100,7 @@ pub record AreBuffers (number : ℕ → ℕ) (memory : List ℕ) (base : ℕ) (a
 pub record ReadsAlike (number : ℕ → ℕ) (memory : List ℕ) (base : ℕ) (arrays : List (List ℕ)) (t p : ℕ) (line : List ℕ)
     : Type 0
   where
-    pub stands : Stands
+    pub stands : StandsIn
         (turn.with_line memory (base + offset_in arrays t) (base + offset_in arrays p)
         (letters_for memory (base + offset_in arrays t) line)) base (concat (with_line number t p line arrays))
     pub kept : KeepsOutside base (base + length (concat arrays)) memory
@@ -175,8 +175,8 @@ module _ (number : ℕ → ℕ) (memory : List ℕ) (base : ℕ) (arrays : List 
       ∙ rw none (ap (with_bytes middle (base + offset_in arrays p + 1)) (words_same letters))
       ∙ ap (λ n. with_bytes middle (base + n + 1) bytes) (sym place) in
       record {
-        stands = subst (λ m. Stands m base (concat (with_line number t p line arrays))) (sym line_is)
-            (subst (λ x. Stands (with_bytes middle (base + offset_in next p + 1) bytes) base
+        stands = subst (λ m. StandsIn m base (concat (with_line number t p line arrays))) (sym line_is)
+            (subst (λ x. StandsIn (with_bytes middle (base + offset_in next p + 1) bytes) base
             (concat (set next p (with_bytes x 1 bytes)))) same second.stands);
         kept = subst (KeepsOutside base to memory) (sym line_is)
             (keeps_then base to memory middle _ first.kept second.kept);

@@ -11,19 +11,19 @@ use Rattle.zcore.specs.Parts.{operand_value, operand_values}
 use Rattle.zcore.specs.Execution.{give_result, perform}
 use Rattle.meaning.specs.World.{Situation, value_in}
 use Rattle.meaning.specs.Meaning.{routine_at}
-use Rattle.drafts.specs.Items.{Item, Destination}
-use Rattle.drafts.specs.Items as items
-use Rattle.items.specs.Laws.{IsOperand, IsDestination}
-use Rattle.items.specs.Stack as stack
-use Rattle.encoding.specs.Instructions.{giving, in_place, result_in}
-use Rattle.selection.specs.ItemBytes.{text_bytes}
+use Rattle.code_values.specs.Items.{Item, Destination}
+use Rattle.code_values.specs.Items as items
+use Rattle.code_items.specs.Laws.{IsOperand, IsDestination}
+use Rattle.code_items.specs.Stack as stack
+use Rattle.code_encoding.specs.Instructions.{giving, in_place, result_in}
+use Rattle.code_selection.specs.ItemBytes.{text_bytes}
 use Rattle.code.proofs.Behind.{Holds}
 use Rattle.code.proofs.Play.{Leads, address}
 use Rattle.code.proofs.Parts.{machine as at_words}
 use Rattle.code.proofs.Steps.{point, leads_then, one_step, top_value, variable_value}
 use Rattle.code.proofs.Fitting.{Shaped}
 use Rattle.code.proofs.ItemOperands.{constant_value}
-use Rattle.code.proofs.Arriving.{Running, at, around, here, LedFrom, Stands, code_here, bytes_here, code_held}
+use Rattle.code.proofs.Arriving.{Running, at, around, here, LedFrom, code_here, bytes_here, code_held, ArrivesAt}
 use Rattle.code.proofs.Arriving.{situation_here}
 use Rattle.code.proofs.Variables.{variable_held}
 use Rattle.code.proofs.Temporaries.{Scratch, made}
@@ -93,7 +93,7 @@ module _ (c : Running) where
     pub end : here c + length (bytes_of i) ≡ next_place
 
   pub single : (item : Item) (i : Instruction) → code_here c item ≡ i ∷ [] → text_bytes p.abbreviations item ≡ []
-      → Stands c item → Single i
+      → ArrivesAt c item → Single i
   single item i is none stands =
       let same : flat_map bytes_of (code_here c item) ≡ bytes_of i =
       ap (flat_map bytes_of) is ∙ append-nil (bytes_of i) in

@@ -12,23 +12,23 @@ use Rattle.zcore.specs.Operations.{least_operands, most_operands, has_result, ha
 use Rattle.zcore.specs.Instruction.{Instruction, FitsBranch, FitsResult, bytes_of}
 use Rattle.zcore.specs.State.{State}
 use Rattle.zcore.specs.Execution.{give_result, perform}
-use Rattle.expression_trees.specs.declared.tree.Prefix.{Prefix}
-use Rattle.expression_trees.specs.declared.tree.Prefix.TheVariants as prefixes
+use Rattle.syntax_trees.specs.declared.tree.Prefix.{Prefix}
+use Rattle.syntax_trees.specs.declared.tree.Prefix.TheVariants as prefixes
 use Rattle.meaning.specs.Meaning.{with_prefix}
-use Rattle.drafts.specs.Items.{Item, Destination}
-use Rattle.drafts.specs.Items as items
-use Rattle.items.specs.Stack as stack
-use Rattle.encoding.specs.Instructions.{giving, in_place, result_in, operands, takes}
-use Rattle.selection.specs.ItemBytes.{text_bytes}
+use Rattle.code_values.specs.Items.{Item, Destination}
+use Rattle.code_values.specs.Items as items
+use Rattle.code_items.specs.Stack as stack
+use Rattle.code_encoding.specs.Instructions.{giving, in_place, result_in, operands, takes}
+use Rattle.code_selection.specs.ItemBytes.{text_bytes}
 use Rattle.code.proofs.Behind.{Holds}
 use Rattle.code.proofs.Play.{stays}
 use Rattle.code.proofs.Parts.{machine as at_words}
 use Rattle.code.proofs.Steps.{point, first_held, one_operand, two_operands, small_value}
 use Rattle.code.proofs.Fitting.{Shaped}
-use Rattle.code.proofs.ItemOperands.{Gives, with_first, by_operands, gives_count, gives_length, few_pushed}
+use Rattle.code.proofs.ItemOperands.{with_first, by_operands, gives_count, gives_length, few_pushed, GivesOperands}
 use Rattle.code.proofs.ItemOperands.{operands_length}
 use Rattle.code.proofs.AddressLengths.{one_length}
-use Rattle.code.proofs.Arriving.{Running, at, around, here, LedFrom, Stands, code_here, code_held, situation_here}
+use Rattle.code.proofs.Arriving.{Running, at, around, here, LedFrom, code_here, code_held, situation_here, ArrivesAt}
 use Rattle.code.proofs.Temporaries.{scratch_here}
 use Rattle.code.proofs.Taking.{after_takes, taken, apart}
 use Rattle.code.proofs.Delivering.{result_small}
@@ -60,7 +60,7 @@ module _ (c : Running) where
   -- Prefixes
 
   pub prefix_led : (op : Prefix) (o : items.Operand) (d : Destination) (s : List ℕ) → IsOperandHere c o → IsHere c d
-      → op ≢ prefixes.Not → length s ≤ 48 → Stands c (items.apply_prefix op o d)
+      → op ≢ prefixes.Not → length s ≤ 48 → ArrivesAt c (items.apply_prefix op o d)
       → LedFrom c s (stack.with_operand o (situation_here c) s (λ v rest. to d (with_prefix op v) s rest))
   unfolding perform
   prefix_led prefixes.Minus o d s is is_d other short stands =
@@ -99,7 +99,7 @@ module _ (c : Running) where
 
   pub reckons_led : (item : Item) (op : Operation) (f : ℕ → ℕ → ℕ) (x y : items.Operand) (d : Destination)
       (s : List ℕ)
-      → IsOperandHere c x → IsOperandHere c y → IsHere c d → length s ≤ 48 → Stands c item
+      → IsOperandHere c x → IsOperandHere c y → IsHere c d → length s ≤ 48 → ArrivesAt c item
       → code_here c item ≡ takes (x ∷ y ∷ []) ++ giving op (operands (x ∷ y ∷ [])) (result_in d) ∷ []
       → text_bytes p.abbreviations item ≡ []
       → least_operands op ≤ 2 → 2 ≤ most_operands op → has_result op ≡ true → FitsBranch (has_branch op) None
@@ -118,7 +118,7 @@ module _ (c : Running) where
       i : Instruction
       i = giving op (operands os) (result_in d)
 
-      go : (vs rest : List ℕ) → Gives os (situation_here c) s vs rest → length vs ≡ 2
+      go : (vs rest : List ℕ) → GivesOperands os (situation_here c) s vs rest → length vs ≡ 2
           → LedFrom c s (of_two (λ v w rest. to d (f v w) s rest) vs rest)
       go [] rest g two = absurd (cc)
       go (v ∷ []) rest g two = absurd (cc)

@@ -12,13 +12,13 @@ use Rattle.zcore.specs.State.{words}
 use Rattle.meaning.specs.Resolved.{ProgramOf}
 use Rattle.meaning.specs.World.{World, Situation}
 use Rattle.meaning.specs.Accepted.{IsAccepted}
-use Rattle.drafts.specs.Items.{Item}
-use Rattle.items.specs.Stack.{Caller}
-use Rattle.items.specs.Stack as stack
-use Rattle.encoding.specs.Addresses.{Addresses}
-use Rattle.instructions.specs.Places.{offset_of}
-use Rattle.selection.specs.ItemCode.{item_code}
-use Rattle.selection.specs.ItemBytes.{text_bytes, item_bytes}
+use Rattle.code_values.specs.Items.{Item}
+use Rattle.code_items.specs.Stack.{Caller}
+use Rattle.code_items.specs.Stack as stack
+use Rattle.code_encoding.specs.Addresses.{Addresses}
+use Rattle.code_instructions.specs.Places.{offset_of}
+use Rattle.code_selection.specs.ItemCode.{item_code}
+use Rattle.code_selection.specs.ItemBytes.{text_bytes, item_bytes}
 use Rattle.code.proofs.Behind.{Holds}
 use Rattle.code.specs.Bytes.{place_of}
 use Rattle.code.specs.HeldProgram.{sizes_of, HoldsProgram}
@@ -58,7 +58,7 @@ module _ (c : Running) where
   open c use {story, a, p, accepted, holds, full, m, count, counts, routine, place, callers, locals, world, good}
 
   -- the state of items with a stack
-  abbrev pub at : List ℕ → stack.State
+  abbrev pub at : List ℕ → stack.ItemState
   at words = record {
     routine = routine;
     place = place;
@@ -69,7 +69,7 @@ module _ (c : Running) where
   }
 
   -- and with a word of a `switch`
-  abbrev pub at_case : Option ℕ → List ℕ → stack.State
+  abbrev pub at_case : Option ℕ → List ℕ → stack.ItemState
   at_case chosen words = record (at words) { chosen = chosen }
 
   abbrev pub around : Around
@@ -98,7 +98,7 @@ module _ (c : Running) where
   code_here i = item_code (sizes_of p) a (offset_here i) i
 
   -- an item stands here
-  pub record Stands (i : Item) : Type 0 where
+  pub record ArrivesAt (i : Item) : Type 0 where
     pub held : text.Holds m here (bytes_here i)
     pub next : address story a p routine (place + 1) ≡ here + length (bytes_here i)
     pub followed : address story a p routine (place + 1) < length m
@@ -132,7 +132,7 @@ module _ (c : Running) where
   room_for s short = omega (arith, short, room)
 
   -- an item's instructions
-  pub code_held : (i : Item) → Stands i → Holds m here (flat_map bytes_of (code_here i))
+  pub code_held : (i : Item) → ArrivesAt i → Holds m here (flat_map bytes_of (code_here i))
   code_held i stands =
       (above, (holds_append m here (flat_map bytes_of (code_here i)) (text_bytes p.abbreviations i) stands.held).0)
 
@@ -212,7 +212,7 @@ module _ (c : Running) where
   arrives before after m1 situation end is stored locals_same globals_same arrays_same leads = go
       (nat_le (length after) 48) refl
     where
-      next : stack.State
+      next : stack.ItemState
       next = record {
         routine = routine;
         place = place + 1;

@@ -6,12 +6,12 @@ use Rattle.zcore.specs.Instruction.{Instruction}
 use Rattle.meaning.specs.Accepted.{IsProperty}
 use Rattle.meaning.specs.World.{◌>>=◌, test_provided, test_word, test_single, write_words}
 use Rattle.meaning.specs.World as source
-use Rattle.drafts.specs.Items.{Destination}
-use Rattle.drafts.specs.Items as items
-use Rattle.items.specs.Stack as stack
-use Rattle.encoding.specs.Instructions.{pulled_into, word_in}
-use Rattle.object_selection.specs.ObjectCode.{provided, tested_word, tested_single, at_object}
-use Rattle.code.proofs.Arriving.{Running, at, LedFrom, Stands, situation_here}
+use Rattle.code_values.specs.Items.{Destination}
+use Rattle.code_values.specs.Items as items
+use Rattle.code_items.specs.Stack as stack
+use Rattle.code_encoding.specs.Instructions.{pulled_into, word_in}
+use Rattle.code_objects.specs.ObjectCode.{provided, tested_word, tested_single, at_object}
+use Rattle.code.proofs.Arriving.{Running, at, LedFrom, situation_here, ArrivesAt}
 use Rattle.code.proofs.Alone.{by_operand, alone_count, IsOperandHere, IsHere}
 use Rattle.code.proofs.TestedObjects.{objects_here, object_tests, tests_led}
 use Rattle.code.proofs.Working.{Works, word_still}
@@ -29,7 +29,7 @@ module _ (c : Running) where
 
   pub assign_property_led : (q : ℕ) (b o : items.Operand) (d : Destination) (s : List ℕ) → IsProperty q
       → IsOperandHere c b → IsOperandHere c o → IsHere c d → length s ≤ 48
-      → Stands c (items.assign_property q b o d)
+      → ArrivesAt c (items.assign_property q b o d)
       → LedFrom c s (stack.with_operand o (situation_here c) s
       (λ w left. stack.with_operand b (situation_here c) left
       (λ v rest. stack.gives (stack.assigned_property p q v w) d rest (at c s))))
@@ -70,7 +70,7 @@ module _ (c : Running) where
 
   pub assign_property_word_led : (q : ℕ) (b i o : items.Operand) (d : Destination) (s : List ℕ) → IsProperty q
       → IsOperandHere c b → IsOperandHere c i → IsOperandHere c o → IsHere c d → length s ≤ 48
-      → Stands c (items.assign_property_word q b i o d)
+      → ArrivesAt c (items.assign_property_word q b i o d)
       → LedFrom c s (stack.with_operand o (situation_here c) s
       (λ w left. stack.with_operand i (situation_here c) left
       (λ x more. stack.with_operand b (situation_here c) more

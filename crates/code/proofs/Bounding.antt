@@ -12,12 +12,12 @@ use Rattle.zcore.specs.Parts.{operand_value}
 use Rattle.zcore.specs.State.{State, done}
 use Rattle.zcore.specs.Execution.{perform}
 use Rattle.meaning.specs.declared.cause.Cause.{Cause}
-use Rattle.drafts.specs.Items as items
-use Rattle.region.specs.Tables.{Table}
-use Rattle.encoding.specs.Addresses.{fault_address}
-use Rattle.encoding.specs.Instructions.{branching, fail, constant, word_in, number_of}
-use Rattle.instructions.specs.Instructions.{is_between, tested_between}
-use Rattle.object_selection.specs.ObjectCode.{tested_in}
+use Rattle.code_values.specs.Items as items
+use Rattle.code_object_memory.specs.Tables.{PropertyTable}
+use Rattle.code_encoding.specs.Addresses.{fault_address}
+use Rattle.code_encoding.specs.Instructions.{branching, fail, constant, word_in, number_of}
+use Rattle.code_instructions.specs.Instructions.{is_between, tested_between}
+use Rattle.code_objects.specs.ObjectCode.{tested_in}
 use Rattle.code.proofs.Behind.{Holds, holds_append}
 use Rattle.code.proofs.Play.{Leads}
 use Rattle.code.proofs.Parts.{machine as at_words}
@@ -27,7 +27,7 @@ use Rattle.code.proofs.Arriving.{Running, around, here}
 use Rattle.code.proofs.Alone.{IsOperandHere, next_place}
 use Rattle.code.proofs.Tests.{branching_some}
 use Rattle.code.proofs.TestedWords.{between_tests}
-use Rattle.code.proofs.Working.{Works, Fails, HoldsWord, word_value, branch_leads}
+use Rattle.code.proofs.Working.{Works, HoldsWord, word_value, branch_leads, FailsWith}
 use Rattle.code.proofs.FaultTests.{Passed}
 
 module _ (c : Running) where
@@ -46,7 +46,7 @@ module _ (c : Running) where
       leads_then (point q world.fuel) (point (q + long) world.fuel) (point (q + long + away) world.fuel) st st st e f
 
   -- the two tests, and the fault behind them
-  module _ (cause : Cause) (tables : List Table) (before rest old : List ℕ) (q v low end : ℕ) (i u : Operand)
+  module _ (cause : Cause) (tables : List PropertyTable) (before rest old : List ℕ) (q v low end : ℕ) (i u : Operand)
       (is : List Instruction) (followed : next_place c < length m) (least : low < 32768) (small : end < 32768)
       (value : operand_value i (at_words (around c) old locals rest world.text)
       ≡ done v (at_words (around c) old locals rest world.text))
@@ -142,13 +142,13 @@ module _ (c : Running) where
 
   -- An operand that is tested where it is
 
-  pub record Bounds (tables : List Table) (before rest old : List ℕ) (is : List Instruction) : Type 0 where
+  pub record Bounds (tables : List PropertyTable) (before rest old : List ℕ) (is : List Instruction) : Type 0 where
     pub there : ℕ
     pub works : Works c tables before rest old there is
 
-  abbrev pub Bounded : Bool → Cause → List Table → List ℕ → List ℕ → List ℕ → List Instruction → Type 0
+  abbrev pub Bounded : Bool → Cause → List PropertyTable → List ℕ → List ℕ → List ℕ → List Instruction → Type 0
   Bounded true cause tables before rest old is = Bounds tables before rest old is
-  Bounded false cause tables before rest old is = Fails c cause before
+  Bounded false cause tables before rest old is = FailsWith c cause before
 
   -- a constant takes one byte or two
   abbrev compared : Operand → Operand → List ℕ
@@ -165,7 +165,7 @@ module _ (c : Running) where
   constant_size (Variable n) true end e = (refl, omega arith)
   constant_size (Variable n) false end e = (refl, omega arith)
 
-  variable_bounds : (cause : Cause) (tables : List Table) (before rest old : List ℕ) (q v low end variable : ℕ)
+  variable_bounds : (cause : Cause) (tables : List PropertyTable) (before rest old : List ℕ) (q v low end variable : ℕ)
       (is : List Instruction) → next_place c < length m → low < 32768 → end < 32768
       → operand_value (Variable variable) (at_words (around c) old locals rest world.text)
       ≡ done v (at_words (around c) old locals rest world.text)
@@ -189,7 +189,8 @@ module _ (c : Running) where
       go true there w = record { there = there; works = w }
       go false there w = w
 
-  pub operand_bounds : (n : ℕ) (cause : Cause) (tables : List Table) (before rest old : List ℕ) (q v low end : ℕ)
+  pub operand_bounds : (n : ℕ) (cause : Cause) (tables : List PropertyTable) (before rest old : List ℕ)
+      (q v low end : ℕ)
       (o : items.Operand) (act : Operand → List Instruction) → n < 8 → next_place c < length m → low < 32768
       → end < 32768 → IsOperandHere c o → HoldsWord c n o v old
       → Works c tables before rest old q (tested_in n a cause low end o act)

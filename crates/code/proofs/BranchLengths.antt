@@ -11,17 +11,17 @@ use Rattle.zcore.specs.declared.instruction.Operation.TheVariants as operations
 use Rattle.zcore.specs.Operations.{count_of, has_more_types}
 use Rattle.zcore.specs.Operations as numbers
 use Rattle.zcore.specs.Instruction.{Instruction, opcode_bytes, operand_bytes, branch_bytes, bytes_of}
-use Rattle.forms.specs.declared.layout.Form.TheVariants as form
-use Rattle.forms.specs.Layout.{form_for, size_with}
-use Rattle.drafts.specs.Items.{Test}
-use Rattle.drafts.specs.Items as items
+use Rattle.code_branch_forms.specs.declared.layout.Form.TheVariants as form
+use Rattle.code_branch_forms.specs.Layout.{form_for, size_with}
+use Rattle.code_values.specs.Items.{Test}
+use Rattle.code_values.specs.Items as items
 use Rattle.meaning.specs.declared.cause.Cause.TheVariants as causes
-use Rattle.encoding.specs.Addresses.{Addresses}
-use Rattle.encoding.specs.Instructions.{plain, branching, takes, operands, pulled_into}
-use Rattle.instructions.specs.Instructions.{labelled, test_operation, tested_code, asks_none, least_word, branch_code}
-use Rattle.instructions.specs.Instructions.{compared, case_code}
-use Rattle.encoding.specs.Bytes.{bytes_of_all}
-use Rattle.object_selection.specs.ObjectCode.{tests_in}
+use Rattle.code_encoding.specs.Addresses.{Addresses}
+use Rattle.code_encoding.specs.Instructions.{plain, branching, takes, operands, pulled_into}
+use Rattle.code_instructions.specs.Instructions.{labelled, test_operation, tested_code, asks_none, least_word}
+use Rattle.code_instructions.specs.Instructions.{branch_code, compared, case_code}
+use Rattle.code_encoding.specs.Bytes.{bytes_of_all}
+use Rattle.code_objects.specs.ObjectCode.{tests_in}
 use Rattle.code.proofs.AddressLengths.{all_length, one_length, tests_same}
 
 -- Labels

@@ -8,13 +8,13 @@ use Rattle.std.proofs.lemmas.List.{take_all}
 use Rattle.zcore.specs.declared.instruction.Operation.{Operation}
 use Rattle.zcore.specs.Instruction.{bytes_of, FitsOperand}
 use Rattle.meaning.specs.Meaning.{routine_at}
-use Rattle.drafts.specs.Items.{Item, Test, agrees}
-use Rattle.drafts.specs.Items as items
-use Rattle.items.specs.Laws.{IsTested}
-use Rattle.items.specs.Stack as stack
-use Rattle.encoding.specs.Instructions.{operands, most_tested}
-use Rattle.instructions.specs.Instructions.{labelled, test_operation, tested_code, branch_code}
-use Rattle.selection.specs.ItemBytes.{text_bytes}
+use Rattle.code_values.specs.Items.{Item, Test, agrees}
+use Rattle.code_values.specs.Items as items
+use Rattle.code_items.specs.Laws.{IsTestedValue}
+use Rattle.code_items.specs.Stack as stack
+use Rattle.code_encoding.specs.Instructions.{operands, most_tested}
+use Rattle.code_instructions.specs.Instructions.{labelled, test_operation, tested_code, branch_code}
+use Rattle.code_selection.specs.ItemBytes.{text_bytes}
 use Rattle.code.specs.Bytes.{place_of}
 use Rattle.code.specs.HeldProgram.{sizes_of}
 use Rattle.code.proofs.Behind.{Holds}
@@ -22,11 +22,11 @@ use Rattle.code.proofs.Play.{Leads, address, IsChosen, none_chosen}
 use Rattle.code.proofs.Parts.{machine as at_words}
 use Rattle.code.proofs.Steps.{point, leads_then, landing}
 use Rattle.code.proofs.Fitting.{held_bytes}
-use Rattle.code.proofs.ItemOperands.{Gives, with_first, by_operands, gives_count, gives_length, few_pushed}
+use Rattle.code.proofs.ItemOperands.{with_first, by_operands, gives_count, gives_length, few_pushed, GivesOperands}
 use Rattle.code.proofs.ItemOperands.{operands_length}
 use Rattle.code.proofs.Labels.{Branching, label_leads}
 use Rattle.code.proofs.Places.{rises, ends_by}
-use Rattle.code.proofs.Arriving.{Running, at, at_case, around, here, high, above, kept, LedFrom, Stands, code_here}
+use Rattle.code.proofs.Arriving.{Running, at, at_case, around, here, high, above, kept, LedFrom, code_here, ArrivesAt}
 use Rattle.code.proofs.Arriving.{code_held, arrives_with, situation_here}
 use Rattle.code.proofs.Temporaries.{Scratch, held_in}
 use Rattle.code.proofs.Taking.{after_takes, Taken, taken, Apart, apart}
@@ -100,8 +100,9 @@ module _ (c : Running) where
 
   branches_led : (item : Item) (test : Test) (os : List items.Operand) (when : Bool) (target : ℕ)
       (chosen : Option ℕ) (words vs rest : List ℕ) → All (IsOperandHere c) os → Counted test (length os)
-      → length words ≤ 48 → Stands c item → text_bytes p.abbreviations item ≡ []
-      → code_here c item ≡ tested_code test os when (2 + over target) → Gives os (situation_here c) words vs rest
+      → length words ≤ 48 → ArrivesAt c item → text_bytes p.abbreviations item ≡ []
+      → code_here c item ≡ tested_code test os when (2 + over target)
+      → GivesOperands os (situation_here c) words vs rest
       → LedFrom c words (stack.branch (agrees (stack.holds test vs) when) target rest (at_case c chosen words))
   branches_led item test os when target chosen words vs rest all is room stands none code g =
       branches_to (agrees (stack.holds test vs) when)
@@ -198,8 +199,8 @@ module _ (c : Running) where
           (omega arith) parts.others))
 
   pub branch_led : (test : Test) (os : List items.Operand) (when : Bool) (target : ℕ) (chosen : Option ℕ)
-      (words : List ℕ) → All (IsOperandHere c) os → IsTested test (length os) → length words ≤ 48
-      → Stands c (items.branch test os when target)
+      (words : List ℕ) → All (IsOperandHere c) os → IsTestedValue test (length os) → length words ≤ 48
+      → ArrivesAt c (items.branch test os when target)
       → LedFrom c words (stack.with_operands os (situation_here c) words
       (λ vs rest. stack.branch (agrees (stack.holds test vs) when) target rest (at_case c chosen words)))
   branch_led test os when target chosen words all is room stands =

@@ -15,24 +15,25 @@ use Rattle.zcore.specs.State.{State}
 use Rattle.zcore.specs.Execution.{step, perform, call_packed}
 use Rattle.meaning.specs.Resolved.{ProgramOf}
 use Rattle.meaning.specs.World.{World}
-use Rattle.drafts.specs.Items.{Destination}
-use Rattle.drafts.specs.Items as items
-use Rattle.items.specs.Stack.{Caller}
-use Rattle.items.specs.Stack as stack
-use Rattle.encoding.specs.Addresses.{Addresses}
-use Rattle.encoding.specs.Instructions.{number_of, operands, takes, most_arguments}
-use Rattle.instructions.specs.Instructions.{call_operation, call_result, calling, call_code}
+use Rattle.code_values.specs.Items.{Destination}
+use Rattle.code_values.specs.Items as items
+use Rattle.code_items.specs.Stack.{Caller}
+use Rattle.code_items.specs.Stack as stack
+use Rattle.code_encoding.specs.Addresses.{Addresses}
+use Rattle.code_encoding.specs.Instructions.{number_of, operands, takes}
+use Rattle.meaning.specs.Limits.{most_arguments}
+use Rattle.code_instructions.specs.Instructions.{call_operation, call_result, calling, call_code}
 use Rattle.code.proofs.Behind.{Holds}
 use Rattle.code.proofs.Play.{Leads, next_of, state_of, IsCaller, Led}
 use Rattle.code.proofs.Parts.{machine as at_words}
 use Rattle.code.proofs.Steps.{point, leads_then, first_held, large_value}
 use Rattle.code.proofs.Fitting.{Shaped}
-use Rattle.code.proofs.ItemOperands.{Gives, with_first, values_then, by_operands, gives_count, gives_length, few_pushed}
-use Rattle.code.proofs.ItemOperands.{operands_length}
+use Rattle.code.proofs.ItemOperands.{with_first, values_then, by_operands, gives_count, gives_length, few_pushed}
+use Rattle.code.proofs.ItemOperands.{GivesOperands, operands_length}
 use Rattle.code.proofs.Ends.{does_after}
 use Rattle.code.proofs.AddressLengths.{one_length}
 use Rattle.code.proofs.Entering.{enter_led}
-use Rattle.code.proofs.Arriving.{Running, at, around, here, LedFrom, Stands, code_here, code_held, situation_here}
+use Rattle.code.proofs.Arriving.{Running, at, around, here, LedFrom, code_here, code_held, situation_here, ArrivesAt}
 use Rattle.code.proofs.Temporaries.{made}
 use Rattle.code.proofs.Taking.{after_takes, Taken, taken, Apart, apart}
 use Rattle.code.proofs.Delivering.{number_small}
@@ -170,7 +171,7 @@ module _ (c : Running) where
 
   calls_led : (r : ℕ) (os : List items.Operand) (d : Destination) (words vs rest : List ℕ) → r < length p.routines
       → All (IsOperandHere c) os → IsHere c d → length os ≤ 7 → length words ≤ 48
-      → Stands c (items.call r os d) → Gives os (situation_here c) words vs rest
+      → ArrivesAt c (items.call r os d) → GivesOperands os (situation_here c) words vs rest
       → LedFrom c words (stack.enter p r vs (stack.caller d rest (at c words) ∷ callers) (situation_here c))
   calls_led r os d words vs rest known all is_d few room stands g =
       led_after story a p full (point (here c) world.fuel) (point q world.fuel)
@@ -244,7 +245,7 @@ module _ (c : Running) where
 
   pub call_led : (r : ℕ) (os : List items.Operand) (d : Destination) (words : List ℕ) → r < length p.routines
       → All (IsOperandHere c) os → IsHere c d → length os ≤ 7 → length words ≤ 48
-      → Stands c (items.call r os d)
+      → ArrivesAt c (items.call r os d)
       → LedFrom c words (stack.with_operands os (situation_here c) words
       (λ vs rest. stack.enter p r vs (stack.caller d rest (at c words) ∷ callers) (situation_here c)))
   call_led r os d words known all is_d few room stands =

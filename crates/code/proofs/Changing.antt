@@ -10,13 +10,13 @@ use Rattle.zcore.specs.Execution.{perform, push_word}
 use Rattle.meaning.specs.declared.resolved.Variable.TheVariants as variables
 use Rattle.meaning.specs.Objects.{Objects}
 use Rattle.meaning.specs.World.{Situation, with_value, with_objects}
-use Rattle.drafts.specs.Items.{Destination}
-use Rattle.drafts.specs.Items as items
-use Rattle.items.specs.Stack as stack
-use Rattle.region.specs.Region.{HasObjects, KeepsRest}
-use Rattle.region.specs.Tables.{Table}
-use Rattle.encoding.specs.Instructions.{number_of, push, store}
-use Rattle.object_selection.specs.ObjectCode.{assigned_word, passed_on}
+use Rattle.code_values.specs.Items.{Destination}
+use Rattle.code_values.specs.Items as items
+use Rattle.code_items.specs.Stack as stack
+use Rattle.code_object_memory.specs.Region.{HasObjects, KeepsRest}
+use Rattle.code_object_memory.specs.Tables.{PropertyTable}
+use Rattle.code_encoding.specs.Instructions.{number_of, push, store}
+use Rattle.code_objects.specs.ObjectCode.{assigned_word, passed_on}
 use Rattle.code.proofs.Behind.{Holds, holds_on}
 use Rattle.code.proofs.Play.{Leads, Stored, none_chosen}
 use Rattle.code.proofs.Memory.{word_of}
@@ -106,7 +106,7 @@ module _ (c : Running) where
         ap (λ n. drop n memory) (sym (static_same story other scratch.stored.header)) ∙ keeps.behind
         ∙ ap (λ n. drop n other) (static_same story other scratch.stored.header) ∙ scratch.kept
 
-    pub stored_objects : (objects : Objects) (tables : List Table)
+    pub stored_objects : (objects : Objects) (tables : List PropertyTable)
         → HasObjects p.objects p.defaults objects tables memory
         → Stored story a p world.globals world.arrays objects memory
     stored_objects objects tables has =

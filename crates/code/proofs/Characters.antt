@@ -15,18 +15,18 @@ use Rattle.zcore.specs.State.{State, done}
 use Rattle.zcore.specs.Parts.{operand_value, operand_values, branch_on, transcribed}
 use Rattle.zcore.specs.Execution.{perform, step, equals_any, print_character}
 use Rattle.meaning.specs.declared.cause.Cause.TheVariants as causes
-use Rattle.encoding.specs.Addresses.{fault_address}
+use Rattle.code_encoding.specs.Addresses.{fault_address}
 use Rattle.meaning.specs.World.{put, value_in}
 use Rattle.meaning.specs.World as source
 use Rattle.meaning.specs.Meaning.{is_character, put_character}
-use Rattle.drafts.specs.Items as items
-use Rattle.items.specs.Stack as stack
-use Rattle.encoding.specs.Instructions.{plain, branching, number_of, pull, fail, in_place}
-use Rattle.instructions.specs.Instructions.{tested_character}
+use Rattle.code_values.specs.Items as items
+use Rattle.code_items.specs.Stack as stack
+use Rattle.code_encoding.specs.Instructions.{plain, branching, number_of, pull, fail, in_place}
+use Rattle.code_instructions.specs.Instructions.{tested_character}
 use Rattle.code.proofs.Behind.{Holds, holds_append}
 use Rattle.code.proofs.Play.{Leads, stays, moves}
 use Rattle.code.proofs.Memory.{with_variable}
-use Rattle.code.proofs.Parts.{machine as at_words, Reads}
+use Rattle.code.proofs.Parts.{machine as at_words, ReadsVariable}
 use Rattle.code.proofs.Steps.{point, leads_then, one_step, first_held, others_held, one_operand, two_operands}
 use Rattle.code.proofs.Steps.{three_operands, small_value, variable_value, landing}
 use Rattle.code.proofs.SingleSteps.{branch_step}
@@ -35,7 +35,7 @@ use Rattle.code.proofs.Ends.{prints_on, prints_off}
 use Rattle.code.proofs.ItemOperands.{constant_value}
 use Rattle.code.proofs.Texts.{cause_line}
 use Rattle.code.proofs.AddressLengths.{one_length}
-use Rattle.code.proofs.Arriving.{Running, at, around, here, high, above, kept, LedFrom, Stands, code_held}
+use Rattle.code.proofs.Arriving.{Running, at, around, here, high, above, kept, LedFrom, code_held, ArrivesAt}
 use Rattle.code.proofs.Arriving.{situation_here}
 use Rattle.code.proofs.Variables.{variable_held}
 use Rattle.code.proofs.Temporaries.{Scratch, scratch_here, scratch_with, reads_written, held_in, made, pull_temporary}
@@ -77,7 +77,7 @@ module _ (c : Running) where
 
   -- a word in a variable is tested, and printed
   module _ (variable v q : ℕ) (before mid other : List ℕ) (scratch : Scratch c other) (from : here c ≤ q)
-      (short : length mid ≤ 48) (reads : Reads (around c) other locals variable v)
+      (short : length mid ≤ 48) (reads : ReadsVariable (around c) other locals variable v)
       (h : Holds m q (flat_map bytes_of (tested_character a variable)))
       (end : q + length (flat_map bytes_of (tested_character a variable)) ≡ next_place c) (followed : next_place c
       < length m)
@@ -248,7 +248,7 @@ module _ (c : Running) where
       (stays (point (here c) world.fuel) (at_words (around c) m locals s world.text))
 
   pub print_character_led : (o : items.Operand) (s : List ℕ) → IsOperandHere c o → length s ≤ 48
-      → Stands c (items.print_character o)
+      → ArrivesAt c (items.print_character o)
       → LedFrom c s
       (stack.with_operand o (situation_here c) s (λ v rest. stack.prints (put_character v) rest (at c s)))
   unfolding bytes_of

@@ -13,25 +13,25 @@ use Rattle.zcore.specs.Instruction.{bytes_of, FitsOperand}
 use Rattle.zcore.specs.State.{State, done}
 use Rattle.zcore.specs.Parts.{operand_values}
 use Rattle.zcore.specs.Execution.{perform}
-use Rattle.drafts.specs.Items.{Item, Test}
-use Rattle.drafts.specs.Items as items
-use Rattle.items.specs.Laws.{IsTested}
-use Rattle.items.specs.Stack as stack
-use Rattle.encoding.specs.Instructions.{in_place, pull, store, constant}
-use Rattle.instructions.specs.Instructions.{chosen_variable, most_compared, labelled, test_operation}
+use Rattle.code_values.specs.Items.{Item, Test}
+use Rattle.code_values.specs.Items as items
+use Rattle.code_items.specs.Laws.{IsTestedValue}
+use Rattle.code_items.specs.Stack as stack
+use Rattle.code_encoding.specs.Instructions.{in_place, pull, store, constant}
+use Rattle.code_instructions.specs.Instructions.{chosen_variable, most_compared, labelled, test_operation}
 use Rattle.code.specs.HeldProgram.{sizes_of}
 use Rattle.code.proofs.Behind.{Holds}
 use Rattle.code.proofs.Play.{Leads, IsChosen}
 use Rattle.code.proofs.Memory.{word_of, with_variable, same_globals}
-use Rattle.code.proofs.Parts.{machine as at_words, Reads, global_reads, global_writes}
+use Rattle.code.proofs.Parts.{machine as at_words, global_reads, global_writes, ReadsVariable}
 use Rattle.code.proofs.Steps.{point, one_step, no_operand, two_operands, small_value, variable_value, landing}
 use Rattle.code.proofs.SingleSteps.{pull_step}
 use Rattle.code.proofs.Fitting.{Shaped, held_bytes}
 use Rattle.code.proofs.ItemOperands.{constant_value, values_then}
 use Rattle.code.proofs.Labels.{Branching, label_leads}
 use Rattle.code.proofs.Places.{ends_by}
-use Rattle.code.proofs.Arriving.{Running, at, at_case, around, here, high, above, few, kept, LedFrom, Stands, code_here}
-use Rattle.code.proofs.Arriving.{code_held, arrives_with, situation_here}
+use Rattle.code.proofs.Arriving.{Running, at, at_case, around, here, high, above, few, kept, LedFrom, code_here}
+use Rattle.code.proofs.Arriving.{ArrivesAt, code_held, arrives_with, situation_here}
 use Rattle.code.proofs.Temporaries.{Scratch, scratch_here, scratch_with, word_written, made}
 use Rattle.code.proofs.Delivering.{stored_step}
 use Rattle.code.proofs.Alone.{IsOperandHere, single, by_operand, alone_count, alone_value, next_place, plain_length}
@@ -46,13 +46,13 @@ constants_value st (n ∷ ns) =
     values_then st st st (constant n) (map constant ns) n ns (constant_value st n) (constants_value st ns)
 
 -- a word and the numbers of a case are as many operands as the instruction of its test takes
-case_counted : (test : Test) (n : ℕ) → IsTested test (1 + n) → 1 ≤ n → Counted test (suc n)
+case_counted : (test : Test) (n : ℕ) → IsTestedValue test (1 + n) → 1 ≤ n → Counted test (suc n)
 case_counted items.is_zero n is some = absurd (omega (arith, is, some))
 case_counted items.less n is some = omega (arith, is)
 case_counted items.greater n is some = omega (arith, is)
 case_counted items.same n is some = (omega (arith, some), omega (arith, is.1))
 
-few_compared : (test : Test) (n : ℕ) → IsTested test (1 + n) → n ≤ 3
+few_compared : (test : Test) (n : ℕ) → IsTestedValue test (1 + n) → n ≤ 3
 few_compared items.is_zero n is = omega (arith, is)
 few_compared items.less n is = omega (arith, is)
 few_compared items.greater n is = omega (arith, is)
@@ -90,7 +90,7 @@ module _ (c : Running) where
 
   -- by a store of an operand in place
   choose_stored : (o : items.Operand) (words : List ℕ) → IsOperandHere c o → length words ≤ 48
-      → code_here c (items.choose o) ≡ store chosen_variable (in_place o) ∷ [] → Stands c (items.choose o)
+      → code_here c (items.choose o) ≡ store chosen_variable (in_place o) ∷ [] → ArrivesAt c (items.choose o)
       → LedFrom c words (stack.with_operand o (situation_here c) words (λ v rest. stack.chooses v rest (at c words)))
   unfolding perform
   choose_stored o words is room code stands =
@@ -113,7 +113,7 @@ module _ (c : Running) where
       locals (global_writes (around c) m locals chosen_variable v (omega arith) (omega arith)))))
 
   pub choose_led : (o : items.Operand) (words : List ℕ) → IsOperandHere c o → length words ≤ 48
-      → Stands c (items.choose o)
+      → ArrivesAt c (items.choose o)
       → LedFrom c words (stack.with_operand o (situation_here c) words (λ v rest. stack.chooses v rest (at c words)))
   choose_led items.pushed [] is room stands = tt
   choose_led items.pushed (v ∷ rest) is room stands =
@@ -132,8 +132,8 @@ module _ (c : Running) where
   -- A case tests it
 
   pub case_led : (test : Test) (ns : List ℕ) (when : Bool) (target : ℕ) (chosen : Option ℕ) (words : List ℕ)
-      → IsTested test (1 + length ns) → 1 ≤ length ns → length words ≤ 48 → IsChosen story m chosen
-      → Stands c (items.case test ns when target)
+      → IsTestedValue test (1 + length ns) → 1 ≤ length ns → length words ≤ 48 → IsChosen story m chosen
+      → ArrivesAt c (items.case test ns when target)
       → LedFrom c words (stack.test_case chosen test ns when target (at_case c chosen words))
   case_led test ns when target None words is some room still stands = tt
   case_led test ns when target (Some v) words is some room still stands =
@@ -174,8 +174,8 @@ module _ (c : Running) where
           (subst (Counted test) same_count (case_counted test (length ns) is some))
 
       -- the word is the variable's
-      reads : Reads (around c) m locals chosen_variable v
-      reads = subst (λ w. Reads (around c) m locals chosen_variable w)
+      reads : ReadsVariable (around c) m locals chosen_variable v
+      reads = subst (λ w. ReadsVariable (around c) m locals chosen_variable w)
           (sym (last_same m (scratch_here c)) ∙ still v refl)
           (global_reads (around c) m locals chosen_variable (omega arith) (omega arith))
 

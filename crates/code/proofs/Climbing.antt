@@ -12,9 +12,9 @@ use Rattle.zcore.specs.Parts.{jump_target}
 use Rattle.zcore.specs.State.{State, done, halt}
 use Rattle.zcore.specs.Execution.{step}
 use Rattle.meaning.specs.Objects.{Climbed, clear, inside, spent, climb}
-use Rattle.region.specs.Region.{HasObjects}
-use Rattle.region.specs.Tables.{Table}
-use Rattle.encoding.specs.Instructions.{plain}
+use Rattle.code_object_memory.specs.Region.{HasObjects}
+use Rattle.code_object_memory.specs.Tables.{PropertyTable}
+use Rattle.code_encoding.specs.Instructions.{plain}
 use Rattle.code.proofs.Behind.{Holds}
 use Rattle.code.proofs.Play.{Leads}
 use Rattle.code.proofs.Memory.{word_of, with_variable}
@@ -31,7 +31,7 @@ use Rattle.code.proofs.ClimbingSteps.{parent_known, next_has, next_object, next_
 
 module _ (c : Running) (rest : List ℕ) (q o : ℕ) (is : List Instruction)
     (h : Holds c.m q (flat_map bytes_of (turning c is))) (from : here c ≤ q) (within : q + 17 < length c.m)
-    (tables : List Table) where
+    (tables : List PropertyTable) where
   open c use {story, a, p, accepted, holds, full, m, count, counts, routine, place, callers, locals, world, good}
 
   abbrev words_in : List ℕ → State

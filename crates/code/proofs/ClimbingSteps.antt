@@ -11,10 +11,10 @@ use Rattle.zcore.specs.Parts.{operand_value}
 use Rattle.zcore.specs.State.{State, done}
 use Rattle.zcore.specs.Execution.{perform}
 use Rattle.meaning.specs.declared.cause.Cause.TheVariants as causes
-use Rattle.region.specs.Region.{HasObjects}
-use Rattle.region.specs.Tables.{Table}
-use Rattle.encoding.specs.Addresses.{fault_address}
-use Rattle.encoding.specs.Instructions.{plain, giving, branching, fail}
+use Rattle.code_object_memory.specs.Region.{HasObjects}
+use Rattle.code_object_memory.specs.Tables.{PropertyTable}
+use Rattle.code_encoding.specs.Addresses.{fault_address}
+use Rattle.code_encoding.specs.Instructions.{plain, giving, branching, fail}
 use Rattle.code.proofs.Behind.{Holds, holds_append}
 use Rattle.code.proofs.Play.{Leads}
 use Rattle.code.proofs.Memory.{word_of, with_variable}
@@ -122,7 +122,7 @@ module _ (c : Running) where
   -- One turn of the loop
 
   module _ (rest : List ℕ) (q o : ℕ) (is : List Instruction) (held : Turns q is) (from : here c ≤ q)
-      (within : q + 17 < length m) (tables : List Table) where
+      (within : q + 17 < length m) (tables : List PropertyTable) where
     abbrev state : List ℕ → State
     state memory = at_words (around c) memory locals rest world.text
 

@@ -5,22 +5,22 @@ use Rattle.std.proofs.Common.{length-append}
 use Rattle.std.specs.Prelude.{map}
 use Rattle.std.proofs.Math.Seq.{drop-cons}
 use Rattle.std.proofs.lemmas.List.{reverse-reverse, drop_all}
-use Rattle.forms.specs.declared.layout.Form.{Form}
-use Rattle.forms.specs.declared.layout.Form.TheVariants as form
-use Rattle.forms.specs.declared.layout.Part.{Part}
-use Rattle.forms.specs.declared.layout.BranchUse.{BranchUse}
-use Rattle.forms.specs.Layout.{first, size_with, form_for, offset_over, part_size, lefts, uses}
-use Rattle.drafts.specs.declared.item.Item as code
-use Rattle.drafts.specs.Items.{Item}
-use Rattle.drafts.specs.Items as items
-use Rattle.drafts.specs.Code.{item_of, items_of}
-use Rattle.encoding.specs.Addresses.{Addresses, Sizes}
-use Rattle.selection.specs.ItemBytes.{item_bytes}
-use Rattle.instructions.specs.Places.{target_of, label_size, offset_of, place_in}
+use Rattle.code_branch_forms.specs.declared.layout.Form.{Form}
+use Rattle.code_branch_forms.specs.declared.layout.Form.TheVariants as form
+use Rattle.code_branch_forms.specs.declared.layout.Part.{Part}
+use Rattle.code_branch_forms.specs.declared.layout.BranchUse.{BranchUse}
+use Rattle.code_branch_forms.specs.Layout.{first, size_with, form_for, offset_over, part_size, lefts, uses}
+use Rattle.code_values.specs.declared.item.Item as code
+use Rattle.code_values.specs.Items.{Item}
+use Rattle.code_values.specs.Items as items
+use Rattle.code_values.specs.Code.{item_of, items_of}
+use Rattle.code_encoding.specs.Addresses.{Addresses, Sizes}
+use Rattle.code_selection.specs.ItemBytes.{item_bytes}
+use Rattle.code_instructions.specs.Places.{target_of, label_size, offset_of, place_in}
 use Rattle.code.specs.Bytes.{no_addresses, least_size, part_of, parts_of, lefts_of, place_of, items_bytes, code_bytes}
 use Rattle.code.specs.Bytes.{code_size}
 use Rattle.code.specs.Written.{CodeOf, branch_offsets}
-use Rattle.forms.proofs.Offsets.{left_length}
+use Rattle.code_branch_forms.proofs.Offsets.{left_length}
 use Rattle.code.proofs.Places.{branch_offset, ends_at}
 
 -- Sizes

@@ -13,12 +13,12 @@ use Rattle.zcore.specs.Parts.{operand_value}
 use Rattle.zcore.specs.State.{done}
 use Rattle.zcore.specs.Execution.{perform, give_result}
 use Rattle.meaning.specs.declared.cause.Cause.TheVariants as causes
-use Rattle.region.specs.Region.{tables_base}
-use Rattle.region.specs.Tables.{Table, words_place}
-use Rattle.encoding.specs.Addresses.{fault_address}
-use Rattle.encoding.specs.Instructions.{giving, branching, fail}
-use Rattle.object_selection.specs.ObjectCode.{length_at, tested_single, tested_word, behind_operand}
-use Rattle.selection.specs.ItemCode.{is_entry}
+use Rattle.code_object_memory.specs.Region.{tables_base}
+use Rattle.code_object_memory.specs.Tables.{words_place, PropertyTable}
+use Rattle.code_encoding.specs.Addresses.{fault_address}
+use Rattle.code_encoding.specs.Instructions.{giving, branching, fail}
+use Rattle.code_objects.specs.ObjectCode.{length_at, tested_single, tested_word, behind_operand}
+use Rattle.code_selection.specs.ItemCode.{is_entry}
 use Rattle.code.proofs.Memory.{word_of, with_variable}
 use Rattle.code.proofs.Parts.{machine as at_words}
 use Rattle.code.proofs.Steps.{point, one_operand, two_operands, small_value, variable_value}
@@ -30,7 +30,7 @@ use Rattle.code.proofs.Operating.{divides}
 use Rattle.code.proofs.TestedWords.{entry_between}
 use Rattle.code.proofs.Bounding.{bounds}
 use Rattle.code.proofs.TestedObjects.{IsObjectHere}
-use Rattle.code.proofs.Working.{Works, Fails, writes, reads_word, same_base}
+use Rattle.code.proofs.Working.{Works, writes, reads_word, same_base, FailsWith}
 use Rattle.code.proofs.FaultTests.{Passed, tests}
 use Rattle.code.proofs.Providing.{words_at, acts_on, placed_on}
 
@@ -48,14 +48,16 @@ module _ (c : Running) where
   -- The number of words
 
   -- how many bytes the words have goes to a variable of the compiler
-  record Counted (tables : List Table) (before rest old : List ℕ) (count : ℕ) (is : List Instruction) : Type 0 where
+  record Counted (tables : List PropertyTable) (before rest old : List ℕ) (count : ℕ)
+      (is : List Instruction) : Type 0 where
     memory : List ℕ
     there : ℕ
     works : Works c tables before rest memory there is
     holds_count : word_of memory 251 ≡ count
     others : (v : ℕ) → 248 ≤ v → v ≢ 251 → word_of memory v ≡ word_of old v
 
-  counted : (tables : List Table) (before rest old : List ℕ) (there o q : ℕ) (words : List ℕ) (is : List Instruction)
+  counted : (tables : List PropertyTable) (before rest old : List ℕ) (there o q : ℕ) (words : List ℕ)
+      (is : List Instruction)
       → IsObjectHere c o → world.objects.properties o q ≡ Some words → word_of old 250 ≡ words_at c tables o q
       → Works c tables before rest old there (length_at 250 251 ∷ is)
       → Counted tables before rest old (2 * length words) is
@@ -84,16 +86,16 @@ module _ (c : Running) where
       }
 
   -- memory in which the address is still there, and every word below and above the counter
-  pub record Kept (tables : List Table) (before rest old : List ℕ) (is : List Instruction) : Type 0 where
+  pub record Kept (tables : List PropertyTable) (before rest old : List ℕ) (is : List Instruction) : Type 0 where
     pub memory : List ℕ
     pub there : ℕ
     pub works : Works c tables before rest memory there is
     pub others : (v : ℕ) → 248 ≤ v → v ≢ 251 → word_of memory v ≡ word_of old v
 
   -- a property has one word, or there is the fault
-  abbrev pub SingleTested : Bool → List Table → List ℕ → List ℕ → List ℕ → List Instruction → Type 0
+  abbrev pub SingleTested : Bool → List PropertyTable → List ℕ → List ℕ → List ℕ → List Instruction → Type 0
   SingleTested true tables before rest old is = Kept tables before rest old is
-  SingleTested false tables before rest old is = Fails c causes.PropertyOfManyWords before
+  SingleTested false tables before rest old is = FailsWith c causes.PropertyOfManyWords before
 
   pub double_single : (n : ℕ) → ((2 * n == 2) || false) ≡ (n == 1)
   double_single zero = refl
@@ -103,7 +105,7 @@ module _ (c : Running) where
       let f : (suc (suc n) == 1) ≡ false = ne_eqb _ _ (λ f. omega (arith, f)) in
       rw (e, f) refl
 
-  pub single_tests : (tables : List Table) (before rest old : List ℕ) (there o q : ℕ) (words : List ℕ)
+  pub single_tests : (tables : List PropertyTable) (before rest old : List ℕ) (there o q : ℕ) (words : List ℕ)
       (is : List Instruction) → next_place c < length m
       → IsObjectHere c o → world.objects.properties o q ≡ Some words → word_of old 250 ≡ words_at c tables o q
       → Works c tables before rest old there (tested_single a ++ is)
@@ -135,9 +137,9 @@ module _ (c : Running) where
       go false memory at w others = w
 
   -- an index is that of a word, or there is the fault
-  abbrev pub WordTested : Bool → List Table → List ℕ → List ℕ → List ℕ → List Instruction → Type 0
+  abbrev pub WordTested : Bool → List PropertyTable → List ℕ → List ℕ → List ℕ → List Instruction → Type 0
   WordTested true tables before rest old is = Kept tables before rest old is
-  WordTested false tables before rest old is = Fails c causes.IndexOutOfRange before
+  WordTested false tables before rest old is = FailsWith c causes.IndexOutOfRange before
 
   -- the bytes of the second test: 4, or 6 where the index takes two
   upper_size : (i : Operand)
@@ -148,7 +150,8 @@ module _ (c : Running) where
   upper_size (Small n) = (refl, omega arith)
   upper_size (Variable n) = (refl, omega arith)
 
-  pub word_tests : (tables : List Table) (before rest old : List ℕ) (there o q v : ℕ) (i : Operand) (words : List ℕ)
+  pub word_tests : (tables : List PropertyTable) (before rest old : List ℕ) (there o q v : ℕ) (i : Operand)
+      (words : List ℕ)
       (is : List Instruction) → next_place c < length m
       → IsObjectHere c o → world.objects.properties o q ≡ Some words → word_of old 250 ≡ words_at c tables o q
       → ((memory : List ℕ) → Scratch c memory → ((x : ℕ) → 248 ≤ x → x ≢ 251 → word_of memory x ≡ word_of old x)

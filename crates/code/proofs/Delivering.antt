@@ -7,11 +7,11 @@ use Rattle.meaning.specs.declared.resolved.Variable.{Variable}
 use Rattle.meaning.specs.declared.resolved.Variable.TheVariants as variables
 use Rattle.meaning.specs.World.{with_value}
 use Rattle.meaning.specs.Meaning.{routine_at}
-use Rattle.drafts.specs.Items.{Destination}
-use Rattle.drafts.specs.Items as items
-use Rattle.items.specs.Laws.{IsDestination}
-use Rattle.items.specs.Stack as stack
-use Rattle.encoding.specs.Instructions.{number_of, result_in}
+use Rattle.code_values.specs.Items.{Destination}
+use Rattle.code_values.specs.Items as items
+use Rattle.code_items.specs.Laws.{IsDestination}
+use Rattle.code_items.specs.Stack as stack
+use Rattle.code_encoding.specs.Instructions.{number_of, result_in}
 use Rattle.code.proofs.Play.{Leads, address}
 use Rattle.code.proofs.Memory.{with_variable}
 use Rattle.code.proofs.Parts.{machine as at_words, Writes, global_writes}

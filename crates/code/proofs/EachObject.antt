@@ -14,12 +14,12 @@ use Rattle.zcore.specs.State.{State, done}
 use Rattle.zcore.specs.Execution.{perform}
 use Rattle.meaning.specs.declared.resolved.Variable as resolved
 use Rattle.meaning.specs.World.{value_in, with_value, write_variable, give, ◌>>=◌}
-use Rattle.drafts.specs.Items.{agrees}
-use Rattle.drafts.specs.Items as items
-use Rattle.items.specs.Stack as stack
-use Rattle.encoding.specs.Instructions.{branching, number_of, jump_offset}
-use Rattle.instructions.specs.Instructions.{is_between}
-use Rattle.object_selection.specs.ObjectCode.{jump_by}
+use Rattle.code_values.specs.Items.{agrees}
+use Rattle.code_values.specs.Items as items
+use Rattle.code_items.specs.Stack as stack
+use Rattle.code_encoding.specs.Instructions.{branching, number_of, jump_offset}
+use Rattle.code_instructions.specs.Instructions.{is_between}
+use Rattle.code_objects.specs.ObjectCode.{jump_by}
 use Rattle.code.specs.Bytes.{place_of}
 use Rattle.code.specs.HeldProgram.{sizes_of}
 use Rattle.code.proofs.Behind.{Holds}
@@ -29,7 +29,7 @@ use Rattle.code.proofs.Steps.{point, leads_then, one_step, first_held, others_he
 use Rattle.code.proofs.Steps.{large_value, variable_value, landing}
 use Rattle.code.proofs.SingleSteps.{increase, increment_step}
 use Rattle.code.proofs.Places.{ends_by, offset_leads}
-use Rattle.code.proofs.Arriving.{Running, at_case, around, here, LedFrom, Stands, code_held, situation_here}
+use Rattle.code.proofs.Arriving.{Running, at_case, around, here, LedFrom, code_held, situation_here, ArrivesAt}
 use Rattle.code.proofs.Variables.{memory_with, Held, variable_held}
 use Rattle.code.proofs.Temporaries.{scratch_here}
 use Rattle.code.proofs.Alone.{next_place, plain_length}
@@ -80,7 +80,7 @@ module _ (c : Running) where
       leads_then (point q world.fuel) (point (q + 4) world.fuel) (point (q + 4 + away) world.fuel) st st st e f
 
   module _ (x : resolved.Variable) (target : ℕ) (chosen : Option ℕ) (words : List ℕ) (is : IsVariableHere c x)
-      (room : length words ≤ 48) (stands : Stands c (items.next_object x target)) where
+      (room : length words ≤ 48) (stands : ArrivesAt c (items.next_object x target)) where
     abbrev variable : ℕ
     variable = number_of x
 
@@ -251,6 +251,6 @@ module _ (c : Running) where
         go false h end = next_by_pieces 6 (large_pieces h end) is_next refl low
 
   pub next_object_led : (x : resolved.Variable) (target : ℕ) (chosen : Option ℕ) (words : List ℕ)
-      → IsVariableHere c x → length words ≤ 48 → Stands c (items.next_object x target)
+      → IsVariableHere c x → length words ≤ 48 → ArrivesAt c (items.next_object x target)
       → LedFrom c words (stack.decides (stack.steps_object p x) false target words (at_case c chosen words))
   next_object_led x target chosen words is room stands = stepped x target chosen words is room stands

@@ -20,10 +20,10 @@ use Rattle.meaning.specs.World.{Situation, ended, spend_from}
 use Rattle.meaning.specs.Meaning.{locals_of, routine_at}
 use Rattle.meaning.specs.Accepted.{IsAccepted}
 use Rattle.meaning.specs.Objects.{Objects}
-use Rattle.items.specs.Statements.{routine_items}
-use Rattle.items.specs.Stack.{Caller}
-use Rattle.items.specs.Stack as stack
-use Rattle.encoding.specs.Addresses.{Addresses}
+use Rattle.code_items.specs.Statements.{routine_items}
+use Rattle.code_items.specs.Stack.{Caller}
+use Rattle.code_items.specs.Stack as stack
+use Rattle.code_encoding.specs.Addresses.{Addresses}
 use Rattle.code.specs.Bytes.{code_bytes}
 use Rattle.code.specs.HeldProgram.{sizes_of, HoldsProgram}
 use Rattle.code.proofs.Play.{Stored, address, frames_of, back_of, result_of, other_counts, IsCaller, Led, none_chosen}
@@ -211,7 +211,7 @@ module _ (story : List ℕ) (a : Addresses) (p : ProgramOf) (accepted : IsAccept
         Called fuel = step (point pc fuel) begin ≡ call_packed (point pc fuel) (back_of story a p callers)
             (result_of story a p callers) packed arguments st
 
-        entered : ℕ → stack.State
+        entered : ℕ → stack.ItemState
         entered fuel = record {
           routine = r;
           place = 0;

@@ -10,20 +10,20 @@ use Rattle.zcore.specs.declared.instruction.Operation.TheVariants as operations
 use Rattle.zcore.specs.Instruction.{bytes_of, IsEncodable, FitsOperand}
 use Rattle.zcore.specs.Execution.{perform}
 use Rattle.meaning.specs.Meaning.{truth, is_true}
-use Rattle.drafts.specs.Items as items
-use Rattle.items.specs.Stack as stack
-use Rattle.encoding.specs.Instructions.{branching, pull, copy}
-use Rattle.instructions.specs.Instructions.{flag}
+use Rattle.code_values.specs.Items as items
+use Rattle.code_items.specs.Stack as stack
+use Rattle.code_encoding.specs.Instructions.{branching, pull, copy}
+use Rattle.code_instructions.specs.Instructions.{flag}
 use Rattle.code.proofs.Behind.{Holds}
 use Rattle.code.proofs.Play.{Leads, moves}
 use Rattle.code.proofs.Memory.{with_variable}
-use Rattle.code.proofs.Parts.{machine as at_words, Reads}
+use Rattle.code.proofs.Parts.{machine as at_words, ReadsVariable}
 use Rattle.code.proofs.Steps.{point, first_held, others_held, fits_one, fits_two, one_operand, two_operands}
 use Rattle.code.proofs.Steps.{variable_value, landing}
 use Rattle.code.proofs.SingleSteps.{branch_step, flag_leads}
 use Rattle.code.proofs.Flags.{test_leads}
-use Rattle.code.proofs.Arriving.{Running, at_case, around, here, LedFrom, Stands, above, room_for, code_held, arrives}
-use Rattle.code.proofs.Arriving.{situation_here}
+use Rattle.code.proofs.Arriving.{Running, at_case, around, here, LedFrom, above, room_for, code_held, arrives}
+use Rattle.code.proofs.Arriving.{ArrivesAt, situation_here}
 use Rattle.code.proofs.Temporaries.{scratch_here, scratch_with, reads_written, reads_other, word_written}
 use Rattle.code.proofs.Temporaries.{word_unwritten, held_in, pull_temporary, copy_temporary}
 
@@ -75,7 +75,7 @@ module _ (c : Running) where
       }
 
   -- whatever word of a `switch` there is
-  pub first_equal_led : (chosen : Option ℕ) (s : List ℕ) → length s ≤ 48 → Stands c items.first_equal
+  pub first_equal_led : (chosen : Option ℕ) (s : List ℕ) → length s ≤ 48 → ArrivesAt c items.first_equal
       → LedFrom c s (stack.first_equal s (at_case c chosen s))
   unfolding bytes_of perform
   first_equal_led chosen [] short stands = tt
@@ -121,7 +121,7 @@ module _ (c : Running) where
 
   -- where the alternative is equal, 1 is pushed; else the flag so far decides
   also_rest : (b : Bool) (m1 : List ℕ) (q flag_word x : ℕ) (s : List ℕ) → length (x ∷ s) ≤ 47
-      → Reads (around c) m1 locals 249 flag_word → 64 ≤ q → q + 3 + 9 < length m1
+      → ReadsVariable (around c) m1 locals 249 flag_word → 64 ≤ q → q + 3 + 9 < length m1
       → Holds m1 q (flat_map bytes_of (branching operations.JumpIfZero (Variable 249 ∷ []) false 8 ∷ flag))
       → Leads (point (landing true b q 9) world.fuel) (at_words (around c) m1 locals (x ∷ s) world.text)
       (point (q + 3 + 9) world.fuel)
@@ -150,7 +150,7 @@ module _ (c : Running) where
       (variable_value (around c) m1 locals (x ∷ s) world.text 249 flag_word reads))
       (λ here after st. refl) (room_for c (x ∷ s) (omega (arith, short))) above (omega arith) within h)
 
-  pub also_equal_led : (chosen : Option ℕ) (s : List ℕ) → length s ≤ 48 → Stands c items.also_equal
+  pub also_equal_led : (chosen : Option ℕ) (s : List ℕ) → length s ≤ 48 → ArrivesAt c items.also_equal
       → LedFrom c s (stack.also_equal s (at_case c chosen s))
   unfolding bytes_of perform
   also_equal_led chosen [] short stands = tt

@@ -19,10 +19,10 @@ use Rattle.zcore.specs.Parts.{test_variable, test_pull, operand_value, operand_v
 use Rattle.zcore.specs.Parts.{test_target, spend, go, test_routine, test_calls, enter, call, test_return, leave}
 use Rattle.zcore.specs.Parts.{give_back, take_branch, branch_on, print}
 use Rattle.zcore.specs.Arithmetic.{quotient, decimal, signed_text}
-use Rattle.expression_trees.specs.declared.tree.Binary.TheVariants as binaries
-use Rattle.expression_trees.specs.declared.tree.Equality.TheVariants as equalities
-use Rattle.expression_trees.specs.declared.tree.Prefix.TheVariants as prefixes
-use Rattle.expression_trees.specs.declared.tree.Width.TheVariants as widths
+use Rattle.syntax_trees.specs.declared.tree.Binary.TheVariants as binaries
+use Rattle.syntax_trees.specs.declared.tree.Equality.TheVariants as equalities
+use Rattle.syntax_trees.specs.declared.tree.Prefix.TheVariants as prefixes
+use Rattle.syntax_trees.specs.declared.tree.Width.TheVariants as widths
 use Rattle.meaning.specs.Resolved as source
 use Rattle.meaning.specs.Resolved.{RoutineOf, ProgramOf}
 use Rattle.meaning.specs.Meaning.{routine_at, meaning}

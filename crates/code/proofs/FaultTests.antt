@@ -10,9 +10,9 @@ use Rattle.zcore.specs.State.{State, done}
 use Rattle.zcore.specs.Parts.{operand_values, branch_on}
 use Rattle.zcore.specs.Execution.{perform}
 use Rattle.meaning.specs.declared.cause.Cause.{Cause}
-use Rattle.region.specs.Tables.{Table}
-use Rattle.encoding.specs.Addresses.{fault_address}
-use Rattle.encoding.specs.Instructions.{branching, fail}
+use Rattle.code_object_memory.specs.Tables.{PropertyTable}
+use Rattle.code_encoding.specs.Addresses.{fault_address}
+use Rattle.code_encoding.specs.Instructions.{branching, fail}
 use Rattle.code.proofs.Behind.{Holds, holds_append}
 use Rattle.code.proofs.Play.{Leads}
 use Rattle.code.proofs.Parts.{machine as at_words}
@@ -20,7 +20,7 @@ use Rattle.code.proofs.Steps.{point, leads_then, first_held, others_held, landin
 use Rattle.code.proofs.Fitting.{Shaped}
 use Rattle.code.proofs.Arriving.{Running, around, here}
 use Rattle.code.proofs.Alone.{next_place}
-use Rattle.code.proofs.Working.{Works, Fails, branch_leads}
+use Rattle.code.proofs.Working.{Works, branch_leads, FailsWith}
 
 module _ (c : Running) where
   open c use {story, a, p, accepted, holds, full, m, count, counts, routine, place, callers, locals, world, good}
@@ -28,16 +28,16 @@ module _ (c : Running) where
   -- Tests before a fault
 
   -- what is behind the fault, or the fault
-  abbrev pub Passed : Bool → Cause → List Table → List ℕ → List ℕ → List ℕ → ℕ → List Instruction → Type 0
+  abbrev pub Passed : Bool → Cause → List PropertyTable → List ℕ → List ℕ → List ℕ → ℕ → List Instruction → Type 0
   Passed true cause tables before rest memory q is = Works c tables before rest memory q is
-  Passed false cause tables before rest memory q is = Fails c cause before
+  Passed false cause tables before rest memory q is = FailsWith c cause before
 
   -- a branch leads over the fault where its condition is as asked
   abbrev pub asked : Bool → Bool → Bool
   asked true b = b
   asked false b = not b
 
-  pub tests : (cause : Cause) (tables : List Table) (before rest memory : List ℕ) (q : ℕ) (op : Operation)
+  pub tests : (cause : Cause) (tables : List PropertyTable) (before rest memory : List ℕ) (q : ℕ) (op : Operation)
       (os : List Operand) (values : List ℕ) (when b : Bool) (is : List Instruction)
       → next_place c < length m → Shaped (branching op os when 6)
       → operand_values os (at_words (around c) memory locals rest world.text)
@@ -94,7 +94,7 @@ module _ (c : Running) where
       }
 
       stops : Leads (point (here c) world.fuel) (at_words (around c) m locals before world.text)
-          (point behind world.fuel) st → Fails c cause before
+          (point behind world.fuel) st → FailsWith c cause before
       stops l = record {
         rest = rest;
         memory = memory;

@@ -8,13 +8,13 @@ use Rattle.zcore.specs.declared.instruction.Operand.TheVariants.{Large, Small}
 use Rattle.zcore.specs.Arithmetic.{signed_less}
 use Rattle.zcore.specs.Instruction.{Instruction, bytes_of}
 use Rattle.zcore.specs.Header.{static_base_of}
-use Rattle.expression_trees.specs.declared.tree.Width.TheVariants as widths
+use Rattle.syntax_trees.specs.declared.tree.Width.TheVariants as widths
 use Rattle.meaning.specs.declared.cause.Cause.TheVariants as causes
 use Rattle.meaning.specs.Reading.{holds_letters, holds_words}
 use Rattle.meaning.specs.World.{to}
-use Rattle.drafts.specs.Items as items
-use Rattle.items.specs.Stack as stack
-use Rattle.selection.specs.ItemCode.{first_byte, letters_in, words_in, tested_first}
+use Rattle.code_values.specs.Items as items
+use Rattle.code_items.specs.Stack as stack
+use Rattle.code_selection.specs.ItemCode.{first_byte, letters_in, words_in, tested_first}
 use Rattle.code.proofs.Play.{LedOn, next_of, state_of}
 use Rattle.code.proofs.Memory.{with_variable}
 use Rattle.code.proofs.Flat.{array_within}

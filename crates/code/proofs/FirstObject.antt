@@ -7,15 +7,15 @@ use Rattle.zcore.specs.Instruction.{bytes_of}
 use Rattle.zcore.specs.Execution.{perform}
 use Rattle.meaning.specs.declared.resolved.Variable as resolved
 use Rattle.meaning.specs.World.{with_value, write_variable, give, ◌>>=◌}
-use Rattle.drafts.specs.Items.{agrees}
-use Rattle.drafts.specs.Items as items
-use Rattle.items.specs.Stack as stack
-use Rattle.encoding.specs.Instructions.{number_of, store}
+use Rattle.code_values.specs.Items.{agrees}
+use Rattle.code_values.specs.Items as items
+use Rattle.code_items.specs.Stack as stack
+use Rattle.code_encoding.specs.Instructions.{number_of, store}
 use Rattle.code.proofs.Play.{Leads, none_chosen}
 use Rattle.code.proofs.Parts.{machine as at_words}
 use Rattle.code.proofs.Steps.{point, one_step, two_operands, small_value}
 use Rattle.code.proofs.Fitting.{Shaped}
-use Rattle.code.proofs.Arriving.{Running, at_case, around, here, LedFrom, Stands, situation_here}
+use Rattle.code.proofs.Arriving.{Running, at_case, around, here, LedFrom, situation_here, ArrivesAt}
 use Rattle.code.proofs.Variables.{memory_with, variable_held}
 use Rattle.code.proofs.Temporaries.{scratch_here, made}
 use Rattle.code.proofs.Delivering.{stored_step}
@@ -50,7 +50,7 @@ module _ (c : Running) where
       (record (at_case c chosen words) { situation = situation }))
 
   pub first_object_led : (x : resolved.Variable) (target : ℕ) (chosen : Option ℕ) (words : List ℕ)
-      → IsVariableHere c x → length words ≤ 48 → Stands c (items.first_object x target)
+      → IsVariableHere c x → length words ≤ 48 → ArrivesAt c (items.first_object x target)
       → LedFrom c words (stack.decides (stack.begins_objects p x) false target words (at_case c chosen words))
   unfolding perform
   first_object_led x target chosen words is room stands = go (length p.objects == 0) refl

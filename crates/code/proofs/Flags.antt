@@ -10,8 +10,8 @@ use Rattle.zcore.specs.Instruction.{bytes_of, IsEncodable}
 use Rattle.zcore.specs.State.{State, done, words}
 use Rattle.zcore.specs.Parts.{operand_values, branch_on}
 use Rattle.zcore.specs.Execution.{perform}
-use Rattle.encoding.specs.Instructions.{branching}
-use Rattle.instructions.specs.Instructions.{flag}
+use Rattle.code_encoding.specs.Instructions.{branching}
+use Rattle.code_instructions.specs.Instructions.{flag}
 use Rattle.code.proofs.Behind.{Holds}
 use Rattle.code.proofs.Play.{Leads, moves}
 use Rattle.code.proofs.Parts.{Around, machine as at_words}

@@ -17,13 +17,13 @@ use Rattle.meaning.specs.Objects.{Objects, with_attribute}
 use Rattle.meaning.specs.Meaning.{give_all}
 use Rattle.meaning.specs.World.{Situation, to, with_objects}
 use Rattle.meaning.specs.World as source
-use Rattle.drafts.specs.Items as items
-use Rattle.items.specs.Stack as stack
-use Rattle.region.specs.Laws.{Changes}
-use Rattle.region.specs.Region.{HasObjects}
-use Rattle.region.specs.Tables.{Table}
-use Rattle.encoding.specs.Instructions.{plain}
-use Rattle.object_selection.specs.ObjectCode.{changing}
+use Rattle.code_values.specs.Items as items
+use Rattle.code_items.specs.Stack as stack
+use Rattle.code_object_memory.specs.Laws.{Changes}
+use Rattle.code_object_memory.specs.Region.{HasObjects}
+use Rattle.code_object_memory.specs.Tables.{PropertyTable}
+use Rattle.code_encoding.specs.Instructions.{plain}
+use Rattle.code_objects.specs.ObjectCode.{changing}
 use Rattle.code.proofs.Behind.{Holds, holds_on}
 use Rattle.code.proofs.Play.{Leads, Stored, stays}
 use Rattle.code.proofs.Memory.{word_of}
@@ -31,7 +31,7 @@ use Rattle.code.proofs.Parts.{Around, machine as at_words, reads_global}
 use Rattle.code.proofs.Steps.{point, leads_then, one_step, first_held, others_held, two_operands, small_value}
 use Rattle.code.proofs.Steps.{large_value}
 use Rattle.code.proofs.Fitting.{Shaped, held_bytes, all_fit}
-use Rattle.code.proofs.Arriving.{Running, at, around, here, high, kept, LedFrom, Stands, situation_here}
+use Rattle.code.proofs.Arriving.{Running, at, around, here, high, kept, LedFrom, situation_here, ArrivesAt}
 use Rattle.code.proofs.Temporaries.{scratch_here, held_in, made}
 use Rattle.code.proofs.Alone.{alone_count, IsOperandHere}
 use Rattle.code.proofs.Moving.{written_led}
@@ -129,7 +129,8 @@ module _ (c : Running) where
   open c use {story, a, p, accepted, holds, full, m, count, counts, routine, place, callers, locals, world, good}
 
   -- one attribute is set or cleared
-  changes_by : (tables : List Table) (has : HasObjects p.objects p.defaults world.objects tables m) (rest : List ℕ)
+  changes_by : (tables : List PropertyTable) (has : HasObjects p.objects p.defaults world.objects tables m)
+      (rest : List ℕ)
       (q after o n : ℕ) (b : Bool) → IsObjectHere c o → n < 48
       → Changes p.objects p.defaults (with_attribute o n b world.objects)
       (perform (if b then operations.SetAttribute else operations.ClearAttribute) (point q world.fuel) after None None
@@ -147,7 +148,7 @@ module _ (c : Running) where
     leads : Leads (point q world.fuel) (at_words (around c) m locals rest world.text)
         (point (q + length (flat_map bytes_of is)) world.fuel) (at_words (around c) memory locals rest world.text)
 
-given : (changes : List (Bool × ℕ)) (c : Running) (rest : List ℕ) (q o : ℕ) (x : Operand) (tables : List Table)
+given : (changes : List (Bool × ℕ)) (c : Running) (rest : List ℕ) (q o : ℕ) (x : Operand) (tables : List PropertyTable)
     → HasObjects c.p.objects c.p.defaults c.world.objects tables c.m → here c ≤ q
     → Holds c.m q (flat_map bytes_of (map (changing x) changes)) → IsObjectHere c o
     → All (λ (y : Bool × ℕ). y.1 < 48) changes
@@ -212,7 +213,7 @@ module _ (c : Running) where
   open c use {story, a, p, accepted, holds, full, m, count, counts, routine, place, callers, locals, world, good}
 
   pub give_led : (o : items.Operand) (changes : List (Bool × ℕ)) (s : List ℕ) → IsOperandHere c o
-      → All (λ (y : Bool × ℕ). y.1 < 48) changes → length s ≤ 48 → Stands c (items.give o changes)
+      → All (λ (y : Bool × ℕ). y.1 < 48) changes → length s ≤ 48 → ArrivesAt c (items.give o changes)
       → LedFrom c s (stack.with_operand o (situation_here c) s
       (λ v rest. stack.prints (stack.gives_attributes p v changes) rest (at c s)))
   give_led o changes s is small short stands =

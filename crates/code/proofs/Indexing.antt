@@ -8,16 +8,16 @@ use Rattle.zcore.specs.Instruction.{Instruction, bytes_of}
 use Rattle.meaning.specs.declared.cause.Cause.{Cause}
 use Rattle.meaning.specs.declared.cause.Cause.TheVariants as causes
 use Rattle.meaning.specs.World.{value_in}
-use Rattle.drafts.specs.Items as items
-use Rattle.encoding.specs.Addresses.{fault_address}
-use Rattle.encoding.specs.Instructions.{constant, pull, fail, number_of, pulled_into, word_in}
-use Rattle.instructions.specs.Instructions.{tested_between, is_between}
-use Rattle.selection.specs.ItemCode.{is_entry, at_index}
-use Rattle.object_selection.specs.ObjectCode.{at_tested, tests_in}
+use Rattle.code_values.specs.Items as items
+use Rattle.code_encoding.specs.Addresses.{fault_address}
+use Rattle.code_encoding.specs.Instructions.{constant, pull, fail, number_of, pulled_into, word_in}
+use Rattle.code_instructions.specs.Instructions.{tested_between, is_between}
+use Rattle.code_selection.specs.ItemCode.{is_entry, at_index}
+use Rattle.code_objects.specs.ObjectCode.{at_tested, tests_in}
 use Rattle.code.proofs.Behind.{holds_append}
 use Rattle.code.proofs.Play.{Leads}
 use Rattle.code.proofs.Memory.{word_of, with_variable}
-use Rattle.code.proofs.Parts.{machine as at_words, Reads}
+use Rattle.code.proofs.Parts.{machine as at_words, ReadsVariable}
 use Rattle.code.proofs.Steps.{point, leads_then, one_step, first_held}
 use Rattle.code.proofs.ItemOperands.{constant_value}
 use Rattle.code.proofs.Arriving.{Running, around, here, situation_here}
@@ -35,9 +35,9 @@ module _ (c : Running) where
       → (act : Operand → List Instruction)
       → (before rest other : List ℕ)
       → (r : Reached c before rest other (tested_between a cause low end variable ++ act (Variable variable)))
-      → Reads (around c) r.memory locals variable i
+      → ReadsVariable (around c) r.memory locals variable i
       → ((memory : List ℕ) → Scratch c memory → word_of memory 248 ≡ word_of r.memory 248
-      → Reads (around c) memory locals variable i)
+      → ReadsVariable (around c) memory locals variable i)
       → r.q + length (flat_map bytes_of (tested_between a cause low end variable ++ act (Variable variable)))
       ≡ next_place c
       → next_place c < length m → Tested c cause (is_between low end i) i before rest other act

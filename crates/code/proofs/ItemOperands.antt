@@ -7,33 +7,33 @@ use Rattle.zcore.specs.declared.instruction.Operand.TheVariants as machine_opera
 use Rattle.zcore.specs.State.{State, done}
 use Rattle.zcore.specs.Parts.{operand_value, operand_values}
 use Rattle.meaning.specs.World.{Situation, value_in}
-use Rattle.drafts.specs.Items.{pushed, number, variable}
-use Rattle.drafts.specs.Items as items
-use Rattle.items.specs.Stack.{Next, stuck, with_operand, with_operands}
-use Rattle.encoding.specs.Instructions.{number_of, temporary, constant, top, pushed_count, named_from, operands}
-use Rattle.code.proofs.Parts.{Around, machine as at_words, Reads}
+use Rattle.code_values.specs.Items.{pushed, number, variable}
+use Rattle.code_values.specs.Items as items
+use Rattle.code_items.specs.Stack.{Next, stuck, with_operand, with_operands}
+use Rattle.code_encoding.specs.Instructions.{number_of, temporary, constant, top, pushed_count, named_from, operands}
+use Rattle.code.proofs.Parts.{Around, machine as at_words, ReadsVariable}
 use Rattle.code.proofs.Steps.{no_operand, small_value, large_value, top_value, variable_value}
 
 -- In the machine of items
 
 -- operands come to values, and leave this of the stack
-abbrev pub Gives : List items.Operand → Situation → List ℕ → List ℕ → List ℕ → Type 0
-Gives [] s words [] rest = words ≡ rest
-Gives [] s words (v ∷ vs) rest = ⊥
-Gives (o ∷ os) s words [] rest = ⊥
-Gives (pushed ∷ os) s words (v ∷ vs) rest = Gives os s words vs (v ∷ rest)
-Gives (number k ∷ os) s words (v ∷ vs) rest = (k ≡ v) × Gives os s words vs rest
-Gives (variable x ∷ os) s words (v ∷ vs) rest = (value_in x s ≡ v) × Gives os s words vs rest
+abbrev pub GivesOperands : List items.Operand → Situation → List ℕ → List ℕ → List ℕ → Type 0
+GivesOperands [] s words [] rest = words ≡ rest
+GivesOperands [] s words (v ∷ vs) rest = ⊥
+GivesOperands (o ∷ os) s words [] rest = ⊥
+GivesOperands (pushed ∷ os) s words (v ∷ vs) rest = GivesOperands os s words vs (v ∷ rest)
+GivesOperands (number k ∷ os) s words (v ∷ vs) rest = (k ≡ v) × GivesOperands os s words vs rest
+GivesOperands (variable x ∷ os) s words (v ∷ vs) rest = (value_in x s ≡ v) × GivesOperands os s words vs rest
 
 -- what holds where operands lack, and where they come to values, holds of an item with them
 pub by_operands : (os : List items.Operand) (s : Situation) (words : List ℕ) (P : Next → Type 0) (k : List ℕ → List ℕ
     → Next)
-    → P stuck → ((vs rest : List ℕ) → Gives os s words vs rest → P (k vs rest)) → P (with_operands os s words k)
+    → P stuck → ((vs rest : List ℕ) → GivesOperands os s words vs rest → P (k vs rest)) → P (with_operands os s words k)
 by_operands [] s words P k lacks f = f [] words refl
 by_operands (pushed ∷ os) s words P k lacks f =
     by_operands os s words P (λ vs rest. with_operand pushed s rest (λ v left. k (v ∷ vs) left)) lacks popped
   where
-    popped : (vs rest : List ℕ) → Gives os s words vs rest
+    popped : (vs rest : List ℕ) → GivesOperands os s words vs rest
         → P (with_operand pushed s rest (λ v left. k (v ∷ vs) left))
     popped vs [] g = lacks
     popped vs (v ∷ left) g = f (v ∷ vs) left g
@@ -57,7 +57,7 @@ from_word (w ∷ words) (suc k) v rest e =
     let number : 1 + suc k ≡ suc (1 + k) = omega arith in
     record { here = f.here; later = ap (λ n. drop n (w ∷ words)) number ∙ f.later }
 
-pub gives_rest : (os : List items.Operand) (s : Situation) (words vs rest : List ℕ) → Gives os s words vs rest
+pub gives_rest : (os : List items.Operand) (s : Situation) (words vs rest : List ℕ) → GivesOperands os s words vs rest
     → drop (pushed_count os) words ≡ rest
 gives_rest [] s words [] rest g = g
 gives_rest [] s words (v ∷ vs) rest g = absurd g
@@ -67,7 +67,7 @@ gives_rest (pushed ∷ os) s words (v ∷ vs) rest g =
 gives_rest (number k ∷ os) s words (v ∷ vs) rest g = gives_rest os s words vs rest g.1
 gives_rest (variable x ∷ os) s words (v ∷ vs) rest g = gives_rest os s words vs rest g.1
 
-pub gives_count : (os : List items.Operand) (s : Situation) (words vs rest : List ℕ) → Gives os s words vs rest
+pub gives_count : (os : List items.Operand) (s : Situation) (words vs rest : List ℕ) → GivesOperands os s words vs rest
     → length words ≡ pushed_count os + length rest
 gives_count [] s words [] rest g = ap length g ∙ omega arith
 gives_count [] s words (v ∷ vs) rest g = absurd g
@@ -77,7 +77,7 @@ gives_count (number k ∷ os) s words (v ∷ vs) rest g = gives_count os s words
 gives_count (variable x ∷ os) s words (v ∷ vs) rest g = gives_count os s words vs rest g.1
 
 -- as many values as operands
-pub gives_length : (os : List items.Operand) (s : Situation) (words vs rest : List ℕ) → Gives os s words vs rest
+pub gives_length : (os : List items.Operand) (s : Situation) (words vs rest : List ℕ) → GivesOperands os s words vs rest
     → length vs ≡ length os
 gives_length [] s words [] rest g = refl
 gives_length [] s words (v ∷ vs) rest g = absurd g
@@ -122,9 +122,9 @@ module _ (e : Around) (m l : List ℕ) where
   Named n [] [] = Unit {0}
   Named n [] (v ∷ vs) = ⊥
   Named n (o ∷ os) [] = ⊥
-  Named n (pushed ∷ os) (v ∷ vs) = Reads e m l (temporary n) v × Named (n + 1) os vs
+  Named n (pushed ∷ os) (v ∷ vs) = ReadsVariable e m l (temporary n) v × Named (n + 1) os vs
   Named n (number k ∷ os) (v ∷ vs) = (k ≡ v) × Named n os vs
-  Named n (variable x ∷ os) (v ∷ vs) = Reads e m l (number_of x) v × Named n os vs
+  Named n (variable x ∷ os) (v ∷ vs) = ReadsVariable e m l (number_of x) v × Named n os vs
 
   -- the first that is pushed is on top of the stack
   abbrev pub Ready : List items.Operand → List ℕ → Type 0
@@ -133,7 +133,7 @@ module _ (e : Around) (m l : List ℕ) where
   Ready (o ∷ os) [] = ⊥
   Ready (pushed ∷ os) (v ∷ vs) = Named 0 os vs
   Ready (number k ∷ os) (v ∷ vs) = (k ≡ v) × Ready os vs
-  Ready (variable x ∷ os) (v ∷ vs) = Reads e m l (number_of x) v × Ready os vs
+  Ready (variable x ∷ os) (v ∷ vs) = ReadsVariable e m l (number_of x) v × Ready os vs
 
   number_value : (k v : ℕ) (s : State) → k ≡ v → operand_value (constant k) s ≡ done v s
   number_value k v s is = constant_value s k ∙ ap (λ (x : ℕ). done x s) is
@@ -157,16 +157,16 @@ module _ (e : Around) (m l : List ℕ) where
 
   -- the words of so many temporaries, of which the last was topmost
   abbrev pub Temporaries : ℕ → ℕ → List ℕ → Type 0
-  Temporaries n k words = (j : ℕ) → j < k → Reads e m l (temporary (n + j)) (slice_index words (k - 1 - j))
+  Temporaries n k words = (j : ℕ) → j < k → ReadsVariable e m l (temporary (n + j)) (slice_index words (k - 1 - j))
 
   -- the variables among operands read as they should
   abbrev pub VariablesRead : Situation → List items.Operand → Type 0
   VariablesRead s [] = Unit {0}
-  VariablesRead s (variable x ∷ os) = Reads e m l (number_of x) (value_in x s) × VariablesRead s os
+  VariablesRead s (variable x ∷ os) = ReadsVariable e m l (number_of x) (value_in x s) × VariablesRead s os
   VariablesRead s (pushed ∷ os) = VariablesRead s os
   VariablesRead s (number k ∷ os) = VariablesRead s os
 
-  named : (os : List items.Operand) (s : Situation) (words vs rest : List ℕ) (n : ℕ) → Gives os s words vs rest
+  named : (os : List items.Operand) (s : Situation) (words vs rest : List ℕ) (n : ℕ) → GivesOperands os s words vs rest
       → VariablesRead s os → Temporaries n (pushed_count os) words → Named n os vs
   named [] s words [] rest n g r t = tt
   named [] s words (v ∷ vs) rest n g r t = absurd g
@@ -176,21 +176,21 @@ module _ (e : Around) (m l : List ℕ) where
       let here = (from_word words k v rest (gives_rest os s words vs (v ∷ rest) g)).here in
       let last : 1 + k - 1 - 0 ≡ k = omega arith in
       let first : n + 0 ≡ n = omega arith in
-      let word = subst (λ x. Reads e m l (temporary (n + 0)) x) (ap (slice_index words) last
+      let word = subst (λ x. ReadsVariable e m l (temporary (n + 0)) x) (ap (slice_index words) last
       ∙ here) (t 0 (omega arith)) in (
-        subst (λ x. Reads e m l (temporary x) v) first word,
+        subst (λ x. ReadsVariable e m l (temporary x) v) first word,
         named os s words vs (v ∷ rest) (n + 1) g r (λ j h.
             let next : n + (1 + j) ≡ n + 1 + j = omega arith in
             let back : 1 + k - 1 - (1 + j) ≡ k - 1 - j = omega arith in
-            subst (λ x. Reads e m l (temporary x) (slice_index words (k - 1 - j))) next
-            (subst (λ x. Reads e m l (temporary (n + (1 + j))) (slice_index words x)) back
+            subst (λ x. ReadsVariable e m l (temporary x) (slice_index words (k - 1 - j))) next
+            (subst (λ x. ReadsVariable e m l (temporary (n + (1 + j))) (slice_index words x)) back
             (t (1 + j) (omega (arith, h))))),
       )
   named (number k ∷ os) s words (v ∷ vs) rest n g r t = (g.0, named os s words vs rest n g.1 r t)
   named (variable x ∷ os) s words (v ∷ vs) rest n g r t =
-      (subst (λ w. Reads e m l (number_of x) w) g.0 r.0, named os s words vs rest n g.1 r.1 t)
+      (subst (λ w. ReadsVariable e m l (number_of x) w) g.0 r.0, named os s words vs rest n g.1 r.1 t)
 
-  pub ready : (os : List items.Operand) (s : Situation) (words vs rest : List ℕ) → Gives os s words vs rest
+  pub ready : (os : List items.Operand) (s : Situation) (words vs rest : List ℕ) → GivesOperands os s words vs rest
       → VariablesRead s os → Temporaries 0 (pushed_count os - 1) words → Ready os vs
   ready [] s words [] rest g r t = tt
   ready [] s words (v ∷ vs) rest g r t = absurd g
@@ -200,7 +200,7 @@ module _ (e : Around) (m l : List ℕ) where
       named os s words vs (v ∷ rest) 0 g r (subst (λ k. Temporaries 0 k words) count t)
   ready (number k ∷ os) s words (v ∷ vs) rest g r t = (g.0, ready os s words vs rest g.1 r t)
   ready (variable x ∷ os) s words (v ∷ vs) rest g r t =
-      (subst (λ w. Reads e m l (number_of x) w) g.0 r.0, ready os s words vs rest g.1 r.1 t)
+      (subst (λ w. ReadsVariable e m l (number_of x) w) g.0 r.0, ready os s words vs rest g.1 r.1 t)
 
   -- the operands of the instruction
   pub ready_values : (os : List items.Operand) (vs rest t : List ℕ) → Ready os vs
@@ -234,7 +234,7 @@ operands_length (number k ∷ os) = ap suc (operands_length os)
 operands_length (variable x ∷ os) = ap suc (operands_length os)
 
 -- the first that is pushed is on top when the others are taken
-pub first_on_top : (os : List items.Operand) (s : Situation) (words vs rest : List ℕ) → Gives os s words vs rest
+pub first_on_top : (os : List items.Operand) (s : Situation) (words vs rest : List ℕ) → GivesOperands os s words vs rest
     → drop (pushed_count os - 1) words ≡ with_first os vs rest
 first_on_top [] s words [] rest g = g
 first_on_top [] s words (v ∷ vs) rest g = absurd g

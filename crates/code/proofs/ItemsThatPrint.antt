@@ -18,15 +18,16 @@ use Rattle.zcore.specs.Instruction.{bytes_of}
 use Rattle.zcore.specs.State.{done, halt}
 use Rattle.zcore.specs.Parts.{unpacked}
 use Rattle.zcore.specs.Execution.{perform, step, text_at, print_inline, print_packed}
-use Rattle.lexer.specs.Printable.{IsPrintable}
+use Rattle.zcore.specs.Layout.{text_limit}
+use Rattle.syntax_lexer.specs.Printable.{IsPrintable}
 use Rattle.meaning.specs.declared.cause.Cause.{Cause}
 use Rattle.meaning.specs.World.{Situation, Comes, to, over, bound, put, shown, words_of}
 use Rattle.meaning.specs.World as source
-use Rattle.drafts.specs.Items as items
-use Rattle.items.specs.Stack as stack
-use Rattle.encoding.specs.Instructions.{plain, in_place, fail}
-use Rattle.encoding.specs.Bytes.{character_of}
-use Rattle.selection.specs.ItemBytes.{text_bytes}
+use Rattle.code_values.specs.Items as items
+use Rattle.code_items.specs.Stack as stack
+use Rattle.code_encoding.specs.Instructions.{plain, in_place, fail}
+use Rattle.code_encoding.specs.Bytes.{character_of}
+use Rattle.code_selection.specs.ItemBytes.{text_bytes}
 use Rattle.code.proofs.Behind.{Holds}
 use Rattle.code.specs.HeldProgram.{fault_line, HoldsText}
 use Rattle.code.proofs.Play.{Leads, stays}
@@ -39,7 +40,7 @@ use Rattle.code.proofs.Ends.{does_after, does_halt, prints, prints_part, prints_
 use Rattle.code.proofs.Texts.{number_prints, text_prints, text_read, printable_kept, IsLine, line_read}
 use Rattle.code.proofs.Shortened.{has_all}
 use Rattle.code.proofs.HeldRoutines.{unpacked_low, address_low}
-use Rattle.code.proofs.Arriving.{Running, at, around, here, LedFrom, Stands, kept, code_held, arrives_on}
+use Rattle.code.proofs.Arriving.{Running, at, around, here, LedFrom, kept, code_held, arrives_on, ArrivesAt}
 use Rattle.code.proofs.Arriving.{situation_here}
 use Rattle.code.proofs.Temporaries.{Scratch, scratch_here, held_in, made, made_at}
 use Rattle.code.proofs.Alone.{by_operand, alone_count, alone_value, IsOperandHere, next_place, single}
@@ -55,7 +56,7 @@ module _ (c : Running) where
   abbrev put_by : Bool → List ℕ → Comes (Unit {0})
   put_by b bytes =
       if b then to tt (record { locals = locals; world = record world { text = world.text ++ bytes } })
-      else over (source.ended (places.Limit limits.Text) (record world { text = take 65536 (world.text ++ bytes) }))
+      else over (source.ended (places.Limit limits.Text) (record world { text = take text_limit (world.text ++ bytes) }))
 
   abbrev onward : List ℕ → List ℕ → Situation → stack.Next
   onward before words situation = stack.goes (stack.after (at c before) words situation)
@@ -65,17 +66,17 @@ module _ (c : Running) where
       → Scratch c m1
       → Leads (point (here c) world.fuel) (at_words (around c) m locals before world.text) (point q world.fuel)
       (at_words (around c) m1 locals mid world.text)
-      → (nat_le (length (world.text ++ bytes)) 65536 ≡ true
+      → (nat_le (length (world.text ++ bytes)) text_limit ≡ true
       → step (point q world.fuel) (at_words (around c) m1 locals mid world.text)
       ≡ done (point end world.fuel) (at_words (around c) m1 locals after (world.text ++ bytes)))
-      → (nat_le (length (world.text ++ bytes)) 65536 ≡ false
+      → (nat_le (length (world.text ++ bytes)) text_limit ≡ false
       → step (point q world.fuel) (at_words (around c) m1 locals mid world.text)
-      ≡ halt (places.Limit limits.Text) (at_words (around c) m1 locals after (take 65536 (world.text ++ bytes))))
+      ≡ halt (places.Limit limits.Text) (at_words (around c) m1 locals after (take text_limit (world.text ++ bytes))))
       → LedFrom c before (stack.prints (put bytes) after (at c before))
   printed_led before mid after m1 bytes q end size room scratch leads fits over_full =
-      go (nat_le (length (world.text ++ bytes)) 65536) refl
+      go (nat_le (length (world.text ++ bytes)) text_limit) refl
     where
-      go : (b : Bool) → nat_le (length (world.text ++ bytes)) 65536 ≡ b
+      go : (b : Bool) → nat_le (length (world.text ++ bytes)) text_limit ≡ b
           → LedFrom c before (stack.after_part (put_by b bytes) (λ _ situation. onward before after situation))
       go true e =
           arrives_on c before after m1
@@ -90,12 +91,12 @@ module _ (c : Running) where
           does_after full world _ (point (here c) world.fuel) (point q world.fuel)
           (at_words (around c) m locals before world.text) (at_words (around c) m1 locals mid world.text) leads
           (does_halt full world (point q world.fuel) (at_words (around c) m1 locals mid world.text)
-          (at_words (around c) m1 locals after (take 65536 (world.text ++ bytes))) (places.Limit limits.Text) refl
+          (at_words (around c) m1 locals after (take text_limit (world.text ++ bytes))) (places.Limit limits.Text) refl
           (over_full e))
 
   -- Plain printing
 
-  pub new_line_led : (s : List ℕ) → length s ≤ 48 → Stands c items.new_line
+  pub new_line_led : (s : List ℕ) → length s ≤ 48 → ArrivesAt c items.new_line
       → LedFrom c s (stack.prints (put (10 ∷ [])) s (at c s))
   unfolding perform
   new_line_led s short stands =
@@ -114,7 +115,7 @@ module _ (c : Running) where
       (10 ∷ []) refl e)
 
   pub print_number_led : (o : items.Operand) (s : List ℕ) → IsOperandHere c o → length s ≤ 48
-      → Stands c (items.print_number o)
+      → ArrivesAt c (items.print_number o)
       → LedFrom c s (stack.with_operand o (situation_here c) s
       (λ v rest. stack.prints (put (signed_text v)) rest (at c s)))
   unfolding perform
@@ -139,7 +140,7 @@ module _ (c : Running) where
 
   pub print_text_led : (bytes : List ℕ) (s : List ℕ)
       → All (λ (t : List ℕ). list_all is_printable t ≡ true) p.abbreviations → All IsPrintable bytes
-      → length s ≤ 48 → Stands c (items.print_text bytes)
+      → length s ≤ 48 → ArrivesAt c (items.print_text bytes)
       → LedFrom c s (stack.prints (put (map shown bytes)) s (at c s))
   unfolding bytes_of perform print_inline text_at
   print_text_led bytes s texts printable short stands =
@@ -181,19 +182,19 @@ module _ (c : Running) where
   fault_by : {A : Type 0} (cause : Cause) (before mid m1 : List ℕ) (q fuel : ℕ) (next : A → Situation → stack.Next)
       → Leads (point (here c) world.fuel) (at_words (around c) m locals before world.text) (point q fuel)
       (at_words (around c) m1 locals mid world.text)
-      → (nat_le (length (world.text ++ fault_bytes (words_of cause))) 65536 ≡ true
+      → (nat_le (length (world.text ++ fault_bytes (words_of cause))) text_limit ≡ true
       → step (point q fuel) (at_words (around c) m1 locals mid world.text)
       ≡ done (point (q + 3) fuel) (at_words (around c) m1 locals mid (world.text ++ fault_bytes (words_of cause))))
-      → (nat_le (length (world.text ++ fault_bytes (words_of cause))) 65536 ≡ false
+      → (nat_le (length (world.text ++ fault_bytes (words_of cause))) text_limit ≡ false
       → step (point q fuel) (at_words (around c) m1 locals mid world.text)
       ≡ halt (places.Limit limits.Text) (at_words (around c) m1 locals mid
-      (take 65536 (world.text ++ fault_bytes (words_of cause)))))
+      (take text_limit (world.text ++ fault_bytes (words_of cause)))))
       → Holds m1 (q + 3) (bytes_of (plain operations.Quit []))
       → LedFrom c before (stack.after_part (source.fault cause (situation_here c)) next)
   fault_by {A} cause before mid m1 q fuel next leads fits over_full h =
-      go (nat_le (length (world.text ++ fault_bytes (words_of cause))) 65536) refl
+      go (nat_le (length (world.text ++ fault_bytes (words_of cause))) text_limit) refl
     where
-      go : (b : Bool) → nat_le (length (world.text ++ fault_bytes (words_of cause))) 65536 ≡ b
+      go : (b : Bool) → nat_le (length (world.text ++ fault_bytes (words_of cause))) text_limit ≡ b
           → LedFrom c before (stack.after_part (bound (put_by b (fault_bytes (words_of cause))) (λ _. source.ends {A =
           A} places.Quit)) next)
       go true e =
@@ -209,7 +210,7 @@ module _ (c : Running) where
           does_after full world _ (point (here c) world.fuel) (point q fuel)
           (at_words (around c) m locals before world.text) (at_words (around c) m1 locals mid world.text) leads
           (does_halt full world (point q fuel) (at_words (around c) m1 locals mid world.text)
-          (at_words (around c) m1 locals mid (take 65536 (world.text ++ fault_bytes (words_of cause))))
+          (at_words (around c) m1 locals mid (take text_limit (world.text ++ fault_bytes (words_of cause))))
           (places.Limit limits.Text)
           refl (over_full e))
 

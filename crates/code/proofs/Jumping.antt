@@ -12,10 +12,10 @@ use Rattle.zcore.specs.State.{State, done, halt}
 use Rattle.zcore.specs.Parts.{jump_target, test_target, go, spend}
 use Rattle.zcore.specs.Execution.{step, perform, jump}
 use Rattle.meaning.specs.World.{spend_from}
-use Rattle.drafts.specs.Items.{Item}
-use Rattle.drafts.specs.Items as items
-use Rattle.items.specs.Stack as stack
-use Rattle.encoding.specs.Instructions.{plain, jump_offset}
+use Rattle.code_values.specs.Items.{Item}
+use Rattle.code_values.specs.Items as items
+use Rattle.code_items.specs.Stack as stack
+use Rattle.code_encoding.specs.Instructions.{plain, jump_offset}
 use Rattle.code.specs.Bytes.{code_size, place_of}
 use Rattle.code.specs.HeldProgram.{sizes_of}
 use Rattle.code.proofs.Behind.{Holds}
@@ -25,7 +25,7 @@ use Rattle.code.proofs.Steps.{point, leads_then, one_step, step_is, fits_one, on
 use Rattle.code.proofs.SingleSteps.{jump_step}
 use Rattle.code.proofs.Ends.{does_halt}
 use Rattle.code.proofs.Places.{rises, ends_by, offset_leads}
-use Rattle.code.proofs.Arriving.{Running, at, at_case, around, here, LedFrom, Stands, above}
+use Rattle.code.proofs.Arriving.{Running, at, at_case, around, here, LedFrom, above, ArrivesAt}
 use Rattle.code.proofs.Alone.{Single, single}
 
 -- A jump that does not lead ahead costs a unit
@@ -182,12 +182,12 @@ module _ (c : Running) where
       (stays (point (here c) world.fuel) (at_words (around c) m locals words world.text))
 
   pub jump_led : (target : ℕ) (chosen : Option ℕ) (words : List ℕ) → length words ≤ 48 → IsChosen story m chosen
-      → Stands c (items.jump target) → LedFrom c words (stack.jump_forward target (at_case c chosen words))
+      → ArrivesAt c (items.jump target) → LedFrom c words (stack.jump_forward target (at_case c chosen words))
   jump_led target chosen words room kept stands =
       jump_alone_led target chosen words room kept
       (single c (items.jump target) (jump_to target) refl refl stands)
 
-  pub back_led : (target : ℕ) (words : List ℕ) → length words ≤ 48 → Stands c (items.back target)
+  pub back_led : (target : ℕ) (words : List ℕ) → length words ≤ 48 → ArrivesAt c (items.back target)
       → LedFrom c words (stack.go_back target (at c words))
   back_led target words room stands = go (nat_le target place) refl
     where

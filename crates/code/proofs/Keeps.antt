@@ -12,10 +12,10 @@ use Rattle.meaning.specs.Objects.{object_at}
 use Rattle.meaning.specs.Meaning.{operate, put_character, put_line, routine_at}
 use Rattle.meaning.specs.Places.{number_in}
 use Rattle.meaning.specs.Reading.{holds_letters, holds_words, next_line}
-use Rattle.drafts.specs.Items.{Item, Test}
-use Rattle.drafts.specs.Items as items
-use Rattle.items.specs.Statements.{routine_items}
-use Rattle.items.specs.Stack as stack
+use Rattle.code_values.specs.Items.{Item, Test}
+use Rattle.code_values.specs.Items as items
+use Rattle.code_items.specs.Statements.{routine_items}
+use Rattle.code_items.specs.Stack as stack
 use Rattle.code.proofs.KeptWorld.{NoFault, Kept, Keeps, is_read, Faultless, Bounded, KeepsBy, keeps_bounded}
 use Rattle.code.proofs.KeptWorld.{keeps_faultless, faultless_by, same, put_keeps, fault_keeps, operate_keeps}
 use Rattle.code.proofs.KeptWorld.{character_keeps, read_entry_keeps, assigned_entry_keeps, value_keeps, within_keeps}
@@ -31,19 +31,19 @@ spend_keeps : (fuel : ℕ) (s : Situation) → Kept s.world (spend_from fuel s)
 spend_keeps zero s = λ cause e. absurd (cc)
 spend_keeps (suc fuel) s = record { texts = refl; lines = refl; short = λ h. h }
 
-forward_keeps : (target : ℕ) (s : stack.State) → Keeps s.situation.world (stack.jump_forward target s)
+forward_keeps : (target : ℕ) (s : stack.ItemState) → Keeps s.situation.world (stack.jump_forward target s)
 forward_keeps target s = within_keeps s.situation.world (nat_lt s.place target) _ (same s.situation.world)
 
 if_keeps : (w : World) (b : Bool) (n m : stack.Next) → Keeps w n → Keeps w m → Keeps w (if b then n else m)
 if_keeps w true n m h g = h
 if_keeps w false n m h g = g
 
-branch_keeps : (b : Bool) (target : ℕ) (words : List ℕ) (s : stack.State)
+branch_keeps : (b : Bool) (target : ℕ) (words : List ℕ) (s : stack.ItemState)
     → Keeps s.situation.world (stack.branch b target words s)
 branch_keeps true target words s = forward_keeps target (record s { stack = words; chosen = None })
 branch_keeps false target words s = same s.situation.world
 
-case_keeps : (chosen : Option ℕ) (test : Test) (ns : List ℕ) (when : Bool) (target : ℕ) (s : stack.State)
+case_keeps : (chosen : Option ℕ) (test : Test) (ns : List ℕ) (when : Bool) (target : ℕ) (s : stack.ItemState)
     → Keeps s.situation.world (stack.test_case chosen test ns when target s)
 case_keeps None test ns when target s = tt
 case_keeps (Some v) test ns when target s = go (items.agrees (stack.holds test (v ∷ ns)) when)
@@ -52,7 +52,7 @@ case_keeps (Some v) test ns when target s = go (items.agrees (stack.holds test (
     go true = forward_keeps target s
     go false = same s.situation.world
 
-back_keeps : (target : ℕ) (s : stack.State) → Keeps s.situation.world (stack.go_back target s)
+back_keeps : (target : ℕ) (s : stack.ItemState) → Keeps s.situation.world (stack.go_back target s)
 back_keeps target s = if_keeps s.situation.world (nat_le target s.place) _ _
     (after_keeps s.situation.world (spend s.situation) _ (spend_keeps s.situation.world.fuel s.situation)
     (λ a t g. g))
@@ -76,13 +76,13 @@ return_keeps (c ∷ callers) v w = delivered_keeps w c.destination v _ (same w)
 
 -- A line
 
-lines_bounded : (numbers : ℕ → ℕ) (full t q : ℕ) (lines : List (List ℕ)) (words : List ℕ) (s : stack.State)
+lines_bounded : (numbers : ℕ → ℕ) (full t q : ℕ) (lines : List (List ℕ)) (words : List ℕ) (s : stack.ItemState)
     → Bounded s.situation.world (stack.after_part (next_line numbers full t q s.situation lines)
     (λ _ situation. stack.goes (stack.after s words situation)))
 lines_bounded numbers full t q [] words s = λ cause e. absurd (cc)
 lines_bounded numbers full t q (line ∷ lines) words s = λ h. omega arith
 
-read_bounded : (numbers : ℕ → ℕ) (full t q : ℕ) (words : List ℕ) (s : stack.State) (b : Bool)
+read_bounded : (numbers : ℕ → ℕ) (full t q : ℕ) (words : List ℕ) (s : stack.ItemState) (b : Bool)
     → Bounded s.situation.world (stack.after_part
     (if b then next_line numbers full t q s.situation s.situation.world.lines
     else fault causes.BufferTooSmall s.situation) (λ _ situation. stack.goes (stack.after s words situation)))
@@ -92,14 +92,14 @@ read_bounded numbers full t q words s false =
     (prints_keeps (fault causes.BufferTooSmall) words s
     (fault_keeps (Unit {0}) causes.BufferTooSmall s.situation))
 
-decides_keeps : (f : Part Bool) (when : Bool) (target : ℕ) (words : List ℕ) (s : stack.State)
+decides_keeps : (f : Part Bool) (when : Bool) (target : ℕ) (words : List ℕ) (s : stack.ItemState)
     → Kept s.situation.world (f s.situation) → Keeps s.situation.world (stack.decides f when target words s)
 decides_keeps f when target words s h =
     after_keeps s.situation.world (f s.situation) _ h (λ so t g.
     keeps_from s.situation.world t.world _ g
     (branch_keeps (items.agrees so when) target words (record s { situation = t })))
 
-pub act_keeps : (p : ProgramOf) (full : ℕ) (i : Item) (s : stack.State)
+pub act_keeps : (p : ProgramOf) (full : ℕ) (i : Item) (s : stack.ItemState)
     → KeepsBy (is_read i) s.situation.world (stack.act p full (Some i) s)
 act_keeps p full (items.move o d) s = operand_keeps s.situation.world o s.situation s.stack _
     (λ v rest. delivered_keeps s.situation.world d v _ (same s.situation.world))
@@ -210,19 +210,19 @@ act_keeps p full (items.return o) s =
 
 -- Runs
 
-pub from_no_fault : (n : stack.Next) (k : stack.State → Option Outcome) (o : Outcome) → Faultless n
-    → ((s : stack.State) → k s ≡ Some o → NoFault o) → stack.from n k ≡ Some o → NoFault o
+pub from_no_fault : (n : stack.Next) (k : stack.ItemState → Option Outcome) (o : Outcome) → Faultless n
+    → ((s : stack.ItemState) → k s ≡ Some o → NoFault o) → stack.from n k ≡ Some o → NoFault o
 from_no_fault (stack.goes s) k o h next e = next s e
 from_no_fault (stack.ends x) k o h next e = let is : x ≡ o = cc in subst NoFault is h
 from_no_fault stack.stuck k o h next e = absurd (cc)
 
-pub exec_no_fault : (p : ProgramOf) (full n : ℕ) (s : stack.State) (o : Outcome) → stack.exec p full n s ≡ Some o
+pub exec_no_fault : (p : ProgramOf) (full n : ℕ) (s : stack.ItemState) (o : Outcome) → stack.exec p full n s ≡ Some o
     → NoFault o
 exec_no_fault p full zero s o e = absurd (cc)
 exec_no_fault p full (suc n) s o e =
     go (slice_get (routine_items (routine_at p.routines s.routine)) s.place) (λ t f. exec_no_fault p full n t o f) e
   where
-    go : (i : Option Item) → ((t : stack.State) → stack.exec p full n t ≡ Some o → NoFault o)
+    go : (i : Option Item) → ((t : stack.ItemState) → stack.exec p full n t ≡ Some o → NoFault o)
         → stack.from (stack.act p full i s) (stack.exec p full n) ≡ Some o → NoFault o
     go None next f = absurd (cc)
     go (Some i) next f =

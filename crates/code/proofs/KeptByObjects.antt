@@ -9,7 +9,7 @@ use Rattle.meaning.specs.World.{test_provided, single_word, write_words, write_v
 use Rattle.meaning.specs.World.{move_object}
 use Rattle.meaning.specs.Objects.{Climbed, clear, inside, spent, climb}
 use Rattle.meaning.specs.Meaning.{give_all}
-use Rattle.items.specs.Stack as stack
+use Rattle.code_items.specs.Stack as stack
 use Rattle.code.proofs.KeptWorld.{Kept, same, bound_keeps, fault_keeps, tested_keeps, value_keeps}
 
 -- Objects

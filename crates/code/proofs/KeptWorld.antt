@@ -3,11 +3,12 @@ use Rattle.std.proofs.Common.{◌≤◌, ◌≡◌, ◌≢◌, ℕ, List, [], �
 use Rattle.std.specs.Prelude.{nat_le, if◌then◌else◌, ◌==◌, ◌||◌}
 use Rattle.std.proofs.lemmas.Bool.{leb-true}
 use Rattle.zcore.specs.Parts.{transcribed}
+use Rattle.zcore.specs.Layout.{text_limit}
 use Rattle.zcore.specs.declared.place.Fault.{Fault}
 use Rattle.zcore.specs.declared.place.Place.TheVariants as places
-use Rattle.expression_trees.specs.declared.tree.Binary.{Binary}
-use Rattle.expression_trees.specs.declared.tree.Binary.TheVariants as binaries
-use Rattle.expression_trees.specs.declared.tree.Width.{Width}
+use Rattle.syntax_trees.specs.declared.tree.Binary.{Binary}
+use Rattle.syntax_trees.specs.declared.tree.Binary.TheVariants as binaries
+use Rattle.syntax_trees.specs.declared.tree.Width.{Width}
 use Rattle.meaning.specs.declared.resolved.Variable.{Variable}
 use Rattle.meaning.specs.declared.resolved.Variable.TheVariants as variables
 use Rattle.meaning.specs.declared.cause.Cause.{Cause}
@@ -15,15 +16,15 @@ use Rattle.meaning.specs.declared.cause.Cause.TheVariants as causes
 use Rattle.meaning.specs.World.{Outcome, World, Situation, Comes, to, over, Part, bound, put, fault, value_in}
 use Rattle.meaning.specs.World.{with_value, give, array_at, is_index, read_entry, write_entry}
 use Rattle.meaning.specs.Meaning.{operate, put_character, is_character, truth, is_true}
-use Rattle.drafts.specs.Items.{Item, Operand, Destination}
-use Rattle.drafts.specs.Items as items
-use Rattle.items.specs.Stack as stack
+use Rattle.code_values.specs.Items.{Item, Operand, Destination}
+use Rattle.code_values.specs.Items as items
+use Rattle.code_items.specs.Stack as stack
 
 -- lines and texts are the same, and the turn has printed no more than it may, if it had not before
 pub record Same (w v : World) : Type 0 where
   pub texts : v.texts ≡ w.texts
   pub lines : v.lines ≡ w.lines
-  pub short : length w.text ≤ 65536 → length v.text ≤ 65536
+  pub short : length w.text ≤ text_limit → length v.text ≤ text_limit
 
 abbrev pub NoFault : Outcome → Type 0
 NoFault o = (cause : Fault) → o.place ≢ places.Fault cause
@@ -49,7 +50,7 @@ Faultless stack.stuck = Unit {0}
 
 -- a turn that begins has printed no more than it may
 abbrev pub Bounded : World → stack.Next → Type 0
-Bounded w (stack.goes s) = length w.text ≤ 65536 → length s.situation.world.text ≤ 65536
+Bounded w (stack.goes s) = length w.text ≤ text_limit → length s.situation.world.text ≤ text_limit
 Bounded w (stack.ends o) = NoFault o
 Bounded w stack.stuck = Unit {0}
 
@@ -86,7 +87,7 @@ then_same u v w a b =
 -- Parts
 
 put_by : (bytes : List ℕ) (s : Situation) (o : Outcome) → NoFault o → (fits : Bool)
-    → nat_le (length (s.world.text ++ bytes)) 65536 ≡ fits
+    → nat_le (length (s.world.text ++ bytes)) text_limit ≡ fits
     → Kept {A = Unit {0}} s.world (if fits then to tt (record s {
       world =
           record (s.world) { text = s.world.text ++ bytes };
@@ -96,7 +97,7 @@ put_by bytes s o none false e = none
 
 pub put_keeps : (bytes : List ℕ) (s : Situation) → Kept s.world (put bytes s)
 put_keeps bytes s =
-    put_by bytes s _ (λ cause e. absurd (cc)) (nat_le (length (s.world.text ++ bytes)) 65536) refl
+    put_by bytes s _ (λ cause e. absurd (cc)) (nat_le (length (s.world.text ++ bytes)) text_limit) refl
 
 -- a part and then another
 pub bound_keeps : {A B : Type 0} (w : World) (c : Comes A) (k : A → Part B) → Kept w c
@@ -160,7 +161,7 @@ pub value_keeps : (x : Variable) (v : ℕ) (s : Situation) → Same s.world (wit
 value_keeps (variables.Local i) v s = same s.world
 value_keeps (variables.Global g) v s = record { texts = refl; lines = refl; short = λ h. h }
 
-pub within_keeps : (w : World) (b : Bool) (s : stack.State) → Same w s.situation.world
+pub within_keeps : (w : World) (b : Bool) (s : stack.ItemState) → Same w s.situation.world
     → Keeps w (if b then stack.goes s else stack.stuck)
 within_keeps w true s h = h
 within_keeps w false s h = tt
@@ -170,20 +171,20 @@ pub after_keeps : {A : Type 0} (w : World) (c : Comes A) (k : A → Situation �
 after_keeps w (to a s) k h next = next a s h
 after_keeps w (over o) k h next = h
 
-pub delivered_keeps : (w : World) (d : Destination) (v : ℕ) (s : stack.State) → Same w s.situation.world
+pub delivered_keeps : (w : World) (d : Destination) (v : ℕ) (s : stack.ItemState) → Same w s.situation.world
     → Keeps w (stack.delivered d v s)
 delivered_keeps w items.push v s h = within_keeps w (nat_le (length (v ∷ s.stack)) 48) _ h
 delivered_keeps w (items.into x) v s h =
     then_same w s.situation.world (with_value x v s.situation).world h (value_keeps x v s.situation)
 delivered_keeps w items.nowhere v s h = h
 
-pub gives_keeps : (f : Part ℕ) (d : Destination) (words : List ℕ) (s : stack.State)
+pub gives_keeps : (f : Part ℕ) (d : Destination) (words : List ℕ) (s : stack.ItemState)
     → Kept s.situation.world (f s.situation)
     → Keeps s.situation.world (stack.gives f d words s)
 gives_keeps f d words s h =
     after_keeps s.situation.world (f s.situation) _ h (λ v t g. delivered_keeps s.situation.world d v _ g)
 
-pub prints_keeps : (f : Part (Unit {0})) (words : List ℕ) (s : stack.State) → Kept s.situation.world (f s.situation)
+pub prints_keeps : (f : Part (Unit {0})) (words : List ℕ) (s : stack.ItemState) → Kept s.situation.world (f s.situation)
     → Keeps s.situation.world (stack.prints f words s)
 prints_keeps f words s h = after_keeps s.situation.world (f s.situation) _ h (λ v t g. g)
 
@@ -201,25 +202,25 @@ operands_keep w (o ∷ os) s words k h =
     operands_keep w os s words (λ vs rest. stack.with_operand o s rest (λ v left. k (v ∷ vs) left))
     (λ vs rest. operand_keeps w o s rest (λ v left. k (v ∷ vs) left) (λ v left. h (v ∷ vs) left))
 
-pub keep_keeps : (x : Variable) (words : List ℕ) (s : stack.State) → Keeps s.situation.world (stack.keep x words s)
+pub keep_keeps : (x : Variable) (words : List ℕ) (s : stack.ItemState) → Keeps s.situation.world (stack.keep x words s)
 keep_keeps x [] s = tt
 keep_keeps x (v ∷ words) s =
     within_keeps s.situation.world (nat_le (length (v ∷ words)) 48) _ (value_keeps x v s.situation)
 
-pub first_keeps : (words : List ℕ) (s : stack.State) → Keeps s.situation.world (stack.first_equal words s)
+pub first_keeps : (words : List ℕ) (s : stack.ItemState) → Keeps s.situation.world (stack.first_equal words s)
 first_keeps [] s = tt
 first_keeps (y ∷ []) s = tt
 first_keeps (y ∷ x ∷ words) s =
     within_keeps s.situation.world (nat_le (length (truth (x == y) ∷ x ∷ words)) 48) _ (same s.situation.world)
 
-pub also_keeps : (words : List ℕ) (s : stack.State) → Keeps s.situation.world (stack.also_equal words s)
+pub also_keeps : (words : List ℕ) (s : stack.ItemState) → Keeps s.situation.world (stack.also_equal words s)
 also_keeps [] s = tt
 also_keeps (y ∷ []) s = tt
 also_keeps (y ∷ f ∷ []) s = tt
 also_keeps (y ∷ f ∷ x ∷ words) s = within_keeps s.situation.world
     (nat_le (length (truth (is_true f || x == y) ∷ x ∷ words)) 48) _ (same s.situation.world)
 
-pub below_keeps : (words : List ℕ) (s : stack.State) → Keeps s.situation.world (stack.drop_below words s)
+pub below_keeps : (words : List ℕ) (s : stack.ItemState) → Keeps s.situation.world (stack.drop_below words s)
 below_keeps [] s = tt
 below_keeps (y ∷ []) s = tt
 below_keeps (y ∷ x ∷ words) s =

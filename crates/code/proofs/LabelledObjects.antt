@@ -15,18 +15,18 @@ use Rattle.zcore.specs.State.{State, done}
 use Rattle.zcore.specs.ObjectProperties.{get_property_address}
 use Rattle.zcore.specs.Parts.{operand_values, branch_on}
 use Rattle.zcore.specs.Execution.{perform, give_result}
-use Rattle.expression_trees.specs.declared.tree.Relative.TheVariants as relatives
+use Rattle.syntax_trees.specs.declared.tree.Relative.TheVariants as relatives
 use Rattle.meaning.specs.Accepted.{IsProperty}
 use Rattle.meaning.specs.Objects.{relative_in}
 use Rattle.meaning.specs.World as source
-use Rattle.drafts.specs.Items.{agrees}
-use Rattle.drafts.specs.Items as items
-use Rattle.items.specs.Stack as stack
-use Rattle.region.specs.Region.{tables_base}
-use Rattle.region.specs.Tables.{words_place}
-use Rattle.region.proofs.Together.{region_laws}
-use Rattle.instructions.specs.Instructions.{labelled}
-use Rattle.object_selection.specs.ObjectCode.{assigned_word, at_label, property_address}
+use Rattle.code_values.specs.Items.{agrees}
+use Rattle.code_values.specs.Items as items
+use Rattle.code_items.specs.Stack as stack
+use Rattle.code_object_memory.specs.Region.{tables_base}
+use Rattle.code_object_memory.specs.Tables.{words_place}
+use Rattle.code_object_memory.proofs.Together.{region_laws}
+use Rattle.code_instructions.specs.Instructions.{labelled}
+use Rattle.code_objects.specs.ObjectCode.{assigned_word, at_label, property_address}
 use Rattle.code.specs.HeldProgram.{sizes_of}
 use Rattle.code.proofs.Play.{Leads, none_chosen}
 use Rattle.code.proofs.Memory.{with_variable}
@@ -35,7 +35,8 @@ use Rattle.code.proofs.Steps.{point, leads_then, landing, one_operand, two_opera
 use Rattle.code.proofs.Fitting.{Shaped, held_bytes}
 use Rattle.code.proofs.Labels.{Branching, label_leads}
 use Rattle.code.proofs.Places.{ends_by}
-use Rattle.code.proofs.Arriving.{Running, at, at_case, around, here, high, above, kept, LedFrom, Stands, situation_here}
+use Rattle.code.proofs.Arriving.{Running, at, at_case, around, here, high, above, kept, LedFrom, situation_here}
+use Rattle.code.proofs.Arriving.{ArrivesAt}
 use Rattle.code.proofs.Temporaries.{reads_written, held_in}
 use Rattle.code.proofs.Alone.{by_operand, alone_count, IsOperandHere, next_place}
 use Rattle.code.proofs.Jumping.{is_in, short}
@@ -121,7 +122,7 @@ module _ (c : Running) where
 
   -- whether an object has an attribute
   pub has_led : (o : items.Operand) (n : ℕ) (when : Bool) (target : ℕ) (chosen : Option ℕ) (s : List ℕ) → n < 48
-      → IsOperandHere c o → length s ≤ 48 → Stands c (items.has o n when target)
+      → IsOperandHere c o → length s ≤ 48 → ArrivesAt c (items.has o n when target)
       → LedFrom c s (stack.with_operand o (situation_here c) s
       (λ v rest. stack.decides (stack.tested_attribute p v n) when target rest (at_case c chosen s)))
   unfolding perform
@@ -150,7 +151,7 @@ module _ (c : Running) where
 
   -- whether an object stands in another
   pub is_in_led : (o q : items.Operand) (when : Bool) (target : ℕ) (chosen : Option ℕ) (s : List ℕ)
-      → IsOperandHere c o → IsOperandHere c q → length s ≤ 48 → Stands c (items.is_in o q when target)
+      → IsOperandHere c o → IsOperandHere c q → length s ≤ 48 → ArrivesAt c (items.is_in o q when target)
       → LedFrom c s (stack.with_operand q (situation_here c) s
       (λ w left. stack.with_operand o (situation_here c) left
       (λ v rest. stack.decides (stack.stands_in p v w) when target rest (at_case c chosen s))))
@@ -259,7 +260,7 @@ module _ (c : Running) where
         (point r.q world.fuel) after (Some 248) v n words object e))
 
   pub provides_led : (o : items.Operand) (n : ℕ) (when : Bool) (target : ℕ) (chosen : Option ℕ) (s : List ℕ)
-      → IsProperty n → IsOperandHere c o → length s ≤ 48 → Stands c (items.provides o n when target)
+      → IsProperty n → IsOperandHere c o → length s ≤ 48 → ArrivesAt c (items.provides o n when target)
       → LedFrom c s (stack.with_operand o (situation_here c) s
       (λ v rest. stack.decides (stack.is_provided p v n) when target rest (at_case c chosen s)))
   provides_led o n when target chosen s named is room stands =

@@ -10,20 +10,20 @@ use Rattle.ztext.proofs.Holding.{holds_byte}
 use Rattle.zcore.specs.declared.instruction.Operation.TheVariants as operations
 use Rattle.zcore.specs.Header.{static_base_of}
 use Rattle.zcore.specs.Parts.{unpacked}
-use Rattle.expression_trees.specs.declared.tree.Binary.TheVariants as binaries
-use Rattle.expression_trees.specs.declared.tree.Prefix.TheVariants as prefixes
+use Rattle.syntax_trees.specs.declared.tree.Binary.TheVariants as binaries
+use Rattle.syntax_trees.specs.declared.tree.Prefix.TheVariants as prefixes
 use Rattle.meaning.specs.Resolved.{RoutineOf, ProgramOf}
 use Rattle.meaning.specs.Meaning.{routine_at}
 use Rattle.meaning.specs.Accepted.{IsRoutine, IsAccepted}
 use Rattle.meaning.specs.Printable.{HasPrintableTexts, ArePrintableActions}
-use Rattle.drafts.specs.Items.{Item}
-use Rattle.drafts.specs.Items as items
-use Rattle.items.specs.Laws.{IsItem, ItemsAreWithin, ItemsFollow}
-use Rattle.items.specs.Stack as stack
-use Rattle.encoding.specs.Addresses.{Addresses}
-use Rattle.encoding.specs.Instructions.{plain}
-use Rattle.instructions.specs.Places.{offset_of}
-use Rattle.selection.specs.ItemBytes.{item_bytes}
+use Rattle.code_values.specs.Items.{Item}
+use Rattle.code_values.specs.Items as items
+use Rattle.code_items.specs.Laws.{IsItem, ItemsAreWithin, ItemsFollow}
+use Rattle.code_items.specs.Stack as stack
+use Rattle.code_encoding.specs.Addresses.{Addresses}
+use Rattle.code_encoding.specs.Instructions.{plain}
+use Rattle.code_instructions.specs.Places.{offset_of}
+use Rattle.code_selection.specs.ItemBytes.{item_bytes}
 use Rattle.code.specs.Bytes.{place_of, code_bytes}
 use Rattle.code.specs.Laws.{CodePlays}
 use Rattle.code.specs.HeldProgram.{sizes_of, HoldsProgram}
@@ -31,7 +31,7 @@ use Rattle.code.proofs.Play.{items_in, address, next_of, state_of, Good, LedBy, 
 use Rattle.code.proofs.Memory.{holds_on}
 use Rattle.code.proofs.Places.{next_place, ends_by, starts, follow, item_holds}
 use Rattle.code.proofs.Ends.{quits}
-use Rattle.code.proofs.Arriving.{Running, around, here, Stands}
+use Rattle.code.proofs.Arriving.{Running, around, here, ArrivesAt}
 use Rattle.code.proofs.Alone.{single}
 use Rattle.code.proofs.PrintedLists.{HasPrintableText}
 use Rattle.code.proofs.PrintedTexts.{texts_printable}
@@ -77,7 +77,7 @@ each_routine P (r ∷ rs) (suc n) all h = each_routine P rs n (All-tail P r rs a
 
 module _ (story : List ℕ) (a : Addresses) (p : ProgramOf) (accepted : IsAccepted p) (printable : HasPrintableTexts p)
     (holds : HoldsProgram story a p) (within : ItemsAreWithin) (full : ℕ) where
-  abbrev running : (s : stack.State) (m : List ℕ) (count : ℕ) (counts : List ℕ) → Good story a p s m → Running
+  abbrev running : (s : stack.ItemState) (m : List ℕ) (count : ℕ) (counts : List ℕ) → Good story a p s m → Running
   running s m count counts good = record {
     story = story;
     a = a;
@@ -107,8 +107,8 @@ module _ (story : List ℕ) (a : Addresses) (p : ProgramOf) (accepted : IsAccept
   }
 
   -- the item at the place of a good state stands there
-  stands : (s : stack.State) (m : List ℕ) (count : ℕ) (counts : List ℕ) (i : Item) (good : Good story a p s m)
-      → slice_get (items_in story a p s.routine) s.place ≡ Some i → Stands (running s m count counts good) i
+  stands : (s : stack.ItemState) (m : List ℕ) (count : ℕ) (counts : List ℕ) (i : Item) (good : Good story a p s m)
+      → slice_get (items_in story a p s.routine) s.place ≡ Some i → ArrivesAt (running s m count counts good) i
   stands s m count counts i good e =
       let r = s.routine in
       let h = holds.routines r good.known in
@@ -161,7 +161,7 @@ module _ (story : List ℕ) (a : Addresses) (p : ProgramOf) (accepted : IsAccept
           LedBy story a p (is_read i) full (next_of story a p s) (state_of story a p s m count counts) s.situation.world
           (stack.act p full (Some i) s)
 
-      go : (i : Item) → slice_get is s.place ≡ Some i → Stands c i → IsItem p routine.locals (length is) i
+      go : (i : Item) → slice_get is s.place ≡ Some i → ArrivesAt c i → IsItem p routine.locals (length is) i
           → HasPrintableText i → Done i
       go (items.move o d) f st is text = move_led c o d words is.0 is.1 good.room st
       go (items.apply_prefix prefixes.Not o d) f st is text = absurd is

@@ -12,17 +12,17 @@ use Rattle.zcore.specs.Instruction.{Instruction}
 use Rattle.zcore.specs.State.{State}
 use Rattle.zcore.specs.Parts.{read_byte, read_word}
 use Rattle.zcore.specs.Execution.{perform, give_result, load_word, load_byte}
-use Rattle.expression_trees.specs.declared.tree.Width.{Width}
-use Rattle.expression_trees.specs.declared.tree.Width.TheVariants as widths
+use Rattle.syntax_trees.specs.declared.tree.Width.{Width}
+use Rattle.syntax_trees.specs.declared.tree.Width.TheVariants as widths
 use Rattle.meaning.specs.declared.cause.Cause.TheVariants as causes
 use Rattle.meaning.specs.World.{to, array_at, entry_count, is_index, entry_at, read_entry}
 use Rattle.meaning.specs.World as source
-use Rattle.drafts.specs.Items.{Destination}
-use Rattle.drafts.specs.Items as items
-use Rattle.items.specs.Stack as stack
-use Rattle.encoding.specs.Addresses.{fault_address}
-use Rattle.encoding.specs.Instructions.{giving, result_in}
-use Rattle.selection.specs.ItemCode.{entries_in, is_entry, load_operation}
+use Rattle.code_values.specs.Items.{Destination}
+use Rattle.code_values.specs.Items as items
+use Rattle.code_items.specs.Stack as stack
+use Rattle.code_encoding.specs.Addresses.{fault_address}
+use Rattle.code_encoding.specs.Instructions.{giving, result_in}
+use Rattle.code_selection.specs.ItemCode.{entries_in, is_entry, load_operation}
 use Rattle.code.specs.HeldProgram.{sizes_of}
 use Rattle.code.proofs.Play.{stays}
 use Rattle.code.proofs.Flat.{size_at}
@@ -32,7 +32,7 @@ use Rattle.code.proofs.Steps.{point, first_held, two_operands, large_value}
 use Rattle.code.proofs.AddressLengths.{one_length}
 use Rattle.code.proofs.Texts.{cause_line}
 use Rattle.code.proofs.Fitting.{Shaped}
-use Rattle.code.proofs.Arriving.{Running, at, around, here, LedFrom, Stands, code_here, code_held, situation_here}
+use Rattle.code.proofs.Arriving.{Running, at, around, here, LedFrom, code_here, code_held, situation_here, ArrivesAt}
 use Rattle.code.proofs.Temporaries.{scratch_here}
 use Rattle.code.proofs.Delivering.{result_small}
 use Rattle.code.proofs.Alone.{by_operand, alone_count, IsOperandHere, IsHere, plain_length, gives_here_led}
@@ -160,7 +160,7 @@ module _ (c : Running) where
       (cause_line causes.IndexOutOfRange) (holds.faults causes.IndexOutOfRange) r.from r.scratch r.held r.leads
 
   pub entry_led : (width : Width) (n : ℕ) (o : items.Operand) (d : Destination) (s : List ℕ) → n < length p.arrays
-      → IsOperandHere c o → IsHere c d → length s ≤ 48 → Stands c (items.entry width n o d)
+      → IsOperandHere c o → IsHere c d → length s ≤ 48 → ArrivesAt c (items.entry width n o d)
       → LedFrom c s (stack.with_operand o (situation_here c) s
       (λ i rest. stack.gives (read_entry width n i) d rest (at c s)))
   entry_led width n o d s known is is_d short stands =

@@ -10,9 +10,9 @@ use Rattle.zcore.specs.Parts.{global_address, with_word}
 use Rattle.ztext.specs.Text.{Holds}
 use Rattle.meaning.specs.Objects.{Objects}
 use Rattle.meaning.specs.Resolved.{ProgramOf}
-use Rattle.region.specs.Region.{HasObjects}
-use Rattle.region.proofs.Frames.{keeps}
-use Rattle.encoding.specs.Addresses.{Addresses}
+use Rattle.code_object_memory.specs.Region.{HasObjects}
+use Rattle.code_object_memory.proofs.Frames.{keeps}
+use Rattle.code_encoding.specs.Addresses.{Addresses}
 use Rattle.code.proofs.Regions.{stands_on, same_on}
 use Rattle.code.proofs.Play.{HoldsArrays, Stored}
 
@@ -71,7 +71,7 @@ pub record Ground (base : ℕ) (memory : List ℕ) : Type 0 where
   pub long : base ≤ length memory
 
 -- what a write of a variable from 16 on leaves
-pub record Written (base : ℕ) (memory : List ℕ) (variable word : ℕ) : Type 0 where
+pub record WrittenVariable (base : ℕ) (memory : List ℕ) (variable word : ℕ) : Type 0 where
   pub ground : Ground base (with_variable memory variable word)
   pub kept : drop base (with_variable memory variable word) ≡ drop base memory
   pub size : length (with_variable memory variable word) ≡ length memory
@@ -92,7 +92,7 @@ apart a b ne = go (cases_lt a b)
         go2 (inr n) h = inr (omega (arith, h))
 
 pub writes_ground : (base : ℕ) (memory : List ℕ) (variable word : ℕ) → Ground base memory → 16 ≤ variable
-    → variable < 256 → Written base memory variable word
+    → variable < 256 → WrittenVariable base memory variable word
 writes_ground base memory variable word ground low high =
     let at = global_address memory variable in
     let m1 = with_word memory at word in

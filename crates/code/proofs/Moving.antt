@@ -11,16 +11,16 @@ use Rattle.meaning.specs.declared.resolved.Variable.TheVariants as variables
 use Rattle.meaning.specs.World.{Situation, with_value}
 use Rattle.meaning.specs.Meaning.{routine_at}
 use Rattle.meaning.specs.Accepted.{IsVariable}
-use Rattle.drafts.specs.Items.{Destination}
-use Rattle.drafts.specs.Items as items
-use Rattle.items.specs.Stack as stack
-use Rattle.encoding.specs.Instructions.{number_of, in_place, result_in, push, pull, copy, store}
+use Rattle.code_values.specs.Items.{Destination}
+use Rattle.code_values.specs.Items as items
+use Rattle.code_items.specs.Stack as stack
+use Rattle.code_encoding.specs.Instructions.{number_of, in_place, result_in, push, pull, copy, store}
 use Rattle.code.proofs.Play.{Leads, Stored}
 use Rattle.code.proofs.Parts.{machine as at_words, pushes, Writes, global_writes}
 use Rattle.code.proofs.Steps.{point, one_step, one_operand, two_operands, small_value}
 use Rattle.code.proofs.SingleSteps.{pull_step, pull_below_step, copy_step}
 use Rattle.code.proofs.Fitting.{Shaped}
-use Rattle.code.proofs.Arriving.{Running, at, at_case, around, here, LedFrom, Stands, room_for, code_here, arrives}
+use Rattle.code.proofs.Arriving.{Running, at, at_case, around, here, LedFrom, room_for, code_here, arrives, ArrivesAt}
 use Rattle.code.proofs.Arriving.{arrives_on, situation_here}
 use Rattle.code.proofs.Variables.{memory_with, variable_held}
 use Rattle.code.proofs.Temporaries.{scratch_here, made}
@@ -44,7 +44,8 @@ module _ (c : Running) where
   Moved o d s = LedFrom c s (stack.with_operand o (situation_here c) s
       (λ v rest. stack.delivered d v (stack.after (at c s) rest (situation_here c))))
 
-  push_led : (o : items.Operand) (s : List ℕ) → IsOperandHere c o → length s ≤ 48 → Stands c (items.move o items.push)
+  push_led : (o : items.Operand) (s : List ℕ) → IsOperandHere c o → length s ≤ 48
+      → ArrivesAt c (items.move o items.push)
       → Moved o items.push s
   unfolding perform push_word
   push_led o s is short stands =
@@ -65,7 +66,7 @@ module _ (c : Running) where
       (makes ∙ rw (pushes (around c) m locals world.text rest v (room_for c rest (omega (arith, few)))) refl)))
 
   store_led : (o : items.Operand) (d : Destination) (s : List ℕ) → IsOperandHere c o → IsHere c d → length s ≤ 48
-      → code_here c (items.move o d) ≡ store (result_in d) (in_place o) ∷ [] → Stands c (items.move o d)
+      → code_here c (items.move o d) ≡ store (result_in d) (in_place o) ∷ [] → ArrivesAt c (items.move o d)
       → ((word : ℕ) → Writes (around c) m locals (result_in d) word (memory_after c d word m) (locals_after c d word))
       → ((word : ℕ) (rest : List ℕ) → stack_after c d word rest ≡ rest) → Moved o d s
   unfolding perform
@@ -93,13 +94,13 @@ module _ (c : Running) where
 
   store_into : (o : items.Operand) (x : source.Variable) (s : List ℕ) → IsOperandHere c o → IsHere c (items.into x)
       → length s ≤ 48 → code_here c (items.move o (items.into x)) ≡ store (number_of x) (in_place o) ∷ []
-      → Stands c (items.move o (items.into x)) → Moved o (items.into x) s
+      → ArrivesAt c (items.move o (items.into x)) → Moved o (items.into x) s
   store_into o x s is is_d short code stands =
       store_led o (items.into x) s is is_d short code stands
       (λ word. (variable_held c m x (scratch_here c) is_d).writes word) (λ word rest. refl)
 
   pub move_led : (o : items.Operand) (d : Destination) (s : List ℕ) → IsOperandHere c o → IsHere c d → length s ≤ 48
-      → Stands c (items.move o d) → Moved o d s
+      → ArrivesAt c (items.move o d) → Moved o d s
   move_led o items.push s is is_d short stands = push_led o s is short stands
   move_led items.pushed (items.into x) [] is is_d short stands = tt
   move_led items.pushed (items.into x) (v ∷ rest) is is_d short stands =
@@ -191,7 +192,7 @@ module _ (c : Running) where
       go false e = tt
 
   -- whatever word of a `switch` there is
-  pub keep_led : (x : source.Variable) (chosen : Option ℕ) (s : List ℕ) → IsVariableHere x → Stands c (items.keep x)
+  pub keep_led : (x : source.Variable) (chosen : Option ℕ) (s : List ℕ) → IsVariableHere x → ArrivesAt c (items.keep x)
       → LedFrom c s (stack.keep x s (at_case c chosen s))
   keep_led x chosen [] is stands = tt
   keep_led x chosen (v ∷ s) is stands =
@@ -209,7 +210,7 @@ module _ (c : Running) where
       (copy_step (around c) world.fuel m locals s world.text (memory_with c m x v) l1 (here c) (number_of x) v
       (held.writes v) there.held))
 
-  pub drop_below_led : (chosen : Option ℕ) (s : List ℕ) → Stands c items.drop_below
+  pub drop_below_led : (chosen : Option ℕ) (s : List ℕ) → ArrivesAt c items.drop_below
       → LedFrom c s (stack.drop_below s (at_case c chosen s))
   drop_below_led chosen [] stands = tt
   drop_below_led chosen (v ∷ []) stands = tt

@@ -13,19 +13,19 @@ use Rattle.meaning.specs.declared.cause.Cause.TheVariants as causes
 use Rattle.meaning.specs.Objects.{Objects, Climbed, clear, inside, spent, climb, moved}
 use Rattle.meaning.specs.World.{Situation, bound, ◌>>=◌, move_by, with_tree}
 use Rattle.meaning.specs.World as source
-use Rattle.drafts.specs.Items as items
-use Rattle.items.specs.Stack as stack
-use Rattle.region.specs.Tables.{Table}
-use Rattle.encoding.specs.Addresses.{fault_address}
-use Rattle.encoding.specs.Instructions.{plain, store, word_in}
-use Rattle.object_selection.specs.ObjectCode.{tested_in, climbing, at_object}
+use Rattle.code_values.specs.Items as items
+use Rattle.code_items.specs.Stack as stack
+use Rattle.code_object_memory.specs.Tables.{PropertyTable}
+use Rattle.code_encoding.specs.Addresses.{fault_address}
+use Rattle.code_encoding.specs.Instructions.{plain, store, word_in}
+use Rattle.code_objects.specs.ObjectCode.{tested_in, climbing, at_object}
 use Rattle.code.proofs.Memory.{word_of, with_variable}
 use Rattle.code.proofs.Parts.{machine as at_words}
 use Rattle.code.proofs.Steps.{point, leads_then, one_step, first_held, two_operands, variable_value}
 use Rattle.code.proofs.Ends.{does_after, does_halt}
 use Rattle.code.proofs.Texts.{cause_line}
 use Rattle.code.proofs.AddressLengths.{one_length}
-use Rattle.code.proofs.Arriving.{Running, at, around, here, LedFrom, Stands, arrives_on, situation_here}
+use Rattle.code.proofs.Arriving.{Running, at, around, here, LedFrom, arrives_on, situation_here, ArrivesAt}
 use Rattle.code.proofs.Temporaries.{word_written, word_unwritten, made_at}
 use Rattle.code.proofs.Alone.{by_operand, alone_count, IsOperandHere, next_place}
 use Rattle.code.proofs.ItemsThatPrint.{fails_at}
@@ -57,7 +57,7 @@ module _ (c : Running) where
 
   module _ (v x : ℕ) (into : items.Operand) (before rest : List ℕ) (known : IsObjectHere c v)
       (is : IsOperandHere c into) (room : length rest ≤ 48) (followed : next_place c < length m)
-      (tables : List Table) where
+      (tables : List PropertyTable) where
     -- the loop begins
     module _ (memory : List ℕ) (q : ℕ) (other_known : IsObjectHere c x) (object : word_of memory 250 ≡ v)
         (at_there : word_of memory 251 ≡ x) (word : HoldsWord c 1 into x memory)
@@ -157,7 +157,7 @@ module _ (c : Running) where
         (λ _ situation. stack.after_part (source.move_object v x situation) (onward before rest)) t)
 
   pub move_object_led : (b into : items.Operand) (s : List ℕ) → IsOperandHere c b → IsOperandHere c into
-      → length s ≤ 48 → Stands c (items.move_object b into)
+      → length s ≤ 48 → ArrivesAt c (items.move_object b into)
       → LedFrom c s (stack.with_operand into (situation_here c) s
       (λ x left. stack.with_operand b (situation_here c) left
       (λ v rest. stack.prints (stack.moves_object p v x) rest (at c s))))

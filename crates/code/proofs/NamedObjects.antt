@@ -7,21 +7,22 @@ use Rattle.zcore.specs.declared.instruction.Operation.TheVariants as operations
 use Rattle.zcore.specs.Instruction.{Instruction, bytes_of}
 use Rattle.zcore.specs.Execution.{perform, print_characters}
 use Rattle.zcore.specs.Objects.{print_object}
-use Rattle.lexer.specs.Printable.{IsPrintable}
+use Rattle.zcore.specs.Layout.{text_limit}
+use Rattle.syntax_lexer.specs.Printable.{IsPrintable}
 use Rattle.meaning.specs.Forests.{IsObjectNumber}
 use Rattle.meaning.specs.Objects.{ObjectOf, object_at}
 use Rattle.meaning.specs.Places.{machine_character}
 use Rattle.meaning.specs.World.{put, shown}
-use Rattle.drafts.specs.Items as items
-use Rattle.items.specs.Stack as stack
-use Rattle.encoding.specs.Instructions.{plain}
+use Rattle.code_values.specs.Items as items
+use Rattle.code_items.specs.Stack as stack
+use Rattle.code_encoding.specs.Instructions.{plain}
 use Rattle.code.proofs.Parts.{machine as at_words}
 use Rattle.code.proofs.Steps.{point, first_held, one_operand}
 use Rattle.code.proofs.Ends.{prints_on, prints_off}
 use Rattle.code.proofs.Texts.{text_prints}
 use Rattle.code.proofs.AddressLengths.{one_length}
 use Rattle.code.proofs.Fitting.{Shaped}
-use Rattle.code.proofs.Arriving.{Running, at, around, LedFrom, Stands, situation_here}
+use Rattle.code.proofs.Arriving.{Running, at, around, LedFrom, situation_here, ArrivesAt}
 use Rattle.code.proofs.Temporaries.{made}
 use Rattle.code.proofs.Alone.{alone_count, IsOperandHere}
 use Rattle.code.proofs.ItemsThatPrint.{printed_led}
@@ -38,7 +39,7 @@ module _ (c : Running) where
   open c use {story, a, p, accepted, holds, full, m, count, counts, routine, place, callers, locals, world, good}
 
   name_printed : (v : ℕ) (before rest : List ℕ) → All IsPrintable (object_at p.objects v).name → length rest ≤ 48
-      → length world.text ≤ 65536 → IsObjectHere c v
+      → length world.text ≤ text_limit → IsObjectHere c v
       → AtIndex c v before rest m (λ x. plain operations.PrintObject (x ∷ []) ∷ [])
       → LedFrom c before (stack.prints (put (map shown (object_at p.objects v).name)) rest (at c before))
   unfolding perform
@@ -62,8 +63,8 @@ module _ (c : Running) where
       (map machine_character name) (map shown name) (text_prints name printable) e)
 
   pub print_name_led : (o : items.Operand) (s : List ℕ)
-      → ((v : ℕ) → IsObjectHere c v → All IsPrintable (object_at p.objects v).name) → length world.text ≤ 65536
-      → IsOperandHere c o → length s ≤ 48 → Stands c (items.print_name o)
+      → ((v : ℕ) → IsObjectHere c v → All IsPrintable (object_at p.objects v).name) → length world.text ≤ text_limit
+      → IsOperandHere c o → length s ≤ 48 → ArrivesAt c (items.print_name o)
       → LedFrom c s (stack.with_operand o (situation_here c) s
       (λ v rest. stack.prints (stack.put_name p v) rest (at c s)))
   print_name_led o s names short is room stands =

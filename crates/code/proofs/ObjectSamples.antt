@@ -1,12 +1,13 @@
 -- Bytes of items on objects, computed.
 use Rattle.std.proofs.Common.{◌≡◌, ℕ, List, [], ◌∷◌, ◌++◌, refl, true, false}
 use Rattle.zcore.specs.Instruction.{bytes_of}
-use Rattle.expression_trees.specs.declared.tree.Relative.TheVariants as relatives
-use Rattle.drafts.specs.Items.{Item, pushed, number, variable, push, into, nowhere, relative, property, property_size}
-use Rattle.drafts.specs.Items.{property_word, assign_property, assign_property_word, give, move_object, remove_object}
-use Rattle.drafts.specs.Items.{print_name, is_in, has, provides, first_object, next_object}
-use Rattle.encoding.specs.Addresses.{Sizes}
-use Rattle.selection.specs.ItemBytes.{item_bytes}
+use Rattle.syntax_trees.specs.declared.tree.Relative.TheVariants as relatives
+use Rattle.code_values.specs.Items.{Item, pushed, number, variable, push, into, nowhere, relative, property}
+use Rattle.code_values.specs.Items.{property_size, property_word, assign_property, assign_property_word, give}
+use Rattle.code_values.specs.Items.{move_object, remove_object, print_name, is_in, has, provides, first_object}
+use Rattle.code_values.specs.Items.{next_object}
+use Rattle.code_encoding.specs.Addresses.{Sizes}
+use Rattle.code_selection.specs.ItemBytes.{item_bytes}
 use Rattle.code.proofs.Samples.{a, sizes, x, y, written}
 
 -- with the offset 10

@@ -28,7 +28,7 @@ use Rattle.zcore.specs.ObjectProperties.{test_property_number, property_list, pr
 use Rattle.zcore.specs.ObjectProperties.{tested_property, property_value, get_property, get_property_address}
 use Rattle.zcore.specs.ObjectProperties.{property_length, get_property_length}
 use Rattle.zcore.specs.Arithmetic.{quotient, decimal, signed_text}
-use Rattle.expression_trees.specs.declared.tree.Relative.TheVariants as relatives
+use Rattle.syntax_trees.specs.declared.tree.Relative.TheVariants as relatives
 use Rattle.meaning.specs.Resolved as source
 use Rattle.meaning.specs.Resolved.{RoutineOf, ProgramOf}
 use Rattle.meaning.specs.Meaning.{meaning}

@@ -16,18 +16,18 @@ use Rattle.meaning.specs.World.{Situation}
 use Rattle.meaning.specs.Meaning.{first_world, meaning}
 use Rattle.meaning.specs.Accepted.{IsAccepted}
 use Rattle.meaning.specs.Printable.{HasPrintableTexts}
-use Rattle.items.specs.Laws.{ItemsFollow}
-use Rattle.items.specs.Stack as stack
+use Rattle.code_items.specs.Laws.{ItemsFollow}
+use Rattle.code_items.specs.Stack as stack
 use Rattle.meaning.specs.Objects.{first_objects}
-use Rattle.region.specs.Region.{HasObjects}
-use Rattle.region.specs.Tables.{Table}
-use Rattle.region.proofs.Together.{region_laws}
-use Rattle.encoding.specs.Addresses.{Addresses}
-use Rattle.encoding.specs.Instructions.{plain}
-use Rattle.code.specs.Laws.{Plays}
+use Rattle.code_object_memory.specs.Region.{HasObjects}
+use Rattle.code_object_memory.specs.Tables.{PropertyTable}
+use Rattle.code_object_memory.proofs.Together.{region_laws}
+use Rattle.code_encoding.specs.Addresses.{Addresses}
+use Rattle.code_encoding.specs.Instructions.{plain}
+use Rattle.meaning.specs.Plays.{Plays}
 use Rattle.code.specs.HeldProgram.{HoldsProgram}
 use Rattle.code.proofs.Regions.{held_stands}
-use Rattle.code.proofs.Play.{Does, Stored}
+use Rattle.code.proofs.Play.{Stored, PlaysAs}
 use Rattle.code.proofs.Steps.{step_is, first_held, fits_one, one_operand, large_value}
 use Rattle.code.proofs.Keeps.{enter_keeps, enter_faultless, from_no_fault, exec_no_fault}
 use Rattle.code.proofs.Sim.{ItemsLead, led_on, sim}
@@ -67,7 +67,7 @@ module _ (story : List ℕ) (a : Addresses) (p : ProgramOf) (accepted : IsAccept
       let low = holds.byte_each 15 0 (omega (arith, holds.globals_above, holds.globals_below, holds.static_below)) in
       omega (arith, high, low)
 
-  begun : (tables : List Table) × HasObjects p.objects p.defaults (first_objects p.objects) tables story
+  begun : (tables : List PropertyTable) × HasObjects p.objects p.defaults (first_objects p.objects) tables story
   begun =
       region_laws.begins story p.objects p.defaults (record { each = accepted.objects; names = printable.1 })
       accepted.defaults.0 accepted.defaults.1 holds.objects holds.static_below static_small
@@ -92,7 +92,7 @@ module _ (story : List ℕ) (a : Addresses) (p : ProgramOf) (accepted : IsAccept
   }
 
   module _ (follows : ItemsFollow) (led : ItemsLead story a p full) where
-    does : Does full (first_next story full) (first_state story) (first_world p full lines)
+    does : PlaysAs full (first_next story full) (first_state story) (first_world p full lines)
         (meaning p full lines)
     does =
         let f = follows p accepted full lines in

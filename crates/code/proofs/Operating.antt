@@ -14,23 +14,23 @@ use Rattle.zcore.specs.Instruction.{Instruction, FitsBranch, bytes_of}
 use Rattle.zcore.specs.State.{State, done}
 use Rattle.zcore.specs.Parts.{operand_value}
 use Rattle.zcore.specs.Execution.{give_result, divide, modulo, perform}
-use Rattle.expression_trees.specs.declared.tree.Binary.{Binary}
-use Rattle.expression_trees.specs.declared.tree.Binary.TheVariants as binaries
+use Rattle.syntax_trees.specs.declared.tree.Binary.{Binary}
+use Rattle.syntax_trees.specs.declared.tree.Binary.TheVariants as binaries
 use Rattle.meaning.specs.declared.cause.Cause.TheVariants as causes
 use Rattle.meaning.specs.World.{value_in}
 use Rattle.meaning.specs.World as source
 use Rattle.meaning.specs.Meaning as meaning
-use Rattle.drafts.specs.Items.{Item, Destination}
-use Rattle.drafts.specs.Items as items
-use Rattle.items.specs.Stack as stack
-use Rattle.encoding.specs.Addresses.{fault_address}
-use Rattle.encoding.specs.Instructions.{giving, branching, in_place, result_in, number_of, pull, fail}
-use Rattle.instructions.specs.Instructions.{divided_by, divided}
-use Rattle.selection.specs.ItemBytes.{text_bytes}
+use Rattle.code_values.specs.Items.{Item, Destination}
+use Rattle.code_values.specs.Items as items
+use Rattle.code_items.specs.Stack as stack
+use Rattle.code_encoding.specs.Addresses.{fault_address}
+use Rattle.code_encoding.specs.Instructions.{giving, branching, in_place, result_in, number_of, pull, fail}
+use Rattle.code_instructions.specs.Instructions.{divided_by, divided}
+use Rattle.code_selection.specs.ItemBytes.{text_bytes}
 use Rattle.code.proofs.Behind.{Holds, holds_append}
 use Rattle.code.proofs.Play.{Leads, stays}
 use Rattle.code.proofs.Memory.{with_variable}
-use Rattle.code.proofs.Parts.{machine as at_words, Reads}
+use Rattle.code.proofs.Parts.{machine as at_words, ReadsVariable}
 use Rattle.code.proofs.Steps.{point, leads_then, one_step, first_held, others_held, one_operand, two_operands}
 use Rattle.code.proofs.Steps.{variable_value, landing}
 use Rattle.code.proofs.SingleSteps.{branch_step}
@@ -38,7 +38,7 @@ use Rattle.code.proofs.Fitting.{Shaped, held_bytes, encodable}
 use Rattle.code.proofs.ItemOperands.{constant_value}
 use Rattle.code.proofs.Texts.{cause_line}
 use Rattle.code.proofs.AddressLengths.{one_length}
-use Rattle.code.proofs.Arriving.{Running, at, around, here, high, above, kept, LedFrom, Stands, code_here, code_held}
+use Rattle.code.proofs.Arriving.{Running, at, around, here, high, above, kept, LedFrom, code_here, code_held, ArrivesAt}
 use Rattle.code.proofs.Arriving.{situation_here}
 use Rattle.code.proofs.Variables.{variable_held}
 use Rattle.code.proofs.Temporaries.{Scratch, scratch_here, scratch_with, reads_written, held_in, pull_temporary}
@@ -108,7 +108,7 @@ module _ (c : Running) where
   divides_led : (op : Operation) (f : ℕ → ℕ
       → ℕ) (x : items.Operand) (variable y q : ℕ) (d : Destination) (before mid other : List ℕ) → IsOperandHere c x
       → IsHere c d → Scratch c other → here c ≤ q → length mid ≤ 48
-      → Reads (around c) other locals variable y → Holds m q (flat_map bytes_of (divided_by a op x variable d))
+      → ReadsVariable (around c) other locals variable y → Holds m q (flat_map bytes_of (divided_by a op x variable d))
       → q + length (flat_map bytes_of (divided_by a op x variable d)) ≡ next_place c → next_place c < length m
       → least_operands op ≤ 2 → 2 ≤ most_operands op → has_result op ≡ true → FitsBranch (has_branch op) None
       → ((v w : ℕ) → (w == 0) ≡ false → (before : Next) (after : ℕ) (st : State)
@@ -217,7 +217,7 @@ module _ (c : Running) where
       (performs v n e) (stays (point (here c) world.fuel) st))
 
   divided_led : (item : Item) (op : Operation) (f : ℕ → ℕ → ℕ) (x y : items.Operand) (d : Destination) (s : List ℕ)
-      → IsOperandHere c x → IsOperandHere c y → IsHere c d → length s ≤ 48 → Stands c item
+      → IsOperandHere c x → IsOperandHere c y → IsHere c d → length s ≤ 48 → ArrivesAt c item
       → code_here c item ≡ divided a op x y d → text_bytes p.abbreviations item ≡ []
       → least_operands op ≤ 2 → 2 ≤ most_operands op → has_result op ≡ true → FitsBranch (has_branch op) None
       → ((v w : ℕ) → (w == 0) ≡ false → (before : Next) (after : ℕ) (st : State)
@@ -260,7 +260,7 @@ module _ (c : Running) where
 
   pub operate_led : (op : Binary) (x y : items.Operand) (d : Destination) (s : List ℕ) → IsOperandHere c x
       → IsOperandHere c y → IsHere c d → op ≢ binaries.AndAlso → op ≢ binaries.OrElse → length s ≤ 48
-      → Stands c (items.operate op x y d)
+      → ArrivesAt c (items.operate op x y d)
       → LedFrom c s (stack.with_operand y (situation_here c) s
       (λ w left. stack.with_operand x (situation_here c) left
       (λ v rest. stack.gives (meaning.operate op v w) d rest (at c s))))

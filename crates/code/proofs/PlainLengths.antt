@@ -4,19 +4,20 @@ use Rattle.std.specs.Prelude.{◌==◌, map, take, slice_index}
 use Rattle.zcore.specs.declared.instruction.Operand.{Operand}
 use Rattle.zcore.specs.declared.instruction.Operation.TheVariants as operations
 use Rattle.zcore.specs.Instruction.{Instruction, bytes_of}
-use Rattle.expression_trees.specs.declared.tree.Binary.{Binary}
-use Rattle.expression_trees.specs.declared.tree.Binary.TheVariants as binaries
-use Rattle.drafts.specs.Items.{Item, Destination}
-use Rattle.drafts.specs.Items as items
-use Rattle.encoding.specs.Addresses.{Addresses, Sizes}
-use Rattle.encoding.specs.Instructions.{plain, most_arguments, number_of, temporary, result_in}
-use Rattle.encoding.specs.Bytes.{bytes_of_all}
-use Rattle.instructions.specs.Instructions.{divided, character_code}
-use Rattle.instructions.specs.Places.{target_of}
-use Rattle.object_selection.specs.ObjectCode.{objects_of, property_address, length_at, property_value, moved_into}
-use Rattle.object_selection.specs.ObjectCode.{relative_of, changing, assigned_takes}
-use Rattle.selection.specs.ItemCode.{item_code}
-use Rattle.selection.specs.ItemBytes.{item_bytes}
+use Rattle.syntax_trees.specs.declared.tree.Binary.{Binary}
+use Rattle.syntax_trees.specs.declared.tree.Binary.TheVariants as binaries
+use Rattle.code_values.specs.Items.{Item, Destination}
+use Rattle.code_values.specs.Items as items
+use Rattle.code_encoding.specs.Addresses.{Addresses, Sizes}
+use Rattle.code_encoding.specs.Instructions.{plain, number_of, temporary, result_in}
+use Rattle.meaning.specs.Limits.{most_arguments}
+use Rattle.code_encoding.specs.Bytes.{bytes_of_all}
+use Rattle.code_instructions.specs.Instructions.{divided, character_code}
+use Rattle.code_instructions.specs.Places.{target_of}
+use Rattle.code_objects.specs.ObjectCode.{objects_of, property_address, length_at, property_value, moved_into}
+use Rattle.code_objects.specs.ObjectCode.{relative_of, changing, assigned_takes}
+use Rattle.code_selection.specs.ItemCode.{item_code}
+use Rattle.code_selection.specs.ItemBytes.{item_bytes}
 use Rattle.code.specs.Bytes.{no_addresses, least_size}
 use Rattle.code.proofs.AddressLengths.{call_same, divided_same, character_same, entry_same, assign_same, read_same}
 use Rattle.code.proofs.ObjectLengths.{value_same, object_same, behind_same, loaded_same, single_assigned_same}

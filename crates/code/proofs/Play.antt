@@ -10,22 +10,22 @@ use Rattle.zcore.specs.Parts.{unpacked}
 use Rattle.zcore.specs.State.{Frame, State, done}
 use Rattle.zcore.specs.Execution.{step}
 use Rattle.zcore.specs.Turn.{Whole, Turns, turn_from, turn_on, is_waiting, first_environment, plays_from, last_place}
-use Rattle.region.specs.Region.{HasObjects}
-use Rattle.region.specs.Tables.{Table}
+use Rattle.code_object_memory.specs.Region.{HasObjects}
+use Rattle.code_object_memory.specs.Tables.{PropertyTable}
 use Rattle.meaning.specs.Objects.{Objects}
 use Rattle.meaning.specs.Resolved.{ProgramOf}
 use Rattle.meaning.specs.World.{Outcome, World}
 use Rattle.meaning.specs.Meaning.{routine_at}
-use Rattle.drafts.specs.Items.{Item}
-use Rattle.items.specs.Statements.{routine_items}
-use Rattle.items.specs.Laws.{IsDestination}
-use Rattle.items.specs.Stack.{Caller}
-use Rattle.items.specs.Stack as stack
-use Rattle.encoding.specs.Addresses.{Addresses}
-use Rattle.instructions.specs.Instructions.{call_result}
+use Rattle.code_values.specs.Items.{Item}
+use Rattle.code_items.specs.Statements.{routine_items}
+use Rattle.code_items.specs.Laws.{IsDestination}
+use Rattle.code_items.specs.Stack.{Caller}
+use Rattle.code_items.specs.Stack as stack
+use Rattle.code_encoding.specs.Addresses.{Addresses}
+use Rattle.code_instructions.specs.Instructions.{call_result}
 use Rattle.code.specs.Bytes.{place_of}
 use Rattle.code.specs.HeldProgram.{sizes_of, offset_in}
-use Rattle.code.proofs.Regions.{Stands}
+use Rattle.code.proofs.Regions.{StandsIn}
 
 -- so many steps, one after another, lead from one point of a turn to another
 pub data Leads : Next → State → Next → State → Type 0 where
@@ -33,7 +33,7 @@ pub data Leads : Next → State → Next → State → Type 0 where
   moves : (here mid next : Next) (s t u : State) → step here s ≡ done mid t → Leads mid t next u → Leads here s next u
 
 -- a turn from here, and those on the lines of a world after it, are the rest of an outcome
-pub record Does (full : ℕ) (here : Next) (s : State) (w : World) (outcome : Outcome) : Type 0 where
+pub record PlaysAs (full : ℕ) (here : Next) (s : State) (w : World) (outcome : Outcome) : Type 0 where
   pub whole : Whole
   pub turns : Turns here s whole
   pub texts : outcome.texts ≡ w.texts ++ map (λ (v : Whole). v.text) (whole ∷ plays_from full whole w.lines)
@@ -45,7 +45,7 @@ pub record HoldsArrays (story : List ℕ) (a : Addresses) (arrays : List (List �
   pub above : globals_of story + 480 ≤ first
   pub below : first + length (concat arrays) ≤ defaults_of story
   pub places : (n : ℕ) → n < length arrays → slice_index a.arrays n ≡ first + offset_in arrays n
-  pub stands : Stands memory first (concat arrays)
+  pub stands : StandsIn memory first (concat arrays)
 
 -- the memory of a story that runs: these are the globals, the arrays and the objects of the source, and header, all
 -- below the globals, static and high memory are the story's
@@ -58,7 +58,7 @@ pub record Stored (story : List ℕ) (a : Addresses) (p : ProgramOf) (globals : 
     pub kept : drop (static_base_of story) memory ≡ drop (static_base_of story) story
     pub values : (g : ℕ) → g < length globals → word_at memory (globals_of story + 2 * g) ≡ slice_index globals g
     pub regions : HoldsArrays story a arrays memory
-    pub tables : List Table
+    pub tables : List PropertyTable
     pub has : HasObjects p.objects p.defaults objects tables memory
 
 -- a word of a `switch` that is tested stands in the last variable
@@ -124,10 +124,10 @@ module _ (story : List ℕ) (a : Addresses) (p : ProgramOf) where
     text = text;
   }
 
-  abbrev pub state_of : stack.State → List ℕ → ℕ → List ℕ → State
+  abbrev pub state_of : stack.ItemState → List ℕ → ℕ → List ℕ → State
   state_of s memory count counts = on memory s.situation.locals s.stack count s.callers counts s.situation.world.text
 
-  abbrev pub next_of : stack.State → Next
+  abbrev pub next_of : stack.ItemState → Next
   next_of s = record { program_counter = address s.routine s.place; fuel = s.situation.world.fuel }
 
   -- a call that waits
@@ -137,7 +137,7 @@ module _ (story : List ℕ) (a : Addresses) (p : ProgramOf) where
     pub room : length c.stack ≤ 48
     pub destination : IsDestination p (routine_at p.routines c.routine).locals c.destination
 
-  pub record Good (s : stack.State) (memory : List ℕ) : Type 0 where
+  pub record Good (s : stack.ItemState) (memory : List ℕ) : Type 0 where
     pub known : s.routine < length p.routines
     pub locals : length s.situation.locals ≡ (routine_at p.routines s.routine).locals
     pub room : length s.stack ≤ 48
@@ -149,7 +149,7 @@ module _ (story : List ℕ) (a : Addresses) (p : ProgramOf) where
     pub chosen : IsChosen story memory s.chosen
 
   -- the machine comes to a state that stands for this one
-  pub record Arrives (here : Next) (t : State) (s : stack.State) : Type 0 where
+  pub record Arrives (here : Next) (t : State) (s : stack.ItemState) : Type 0 where
     pub memory : List ℕ
     pub count : ℕ
     pub counts : List ℕ
@@ -157,7 +157,7 @@ module _ (story : List ℕ) (a : Addresses) (p : ProgramOf) where
     pub leads : Leads here t (next_of s) (state_of s memory count counts)
 
   -- the turn ends here, and waits for the next line; the turn of that line begins in a state that stands for this one
-  pub record Awaits (full : ℕ) (here : Next) (t : State) (w : World) (s : stack.State) : Type 0 where
+  pub record Awaits (full : ℕ) (here : Next) (t : State) (w : World) (s : stack.ItemState) : Type 0 where
     pub line : List ℕ
     pub lines : w.lines ≡ line ∷ s.situation.world.lines
     pub whole : Whole
@@ -173,13 +173,13 @@ module _ (story : List ℕ) (a : Addresses) (p : ProgramOf) where
   -- the machine does what an item leads to
   abbrev pub Led : ℕ → Next → State → World → stack.Next → Type 0
   Led full here t w (stack.goes s) = Arrives here t s
-  Led full here t w (stack.ends outcome) = Does full here t w outcome
+  Led full here t w (stack.ends outcome) = PlaysAs full here t w outcome
   Led full here t w stack.stuck = Unit {0}
 
   -- and where the item reads a line
   abbrev pub LedOn : ℕ → Next → State → World → stack.Next → Type 0
   LedOn full here t w (stack.goes s) = Awaits full here t w s
-  LedOn full here t w (stack.ends outcome) = Does full here t w outcome
+  LedOn full here t w (stack.ends outcome) = PlaysAs full here t w outcome
   LedOn full here t w stack.stuck = Unit {0}
 
   -- by whether it does

@@ -3,12 +3,12 @@ use Rattle.std.proofs.Common.{ℕ, ◌+◌, List, [], ◌∷◌, ◌++◌, Bool,
 use Rattle.std.specs.Prelude.{if◌then◌else◌}
 use Rattle.std.specs.List.{All}
 use Rattle.std.proofs.lemmas.List.Elements.{All-nil, All-cons, All-append}
-use Rattle.lexer.specs.Printable.{IsPrintable}
-use Rattle.expression_trees.specs.declared.tree.Step.{Step}
+use Rattle.syntax_lexer.specs.Printable.{IsPrintable}
+use Rattle.syntax_trees.specs.declared.tree.Step.{Step}
 use Rattle.meaning.specs.declared.resolved.Variable.{Variable}
-use Rattle.drafts.specs.Items.{Item, Operand, pushed, number, variable, Destination, push, into, nowhere, if_pushed}
-use Rattle.drafts.specs.Items.{moved, truth_items, after_items, kept_items}
-use Rattle.drafts.specs.Items as items
+use Rattle.code_values.specs.Items.{Item, Operand, pushed, number, variable, Destination, push, into, nowhere}
+use Rattle.code_values.specs.Items.{if_pushed, moved, truth_items, after_items, kept_items}
+use Rattle.code_values.specs.Items as items
 
 -- a text that an item prints has only bytes from 32 to 126
 abbrev pub HasPrintableText : Item → Type 0

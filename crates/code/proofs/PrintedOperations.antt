@@ -1,18 +1,18 @@
 -- The items of an operation, and of an entry of an array, print no texts.
 use Rattle.std.proofs.Common.{ℕ, ◌+◌, List, [], ◌∷◌, ◌++◌, Bool, true, false}
 use Rattle.std.specs.Prelude.{not}
-use Rattle.expression_trees.specs.declared.tree.Binary.{Binary}
-use Rattle.expression_trees.specs.declared.tree.Binary.TheVariants as binaries
-use Rattle.expression_trees.specs.declared.tree.Equality.{Equality}
-use Rattle.expression_trees.specs.declared.tree.Prefix.{Prefix}
-use Rattle.expression_trees.specs.declared.tree.Prefix.TheVariants as prefixes
-use Rattle.expression_trees.specs.declared.tree.Width.{Width}
+use Rattle.syntax_trees.specs.declared.tree.Binary.{Binary}
+use Rattle.syntax_trees.specs.declared.tree.Binary.TheVariants as binaries
+use Rattle.syntax_trees.specs.declared.tree.Equality.{Equality}
+use Rattle.syntax_trees.specs.declared.tree.Prefix.{Prefix}
+use Rattle.syntax_trees.specs.declared.tree.Prefix.TheVariants as prefixes
+use Rattle.syntax_trees.specs.declared.tree.Width.{Width}
 use Rattle.meaning.specs.Resolved.{Value, Values}
 use Rattle.meaning.specs.Resolved as source
-use Rattle.drafts.specs.Items.{Item, Destination, push, operand_of, alone, left_of, if_pushed, is_few, value_count}
-use Rattle.drafts.specs.Items.{operand_count, operands_count, branch_count, many_count, value_items, operands_items}
-use Rattle.drafts.specs.Items.{branch_items, many_items, also_items}
-use Rattle.drafts.specs.Items as items
+use Rattle.code_values.specs.Items.{Item, Destination, push, operand_of, alone, left_of, if_pushed, is_few, value_count}
+use Rattle.code_values.specs.Items.{operand_count, operands_count, branch_count, many_count, value_items}
+use Rattle.code_values.specs.Items.{operands_items, branch_items, many_items, also_items}
+use Rattle.code_values.specs.Items as items
 use Rattle.code.proofs.PrintedLists.{Fine, nothing, first, joined, last, pushed_fine, either_fine, truth_fine, two_fine}
 
 -- Expressions

@@ -3,23 +3,23 @@ use Rattle.std.proofs.Common.{ℕ, ◌+◌, List, [], ◌∷◌, ◌++◌, true,
 use Rattle.std.specs.Prelude.{◌==◌}
 use Rattle.std.specs.List.{All}
 use Rattle.std.proofs.lemmas.List.Elements.{All-head, All-tail}
-use Rattle.expression_trees.specs.declared.tree.Relative.{Relative}
-use Rattle.expression_trees.specs.declared.tree.Relative.TheVariants as relatives
+use Rattle.syntax_trees.specs.declared.tree.Relative.{Relative}
+use Rattle.syntax_trees.specs.declared.tree.Relative.TheVariants as relatives
 use Rattle.meaning.specs.declared.resolved.Variable.{Variable}
 use Rattle.meaning.specs.Resolved.{Value, Values, none, more, Printed, Action, Actions, stop, next, CasesOf, RoutineOf}
 use Rattle.meaning.specs.Resolved as source
 use Rattle.meaning.specs.Meaning.{is_true}
 use Rattle.meaning.specs.Printable.{IsPrintableItem, IsPrintableAction, ArePrintableActions, ArePrintableCases}
-use Rattle.drafts.specs.Items.{Item, Operand, number, variable, push, into, nowhere, operand_of, alone, left_of}
-use Rattle.drafts.specs.Items.{if_pushed, agrees, value_count, operand_count, branch_count, value_items, operands_items}
-use Rattle.drafts.specs.Items.{branch_items, alone_items}
-use Rattle.drafts.specs.Items as items
-use Rattle.items.specs.Statements.{each_items, relative_items, children_items, printed_count, action_count}
-use Rattle.items.specs.Statements.{printed_items, prints_items, Exits, exits_to, action_items, actions_items}
-use Rattle.items.specs.Statements.{return_true, routine_items, once_count, once_items, test_count, test_items, Group}
-use Rattle.items.specs.Statements.{groups_of, group_count, group_items, last_items, tests_count, tests_items}
-use Rattle.items.specs.Statements.{over_count, over_items, actions_count, cases_count, cases_items}
-use Rattle.items.specs.Statements as statements
+use Rattle.code_values.specs.Items.{Item, Operand, number, variable, push, into, nowhere, operand_of, alone, left_of}
+use Rattle.code_values.specs.Items.{if_pushed, agrees, value_count, operand_count, branch_count, value_items}
+use Rattle.code_values.specs.Items.{operands_items, branch_items, alone_items}
+use Rattle.code_values.specs.Items as items
+use Rattle.code_items.specs.Statements.{each_items, relative_items, children_items, printed_count, action_count}
+use Rattle.code_items.specs.Statements.{printed_items, prints_items, Exits, exits_to, action_items, actions_items}
+use Rattle.code_items.specs.Statements.{return_true, routine_items, once_count, once_items, test_count, test_items}
+use Rattle.code_items.specs.Statements.{Group, groups_of, group_count, group_items, last_items, tests_count}
+use Rattle.code_items.specs.Statements.{tests_items, over_count, over_items, actions_count, cases_count, cases_items}
+use Rattle.code_items.specs.Statements as statements
 use Rattle.code.proofs.PrintedLists.{HasPrintableText, Fine, nothing, first, joined, last, pushed_fine, either_fine}
 use Rattle.code.proofs.PrintedLists.{moved_fine, after_fine, kept_fine, two_fine}
 use Rattle.code.proofs.PrintedOperations.{ValueFine, ValuesFine, prefixed_fine, binary_fine, compare_fine, equal_fine}

@@ -14,13 +14,13 @@ use Rattle.meaning.specs.declared.cause.Cause.TheVariants as causes
 use Rattle.meaning.specs.Accepted.{IsProperty}
 use Rattle.meaning.specs.World.{bound, single_word}
 use Rattle.meaning.specs.World as source
-use Rattle.drafts.specs.Items.{Destination}
-use Rattle.drafts.specs.Items as items
-use Rattle.items.specs.Stack as stack
-use Rattle.region.specs.Tables.{Table}
-use Rattle.encoding.specs.Addresses.{fault_address}
-use Rattle.encoding.specs.Instructions.{giving, branching, fail, result_in}
-use Rattle.object_selection.specs.ObjectCode.{property_address, length_at}
+use Rattle.code_values.specs.Items.{Destination}
+use Rattle.code_values.specs.Items as items
+use Rattle.code_items.specs.Stack as stack
+use Rattle.code_object_memory.specs.Tables.{PropertyTable}
+use Rattle.code_encoding.specs.Addresses.{fault_address}
+use Rattle.code_encoding.specs.Instructions.{giving, branching, fail, result_in}
+use Rattle.code_objects.specs.ObjectCode.{property_address, length_at}
 use Rattle.code.proofs.Behind.{Holds, holds_append}
 use Rattle.code.proofs.Play.{Leads}
 use Rattle.code.proofs.Memory.{word_of, with_variable}
@@ -28,7 +28,7 @@ use Rattle.code.proofs.Parts.{machine as at_words}
 use Rattle.code.proofs.Steps.{point, leads_then, first_held, others_held, one_operand, two_operands, small_value}
 use Rattle.code.proofs.Steps.{variable_value, landing}
 use Rattle.code.proofs.AddressLengths.{one_length}
-use Rattle.code.proofs.Arriving.{Running, at, around, here, LedFrom, Stands, situation_here}
+use Rattle.code.proofs.Arriving.{Running, at, around, here, LedFrom, situation_here, ArrivesAt}
 use Rattle.code.proofs.Temporaries.{reads_written, word_unwritten}
 use Rattle.code.proofs.Delivering.{result_small}
 use Rattle.code.proofs.Alone.{alone_count, IsOperandHere, IsHere, next_place, gives_here_led}
@@ -74,7 +74,7 @@ module _ (c : Running) where
     abbrev then_read : Operand → List Instruction
     then_read x = zero_test ∷ counting n d x
 
-    abbrev read_tables : List Table
+    abbrev read_tables : List PropertyTable
     read_tables = tables c n before rest v named object then_read t
 
     abbrev from_here : ℕ
@@ -240,7 +240,7 @@ module _ (c : Running) where
     read_by (Some words) e = single_by (length words == 1) words refl e (words_counted words e)
 
   pub property_led : (o : items.Operand) (n : ℕ) (d : Destination) (s : List ℕ) → IsProperty n → IsOperandHere c o
-      → IsHere c d → length s ≤ 48 → Stands c (items.property o n d)
+      → IsHere c d → length s ≤ 48 → ArrivesAt c (items.property o n d)
       → LedFrom c s (stack.with_operand o (situation_here c) s
       (λ v rest. stack.gives (stack.property_of p v n) d rest (at c s)))
   property_led o n d s named is is_d room stands =

@@ -14,19 +14,19 @@ use Rattle.zcore.specs.Execution.{perform, give_result}
 use Rattle.meaning.specs.Accepted.{IsProperty}
 use Rattle.meaning.specs.World.{Situation, size_of}
 use Rattle.meaning.specs.World as source
-use Rattle.drafts.specs.Items.{Destination}
-use Rattle.drafts.specs.Items as items
-use Rattle.items.specs.Stack as stack
-use Rattle.region.specs.Region.{tables_base}
-use Rattle.region.specs.Tables.{Table, words_place}
-use Rattle.encoding.specs.Instructions.{result_in}
-use Rattle.object_selection.specs.ObjectCode.{property_address, length_at}
+use Rattle.code_values.specs.Items.{Destination}
+use Rattle.code_values.specs.Items as items
+use Rattle.code_items.specs.Stack as stack
+use Rattle.code_object_memory.specs.Region.{tables_base}
+use Rattle.code_object_memory.specs.Tables.{words_place, PropertyTable}
+use Rattle.code_encoding.specs.Instructions.{result_in}
+use Rattle.code_objects.specs.ObjectCode.{property_address, length_at}
 use Rattle.code.proofs.Memory.{word_of, with_variable}
 use Rattle.code.proofs.Parts.{machine as at_words}
 use Rattle.code.proofs.Steps.{point, first_held, one_operand, two_operands, small_value, variable_value}
 use Rattle.code.proofs.AddressLengths.{one_length}
 use Rattle.code.proofs.Fitting.{Shaped}
-use Rattle.code.proofs.Arriving.{Running, at, around, here, LedFrom, Stands, situation_here}
+use Rattle.code.proofs.Arriving.{Running, at, around, here, LedFrom, situation_here, ArrivesAt}
 use Rattle.code.proofs.Temporaries.{reads_written, word_unwritten}
 use Rattle.code.proofs.Delivering.{result_small}
 use Rattle.code.proofs.Alone.{alone_count, IsOperandHere, IsHere, gives_here_led}
@@ -52,7 +52,7 @@ module _ (c : Running) where
   module _ (n : ℕ) (before rest : List ℕ) (v : ℕ) (named : IsProperty n) (object : IsObjectHere c v)
       (next : Operand → List Instruction)
       (t : AtIndex c v before rest m (λ x. property_address x (n % 256) 249 ∷ next x)) where
-    abbrev pub tables : List Table
+    abbrev pub tables : List PropertyTable
     tables = t.reached.scratch.stored.tables
 
     abbrev pub old : List ℕ
@@ -119,7 +119,7 @@ module _ (c : Running) where
         (λ e. omega (arith, e))
 
   -- how many bytes the words have
-  pub bytes_counted : (tables : List Table) (before rest memory : List ℕ) (q : ℕ) (is : List Instruction)
+  pub bytes_counted : (tables : List PropertyTable) (before rest memory : List ℕ) (q : ℕ) (is : List Instruction)
       (v n : ℕ) (words : List ℕ) → Works c tables before rest memory q is → IsObjectHere c v
       → world.objects.properties v n ≡ Some words → (after : ℕ) (result : Option ℕ)
       → get_property_length (point q world.fuel) after result (words_at c tables v n)
@@ -141,7 +141,7 @@ module _ (c : Running) where
     abbrev then_size : Operand → List Instruction
     then_size x = length_at 249 (result_in d) ∷ []
 
-    abbrev size_tables : List Table
+    abbrev size_tables : List PropertyTable
     size_tables = tables n before rest v named object then_size t
 
     size_given : (w size : ℕ)
@@ -182,7 +182,7 @@ module _ (c : Running) where
         (Some (result_in d)))
 
   pub property_size_led : (o : items.Operand) (n : ℕ) (d : Destination) (s : List ℕ) → IsProperty n → IsOperandHere c o
-      → IsHere c d → length s ≤ 48 → Stands c (items.property_size o n d)
+      → IsHere c d → length s ≤ 48 → ArrivesAt c (items.property_size o n d)
       → LedFrom c s (stack.with_operand o (situation_here c) s
       (λ v rest. stack.gives (stack.property_bytes p v n) d rest (at c s)))
   property_size_led o n d s named is is_d room stands =

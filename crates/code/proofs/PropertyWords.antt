@@ -12,19 +12,19 @@ use Rattle.meaning.specs.declared.cause.Cause.TheVariants as causes
 use Rattle.meaning.specs.Accepted.{IsProperty}
 use Rattle.meaning.specs.World.{Situation, Part, bound, ◌>>=◌, test_provided, test_word}
 use Rattle.meaning.specs.World as source
-use Rattle.drafts.specs.Items.{Destination}
-use Rattle.drafts.specs.Items as items
-use Rattle.items.specs.Stack as stack
-use Rattle.region.specs.Tables.{Table, words_place}
-use Rattle.region.specs.Region.{tables_base}
-use Rattle.encoding.specs.Instructions.{giving, result_in}
-use Rattle.object_selection.specs.ObjectCode.{provided, tested_word, assigned_word, at_object}
-use Rattle.selection.specs.ItemCode.{is_entry}
+use Rattle.code_values.specs.Items.{Destination}
+use Rattle.code_values.specs.Items as items
+use Rattle.code_items.specs.Stack as stack
+use Rattle.code_object_memory.specs.Tables.{words_place, PropertyTable}
+use Rattle.code_object_memory.specs.Region.{tables_base}
+use Rattle.code_encoding.specs.Instructions.{giving, result_in}
+use Rattle.code_objects.specs.ObjectCode.{provided, tested_word, assigned_word, at_object}
+use Rattle.code_selection.specs.ItemCode.{is_entry}
 use Rattle.code.proofs.Memory.{word_of}
 use Rattle.code.proofs.Parts.{machine as at_words}
 use Rattle.code.proofs.Steps.{point, first_held, two_operands, variable_value}
 use Rattle.code.proofs.AddressLengths.{one_length}
-use Rattle.code.proofs.Arriving.{Running, at, around, LedFrom, Stands, situation_here}
+use Rattle.code.proofs.Arriving.{Running, at, around, LedFrom, situation_here, ArrivesAt}
 use Rattle.code.proofs.Delivering.{result_small}
 use Rattle.code.proofs.Alone.{by_operand, alone_count, IsOperandHere, IsHere, next_place, gives_here_led}
 use Rattle.code.proofs.StoringSteps.{after_bound}
@@ -53,7 +53,7 @@ module _ (c : Running) where
 
   module _ (q v x : ℕ) (i : items.Operand) (d : Destination) (before rest other : List ℕ) (known : IsObjectHere c v)
       (is_i : IsOperandHere c i) (is_d : IsHere c d) (room : length rest ≤ 48) (followed : next_place c < length m)
-      (tables : List Table) where
+      (tables : List PropertyTable) where
     abbrev last : List Instruction
     last = giving operations.LoadWord (Variable 250 ∷ assigned_word i ∷ []) (result_in d) ∷ []
 
@@ -121,7 +121,7 @@ module _ (c : Running) where
         (word_still c 1 i x t.memory memory (same 249 (omega arith) (λ f. omega (arith, f))) held)) t.works)
 
   pub property_word_led : (q : ℕ) (o i : items.Operand) (d : Destination) (s : List ℕ) → IsProperty q
-      → IsOperandHere c o → IsOperandHere c i → IsHere c d → length s ≤ 48 → Stands c (items.property_word q o i d)
+      → IsOperandHere c o → IsOperandHere c i → IsHere c d → length s ≤ 48 → ArrivesAt c (items.property_word q o i d)
       → LedFrom c s (stack.with_operand i (situation_here c) s
       (λ x left. stack.with_operand o (situation_here c) left
       (λ v rest. stack.gives (stack.word_of_property p q v x) d rest (at c s))))

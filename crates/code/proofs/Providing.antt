@@ -13,13 +13,13 @@ use Rattle.zcore.specs.State.{State, done}
 use Rattle.zcore.specs.Execution.{perform, give_result}
 use Rattle.meaning.specs.declared.cause.Cause.TheVariants as causes
 use Rattle.meaning.specs.Accepted.{IsProperty}
-use Rattle.region.specs.Laws.{Acts, Placed}
-use Rattle.region.specs.Region.{HasObjects, tables_base}
-use Rattle.region.specs.Tables.{Table, words_place}
-use Rattle.region.proofs.Together.{region_laws}
-use Rattle.encoding.specs.Addresses.{fault_address}
-use Rattle.encoding.specs.Instructions.{branching, fail}
-use Rattle.object_selection.specs.ObjectCode.{property_address, provided}
+use Rattle.code_object_memory.specs.Laws.{Acts, Placed}
+use Rattle.code_object_memory.specs.Region.{HasObjects, tables_base}
+use Rattle.code_object_memory.specs.Tables.{words_place, PropertyTable}
+use Rattle.code_object_memory.proofs.Together.{region_laws}
+use Rattle.code_encoding.specs.Addresses.{fault_address}
+use Rattle.code_encoding.specs.Instructions.{branching, fail}
+use Rattle.code_objects.specs.ObjectCode.{property_address, provided}
 use Rattle.code.proofs.Memory.{word_of, with_variable}
 use Rattle.code.proofs.Parts.{machine as at_words}
 use Rattle.code.proofs.Steps.{point, one_operand, two_operands, small_value, variable_value}
@@ -28,29 +28,30 @@ use Rattle.code.proofs.Arriving.{Running, around}
 use Rattle.code.proofs.Temporaries.{word_written, word_unwritten}
 use Rattle.code.proofs.Alone.{next_place}
 use Rattle.code.proofs.TestedObjects.{IsObjectHere}
-use Rattle.code.proofs.Working.{Works, Fails, writes, reads_word, same_base}
+use Rattle.code.proofs.Working.{Works, writes, reads_word, same_base, FailsWith}
 use Rattle.code.proofs.FaultTests.{Passed, tests}
 
 module _ (c : Running) where
   open c use {story, a, p, accepted, holds, full, m, count, counts, routine, place, callers, locals, world, good}
 
   -- where the words of a property stand
-  abbrev pub words_at : List Table → ℕ → ℕ → ℕ
+  abbrev pub words_at : List PropertyTable → ℕ → ℕ → ℕ
   words_at tables o q = words_place (tables_base (length p.objects) story) tables o q
 
-  pub acts_on : (tables : List Table) (memory rest : List ℕ)
+  pub acts_on : (tables : List PropertyTable) (memory rest : List ℕ)
       → (has : HasObjects p.objects p.defaults world.objects tables memory)
       → Acts p.objects p.defaults world.objects tables (at_words (around c) memory locals rest world.text) has
   acts_on tables memory rest has =
       region_laws.acts p.objects p.defaults world.objects tables (at_words (around c) memory locals rest world.text) has
 
-  pub placed_on : (tables : List Table) (memory : List ℕ)
+  pub placed_on : (tables : List PropertyTable) (memory : List ℕ)
       → (has : HasObjects p.objects p.defaults world.objects tables memory)
       → Placed p.objects p.defaults world.objects tables memory
   placed_on tables memory has = region_laws.placed p.objects p.defaults world.objects tables memory has
 
   -- the words of a property are found, and their address is in a variable of the compiler
-  pub record Found (tables : List Table) (before rest old : List ℕ) (o q : ℕ) (is : List Instruction) : Type 0 where
+  pub record FoundProperty (tables : List PropertyTable) (before rest old : List ℕ) (o q : ℕ)
+      (is : List Instruction) : Type 0 where
     pub memory : List ℕ
     pub there : ℕ
     pub works : Works c tables before rest memory there is
@@ -58,14 +59,15 @@ module _ (c : Running) where
     pub others : (v : ℕ) → 248 ≤ v → v ≢ 250 → word_of memory v ≡ word_of old v
 
   -- by whether the object provides the property
-  abbrev pub Finds : Option (List ℕ) → List Table → List ℕ → List ℕ → List ℕ → ℕ → ℕ → List Instruction → Type 0
-  Finds None tables before rest old o q is = Fails c causes.NoSuchProperty before
-  Finds (Some words) tables before rest old o q is = Found tables before rest old o q is
+  abbrev pub Finds : Option (List ℕ) → List PropertyTable → List ℕ → List ℕ → List ℕ → ℕ → ℕ → List Instruction → Type 0
+  Finds None tables before rest old o q is = FailsWith c causes.NoSuchProperty before
+  Finds (Some words) tables before rest old o q is = FoundProperty tables before rest old o q is
 
   some_there : (y : ℕ) → 64 < y → (y == 0) ≡ false
   some_there y h = ne_eqb _ _ (λ e. omega (arith, e, h))
 
-  pub finds : (tables : List Table) (before rest old : List ℕ) (there o q : ℕ) (x : Operand) (is : List Instruction)
+  pub finds : (tables : List PropertyTable) (before rest old : List ℕ) (there o q : ℕ) (x : Operand)
+      (is : List Instruction)
       → next_place c < length m → IsObjectHere c o → IsProperty q
       → operand_value x (at_words (around c) old locals rest world.text)
       ≡ done o (at_words (around c) old locals rest world.text)

@@ -3,15 +3,15 @@ use Rattle.std.proofs.Common.{◌≡◌, ◌≢◌, ℕ, ◌+◌, ◌<◌, ◌�
 use Rattle.std.specs.List.{flat_map}
 use Rattle.zcore.specs.declared.instruction.Operand.{Operand}
 use Rattle.zcore.specs.Instruction.{Instruction, bytes_of}
-use Rattle.drafts.specs.Items.{Item}
-use Rattle.drafts.specs.Items as items
-use Rattle.encoding.specs.Instructions.{pull, pulled_into}
-use Rattle.selection.specs.ItemBytes.{text_bytes}
+use Rattle.code_values.specs.Items.{Item}
+use Rattle.code_values.specs.Items as items
+use Rattle.code_encoding.specs.Instructions.{pull, pulled_into}
+use Rattle.code_selection.specs.ItemBytes.{text_bytes}
 use Rattle.code.proofs.Play.{Leads, stays}
 use Rattle.code.proofs.Memory.{word_of, with_variable}
 use Rattle.code.proofs.Parts.{machine as at_words}
 use Rattle.code.proofs.Steps.{point, leads_then, one_step, first_held}
-use Rattle.code.proofs.Arriving.{Running, around, here, Stands, code_here, code_held, situation_here}
+use Rattle.code.proofs.Arriving.{Running, around, here, code_here, code_held, situation_here, ArrivesAt}
 use Rattle.code.proofs.Temporaries.{scratch_here, scratch_with, word_written, word_unwritten, pull_temporary}
 use Rattle.code.proofs.Temporaries.{others_held_pull}
 use Rattle.code.proofs.Alone.{Alone, next_place}
@@ -28,7 +28,7 @@ module _ (c : Running) where
     pub end : reached.q + length (flat_map bytes_of is) ≡ next_place c
     pub memory_is : reached.memory ≡ m
 
-  pub opens : (item : Item) (s : List ℕ) → text_bytes p.abbreviations item ≡ [] → Stands c item
+  pub opens : (item : Item) (s : List ℕ) → text_bytes p.abbreviations item ≡ [] → ArrivesAt c item
       → Opened s (code_here c item)
   opens item s none stands = record {
     reached = record {

@@ -17,16 +17,16 @@ use Rattle.zcore.specs.Execution.{perform, step}
 use Rattle.zcore.specs.Turn.{Whole, Turns, ended, given, resumed, turn_on, turn_from, after_step, plays_from}
 use Rattle.zcore.specs.Turn.{last_place}
 use Rattle.zcore.proofs.Turning.{turns_stop}
-use Rattle.expression_trees.specs.declared.tree.Width.TheVariants as widths
+use Rattle.syntax_trees.specs.declared.tree.Width.TheVariants as widths
 use Rattle.meaning.specs.Places.{number_in}
 use Rattle.meaning.specs.Reading.{holds_letters, holds_words, next_line, with_line}
 use Rattle.meaning.specs.World.{Situation, array_at, is_index}
 use Rattle.meaning.specs.World as source
-use Rattle.items.specs.Stack as stack
-use Rattle.encoding.specs.Instructions.{plain, giving}
-use Rattle.selection.specs.ItemCode.{line_code}
+use Rattle.code_items.specs.Stack as stack
+use Rattle.code_encoding.specs.Instructions.{plain, giving}
+use Rattle.code_selection.specs.ItemCode.{line_code}
 use Rattle.code.proofs.Behind.{Holds, holds_on}
-use Rattle.code.proofs.Play.{Stored, Does, Good, next_of, state_of, none_chosen}
+use Rattle.code.proofs.Play.{Stored, Good, next_of, state_of, none_chosen, PlaysAs}
 use Rattle.code.proofs.Memory.{with_variable, stored_temporary}
 use Rattle.code.proofs.Regions.{KeepsOutside}
 use Rattle.code.proofs.StoredEntries.{high_kept, Inside, entry_inside, entry_keeps, stored_entry, sizes_kept}
@@ -198,7 +198,7 @@ module _ (c : Running) where
 
     -- where no line is left, the story waits
     no_line : world.lines ≡ []
-        → Does full (point (here c) world.fuel) (at_words (around c) m locals s world.text) world
+        → PlaysAs full (point (here c) world.fuel) (at_words (around c) m locals s world.text) world
         (source.ended places.Waiting world)
     no_line e = record {
       whole = whole;
@@ -250,7 +250,7 @@ module _ (c : Running) where
       };
     }
 
-    abbrev next_state : List ℕ → List (List ℕ) → stack.State
+    abbrev next_state : List ℕ → List (List ℕ) → stack.ItemState
     next_state line lines = stack.after (at c s) s (next_situation line lines)
 
     next_good : (line : List ℕ) (lines : List (List ℕ)) → Good story a p (next_state line lines) (last_memory line)

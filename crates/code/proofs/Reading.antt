@@ -10,16 +10,16 @@ use Rattle.meaning.specs.Places.{number_in}
 use Rattle.meaning.specs.Reading.{holds_letters, holds_words, next_line, read_next}
 use Rattle.meaning.specs.World.{Situation, Outcome, Comes, to, over, Part, bound}
 use Rattle.meaning.specs.World as source
-use Rattle.drafts.specs.Items as items
-use Rattle.items.specs.Stack as stack
-use Rattle.encoding.specs.Addresses.{fault_address}
-use Rattle.encoding.specs.Instructions.{fail}
-use Rattle.selection.specs.ItemCode.{first_byte, letters_in, words_in, tested_first, line_code}
-use Rattle.code.proofs.Play.{Does, stays, next_of, state_of}
+use Rattle.code_values.specs.Items as items
+use Rattle.code_items.specs.Stack as stack
+use Rattle.code_encoding.specs.Addresses.{fault_address}
+use Rattle.code_encoding.specs.Instructions.{fail}
+use Rattle.code_selection.specs.ItemCode.{first_byte, letters_in, words_in, tested_first, line_code}
+use Rattle.code.proofs.Play.{stays, next_of, state_of, PlaysAs}
 use Rattle.code.proofs.Parts.{machine as at_words}
 use Rattle.code.proofs.Steps.{point}
 use Rattle.code.proofs.Texts.{cause_line}
-use Rattle.code.proofs.Arriving.{Running, at, around, here, LedFrom, Stands, code_held, situation_here}
+use Rattle.code.proofs.Arriving.{Running, at, around, here, LedFrom, code_held, situation_here, ArrivesAt}
 use Rattle.code.proofs.Temporaries.{scratch_here}
 use Rattle.code.proofs.Alone.{next_place, plain_length}
 use Rattle.code.proofs.ItemsThatPrint.{fails_led}
@@ -52,7 +52,8 @@ module _ (c : Running) where
       let ends = fault_over causes.BufferTooSmall (situation_here c) in
       let led = fails_led c causes.BufferTooSmall (fault_address a causes.BufferTooSmall) r.q s s r.memory k
       (cause_line causes.BufferTooSmall) (holds.faults causes.BufferTooSmall) r.from r.scratch r.held r.leads in
-      let over_led : Does full (next_of story a p (at c s)) (state_of story a p (at c s) m count counts) world ends.0 =
+      let over_led : PlaysAs full (next_of story a p (at c s)) (state_of story a p
+      (at c s) m count counts) world ends.0 =
       subst (λ (x : Comes (Unit {0})). LedFrom c s (stack.after_part x k)) ends.1 led in
       subst (λ (x : Comes (Unit {0})). LedOnFrom c s (stack.after_part x k)) (sym ends.1) over_led
 
@@ -98,7 +99,7 @@ module _ (c : Running) where
         there.reached there.end))
 
   pub read_led : (t q : ℕ) (s : List ℕ) → t < length p.arrays → q < length p.arrays → t ≢ q → length s ≤ 48
-      → Stands c (items.read_line t q)
+      → ArrivesAt c (items.read_line t q)
       → LedOnFrom c s (stack.prints (read_next (number_in p) full t q) s (at c s))
   read_led t q s text parse apart room stands =
       let item = items.read_line t q in

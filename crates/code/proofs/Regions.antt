@@ -9,13 +9,13 @@ use Rattle.zcore.specs.Parts.{with_word}
 use Rattle.zcore.specs.Turn.{with_bytes}
 
 -- these bytes stand in memory from an address on
-pub record Stands (memory : List ℕ) (base : ℕ) (bytes : List ℕ) : Type 0 where
+pub record StandsIn (memory : List ℕ) (base : ℕ) (bytes : List ℕ) : Type 0 where
   pub within : base + length bytes ≤ length memory
   pub each : (j : ℕ) → j < length bytes → slice_index memory (base + j) ≡ slice_index bytes j
 
 -- one of them is written
-pub stands_set : (memory : List ℕ) (base : ℕ) (bytes : List ℕ) (j v : ℕ) → Stands memory base bytes
-    → j < length bytes → Stands (set memory (base + j) v) base (set bytes j v)
+pub stands_set : (memory : List ℕ) (base : ℕ) (bytes : List ℕ) (j v : ℕ) → StandsIn memory base bytes
+    → j < length bytes → StandsIn (set memory (base + j) v) base (set bytes j v)
 stands_set memory base bytes j v s lt = record {
   within = omega (arith, s.within, length-set memory (base + j) v, length-set bytes j v);
   each = λ k h. go k (omega (arith, h, length-set bytes j v)) (cases_eq k j);
@@ -32,30 +32,30 @@ stands_set memory base bytes j v s lt = record {
         ∙ sym (get_or-set_other bytes j k v 0 ne)
 
 -- a word of two of them is written
-pub stands_word : (memory : List ℕ) (base : ℕ) (bytes : List ℕ) (j v : ℕ) → Stands memory base bytes
-    → j + 1 < length bytes → Stands (with_word memory (base + j) v) base (with_word bytes j v)
+pub stands_word : (memory : List ℕ) (base : ℕ) (bytes : List ℕ) (j v : ℕ) → StandsIn memory base bytes
+    → j + 1 < length bytes → StandsIn (with_word memory (base + j) v) base (with_word bytes j v)
 stands_word memory base bytes j v s lt =
     let z : base + (j + 1) ≡ base + j + 1 = omega arith in
     let m1 = set memory (base + j) (v / 256) in
     let b1 = set bytes j (v / 256) in
-    subst (λ n. Stands (set m1 n (v % 256)) base (set b1 (j + 1) (v % 256))) z
+    subst (λ n. StandsIn (set m1 n (v % 256)) base (set b1 (j + 1) (v % 256))) z
     (stands_set m1 base b1 (j + 1) (v % 256) (stands_set memory base bytes j (v / 256) s (omega (arith, lt)))
     (omega (arith, lt, length-set bytes j (v / 256))))
 
 -- bytes are written one behind another
-pub stands_bytes : (memory : List ℕ) (base : ℕ) (bytes : List ℕ) (j : ℕ) (vs : List ℕ) → Stands memory base bytes
-    → j + length vs ≤ length bytes → Stands (with_bytes memory (base + j) vs) base (with_bytes bytes j vs)
+pub stands_bytes : (memory : List ℕ) (base : ℕ) (bytes : List ℕ) (j : ℕ) (vs : List ℕ) → StandsIn memory base bytes
+    → j + length vs ≤ length bytes → StandsIn (with_bytes memory (base + j) vs) base (with_bytes bytes j vs)
 stands_bytes memory base bytes j [] s room = s
 stands_bytes memory base bytes j (v ∷ vs) s room =
     let z : base + (j + 1) ≡ base + j + 1 = omega arith in
-    subst (λ n. Stands (with_bytes (set memory (base + j) v) n vs) base (with_bytes (set bytes j v) (j + 1) vs)) z
+    subst (λ n. StandsIn (with_bytes (set memory (base + j) v) n vs) base (with_bytes (set bytes j v) (j + 1) vs)) z
     (stands_bytes (set memory (base + j) v) base (set bytes j v) (j + 1) vs
     (stands_set memory base bytes j v s (omega (arith, room))) (omega (arith, room, length-set bytes j v)))
 
 -- bytes before them are written
-pub stands_on : (memory other : List ℕ) (base : ℕ) (bytes : List ℕ) → Stands memory base bytes
+pub stands_on : (memory other : List ℕ) (base : ℕ) (bytes : List ℕ) → StandsIn memory base bytes
     → length other ≡ length memory → ((q : ℕ) → base ≤ q → slice_index other q ≡ slice_index memory q)
-    → Stands other base bytes
+    → StandsIn other base bytes
 stands_on memory other base bytes s size same = record {
   within = omega (arith, s.within, size);
   each = λ j h. same (base + j) (omega arith) ∙ s.each j h;
@@ -118,7 +118,7 @@ keeps_bytes from to at (v ∷ vs) m low high =
 
 -- bytes that stand as a run
 pub held_stands : (memory : List ℕ) (base : ℕ) (bytes : List ℕ) → base + length bytes ≤ length memory
-    → Holds memory base bytes → Stands memory base bytes
+    → Holds memory base bytes → StandsIn memory base bytes
 held_stands memory base bytes long h = record { within = long; each = λ j lt. go j lt }
   where
     go : (j : ℕ) → j < length bytes → slice_index memory (base + j) ≡ slice_index bytes j

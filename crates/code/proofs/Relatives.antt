@@ -16,21 +16,21 @@ use Rattle.zcore.specs.Objects.{give_object}
 use Rattle.zcore.specs.Parts.{test_result, store_result, write_variable, test_branch, test_taken, test_target}
 use Rattle.zcore.specs.Parts.{branch_on}
 use Rattle.zcore.specs.Execution.{perform}
-use Rattle.expression_trees.specs.declared.tree.Relative.{Relative}
-use Rattle.expression_trees.specs.declared.tree.Relative.TheVariants as relatives
+use Rattle.syntax_trees.specs.declared.tree.Relative.{Relative}
+use Rattle.syntax_trees.specs.declared.tree.Relative.TheVariants as relatives
 use Rattle.meaning.specs.Objects.{relative_in}
 use Rattle.meaning.specs.World as source
-use Rattle.drafts.specs.Items.{Destination}
-use Rattle.drafts.specs.Items as items
-use Rattle.items.specs.Stack as stack
-use Rattle.encoding.specs.Instructions.{number_of, result_in}
-use Rattle.object_selection.specs.ObjectCode.{giving_on, relative_of}
+use Rattle.code_values.specs.Items.{Destination}
+use Rattle.code_values.specs.Items as items
+use Rattle.code_items.specs.Stack as stack
+use Rattle.code_encoding.specs.Instructions.{number_of, result_in}
+use Rattle.code_objects.specs.ObjectCode.{giving_on, relative_of}
 use Rattle.code.proofs.Memory.{with_variable}
 use Rattle.code.proofs.Parts.{room_is, Around, machine as at_words, pushes, Writes, global_writes}
 use Rattle.code.proofs.Steps.{point, leads_then, one_step, first_held, one_operand, landing, branches}
 use Rattle.code.proofs.AddressLengths.{one_length}
 use Rattle.code.proofs.Fitting.{Shaped}
-use Rattle.code.proofs.Arriving.{Running, at, around, here, above, LedFrom, Stands, situation_here, room_for}
+use Rattle.code.proofs.Arriving.{Running, at, around, here, above, LedFrom, situation_here, room_for, ArrivesAt}
 use Rattle.code.proofs.Variables.{memory_with, variable_held}
 use Rattle.code.proofs.Temporaries.{Scratch, scratch_with, made}
 use Rattle.code.proofs.Delivering.{result_small, memory_after, locals_after, stack_after, delivered_led}
@@ -201,7 +201,7 @@ module _ (c : Running) where
       (Some (result_in d)) onward v object)
 
   pub relative_led : (r : Relative) (o : items.Operand) (d : Destination) (s : List ℕ) → IsOperandHere c o
-      → IsHere c d → length s ≤ 48 → Stands c (items.relative r o d)
+      → IsHere c d → length s ≤ 48 → ArrivesAt c (items.relative r o d)
       → LedFrom c s (stack.with_operand o (situation_here c) s
       (λ v rest. stack.gives (stack.relative_to p r v) d rest (at c s)))
   relative_led r o d s is is_d short stands =

@@ -7,14 +7,14 @@ use Rattle.zcore.specs.Execution.{perform}
 use Rattle.meaning.specs.Objects.{removed}
 use Rattle.meaning.specs.World.{with_objects}
 use Rattle.meaning.specs.World as source
-use Rattle.drafts.specs.Items as items
-use Rattle.items.specs.Stack as stack
-use Rattle.encoding.specs.Instructions.{plain}
+use Rattle.code_values.specs.Items as items
+use Rattle.code_items.specs.Stack as stack
+use Rattle.code_encoding.specs.Instructions.{plain}
 use Rattle.code.proofs.Parts.{machine as at_words}
 use Rattle.code.proofs.Steps.{point, leads_then, one_step, first_held, one_operand}
 use Rattle.code.proofs.AddressLengths.{one_length}
 use Rattle.code.proofs.Fitting.{Shaped}
-use Rattle.code.proofs.Arriving.{Running, at, around, here, LedFrom, Stands, situation_here, arrives_on}
+use Rattle.code.proofs.Arriving.{Running, at, around, here, LedFrom, situation_here, arrives_on, ArrivesAt}
 use Rattle.code.proofs.Temporaries.{made}
 use Rattle.code.proofs.Alone.{alone_count, IsOperandHere}
 use Rattle.code.proofs.TestedWords.{AtIndex}
@@ -47,7 +47,7 @@ module _ (c : Running) where
       (one_step (point r.q world.fuel) (point end world.fuel) st to (makes ∙ change.does)))
 
   pub remove_object_led : (o : items.Operand) (s : List ℕ) → IsOperandHere c o → length s ≤ 48
-      → Stands c (items.remove_object o)
+      → ArrivesAt c (items.remove_object o)
       → LedFrom c s (stack.with_operand o (situation_here c) s
       (λ v rest. stack.prints (stack.removes_object p v) rest (at c s)))
   remove_object_led o s is room stands =

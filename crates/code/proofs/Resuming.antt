@@ -20,13 +20,13 @@ use Rattle.ztext.proofs.Holding.{holds_byte}
 use Rattle.meaning.specs.declared.resolved.Variable as source
 use Rattle.meaning.specs.World.{Situation, with_value}
 use Rattle.meaning.specs.Meaning.{routine_at}
-use Rattle.drafts.specs.Items.{Destination}
-use Rattle.drafts.specs.Items as items
-use Rattle.items.specs.Laws.{IsDestination}
-use Rattle.items.specs.Stack.{Caller}
-use Rattle.items.specs.Stack as stack
-use Rattle.encoding.specs.Instructions.{plain, number_of}
-use Rattle.instructions.specs.Instructions.{call_result}
+use Rattle.code_values.specs.Items.{Destination}
+use Rattle.code_values.specs.Items as items
+use Rattle.code_items.specs.Laws.{IsDestination}
+use Rattle.code_items.specs.Stack.{Caller}
+use Rattle.code_items.specs.Stack as stack
+use Rattle.code_encoding.specs.Instructions.{plain, number_of}
+use Rattle.code_instructions.specs.Instructions.{call_result}
 use Rattle.code.specs.HeldProgram.{sizes_of}
 use Rattle.code.proofs.Behind.{Holds, holds_on}
 use Rattle.code.proofs.Play.{Leads, items_in, address, frames_of, frame_of, back_of, result_of, first_count}
@@ -141,7 +141,7 @@ module _ (c : Running) where
     abbrev e : Around
     e = around caller_runs
 
-    abbrev resumed : List ℕ → Situation → stack.State
+    abbrev resumed : List ℕ → Situation → stack.ItemState
     resumed words situation =
         record {
           routine = d.routine;

@@ -6,15 +6,15 @@ use Rattle.zcore.specs.declared.instruction.Operation.TheVariants as operations
 use Rattle.zcore.specs.Instruction.{bytes_of}
 use Rattle.zcore.specs.Parts.{give_back}
 use Rattle.zcore.specs.Execution.{perform, return_popped}
-use Rattle.drafts.specs.Items as items
-use Rattle.items.specs.Stack as stack
-use Rattle.encoding.specs.Instructions.{plain, constant, in_place}
-use Rattle.instructions.specs.Instructions.{return_code}
+use Rattle.code_values.specs.Items as items
+use Rattle.code_items.specs.Stack as stack
+use Rattle.code_encoding.specs.Instructions.{plain, constant, in_place}
+use Rattle.code_instructions.specs.Instructions.{return_code}
 use Rattle.code.proofs.Behind.{Holds}
 use Rattle.code.proofs.Parts.{machine as at_words, tops}
 use Rattle.code.proofs.Steps.{no_operand, one_operand}
 use Rattle.code.proofs.Fitting.{Shaped}
-use Rattle.code.proofs.Arriving.{Running, around, here, LedFrom, Stands, situation_here}
+use Rattle.code.proofs.Arriving.{Running, around, here, LedFrom, situation_here, ArrivesAt}
 use Rattle.code.proofs.Temporaries.{scratch_here, made}
 use Rattle.code.proofs.Alone.{IsOperandHere, by_operand, alone_value, single}
 use Rattle.code.proofs.Resuming.{returns_to}
@@ -76,7 +76,7 @@ module _ (c : Running) where
       (made c m (v ∷ words) (v ∷ words) world.text (here c) i [] (scratch_here c) (omega arith) bare_shaped h
       (no_operand st) ∙ rw (tops (around c) m locals world.text words v) refl)
 
-  pub return_led : (o : items.Operand) (words : List ℕ) → IsOperandHere c o → Stands c (items.return o)
+  pub return_led : (o : items.Operand) (words : List ℕ) → IsOperandHere c o → ArrivesAt c (items.return o)
       → Returned o words
   return_led items.pushed [] is stands = tt
   return_led items.pushed (v ∷ words) is stands =

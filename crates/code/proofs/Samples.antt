@@ -5,20 +5,20 @@ use Rattle.ztext.specs.Alphabets.{spelling_of}
 use Rattle.ztext.specs.Words.{packed}
 use Rattle.ztext.specs.Abbreviations.{encoded_with}
 use Rattle.zcore.specs.Instruction.{bytes_of}
-use Rattle.expression_trees.specs.declared.tree.Binary.TheVariants as binaries
-use Rattle.expression_trees.specs.declared.tree.Step.TheVariants as steps
-use Rattle.expression_trees.specs.declared.tree.Width.TheVariants as widths
+use Rattle.syntax_trees.specs.declared.tree.Binary.TheVariants as binaries
+use Rattle.syntax_trees.specs.declared.tree.Step.TheVariants as steps
+use Rattle.syntax_trees.specs.declared.tree.Width.TheVariants as widths
 use Rattle.meaning.specs.declared.resolved.Variable.{Variable}
 use Rattle.meaning.specs.declared.resolved.Variable.TheVariants as variables
-use Rattle.drafts.specs.Items.{Item, pushed, number, variable, push, into, nowhere, is_zero, less, greater, same, move}
-use Rattle.drafts.specs.Items.{operate, step, entry, assign_entry, print_text, read_line, branch, choose, case, jump}
-use Rattle.drafts.specs.Items.{call, return}
-use Rattle.forms.specs.declared.layout.Form.TheVariants.{One, Two, Far}
-use Rattle.forms.specs.declared.layout.Part.{Part}
-use Rattle.forms.specs.declared.layout.BranchUse.{BranchUse}
-use Rattle.forms.specs.Layout.{uses}
-use Rattle.encoding.specs.Addresses.{Addresses, Sizes}
-use Rattle.selection.specs.ItemBytes.{item_bytes}
+use Rattle.code_values.specs.Items.{Item, pushed, number, variable, push, into, nowhere, is_zero, less, greater, same}
+use Rattle.code_values.specs.Items.{move, operate, step, entry, assign_entry, print_text, read_line, branch, choose}
+use Rattle.code_values.specs.Items.{case, jump, call, return}
+use Rattle.code_branch_forms.specs.declared.layout.Form.TheVariants.{One, Two, Far}
+use Rattle.code_branch_forms.specs.declared.layout.Part.{Part}
+use Rattle.code_branch_forms.specs.declared.layout.BranchUse.{BranchUse}
+use Rattle.code_branch_forms.specs.Layout.{uses}
+use Rattle.code_encoding.specs.Addresses.{Addresses, Sizes}
+use Rattle.code_selection.specs.ItemBytes.{item_bytes}
 use Rattle.code.specs.Bytes.{parts_of, code_bytes}
 use Rattle.code.specs.HeldProgram.{start_code}
 

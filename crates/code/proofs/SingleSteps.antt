@@ -16,11 +16,12 @@ use Rattle.zcore.specs.Parts as parts
 use Rattle.zcore.specs.Parts.{test_pull, operand_value, operand_values, test_target, go, branch_on}
 use Rattle.zcore.specs.Execution as machine
 use Rattle.zcore.specs.Execution.{give_result, load, increment, decrement, push_word, jump, perform, step}
-use Rattle.encoding.specs.Instructions.{plain, giving, branching, push, pull, copy}
-use Rattle.instructions.specs.Instructions.{flag}
+use Rattle.code_encoding.specs.Instructions.{plain, giving, branching, push, pull, copy}
+use Rattle.code_instructions.specs.Instructions.{flag}
 use Rattle.code.proofs.Behind.{Holds}
 use Rattle.code.proofs.Play.{Leads, moves}
-use Rattle.code.proofs.Parts.{Around, machine as at_words, pushes, pops, tops, writes_top, can_pull_top, Reads, Writes}
+use Rattle.code.proofs.Parts.{Around, machine as at_words, pushes, pops, tops, writes_top, can_pull_top, Writes}
+use Rattle.code.proofs.Parts.{ReadsVariable}
 use Rattle.code.proofs.Steps.{point, one_step, first_held, others_held, step_is, fits_one, one_operand, small_value}
 use Rattle.code.proofs.Steps.{large_value, reads_in_place, writes_in_place, named_variable, gives_top, gives_variable}
 use Rattle.code.proofs.Steps.{landing, branches}
@@ -124,7 +125,8 @@ module _ (e : Around) (fuel : ℕ) where
   abbrev pub decrease : ℕ → Instruction
   decrease v = plain operations.Decrement (Small v ∷ [])
 
-  pub increment_step : (m l s t m1 l1 : List ℕ) (q v x : ℕ) → Reads e m l v x → Writes e m l v ((x + 1) % 65536) m1 l1
+  pub increment_step : (m l s t m1 l1 : List ℕ) (q v x : ℕ) → ReadsVariable e m l v x
+      → Writes e m l v ((x + 1) % 65536) m1 l1
       → Holds m q (bytes_of (increase v))
       → step (point q fuel) (at_words e m l s t) ≡ done (point (q + length (bytes_of (increase v))) fuel)
       (at_words e m1 l1 s t)
@@ -145,7 +147,7 @@ module _ (e : Around) (fuel : ℕ) where
         writes_in_place e m l s t m1 l1 v ((x + 1) % 65536) w,
       ) refl
 
-  pub decrement_step : (m l s t m1 l1 : List ℕ) (q v x : ℕ) → Reads e m l v x
+  pub decrement_step : (m l s t m1 l1 : List ℕ) (q v x : ℕ) → ReadsVariable e m l v x
       → Writes e m l v ((x + 65535) % 65536) m1 l1 → Holds m q (bytes_of (decrease v))
       → step (point q fuel) (at_words e m l s t) ≡ done (point (q + length (bytes_of (decrease v))) fuel)
       (at_words e m1 l1 s t)

@@ -9,17 +9,17 @@ use Rattle.zcore.specs.Instruction.{Instruction, bytes_of}
 use Rattle.zcore.specs.State.{done, words}
 use Rattle.zcore.specs.Parts.{operand_values}
 use Rattle.zcore.specs.Execution.{step, perform, push_word}
-use Rattle.expression_trees.specs.declared.tree.Step.{Step}
-use Rattle.expression_trees.specs.declared.tree.Step.TheVariants as steps
+use Rattle.syntax_trees.specs.declared.tree.Step.{Step}
+use Rattle.syntax_trees.specs.declared.tree.Step.TheVariants as steps
 use Rattle.meaning.specs.declared.resolved.Variable as source
 use Rattle.meaning.specs.World.{Situation, value_in, with_value}
 use Rattle.meaning.specs.Meaning.{stepped}
-use Rattle.drafts.specs.Items.{Item, Destination}
-use Rattle.drafts.specs.Items as items
-use Rattle.items.specs.Stack as stack
-use Rattle.encoding.specs.Instructions.{number_of, push, store}
-use Rattle.instructions.specs.Instructions.{stepping}
-use Rattle.selection.specs.ItemBytes.{text_bytes}
+use Rattle.code_values.specs.Items.{Item, Destination}
+use Rattle.code_values.specs.Items as items
+use Rattle.code_items.specs.Stack as stack
+use Rattle.code_encoding.specs.Instructions.{number_of, push, store}
+use Rattle.code_instructions.specs.Instructions.{stepping}
+use Rattle.code_selection.specs.ItemBytes.{text_bytes}
 use Rattle.code.proofs.Behind.{Holds, holds_on}
 use Rattle.code.proofs.Play.{moves, none_chosen}
 use Rattle.code.proofs.Parts.{machine as at_words, pushes}
@@ -27,8 +27,8 @@ use Rattle.code.proofs.Steps.{point, one_step, first_held, others_held, one_oper
 use Rattle.code.proofs.Steps.{variable_value, step_is}
 use Rattle.code.proofs.SingleSteps.{increment_step, decrement_step}
 use Rattle.code.proofs.Fitting.{Shaped, held_bytes, encodable}
-use Rattle.code.proofs.Arriving.{Running, at, around, here, high, kept, LedFrom, Stands, room_for, code_here, code_held}
-use Rattle.code.proofs.Arriving.{situation_here}
+use Rattle.code.proofs.Arriving.{Running, at, around, here, high, kept, LedFrom, room_for, code_here, code_held}
+use Rattle.code.proofs.Arriving.{ArrivesAt, situation_here}
 use Rattle.code.proofs.Variables.{memory_with, Held, variable_held}
 use Rattle.code.proofs.Temporaries.{scratch_here}
 use Rattle.code.proofs.Delivering.{stored_step}
@@ -101,7 +101,7 @@ module _ (c : Running) where
   pair : (item : Item) (i j : Instruction) → code_here c item ≡ i ∷ j ∷ []
       → length (flat_map bytes_of (code_here c item)) ≡ length (flat_map bytes_of (i ∷ j ∷ []))
       → text_bytes p.abbreviations item ≡ []
-      → Stands c item → Pair i j
+      → ArrivesAt c item → Pair i j
   pair item i j is size none stands =
       let all = subst (λ is. Holds m (here c) (flat_map bytes_of is)) is (code_held c item stands) in
       let second = others_held m (here c) i (j ∷ []) all in
@@ -135,7 +135,7 @@ module _ (c : Running) where
       (holds_on (static_base_of story) q m other (bytes_of i) same (omega (arith, high c, from)) h) is
 
   step_push_led : (op : Step) (x : source.Variable) (s : List ℕ) → IsVariableHere c x → length s ≤ 48
-      → Stands c (items.step op x items.push)
+      → ArrivesAt c (items.step op x items.push)
       → LedFrom c s (stack.delivered items.push (new_word op x) (stack.after (at c s) s (new_situation op x)))
   unfolding perform push_word
   step_push_led op x s is short stands =
@@ -166,7 +166,7 @@ module _ (c : Running) where
 
   step_into_led : (op : Step) (x y : source.Variable) (s : List ℕ) → IsVariableHere c x → IsVariableHere c y
       → length s ≤ 48
-      → Stands c (items.step op x (items.into y))
+      → ArrivesAt c (items.step op x (items.into y))
       → LedFrom c s (stack.delivered (items.into y) (new_word op x) (stack.after (at c s) s (new_situation op x)))
   unfolding perform
   step_into_led op x y s is is_y short stands =
@@ -202,7 +202,7 @@ module _ (c : Running) where
       (next.writes w))))
 
   pub step_led : (op : Step) (x : source.Variable) (d : Destination) (s : List ℕ) → IsVariableHere c x → IsHere c d
-      → length s ≤ 48 → Stands c (items.step op x d)
+      → length s ≤ 48 → ArrivesAt c (items.step op x d)
       → LedFrom c s (stack.delivered d (new_word op x) (stack.after (at c s) s (new_situation op x)))
   step_led op x items.push s is is_d short stands = step_push_led op x s is short stands
   step_led op x (items.into y) s is is_d short stands = step_into_led op x y s is is_d short stands

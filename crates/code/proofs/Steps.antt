@@ -16,10 +16,10 @@ use Rattle.zcore.specs.Parts.{branch_on}
 use Rattle.zcore.specs.Execution.{give_result, perform, execute, step}
 use Rattle.zcore.proofs.Encoding.{decode_bytes}
 use Rattle.zcore.proofs.Ahead.{decode_ahead}
-use Rattle.encoding.specs.Instructions.{top}
+use Rattle.code_encoding.specs.Instructions.{top}
 use Rattle.code.proofs.Behind.{Holds, holds_append}
 use Rattle.code.proofs.Play.{Leads, stays, moves}
-use Rattle.code.proofs.Parts.{room_is, Around, machine as at_words, pushes, pops, Reads, Writes}
+use Rattle.code.proofs.Parts.{room_is, Around, machine as at_words, pushes, pops, Writes, ReadsVariable}
 
 -- a point of a turn
 abbrev pub point : ℕ → ℕ → Next
@@ -121,13 +121,13 @@ pub top_value : (e : Around) (m l s t : List ℕ) (x : ℕ)
 unfolding operand_value read_variable
 top_value e m l s t x = pops e m l t s x
 
-pub variable_value : (e : Around) (m l s t : List ℕ) (v x : ℕ) → Reads e m l v x
+pub variable_value : (e : Around) (m l s t : List ℕ) (v x : ℕ) → ReadsVariable e m l v x
     → operand_value (Variable v) (at_words e m l s t) ≡ done x (at_words e m l s t)
 unfolding operand_value
 variable_value e m l s t v x r = r.value s t
 
 -- a variable from 1 on is the same in place
-pub reads_in_place : (e : Around) (m l s t : List ℕ) (v x : ℕ) → Reads e m l v x
+pub reads_in_place : (e : Around) (m l s t : List ℕ) (v x : ℕ) → ReadsVariable e m l v x
     → read_in_place v (at_words e m l s t) ≡ done x (at_words e m l s t)
 unfolding read_in_place
 reads_in_place e m l s t v x r =

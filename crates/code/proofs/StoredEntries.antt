@@ -8,16 +8,16 @@ use Rattle.std.proofs.lemmas.List.{length-set}
 use Rattle.ztext.specs.Bytes.{word_at}
 use Rattle.zcore.specs.Header.{defaults_of, globals_of, static_base_of}
 use Rattle.zcore.specs.Parts.{with_word}
-use Rattle.expression_trees.specs.declared.tree.Width.{Width}
-use Rattle.expression_trees.specs.declared.tree.Width.TheVariants as widths
+use Rattle.syntax_trees.specs.declared.tree.Width.{Width}
+use Rattle.syntax_trees.specs.declared.tree.Width.TheVariants as widths
 use Rattle.meaning.specs.World.{array_at, entry_count, is_index, entry_at, with_entry}
 use Rattle.meaning.specs.Objects.{Objects}
 use Rattle.meaning.specs.Resolved.{ProgramOf}
-use Rattle.region.proofs.Frames as region
-use Rattle.encoding.specs.Addresses.{Addresses}
+use Rattle.code_object_memory.proofs.Frames as region
+use Rattle.code_encoding.specs.Addresses.{Addresses}
 use Rattle.code.specs.HeldProgram.{offset_in}
 use Rattle.code.proofs.Flat.{array_within, byte_at, byte_set, word_set, sizes_same, concat_same, place_same, count_same}
-use Rattle.code.proofs.Regions.{Stands, stands_set, stands_word, KeepsOutside, keeps_set, keeps_word, byte_behind}
+use Rattle.code.proofs.Regions.{stands_set, stands_word, KeepsOutside, keeps_set, keeps_word, byte_behind, StandsIn}
 use Rattle.code.proofs.Regions.{same_on}
 use Rattle.code.proofs.Play.{Stored}
 use Rattle.code.proofs.Memory.{word_of, length_with}
@@ -86,7 +86,7 @@ pub stored_other : (story : List ℕ) (a : Addresses) (p : ProgramOf) (globals :
     (arrays other_arrays : List (List ℕ)) (objects : Objects) (memory other : List ℕ)
     (stored : Stored story a p globals arrays objects memory)
     → KeepsOutside stored.regions.first (defaults_of story) memory other
-    → Stands other stored.regions.first (concat other_arrays) → map length other_arrays ≡ map length arrays
+    → StandsIn other stored.regions.first (concat other_arrays) → map length other_arrays ≡ map length arrays
     → 64 ≤ globals_of story → length globals ≤ 232 → Stored story a p globals other_arrays objects other
 stored_other story a p globals arrays other_arrays objects memory other stored keeps stands same low few =
     let r = stored.regions in
@@ -194,18 +194,18 @@ module _ (story : List ℕ) (a : Addresses) (p : ProgramOf) (globals : List ℕ)
 
   -- the region where an entry is written
   entry_stands : (width : Width) (i v : ℕ) → is_index width bytes i ≡ true
-      → Stands (next_memory width i v) first (concat (next_arrays width i v))
+      → StandsIn (next_memory width i v) first (concat (next_arrays width i v))
   entry_stands widths.Byte i v index =
       let below = (index_below widths.Byte bytes i index).1 in
-      subst (λ q. Stands (slice_set memory q (v % 256)) first (concat (next_arrays widths.Byte i v))) (byte_place i)
-      (subst (Stands (slice_set memory (first + (offset_in arrays k + i)) (v % 256)) first)
+      subst (λ q. StandsIn (slice_set memory q (v % 256)) first (concat (next_arrays widths.Byte i v))) (byte_place i)
+      (subst (StandsIn (slice_set memory (first + (offset_in arrays k + i)) (v % 256)) first)
       (byte_set arrays k i (v % 256) known below)
       (stands_set memory first (concat arrays) (offset_in arrays k + i) (v % 256) stored.regions.stands
       (omega (arith, within, below))))
   entry_stands widths.Word i v index =
       let below = (index_below widths.Word bytes i index).1 in
-      subst (λ q. Stands (with_word memory q v) first (concat (next_arrays widths.Word i v))) (byte_place (2 * i))
-      (subst (Stands (with_word memory (first + (offset_in arrays k + 2 * i)) v) first)
+      subst (λ q. StandsIn (with_word memory q v) first (concat (next_arrays widths.Word i v))) (byte_place (2 * i))
+      (subst (StandsIn (with_word memory (first + (offset_in arrays k + 2 * i)) v) first)
       (word_set arrays k (2 * i) v known (omega (arith, below)))
       (stands_word memory first (concat arrays) (offset_in arrays k + 2 * i) v stored.regions.stands
       (omega (arith, within, below))))

@@ -11,12 +11,12 @@ use Rattle.zcore.specs.Parsing.{separators_of}
 use Rattle.zcore.specs.Parts.{is_text_buffer, is_parse_buffer}
 use Rattle.zcore.specs.Turn.{with_bytes, with_letters, letters_for}
 use Rattle.zcore.specs.Turn as turn
-use Rattle.tables.specs.Dictionary.{key_number}
+use Rattle.tables.specs.KeyNumbers.{key_number}
 use Rattle.meaning.specs.Resolved.{ProgramOf}
 use Rattle.meaning.specs.Places.{number_in}
 use Rattle.meaning.specs.World.{array_at}
 use Rattle.meaning.specs.Reading.{holds_letters, holds_words, words_for, words_bytes, with_line}
-use Rattle.encoding.specs.Addresses.{Addresses}
+use Rattle.code_encoding.specs.Addresses.{Addresses}
 use Rattle.code.specs.HeldProgram.{offset_in, HoldsProgram}
 use Rattle.code.proofs.Flat.{length_bytes, sizes_same}
 use Rattle.code.proofs.Regions.{keeps_wider}

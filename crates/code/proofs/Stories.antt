@@ -21,10 +21,10 @@ use Rattle.zcore.specs.Parts.{test_target, spend, go, test_routine, test_calls, 
 use Rattle.zcore.specs.Parts.{give_back, take_branch, branch_on, print}
 use Rattle.zcore.specs.Arithmetic.{quotient, decimal, signed_text}
 use Rattle.tables.specs.Dictionary.{dictionary_bytes}
-use Rattle.expression_trees.specs.declared.tree.Binary.TheVariants as binaries
-use Rattle.expression_trees.specs.declared.tree.Comparison.TheVariants as comparisons
-use Rattle.expression_trees.specs.declared.tree.Step.TheVariants as steps
-use Rattle.expression_trees.specs.declared.tree.Width.TheVariants as widths
+use Rattle.syntax_trees.specs.declared.tree.Binary.TheVariants as binaries
+use Rattle.syntax_trees.specs.declared.tree.Comparison.TheVariants as comparisons
+use Rattle.syntax_trees.specs.declared.tree.Step.TheVariants as steps
+use Rattle.syntax_trees.specs.declared.tree.Width.TheVariants as widths
 use Rattle.meaning.specs.declared.cause.Cause.{Cause}
 use Rattle.meaning.specs.World.{words_of}
 use Rattle.meaning.specs.declared.resolved.Variable.TheVariants as variables
@@ -32,9 +32,9 @@ use Rattle.meaning.specs.Objects.{ObjectOf}
 use Rattle.meaning.specs.Resolved as source
 use Rattle.meaning.specs.Resolved.{Action, Actions, RoutineOf, ProgramOf}
 use Rattle.meaning.specs.Meaning.{meaning}
-use Rattle.items.specs.Statements.{routine_items}
-use Rattle.region.specs.Rows.{rows_of, rows_bytes}
-use Rattle.encoding.specs.Addresses.{Addresses, Sizes, all_causes}
+use Rattle.code_items.specs.Statements.{routine_items}
+use Rattle.code_object_memory.specs.Rows.{rows_of, rows_bytes}
+use Rattle.code_encoding.specs.Addresses.{Addresses, Sizes, all_causes}
 use Rattle.code.specs.Bytes.{code_bytes}
 use Rattle.code.specs.HeldProgram.{start_code, fault_line}
 

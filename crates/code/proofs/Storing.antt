@@ -6,23 +6,23 @@ use Rattle.std.specs.List.{flat_map}
 use Rattle.zcore.specs.declared.instruction.Operand.{Operand}
 use Rattle.zcore.specs.declared.instruction.Operand.TheVariants.{Large}
 use Rattle.zcore.specs.Instruction.{Instruction, bytes_of}
-use Rattle.expression_trees.specs.declared.tree.Width.{Width}
+use Rattle.syntax_trees.specs.declared.tree.Width.{Width}
 use Rattle.meaning.specs.declared.cause.Cause.TheVariants as causes
 use Rattle.meaning.specs.World.{Situation, to, bound, is_index, with_entry, with_array}
 use Rattle.meaning.specs.World as source
-use Rattle.drafts.specs.Items.{Destination}
-use Rattle.drafts.specs.Items as items
-use Rattle.items.specs.Stack as stack
-use Rattle.encoding.specs.Addresses.{fault_address}
-use Rattle.encoding.specs.Instructions.{plain, pull}
-use Rattle.object_selection.specs.ObjectCode.{assigned_word, passed_on}
-use Rattle.selection.specs.ItemCode.{entries_in, store_operation, at_index}
+use Rattle.code_values.specs.Items.{Destination}
+use Rattle.code_values.specs.Items as items
+use Rattle.code_items.specs.Stack as stack
+use Rattle.code_encoding.specs.Addresses.{fault_address}
+use Rattle.code_encoding.specs.Instructions.{plain, pull}
+use Rattle.code_objects.specs.ObjectCode.{assigned_word, passed_on}
+use Rattle.code_selection.specs.ItemCode.{entries_in, store_operation, at_index}
 use Rattle.code.proofs.Play.{Leads, stays}
 use Rattle.code.proofs.Memory.{word_of, with_variable}
 use Rattle.code.proofs.Parts.{machine as at_words}
 use Rattle.code.proofs.Steps.{point, one_step, first_held}
 use Rattle.code.proofs.Texts.{cause_line}
-use Rattle.code.proofs.Arriving.{Running, at, around, here, LedFrom, Stands, code_held, situation_here}
+use Rattle.code.proofs.Arriving.{Running, at, around, here, LedFrom, code_held, situation_here, ArrivesAt}
 use Rattle.code.proofs.Temporaries.{scratch_here, scratch_with, word_written, pull_temporary, others_held_pull}
 use Rattle.code.proofs.Alone.{Alone, by_operand, alone_count, IsOperandHere, IsHere, next_place, plain_length}
 use Rattle.code.proofs.ItemsThatPrint.{fails_led}
@@ -52,7 +52,7 @@ module _ (c : Running) where
           ≡ next_place c
 
   begun : (width : Width) (n : ℕ) (o q : items.Operand) (d : Destination) (s left : List ℕ) (v : ℕ)
-      → Alone q (situation_here c) s v left → Stands c (items.assign_entry width n o q d)
+      → Alone q (situation_here c) s v left → ArrivesAt c (items.assign_entry width n o q d)
       → Begun width n o q d s left v
   unfolding bytes_of
   begun width n o items.pushed d s left v alone stands =
@@ -149,7 +149,7 @@ module _ (c : Running) where
 
   pub assign_entry_led : (width : Width) (n : ℕ) (o q : items.Operand) (d : Destination) (s : List ℕ)
       → n < length p.arrays → IsOperandHere c o → IsOperandHere c q → IsHere c d → length s ≤ 48
-      → Stands c (items.assign_entry width n o q d)
+      → ArrivesAt c (items.assign_entry width n o q d)
       → LedFrom c s (stack.with_operand q (situation_here c) s
       (λ v left. stack.with_operand o (situation_here c) left
       (λ i rest. stack.gives (stack.assigned_entry width n i v) d rest (at c s))))

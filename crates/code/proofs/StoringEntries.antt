@@ -10,15 +10,15 @@ use Rattle.zcore.specs.Instruction.{Instruction, bytes_of}
 use Rattle.zcore.specs.State.{done}
 use Rattle.zcore.specs.Parts.{operand_value}
 use Rattle.zcore.specs.Execution.{perform, push_word}
-use Rattle.expression_trees.specs.declared.tree.Width.{Width}
-use Rattle.expression_trees.specs.declared.tree.Width.TheVariants as widths
+use Rattle.syntax_trees.specs.declared.tree.Width.{Width}
+use Rattle.syntax_trees.specs.declared.tree.Width.TheVariants as widths
 use Rattle.meaning.specs.World.{Situation, to, with_value, is_index, with_entry, with_array}
-use Rattle.drafts.specs.Items.{Destination}
-use Rattle.drafts.specs.Items as items
-use Rattle.items.specs.Stack as stack
-use Rattle.encoding.specs.Instructions.{number_of, plain, push, store}
-use Rattle.object_selection.specs.ObjectCode.{assigned_word, passed_on}
-use Rattle.selection.specs.ItemCode.{store_operation}
+use Rattle.code_values.specs.Items.{Destination}
+use Rattle.code_values.specs.Items as items
+use Rattle.code_items.specs.Stack as stack
+use Rattle.code_encoding.specs.Instructions.{number_of, plain, push, store}
+use Rattle.code_objects.specs.ObjectCode.{assigned_word, passed_on}
+use Rattle.code_selection.specs.ItemCode.{store_operation}
 use Rattle.code.proofs.Behind.{Holds, holds_on}
 use Rattle.code.proofs.Play.{Leads, Stored, none_chosen}
 use Rattle.code.proofs.Regions.{KeepsOutside}

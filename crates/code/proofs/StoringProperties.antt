@@ -16,14 +16,14 @@ use Rattle.meaning.specs.Objects.{Objects, with_words}
 use Rattle.meaning.specs.World.{Situation, Part, bound, ◌>>=◌, to, test_provided, test_word, test_single, write_words}
 use Rattle.meaning.specs.World.{with_objects}
 use Rattle.meaning.specs.World as source
-use Rattle.drafts.specs.Items.{Destination}
-use Rattle.drafts.specs.Items as items
-use Rattle.items.specs.Stack as stack
-use Rattle.region.specs.Region.{tables_base}
-use Rattle.region.specs.Tables.{Table, words_place}
-use Rattle.encoding.specs.Instructions.{plain, word_in}
-use Rattle.object_selection.specs.ObjectCode.{tested_word, tested_single, assigned_word, passed_on}
-use Rattle.selection.specs.ItemCode.{is_entry}
+use Rattle.code_values.specs.Items.{Destination}
+use Rattle.code_values.specs.Items as items
+use Rattle.code_items.specs.Stack as stack
+use Rattle.code_object_memory.specs.Region.{tables_base}
+use Rattle.code_object_memory.specs.Tables.{words_place, PropertyTable}
+use Rattle.code_encoding.specs.Instructions.{plain, word_in}
+use Rattle.code_objects.specs.ObjectCode.{tested_word, tested_single, assigned_word, passed_on}
+use Rattle.code_selection.specs.ItemCode.{is_entry}
 use Rattle.code.proofs.Memory.{word_of}
 use Rattle.code.proofs.Parts.{machine as at_words}
 use Rattle.code.proofs.Steps.{point, leads_then, one_step, first_held, others_held, three_operands, small_value}
@@ -64,7 +64,7 @@ module _ (c : Running) where
 
   module _ (q v w : ℕ) (o : items.Operand) (d : Destination) (before rest : List ℕ) (known : IsObjectHere c v)
       (is_o : IsOperandHere c o) (is_d : IsHere c d) (room : length rest ≤ 48) (followed : next_place c < length m)
-      (tables : List Table) where
+      (tables : List PropertyTable) where
     abbrev next_objects : List ℕ → ℕ → Objects
     next_objects words x = with_words v q (slice_set words x w) world.objects
 

@@ -8,19 +8,19 @@ use Rattle.zcore.specs.Header.{static_base_of}
 use Rattle.zcore.specs.State.{State, done}
 use Rattle.zcore.specs.Parts.{operand_value, write_byte, write_word}
 use Rattle.zcore.specs.Execution.{perform, store_word, store_byte}
-use Rattle.expression_trees.specs.declared.tree.Width.{Width}
-use Rattle.expression_trees.specs.declared.tree.Width.TheVariants as widths
+use Rattle.syntax_trees.specs.declared.tree.Width.{Width}
+use Rattle.syntax_trees.specs.declared.tree.Width.TheVariants as widths
 use Rattle.meaning.specs.declared.resolved.Variable as resolved
 use Rattle.meaning.specs.declared.resolved.Variable.TheVariants as variables
 use Rattle.meaning.specs.World.{Situation, Comes, to, over, bound, Part, value_in, with_array}
-use Rattle.drafts.specs.Items as items
-use Rattle.items.specs.Stack as stack
-use Rattle.encoding.specs.Instructions.{number_of}
-use Rattle.object_selection.specs.ObjectCode.{assigned_word}
-use Rattle.selection.specs.ItemCode.{store_operation}
+use Rattle.code_values.specs.Items as items
+use Rattle.code_items.specs.Stack as stack
+use Rattle.code_encoding.specs.Instructions.{number_of}
+use Rattle.code_objects.specs.ObjectCode.{assigned_word}
+use Rattle.code_selection.specs.ItemCode.{store_operation}
 use Rattle.code.proofs.Memory.{word_of}
 use Rattle.code.proofs.StoredEntries.{entry_address, written_at, last_byte}
-use Rattle.code.proofs.Parts.{machine as at_words, Reads, global_reads}
+use Rattle.code.proofs.Parts.{machine as at_words, global_reads, ReadsVariable}
 use Rattle.code.proofs.Steps.{variable_value}
 use Rattle.code.proofs.ItemOperands.{constant_value}
 use Rattle.code.proofs.Arriving.{Running, around, here, situation_here}
@@ -84,7 +84,7 @@ module _ (c : Running) where
       ≡ done v (at_words (around c) other locals s world.text)
   word_value items.pushed v other s scratch is h =
       variable_value (around c) other locals s world.text 249 v
-      (subst (λ w. Reads (around c) other locals 249 w) h
+      (subst (λ w. ReadsVariable (around c) other locals 249 w) h
       (global_reads (around c) other locals 249 (omega arith) (omega arith)))
   word_value (items.number n) v other s scratch is h =
       constant_value (at_words (around c) other locals s world.text) n

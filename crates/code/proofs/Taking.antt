@@ -8,17 +8,17 @@ use Rattle.zcore.specs.Instruction.{Instruction, bytes_of}
 use Rattle.zcore.specs.State.{done}
 use Rattle.zcore.specs.Parts.{operand_values}
 use Rattle.meaning.specs.Meaning.{routine_at}
-use Rattle.drafts.specs.Items.{pushed, number, variable}
-use Rattle.drafts.specs.Items as items
-use Rattle.items.specs.Laws.{IsOperand}
-use Rattle.encoding.specs.Instructions.{temporary, pull, pushed_count, take_words, takes, operands}
+use Rattle.code_values.specs.Items.{pushed, number, variable}
+use Rattle.code_values.specs.Items as items
+use Rattle.code_items.specs.Laws.{IsOperand}
+use Rattle.code_encoding.specs.Instructions.{temporary, pull, pushed_count, take_words, takes, operands}
 use Rattle.code.proofs.Behind.{Holds, holds_append}
 use Rattle.code.proofs.Play.{Leads, stays, moves}
 use Rattle.code.proofs.Memory.{word_of, with_variable}
-use Rattle.code.proofs.Parts.{machine as at_words, Reads, global_reads}
+use Rattle.code.proofs.Parts.{machine as at_words, global_reads, ReadsVariable}
 use Rattle.code.proofs.Steps.{point, first_held, others_held}
-use Rattle.code.proofs.ItemOperands.{Gives, with_first, Temporaries, VariablesRead, ready, ready_values, first_on_top}
-use Rattle.code.proofs.ItemOperands.{gives_count}
+use Rattle.code.proofs.ItemOperands.{with_first, Temporaries, VariablesRead, ready, ready_values, first_on_top}
+use Rattle.code.proofs.ItemOperands.{GivesOperands, gives_count}
 use Rattle.code.proofs.Arriving.{Running, around, here, situation_here}
 use Rattle.code.proofs.Variables.{variable_held}
 use Rattle.code.proofs.Temporaries.{Scratch, scratch_here, scratch_with, word_written, word_unwritten, pull_temporary}
@@ -119,7 +119,7 @@ module _ (c : Running) where
 
   pub taken : (os : List items.Operand) (words vs rest : List ℕ)
       → All (IsOperand p (routine_at p.routines routine).locals) os → pushed_count os ≤ 8
-      → Gives os (situation_here c) words vs rest
+      → GivesOperands os (situation_here c) words vs rest
       → Holds m (here c) (flat_map bytes_of (takes os)) → Taken os words vs rest
   taken os words vs rest all few g h =
       let n = pushed_count os - 1 in
@@ -129,8 +129,8 @@ module _ (c : Running) where
       let each : Temporaries (around c) t.memory locals 0 n words =
       λ j l.
       let number : j ≡ 0 + j = omega arith in
-      subst (λ i. Reads (around c) t.memory locals (temporary i) (slice_index words (n - 1 - j))) number
-      (subst (λ x. Reads (around c) t.memory locals (temporary j) x) (t.words_are j l)
+      subst (λ i. ReadsVariable (around c) t.memory locals (temporary i) (slice_index words (n - 1 - j))) number
+      (subst (λ x. ReadsVariable (around c) t.memory locals (temporary j) x) (t.words_are j l)
       (global_reads (around c) t.memory locals (temporary j) (omega arith) (omega (arith, l, few)))) in
       let read = ready (around c) t.memory locals os (situation_here c) words vs rest g
       (variables_read t.memory os t.scratch all) each in

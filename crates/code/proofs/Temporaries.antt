@@ -6,11 +6,11 @@ use Rattle.zcore.specs.Instruction.{Instruction, bytes_of}
 use Rattle.zcore.specs.State.{done}
 use Rattle.zcore.specs.Parts.{operand_values}
 use Rattle.zcore.specs.Execution.{step, perform}
-use Rattle.encoding.specs.Instructions.{pull, copy}
+use Rattle.code_encoding.specs.Instructions.{pull, copy}
 use Rattle.code.proofs.Behind.{Holds, holds_on}
 use Rattle.code.proofs.Play.{Stored}
 use Rattle.code.proofs.Memory.{word_of, with_variable, Ground, writes_ground, stored_temporary}
-use Rattle.code.proofs.Parts.{machine as at_words, Reads, global_reads, global_writes}
+use Rattle.code.proofs.Parts.{machine as at_words, global_reads, global_writes, ReadsVariable}
 use Rattle.code.proofs.Steps.{point, others_held, step_is}
 use Rattle.code.proofs.SingleSteps.{pull_step, copy_step}
 use Rattle.code.proofs.Fitting.{Shaped, held_bytes, encodable}
@@ -44,18 +44,18 @@ module _ (c : Running) where
 
   -- what was written there, and what was not
   pub reads_written : (other : List ℕ) (variable word : ℕ) → Scratch other → 248 ≤ variable → variable < 256
-      → Reads (around c) (with_variable other variable word) locals variable word
+      → ReadsVariable (around c) (with_variable other variable word) locals variable word
   reads_written other variable word scratch low small =
-      subst (λ x. Reads (around c) (with_variable other variable word) locals variable x)
+      subst (λ x. ReadsVariable (around c) (with_variable other variable word) locals variable x)
       (writes_ground (static_base_of story) other variable word scratch.ground (omega (arith, low)) small).is
       (global_reads (around c) (with_variable other variable word) locals variable (omega (arith, low)) small)
 
   pub reads_other : (other : List ℕ) (variable word v x : ℕ) → Scratch other → 248 ≤ variable → variable < 256
       → 248 ≤ v
       → v < 256 → v ≢ variable → word_of other v ≡ x
-      → Reads (around c) (with_variable other variable word) locals v x
+      → ReadsVariable (around c) (with_variable other variable word) locals v x
   reads_other other variable word v x scratch low small low1 small1 differs is =
-      subst (λ x. Reads (around c) (with_variable other variable word) locals v x)
+      subst (λ x. ReadsVariable (around c) (with_variable other variable word) locals v x)
       ((writes_ground (static_base_of story) other variable word scratch.ground (omega (arith, low)) small).other v
       (omega (arith, low1)) differs ∙ is)
       (global_reads (around c) (with_variable other variable word) locals v (omega (arith, low1)) small1)

@@ -10,21 +10,21 @@ use Rattle.meaning.specs.declared.cause.Cause.TheVariants as causes
 use Rattle.meaning.specs.Forests.{IsObjectNumber}
 use Rattle.meaning.specs.World.{Situation, Part, bound}
 use Rattle.meaning.specs.World as source
-use Rattle.drafts.specs.Items.{Item}
-use Rattle.drafts.specs.Items as items
-use Rattle.items.specs.Stack as stack
-use Rattle.region.specs.Laws.{Acts}
-use Rattle.region.proofs.Together.{region_laws}
-use Rattle.encoding.specs.Addresses.{fault_address}
-use Rattle.instructions.specs.Instructions.{is_between}
-use Rattle.object_selection.specs.ObjectCode.{at_object, at_label, objects_of}
-use Rattle.selection.specs.ItemBytes.{text_bytes}
+use Rattle.code_values.specs.Items.{Item}
+use Rattle.code_values.specs.Items as items
+use Rattle.code_items.specs.Stack as stack
+use Rattle.code_object_memory.specs.Laws.{Acts}
+use Rattle.code_object_memory.proofs.Together.{region_laws}
+use Rattle.code_encoding.specs.Addresses.{fault_address}
+use Rattle.code_instructions.specs.Instructions.{is_between}
+use Rattle.code_objects.specs.ObjectCode.{at_object, at_label, objects_of}
+use Rattle.code_selection.specs.ItemBytes.{text_bytes}
 use Rattle.code.specs.HeldProgram.{sizes_of}
 use Rattle.code.proofs.Play.{stays}
 use Rattle.code.proofs.Parts.{machine as at_words}
 use Rattle.code.proofs.Steps.{point}
 use Rattle.code.proofs.Texts.{cause_line}
-use Rattle.code.proofs.Arriving.{Running, around, here, LedFrom, Stands, code_here, code_held, situation_here}
+use Rattle.code.proofs.Arriving.{Running, around, here, LedFrom, code_here, code_held, situation_here, ArrivesAt}
 use Rattle.code.proofs.Temporaries.{Scratch, scratch_here}
 use Rattle.code.proofs.Alone.{Alone, by_operand, IsOperandHere, next_place, plain_length}
 use Rattle.code.proofs.ItemsThatPrint.{fails_led}
@@ -81,7 +81,7 @@ module _ (c : Running) where
       (at_words (around c) other locals words text) scratch.stored.has
 
   -- an item begins
-  pub begins : (item : Item) (s : List ℕ) → Stands c item → Reached c s s m (code_here c item)
+  pub begins : (item : Item) (s : List ℕ) → ArrivesAt c item → Reached c s s m (code_here c item)
   begins item s stands = record {
     memory = m;
     scratch = scratch_here c;
@@ -92,11 +92,11 @@ module _ (c : Running) where
     unwritten = λ v low small. refl;
   }
 
-  pub begins_end : (item : Item) → text_bytes p.abbreviations item ≡ [] → Stands c item
+  pub begins_end : (item : Item) → text_bytes p.abbreviations item ≡ [] → ArrivesAt c item
       → here c + length (flat_map bytes_of (code_here c item)) ≡ next_place c
   begins_end item none stands = omega (arith, stands.next, plain_length c item none)
 
-  pub begun_end : (item : Item) (s : List ℕ) → text_bytes p.abbreviations item ≡ [] → (stands : Stands c item)
+  pub begun_end : (item : Item) (s : List ℕ) → text_bytes p.abbreviations item ≡ [] → (stands : ArrivesAt c item)
       → (begins item s stands).q + length (flat_map bytes_of (code_here c item)) ≡ next_place c
   unfolding begins
   begun_end item s none stands = begins_end item none stands

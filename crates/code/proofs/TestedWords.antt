@@ -14,14 +14,14 @@ use Rattle.zcore.specs.Parts.{operand_value}
 use Rattle.zcore.specs.Execution.{perform}
 use Rattle.meaning.specs.declared.cause.Cause.{Cause}
 use Rattle.meaning.specs.declared.cause.Cause.TheVariants as causes
-use Rattle.encoding.specs.Addresses.{fault_address}
-use Rattle.encoding.specs.Instructions.{branching, fail}
-use Rattle.instructions.specs.Instructions.{tested_between, is_between}
-use Rattle.selection.specs.ItemCode.{is_entry}
+use Rattle.code_encoding.specs.Addresses.{fault_address}
+use Rattle.code_encoding.specs.Instructions.{branching, fail}
+use Rattle.code_instructions.specs.Instructions.{tested_between, is_between}
+use Rattle.code_selection.specs.ItemCode.{is_entry}
 use Rattle.code.proofs.Behind.{Holds, holds_append}
 use Rattle.code.proofs.Play.{Leads}
 use Rattle.code.proofs.Memory.{word_of, with_variable}
-use Rattle.code.proofs.Parts.{machine as at_words, Reads, global_reads}
+use Rattle.code.proofs.Parts.{machine as at_words, global_reads, ReadsVariable}
 use Rattle.code.proofs.Steps.{point, leads_then, one_step, first_held, others_held, two_operands, small_value}
 use Rattle.code.proofs.Steps.{large_value, variable_value, landing}
 use Rattle.code.proofs.SingleSteps.{branch_step}
@@ -107,9 +107,9 @@ module _ (c : Running) where
 
   -- what was written to the first of the compiler's variables, where others differ
   pub reads_still : (other : List ℕ) (v : ℕ) → Scratch c other → (memory : List ℕ) → Scratch c memory
-      → word_of memory 248 ≡ word_of (with_variable other 248 v) 248 → Reads (around c) memory locals 248 v
+      → word_of memory 248 ≡ word_of (with_variable other 248 v) 248 → ReadsVariable (around c) memory locals 248 v
   reads_still other v scratch memory still same =
-      subst (λ x. Reads (around c) memory locals 248 x)
+      subst (λ x. ReadsVariable (around c) memory locals 248 x)
       (same ∙ word_written c other 248 v scratch (omega arith) (omega arith))
       (global_reads (around c) memory locals 248 (omega arith) (omega arith))
 
@@ -126,9 +126,9 @@ module _ (c : Running) where
   module _ (cause : Cause) (low variable i number : ℕ) (act : Operand → List Instruction)
       (before rest other : List ℕ)
       (r : Reached before rest other (tested_between a cause low number variable ++ act (Variable variable)))
-      (reads : Reads (around c) r.memory locals variable i)
+      (reads : ReadsVariable (around c) r.memory locals variable i)
       (still : (memory : List ℕ) → Scratch c memory → word_of memory 248 ≡ word_of r.memory 248
-      → Reads (around c) memory locals variable i)
+      → ReadsVariable (around c) memory locals variable i)
       (end : r.q + length (flat_map bytes_of (tested_between a cause low number variable ++ act (Variable variable)))
       ≡ next_place c) (followed : next_place c < length m) where
     abbrev fault_code : List Instruction

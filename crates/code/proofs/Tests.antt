@@ -17,14 +17,14 @@ use Rattle.zcore.specs.Execution.{perform}
 use Rattle.zcore.specs.Arithmetic.{signed_less}
 use Rattle.meaning.specs.Resolved.{ProgramOf}
 use Rattle.meaning.specs.World.{Situation}
-use Rattle.drafts.specs.Items.{Test}
-use Rattle.drafts.specs.Items as items
-use Rattle.items.specs.Laws.{IsOperand, IsTested}
-use Rattle.items.specs.Stack as stack
-use Rattle.encoding.specs.Instructions.{plain, branching}
-use Rattle.instructions.specs.Instructions.{labelled, test_operation, tested_code, least_word, branch_code}
+use Rattle.code_values.specs.Items.{Test}
+use Rattle.code_values.specs.Items as items
+use Rattle.code_items.specs.Laws.{IsOperand, IsTestedValue}
+use Rattle.code_items.specs.Stack as stack
+use Rattle.code_encoding.specs.Instructions.{plain, branching}
+use Rattle.code_instructions.specs.Instructions.{labelled, test_operation, tested_code, least_word, branch_code}
 use Rattle.code.proofs.Fitting.{AreBytes, first_part, all_fit}
-use Rattle.code.proofs.ItemOperands.{Gives, gives_length}
+use Rattle.code.proofs.ItemOperands.{gives_length, GivesOperands}
 use Rattle.code.proofs.BranchLengths.{branching_length}
 
 -- the operands of a branch with a label
@@ -72,7 +72,7 @@ few_tested items.less n is = omega (arith, is)
 few_tested items.greater n is = omega (arith, is)
 few_tested items.same n is = is.1
 
-pub few_given : (test : Test) (n : ℕ) → IsTested test n → n ≤ 4
+pub few_given : (test : Test) (n : ℕ) → IsTestedValue test n → n ≤ 4
 few_given items.is_zero n is = omega (arith, is)
 few_given items.less n is = omega (arith, is)
 few_given items.greater n is = omega (arith, is)
@@ -95,12 +95,12 @@ pub record Asked (p : ProgramOf) (locals : ℕ) (s : Situation) (test : Test) (o
   pub code : (when : Bool) (offset : ℕ) → branch_code test os when offset ≡ tested_code test1 os1 when offset
   pub counted : Counted test1 (length os1)
   pub all : All (IsOperand p locals) os1
-  pub gives : Gives os1 s words vs1 rest
+  pub gives : GivesOperands os1 s words vs1 rest
   pub holds : stack.holds test1 vs1 ≡ stack.holds test vs
 
 pub asked : (p : ProgramOf) (locals : ℕ) (s : Situation) (test : Test) (os : List items.Operand)
     (words vs rest : List ℕ)
-    → IsTested test (length os) → All (IsOperand p locals) os → Gives os s words vs rest
+    → IsTestedValue test (length os) → All (IsOperand p locals) os → GivesOperands os s words vs rest
     → Asked p locals s test os words vs rest
 asked p locals s items.is_zero os words vs rest is all g =
     record {
@@ -162,8 +162,8 @@ asked p locals s items.same (o ∷ []) words (v ∷ []) rest is all g = record {
   holds = none_less v;
 }
   where
-    more : (o : items.Operand) → Gives (o ∷ []) s words (v ∷ []) rest
-        → Gives (o ∷ items.number least_word ∷ []) s words (v ∷ least_word ∷ []) rest
+    more : (o : items.Operand) → GivesOperands (o ∷ []) s words (v ∷ []) rest
+        → GivesOperands (o ∷ items.number least_word ∷ []) s words (v ∷ least_word ∷ []) rest
     more items.pushed g = (refl, g)
     more (items.number n) g = (g.0, (refl, g.1))
     more (items.variable x) g = (g.0, (refl, g.1))

@@ -16,8 +16,8 @@ use Rattle.ztext.proofs.Expanding.{round_trip_with, some_if_two}
 use Rattle.meaning.specs.World.{shown, words_of}
 use Rattle.meaning.specs.declared.cause.Cause.{Cause}
 use Rattle.meaning.specs.declared.cause.Cause.TheVariants as causes
-use Rattle.encoding.specs.Bytes.{character_of}
-use Rattle.lexer.specs.Printable.{IsPrintable}
+use Rattle.code_encoding.specs.Bytes.{character_of}
+use Rattle.syntax_lexer.specs.Printable.{IsPrintable}
 use Rattle.code.specs.HeldProgram.{fault_line}
 
 -- a character that prints itself

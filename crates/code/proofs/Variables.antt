@@ -8,10 +8,10 @@ use Rattle.meaning.specs.declared.resolved.Variable.TheVariants as variables
 use Rattle.meaning.specs.World.{value_in, with_value}
 use Rattle.meaning.specs.Meaning.{routine_at}
 use Rattle.meaning.specs.Accepted.{IsVariable}
-use Rattle.encoding.specs.Instructions.{number_of}
+use Rattle.code_encoding.specs.Instructions.{number_of}
 use Rattle.code.proofs.Play.{Stored}
 use Rattle.code.proofs.Memory.{with_variable, writes_ground, stored_global, global_is}
-use Rattle.code.proofs.Parts.{Reads, Writes, local_reads, local_writes, global_reads, global_writes}
+use Rattle.code.proofs.Parts.{Writes, local_reads, local_writes, global_reads, global_writes, ReadsVariable}
 use Rattle.code.proofs.HeldRoutines.{few_locals}
 use Rattle.code.proofs.Arriving.{Running, around, few, situation_here}
 use Rattle.code.proofs.Temporaries.{Scratch}
@@ -28,10 +28,11 @@ module _ (c : Running) where
   memory_with other (variables.Global g) word = with_variable other (16 + g) word
 
   pub record Held (other : List ℕ) (x : Variable) : Type 0 where
-    pub reads : Reads (around c) other locals (number_of x) (value_in x (situation_here c))
+    pub reads : ReadsVariable (around c) other locals (number_of x) (value_in x (situation_here c))
     pub writes : (word : ℕ) → Writes (around c) other locals (number_of x) word (memory_with other x word)
         (with_value x word (situation_here c)).locals
-    pub again : (word : ℕ) → Reads (around c) (memory_with other x word) (with_value x word (situation_here c)).locals
+    pub again : (word : ℕ)
+        → ReadsVariable (around c) (memory_with other x word) (with_value x word (situation_here c)).locals
         (number_of x) word
     pub kept : (word : ℕ) → drop (static_base_of story) (memory_with other x word) ≡ drop (static_base_of story) other
     pub stored : (word : ℕ) → Stored story a p (with_value x word (situation_here c)).world.globals
@@ -48,12 +49,12 @@ module _ (c : Running) where
       let few15 : i < 15 = omega (arith, is, few_locals story a p accepted holds routine good.known) in
       let number : 1 + i ≡ (1 + i) % 256 = omega (arith, few15) in
       record {
-        reads = subst (λ n. Reads (around c) other locals n (slice_index locals i)) number
+        reads = subst (λ n. ReadsVariable (around c) other locals n (slice_index locals i)) number
             (local_reads (around c) other locals i few15 within);
         writes = λ word. subst (λ n. Writes (around c) other locals n word other (slice_set locals i word)) number
             (local_writes (around c) other locals i word few15 within);
-        again = λ word. subst (λ n. Reads (around c) other (slice_set locals i word) n word) number
-            (subst (λ v. Reads (around c) other (slice_set locals i word) (1 + i) v)
+        again = λ word. subst (λ n. ReadsVariable (around c) other (slice_set locals i word) n word) number
+            (subst (λ v. ReadsVariable (around c) other (slice_set locals i word) (1 + i) v)
             (get_or-set_same locals i word 0 within)
             (local_reads (around c) other (slice_set locals i word) i few15
             (omega (arith, within, length-set locals i word))));
@@ -71,13 +72,13 @@ module _ (c : Running) where
       let value = global_is story a p world.globals world.arrays world.objects other scratch.ground (few c)
       scratch.stored g within in
       record {
-        reads = subst (λ n. Reads (around c) other locals n (slice_index world.globals g)) number
-            (subst (λ v. Reads (around c) other locals (16 + g) v) value
+        reads = subst (λ n. ReadsVariable (around c) other locals n (slice_index world.globals g)) number
+            (subst (λ v. ReadsVariable (around c) other locals (16 + g) v) value
             (global_reads (around c) other locals (16 + g) from small));
         writes = λ word. subst (λ n. Writes (around c) other locals n word (with_variable other (16 + g) word) locals)
             number (global_writes (around c) other locals (16 + g) word from small);
-        again = λ word. subst (λ n. Reads (around c) (with_variable other (16 + g) word) locals n word) number
-            (subst (λ v. Reads (around c) (with_variable other (16 + g) word) locals (16 + g) v)
+        again = λ word. subst (λ n. ReadsVariable (around c) (with_variable other (16 + g) word) locals n word) number
+            (subst (λ v. ReadsVariable (around c) (with_variable other (16 + g) word) locals (16 + g) v)
             (writes_ground (static_base_of story) other (16 + g) word scratch.ground from small).is
             (global_reads (around c) (with_variable other (16 + g) word) locals (16 + g) from small));
         kept = λ word. (writes_ground (static_base_of story) other (16 + g) word scratch.ground from small).kept;

@@ -14,17 +14,17 @@ use Rattle.zcore.specs.Execution.{perform, give_result}
 use Rattle.meaning.specs.declared.cause.Cause.{Cause}
 use Rattle.meaning.specs.World.{Situation, value_in}
 use Rattle.meaning.specs.World as source
-use Rattle.drafts.specs.Items as items
-use Rattle.items.specs.Stack as stack
-use Rattle.region.specs.Region.{HasObjects, tables_base}
-use Rattle.region.specs.Tables.{Table}
-use Rattle.region.proofs.Frames.{keeps}
-use Rattle.encoding.specs.Addresses.{fault_address}
-use Rattle.encoding.specs.Instructions.{giving, branching, fail, word_in, number_of, store}
+use Rattle.code_values.specs.Items as items
+use Rattle.code_items.specs.Stack as stack
+use Rattle.code_object_memory.specs.Region.{HasObjects, tables_base}
+use Rattle.code_object_memory.specs.Tables.{PropertyTable}
+use Rattle.code_object_memory.proofs.Frames.{keeps}
+use Rattle.code_encoding.specs.Addresses.{fault_address}
+use Rattle.code_encoding.specs.Instructions.{giving, branching, fail, word_in, number_of, store}
 use Rattle.code.proofs.Behind.{Holds}
 use Rattle.code.proofs.Play.{Leads}
 use Rattle.code.proofs.Memory.{word_of, with_variable, length_with, byte_other}
-use Rattle.code.proofs.Parts.{machine as at_words, Reads, global_reads, global_writes}
+use Rattle.code.proofs.Parts.{machine as at_words, global_reads, global_writes, ReadsVariable}
 use Rattle.code.proofs.Steps.{point, leads_then, one_step, first_held, others_held, gives_variable, landing}
 use Rattle.code.proofs.Steps.{variable_value, two_operands, small_value}
 use Rattle.code.proofs.SingleSteps.{branch_here_step}
@@ -44,7 +44,8 @@ module _ (c : Running) where
 
   -- The machine comes to these instructions, the last of an item, with this memory and this of the stack. The words of
   -- objects' properties stand in these tables.
-  pub record Works (tables : List Table) (before rest memory : List ℕ) (q : ℕ) (is : List Instruction) : Type 0 where
+  pub record Works (tables : List PropertyTable) (before rest memory : List ℕ) (q : ℕ)
+      (is : List Instruction) : Type 0 where
     pub scratch : Scratch c memory
     pub has : HasObjects p.objects p.defaults world.objects tables memory
     pub from : here c ≤ q
@@ -54,7 +55,7 @@ module _ (c : Running) where
         (point q world.fuel) (at_words (around c) memory locals rest world.text)
 
   -- the machine comes to a fault
-  pub record Fails (cause : Cause) (before : List ℕ) : Type 0 where
+  pub record FailsWith (cause : Cause) (before : List ℕ) : Type 0 where
     pub rest : List ℕ
     pub memory : List ℕ
     pub q : ℕ
@@ -65,7 +66,7 @@ module _ (c : Running) where
         (point q world.fuel) (at_words (around c) memory locals rest world.text)
 
   pub fault_led : {A : Type 0} (cause : Cause) (before : List ℕ) (next : A → Situation → stack.Next)
-      → Fails cause before
+      → FailsWith cause before
       → LedFrom c before (stack.after_part (source.fault cause (situation_here c)) next)
   fault_led cause before next f =
       fails_led c cause (fault_address a cause) f.q before f.rest f.memory next (cause_line cause)
@@ -78,7 +79,7 @@ module _ (c : Running) where
   same_base n memory scratch = ap (λ t. t + 126 + 14 * n) (defaults_same story memory scratch.stored.header)
 
   -- the objects stay where one of the compiler's variables is written
-  pub objects_with : (tables : List Table) (memory : List ℕ) (v w : ℕ) → Scratch c memory → 248 ≤ v → v < 256
+  pub objects_with : (tables : List PropertyTable) (memory : List ℕ) (v w : ℕ) → Scratch c memory → 248 ≤ v → v < 256
       → HasObjects p.objects p.defaults world.objects tables memory
       → HasObjects p.objects p.defaults world.objects tables (with_variable memory v w)
   objects_with tables memory v w scratch low small has =
@@ -99,9 +100,9 @@ module _ (c : Running) where
       })
 
   pub reads_word : (memory : List ℕ) (v w : ℕ) → 248 ≤ v → v < 256 → word_of memory v ≡ w
-      → Reads (around c) memory locals v w
+      → ReadsVariable (around c) memory locals v w
   reads_word memory v w low small is =
-      subst (λ x. Reads (around c) memory locals v x) is
+      subst (λ x. ReadsVariable (around c) memory locals v x) is
       (global_reads (around c) memory locals v (omega (arith, low)) small)
 
   -- a word is in a variable of the compiler, or is what an operand that is not pushed comes to
@@ -134,7 +135,8 @@ module _ (c : Running) where
   -- Steps
 
   -- an instruction gives a word to one of the compiler's variables
-  pub writes : (tables : List Table) (before rest memory : List ℕ) (q v w : ℕ) (op : Operation) (os : List Operand)
+  pub writes : (tables : List PropertyTable) (before rest memory : List ℕ) (q v w : ℕ) (op : Operation)
+      (os : List Operand)
       (values : List ℕ) (is : List Instruction) → 248 ≤ v → v < 256 → Shaped (giving op os v)
       → operand_values os (at_words (around c) memory locals rest world.text)
       ≡ done values (at_words (around c) memory locals rest world.text)
@@ -165,7 +167,8 @@ module _ (c : Running) where
       }
 
   -- one of them is set to the word of an operand
-  pub sets : (tables : List Table) (before rest memory : List ℕ) (q v w : ℕ) (x : Operand) (is : List Instruction)
+  pub sets : (tables : List PropertyTable) (before rest memory : List ℕ) (q v w : ℕ) (x : Operand)
+      (is : List Instruction)
       → 248 ≤ v → v < 256
       → operand_value x (at_words (around c) memory locals rest world.text)
       ≡ done w (at_words (around c) memory locals rest world.text)

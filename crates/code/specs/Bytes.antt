@@ -1,11 +1,11 @@
 -- Where the items of a routine stand, and their bytes.
 use Rattle.std.specs.Prelude.{◌+◌, ◌-◌, ℕ, List, [], ◌∷◌, ◌++◌, length, map, slice_index}
-use Rattle.forms.specs.declared.layout.Part.{Part}
-use Rattle.forms.specs.Layout.{first, lefts}
-use Rattle.drafts.specs.Items.{Item}
-use Rattle.encoding.specs.Addresses.{Addresses, Sizes}
-use Rattle.selection.specs.ItemBytes.{item_bytes}
-use Rattle.instructions.specs.Places.{target_of, label_size, offset_of}
+use Rattle.code_branch_forms.specs.declared.layout.Part.{Part}
+use Rattle.code_branch_forms.specs.Layout.{first, lefts}
+use Rattle.code_values.specs.Items.{Item}
+use Rattle.code_encoding.specs.Addresses.{Addresses, Sizes}
+use Rattle.code_selection.specs.ItemBytes.{item_bytes}
+use Rattle.code_instructions.specs.Places.{target_of, label_size, offset_of}
 
 -- Where items stand
 

@@ -6,20 +6,21 @@ use Rattle.zcore.specs.declared.instruction.Operand.TheVariants.{Large}
 use Rattle.zcore.specs.declared.instruction.Operation.TheVariants.{Call1n, Quit}
 use Rattle.ztext.specs.Bytes.{word_at}
 use Rattle.zcore.specs.Header.{abbreviations_of, defaults_of, dictionary_of, globals_of, static_base_of}
+use Rattle.zcore.specs.Layout.{header_size, globals_size}
 use Rattle.zcore.specs.Parts.{unpacked}
 use Rattle.ztext.specs.Text.{Holds, encoded}
-use Rattle.ztext.specs.Abbreviations.{abbreviation_at}
+use Rattle.ztext.specs.Abbreviations.{abbreviation_at, most_abbreviations}
 use Rattle.tables.specs.Dictionary.{ReadsKeys}
 use Rattle.meaning.specs.Resolved.{RoutineOf, ProgramOf}
 use Rattle.meaning.specs.Meaning.{routine_at}
 use Rattle.meaning.specs.World.{words_of}
 use Rattle.meaning.specs.Places.{dictionary_place}
 use Rattle.meaning.specs.declared.cause.Cause.{Cause}
-use Rattle.items.specs.Statements.{routine_items}
-use Rattle.region.specs.Laws.{HoldsRows}
-use Rattle.encoding.specs.Addresses.{Addresses, Sizes, fault_address}
-use Rattle.encoding.specs.Instructions.{plain}
-use Rattle.encoding.specs.Bytes.{bytes_of_all}
+use Rattle.code_items.specs.Statements.{routine_items}
+use Rattle.code_object_memory.specs.Laws.{HoldsRows}
+use Rattle.code_encoding.specs.Addresses.{Addresses, Sizes, fault_address}
+use Rattle.code_encoding.specs.Instructions.{plain}
+use Rattle.code_encoding.specs.Bytes.{bytes_of_all}
 use Rattle.code.specs.Bytes.{code_size, code_bytes}
 
 -- the code that calls Main, and then ends the story
@@ -70,20 +71,20 @@ pub record HoldsProgram (story : List ℕ) (a : Addresses) (p : ProgramOf) : Typ
   pub start : Holds story (word_at story 6) (start_code (slice_index a.routines p.main))
   pub start_above : static_base_of story ≤ word_at story 6
   -- 240 words of globals behind the header and below static memory, the source's first
-  pub globals_above : 64 ≤ globals_of story
-  pub globals_below : globals_of story + 480 ≤ static_base_of story
+  pub globals_above : header_size ≤ globals_of story
+  pub globals_below : globals_of story + globals_size ≤ static_base_of story
   pub static_below : static_base_of story ≤ length story
   pub globals : (g : ℕ) → g < length p.globals → word_at story (globals_of story + 2 * g) ≡ slice_index p.globals g
   -- the table of abbreviations, behind the header and below the globals, and the texts of the source's
-  pub table_above : 64 ≤ abbreviations_of story
-  pub table_below : abbreviations_of story + 192 ≤ globals_of story
+  pub table_above : header_size ≤ abbreviations_of story
+  pub table_below : abbreviations_of story + 2 * most_abbreviations ≤ globals_of story
   pub abbreviations : (n : ℕ) → n < length p.abbreviations
       → HoldsAbbreviation story n (abbreviation_at p.abbreviations n)
   -- the arrays, one behind another, behind the globals and below the objects
   pub first_array : ℕ
   pub arrays : Holds story first_array (concat p.arrays)
   pub arrays_each : (n : ℕ) → n < length p.arrays → slice_index a.arrays n ≡ first_array + offset_in p.arrays n
-  pub arrays_above : globals_of story + 480 ≤ first_array
+  pub arrays_above : globals_of story + globals_size ≤ first_array
   pub objects_above : first_array + length (concat p.arrays) ≤ defaults_of story
   -- the objects, below static memory
   pub objects : HoldsRows story p.objects p.defaults

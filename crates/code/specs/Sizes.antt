@@ -1,8 +1,8 @@
 -- How many bytes the routines of a program have in a story.
 use Rattle.std.specs.Prelude.{◌+◌, ℕ, List, [], ◌∷◌}
 use Rattle.meaning.specs.Resolved.{RoutineOf}
-use Rattle.items.specs.Statements.{routine_items}
-use Rattle.encoding.specs.Addresses.{Sizes}
+use Rattle.code_items.specs.Statements.{routine_items}
+use Rattle.code_encoding.specs.Addresses.{Sizes}
 use Rattle.code.specs.Bytes.{code_size}
 
 -- of a program of these sizes

@@ -1,9 +1,9 @@
 -- What the values of the code stand for.
 use Rattle.std.specs.Prelude.{◌+◌, List, [], ◌∷◌, ℕ}
-use Rattle.drafts.specs.Items.{Item}
-use Rattle.drafts.specs.Items as items
-use Rattle.encoding.specs.Addresses.{Sizes}
-use Rattle.instructions.specs.Places.{offset_of}
+use Rattle.code_values.specs.Items.{Item}
+use Rattle.code_values.specs.Items as items
+use Rattle.code_encoding.specs.Addresses.{Sizes}
+use Rattle.code_instructions.specs.Places.{offset_of}
 
 -- the offsets of the branches to labels, of items of which the first has this number
 abbrev pub branch_offsets : (ℕ → ℕ) → ℕ → List Item → List ℕ

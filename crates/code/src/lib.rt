@@ -5,8 +5,8 @@ mod fault;
 mod laws;
 mod routine;
 
-pub use encoding::{Addresses, Sizes};
+pub use code_branch_forms::{BranchUse, Form};
+pub use code_encoding::{Addresses, Sizes};
 pub use fault::CodeFault;
-pub use forms::{BranchUse, Form};
 pub use laws::code_plays;
 pub use routine::{Code, routine_code};

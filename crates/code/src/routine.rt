@@ -1,24 +1,24 @@
 //! The code of a routine.
 
 ghost use Rattle.std.specs.Prelude.{◌≡◌, ◌<◌, reverse, length, IfOk, OnOk};
-ghost use Rattle.forms.specs.Layout.{bytes_limit};
+ghost use Rattle.code_branch_forms.specs.Layout.{bytes_limit};
 ghost use Rattle.meaning.specs.Meaning.{routine_at};
 ghost use Rattle.meaning.specs.Resolved.{program_of};
-ghost use Rattle.drafts.specs.Code.{items_of};
-ghost use Rattle.items.specs.Statements as definitions;
-ghost use Rattle.encoding.specs.Bytes.{Adds};
-ghost use Rattle.encoding.specs.Written.{addresses_of, sizes_in};
+ghost use Rattle.code_values.specs.Code.{items_of};
+ghost use Rattle.code_items.specs.Statements as definitions;
+ghost use Rattle.code_encoding.specs.Bytes.{Adds};
+ghost use Rattle.code_encoding.specs.Written.{addresses_of, sizes_in};
 ghost use Rattle.code.specs.Bytes.{lefts_of, place_of, items_bytes};
 ghost use Rattle.code.specs.Bytes as spec;
 ghost use Rattle.code.specs.HeldProgram.{sizes_of};
 
 use crate::fault::CodeFault;
-use encoding::{Addresses, Sizes};
-use forms::{BranchUse, Part, branches, lay_out};
-use instructions::{label_size, offset_of, place, target_of};
-use items::{Item, routine_items};
+use code_branch_forms::{BranchUse, Part, branches, lay_out};
+use code_encoding::{Addresses, Sizes};
+use code_instructions::{label_size, offset_of, place, target_of};
+use code_items::{Item, routine_items};
+use code_selection::put_item;
 use meaning::Checked;
-use selection::put_item;
 use std::alloc::{AllocError, Global};
 use std::marker::Model;
 
@@ -45,9 +45,9 @@ pub struct Code<'a, 'b> {
 
 impl<'a, 'b> Model for Code<'a, 'b> {
     ghost use Rattle.std.specs.Prelude.{◌≡◌, ◌<◌, ◌+◌, reverse};
-    ghost use Rattle.forms.specs.Layout.{bytes_limit, uses};
-    ghost use Rattle.drafts.specs.Code.{items_of};
-    ghost use Rattle.encoding.specs.Written.{sizes_in};
+    ghost use Rattle.code_branch_forms.specs.Layout.{bytes_limit, uses};
+    ghost use Rattle.code_values.specs.Code.{items_of};
+    ghost use Rattle.code_encoding.specs.Written.{sizes_in};
     ghost use Rattle.code.specs.Bytes.{parts_of, lefts_of, code_size};
     ghost use Rattle.code.specs.Written.{CodeOf};
 
@@ -61,8 +61,9 @@ impl<'a, 'b> Model for Code<'a, 'b> {
         × (code_size (sizes_in c.sizes) (items_of c.items.items) < bytes_limit) };
 }
 
-/// The items as parts that are laid out. They are written once, with no addresses and the shortest branches, and their
-/// bytes are thrown away: an item has as many bytes wherever all stands, but for the form of its branch.
+/// The items as parts that are laid out. They are written once, with no addresses and the shortest
+/// branches, and their bytes are thrown away: an item has as many bytes wherever all stands, but
+/// for the form of its branch.
 fn parts_of(alloc: Global, sizes: &Sizes<'_>, items: &[Item<'_>]) -> Result<Vec<Part>, AllocError>
     ensures parts { IfOk result (λ v.
         v.items ≡ spec.parts_of (sizes_in sizes.now) (items_of items.now)) }
@@ -116,8 +117,11 @@ fn code_of<'a, 'b>(
     sizes: Sizes<'b>,
     items: Vec<Item<'a>>,
 ) -> Result<Code<'a, 'b>, AllocError>
-    ensures { IfOk result (λ c. c
-        ≡ record { locals = locals; sizes = sizes_in sizes.entry; items = items_of items.entry.items }) }
+    ensures { IfOk result (λ c. c ≡ record {
+      locals = locals;
+      sizes = sizes_in sizes.entry;
+      items = items_of items.entry.items;
+    }) }
 {
     let parts = parts_of(alloc, &sizes, &items)?;
     let left = lay_out(alloc, &parts)?;
@@ -164,10 +168,10 @@ pub fn routine_code<'a, 'b>(
 impl Code<'_, '_> {
     ghost use Rattle.std.specs.Prelude.{◌≡◌, ◌+◌, ◌%◌, ◌∷◌, ◌++◌, map, OnOk, OnErr};
     ghost use Rattle.std.specs.List.{All};
-    ghost use Rattle.forms.specs.Layout.{IsShortest};
-    ghost use Rattle.forms.specs.declared.layout.BranchUse.{BranchUse};
-    ghost use Rattle.encoding.specs.Bytes.{Adds};
-    ghost use Rattle.encoding.specs.Written.{addresses_of};
+    ghost use Rattle.code_branch_forms.specs.Layout.{IsShortest};
+    ghost use Rattle.code_branch_forms.specs.declared.layout.BranchUse.{BranchUse};
+    ghost use Rattle.code_encoding.specs.Bytes.{Adds};
+    ghost use Rattle.code_encoding.specs.Written.{addresses_of};
     ghost use Rattle.code.specs.Bytes.{code_size, code_bytes, place_of};
     ghost use Rattle.code.specs.Written.{branch_offsets};
 
@@ -178,10 +182,11 @@ impl Code<'_, '_> {
         self.length
     }
 
-    /// The branches to labels, in order of place, each with its form and its offset; of a far one the offset that two
-    /// bytes of branch data would need. A branch leads from the place of the item after it to its target, which gives
-    /// its offset. It has one byte of branch data exactly where the offset is 2 to 63, two exactly where it is another
-    /// to 8,191, and the far form exactly where two bytes, all else as it is, would not reach.
+    /// The branches to labels, in order of place, each with its form and its offset; of a far one
+    /// the offset that two bytes of branch data would need. A branch leads from the place of the
+    /// item after it to its target, which gives its offset. It has one byte of branch data exactly
+    /// where the offset is 2 to 63, two exactly where it is another to 8,191, and the far form
+    /// exactly where two bytes, all else as it is, would not reach.
     pub fn branches(&self) -> &[BranchUse]
         ensures offsets { map (λ (u : BranchUse). u.offset) result.now
             ≡ branch_offsets (place_of self.now.sizes self.now.items) 0 self.now.items }
@@ -190,8 +195,8 @@ impl Code<'_, '_> {
         &self.branches
     }
 
-    /// Writes the routine behind what is written of a story: how many locals it has, and its code (Z-Machine Standards
-    /// Document 1.1, section 5.2), in as many bytes as its length.
+    /// Writes the routine behind what is written of a story: how many locals it has, and its code
+    /// (Z-Machine Standards Document 1.1, section 5.2), in as many bytes as its length.
     ///
     /// # Errors
     ///

@@ -2,7 +2,8 @@
 
 use std::fmt::{self, Display, Formatter};
 
-/// A file name as a message shows it: on one line, with its control bytes as `\n`, `\t`, `\r`, or else as `\x1b`.
+/// A file name as a message shows it: on one line, with its control bytes as `\n`, `\t`, `\r`, or
+/// else as `\x1b`.
 #[derive(Clone, Copy)]
 pub struct Name<'a>(pub &'a str);
 

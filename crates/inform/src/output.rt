@@ -22,14 +22,15 @@ pub fn is_one_file(rt: &HostRuntime, name: &str, other: &str) -> bool {
     }
 }
 
-/// Writes the regular file that a name leads to whole, or leaves what stands there as it is, as far as the system
-/// allows: the bytes go to a new file beside it, which takes its permissions and then its place. What is no regular
-/// file is opened and written as it stands, and what standard output is open on, through standard output.
+/// Writes the regular file that a name leads to whole, or leaves what stands there as it is, as far
+/// as the system allows: the bytes go to a new file beside it, which takes its permissions and then
+/// its place. What is no regular file is opened and written as it stands, and what standard output
+/// is open on, through standard output.
 ///
 /// # Errors
 ///
-/// The error of the first step that the system refuses; the new file is removed then. A file that may not be written is
-/// refused, also where its folder may be.
+/// The error of the first step that the system refuses; the new file is removed then. A file that
+/// may not be written is refused, also where its folder may be.
 pub fn write_whole(rt: &HostRuntime, name: &str, bytes: &[u8]) -> io::Result<()> {
     match fs::metadata(rt, name) {
         Ok(found) if is_standard_output(rt, &found) => write_to(rt.stdout(), bytes),
@@ -88,7 +89,8 @@ fn end_of_links(rt: &HostRuntime, name: &str) -> io::Result<PathBuf> {
     Err(io::Error::from(ErrorKind::FilesystemLoop))
 }
 
-/// Puts a new file of these bytes in the place of a path, with these permissions, or else those of every new file.
+/// Puts a new file of these bytes in the place of a path, with these permissions, or else those of
+/// every new file.
 fn replace(
     rt: &HostRuntime,
     path: &PathBuf,

@@ -48,7 +48,8 @@ pub fn command<'a>(alloc: Global) -> Result<Command<'a>, AllocError> {
         .arg(story)
 }
 
-/// What the words of a command line that passed `command` ask for; `None` where they name another version than 5 and 8.
+/// What the words of a command line that passed `command` ask for; `None` where they name another
+/// version than 5 and 8.
 pub fn words_of<'a>(matches: &ArgMatches<'a>) -> Option<Words<'a>> {
     let version = match matches.get_one::<u32>("version_number") {
         None | Some(5) => Version::V5,

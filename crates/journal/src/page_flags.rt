@@ -6,9 +6,9 @@ ghost use Rattle.journal.specs.Pages.{IsMarkedAs};
 use std::alloc::{AllocError, Global};
 use std::marker::Model;
 
-/// For how many pages flags stand in place: those of frames, stack and the memory in front, in a store of the Z-machine. Where
-/// the compiler knows that a page is one of them, it need not ask for a length. With more of them in place a session takes
-/// longer to make.
+/// For how many pages flags stand in place: those of frames, stack and the memory in front, in a
+/// store of the Z-machine. Where the compiler knows that a page is one of them, it need not ask for
+/// a length. With more of them in place a session takes longer to make.
 const IN_PLACE: usize = 1_728;
 
 /// Of each page, whether it is kept. Pages behind the last flag are not kept.

@@ -10,7 +10,8 @@ use crate::cells::Cells;
 use crate::recorded::read_page;
 use std::marker::Model;
 
-/// How many cells a whole page has. Page n of a store is its cells 64n to 64n + 63, as far as they exist.
+/// How many cells a whole page has. Page n of a store is its cells 64n to 64n + 63, as far as they
+/// exist.
 pub const PAGE: usize = 64;
 
 /// What a turn overwrote: whole pages of a store, as they were when the turn began.
@@ -56,8 +57,8 @@ impl Record {
     }
 }
 
-/// Takes a turn back: exchanges the turn's values with the store's, from the last to the first.
-/// The turn's record then holds what the store held, so that `swap_forward` undoes this. It takes no
+/// Takes a turn back: exchanges the turn's values with the store's, from the last to the first. The
+/// turn's record then holds what the store held, so that `swap_forward` undoes this. It takes no
 /// memory and always succeeds.
 pub fn swap_back<C: Cells>(store: &mut C, turn: &mut Record)
     requires { FitsIn C.Cells store.old turn.old }
@@ -73,8 +74,8 @@ pub fn swap_back<C: Cells>(store: &mut C, turn: &mut Record)
 }
 
 /// Does a turn again that was taken back: exchanges the turn's values with the store's, from the
-/// first to the last. The turn's record then holds what the store held, so that `swap_back` undoes this.
-/// It takes no memory and always succeeds.
+/// first to the last. The turn's record then holds what the store held, so that `swap_back` undoes
+/// this. It takes no memory and always succeeds.
 pub fn swap_forward<C: Cells>(store: &mut C, turn: &mut Record)
     requires { FitsIn C.Cells store.old turn.old }
     ensures cells { GoesForward C.Cells store.old store.new turn.old }
@@ -99,8 +100,9 @@ pub(crate) fn page_size(len: usize, page: usize) -> usize
     if left < PAGE { left } else { PAGE }
 }
 
-/// The cell at an offset in a page. The remainder is the offset itself: by it the compiler sees that cells which differ
-/// in the offset alone are of one page, so that what a store asks of the page is asked once for all of them.
+/// The cell at an offset in a page. The remainder is the offset itself: by it the compiler sees
+/// that cells which differ in the offset alone are of one page, so that what a store asks of the
+/// page is asked once for all of them.
 #[inline(always)]
 pub(crate) fn cell_of(page: usize, offset: usize) -> usize
     requires offset { offset < whole_page }
@@ -110,8 +112,8 @@ pub(crate) fn cell_of(page: usize, offset: usize) -> usize
     page * PAGE + offset % PAGE
 }
 
-/// Exchanges a value with that of the cell at an offset in a page, which is given too. Most cells of a page have the
-/// same value still, and to compare costs less than to write.
+/// Exchanges a value with that of the cell at an offset in a page, which is given too. Most cells
+/// of a page have the same value still, and to compare costs less than to write.
 #[inline(always)]
 fn exchange<C: Cells>(store: &mut C, page: usize, offset: usize, held: u16, value: &mut u16)
     requires offset { offset < whole_page }
@@ -132,8 +134,9 @@ fn exchange<C: Cells>(store: &mut C, page: usize, offset: usize, held: u16, valu
     }
 }
 
-/// Exchanges the values of a page with those of its first cells, from the last to the first. The values are a slice, so
-/// that where they lie is read once for the page: behind a reference to a vector it would be read for each cell.
+/// Exchanges the values of a page with those of its first cells, from the last to the first. The
+/// values are a slice, so that where they lie is read once for the page: behind a reference to a
+/// vector it would be read for each cell.
 #[inline(always)]
 fn exchange_back<C: Cells>(store: &mut C, page: usize, values: &mut [u16])
     requires page { length values.old ≤ whole_page }
@@ -158,7 +161,8 @@ fn exchange_back<C: Cells>(store: &mut C, page: usize, values: &mut [u16])
     }
 }
 
-/// Exchanges the values of a page with those of its first cells, from the first to the last; a slice for the same reason.
+/// Exchanges the values of a page with those of its first cells, from the first to the last; a
+/// slice for the same reason.
 #[inline(always)]
 fn exchange_forward<C: Cells>(store: &mut C, page: usize, values: &mut [u16])
     requires page { length values.old ≤ whole_page }

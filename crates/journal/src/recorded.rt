@@ -22,7 +22,8 @@ use thiserror::Error;
 #[error("J1")]
 pub struct NoMemory;
 
-/// For how many pages a turn makes room when it keeps the first: a turn that reads a line and prints keeps three.
+/// For how many pages a turn makes room when it keeps the first: a turn that reads a line and
+/// prints keeps three.
 const FIRST_PAGES: usize = 4;
 
 /// A store whose writes are recorded, turn by turn. Before the first write of a turn to a page, the
@@ -117,8 +118,9 @@ impl<C: Cells> Recorded<C> {
         Ok(())
     }
 
-    /// Writes a value, which is within the cell's bound, into a cell if the turn keeps the cell's page, and says whether
-    /// it does. It takes no memory and keeps no page: where it answers `false`, nothing has changed.
+    /// Writes a value, which is within the cell's bound, into a cell if the turn keeps the cell's
+    /// page, and says whether it does. It takes no memory and keeps no page: where it answers
+    /// `false`, nothing has changed.
     #[inline(always)]
     pub fn put_kept(&mut self, cell: usize, value: u16) -> bool
         requires cell { cell < length (C.cells self.old.store) }
@@ -138,7 +140,8 @@ impl<C: Cells> Recorded<C> {
         true
     }
 
-    /// Writes a value, which is within the cell's bound, into a cell of a page that the turn keeps. It takes no memory.
+    /// Writes a value, which is within the cell's bound, into a cell of a page that the turn keeps.
+    /// It takes no memory.
     #[inline(always)]
     pub fn overwrite(&mut self, cell: usize, value: u16)
         requires cell { cell < length (C.cells self.old.store) }
@@ -153,8 +156,8 @@ impl<C: Cells> Recorded<C> {
         self.store.put(cell, value);
     }
 
-    /// Whether the turn keeps a page: `put` then takes no memory there, and `put_kept` writes. Page n has the cells
-    /// from `PAGE` times n on.
+    /// Whether the turn keeps a page: `put` then takes no memory there, and `put_kept` writes. Page
+    /// n has the cells from `PAGE` times n on.
     #[inline(always)]
     pub fn is_kept(&self, page: usize) -> bool
         ensures { result ≡ keeps self.now.kept page }
@@ -239,9 +242,9 @@ impl<C: Cells> Recorded<C> {
     }
 }
 
-/// Appends the values of the first cells of a page. At `Err` nothing is appended. They are gathered in an array first,
-/// since a loop that writes to a vector behind a reference takes twice the time. Room for the first page is room for
-/// `FIRST_PAGES`, as few turns keep less.
+/// Appends the values of the first cells of a page. At `Err` nothing is appended. They are gathered
+/// in an array first, since a loop that writes to a vector behind a reference takes twice the time.
+/// Room for the first page is room for `FIRST_PAGES`, as few turns keep less.
 fn copy_page<C: Cells>(
     store: &C,
     page: usize,
@@ -263,8 +266,9 @@ fn copy_page<C: Cells>(
     values.extend_from_slice(&cells[..count])
 }
 
-/// Writes the values of the first cells of a page to the front of an array. The loop ends by `!=`: where the compiler
-/// knows that the offsets are below `PAGE`, it drops the remainder in `cell_of` before it has used it.
+/// Writes the values of the first cells of a page to the front of an array. The loop ends by `!=`:
+/// where the compiler knows that the offsets are below `PAGE`, it drops the remainder in `cell_of`
+/// before it has used it.
 pub(crate) fn read_page<C: Cells>(store: &C, page: usize, count: usize, cells: &mut [u16; PAGE])
     requires cells { page * whole_page + count ≤ length (C.cells store.now) }
     requires page { count ≤ whole_page }

@@ -4,9 +4,9 @@ use Rattle.zcore.specs.declared.header.Header.{Header}
 use Rattle.zcore.specs.Header.{Reads}
 use Rattle.zcore.specs.State.{State}
 use Rattle.zcore.specs.Turn.{first_state}
-use Rattle.frames.specs.Contents.{Contents, memory_of}
+use Rattle.machine_frames.specs.Contents.{Contents, memory_of}
 use Rattle.machine.specs.Loaded.{IsLoaded}
-use Rattle.frames.specs.States.{state_of, IsSound, IsHeadedBy}
+use Rattle.machine_frames.specs.States.{state_of, IsSound, IsHeadedBy}
 use Rattle.machine.specs.declared.turn.Machine.{Machine}
 
 headed_by : (story : List ℕ) (header : Header) → Reads story (Ok header) → IsHeadedBy header story

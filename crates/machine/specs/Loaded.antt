@@ -3,8 +3,8 @@ use Rattle.std.specs.Prelude.{◌≡◌, ℕ, List, [], Result, Ok, Err}
 use Rattle.zcore.specs.Header.{Reads}
 use Rattle.zcore.specs.Turn.{first_state}
 use Rattle.zcore.specs.declared.header.Header.{Header}
-use Rattle.frames.specs.Contents.{Contents}
-use Rattle.frames.specs.States.{state_of, IsStoreOf}
+use Rattle.machine_frames.specs.Contents.{Contents}
+use Rattle.machine_frames.specs.States.{state_of, IsStoreOf}
 use Rattle.machine.specs.declared.turn.Machine.{Machine}
 use Rattle.machine.specs.declared.load.LoadFault.{LoadFault}
 use Rattle.machine.specs.declared.load.LoadFault.TheVariants as faults

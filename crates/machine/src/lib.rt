@@ -4,7 +4,7 @@
 mod load;
 mod turn;
 
-pub use frames::Store;
 pub use load::LoadFault;
+pub use machine_frames::Store;
 pub use turn::Machine;
 pub use zcore::{Fault, Limit, Place};

@@ -4,7 +4,7 @@ ghost use Rattle.std.specs.Prelude.{◌≡◌};
 ghost use Rattle.machine.specs.Loaded.{Loads};
 
 use crate::turn::Machine;
-use frames::Store;
+use machine_frames::Store;
 use std::alloc::Global;
 use thiserror::Error;
 use zcore::{Header, HeaderFault};
@@ -22,7 +22,8 @@ pub enum LoadFault {
 }
 
 impl Machine {
-    /// The machine of a story file, and the store with which it begins. The story's bytes are not changed.
+    /// The machine of a story file, and the store with which it begins. The story's bytes are not
+    /// changed.
     ///
     /// # Errors
     ///

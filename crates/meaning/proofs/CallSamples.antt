@@ -5,8 +5,8 @@ use Rattle.zcore.specs.Arithmetic.{signed_text, decimal, quotient, remainder}
 use Rattle.zcore.specs.declared.place.Place.TheVariants as places
 use Rattle.zcore.specs.declared.place.Limit.{Limit}
 use Rattle.zcore.specs.declared.place.Limit.TheVariants as limits
-use Rattle.expression_trees.specs.declared.tree.Binary.TheVariants as op
-use Rattle.expression_trees.specs.declared.tree.Width.TheVariants as widths
+use Rattle.syntax_trees.specs.declared.tree.Binary.TheVariants as op
+use Rattle.syntax_trees.specs.declared.tree.Width.TheVariants as widths
 use Rattle.meaning.specs.declared.resolved.Variable.TheVariants as variables
 use Rattle.meaning.specs.Resolved.{Action, Printed, ProgramOf, number, read, call, binary, assign, entry, assign_entry}
 use Rattle.meaning.specs.Resolved.{none, more, text, number_of, actions_of, print, return_value, effect}

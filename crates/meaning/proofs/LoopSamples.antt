@@ -4,9 +4,9 @@ use Rattle.std.specs.Prelude.{codes}
 use Rattle.zcore.specs.Arithmetic.{signed_text, decimal, quotient, remainder}
 use Rattle.zcore.specs.declared.place.Place.TheVariants as places
 use Rattle.zcore.specs.declared.place.Limit.TheVariants as limits
-use Rattle.expression_trees.specs.declared.tree.Comparison.TheVariants as comparison
-use Rattle.expression_trees.specs.declared.tree.Equality.TheVariants as equality
-use Rattle.expression_trees.specs.declared.tree.Step.TheVariants as steps
+use Rattle.syntax_trees.specs.declared.tree.Comparison.TheVariants as comparison
+use Rattle.syntax_trees.specs.declared.tree.Equality.TheVariants as equality
+use Rattle.syntax_trees.specs.declared.tree.Step.TheVariants as steps
 use Rattle.meaning.specs.declared.resolved.Variable.TheVariants as variables
 use Rattle.meaning.specs.Resolved.{Value, Action, ProgramOf, number, read, step_after, compare, equal, none, more, text}
 use Rattle.meaning.specs.Resolved.{number_of, one, between, actions_of, block, print, while_do, do_until, for_loop}

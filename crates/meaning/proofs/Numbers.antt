@@ -3,7 +3,7 @@ use Rattle.std.proofs.Common.{◌≡◌, ◌+◌, ◌%◌, ◌==◌, ℕ, Bool, 
 use Rattle.std.specs.Prelude.{if◌then◌else◌}
 use Rattle.std.proofs.Math.Path.{fun_ext}
 use Rattle.std.proofs.lemmas.Bool.{ltb-false, ltb-true}
-use Rattle.tables.specs.Dictionary.{key_number, place_in}
+use Rattle.tables.specs.KeyNumbers.{key_number, place_in}
 use Rattle.meaning.specs.Places.{folded}
 use Rattle.meaning.proofs.Folding.{fold_small, fold_great}
 

@@ -4,9 +4,9 @@ use Rattle.std.specs.Prelude.{codes, replicate}
 use Rattle.zcore.specs.Arithmetic.{signed_text, decimal, quotient, remainder}
 use Rattle.zcore.specs.declared.place.Place.TheVariants as places
 use Rattle.zcore.specs.declared.place.Limit.TheVariants as limits
-use Rattle.expression_trees.specs.declared.tree.Containment.TheVariants as containment
-use Rattle.expression_trees.specs.declared.tree.Equality.TheVariants as equality
-use Rattle.expression_trees.specs.declared.tree.Relative.TheVariants as relatives
+use Rattle.syntax_trees.specs.declared.tree.Containment.TheVariants as containment
+use Rattle.syntax_trees.specs.declared.tree.Equality.TheVariants as equality
+use Rattle.syntax_trees.specs.declared.tree.Relative.TheVariants as relatives
 use Rattle.meaning.specs.declared.cause.Cause.TheVariants as causes
 use Rattle.meaning.specs.declared.resolved.Variable.TheVariants as variables
 use Rattle.meaning.specs.Objects.{ObjectOf}

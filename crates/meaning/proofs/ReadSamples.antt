@@ -8,7 +8,7 @@ use Rattle.zcore.specs.Arithmetic.{signed_text, decimal, quotient, remainder}
 use Rattle.zcore.specs.Cutting.{words_of}
 use Rattle.zcore.specs.Dictionary.{number_of_key}
 use Rattle.zcore.specs.declared.place.Place.TheVariants as places
-use Rattle.expression_trees.specs.declared.tree.Step.TheVariants as steps
+use Rattle.syntax_trees.specs.declared.tree.Step.TheVariants as steps
 use Rattle.meaning.specs.declared.resolved.Variable.TheVariants as variables
 use Rattle.meaning.specs.Objects.{first_objects}
 use Rattle.meaning.specs.Resolved.{Action, ProgramOf, number, read, step_after, text, number_of, actions_of, block}

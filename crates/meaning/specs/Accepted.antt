@@ -5,9 +5,10 @@ use Rattle.std.specs.Prelude.{◌≡◌, ◌≢◌, ◌+◌, ◌^◌, ◌<◌, �
 use Rattle.std.specs.List.{All}
 use Rattle.std.specs.List.Sorted.{IsStrictlyIncreasing}
 use Rattle.ztext.specs.Abbreviations.{most_abbreviations}
+use Rattle.zcore.specs.Layout.{attribute_count, default_count, most_locals}
 use Rattle.meaning.specs.declared.resolved.Variable.{Variable}
 use Rattle.meaning.specs.declared.resolved.Variable.TheVariants as variables
-use Rattle.meaning.specs.Operands.{operands}
+use Rattle.meaning.specs.Limits.{operands}
 use Rattle.meaning.specs.Resolved.{Value, Values, number, read, call, prefixed, step_before, step_after, binary}
 use Rattle.meaning.specs.Resolved.{compare, equal, assign, entry, assign_entry, relative, contained, has, provides}
 use Rattle.meaning.specs.Resolved.{property, property_size, property_word, assign_property, assign_property_word}
@@ -21,6 +22,8 @@ use Rattle.meaning.specs.Places.{name_words}
 use Rattle.meaning.specs.Meaning.{routine_at}
 use Rattle.meaning.specs.declared.around.Around.{Around}
 use Rattle.meaning.specs.Around.{outside, in_loop, in_switch}
+use Rattle.meaning.specs.Limits.{longest_short_name, most_arguments, most_globals, most_objects, most_property_words}
+use Rattle.meaning.specs.Limits.{most_temporaries, most_array_bytes}
 
 abbrev pub count_of : Values → ℕ
 count_of none = 0
@@ -57,7 +60,7 @@ abbrev mutual
 
 -- properties are numbered from 1 to 63
 abbrev pub IsProperty : ℕ → Type 0
-IsProperty n = (1 ≤ n) × (n ≤ 63)
+IsProperty n = (1 ≤ n) × (n ≤ default_count)
 
 -- in a routine with so many locals of this program
 module _ (p : ProgramOf) (locals : ℕ) where
@@ -69,7 +72,7 @@ module _ (p : ProgramOf) (locals : ℕ) where
     pub IsValue : Value → Type 0
     IsValue (number n) = Unit {0}
     IsValue (read x) = IsVariable x
-    IsValue (call r vs) = (r < length p.routines) × (count_of vs ≤ 7)
+    IsValue (call r vs) = (r < length p.routines) × (count_of vs ≤ most_arguments)
         × (count_of vs ≤ (routine_at p.routines r).locals) × AreValues vs
     IsValue (prefixed op v) = IsValue v
     IsValue (step_before op x) = IsVariable x
@@ -82,7 +85,7 @@ module _ (p : ProgramOf) (locals : ℕ) where
     IsValue (assign_entry width a i v) = (a < length p.arrays) × IsValue i × IsValue v
     IsValue (relative r v) = IsValue v
     IsValue (contained op a b) = IsValue a × IsValue b
-    IsValue (has positive v a) = (a < 48) × IsValue v
+    IsValue (has positive v a) = (a < attribute_count) × IsValue v
     IsValue (provides v n) = IsProperty n × IsValue v
     IsValue (property v n) = IsProperty n × IsValue v
     IsValue (property_size v n) = IsProperty n × IsValue v
@@ -96,7 +99,7 @@ module _ (p : ProgramOf) (locals : ℕ) where
 
   -- a whole expression of a statement or an item
   abbrev pub IsWhole : Value → Type 0
-  IsWhole v = IsValue v × (need_of v ≤ 48)
+  IsWhole v = IsValue v × (need_of v ≤ most_temporaries)
 
   -- a part of a `for`
   abbrev pub IsPart : Option Value → Type 0
@@ -126,8 +129,8 @@ module _ (p : ProgramOf) (locals : ℕ) where
     IsAction break_out = Unit {0}
     IsAction continue_on = Unit {0}
     IsAction (read_line a b) = (a < length p.arrays) × (b < length p.arrays) × (a ≢ b)
-    IsAction (give_to v changes) = IsWhole v × All (λ (c : Bool × ℕ). c.1 < 48) changes
-    IsAction (move_to v w) = IsValue v × IsValue w × (operands 0 (need_of v ∷ need_of w ∷ []) ≤ 48)
+    IsAction (give_to v changes) = IsWhole v × All (λ (c : Bool × ℕ). c.1 < attribute_count) changes
+    IsAction (move_to v w) = IsValue v × IsValue w × (operands 0 (need_of v ∷ need_of w ∷ []) ≤ most_temporaries)
     IsAction (remove_from v) = IsWhole v
     IsAction (each_object x a) = IsVariable x × IsAction a
     IsAction (each_where x v a) = IsVariable x × IsWhole v × IsAction a
@@ -172,24 +175,25 @@ abbrev mutual
   CasesStandIn around (case gs xs rest) = AllStandIn around xs × CasesStandIn around rest
 
 abbrev pub IsRoutine : ProgramOf → RoutineOf → Type 0
-IsRoutine p r = (r.locals ≤ 15) × AreActions p r.locals r.body × AllStandIn outside r.body
+IsRoutine p r = (r.locals ≤ most_locals) × AreActions p r.locals r.body × AllStandIn outside r.body
 
 abbrev pub IsArray : List ℕ → Type 0
-IsArray bytes = length bytes ≤ 32000
+IsArray bytes = length bytes ≤ most_array_bytes
 
 -- an object's parent stands earlier; its name, attributes and properties are within their limits
 pub record IsObject (o : ObjectOf) (earlier : ℕ) : Type 0 where
   pub parent : o.parent ≤ earlier
-  pub name : name_words o.name ≤ 255
-  pub attributes : All (λ a. a < 48) o.attributes
+  pub name : name_words o.name ≤ longest_short_name
+  pub attributes : All (λ a. a < attribute_count) o.attributes
   pub numbers : All (λ (x : ℕ × List ℕ). IsProperty x.0) o.properties
-  pub words : All (λ (x : ℕ × List ℕ). (1 ≤ length x.1) × (length x.1 ≤ 32) × All (λ w. w < 65536) x.1) o.properties
+  pub words : All (λ (x : ℕ × List ℕ). (1 ≤ length x.1) × (length x.1 ≤ most_property_words) × All (λ w. w < 65536) x.1)
+      o.properties
 
 pub record IsAccepted (p : ProgramOf) : Type 0 where
-  pub globals : length p.globals ≤ 232
+  pub globals : length p.globals ≤ most_globals
   pub arrays : All IsArray p.arrays
-  pub defaults : (length p.defaults ≡ 63) × All (λ w. w < 65536) p.defaults
-  pub few : length p.objects ≤ 2000
+  pub defaults : (length p.defaults ≡ default_count) × All (λ w. w < 65536) p.defaults
+  pub few : length p.objects ≤ most_objects
   pub objects : (k : ℕ) → k < length p.objects → IsObject (object_at p.objects (k + 1)) k
   pub routines : All (IsRoutine p) p.routines
   pub main : p.main < length p.routines

@@ -1,3 +1,4 @@
+pub mod Limits
 pub mod Objects
 pub mod Forests
 pub mod Resolved
@@ -5,8 +6,9 @@ pub mod World
 pub mod Reading
 pub mod Places
 pub mod Meaning
+pub mod Plays
 pub mod Sizes
-pub mod Operands
+pub mod CheckedSizes
 pub mod Around
 pub mod Accepted
 pub mod Printable

@@ -8,19 +8,19 @@ use Rattle.zcore.specs.Arithmetic.{quotient, remainder, signed_less, signed_text
 use Rattle.zcore.specs.Parts.{transcribed}
 use Rattle.zcore.specs.declared.place.Place.TheVariants as places
 use Rattle.zcore.specs.declared.place.Limit.TheVariants as limits
-use Rattle.expression_trees.specs.declared.tree.Binary.{Binary}
-use Rattle.expression_trees.specs.declared.tree.Binary.TheVariants as op
-use Rattle.expression_trees.specs.declared.tree.Containment.{Containment}
-use Rattle.expression_trees.specs.declared.tree.Containment.TheVariants as containment
-use Rattle.expression_trees.specs.declared.tree.Relative.TheVariants as relatives
-use Rattle.expression_trees.specs.declared.tree.Comparison.{Comparison}
-use Rattle.expression_trees.specs.declared.tree.Comparison.TheVariants as comparison
-use Rattle.expression_trees.specs.declared.tree.Equality.{Equality}
-use Rattle.expression_trees.specs.declared.tree.Equality.TheVariants as equality
-use Rattle.expression_trees.specs.declared.tree.Prefix.{Prefix}
-use Rattle.expression_trees.specs.declared.tree.Prefix.TheVariants as prefix
-use Rattle.expression_trees.specs.declared.tree.Step.{Step}
-use Rattle.expression_trees.specs.declared.tree.Step.TheVariants as steps
+use Rattle.syntax_trees.specs.declared.tree.Binary.{Binary}
+use Rattle.syntax_trees.specs.declared.tree.Binary.TheVariants as op
+use Rattle.syntax_trees.specs.declared.tree.Containment.{Containment}
+use Rattle.syntax_trees.specs.declared.tree.Containment.TheVariants as containment
+use Rattle.syntax_trees.specs.declared.tree.Relative.TheVariants as relatives
+use Rattle.syntax_trees.specs.declared.tree.Comparison.{Comparison}
+use Rattle.syntax_trees.specs.declared.tree.Comparison.TheVariants as comparison
+use Rattle.syntax_trees.specs.declared.tree.Equality.{Equality}
+use Rattle.syntax_trees.specs.declared.tree.Equality.TheVariants as equality
+use Rattle.syntax_trees.specs.declared.tree.Prefix.{Prefix}
+use Rattle.syntax_trees.specs.declared.tree.Prefix.TheVariants as prefix
+use Rattle.syntax_trees.specs.declared.tree.Step.{Step}
+use Rattle.syntax_trees.specs.declared.tree.Step.TheVariants as steps
 use Rattle.meaning.specs.declared.cause.Cause.TheVariants as causes
 use Rattle.meaning.specs.Resolved.{Value, Values, number, read, call, prefixed, step_before, step_after, binary}
 use Rattle.meaning.specs.Resolved.{compare, equal, assign, entry, assign_entry, relative, contained, has, provides}

@@ -3,8 +3,8 @@
 use Rattle.std.specs.Prelude.{◌==◌, ◌&&◌, ℕ, zero, suc, Bool, if◌then◌else◌, List, [], ◌∷◌, Option, Some, None}
 use Rattle.std.specs.Prelude.{slice_index_or}
 use Rattle.std.specs.List.{list_any}
-use Rattle.expression_trees.specs.declared.tree.Relative.{Relative}
-use Rattle.expression_trees.specs.declared.tree.Relative.TheVariants as relatives
+use Rattle.syntax_trees.specs.declared.tree.Relative.{Relative}
+use Rattle.syntax_trees.specs.declared.tree.Relative.TheVariants as relatives
 
 -- The tree: the parent of each object, 0 for none, and the list of its children.
 pub record Tree : Type 0 where

@@ -5,9 +5,10 @@
 --     texts of abbreviations; and the code that begins the story, with which high memory begins.
 use Rattle.std.specs.Prelude.{◌+◌, ◌*◌, ◌/◌, ◌%◌, ◌==◌, ℕ, nat_lt, if◌then◌else◌, List, [], ◌∷◌, length, map}
 use Rattle.std.specs.List.{concat}
-use Rattle.tables.specs.Dictionary.{key_number}
+use Rattle.tables.specs.KeyNumbers.{key_number, head_size, entry_size}
 use Rattle.ztext.specs.Abbreviations.{most_abbreviations}
 use Rattle.ztext.specs.Text.{encoded}
+use Rattle.zcore.specs.Layout.{defaults_size, globals_size, header_size, object_entry_size}
 use Rattle.meaning.specs.Objects.{ObjectOf}
 use Rattle.meaning.specs.Resolved.{ProgramOf}
 use Rattle.meaning.specs.declared.places.Places.{Places}
@@ -19,20 +20,11 @@ folded n = if nat_lt n 65536 then n else 65536 + n % 65536
 
 -- How much there is of each part
 
-abbrev pub header_size : ℕ
-header_size = 64
-
 abbrev pub empty_text_size : ℕ
 empty_text_size = 2
 
-abbrev pub global_count : ℕ
-global_count = 240
-
 abbrev pub arrays_size : ProgramOf → ℕ
 arrays_size p = length (concat p.arrays)
-
-abbrev pub default_count : ℕ
-default_count = 63
 
 abbrev pub object_count : ProgramOf → ℕ
 object_count p = length p.objects
@@ -63,7 +55,7 @@ table_size o = 1 + 2 * name_words o.name + total (map property_size o.properties
 
 -- the entries of objects, and their property tables
 abbrev pub objects_size : List ObjectOf → ℕ
-objects_size os = 14 * length os + total (map table_size os)
+objects_size os = object_entry_size * length os + total (map table_size os)
 
 abbrev pub properties_size : ProgramOf → ℕ
 properties_size p = total (map table_size p.objects)
@@ -93,19 +85,19 @@ abbrev pub globals_place : ℕ
 globals_place = empty_text_place + empty_text_size
 
 abbrev pub arrays_place : ℕ
-arrays_place = globals_place + 2 * global_count
+arrays_place = globals_place + globals_size
 
 abbrev pub defaults_place : ProgramOf → ℕ
 defaults_place p = arrays_place + arrays_size p
 
 abbrev pub properties_place : ProgramOf → ℕ
-properties_place p = defaults_place p + 2 * default_count + 14 * object_count p
+properties_place p = defaults_place p + defaults_size + object_entry_size * object_count p
 
 abbrev pub dictionary_place : ProgramOf → ℕ
 dictionary_place p = properties_place p + properties_size p
 
 abbrev pub dictionary_end : ProgramOf → ℕ
-dictionary_end p = dictionary_place p + (7 + 9 * key_count p)
+dictionary_end p = dictionary_place p + (head_size + entry_size * key_count p)
 
 -- the table of abbreviations holds addresses halved (Z-Machine Standards Document 1.1, section 3.3), so a byte stands
 -- before the texts where the dictionary ends at an odd one

@@ -3,7 +3,7 @@
 use Rattle.std.specs.Prelude.{◌≡◌, ℕ, List, true}
 use Rattle.std.specs.List.{All, list_all}
 use Rattle.ztext.specs.Alphabets.{is_printable}
-use Rattle.lexer.specs.Printable.{IsPrintable}
+use Rattle.syntax_lexer.specs.Printable.{IsPrintable}
 use Rattle.meaning.specs.Resolved.{Printed, text, character_of, number_of, Action, Actions, CasesOf, empty, block}
 use Rattle.meaning.specs.Resolved.{name_of, give_to, move_to, remove_from, each_object, each_where, each_in, text_alone}
 use Rattle.meaning.specs.Resolved.{print, print_return, new_line, if_then, if_else, while_do, do_until, for_loop}

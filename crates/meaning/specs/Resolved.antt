@@ -3,15 +3,15 @@ use Rattle.std.specs.Prelude.{◌≡◌, ℕ, Bool, List, [], ◌∷◌, length,
 use Rattle.std.specs.Global.{Box, Vec}
 use Rattle.std.specs.List.{concat}
 use Rattle.std.specs.Option.{option_map}
-use Rattle.expression_trees.specs.declared.tree.Binary.{Binary}
-use Rattle.expression_trees.specs.declared.tree.Comparison.{Comparison}
-use Rattle.expression_trees.specs.declared.tree.Equality.{Equality}
-use Rattle.expression_trees.specs.declared.tree.Containment.{Containment}
-use Rattle.expression_trees.specs.declared.tree.Prefix.{Prefix}
-use Rattle.expression_trees.specs.declared.tree.Relative.{Relative}
-use Rattle.expression_trees.specs.declared.tree.Step.{Step}
-use Rattle.expression_trees.specs.declared.tree.Width.{Width}
-use Rattle.expression_trees.specs.Tree.{NameTree, name_tree}
+use Rattle.syntax_trees.specs.declared.tree.Binary.{Binary}
+use Rattle.syntax_trees.specs.declared.tree.Comparison.{Comparison}
+use Rattle.syntax_trees.specs.declared.tree.Equality.{Equality}
+use Rattle.syntax_trees.specs.declared.tree.Containment.{Containment}
+use Rattle.syntax_trees.specs.declared.tree.Prefix.{Prefix}
+use Rattle.syntax_trees.specs.declared.tree.Relative.{Relative}
+use Rattle.syntax_trees.specs.declared.tree.Step.{Step}
+use Rattle.syntax_trees.specs.declared.tree.Width.{Width}
+use Rattle.syntax_trees.specs.Tree.{NameTree, name_tree}
 use Rattle.meaning.specs.Objects.{ObjectOf}
 use Rattle.meaning.specs.declared.resolved.Span.{Span}
 use Rattle.meaning.specs.declared.resolved.Span.TheVariants as spans

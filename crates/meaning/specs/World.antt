@@ -8,9 +8,10 @@ use Rattle.zcore.specs.declared.place.Place.{Place}
 use Rattle.zcore.specs.declared.place.Place.TheVariants as places
 use Rattle.zcore.specs.declared.place.Limit.TheVariants as limits
 use Rattle.zcore.specs.Turn.{notice}
-use Rattle.expression_trees.specs.declared.tree.Relative.{Relative}
-use Rattle.expression_trees.specs.declared.tree.Width.{Width}
-use Rattle.expression_trees.specs.declared.tree.Width.TheVariants as widths
+use Rattle.zcore.specs.Layout.{text_limit}
+use Rattle.syntax_trees.specs.declared.tree.Relative.{Relative}
+use Rattle.syntax_trees.specs.declared.tree.Width.{Width}
+use Rattle.syntax_trees.specs.declared.tree.Width.TheVariants as widths
 use Rattle.meaning.specs.declared.cause.Cause.{Cause}
 use Rattle.meaning.specs.declared.cause.Cause.TheVariants as causes
 use Rattle.meaning.specs.Objects.{Objects, Tree, Climbed, clear, inside, spent, climb, relative_in, removed, moved}
@@ -75,9 +76,9 @@ ends place s = over (ended place s.world)
 -- at most 65,536 bytes in a turn; those that fit stand
 abbrev pub put : List ℕ → Part (Unit {0})
 put bytes s =
-    if nat_le (length (s.world.text ++ bytes)) 65536
+    if nat_le (length (s.world.text ++ bytes)) text_limit
     then to tt (record s { world = record (s.world) { text = s.world.text ++ bytes } })
-    else over (ended (places.Limit limits.Text) (record (s.world) { text = take 65536 (s.world.text ++ bytes) }))
+    else over (ended (places.Limit limits.Text) (record (s.world) { text = take text_limit (s.world.text ++ bytes) }))
 
 -- what stands between the quotes of a text: `^` is a new line, `~` a double quote
 abbrev pub shown : ℕ → ℕ

@@ -3,8 +3,8 @@
 ghost use Rattle.std.specs.Prelude.{◌≡◌};
 ghost use Rattle.meaning.specs.Around as spec;
 
-/// Whether `break` and `continue` may stand where a statement stands: `break` in a loop or a `switch`, `continue` in a
-/// loop.
+/// Whether `break` and `continue` may stand where a statement stands: `break` in a loop or a
+/// `switch`, `continue` in a loop.
 #[derive(Clone, Copy)]
 pub struct Around {
     pub can_break: bool,

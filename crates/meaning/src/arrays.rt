@@ -2,7 +2,8 @@
 
 use std::alloc::Global;
 
-/// The bytes that the arrays of a program begin with, one array behind another in order of definition.
+/// The bytes that the arrays of a program begin with, one array behind another in order of
+/// definition.
 #[derive(Drop)]
 pub struct Arrays {
     pub bytes: Vec<u8>,

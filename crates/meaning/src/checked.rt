@@ -11,8 +11,8 @@ ghost use Rattle.meaning.specs.Meaning.{routine_at};
 
 use crate::arrays::Arrays;
 use crate::resolved::Action;
-use expression_trees::Name;
 use std::marker::Model;
+use syntax_trees::Name;
 use zcore::Abbreviations;
 
 /// A routine of an accepted program.
@@ -22,7 +22,8 @@ pub struct CheckedRoutine<'a> {
     pub locals: usize,
     pub body: Vec<Action<'a>>,
 
-    /// 32 for each token from its `[` to the `;` after its `]`, and 3 for each byte between the quotes of a text.
+    /// 32 for each token from its `[` to the `;` after its `]`, and 3 for each byte between the
+    /// quotes of a text.
     pub weight: u128,
 }
 
@@ -68,8 +69,8 @@ impl<'a> Model for Checked<'a> {
 }
 
 impl<'a> Checked<'a> {
-    /// A program with these globals, arrays, objects, keys, abbreviations and routines, the number of `Main`, the
-    /// weight of its source, and the line where the source ends.
+    /// A program with these globals, arrays, objects, keys, abbreviations and routines, the number
+    /// of `Main`, the weight of its source, and the line where the source ends.
     pub fn new(
         globals: Vec<u16>,
         arrays: Arrays,
@@ -201,7 +202,8 @@ impl<'a> Checked<'a> {
         self.main
     }
 
-    /// 32 for each token of the source but the end, and 3 for each byte between the quotes of a text.
+    /// 32 for each token of the source but the end, and 3 for each byte between the quotes of a
+    /// text.
     pub fn source_weight(&self) -> u128
         ensures { result ≡ self.now.weight }
     {

@@ -1,10 +1,12 @@
-//! What an accepted program means: resolved programs, the world of a running source, the limits of sizes.
+//! What an accepted program means: resolved programs, the world of a running source, the limits of
+//! sizes.
 #![tactic(auto)]
 
 mod around;
 mod arrays;
 mod cause;
 mod checked;
+pub mod limits;
 mod places;
 mod resolved;
 mod sizes;

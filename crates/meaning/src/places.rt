@@ -4,39 +4,22 @@ ghost use Rattle.std.specs.Prelude.{◌≡◌, ◌+◌, ◌*◌, ◌<◌, ◌≤
 ghost use Rattle.meaning.specs.Resolved.{program_of, object_of};
 ghost use Rattle.meaning.specs.Places.{folded, places_of, routines_place};
 ghost use Rattle.meaning.specs.Places as spec;
+ghost use Rattle.tables.specs.KeyNumbers.{entry_size, head_size};
 
 use crate::checked::{Checked, CheckedObject};
 use crate::table_sizes::{abbreviations_size, folded, table_size};
-
-/// The bytes of the header.
-const HEADER: usize = 64;
-
-/// The words of the table of abbreviations.
-const ABBREVIATIONS: usize = 96;
+use tables::layout::{DICTIONARY_ENTRY_LENGTH, DICTIONARY_HEAD_LENGTH};
+use zcore::layout::{DEFAULTS_LENGTH, GLOBAL_COUNT, HEADER_LENGTH, OBJECT_ENTRY_LENGTH};
+use ztext::MOST_ABBREVIATIONS;
 
 /// The bytes of the empty text, which abbreviations name that the source has not.
-const EMPTY_TEXT: usize = 2;
-
-/// The words of globals.
-const GLOBALS: usize = 240;
-
-/// The words of property defaults.
-const DEFAULTS: usize = 63;
-
-/// The bytes of an object's entry.
-const OBJECT: usize = 14;
-
-/// The bytes of a dictionary without entries: three separators and how many they are, the length of an entry, and the
-/// number of entries.
-const EMPTY_DICTIONARY: usize = 7;
-
-/// The bytes of an entry of the dictionary.
-const ENTRY: usize = 9;
+const EMPTY_TEXT_LENGTH: usize = 2;
 
 /// The bytes of the code that begins a story.
-const START: usize = 4;
+const START_LENGTH: usize = 4;
 
-/// The addresses of the parts of a story that stand before its routines, and that of the first routine at the earliest.
+/// The addresses of the parts of a story that stand before its routines, and that of the first
+/// routine at the earliest.
 #[derive(Clone, Copy)]
 pub struct Places {
     pub globals: usize,
@@ -63,7 +46,7 @@ pub fn objects_size(objects: &[CheckedObject<'_>]) -> usize
 {
     let mut size = 0;
     for object in objects {
-        size = folded((size + OBJECT + table_size(object)) as u128);
+        size = folded((size + OBJECT_ENTRY_LENGTH + table_size(object)) as u128);
     }
     size
 }
@@ -73,18 +56,22 @@ pub fn dictionary_behind(arrays: usize, objects: usize) -> usize
     ensures place { result ≡ folded (864 + arrays + objects) }
     ensures few { result < 131072 }
 {
-    let fixed = HEADER + 2 * ABBREVIATIONS + EMPTY_TEXT + 2 * GLOBALS + 2 * DEFAULTS;
+    let fixed = HEADER_LENGTH
+        + 2 * MOST_ABBREVIATIONS
+        + EMPTY_TEXT_LENGTH
+        + 2 * GLOBAL_COUNT
+        + DEFAULTS_LENGTH;
     folded(fixed as u128 + arrays as u128 + objects as u128)
 }
 
 /// Where the texts of abbreviations stand, where the dictionary stands there.
 fn texts_behind(checked: &Checked<'_>, dictionary: usize) -> usize
     requires { dictionary < 131072 }
-    ensures place { (let end = dictionary + (7 + 9 * length checked.now.keys) in
+    ensures place { (let end = dictionary + (head_size + entry_size * length checked.now.keys) in
         result ≡ end + spec.filling_before checked.now.abbreviations end) }
     ensures few { result < 2 ^ 63 }
 {
-    let end = dictionary + EMPTY_DICTIONARY + ENTRY * checked.keys().len();
+    let end = dictionary + DICTIONARY_HEAD_LENGTH + DICTIONARY_ENTRY_LENGTH * checked.keys().len();
     if checked.abbreviations().texts().is_empty() {
         end
     } else {
@@ -99,7 +86,7 @@ pub fn tables_size(checked: &Checked<'_>) -> usize
     let objects = objects_size(checked.objects());
     let dictionary = dictionary_behind(checked.array_bytes().len(), objects);
     let texts = texts_behind(checked, dictionary);
-    folded((texts + abbreviations_size(checked.abbreviations()) + START) as u128)
+    folded((texts + abbreviations_size(checked.abbreviations()) + START_LENGTH) as u128)
 }
 
 /// Where the parts of the story of a program stand.
@@ -107,17 +94,17 @@ pub fn part_places(checked: &Checked<'_>) -> Places
     requires { routines_place (program_of checked.now) ≤ 65535 }
     ensures { result ≡ places_of (program_of checked.now) }
 {
-    let globals = HEADER + 2 * ABBREVIATIONS + EMPTY_TEXT;
+    let globals = HEADER_LENGTH + 2 * MOST_ABBREVIATIONS + EMPTY_TEXT_LENGTH;
     let arrays = checked.array_bytes().len();
     let dictionary = dictionary_behind(arrays, objects_size(checked.objects()));
     let texts = texts_behind(checked, dictionary);
     let start = texts + abbreviations_size(checked.abbreviations());
     Places {
         globals,
-        defaults: globals + 2 * GLOBALS + arrays,
+        defaults: globals + 2 * GLOBAL_COUNT + arrays,
         dictionary,
         texts,
         start,
-        routines: start + START,
+        routines: start + START_LENGTH,
     }
 }

@@ -1,6 +1,6 @@
 //! Statements and expressions whose names are resolved.
 
-use expression_trees::{Binary, Comparison, Containment, Equality, Prefix, Relative, Step, Width};
+use syntax_trees::{Binary, Comparison, Containment, Equality, Prefix, Relative, Step, Width};
 
 /// A variable.
 #[derive(Clone, Copy, Debug, PartialEq, Eq)]
@@ -12,7 +12,8 @@ pub enum Variable {
     Global(usize),
 }
 
-/// An expression. Chains that group to the left are flat: what walks a tree takes stack by its nesting alone.
+/// An expression. Chains that group to the left are flat: what walks a tree takes stack by its
+/// nesting alone.
 #[derive(Drop)]
 pub enum Value {
     Number(u16),
@@ -41,14 +42,15 @@ pub enum Value {
     /// Whether an object's parent is another word, or is not.
     Contained(Box<Value>, Containment, Box<Value>),
 
-    /// Whether an object has the attribute of a number, or, where the truth value is false, has it not.
+    /// Whether an object has the attribute of a number, or, where the truth value is false, has it
+    /// not.
     Has(bool, Box<Value>, usize),
 
     /// Whether an object provides the property of a number.
     Provides(Box<Value>, usize),
 
-    /// The word of an object's property, by the property's number, and then of a property of each such word: so
-    /// `o.p.q` is as flat as `o.p`.
+    /// The word of an object's property, by the property's number, and then of a property of each
+    /// such word: so `o.p.q` is as flat as `o.p`.
     Property(Box<Value>, usize, Vec<usize>),
 
     /// How many bytes the property has.
@@ -84,8 +86,8 @@ pub enum Span {
     Between(u16, u16),
 }
 
-/// A statement. Where a kind holds several values they stand in boxes: a statement is as large as the largest kind,
-/// also `;`.
+/// A statement. Where a kind holds several values they stand in boxes: a statement is as large as
+/// the largest kind, also `;`.
 #[derive(Drop)]
 pub enum Action<'a> {
     Empty,
@@ -99,7 +101,8 @@ pub enum Action<'a> {
     While(Value, Box<Action<'a>>),
     Do(Box<Action<'a>>, Value),
 
-    /// A `for`: what is done before the first round, the test, what is done behind each round, and the body.
+    /// A `for`: what is done before the first round, the test, what is done behind each round, and
+    /// the body.
     For(Option<Box<Value>>, Option<Box<Value>>, Option<Box<Value>>, Box<Action<'a>>),
 
     /// A `switch`: its value, its cases, and the statements of its `default`.
@@ -111,7 +114,8 @@ pub enum Action<'a> {
     /// `read`: the numbers of the array for the letters of the line, and of that for its words.
     Read(usize, usize),
 
-    /// `give`: the object, and the numbers of attributes, which are set, or cleared where the truth value is false.
+    /// `give`: the object, and the numbers of attributes, which are set, or cleared where the truth
+    /// value is false.
     Give(Value, Vec<(bool, usize)>),
 
     /// `move` the first object into the second.

@@ -3,12 +3,12 @@
 ghost use Rattle.std.specs.Prelude.{◌≡◌, nat_lt};
 ghost use Rattle.meaning.specs.Places.{routines_place};
 ghost use Rattle.meaning.specs.Resolved.{program_of};
-ghost use Rattle.meaning.specs.Sizes.{fault_of, size_fault};
+ghost use Rattle.meaning.specs.CheckedSizes.{fault_of, checked_size_fault, name_place_of, weight_of};
 ghost use Rattle.meaning.specs.Sizes as spec;
 
 use crate::checked::{Checked, CheckedRoutine};
 use crate::places::tables_size;
-use lexer::{Position, ROUTINE_TOO_LARGE, STORY_TOO_LARGE, SourceFault, TABLES_TOO_LARGE};
+use syntax_lexer::{Position, ROUTINE_TOO_LARGE, STORY_TOO_LARGE, SourceFault, TABLES_TOO_LARGE};
 use zcore::Version;
 
 fn greatest_weight(version: Version) -> u128
@@ -29,7 +29,7 @@ fn are_tables_large(checked: &Checked<'_>) -> bool
 
 // The position of the name of the first routine that weighs too much.
 fn first_heavy(routines: &[CheckedRoutine<'_>]) -> Option<Position>
-    ensures { result ≡ spec.first_heavy routines.now }
+    ensures { result ≡ spec.first_heavy weight_of name_place_of routines.now }
 {
     for routine in routines {
         if routine.weight > 32_000 {
@@ -43,11 +43,11 @@ fn first_heavy(routines: &[CheckedRoutine<'_>]) -> Option<Position>
 ///
 /// # Errors
 ///
-/// E30, with line 0, where the parts before the routines pass 65,535 bytes; else E31, with line 0, where the source
-/// weighs more than 190,000 in version 5 or 450,000 in version 8; else E32, with the line of its name, at the first routine
-/// that weighs more than 32,000.
+/// E30, with line 0, where the parts before the routines pass 65,535 bytes; else E31, with line 0,
+/// where the source weighs more than 190,000 in version 5 or 450,000 in version 8; else E32, with
+/// the line of its name, at the first routine that weighs more than 32,000.
 pub fn test_sizes(checked: &Checked<'_>, version: Version) -> Result<(), SourceFault>
-    ensures { fault_of result ≡ size_fault checked.now version }
+    ensures { fault_of result ≡ checked_size_fault checked.now version }
 {
     if are_tables_large(checked) {
         return Err(SourceFault {

@@ -1,4 +1,5 @@
-//! How large the tables of objects are. Nothing bounds how much a source lists, so sums of sizes are folded.
+//! How large the tables of objects are. Nothing bounds how much a source lists, so sums of sizes
+//! are folded.
 
 ghost use Rattle.std.specs.Prelude.{◌≡◌, ◌+◌, ◌*◌, ◌<◌, ◌≤◌, ◌^◌, ℕ, length, map};
 ghost use Rattle.ztext.specs.Alphabets.{spelled};
@@ -9,8 +10,8 @@ ghost use Rattle.meaning.specs.Places as spec;
 use crate::checked::CheckedObject;
 use zcore::{Abbreviations, spelling_length, words_for};
 
-/// A size up to 65,535 is itself; what a greater one becomes is as well above 65,535, and has the same remainder by
-/// 65,536.
+/// A size up to 65,535 is itself; what a greater one becomes is as well above 65,535, and has the
+/// same remainder by 65,536.
 #[tactic(auto, using(crate::proofs::Folding::fold_small, crate::proofs::Folding::fold_great))]
 pub(crate) fn folded(size: u128) -> usize
     ensures size { result ≡ spec.folded size }

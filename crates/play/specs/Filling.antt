@@ -4,15 +4,13 @@ use Rattle.std.specs.Prelude.{slice_index, take, drop, Option, Some, None}
 use Rattle.std.specs.List.{list_all}
 use Rattle.ztext.specs.Bytes.{word_at}
 use Rattle.zcore.specs.Header.{version_number, scale_of}
+use Rattle.zcore.specs.Layout.{header_size}
 use Rattle.zcore.specs.declared.header.Version.{Version}
 use Rattle.zcore.specs.declared.header.Version.TheVariants.{V5, V8}
 
 -- files are filled to a multiple of so many bytes
 abbrev pub block : ℕ
 block = 512
-
-abbrev pub header_length : ℕ
-header_length = 64
 
 abbrev pub is_zero : ℕ → Bool
 is_zero byte = byte == 0
@@ -29,7 +27,7 @@ length_stated file None = None
 length_stated file (Some version) = Some (word_at file 0x1A * scale_of version)
 
 abbrev pub stated_length : List ℕ → Option ℕ
-stated_length file = if nat_lt (length file) header_length then None else length_stated file (version_in file)
+stated_length file = if nat_lt (length file) header_size then None else length_stated file (version_in file)
 
 -- What stands behind so many bytes fills the file: fewer bytes than a block, up to a multiple of it, all 0.
 abbrev pub is_filled : List ℕ → ℕ → Bool

@@ -2,22 +2,19 @@
 
 ghost use Rattle.std.specs.Prelude.{◌≡◌, ◌≤◌, length};
 ghost use Rattle.std.specs.List.{list_all};
-ghost use Rattle.play.specs.Filling.{is_zero, is_filled, header_length, stated_length, story_length, without_filling};
+ghost use Rattle.play.specs.Filling.{is_zero, is_filled, stated_length, story_length, without_filling};
+ghost use Rattle.zcore.specs.Layout.{header_size};
 
 use byteorder::{BigEndian, ByteOrder};
 use zcore::Version;
+use zcore::layout::{HEADER_LENGTH, LENGTH_WORD};
 
 /// Inform 6 fills its story files to a multiple of so many bytes.
 const BLOCK: usize = 512;
 
-/// The bytes of a header (Z-Machine Standards Document 1.1, section 11.1).
-const HEADER_LENGTH: usize = 64;
-
-/// The address of the header's word that states the story's length (section 11.1.6).
-const LENGTH: usize = 0x1A;
-
-/// Drops the zero bytes with which Inform 6 fills a story file, behind the length that the story states: they are fewer
-/// than 512, all are 0, and the file's length is a multiple of 512. Any other file stays as it is.
+/// Drops the zero bytes with which Inform 6 fills a story file, behind the length that the story
+/// states: they are fewer than 512, all are 0, and the file's length is a multiple of 512. Any
+/// other file stays as it is.
 pub fn drop_filling(file: &mut Vec<u8>)
     ensures { file.new.items ≡ without_filling file.old.items }
 {
@@ -47,7 +44,7 @@ fn stated_length(file: &[u8]) -> Option<usize>
         8 => Version::V8,
         _ => return None,
     };
-    Some(BigEndian::read_u16(&file[LENGTH..]) as usize * version.scale() as usize)
+    Some(BigEndian::read_u16(&file[LENGTH_WORD..]) as usize * version.scale() as usize)
 }
 
 /// Whether what stands behind so many bytes fills a file.

@@ -55,8 +55,8 @@ fn story_in(rt: &HostRuntime, name: &str) -> io::Result<Vec<u8>> {
     read_story(rt.alloc(), File::open(rt, name)?)
 }
 
-/// Plays a story file on the lines of standard input. The transcript goes to standard output, each reply as soon as its
-/// line was read. Zero bytes with which Inform 6 filled the file do not count.
+/// Plays a story file on the lines of standard input. The transcript goes to standard output, each
+/// reply as soon as its line was read. Zero bytes with which Inform 6 filled the file do not count.
 fn play(rt: &HostRuntime, words: Words<'_>) -> ExitCode
     requires { IsInRange words }
 {

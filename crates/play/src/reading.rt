@@ -1,26 +1,26 @@
 //! Reading a story file.
 
 ghost use Rattle.std.specs.Prelude.{◌≡◌, ◌<◌, ◌≤◌, IfOk, IfSome, length, take};
-ghost use Rattle.zcore.specs.Header.{longest_story};
+ghost use Rattle.zcore.specs.Layout.{longest_story};
 ghost use Rattle.play.specs.Filling.{without_filling};
 ghost use Rattle.play.specs.Reading.{most_read};
 
 use crate::filling::drop_filling;
 use std::alloc::Global;
 use std::io::{self, Read};
-
-/// The most bytes of a story: 65,535 times the scale of version 8 (Z-Machine Standards Document 1.1, section 11.1.6).
-const LONGEST_STORY: u64 = 524_280;
+use zcore::layout::LONGEST_STORY;
 
 /// The most bytes of filling behind it: one fewer than a block.
 const LONGEST_FILLING: u64 = 511;
 
-/// As many bytes of a file are read: one more than a story and its filling have. No story is as long, and no multiple
-/// of 512 either, so that nothing of them is taken for filling: a file of which that much is read is refused.
-const MOST_READ: u64 = LONGEST_STORY + LONGEST_FILLING + 1;
+/// As many bytes of a file are read: one more than a story and its filling have. No story is as
+/// long, and no multiple of 512 either, so that nothing of them is taken for filling: a file of
+/// which that much is read is refused.
+const MOST_READ: u64 = LONGEST_STORY as u64 + LONGEST_FILLING + 1;
 
-/// Reads a story, and drops the filling behind it. What stands behind the first 524,792 bytes of a file is not read. Of
-/// so long a file more is left than a story has: like the whole file it is refused, by its version or its length.
+/// Reads a story, and drops the filling behind it. What stands behind the first 524,792 bytes of a
+/// file is not read. Of so long a file more is left than a story has: like the whole file it is
+/// refused, by its version or its length.
 ///
 /// # Errors
 ///

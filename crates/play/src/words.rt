@@ -80,8 +80,8 @@ fn program<'a>(alloc: Global) -> Command<'a>
 ///
 /// # Errors
 ///
-/// What `clap` says of words that it refuses, and of those that ask for help or for the version; or that memory was
-/// refused.
+/// What `clap` says of words that it refuses, and of those that ask for help or for the version; or
+/// that memory was refused.
 pub fn words_of<'a>(alloc: Global, given: &'a [String]) -> Result<Words<'a>, Error>
     ensures { IfOk result IsInRange }
 {

@@ -1,5 +1,5 @@
-//! What the programs of rows share: how a row is written, how what came of it is shown, and streams that fail where
-//! it says.
+//! What the programs of rows share: how a row is written, how what came of it is shown, and streams
+//! that fail where it says.
 #![tactic(auto)]
 
 mod error;

@@ -63,8 +63,8 @@ impl Setting {
     ///
     /// # Errors
     ///
-    /// [`RowError::Word`] where the word is none of these, [`RowError::Number`] and [`RowError::Escape`] where the
-    /// text is not what the word wants, [`RowError::Memory`].
+    /// [`RowError::Word`] where the word is none of these, [`RowError::Number`] and
+    /// [`RowError::Escape`] where the text is not what the word wants, [`RowError::Memory`].
     pub fn take(&mut self, word: &str, text: &str) -> Result<(), RowError> {
         match word {
             "--" => put_written(&mut self.title, self.alloc, text)?,

@@ -80,9 +80,9 @@ impl Shown {
         self.bytes(b"\n");
     }
 
-    /// Adds the lines of a text as rows show them: each behind `| `, with `\n` at its end where it ends in byte 10. A
-    /// `\` and bytes outside 32 to 126 are shown as rows write them, and so is a part of at most three bytes that comes
-    /// again and again.
+    /// Adds the lines of a text as rows show them: each behind `| `, with `\n` at its end where it
+    /// ends in byte 10. A `\` and bytes outside 32 to 126 are shown as rows write them, and so is a
+    /// part of at most three bytes that comes again and again.
     pub fn lines(&mut self, text: &[u8]) {
         for line in text.split_inclusive(|byte| *byte == b'\n') {
             self.bytes(b"| ");
@@ -99,7 +99,8 @@ impl Shown {
         }
     }
 
-    /// Adds the first byte or the part that is repeated at the front of the bytes, and lends what stands behind it.
+    /// Adds the first byte or the part that is repeated at the front of the bytes, and lends what
+    /// stands behind it.
     fn front<'a>(&mut self, bytes: &'a [u8]) -> &'a [u8] {
         for size in 1..=LONGEST_PART {
             let count = repetitions(bytes, size);

@@ -28,8 +28,8 @@ impl Read for Input<'_> {
     }
 }
 
-/// Holds what is written. Where its room is bounded it takes one byte at a call, and when it is full it takes none or
-/// fails. A flush fails that comes after as many as it can do.
+/// Holds what is written. Where its room is bounded it takes one byte at a call, and when it is
+/// full it takes none or fails. A flush fails that comes after as many as it can do.
 #[derive(Drop)]
 pub struct Output {
     /// What was written.

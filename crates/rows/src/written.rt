@@ -26,13 +26,14 @@ pub fn written_bytes(alloc: Global, text: &str) -> Result<Vec<u8>, RowError> {
     Ok(bytes)
 }
 
-/// Adds the bytes of a written text. A `\` begins what stands for other bytes: `\n` for byte 10, `\\` for itself,
-/// `\xC3` for the byte of that number, and `\40{text}` for a text forty times, in which `\#` is the number of the
-/// repetition, from 0.
+/// Adds the bytes of a written text. A `\` begins what stands for other bytes: `\n` for byte 10,
+/// `\\` for itself, `\xC3` for the byte of that number, and `\40{text}` for a text forty times, in
+/// which `\#` is the number of the repetition, from 0.
 ///
 /// # Errors
 ///
-/// [`RowError::Escape`] and [`RowError::Number`] where a `\` begins nothing of these, [`RowError::Memory`].
+/// [`RowError::Escape`] and [`RowError::Number`] where a `\` begins nothing of these,
+/// [`RowError::Memory`].
 pub fn put_written(bytes: &mut Vec<u8>, alloc: Global, text: &str) -> Result<(), RowError> {
     let mut rest = text;
     for _ in 0..text.len() {
@@ -77,7 +78,8 @@ fn put_part(bytes: &mut Vec<u8>, alloc: Global, part: &str, number: usize) -> Re
     Ok(())
 }
 
-/// Adds what stands for one byte or for the number of a repetition, and lends what stands behind it.
+/// Adds what stands for one byte or for the number of a repetition, and lends what stands behind
+/// it.
 fn put_escape<'a>(
     bytes: &mut Vec<u8>,
     alloc: Global,

@@ -10,13 +10,13 @@ use Rattle.zcore.specs.declared.header.Header.{Header}
 use Rattle.zcore.specs.declared.place.Place.{Place}
 use Rattle.zcore.specs.declared.place.Place.TheVariants as places
 use Rattle.zcore.specs.Turn.{StateOfPlay}
-use Rattle.frames.specs.Contents.{Contents, bound_of}
-use Rattle.frames.specs.States.{play_of}
+use Rattle.machine_frames.specs.Contents.{Contents, bound_of}
+use Rattle.machine_frames.specs.States.{play_of}
 use Rattle.session.specs.declared.turns.Turn.{Turn}
-use Rattle.session.specs.Session.{Session, largest_record, all_cells, without_oldest}
-use Rattle.session.specs.Inside.{records_of, with_cells, places_of, view_of, IsReady, IsBetweenTurns}
-use Rattle.session.proofs.Moves.{cells_undo, cells_redo, cells_older, present_cells, length-back}
-use Rattle.session.proofs.Moves.{length-forward}
+use Rattle.session.specs.Session.{Session, largest_record, without_oldest}
+use Rattle.session.specs.Times.{all_cells}
+use Rattle.session.specs.Inside.{records_of, with_cells, places_of, view_of, Swaps, IsReady, IsBetweenTurns}
+use Rattle.session.proofs.Moves.{cells_undo, cells_redo, cells_older, present_cells, length-back, length-forward}
 
 -- a turn that is exchanged for one with the same part
 pub kept_by : {X : Type 0} (f : Turn → X) (turns : List Turn) (k : ℕ) (t u : Turn) → k < length turns
@@ -130,93 +130,77 @@ exchanged_between header store new first turns t u entries k from to lt is x fix
           (i.ready n (omega (arith, long)));
     }
 
--- a turn that was taken back
-pub record TakenBack (old new : Recording Contents) (turns : List Turn) (k : ℕ) (t u : Turn) : Type 0 where
+-- the turn at a place
+pub record StandsAt (turns : List Turn) (k : ℕ) (t : Turn) : Type 0 where
   pub here : k < length turns
   pub is : t ≡ get_or turns k t
-  pub store : new.store ≡ with_cells old.store (back old.store.cells t.overwritten).cells
-  pub turn : u ≡ record t { overwritten = (back old.store.cells t.overwritten).entries }
-  pub inverse : forward new.store.cells u.overwritten ≡ record { cells = old.store.cells; entries = t.overwritten }
-
--- and one that was done again
-pub record DoneAgain (old new : Recording Contents) (turns : List Turn) (k : ℕ) (t u : Turn) : Type 0 where
-  pub here : k < length turns
-  pub is : t ≡ get_or turns k t
-  pub store : new.store ≡ with_cells old.store (forward old.store.cells t.overwritten).cells
-  pub turn : u ≡ record t { overwritten = (forward old.store.cells t.overwritten).entries }
-  pub inverse : back new.store.cells u.overwritten ≡ record { cells = old.store.cells; entries = t.overwritten }
-
--- the store after an exchange
-pub record IsIdle (store new : Recording Contents) (u : Turn) : Type 0 where
-  pub idle : IsNothingKept new
-  pub begun : new.beginning ≡ new.store.cells
-  pub size : length new.store.cells ≡ length store.store.cells
-  pub fits : Fits (length new.store.cells) bound_of u.overwritten
 
 back_cells : (store new : Recording Contents) (turns : List Turn) (k : ℕ) (t u : Turn)
-    → TakenBack store new turns k t u
+    → StandsAt turns k t → Swaps back forward store new t u
     → all_cells new.store.cells (records_of (set turns k u)) k
     ≡ all_cells store.store.cells (records_of turns) (k + 1)
-back_cells store new turns k t u h =
+back_cells store new turns k t u stands h =
     ap (λ rs. all_cells new.store.cells rs k) (map-set (λ (y : Turn). y.overwritten) turns k u)
     ∙ cells_undo store.store.cells new.store.cells t.overwritten u.overwritten (records_of turns) k
-    (omega (arith, h.here, length-map turns (λ (x : Turn). x.overwritten))) (record_at turns k t h.here h.is)
+    (omega (arith, stands.here, length-map turns (λ (x : Turn). x.overwritten))) (record_at turns k t stands.here stands.is)
     (ap (λ (s : Contents). s.cells) h.store) h.inverse
 
 again_cells : (store new : Recording Contents) (turns : List Turn) (k : ℕ) (t u : Turn)
-    → DoneAgain store new turns k t u
+    → StandsAt turns k t → Swaps forward back store new t u
     → all_cells new.store.cells (records_of (set turns k u)) (k + 1)
     ≡ all_cells store.store.cells (records_of turns) k
-again_cells store new turns k t u h =
+again_cells store new turns k t u stands h =
     ap (λ rs. all_cells new.store.cells rs (k + 1)) (map-set (λ (y : Turn). y.overwritten) turns k u)
     ∙ cells_redo store.store.cells new.store.cells t.overwritten u.overwritten (records_of turns) k
-    (omega (arith, h.here, length-map turns (λ (x : Turn). x.overwritten))) (record_at turns k t h.here h.is)
+    (omega (arith, stands.here, length-map turns (λ (x : Turn). x.overwritten))) (record_at turns k t stands.here stands.is)
     (ap (λ (s : Contents). s.cells) h.store) h.inverse
 
-back_turn : (store new : Recording Contents) (turns : List Turn) (k : ℕ) (t u : Turn)
-    → TakenBack store new turns k t u → Exchanged t u (back store.store.cells t.overwritten).entries
-back_turn store new turns k t u h = record { is = h.turn; size = length-back store.store.cells t.overwritten }
+back_turn : (store new : Recording Contents) (t u : Turn) → Swaps back forward store new t u
+    → Exchanged t u (back store.store.cells t.overwritten).entries
+back_turn store new t u h = record { is = h.turn; size = length-back store.store.cells t.overwritten }
 
-again_turn : (store new : Recording Contents) (turns : List Turn) (k : ℕ) (t u : Turn)
-    → DoneAgain store new turns k t u → Exchanged t u (forward store.store.cells t.overwritten).entries
-again_turn store new turns k t u h = record { is = h.turn; size = length-forward store.store.cells t.overwritten }
+again_turn : (store new : Recording Contents) (t u : Turn) → Swaps forward back store new t u
+    → Exchanged t u (forward store.store.cells t.overwritten).entries
+again_turn store new t u h = record { is = h.turn; size = length-forward store.store.cells t.overwritten }
 
 pub undo_view : (keep : Option ℕ) (fuel : ℕ) (header : Header) (opening : List ℕ) (store new : Recording Contents)
     (first : Place) (turns : List Turn) (t u : Turn) (k done : ℕ) (given_up : List ℕ) → k + 1 ≡ done
-    → TakenBack store new turns k t u → view_of keep fuel header opening new.store first (set turns k u) k given_up
+    → StandsAt turns k t → Swaps back forward store new t u
+    → view_of keep fuel header opening new.store first (set turns k u) k given_up
     ≡ record (view_of keep fuel header opening store.store first turns done given_up) { present = k }
-undo_view keep fuel header opening store new first turns t u k done given_up e h =
+undo_view keep fuel header opening store new first turns t u k done given_up e stands h =
     exchanged_view keep fuel header opening store.store new.store first turns t u
-    (back store.store.cells t.overwritten).entries k done k given_up h.here h.is
-    (back_turn store new turns k t u h) (ap (λ (s : Contents). s.fixed) h.store)
-    (back_cells store new turns k t u h ∙ ap (all_cells store.store.cells (records_of turns)) e)
+    (back store.store.cells t.overwritten).entries k done k given_up stands.here stands.is
+    (back_turn store new t u h) (ap (λ (s : Contents). s.fixed) h.store)
+    (back_cells store new turns k t u stands h ∙ ap (all_cells store.store.cells (records_of turns)) e)
 
 pub undo_between : (header : Header) (store new : Recording Contents) (first : Place) (turns : List Turn)
-    (t u : Turn) (k done : ℕ) → k + 1 ≡ done → TakenBack store new turns k t u → IsIdle store new u
+    (t u : Turn) (k done : ℕ) → k + 1 ≡ done → StandsAt turns k t → Swaps back forward store new t u
     → IsBetweenTurns header store first turns done → IsBetweenTurns header new first (set turns k u) k
-undo_between header store new first turns t u k done e h idle i =
-    exchanged_between header store new first turns t u (back store.store.cells t.overwritten).entries k done k h.here
-    h.is (back_turn store new turns k t u h) (ap (λ (s : Contents). s.fixed) h.store)
-    (back_cells store new turns k t u h ∙ ap (all_cells store.store.cells (records_of turns)) e)
-    (omega (arith, h.here)) idle.idle idle.begun idle.size idle.fits i
+undo_between header store new first turns t u k done e stands h i =
+    exchanged_between header store new first turns t u (back store.store.cells t.overwritten).entries k done k stands.here
+    stands.is (back_turn store new t u h) (ap (λ (s : Contents). s.fixed) h.store)
+    (back_cells store new turns k t u stands h ∙ ap (all_cells store.store.cells (records_of turns)) e)
+    (omega (arith, stands.here)) h.idle h.begun h.size h.fits i
 
 pub redo_view : (keep : Option ℕ) (fuel : ℕ) (header : Header) (opening : List ℕ) (store new : Recording Contents)
-    (first : Place) (turns : List Turn) (t u : Turn) (k : ℕ) (given_up : List ℕ) → DoneAgain store new turns k t u
+    (first : Place) (turns : List Turn) (t u : Turn) (k : ℕ) (given_up : List ℕ) → StandsAt turns k t
+    → Swaps forward back store new t u
     → view_of keep fuel header opening new.store first (set turns k u) (k + 1) given_up
     ≡ record (view_of keep fuel header opening store.store first turns k given_up) { present = k + 1 }
-redo_view keep fuel header opening store new first turns t u k given_up h =
+redo_view keep fuel header opening store new first turns t u k given_up stands h =
     exchanged_view keep fuel header opening store.store new.store first turns t u
-    (forward store.store.cells t.overwritten).entries k k (k + 1) given_up h.here h.is
-    (again_turn store new turns k t u h) (ap (λ (s : Contents). s.fixed) h.store)
-    (again_cells store new turns k t u h)
+    (forward store.store.cells t.overwritten).entries k k (k + 1) given_up stands.here stands.is
+    (again_turn store new t u h) (ap (λ (s : Contents). s.fixed) h.store)
+    (again_cells store new turns k t u stands h)
 
 pub redo_between : (header : Header) (store new : Recording Contents) (first : Place) (turns : List Turn)
-    (t u : Turn) (k : ℕ) → DoneAgain store new turns k t u → IsIdle store new u
+    (t u : Turn) (k : ℕ) → StandsAt turns k t → Swaps forward back store new t u
     → IsBetweenTurns header store first turns k → IsBetweenTurns header new first (set turns k u) (k + 1)
-redo_between header store new first turns t u k h idle i =
+redo_between header store new first turns t u k stands h i =
     exchanged_between header store new first turns t u (forward store.store.cells t.overwritten).entries k k (k + 1)
-    h.here h.is (again_turn store new turns k t u h) (ap (λ (s : Contents). s.fixed) h.store)
-    (again_cells store new turns k t u h) (omega (arith, h.here)) idle.idle idle.begun idle.size idle.fits i
+    stands.here stands.is (again_turn store new t u h) (ap (λ (s : Contents). s.fixed) h.store)
+    (again_cells store new turns k t u stands h) (omega (arith, stands.here)) h.idle h.begun h.size h.fits i
 
 -- the text of a turn that was exchanged
 pub redone_text : (turns : List Turn) (k j : ℕ) (t u x : Turn) (entries : List (ℕ × ℕ)) → k < length turns → j ≡ k

@@ -5,7 +5,7 @@ use Rattle.std.proofs.lemmas.List.{take_more, take-set, drop-set, drop_more, rev
 use Rattle.std.proofs.lemmas.List.{drop-set-lt, length-append, length-reverse, length-take-le, length-drop, get_or_at}
 use Rattle.std.proofs.lemmas.List.{take_all, drop_all, take_at, drop-append-le}
 use Rattle.journal.specs.Swap.{back, forward, Swapped}
-use Rattle.session.specs.Session.{past, future, all_cells}
+use Rattle.session.specs.Times.{all_cells, future, past}
 
 pub cells_undo : (c c' : List ℕ) (r r' : List (ℕ × ℕ)) (rs : List (List (ℕ × ℕ))) (k : ℕ) → k < length rs
     → r ≡ get_or rs k r → c' ≡ (back c r).cells

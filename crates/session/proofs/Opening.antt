@@ -8,14 +8,13 @@ use Rattle.zcore.specs.declared.place.Place.{Place}
 use Rattle.zcore.specs.declared.place.Place.TheVariants as places
 use Rattle.zcore.specs.Header.{static_base_of}
 use Rattle.zcore.specs.State.{State}
-use Rattle.zcore.specs.Turn.{Whole, turn_from}
-use Rattle.zcore.specs.Turn.{opening, entries, plays, first_next, first_state, last_text}
+use Rattle.zcore.specs.Turn.{Whole, turn_from, opening, entries, plays, first_next, first_state, last_text}
 use Rattle.zcore.proofs.Turning.{turns_is}
-use Rattle.frames.specs.Contents.{Contents, memory_of}
-use Rattle.frames.specs.Playing.{IsWaiting, IsOpening, Opens, whole_of}
-use Rattle.frames.specs.States.{state_of, IsStoreOf}
+use Rattle.machine_frames.specs.Contents.{Contents, memory_of}
+use Rattle.machine_frames.specs.Playing.{IsWaiting, IsOpening, Opens, whole_of}
+use Rattle.machine_frames.specs.States.{state_of, IsStoreOf}
 use Rattle.session.specs.declared.turns.Turn.{Turn}
-use Rattle.session.specs.Session.{all_cells}
+use Rattle.session.specs.Times.{all_cells}
 use Rattle.session.specs.Inside.{with_cells, places_of, view_of, IsReady, IsBetweenTurns}
 use Rattle.session.specs.Sessions.{IsSession}
 use Rattle.session.specs.Standing.{nothing}

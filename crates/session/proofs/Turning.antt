@@ -1,6 +1,6 @@
 -- What a turn makes of the fields of a session.
-use Rattle.std.proofs.Common.{◌≡◌, ℕ, ◌+◌, ◌≤◌, List, [], ◌∷◌, ◌++◌, length, get_or, take, map, refl, ap, sym}
-use Rattle.std.proofs.Common.{◌∙◌, subst, arith, Option, Some, add-one, inl, inr}
+use Rattle.std.proofs.Common.{◌≡◌, ℕ, ◌+◌, ◌≤◌, List, [], ◌∷◌, ◌++◌, length, get_or, take, drop, map, refl, ap}
+use Rattle.std.proofs.Common.{sym, ◌∙◌, subst, arith, Option, Some, Ok, add-one, inl, inr}
 use Rattle.std.specs.List.{All}
 use Rattle.std.proofs.lemmas.List.{take-map, map_push, length-map, length-take-le, length_push, get_or-take}
 use Rattle.std.proofs.lemmas.List.{get_or_append_left, get_or_push}
@@ -15,13 +15,14 @@ use Rattle.zcore.specs.State.{State, Out, done, halt}
 use Rattle.zcore.specs.Turn.{StateOfPlay, Whole, ended, after_step, turn_from, turn_on, turn_pending, given, resumed}
 use Rattle.zcore.specs.Turn.{opening}
 use Rattle.zcore.proofs.Turning.{turns_is}
-use Rattle.frames.specs.Contents.{Contents, bound_of}
-use Rattle.frames.specs.Playing.{IsWaiting, whole_of, Follows, Answers}
-use Rattle.frames.specs.States.{play_of, IsStoreOf}
-use Rattle.frames.specs.Went.{GoesOn}
-use Rattle.frames.proofs.Steps.{store_after}
+use Rattle.machine_frames.specs.Contents.{Contents, bound_of}
+use Rattle.machine_frames.specs.Playing.{IsWaiting, whole_of, Follows, Answers}
+use Rattle.machine_frames.specs.States.{play_of, IsStoreOf}
+use Rattle.machine_frames.proofs.Steps.{store_after}
+use Rattle.machine.specs.Ended.{TurnEnds}
 use Rattle.session.specs.declared.turns.Turn.{Turn}
-use Rattle.session.specs.Session.{Session, largest_record, all_cells, with_turn}
+use Rattle.session.specs.Session.{Session, largest_record, with_turn}
+use Rattle.session.specs.Times.{all_cells}
 use Rattle.session.specs.Inside.{records_of, with_cells, places_of, view_of, IsReady, IsBetweenTurns}
 use Rattle.session.specs.Turned.{Turned}
 use Rattle.session.proofs.Views.{view_state, view_fuel, header_base}
@@ -235,26 +236,26 @@ store_size header s h = h.sound.size ∙ ap (λ n. 72559 + n) (sym h.headed.stat
 
 -- what `turn` and `close` say, as a turn that was played
 pub played : (header : Header) (old mid new : Recording Contents) (line : List ℕ) (units : ℕ) (t : Turn)
-    (text : List ℕ) → IsStoreOf header old.store → GoesOn old mid
-    → Answers line old.store units (whole_of mid.store t.place text) → text ≡ t.text.items
-    → (t.place ≡ places.Waiting → IsWaiting mid.store) → t.line.items ≡ line → old.beginning ≡ old.store.cells
+    (before text : List ℕ) → IsStoreOf header old.store
+    → TurnEnds (Answers line old.store units) old before mid text (Ok t.place)
+    → drop (length before) text ≡ t.text.items → t.line.items ≡ line → old.beginning ≡ old.store.cells
     → (back mid.store.cells t.overwritten).cells ≡ mid.beginning
     → Fits (length mid.store.cells) bound_of t.overwritten
     → length t.overwritten ≤ length mid.store.cells
     → new ≡ record { store = mid.store; beginning = mid.store.cells; kept = [] }
     → IsPlayed header old new line units t
-played header old mid new line units t text o g answers words waits is begun was fits small e =
-    let store : IsStoreOf header mid.store = store_after o g in
+played header old mid new line units t before text o ends words is begun was fits small e =
+    let store : IsStoreOf header mid.store = store_after o ends.goes_on in
     let size : length mid.store.cells ≡ largest_record header.static_base = store_size header mid.store store in
     let result : IsPlayed header old (record { store = mid.store; beginning = mid.store.cells; kept = [] }) line
     units t = record {
-      answers = subst (λ x. Answers line old.store units (whole_of mid.store t.place x)) words answers;
-      waits = waits;
+      answers = subst (λ x. Answers line old.store units (whole_of mid.store t.place x)) words ends.whole;
+      waits = ends.waits;
       line_is = is;
       store = store;
-      fixed = g.fixed;
+      fixed = ends.goes_on.fixed;
       size = size ∙ sym (store_size header old.store o);
-      back_is = was ∙ g.beginning ∙ begun;
+      back_is = was ∙ ends.goes_on.beginning ∙ begun;
       fits = fits;
       small = omega arith;
       idle = refl;

@@ -1,15 +1,15 @@
 -- The parts of a session, as its view tells them.
-use Rattle.std.proofs.Common.{◌≡◌, ℕ, suc, ◌-◌, ◌≤◌, ◌<◌, List, [], length, get_or}
-use Rattle.std.proofs.Common.{ap, sym, ◌∙◌, arith, Option}
+use Rattle.std.proofs.Common.{◌≡◌, ℕ, suc, ◌-◌, ◌≤◌, ◌<◌, List, [], length, get_or, ap, sym, ◌∙◌, arith, Option}
 use Rattle.std.proofs.lemmas.List.{get_or-map, length-map}
 use Rattle.zcore.specs.declared.header.Header.{Header}
 use Rattle.zcore.specs.declared.place.Place.{Place}
 use Rattle.zcore.specs.declared.place.Place.TheVariants as places
 use Rattle.zcore.specs.Turn.{StateOfPlay}
-use Rattle.frames.specs.Contents.{Contents}
-use Rattle.frames.specs.States.{play_of}
+use Rattle.machine_frames.specs.Contents.{Contents}
+use Rattle.machine_frames.specs.States.{play_of}
 use Rattle.session.specs.declared.turns.Turn.{Turn}
-use Rattle.session.specs.Session.{Session, all_cells}
+use Rattle.session.specs.Session.{Session}
+use Rattle.session.specs.Times.{all_cells}
 use Rattle.session.specs.Inside.{records_of, places_of, view_of}
 use Rattle.session.proofs.Moves.{present_cells, length-all_cells}
 

@@ -2,15 +2,16 @@
 use Rattle.std.specs.Prelude.{◌≡◌, ◌≤◌, ℕ, List, [], ◌∷◌, length, map, slice_index_or, Option}
 use Rattle.std.specs.List.{All}
 use Rattle.journal.specs.Recording.{Recording, IsNothingKept}
-use Rattle.journal.specs.Swap.{back, forward, Fits, Swapped}
+use Rattle.journal.specs.Swap.{Fits, Swapped}
 use Rattle.zcore.specs.declared.header.Header.{Header}
 use Rattle.zcore.specs.declared.place.Place.{Place}
 use Rattle.zcore.specs.declared.place.Place.TheVariants as places
-use Rattle.frames.specs.Contents.{Contents, bound_of}
-use Rattle.frames.specs.Playing.{IsWaiting}
-use Rattle.frames.specs.States.{play_of, IsStoreOf}
+use Rattle.machine_frames.specs.Contents.{Contents, bound_of}
+use Rattle.machine_frames.specs.Playing.{IsWaiting}
+use Rattle.machine_frames.specs.States.{play_of, IsStoreOf}
 use Rattle.session.specs.declared.turns.Turn.{Turn}
-use Rattle.session.specs.Session.{Session, largest_record, all_cells}
+use Rattle.session.specs.Session.{Session, largest_record}
+use Rattle.session.specs.Times.{all_cells}
 
 -- what the turns overwrote
 abbrev pub records_of : List Turn → List (List (ℕ × ℕ))
@@ -20,22 +21,18 @@ records_of turns = map (λ t. t.overwritten) turns
 abbrev pub with_cells : Contents → List ℕ → Contents
 with_cells s cells = record { cells = cells; fixed = s.fixed }
 
--- what a turn that is taken back, or done again, leaves of the store and of itself
-abbrev pub turn_back : Contents → Turn → Turn
-turn_back store turn = record turn { overwritten = (back store.cells turn.overwritten).entries }
-
-abbrev pub turn_forward : Contents → Turn → Turn
-turn_forward store turn = record turn { overwritten = (forward store.cells turn.overwritten).entries }
-
-abbrev pub store_back : Contents → Turn → Contents
-store_back store turn = with_cells store (back store.cells turn.overwritten).cells
-
-abbrev pub store_forward : Contents → Turn → Contents
-store_forward store turn = with_cells store (forward store.cells turn.overwritten).cells
-
--- cells and record, as a swap exchanges them
-abbrev pub swapped : Contents → Turn → Swapped
-swapped store turn = record { cells = store.cells; entries = turn.overwritten }
+-- A turn is taken back, or done again: its record is swapped with the store's cells, by `back` or by `forward`. The
+-- other of the two would undo that, and nothing is recorded then.
+pub record Swaps (swap other : List ℕ → List (ℕ × ℕ) → Swapped) (old new : Recording Contents) (was now : Turn)
+    : Type 0 where
+  pub store : new.store ≡ with_cells old.store (swap old.store.cells was.overwritten).cells
+  pub turn : now ≡ record was { overwritten = (swap old.store.cells was.overwritten).entries }
+  pub inverse : other new.store.cells now.overwritten
+      ≡ record { cells = old.store.cells; entries = was.overwritten }
+  pub fits : Fits (length new.store.cells) bound_of now.overwritten
+  pub size : length new.store.cells ≡ length old.store.cells
+  pub idle : IsNothingKept new
+  pub begun : new.beginning ≡ new.store.cells
 
 -- where the machine stood, from the first place on
 abbrev pub places_of : Place → List Turn → List Place

@@ -1,5 +1,6 @@
 pub mod Standing
 pub mod Session
+pub mod Times
 pub mod Inside
 pub mod Sessions
 pub mod Turned

@@ -1,33 +1,14 @@
 -- The whole states that a session holds, with what it knows of the turns between them.
 use Rattle.std.specs.Prelude.{ℕ, zero, suc, ◌+◌, ◌-◌, nat_lt, if◌then◌else◌, List, []}
 use Rattle.std.specs.Prelude.{◌∷◌, ◌++◌, length, take, drop, reverse, slice_index_or, Option, Some, None}
-use Rattle.journal.specs.Swap.{back, forward}
 use Rattle.zcore.specs.declared.place.Place.{Place}
 use Rattle.zcore.specs.Turn.{StateOfPlay, Whole}
+use Rattle.machine_frames.specs.Layout.{words_before_memory}
 
--- The cells of a store at all times that its records reach
-
--- the cells before c, by the records from the latest back
-abbrev pub past : List ℕ → List (List (ℕ × ℕ)) → List (List ℕ)
-past c [] = []
-past c (r ∷ rs) = past (back c r).cells rs ++ (back c r).cells ∷ []
-
--- the cells after c, by the records in order
-abbrev pub future : List ℕ → List (List (ℕ × ℕ)) → List (List ℕ)
-future c [] = []
-future c (r ∷ rs) = (forward c r).cells ∷ future (forward c r).cells rs
-
--- at all times, the present ones behind so many of the records
-unfoldable pub all_cells : List ℕ → List (List (ℕ × ℕ)) → ℕ → List (List ℕ)
-all_cells c records done = past c (reverse (take done records)) ++ c ∷ future c (drop done records)
-
--- the cells of a store before those of dynamic memory: registers, frame records and the stack
-abbrev pub cells_before_memory : ℕ
-cells_before_memory = 72559
-
--- the most cells that the record of a turn holds: these, and one for each byte of dynamic memory
+-- the most cells that the record of a turn holds: those of registers, frame records and the stack, and one for each
+-- byte of dynamic memory
 abbrev pub largest_record : ℕ → ℕ
-largest_record static_base = cells_before_memory + static_base
+largest_record static_base = words_before_memory + static_base
 
 -- A session, as its callers see it. Of the states of play the first is the oldest that can be reached by undoing;
 -- each further one is that after one more turn.

@@ -37,7 +37,8 @@ pub(crate) fn finish<W: Write>(
     Ok(())
 }
 
-/// Answers the lines that end within a chunk of the input, and keeps what stands after the last of them.
+/// Answers the lines that end within a chunk of the input, and keeps what stands after the last of
+/// them.
 pub(crate) fn hear<W: Write>(
     chunk: &[u8],
     line: &mut Line,

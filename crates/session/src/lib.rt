@@ -1,5 +1,5 @@
-//! The session of a player: the turns of a story, which can be taken back and done again, and the loop over the lines
-//! of a reader, whose transcript goes to a writer.
+//! The session of a player: the turns of a story, which can be taken back and done again, and the
+//! loop over the lines of a reader, whose transcript goes to a writer.
 #![tactic(auto)]
 
 mod answering;

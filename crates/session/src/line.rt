@@ -6,7 +6,8 @@ ghost use Rattle.session.specs.Standing.{longest_line};
 
 use crate::typable::LONGEST_LINE;
 
-/// The bytes of a line so far, or the knowledge that there are more than a line for the story can have.
+/// The bytes of a line so far, or the knowledge that there are more than a line for the story can
+/// have.
 #[derive(Drop)]
 pub(crate) struct Line {
     pub(crate) bytes: [u8; LONGEST_LINE],

@@ -6,7 +6,8 @@ pub enum Reply<'a> {
     /// The line was taken, and its turn printed this text.
     Taken(&'a [u8]),
 
-    /// The line is no line for the story: it has more than 1,000 bytes, or one that is not from 32 to 126.
+    /// The line is no line for the story: it has more than 1,000 bytes, or one that is not from 32
+    /// to 126.
     Refused,
 
     /// The story does not wait for a line: it has quit or was stopped.

@@ -12,17 +12,20 @@ use crate::writing::tell;
 use std::io::{Read, Write};
 use zcore::Place;
 
-/// Writes the opening, and then the reply to each line of the input, up to its end. It flushes after each of them. The
-/// session is one of which no line stands, as it is opened. It takes no memory but for the session's turns.
+/// Writes the opening, and then the reply to each line of the input, up to its end. It flushes
+/// after each of them. The session is one of which no line stands, as it is opened. It takes no
+/// memory but for the session's turns.
 ///
-/// A line ends at byte 10; a last line without it counts if it is not empty. `/undo` and `/redo`, to the byte, take the
-/// last turn back and do it again; any other line goes to the story. It answers where the story then stands.
+/// A line ends at byte 10; a last line without it counts if it is not empty. `/undo` and `/redo`,
+/// to the byte, take the last turn back and do it again; any other line goes to the story. It
+/// answers where the story then stands.
 ///
 /// # Errors
 ///
-/// [`RunFault::Reading`] where a read fails, an interrupted one too, and where the input has no end after 2^64 - 1
-/// reads: each line that was read whole is answered. [`RunFault::Writing`] where a write or a flush fails, or a write
-/// takes no byte: the reply that was being written is the last, and its line stands as if it were written.
+/// [`RunFault::Reading`] where a read fails, an interrupted one too, and where the input has no end
+/// after 2^64 - 1 reads: each line that was read whole is answered. [`RunFault::Writing`] where a
+/// write or a flush fails, or a write takes no byte: the reply that was being written is the last,
+/// and its line stands as if it were written.
 pub fn run<R: Read, W: Write>(
     reader: &mut R,
     writer: &mut W,

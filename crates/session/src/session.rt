@@ -24,8 +24,8 @@ use std::collections::VecDeque;
 use std::marker::Model;
 use zcore::Place;
 
-/// A story that is played line by line. The turns of its lines can be taken back one after another, and done again
-/// until another line is taken; the opening cannot be taken back.
+/// A story that is played line by line. The turns of its lines can be taken back one after another,
+/// and done again until another line is taken; the opening cannot be taken back.
 #[derive(Drop)]
 pub struct Session {
     machine: Machine,
@@ -72,7 +72,8 @@ impl Model for Session {
 }
 
 impl Session {
-    /// Opens a story with so many units of fuel for each turn, and plays its opening. All turns are kept.
+    /// Opens a story with so many units of fuel for each turn, and plays its opening. All turns are
+    /// kept.
     ///
     /// # Errors
     ///
@@ -83,13 +84,13 @@ impl Session {
         Session::open_with(alloc, story, fuel, None)
     }
 
-    /// Opens a story with so many units of fuel for each turn, and plays its opening. At most `keep` turns are kept,
-    /// or all of them.
+    /// Opens a story with so many units of fuel for each turn, and plays its opening. At most
+    /// `keep` turns are kept, or all of them.
     ///
     /// # Errors
     ///
-    /// `Load` where the story is not loaded: its header does not stand, or memory is refused while it is loaded.
-    /// `Memory` where memory is refused while the opening runs.
+    /// `Load` where the story is not loaded: its header does not stand, or memory is refused while
+    /// it is loaded. `Memory` where memory is refused while the opening runs.
     pub fn open_with(
         alloc: Global,
         story: Vec<u8>,
@@ -146,8 +147,8 @@ impl Session {
         }
     }
 
-    /// Takes the latest turn back. It answers false, and changes nothing, exactly where no turn is kept. It takes no
-    /// memory.
+    /// Takes the latest turn back. It answers false, and changes nothing, exactly where no turn is
+    /// kept. It takes no memory.
     pub fn undo(&mut self) -> bool
         ensures found { InEach self.old (λ story fuel keep s. IsTrue result ↔ (0 < s.kept)) }
         ensures undone { Moves undo_of self.old self.new }
@@ -161,8 +162,8 @@ impl Session {
         true
     }
 
-    /// Does the turn again that was taken back last, and lends its text. It answers `None`, and changes nothing,
-    /// exactly where no turn is undone. It takes no memory.
+    /// Does the turn again that was taken back last, and lends its text. It answers `None`, and
+    /// changes nothing, exactly where no turn is undone. It takes no memory.
     pub fn redo(&mut self) -> Option<&[u8]>
         ensures* rests { sem 𝓛 (Rests the_row self.entry (Redone self.old)) }
         ensures found { InEach self.old
@@ -186,8 +187,8 @@ impl Session {
         (self.done, self.turns.len() - self.done)
     }
 
-    /// How many cells the record of the latest kept turn holds, 0 where no turn is kept: at most one for each byte of
-    /// dynamic memory and 72,559 for stack, frames and registers.
+    /// How many cells the record of the latest kept turn holds, 0 where no turn is kept: at most
+    /// one for each byte of dynamic memory and 72,559 for stack, frames and registers.
     pub fn last_cells(&self) -> usize
         ensures cells { result ≡ latest_size self.now }
         ensures most { result ≤ largest_record self.now.static_base }
@@ -200,12 +201,14 @@ impl Session {
         }
     }
 
-    /// Replies to a line: plays its turn and lends what it prints. The turn is kept then, and those that were undone
-    /// are given up; where more are kept than may be, the oldest one is given up too.
+    /// Replies to a line: plays its turn and lends what it prints. The turn is kept then, and those
+    /// that were undone are given up; where more are kept than may be, the oldest one is given up
+    /// too.
     ///
-    /// The line is refused where it has more than 1,000 bytes or one that is not from 32 to 126; then it is over where
-    /// the story does not wait for a line. Where memory is refused, the line is not taken. In these three cases the
-    /// session is as before. Only a line that the story is given takes memory.
+    /// The line is refused where it has more than 1,000 bytes or one that is not from 32 to 126;
+    /// then it is over where the story does not wait for a line. Where memory is refused, the line
+    /// is not taken. In these three cases the session is as before. Only a line that the story is
+    /// given takes memory.
     pub fn reply(&mut self, line: &[u8]) -> Reply<'_>
         ensures* rests { sem 𝓛 (Rests the_row self.entry (After line.now result self.old)) }
         ensures says { InEach self.old (λ story fuel keep s. Says story fuel s line.now result) }
@@ -225,8 +228,8 @@ impl Session {
         }
     }
 
-    /// Plays the turn of a line, which stands behind the present then, even where more turns are kept than may be.
-    /// At `Err` memory was refused, and the session is as before.
+    /// Plays the turn of a line, which stands behind the present then, even where more turns are
+    /// kept than may be. At `Err` memory was refused, and the session is as before.
     fn play(&mut self, line: &[u8]) -> Result<(), NoMemory>
         requires { slice_index_or self.old.places self.old.present places.Quit ≡ places.Waiting }
         ensures turned { OnOk result (Turned line.now self.old self.new) }

@@ -4,8 +4,8 @@ ghost use Rattle.std.specs.Prelude.{◌≡◌, ◌<◌, ◌≤◌, ◌++◌, ◌
 ghost use Rattle.std.specs.VecDeque.{deque_len, deque_capacity};
 ghost use Rattle.journal.specs.Recording.{IsNothingKept};
 ghost use Rattle.journal.specs.Swap.{back, forward, Fits};
-ghost use Rattle.frames.specs.Contents.{bound_of};
-ghost use Rattle.session.specs.Inside.{store_back, store_forward, swapped, turn_back, turn_forward};
+ghost use Rattle.machine_frames.specs.Contents.{bound_of};
+ghost use Rattle.session.specs.Inside.{Swaps};
 
 use journal::{NoMemory, Record, Recorded, swap_back, swap_forward};
 use machine::Store;
@@ -43,14 +43,7 @@ impl Turn {
 pub(crate) fn take_back(store: &mut Recorded<Store>, turn: &mut Turn)
     requires idle { IsNothingKept store.old }
     requires fits { Fits (length store.old.store.cells) bound_of turn.old.overwritten }
-    ensures store { store.new.store ≡ store_back store.old.store turn.old }
-    ensures begun { store.new.beginning ≡ store.new.store.cells }
-    ensures idle { IsNothingKept store.new }
-    ensures turn { turn.new ≡ turn_back store.old.store turn.old }
-    ensures fits { Fits (length store.new.store.cells) bound_of turn.new.overwritten }
-    ensures length { length store.new.store.cells ≡ length store.old.store.cells }
-    ensures inverse { forward store.new.store.cells turn.new.overwritten
-        ≡ swapped store.old.store turn.old }
+    ensures { Swaps back forward store.old store.new turn.old turn.new }
 {
     swap_back(store.store_mut(), &mut turn.overwritten);
 }
@@ -59,14 +52,7 @@ pub(crate) fn take_back(store: &mut Recorded<Store>, turn: &mut Turn)
 pub(crate) fn do_again(store: &mut Recorded<Store>, turn: &mut Turn)
     requires idle { IsNothingKept store.old }
     requires fits { Fits (length store.old.store.cells) bound_of turn.old.overwritten }
-    ensures store { store.new.store ≡ store_forward store.old.store turn.old }
-    ensures begun { store.new.beginning ≡ store.new.store.cells }
-    ensures idle { IsNothingKept store.new }
-    ensures turn { turn.new ≡ turn_forward store.old.store turn.old }
-    ensures fits { Fits (length store.new.store.cells) bound_of turn.new.overwritten }
-    ensures length { length store.new.store.cells ≡ length store.old.store.cells }
-    ensures inverse { back store.new.store.cells turn.new.overwritten
-        ≡ swapped store.old.store turn.old }
+    ensures { Swaps forward back store.old store.new turn.old turn.new }
 {
     swap_forward(store.store_mut(), &mut turn.overwritten);
 }

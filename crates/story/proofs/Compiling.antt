@@ -7,12 +7,13 @@ use Rattle.std.specs.Result.{IsErr, IsErrAnd}
 use Rattle.zcore.specs.declared.header.Version.{Version}
 use Rattle.zcore.specs.Header.{scale_of, Reads}
 use Rattle.zcore.specs.declared.header.Header.{Header}
-use Rattle.lexer.specs.declared.fault.SourceFault.{SourceFault}
-use Rattle.lexer.specs.declared.token.Token.{Token}
-use Rattle.lexer.specs.Token.{lexemes}
-use Rattle.lexer.specs.Tokens.{Lexes}
-use Rattle.lexer.specs.Results.{no_memory, source_tokens}
-use Rattle.lexer.specs.Printable.{PrintableTokens}
+use Rattle.syntax_lexer.specs.declared.fault.SourceFault.{SourceFault}
+use Rattle.syntax_lexer.specs.declared.token.Token.{Token}
+use Rattle.syntax_lexer.specs.Token.{lexemes}
+use Rattle.syntax_lexer.specs.Tokens.{Lexes}
+use Rattle.syntax_lexer.specs.Results.{source_tokens}
+use Rattle.syntax_lexer.specs.FaultNumbers.{no_memory}
+use Rattle.syntax_lexer.specs.Printable.{PrintableTokens}
 use Rattle.syntax.specs.Tree.{ProgramTree}
 use Rattle.syntax.specs.Grammar.{IsProgram, program_nesting}
 use Rattle.syntax.specs.Nesting.{DeepProgram}
@@ -21,19 +22,22 @@ use Rattle.meaning.specs.Accepted.{IsAccepted}
 use Rattle.meaning.specs.Printable.{HasPrintableTexts}
 use Rattle.meaning.specs.Places.{routines_place}
 use Rattle.meaning.specs.Resolved.{CheckedProgram, program_of}
-use Rattle.meaning.specs.Sizes as checked
-use Rattle.names.specs.declared.breach.Breach.{Breach}
-use Rattle.names.specs.Breaches.{IsAmong, IsFirst}
+use Rattle.meaning.specs.CheckedSizes.{checked_size_fault}
+use Rattle.checker_names.specs.declared.breach.Breach.{Breach}
+use Rattle.checker_names.specs.Breaches.{IsAmong, IsFirst}
 use Rattle.checker.specs.Programs.{program_breaches, IsCheckedOf}
-use Rattle.acceptance.specs.Laws.{AcceptedPrograms, PrintablePrograms}
-use Rattle.code.specs.Laws.{CodePlays, Plays}
-use Rattle.sizes.specs.Laws.{IsSmall, SmallSourcesHaveSmallCode}
-use Rattle.story_file.specs.Layout.{addresses_in, greatest_word, story_of}
-use Rattle.story_file.specs.Written.{Fits}
-use Rattle.story.specs.Compiled.{IsTreeOf, IsStoryOf, Refuses, Compiles, lexemes_of, NumbersKeys}
-use Rattle.story.specs.Compiled as spec
+use Rattle.checker.specs.Laws.{AcceptedPrograms, PrintablePrograms}
+use Rattle.code.specs.Laws.{CodePlays}
+use Rattle.meaning.specs.Plays.{Plays}
+use Rattle.story_sizes.specs.Laws.{IsSmall, SmallSourcesHaveSmallCode}
+use Rattle.story_file.specs.Layout.{addresses_in, story_of}
+use Rattle.zcore.specs.Layout.{greatest_word}
+use Rattle.story_file.specs.Written.{FitsStory}
+use Rattle.story.specs.Compiled.{IsStoryOf, Compiles, NumbersKeys}
+use Rattle.story.specs.Refused.{IsTreeOf, Refuses, lexemes_of}
+use Rattle.story.specs.Refused as spec
 use Rattle.story.specs.Laws.{StoriesHold}
-use Rattle.story.proofs.Faults.{by_weight, size_faults, placed_of}
+use Rattle.story.proofs.Faults.{size_faults, placed_of}
 use Rattle.story.proofs.Sizes.{stories_are_short, is_story}
 use Rattle.story.proofs.Numbered.{keys_numbered}
 
@@ -94,7 +98,7 @@ unchecked version source p f tree answer = elim answer [
 
 pub too_large : (version : Version) (source : List ℕ) (p : ProgramTree) (c : CheckedProgram) (f : SourceFault)
     → IsTreeOf source p → program_breaches p ≡ [] → IsCheckedOf p c
-    → Some f ≡ checked.size_fault c version → Refuses version source f
+    → Some f ≡ checked_size_fault c version → Refuses version source f
 too_large version source p c f tree lawful is e = spec.too_large p tree lawful (sym (e ∙ size_faults version p c is))
 
 -- Stories
@@ -107,7 +111,7 @@ module _ (accepted_programs : AcceptedPrograms) (printable_tokens : PrintableTok
     (lexed : Lexes 0 1 source (Ok (source_tokens ts))) (parsed : IsProgram (lexemes ts) p)
     (lawful : program_breaches p
     ≡ []) (is : IsCheckedOf p c)
-    (sized : checked.size_fault c version ≡ None) where
+    (sized : checked_size_fault c version ≡ None) where
   small : IsSmall c version
   small = small_sources (lexemes ts) p c version parsed is sized
 
@@ -119,10 +123,9 @@ module _ (accepted_programs : AcceptedPrograms) (printable_tokens : PrintableTok
       (printable_programs p (printable_trees (lexemes ts) p parsed (printable_tokens source ts lexed)))
 
   placed : routines_place (program_of c) ≤ greatest_word
-  placed = placed_of (routines_place (program_of c)) (checked.fault 30 0)
-      (by_weight version c.weight (checked.heavy_fault (checked.first_heavy c.routines))) sized
+  placed = placed_of (routines_place (program_of c)) _ _ sized
 
-  pub fits : Fits version (program_of c)
+  pub fits : FitsStory version (program_of c)
   fits = record {
     accepted = accepted;
     printable = printable;
@@ -139,15 +142,17 @@ module _ (accepted_programs : AcceptedPrograms) (printable_tokens : PrintableTok
       let plays : (full : ℕ) (lines : List (List ℕ)) → Plays (story_of version q) q full lines =
       code_plays (story_of version q) (addresses_in (scale_of version) q) q accepted printable held.1 in
       record {
-        tree = p;
-        is_tree = is_tree source ts lexed p parsed nested;
-        lawful = lawful;
-        fits = sym (size_faults version p c is) ∙ sized;
+        playable = record {
+          tree = p;
+          is_tree = is_tree source ts lexed p parsed nested;
+          lawful = lawful;
+          fits = sym (size_faults version p c is) ∙ sized;
+          reads = subst (λ b. (header : Header) × Reads b (Ok header)) (sym laid) held.0;
+          plays = λ full lines. subst (λ r. Plays bytes r full lines) is.program
+              (subst (λ b. Plays b q full lines) (sym laid) (plays full lines));
+        };
         laid_out = laid ∙ ap (story_of version) is.program;
-        reads = subst (λ b. (header : Header) × Reads b (Ok header)) (sym laid) held.0;
         dictionary = subst (λ r. NumbersKeys bytes r) is.program
             (subst (λ b. NumbersKeys b q) (sym laid)
             (keys_numbered (story_of version q) q (addresses_in (scale_of version) q) placed held.1));
-        plays = λ full lines. subst (λ r. Plays bytes r full lines) is.program
-            (subst (λ b. Plays b q full lines) (sym laid) (plays full lines));
       }

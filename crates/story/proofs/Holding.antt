@@ -17,24 +17,26 @@ use Rattle.meaning.specs.Accepted.{IsAccepted}
 use Rattle.meaning.specs.Places.{arrays_place, start_place, routines_place, texts_place}
 use Rattle.meaning.specs.Meaning.{routine_at}
 use Rattle.meaning.specs.World.{words_of}
-use Rattle.items.specs.Statements.{routine_items}
-use Rattle.region.specs.Laws.{HoldsRows}
-use Rattle.region.specs.Rows.{rows_of, rows_bytes}
-use Rattle.encoding.specs.Addresses.{Addresses, number_of}
+use Rattle.code_items.specs.Statements.{routine_items}
+use Rattle.code_object_memory.specs.Laws.{HoldsRows}
+use Rattle.code_object_memory.specs.Rows.{rows_of, rows_bytes}
+use Rattle.code_encoding.specs.Addresses.{Addresses, number_of}
 use Rattle.code.specs.Bytes.{code_size}
 use Rattle.code.specs.HeldProgram.{HoldsProgram, HoldsAbbreviation, HoldsRoutine, HoldsText, fault_line, start_code}
 use Rattle.code.specs.HeldProgram.{sizes_of}
 use Rattle.code.specs.Sizes.{routine_size}
 use Rattle.story_file.specs.Layout.{addresses_in, fault_texts, packed_addresses, parts_from, addresses_from}
-use Rattle.story_file.specs.Layout.{greatest_word, low_bytes, routine_bytes, story_of, text_places}
+use Rattle.story_file.specs.Layout.{low_bytes, routine_bytes, story_of, text_places}
+use Rattle.zcore.specs.Layout.{greatest_word}
 use Rattle.story_file.proofs.Parts.{HasPartAt, holds_first, parts_rise, parts_stand, addresses_count}
 use Rattle.story_file.proofs.Lengths.{routine_length, sizes_are}
 use Rattle.story_file.proofs.AbbreviationTables.{texts_above, texts_below}
 use Rattle.story_file.proofs.Low.{global_stands, arrays_hold, objects_hold, high_stands, start_stands, place_stands}
 use Rattle.story_file.proofs.Low.{abbreviation_stands}
 use Rattle.story_file.proofs.ObjectTables.{rows_sized}
-use Rattle.story.specs.Laws.{IsShort, StoriesHold}
-use Rattle.story.proofs.Reading.{Says, behind_header, says, header_read, laid_length, laid_out, laid_read, laid_keys}
+use Rattle.story.specs.Laws.{StoriesHold, IsShortRoutine}
+use Rattle.story.proofs.Reading.{behind_header, says, header_read, laid_length, laid_out, laid_read, laid_keys}
+use Rattle.story.proofs.Reading.{SaysInHeader}
 use Rattle.story.proofs.PackedParts.{packed_is, scale_is, is_packed, size_at, routine_is, few_causes, text_of, parts_of}
 use Rattle.story.proofs.PackedParts.{parts_count, routine_part, text_part, part_long, array_found}
 
@@ -60,7 +62,7 @@ record Lies (at : ℕ) (version : Version) (story : List ℕ) (packed : ℕ) (pa
   word : packed < 65536
 
 module _ (version : Version) (p : ProgramOf) (story : List ℕ)
-    (said : Says version p story) (long : routines_place p ≤ length story)
+    (said : SaysInHeader version p story) (long : routines_place p ≤ length story)
     (short : length story ≤ 65535 * scale_of version)
     (high : drop (routines_place p) story ≡ parts_from (scale_of version) (routines_place p) (parts_in version p)) where
   sizes_same : map length (parts_in version p) ≡ map (routine_size (sizes_of p)) p.routines ++ map length fault_texts
@@ -191,7 +193,7 @@ module _ (version : Version) (p : ProgramOf) (accepted : IsAccepted p) where
   words : length p.defaults ≡ 63
   words = accepted.defaults.0
 
-  said : Says version p story
+  said : SaysInHeader version p story
   said = says version p (low_bytes p main ++ high)
 
   long : routines_place p ≤ length story
@@ -225,14 +227,14 @@ module _ (version : Version) (p : ProgramOf) (accepted : IsAccepted p) where
         low = omega (arith, named, texts_below (texts_place p) p.abbreviations n within, placed);
       }
 
-  holds : routines_place p ≤ greatest_word → All (IsShort (sizes_of p)) p.routines
+  holds : routines_place p ≤ greatest_word → All (IsShortRoutine (sizes_of p)) p.routines
       → length story ≤ 65535 * scale_of version → All (λ b. b < 256) story → HoldsProgram story a p
   holds placed small short bytes =
       let high_is : drop (routines_place p) story ≡ high = high_stands story p high main words body_stands in
       record {
         byte_each = bytes;
         routines = λ r within. routine_lies version p story said long short high_is r within
-            (subst (IsShort (sizes_of p)) (routine_is p.routines r (routine_at p.routines r) within)
+            (subst (IsShortRoutine (sizes_of p)) (routine_is p.routines r (routine_at p.routines r) within)
             (small r (routine_at p.routines r) within));
         faults = λ cause. subst (λ at. HoldsText story at (fault_line (words_of cause)))
             (sym (get_or-drop (length p.routines) (packed_in version p) (number_of cause) 0))

@@ -18,8 +18,8 @@ use Rattle.zcore.specs.Parts.{branch_on, print}
 use Rattle.zcore.specs.Execution.{step, perform, push_word, pull, load_word, load_byte, call_packed, return_popped}
 use Rattle.zcore.specs.Execution.{print_characters, print_inline, print_packed, text_at, give_result}
 use Rattle.zcore.specs.Turn.{opening, turn_from, weight}
-use Rattle.expression_trees.specs.declared.tree.Binary.TheVariants as binaries
-use Rattle.expression_trees.specs.declared.tree.Width.TheVariants as widths
+use Rattle.syntax_trees.specs.declared.tree.Binary.TheVariants as binaries
+use Rattle.syntax_trees.specs.declared.tree.Width.TheVariants as widths
 use Rattle.meaning.specs.declared.resolved.Variable.TheVariants as variables
 use Rattle.meaning.specs.Meaning.{meaning}
 use Rattle.meaning.specs.Resolved.{ProgramOf, binary, call as calls, effect, entry, more, none, number, number_of}

@@ -16,14 +16,15 @@ use Rattle.meaning.specs.Accepted.{IsAccepted}
 use Rattle.meaning.specs.Places.{defaults_place, dictionary_place, start_place, routines_place, places_of}
 use Rattle.meaning.specs.Resolved.{ProgramOf}
 use Rattle.code.specs.HeldProgram.{start_code}
-use Rattle.story_file.specs.Layout.{abbreviation_texts, greatest_word, header_of, low_bytes, key_bytes}
+use Rattle.story_file.specs.Layout.{abbreviation_texts, header_of, low_bytes, key_bytes}
+use Rattle.zcore.specs.Layout.{greatest_word}
 use Rattle.story_file.specs.Layout.{dictionary_bytes, parts_from}
 use Rattle.story_file.proofs.Parts.{whole, holds_first, parts_end}
 use Rattle.story_file.proofs.Entries.{keys_read}
 use Rattle.story_file.proofs.Low.{word_is, byte_behind, word_behind, low_length, dictionary_stands}
 
 -- what the header of a program's story says
-pub record Says (version : Version) (p : ProgramOf) (story : List ℕ) : Type 0 where
+pub record SaysInHeader (version : Version) (p : ProgramOf) (story : List ℕ) : Type 0 where
   pub version_byte : slice_index story 0 ≡ version_number version
   pub high_memory : high_memory_of story ≡ start_place p
   pub first_instruction : first_instruction_of story ≡ start_place p
@@ -42,7 +43,7 @@ module _ (version : Version) (p : ProgramOf) (body : List ℕ) where
   pub behind_header : drop 64 (header_of version (places_of p) body ++ body) ≡ body
   behind_header = drop_at (header_of version (places_of p) body) body 64 refl
 
-  pub says : Says version p (header_of version (places_of p) body ++ body)
+  pub says : SaysInHeader version p (header_of version (places_of p) body ++ body)
   says = record {
     version_byte = refl;
     high_memory = word_is (start_place p);
@@ -98,7 +99,7 @@ header_read version p = record {
   dictionary = record { address = dictionary_place p; separators = 3; entry_length = 9; entries = length p.keys };
 }
 
-module _ (version : Version) (p : ProgramOf) (story rest : List ℕ) (said : Says version p story)
+module _ (version : Version) (p : ProgramOf) (story rest : List ℕ) (said : SaysInHeader version p story)
     (multiple : whole version (length story)) (placed : routines_place p ≤ greatest_word)
     (long : routines_place p ≤ length story)
     (small : All (λ k. k < 2 ^ 48) p.keys) (ascending : IsStrictlyIncreasing p.keys)

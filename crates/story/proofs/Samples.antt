@@ -13,17 +13,17 @@ use Rattle.zcore.specs.Parts.{read_in_place, push, pop, read_variable, operand_v
 use Rattle.zcore.specs.Parts.{spend, go, test_routine, test_calls, enter, call, test_return, leave, give_back}
 use Rattle.zcore.specs.Execution.{step, perform, call_packed}
 use Rattle.zcore.specs.Turn.{Whole, opening, turn_from, weight}
-use Rattle.statements.specs.Tree as trees
-use Rattle.directives.specs.Tree.{routine}
+use Rattle.syntax_statements.specs.Tree as trees
+use Rattle.syntax_directives.specs.Tree.{routine}
 use Rattle.syntax.specs.Tree.{ProgramTree}
 use Rattle.meaning.specs.Meaning.{meaning}
 use Rattle.meaning.specs.Resolved.{ProgramOf, number, stop, text}
-use Rattle.names.specs.Names.{table_of}
-use Rattle.names.specs.Names as names
+use Rattle.checker_names.specs.Names.{table_of}
+use Rattle.checker_names.specs.Names as names
 use Rattle.checker.specs.Programs.{resolve_program, resolve_with}
 use Rattle.story_file.specs.Layout.{abbreviation_bytes, abbreviation_texts, fault_texts, low_bytes, packed_addresses}
 use Rattle.story_file.specs.Layout.{story_of}
-use Rattle.story.specs.Compiled.{size_fault}
+use Rattle.story.specs.Refused.{tree_size_fault}
 
 texts : fault_texts
     ≡ (20 ∷ 229 ∷ 24 ∷ 91 ∷ 17 ∷ 102 ∷ 106 ∷ 57 ∷ 23 ∷ 160 ∷ 37 ∷ 219 ∷ 59 ∷ 14 ∷ 82 ∷ 96 ∷ 31 ∷ 192 ∷ 125 ∷ 87
@@ -171,18 +171,18 @@ weighing source one = record {
   words = [];
 }
 
-small_source : size_fault V5 (weighing 190000 32000) ≡ None
+small_source : tree_size_fault V5 (weighing 190000 32000) ≡ None
 unfolding resolve_program resolve_with table_of names.key_of
 small_source = refl
 
-large_source : size_fault V5 (weighing 190001 32001) ≡ Some (record { number = 31; line = 0 })
+large_source : tree_size_fault V5 (weighing 190001 32001) ≡ Some (record { number = 31; line = 0 })
 unfolding resolve_program resolve_with table_of names.key_of
 large_source = refl
 
-large_source_8 : size_fault V8 (weighing 450001 32000) ≡ Some (record { number = 31; line = 0 })
+large_source_8 : tree_size_fault V8 (weighing 450001 32000) ≡ Some (record { number = 31; line = 0 })
 unfolding resolve_program resolve_with table_of names.key_of
 large_source_8 = refl
 
-large_routine : size_fault V8 (weighing 190001 32001) ≡ Some (record { number = 32; line = 3 })
+large_routine : tree_size_fault V8 (weighing 190001 32001) ≡ Some (record { number = 32; line = 3 })
 unfolding resolve_program resolve_with table_of names.key_of
 large_routine = refl

@@ -9,11 +9,12 @@ use Rattle.meaning.specs.Resolved.{RoutineOf, ProgramOf}
 use Rattle.meaning.specs.Accepted.{IsAccepted}
 use Rattle.meaning.specs.Places.{routines_place}
 use Rattle.meaning.specs.Sizes.{greatest_weight}
-use Rattle.encoding.specs.Addresses.{Sizes}
+use Rattle.code_encoding.specs.Addresses.{Sizes}
 use Rattle.code.specs.HeldProgram.{sizes_of}
 use Rattle.code.specs.Sizes.{routine_size, routines_size}
-use Rattle.story_file.specs.Layout.{addresses_in, fault_texts, greatest_word, parts_from, story_of}
-use Rattle.story.specs.Laws.{IsShort, IsStory, StoriesAreShort}
+use Rattle.story_file.specs.Layout.{addresses_in, fault_texts, parts_from, story_of}
+use Rattle.zcore.specs.Layout.{greatest_word}
+use Rattle.story.specs.Laws.{IsStory, StoriesAreShort, IsShortRoutine}
 use Rattle.story_file.proofs.Parts.{parts_short, room_for}
 use Rattle.story_file.proofs.Lengths.{sizes_are}
 use Rattle.story.proofs.Reading.{laid_length}
@@ -55,7 +56,7 @@ stories_are_short version p accepted placed light =
 
 -- routines that weigh at most 32,000 have code that jumps reach
 pub all_short : (sizes : Sizes) (rs : List RoutineOf)
-    → All (λ (r : RoutineOf). routine_size sizes r + 7 ≤ 32000) rs → All (IsShort sizes) rs
+    → All (λ (r : RoutineOf). routine_size sizes r + 7 ≤ 32000) rs → All (IsShortRoutine sizes) rs
 all_short sizes rs small k d within =
     let h : routine_size sizes (slice_index_or rs k d) + 7 ≤ 32000 = small k d within in
     omega (arith, h)

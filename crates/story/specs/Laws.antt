@@ -8,21 +8,22 @@ use Rattle.meaning.specs.Resolved.{RoutineOf, ProgramOf}
 use Rattle.meaning.specs.Accepted.{IsAccepted}
 use Rattle.meaning.specs.Sizes.{greatest_weight}
 use Rattle.meaning.specs.Places.{routines_place}
-use Rattle.items.specs.Statements.{routine_items}
-use Rattle.encoding.specs.Addresses.{Sizes}
+use Rattle.code_items.specs.Statements.{routine_items}
+use Rattle.code_encoding.specs.Addresses.{Sizes}
 use Rattle.code.specs.Bytes.{code_size}
 use Rattle.code.specs.Sizes.{routines_size}
 use Rattle.code.specs.HeldProgram.{sizes_of, HoldsProgram}
-use Rattle.story_file.specs.Layout.{addresses_in, greatest_word, greatest_length, story_of}
+use Rattle.story_file.specs.Layout.{addresses_in, greatest_length, story_of}
+use Rattle.zcore.specs.Layout.{greatest_word}
 
 -- the code of a routine of a program of these sizes can be reached by jumps
-abbrev pub IsShort : Sizes → RoutineOf → Type 0
-IsShort sizes r = code_size sizes (routine_items r) ≤ 32000
+abbrev pub IsShortRoutine : Sizes → RoutineOf → Type 0
+IsShortRoutine sizes r = code_size sizes (routine_items r) ≤ 32000
 
 -- a story whose addresses and packed addresses are words, and whose bytes are bytes
 pub record IsStory (version : Version) (p : ProgramOf) : Type 0 where
   pub accepted : IsAccepted p
-  pub short : All (IsShort (sizes_of p)) p.routines
+  pub short : All (IsShortRoutine (sizes_of p)) p.routines
   pub placed : routines_place p ≤ greatest_word
   pub within : length (story_of version p) ≤ greatest_length version
   pub bytes : All (λ b. b < 256) (story_of version p)

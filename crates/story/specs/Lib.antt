@@ -1,2 +1,4 @@
+pub mod Refused
+pub mod Playable
 pub mod Compiled
 pub mod Laws

@@ -2,14 +2,16 @@
 
 ghost use Rattle.story.specs.Laws.{StoriesAreShort, StoriesHold};
 
-/// The story of an accepted program is read, and holds the program at the packed addresses that its calls name, where
-/// its code is short enough for jumps, its packed addresses are words and its bytes are bytes.
+/// The story of an accepted program is read, and holds the program at the packed addresses that its
+/// calls name, where its code is short enough for jumps, its packed addresses are words and its
+/// bytes are bytes.
 pub fn stories_hold()
     ensures { StoriesHold }
 {}
 
-/// The packed addresses of a story are words where those of all that stands before its routines are words, and its
-/// code, with the filling between routines, weighs no more than the source of a story of the version may weigh.
+/// The packed addresses of a story are words where those of all that stands before its routines are
+/// words, and its code, with the filling between routines, weighs no more than the source of a
+/// story of the version may weigh.
 pub fn stories_are_short()
     ensures { StoriesAreShort }
 {}

@@ -5,16 +5,15 @@ ghost use Rattle.zcore.specs.declared.header.Version.TheVariants.{V5};
 ghost use Rattle.story.specs.Compiled.{Compiles};
 
 use crate::laws::{stories_are_short, stories_hold};
-use acceptance::{accepted_programs, printable_programs};
-use checker::check;
+use checker::{accepted_programs, check, printable_programs};
 use code::code_plays;
-use lexer::{SourceFault, lex, printable_tokens};
 use meaning::test_sizes;
-use sizes::small_sources_have_small_code;
 use std::alloc::Global;
 use std::marker::Model;
 use story_file::write_story;
+use story_sizes::small_sources_have_small_code;
 use syntax::{parse, printable_trees};
+use syntax_lexer::{SourceFault, lex, printable_tokens};
 use zcore::Version;
 
 /// A compiled story: the bytes of a story file.
@@ -69,15 +68,16 @@ pub fn compile(alloc: Global, source: &[u8]) -> Result<Story, SourceFault>
     compile_for(alloc, source, Version::V5)
 }
 
-/// The story of a source, in a version: its header is read, and on every fuel and all lines its turns print what the
-/// source means.
+/// The story of a source, in a version: its header is read, and on every fuel and all lines its
+/// turns print what the source means.
 ///
 /// # Errors
 ///
-/// The fault by which the source is refused, that of the earliest part that finds one, with its line: E01 to E04 where
-/// the bytes are no tokens, E10 where the tokens are no program, E05 where the program is nested more than 100 deep,
-/// E20 to E29 and E33 where it breaks a rule, and E30 to E32 where it is too large; E30 and E31 with line 0, and E31 by
-/// the version. E99, with line 0, where a growth of memory was refused.
+/// The fault by which the source is refused, that of the earliest part that finds one, with its
+/// line: E01 to E04 where the bytes are no tokens, E10 where the tokens are no program, E05 where
+/// the program is nested more than 100 deep, E20 to E29 and E33 where it breaks a rule, and E30 to
+/// E32 where it is too large; E30 and E31 with line 0, and E31 by the version. E99, with line 0,
+/// where a growth of memory was refused.
 pub fn compile_for(alloc: Global, source: &[u8], version: Version) -> Result<Story, SourceFault>
     ensures { Compiles version source.now result }
 {

@@ -16,7 +16,7 @@ use Rattle.meaning.specs.Places.{total, text_size as size_of, abbreviations_size
 use Rattle.meaning.specs.Places.{texts_place}
 use Rattle.meaning.specs.Resolved.{ProgramOf}
 use Rattle.story_file.specs.Layout.{word, text_places, addresses_from, abbreviation_bytes, abbreviation_texts}
-use Rattle.story_file.specs.Written.{bytes_in, half, table_bytes, text_size}
+use Rattle.story_file.specs.Written.{bytes_in, half, table_bytes, encoded_length}
 use Rattle.story_file.proofs.Parts.{behind_at, holds_first}
 
 -- Sizes
@@ -119,13 +119,13 @@ printable_at (t ∷ ts) (suc i) x all within is =
 
 -- the sizes of texts that were encoded
 pub sizes_are : (texts : List (Vec ℕ)) (given : List (List ℕ)) → map bytes_in texts ≡ map encoded given
-    → map text_size texts ≡ map size_of given
+    → map encoded_length texts ≡ map size_of given
 sizes_are texts given e =
     lengths texts ∙ ap (λ (bs : List (List ℕ)). map length bs) e ∙ encoded_lengths given
   where
-    lengths : (ts : List (Vec ℕ)) → map text_size ts ≡ map length (map bytes_in ts)
+    lengths : (ts : List (Vec ℕ)) → map encoded_length ts ≡ map length (map bytes_in ts)
     lengths [] = refl
-    lengths (t ∷ ts) = ap (λ (ns : List ℕ). text_size t ∷ ns) (lengths ts)
+    lengths (t ∷ ts) = ap (λ (ns : List ℕ). encoded_length t ∷ ns) (lengths ts)
 
     encoded_lengths : (ts : List (List ℕ)) → map length (map encoded ts) ≡ map size_of ts
     encoded_lengths [] = refl
@@ -139,7 +139,7 @@ total_is given = sum-map size_of given ∙ all given
     all (t ∷ ts) = sum_by-cons size_of t ts ∙ ap (λ m. size_of t + m) (all ts)
 
 pub sizes_total : (p : ProgramOf) (texts : List (Vec ℕ)) → map bytes_in texts ≡ map encoded p.abbreviations
-    → sum (map text_size texts) ≡ abbreviations_size p
+    → sum (map encoded_length texts) ≡ abbreviations_size p
 sizes_total p texts e = ap sum (sizes_are texts p.abbreviations e) ∙ total_is p.abbreviations
 
 addresses_are : (at : ℕ) (given : List (List ℕ)) → addresses_from 1 at (map size_of given) ≡ text_places at given
@@ -169,12 +169,12 @@ filled (suc n) m (at ∷ places) few h =
 
 pub table_is : (p : ProgramOf) (texts : List (Vec ℕ)) (place : ℕ) → length p.abbreviations ≤ 96
     → place ≡ texts_place p → map bytes_in texts ≡ map encoded p.abbreviations
-    → table_bytes place (map text_size texts) ≡ abbreviation_bytes p
+    → table_bytes place (map encoded_length texts) ≡ abbreviation_bytes p
 table_is p texts place few here e =
     let places : List ℕ = text_places (texts_place p) p.abbreviations in
     let count : length (map size_of p.abbreviations) ≡ length places =
     length-map p.abbreviations size_of ∙ sym (place_count (texts_place p) p.abbreviations) in
-    ap (λ at. table_bytes at (map text_size texts)) here
+    ap (λ at. table_bytes at (map encoded_length texts)) here
     ∙ ap (table_bytes (texts_place p)) (sizes_are texts p.abbreviations e)
     ∙ ap (λ ns. flat_map word (map half ns)
     ++ flat_map word (replicate {A = ℕ} (96 - length (map size_of p.abbreviations)) 128))

@@ -11,9 +11,10 @@ use Rattle.ztext.specs.Words.{packed}
 use Rattle.zcore.specs.declared.header.Version.{Version}
 use Rattle.zcore.specs.Header.{scale_of, version_number}
 use Rattle.meaning.specs.declared.places.Places.{Places}
-use Rattle.meaning.specs.Places.{dictionary_end, filling_before, header_size}
+use Rattle.meaning.specs.Places.{dictionary_end, filling_before}
+use Rattle.zcore.specs.Layout.{header_size}
 use Rattle.meaning.specs.Resolved.{ProgramOf}
-use Rattle.encoding.specs.Addresses.{Addresses}
+use Rattle.code_encoding.specs.Addresses.{Addresses}
 use Rattle.code.specs.HeldProgram.{start_code}
 use Rattle.code.specs.Written.{CodeOf}
 use Rattle.story_file.specs.Layout.{word, abbreviation_bytes, global_bytes, object_bytes, dictionary_bytes, low_bytes}

@@ -14,14 +14,15 @@ use Rattle.meaning.specs.Resolved.{RoutineOf, ProgramOf}
 use Rattle.meaning.specs.Meaning.{routine_at}
 use Rattle.meaning.specs.Accepted.{IsRoutine}
 use Rattle.meaning.specs.Places.{arrays_place, routines_place, places_of}
-use Rattle.encoding.specs.Addresses.{Addresses, Sizes}
+use Rattle.code_encoding.specs.Addresses.{Addresses, Sizes}
 use Rattle.code.specs.HeldProgram.{sizes_of}
 use Rattle.code.specs.Sizes.{routine_size}
 use Rattle.code.specs.Written.{CodeOf}
-use Rattle.story_file.specs.Layout.{aligned, greatest_word, parts_from, fault_texts, routine_bytes, packed_addresses}
+use Rattle.story_file.specs.Layout.{aligned, parts_from, fault_texts, routine_bytes, packed_addresses}
+use Rattle.zcore.specs.Layout.{greatest_word}
 use Rattle.story_file.specs.Layout.{array_addresses, addresses_in, low_bytes, body_with, body_of, header_of, story_of}
-use Rattle.story_file.specs.Written.{Fits, IsReady, bytes_in, text_size, code_of, code_part, part_size, packed_from}
-use Rattle.story_file.specs.Written.{end_from}
+use Rattle.story_file.specs.Written.{bytes_in, code_of, code_part, part_size, packed_from, IsReadyCode, FitsStory}
+use Rattle.story_file.specs.Written.{encoded_length, end_from}
 use Rattle.story_file.proofs.Parts.{aligned_above}
 use Rattle.story_file.proofs.Low.{low_length}
 use Rattle.story_file.proofs.Lengths.{sizes_are}
@@ -69,15 +70,15 @@ few_locals p [] k all h = absurd (omega arith)
 few_locals p (r ∷ rs) zero all h = (All-head (IsRoutine p) r rs all).0
 few_locals p (r ∷ rs) (suc k) all h = few_locals p rs k (All-tail (IsRoutine p) r rs all) (omega arith)
 
-pub codes_ready : (version : Version) (p : ProgramOf) (codes : List CodeOf) → Fits version p
-    → codes ≡ codes_in p → All IsReady codes
+pub codes_ready : (version : Version) (p : ProgramOf) (codes : List CodeOf) → FitsStory version p
+    → codes ≡ codes_in p → All IsReadyCode codes
 codes_ready version p codes fits e k d h =
     let within : k < length p.routines = omega (arith, h, ap length e, codes_count (sizes_of p) p.routines) in
     let found : slice_index_or codes k d ≡ code_of (sizes_of p) (routine_at p.routines k) =
     ap (λ cs. slice_index_or cs k d) e ∙ code_found (sizes_of p) p.routines k d within in
     let few : (routine_at p.routines k).locals ≤ 15 = few_locals p p.routines k fits.accepted.routines within in
-    let ready : IsReady (code_of (sizes_of p) (routine_at p.routines k)) = omega (arith, few) in
-    subst IsReady (sym found) ready
+    let ready : IsReadyCode (code_of (sizes_of p) (routine_at p.routines k)) = omega (arith, few) in
+    subst IsReadyCode (sym found) ready
 
 -- Sizes and addresses
 
@@ -112,35 +113,35 @@ size_within version at whole sizes i x h is e fits =
 
 -- one more size of a text
 pub sizes_step : (given : List (Vec ℕ)) (i n : ℕ) (x : Vec ℕ) (sizes more whole : List ℕ) → i < length given
-    → x ≡ slice_index_or given i x → n ≡ text_size x → more ≡ sizes ++ n ∷ []
-    → sizes ++ map text_size (drop i given) ≡ whole → more ++ map text_size (drop (i + 1) given) ≡ whole
+    → x ≡ slice_index_or given i x → n ≡ encoded_length x → more ≡ sizes ++ n ∷ []
+    → sizes ++ map encoded_length (drop i given) ≡ whole → more ++ map encoded_length (drop (i + 1) given) ≡ whole
 sizes_step given i n x sizes more whole h is e m w =
-    ap (λ (ns : List ℕ). ns ++ map text_size (drop (i + 1) given)) m
-    ∙ append_assoc sizes (n ∷ []) (map text_size (drop (i + 1) given))
-    ∙ ap (λ (k : ℕ). sizes ++ k ∷ map text_size (drop (i + 1) given)) e
+    ap (λ (ns : List ℕ). ns ++ map encoded_length (drop (i + 1) given)) m
+    ∙ append_assoc sizes (n ∷ []) (map encoded_length (drop (i + 1) given))
+    ∙ ap (λ (k : ℕ). sizes ++ k ∷ map encoded_length (drop (i + 1) given)) e
     ∙ ap (λ (ns : List ℕ). sizes ++ ns) (sym (next given i h is)) ∙ w
   where
     next : (xs : List (Vec ℕ)) (i : ℕ) → i < length xs → x ≡ slice_index_or xs i x
-        → map text_size (drop i xs) ≡ text_size x ∷ map text_size (drop (i + 1) xs)
+        → map encoded_length (drop i xs) ≡ encoded_length x ∷ map encoded_length (drop (i + 1) xs)
     next [] i h is = absurd (omega (arith, h))
-    next (y ∷ xs) zero h is = ap (λ (z : Vec ℕ). text_size z ∷ map text_size xs) (sym is)
+    next (y ∷ xs) zero h is = ap (λ (z : Vec ℕ). encoded_length z ∷ map encoded_length xs) (sym is)
     next (y ∷ xs) (suc i) h is =
         let j : suc i + 1 ≡ suc (i + 1) = omega arith in
         next xs i (omega (arith, h)) is
-        ∙ ap (λ (k : ℕ). text_size x ∷ map text_size (drop k (y ∷ xs))) (sym j)
+        ∙ ap (λ (k : ℕ). encoded_length x ∷ map encoded_length (drop k (y ∷ xs))) (sym j)
 
 -- the sizes of codes, and of texts behind them
 pub sizes_of_texts : (codes : List CodeOf) (texts given : List (Vec ℕ)) (sizes more : List ℕ) → given ≡ texts
-    → sizes ≡ map part_size codes → more ≡ sizes ++ map text_size given
+    → sizes ≡ map part_size codes → more ≡ sizes ++ map encoded_length given
     → more ≡ map part_size codes ++ map length (map bytes_in texts)
 sizes_of_texts codes texts given sizes more g e m =
-    m ∙ ap (λ (ns : List ℕ). ns ++ map text_size given) e
-    ∙ ap (λ (ts : List (Vec ℕ)). map part_size codes ++ map text_size ts) g
+    m ∙ ap (λ (ns : List ℕ). ns ++ map encoded_length given) e
+    ∙ ap (λ (ts : List (Vec ℕ)). map part_size codes ++ map encoded_length ts) g
     ∙ ap (λ (ns : List ℕ). map part_size codes ++ ns) (lengths texts)
   where
-    lengths : (ts : List (Vec ℕ)) → map text_size ts ≡ map length (map bytes_in ts)
+    lengths : (ts : List (Vec ℕ)) → map encoded_length ts ≡ map length (map bytes_in ts)
     lengths [] = refl
-    lengths (t ∷ ts) = ap (λ (ns : List ℕ). text_size t ∷ ns) (lengths ts)
+    lengths (t ∷ ts) = ap (λ (ns : List ℕ). encoded_length t ∷ ns) (lengths ts)
 
 -- the sizes of the codes and of the texts
 pub all_sizes : (p : ProgramOf) (codes : List CodeOf) (texts : List (List ℕ)) → codes ≡ codes_in p
@@ -189,7 +190,7 @@ body_length version p words =
     ∙ end_is version (routines_place p) (high_parts a p) in
     omega (arith, end, low_length p (slice_index a.routines p.main) words, length-append low high)
 
-pub body_within : (version : Version) (p : ProgramOf) (body : List ℕ) → Fits version p → body ≡ body_of version p
+pub body_within : (version : Version) (p : ProgramOf) (body : List ℕ) → FitsStory version p → body ≡ body_of version p
     → 64 + length body ≤ 65535 * scale_of version
 unfolding story_of
 body_within version p body fits e =
@@ -200,7 +201,7 @@ body_within version p body fits e =
     omega (arith, ap length e, whole, within)
 
 pub packed_within : (version : Version) (p : ProgramOf) (codes : List CodeOf) (texts : List (List ℕ))
-    (sizes : List ℕ) → Fits version p → codes ≡ codes_in p → texts ≡ fault_texts
+    (sizes : List ℕ) → FitsStory version p → codes ≡ codes_in p → texts ≡ fault_texts
     → sizes ≡ map part_size codes ++ map length texts
     → end_from (scale_of version) (routines_place p) sizes ≤ 65535 * scale_of version
 packed_within version p codes texts sizes fits e t es =

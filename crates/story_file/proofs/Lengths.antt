@@ -2,8 +2,8 @@
 use Rattle.std.proofs.Common.{◌≡◌, List, [], ◌∷◌, ◌++◌, length, refl, ap, ◌∙◌, arith}
 use Rattle.std.specs.Prelude.{map}
 use Rattle.meaning.specs.Resolved.{RoutineOf}
-use Rattle.items.specs.Statements.{routine_items}
-use Rattle.encoding.specs.Addresses.{Addresses, Sizes}
+use Rattle.code_items.specs.Statements.{routine_items}
+use Rattle.code_encoding.specs.Addresses.{Addresses, Sizes}
 use Rattle.code.specs.Bytes.{code_size, code_bytes}
 use Rattle.code.specs.Sizes.{routine_size}
 use Rattle.code.proofs.Places.{code_length}

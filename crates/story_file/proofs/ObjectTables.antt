@@ -9,21 +9,22 @@ use Rattle.tables.specs.Rows.{word, sizes, name_bytes, IsRow, HasShortName}
 use Rattle.tables.specs.Rows as written
 use Rattle.tables.proofs.Listed.{length_words}
 use Rattle.tables.proofs.Names.{name_even}
-use Rattle.lexer.specs.Printable.{IsPrintable}
+use Rattle.syntax_lexer.specs.Printable.{IsPrintable}
 use Rattle.meaning.specs.Accepted.{IsObject}
 use Rattle.meaning.specs.Objects.{ObjectOf, no_object, object_at}
 use Rattle.meaning.specs.Places.{machine_character, name_words, property_size, table_size, objects_size, total}
 use Rattle.meaning.specs.Places.{defaults_place, routines_place}
 use Rattle.meaning.specs.declared.checked.CheckedObject.{CheckedObject}
 use Rattle.meaning.specs.Resolved.{CheckedProgram, ProgramOf, object_of, program_of}
-use Rattle.region.specs.Laws.{AreProper}
-use Rattle.region.specs.Rows.{RowOf, view_of, row_of, rows_from, rows_of, table_of, entries_bytes, tables_bytes}
-use Rattle.region.specs.Rows.{rows_length}
-use Rattle.region.specs.Tables.{IsTable, IsListed, property_bytes, list_bytes, table_bytes}
-use Rattle.region.proofs.ObjectEntries.{table_for, same_tables, same_count, length_entries}
-use Rattle.region.proofs.Begins.{proper_table}
-use Rattle.region.proofs.Written.{written_length}
-use Rattle.story_file.specs.Layout.{greatest_word, object_bytes}
+use Rattle.code_object_memory.specs.Laws.{AreProper}
+use Rattle.code_object_memory.specs.Rows.{RowOf, view_of, row_of, rows_from, rows_of, table_of, entries_bytes}
+use Rattle.code_object_memory.specs.Rows.{tables_bytes, rows_length}
+use Rattle.code_object_memory.specs.Tables.{IsTable, IsListed, property_bytes, list_bytes, table_bytes}
+use Rattle.code_object_memory.proofs.ObjectEntries.{table_for, same_tables, same_count, length_entries}
+use Rattle.code_object_memory.proofs.Begins.{proper_table}
+use Rattle.code_object_memory.proofs.Written.{written_length}
+use Rattle.story_file.specs.Layout.{object_bytes}
+use Rattle.zcore.specs.Layout.{greatest_word}
 
 -- Lengths
 

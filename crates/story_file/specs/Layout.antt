@@ -10,22 +10,19 @@ use Rattle.ztext.specs.Abbreviations.{most_abbreviations}
 use Rattle.ztext.specs.Text.{encoded}
 use Rattle.zcore.specs.declared.header.Version.{Version}
 use Rattle.zcore.specs.Header.{version_number, scale_of}
+use Rattle.zcore.specs.Layout.{greatest_word, key_size, global_count, header_size}
 use Rattle.tables.specs.Dictionary as tables
 use Rattle.meaning.specs.declared.places.Places.{Places}
-use Rattle.meaning.specs.Places.{header_size, abbreviations_place, empty_text_place, global_count, arrays_place}
+use Rattle.meaning.specs.Places.{abbreviations_place, empty_text_place, arrays_place}
 use Rattle.meaning.specs.Places.{defaults_place, dictionary_end, filling_before, texts_place, routines_place, places_of}
 use Rattle.meaning.specs.Resolved.{RoutineOf, ProgramOf}
 use Rattle.meaning.specs.World.{words_of}
-use Rattle.items.specs.Statements.{routine_items}
-use Rattle.region.specs.Rows.{rows_of, rows_bytes}
-use Rattle.encoding.specs.Addresses.{Addresses, Sizes, all_causes}
+use Rattle.code_items.specs.Statements.{routine_items}
+use Rattle.code_object_memory.specs.Rows.{rows_of, rows_bytes}
+use Rattle.code_encoding.specs.Addresses.{Addresses, Sizes, all_causes}
 use Rattle.code.specs.Bytes.{code_bytes}
 use Rattle.code.specs.Sizes.{routine_size}
 use Rattle.code.specs.HeldProgram.{start_code, fault_line, sizes_of}
-
--- the greatest address that a word holds, and the greatest packed address
-abbrev pub greatest_word : ℕ
-greatest_word = 65535
 
 -- how long a story can be whose packed addresses are words
 abbrev pub greatest_length : Version → ℕ
@@ -56,7 +53,7 @@ global_bytes globals = flat_map word (take global_count (globals ++ replicate gl
 
 -- the six bytes of a key, the highest first
 abbrev pub key_bytes : ℕ → List ℕ
-key_bytes key = big_bytes 6 key
+key_bytes key = big_bytes key_size key
 
 -- the entries of keys, one behind another (13.2)
 abbrev pub entries_bytes : List ℕ → List ℕ

@@ -9,15 +9,16 @@ use Rattle.meaning.specs.Places.{empty_text_place, routines_place}
 use Rattle.meaning.specs.Resolved.{RoutineOf, ProgramOf}
 use Rattle.meaning.specs.Accepted.{IsAccepted}
 use Rattle.meaning.specs.Printable.{HasPrintableTexts}
-use Rattle.items.specs.Statements.{routine_items}
-use Rattle.region.specs.Laws.{AreProper}
-use Rattle.encoding.specs.Addresses.{Addresses, Sizes}
+use Rattle.code_items.specs.Statements.{routine_items}
+use Rattle.code_object_memory.specs.Laws.{AreProper}
+use Rattle.code_encoding.specs.Addresses.{Addresses, Sizes}
 use Rattle.code.specs.Bytes.{code_size, code_bytes}
 use Rattle.code.specs.Written.{CodeOf}
-use Rattle.story_file.specs.Layout.{aligned, addresses_from, greatest_word, greatest_length, story_of, word}
+use Rattle.story_file.specs.Layout.{aligned, addresses_from, greatest_length, story_of, word}
+use Rattle.zcore.specs.Layout.{greatest_word}
 
 -- a program that a story of this version can hold
-pub record Fits (version : Version) (p : ProgramOf) : Type 0 where
+pub record FitsStory (version : Version) (p : ProgramOf) : Type 0 where
   pub accepted : IsAccepted p
   pub printable : HasPrintableTexts p
   pub placed : routines_place p ≤ greatest_word
@@ -42,8 +43,8 @@ abbrev pub code_of : Sizes → RoutineOf → CodeOf
 code_of sizes r = record { locals = r.locals; sizes = sizes; items = routine_items r }
 
 -- the number of its locals is a byte
-abbrev pub IsReady : CodeOf → Type 0
-IsReady c = c.locals < 256
+abbrev pub IsReadyCode : CodeOf → Type 0
+IsReadyCode c = c.locals < 256
 
 abbrev pub code_part : Addresses → CodeOf → List ℕ
 code_part a c = c.locals ∷ code_bytes c.sizes a c.items
@@ -54,8 +55,8 @@ part_size c = 1 + code_size c.sizes c.items
 abbrev pub bytes_in : Vec ℕ → List ℕ
 bytes_in text = text.items
 
-abbrev pub text_size : Vec ℕ → ℕ
-text_size text = length text.items
+abbrev pub encoded_length : Vec ℕ → ℕ
+encoded_length text = length text.items
 
 -- the packed addresses of parts of these sizes
 abbrev pub packed_from : ℕ → ℕ → List ℕ → List ℕ

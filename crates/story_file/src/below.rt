@@ -8,13 +8,13 @@ ghost use Rattle.ztext.specs.Text.{encoded};
 ghost use Rattle.tables.specs.Dictionary.{entry_bytes};
 ghost use Rattle.code.specs.HeldProgram.{start_code};
 ghost use Rattle.meaning.specs.Places as places;
-ghost use Rattle.meaning.specs.Places.{global_count};
+ghost use Rattle.zcore.specs.Layout.{global_count, greatest_word};
 ghost use Rattle.meaning.specs.Resolved.{program_of};
-ghost use Rattle.story_file.specs.Written.{ObjectsFit, bytes_in, half, table_bytes, text_size};
-ghost use Rattle.story_file.specs.Layout.{dictionary_bytes, entries_bytes, global_bytes, greatest_word};
+ghost use Rattle.story_file.specs.Written.{ObjectsFit, bytes_in, half, table_bytes, encoded_length};
+ghost use Rattle.story_file.specs.Layout.{dictionary_bytes, entries_bytes, global_bytes};
 ghost use Rattle.story_file.specs.Layout.{key_bytes, low_bytes};
 ghost use Rattle.story_file.specs.Layout as layout;
-ghost use Rattle.encoding.specs.Bytes.{Adds};
+ghost use Rattle.code_encoding.specs.Bytes.{Adds};
 
 use crate::high::add_text;
 use crate::objects::put_objects;
@@ -22,24 +22,15 @@ use crate::packed::{add_text_sizes, array_addresses};
 use crate::words::{put_word, put_words, put_zeros};
 use meaning::{Checked, part_places};
 use std::alloc::{AllocError, Global};
-
-/// The words of the table of abbreviations.
-const ABBREVIATIONS: usize = 96;
+use tables::layout::{DICTIONARY_ENTRY_LENGTH, DICTIONARY_HEAD_LENGTH};
+use zcore::layout::GLOBAL_COUNT;
+use ztext::MOST_ABBREVIATIONS;
 
 /// The address of the empty text, halved (Z-Machine Standards Document 1.1, section 3.3).
-const EMPTY_TEXT: u16 = 128;
+const HALVED_EMPTY_TEXT: u16 = 128;
 
 /// Three Z-characters 5, the last word of a text.
 const NO_CHARACTERS: u16 = 0x94A5;
-
-/// Words of globals (section 6.2).
-const GLOBALS: usize = 240;
-
-/// The bytes of a dictionary without entries.
-const EMPTY_DICTIONARY: usize = 7;
-
-/// The bytes of an entry of the dictionary.
-const ENTRY: usize = 9;
 
 /// `call_1n` with a large constant (section 14).
 const CALL: u8 = 0x8F;
@@ -79,14 +70,18 @@ fn put_table(
     place: usize,
 ) -> Result<(), AllocError>
     requires few { length texts.now ≤ most_abbreviations }
-    requires placed { place + sum (map text_size texts.now) ≤ greatest_word }
-    ensures { OnOk result (Adds bytes.old bytes.new (table_bytes place (map text_size texts.now))) }
+    requires placed { place + sum (map encoded_length texts.now) ≤ greatest_word }
+    ensures { OnOk result (Adds bytes.old bytes.new
+        (table_bytes place (map encoded_length texts.now))) }
 {
     let mut sizes = Vec::new(alloc);
     add_text_sizes(&mut sizes, texts)?;
     let addresses = array_addresses(alloc, place, &sizes)?;
     put_halves(bytes, &addresses)?;
-    put_words(bytes, &[EMPTY_TEXT; ABBREVIATIONS][texts.len()..])?;
+    put_words(
+        bytes,
+        &[HALVED_EMPTY_TEXT; MOST_ABBREVIATIONS][texts.len()..],
+    )?;
     Ok(())
 }
 
@@ -96,11 +91,12 @@ fn put_globals(bytes: &mut Vec<u8>, globals: &[u16]) -> Result<(), AllocError>
     ensures { OnOk result (Adds bytes.old bytes.new (global_bytes globals.now)) }
 {
     put_words(bytes, globals)?;
-    put_zeros(bytes, 2 * (GLOBALS - globals.len()))?;
+    put_zeros(bytes, 2 * (GLOBAL_COUNT - globals.len()))?;
     Ok(())
 }
 
-/// An entry of the dictionary: the six bytes of its key, the highest first, and three of data that are 0.
+/// An entry of the dictionary: the six bytes of its key, the highest first, and three of data that
+/// are 0.
 fn put_entry(bytes: &mut Vec<u8>, key: u64) -> Result<(), AllocError>
     ensures { OnOk result (Adds bytes.old bytes.new (entry_bytes (key_bytes key))) }
 {
@@ -130,14 +126,16 @@ fn put_dictionary(bytes: &mut Vec<u8>, keys: &[u64]) -> Result<(), AllocError>
     Ok(())
 }
 
-/// How many bytes stand between the dictionary and the texts of abbreviations, which begin at an even address.
+/// How many bytes stand between the dictionary and the texts of abbreviations, which begin at an
+/// even address.
 fn filling(checked: &Checked<'_>) -> usize
     requires { places.routines_place (program_of checked.now) ≤ greatest_word }
     ensures { result ≡ places.filling_before checked.now.abbreviations
         (places.dictionary_end (program_of checked.now)) }
 {
     let at = part_places(checked);
-    at.texts - (at.dictionary + EMPTY_DICTIONARY + ENTRY * checked.keys().len())
+    at.texts
+        - (at.dictionary + DICTIONARY_HEAD_LENGTH + DICTIONARY_ENTRY_LENGTH * checked.keys().len())
 }
 
 /// Texts, one behind another.
@@ -165,7 +163,7 @@ pub fn arrays_place(checked: &Checked<'_>) -> usize
     requires { places.routines_place (program_of checked.now) ≤ greatest_word }
     ensures { result ≡ places.arrays_place }
 {
-    part_places(checked).globals + 2 * GLOBALS
+    part_places(checked).globals + 2 * GLOBAL_COUNT
 }
 
 /// All that stands between the header and the routines.

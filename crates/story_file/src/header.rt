@@ -2,24 +2,22 @@
 
 ghost use Rattle.std.specs.Prelude.{◌≡◌, ◌≤◌, ◌+◌, ◌/◌, ◌%◌, OnOk, length, sum};
 ghost use Rattle.zcore.specs.Header.{scale_of, version_number};
-ghost use Rattle.meaning.specs.Places.{header_size};
+ghost use Rattle.zcore.specs.Layout.{header_size};
 ghost use Rattle.story_file.specs.Layout.{greatest_length, header_of};
 ghost use Rattle.story_file.specs.Written.{AreWords};
-ghost use Rattle.encoding.specs.Bytes.{Adds};
+ghost use Rattle.code_encoding.specs.Bytes.{Adds};
 
 use crate::words::{put_words, put_zeros};
 use meaning::Places;
 use std::alloc::AllocError;
 use zcore::Version;
-
-/// How many bytes the header has.
-const HEADER: usize = 64;
+use zcore::layout::HEADER_LENGTH;
 
 /// The number of the release.
 const RELEASE: u16 = 1;
 
 /// The table of abbreviations.
-const ABBREVIATIONS_ADDRESS: u16 = 64;
+const ABBREVIATIONS_ADDRESS: u16 = HEADER_LENGTH as u16;
 
 /// Zero bytes at the end of the header.
 const UNUSED: usize = 34;
@@ -50,7 +48,7 @@ fn stated_length(version: Version, body: &[u8]) -> u16
     requires { header_size + length body.now ≤ greatest_length version }
     ensures { result ≡ (header_size + length body.now) / scale_of version }
 {
-    ((HEADER + body.len()) / version.scale() as usize) as u16
+    ((HEADER_LENGTH + body.len()) / version.scale() as usize) as u16
 }
 
 /// The header of a story with these bytes behind it, whose parts stand at these places.

@@ -5,20 +5,18 @@ ghost use Rattle.std.specs.List.{All, list_all};
 ghost use Rattle.ztext.specs.Alphabets.{is_printable};
 ghost use Rattle.zcore.specs.Header.{scale_of};
 ghost use Rattle.ztext.specs.Text.{encoded};
-ghost use Rattle.encoding.specs.Written.{addresses_of};
-ghost use Rattle.meaning.specs.Places.{header_size};
+ghost use Rattle.code_encoding.specs.Written.{addresses_of};
+ghost use Rattle.zcore.specs.Layout.{header_size};
 ghost use Rattle.story_file.specs.Layout as layout;
-ghost use Rattle.story_file.specs.Written.{IsReady, bytes_in, code_part};
-ghost use Rattle.encoding.specs.Bytes.{Adds};
+ghost use Rattle.story_file.specs.Written.{bytes_in, code_part, IsReadyCode};
+ghost use Rattle.code_encoding.specs.Bytes.{Adds};
 
 use crate::packed::aligned;
 use crate::words::put_zeros;
 use code::{Addresses, Code, CodeFault};
 use std::alloc::{AllocError, Global};
+use zcore::layout::HEADER_LENGTH;
 use zcore::{TextFault, Version, encode_text};
-
-/// The header's bytes, which are written last.
-const HEADER: usize = 64;
 
 /// The Z-text of characters.
 fn z_text(alloc: Global, characters: &[u8]) -> Result<Vec<u8>, AllocError>
@@ -50,9 +48,10 @@ pub fn add_text(
 /// Zero bytes up to an address to which a packed address leads.
 pub fn put_filling(body: &mut Vec<u8>, version: Version) -> Result<(), AllocError>
     ensures { OnOk result (let at = header_size + length body.old.items in
-        body.new.items ≡ body.old.items ++ replicate (layout.aligned (scale_of version) at - at) 0) }
+        body.new.items ≡ body.old.items
+        ++ replicate (layout.aligned (scale_of version) at - at) 0) }
 {
-    let at = HEADER + body.len();
+    let at = HEADER_LENGTH + body.len();
     put_zeros(body, aligned(version, at) - at)
 }
 
@@ -62,7 +61,7 @@ fn put_code(
     code: &Code<'_, '_>,
     addresses: &Addresses<'_>,
 ) -> Result<(), AllocError>
-    requires { IsReady code.now }
+    requires { IsReadyCode code.now }
     ensures { OnOk result (Adds body.old body.new
         (code_part (addresses_of addresses.now) code.now)) }
 {
@@ -79,12 +78,13 @@ pub fn put_routines(
     codes: &[Code<'_, '_>],
     addresses: &Addresses<'_>,
 ) -> Result<(), AllocError>
-    requires { All IsReady codes.now }
+    requires { All IsReadyCode codes.now }
     ensures { OnOk result ((parts : List (List ℕ))
-        → body.new.items ++ layout.parts_from (scale_of version) (header_size + length body.new.items)
-        parts ≡ body.old.items ++ layout.parts_from (scale_of version)
-        (header_size + length body.old.items) (map (code_part (addresses_of addresses.now)) codes.now
-        ++ parts)) }
+        → body.new.items
+        ++ layout.parts_from (scale_of version) (header_size + length body.new.items) parts
+        ≡ body.old.items ++ layout.parts_from (scale_of version)
+        (header_size + length body.old.items)
+        (map (code_part (addresses_of addresses.now)) codes.now ++ parts)) }
 {
     for code in codes {
         put_filling(body, version)?;
@@ -96,8 +96,9 @@ pub fn put_routines(
 /// A text at a packed address.
 fn put_text(body: &mut Vec<u8>, version: Version, text: &[u8]) -> Result<(), AllocError>
     ensures { OnOk result ((parts : List (List ℕ))
-        → body.new.items ++ layout.parts_from (scale_of version) (header_size + length body.new.items)
-        parts ≡ body.old.items ++ layout.parts_from (scale_of version)
+        → body.new.items
+        ++ layout.parts_from (scale_of version) (header_size + length body.new.items) parts
+        ≡ body.old.items ++ layout.parts_from (scale_of version)
         (header_size + length body.old.items) (text.now ∷ parts)) }
 {
     put_filling(body, version)?;

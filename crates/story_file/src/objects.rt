@@ -6,18 +6,16 @@ ghost use Rattle.tables.specs.Rows.{HasShortName, IsRow, objects_length};
 ghost use Rattle.meaning.specs.Objects.{first_of, object_at, standing_in};
 ghost use Rattle.meaning.specs.Places as places;
 ghost use Rattle.meaning.specs.Resolved.{object_of, program_of, property_of};
-ghost use Rattle.region.specs.Rows as rows;
-ghost use Rattle.region.specs.Rows.{rows_bytes, rows_of, view_of};
+ghost use Rattle.code_object_memory.specs.Rows as rows;
+ghost use Rattle.code_object_memory.specs.Rows.{rows_bytes, rows_of, view_of};
 ghost use Rattle.story_file.specs.Layout.{object_bytes};
 ghost use Rattle.story_file.specs.Written.{ObjectsFit};
-ghost use Rattle.encoding.specs.Bytes.{Adds};
+ghost use Rattle.code_encoding.specs.Bytes.{Adds};
 
 use meaning::{Checked, CheckedObject, machine_character, part_places};
 use std::alloc::{AllocError, Global};
 use tables::{ObjectRow, TableFault, write_objects};
-
-/// Words of property defaults (section 12.2).
-const DEFAULTS: usize = 63;
+use zcore::layout::DEFAULT_COUNT;
 
 /// The characters of a short name.
 fn characters(alloc: Global, name: &[u8]) -> Result<Vec<u8>, AllocError>
@@ -139,7 +137,7 @@ fn rows(alloc: Global, objects: &[CheckedObject<'_>]) -> Result<Vec<ObjectRow>, 
 }
 
 /// The object table of rows that it can hold, which is to stand at an address.
-#[tactic(auto, using(region::proofs::Written::written_rows))]
+#[tactic(auto, using(code_object_memory::proofs::Written::written_rows))]
 fn table(
     alloc: Global,
     rows: &[ObjectRow],
@@ -152,7 +150,7 @@ fn table(
     requires fits { at + objects_length rows.now ≤ 65536 }
     ensures { IfOk result (λ v. v.items ≡ rows_bytes (map view_of rows.now) defaults.now at) }
 {
-    let mut words = [0u16; DEFAULTS];
+    let mut words = [0u16; DEFAULT_COUNT];
     words.copy_from_slice(defaults);
     match write_objects(alloc, rows, &words, at) {
         Ok(table) => Ok(table),

@@ -2,9 +2,10 @@
 
 ghost use Rattle.std.specs.Prelude.{◌≡◌, ◌≤◌, ◌<◌, ◌+◌, ◌/◌, ◌^◌, [], ◌∷◌, IfOk, OnOk, map, sum};
 ghost use Rattle.zcore.specs.Header.{scale_of};
+ghost use Rattle.zcore.specs.Layout.{greatest_word};
 ghost use Rattle.story_file.specs.Layout as layout;
-ghost use Rattle.story_file.specs.Written.{end_from, packed_from, part_size, text_size};
-ghost use Rattle.encoding.specs.Bytes.{Adds};
+ghost use Rattle.story_file.specs.Written.{end_from, packed_from, part_size, encoded_length};
+ghost use Rattle.code_encoding.specs.Bytes.{Adds};
 
 use code::Code;
 use std::alloc::{AllocError, Global};
@@ -49,7 +50,7 @@ pub fn code_sizes(alloc: Global, codes: &[Code<'_, '_>]) -> Result<Vec<usize>, A
 
 /// Adds how many bytes texts have.
 pub fn add_text_sizes(sizes: &mut Vec<usize>, texts: &[Vec<u8>]) -> Result<(), AllocError>
-    ensures { OnOk result (Adds sizes.old sizes.new (map text_size texts.now)) }
+    ensures { OnOk result (Adds sizes.old sizes.new (map encoded_length texts.now)) }
 {
     for text in texts {
         sizes.push(text.len())?;
@@ -77,7 +78,7 @@ pub fn packed_addresses(
 
 /// The addresses of arrays of these sizes that stand one behind another from an address on.
 pub fn array_addresses(alloc: Global, place: usize, sizes: &[usize]) -> Result<Vec<u16>, AllocError>
-    requires { place + sum sizes.now ≤ layout.greatest_word }
+    requires { place + sum sizes.now ≤ greatest_word }
     ensures { IfOk result (λ v. v.items ≡ layout.addresses_from 1 place sizes.now) }
 {
     let mut addresses = Vec::new(alloc);

@@ -4,10 +4,10 @@ ghost use Rattle.std.specs.Prelude.{◌≡◌, ◌≤◌, ◌<◌, IfOk, drop, l
 ghost use Rattle.zcore.specs.Header.{scale_of};
 ghost use Rattle.meaning.specs.Meaning.{routine_at};
 ghost use Rattle.meaning.specs.Resolved.{program_of};
-ghost use Rattle.encoding.specs.Written.{addresses_of};
+ghost use Rattle.code_encoding.specs.Written.{addresses_of};
 ghost use Rattle.code.specs.HeldProgram.{sizes_of};
 ghost use Rattle.story_file.specs.Layout as layout;
-ghost use Rattle.story_file.specs.Written.{Fits, bytes_in, code_of};
+ghost use Rattle.story_file.specs.Written.{bytes_in, code_of, FitsStory};
 
 use crate::below::{arrays_place, put_low};
 use crate::header::put_header;
@@ -34,8 +34,8 @@ fn fault_texts(alloc: Global) -> Result<Vec<Vec<u8>>, AllocError>
     Ok(texts)
 }
 
-/// Where the routines, the arrays and the texts of faults stand, by the packed addresses of all parts and the addresses
-/// of the arrays.
+/// Where the routines, the arrays and the texts of faults stand, by the packed addresses of all
+/// parts and the addresses of the arrays.
 fn addresses_in<'a>(packed: &'a [u16], routines: usize, arrays: &'a [u16]) -> Addresses<'a>
     requires { routines ≤ length packed.now }
     ensures { addresses_of result ≡ record {
@@ -84,7 +84,7 @@ fn codes_of<'a, 'b>(
 
 /// The bytes behind the header.
 fn body_of(alloc: Global, version: Version, checked: &Checked<'_>) -> Result<Vec<u8>, AllocError>
-    requires { Fits version (program_of checked.now) }
+    requires { FitsStory version (program_of checked.now) }
     ensures { IfOk result (λ v. v.items ≡ layout.body_of version (program_of checked.now)) }
 {
     let codes = codes_of(alloc, checked)?;
@@ -111,7 +111,7 @@ pub fn write_story(
     checked: &Checked<'_>,
     version: Version,
 ) -> Result<Vec<u8>, AllocError>
-    requires { Fits version (program_of checked.now) }
+    requires { FitsStory version (program_of checked.now) }
     ensures { IfOk result (λ v. v.items ≡ layout.story_of version (program_of checked.now)) }
 {
     let body = body_of(alloc, version, checked)?;

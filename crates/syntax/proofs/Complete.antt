@@ -1,19 +1,19 @@
 -- What has a tree is read as that tree, unless it is nested too deep.
 use Rattle.std.proofs.Common.{◌≡◌, ℕ, zero, suc, ◌<◌, ◌≤◌, max, true, false, List, [], ◌∷◌, length, Result, Ok, Err}
 use Rattle.std.proofs.Common.{refl, arith}
-use Rattle.lexer.specs.declared.token.Position.{Position}
-use Rattle.lexer.specs.declared.token.Word.TheVariants as w
-use Rattle.lexer.specs.Token.{Lexeme, end}
-use Rattle.parsing.specs.declared.error.Fault.{Fault}
-use Rattle.parsing.specs.declared.error.Fault.TheVariants.{Deep}
-use Rattle.parsing.specs.Parse.{head, is_word, repeated}
-use Rattle.expressions.proofs.Limited.{Limited, then, at_once}
-use Rattle.statements.proofs.PartsRead.{repeated_stop, repeated_next}
-use Rattle.directives.specs.Tree.{DirectiveTree}
-use Rattle.directives.specs.Grammar.{IsDirective, d_global, d_global_value, d_constant, d_array, d_attribute}
-use Rattle.directives.specs.Grammar.{d_property, d_property_value, d_object, d_routine, directive_nesting}
-use Rattle.directives.proofs.Complete.{short_Directive, at_Directive}
-use Rattle.directives.proofs.TextsRead.{short_Texts, abbreviate_read}
+use Rattle.syntax_lexer.specs.declared.token.Position.{Position}
+use Rattle.syntax_lexer.specs.declared.token.Word.TheVariants as w
+use Rattle.syntax_lexer.specs.Token.{Lexeme, end}
+use Rattle.syntax_parsing.specs.declared.error.Fault.{Fault}
+use Rattle.syntax_parsing.specs.declared.error.Fault.TheVariants.{Deep}
+use Rattle.syntax_parsing.specs.Parse.{head, is_word, repeated}
+use Rattle.syntax_expressions.proofs.Limited.{Limited, then, at_once}
+use Rattle.syntax_statements.proofs.PartsRead.{repeated_stop, repeated_next}
+use Rattle.syntax_directives.specs.Tree.{DirectiveTree}
+use Rattle.syntax_directives.specs.Grammar.{IsDirective, d_global, d_global_value, d_constant, d_array, d_attribute}
+use Rattle.syntax_directives.specs.Grammar.{d_property, d_property_value, d_object, d_routine, directive_nesting}
+use Rattle.syntax_directives.proofs.Complete.{short_Directive, at_Directive}
+use Rattle.syntax_directives.proofs.TextsRead.{short_Texts, abbreviate_read}
 use Rattle.syntax.specs.Tree.{EntryTree, entry, abbreviate, directives_of, ProgramTree}
 use Rattle.syntax.specs.Grammar.{IsEntry, e_directive, e_abbreviate, IsEntries, entries_stop, entries_next, IsProgram}
 use Rattle.syntax.specs.Grammar.{program as program_is, directives_nesting, program_nesting}

@@ -3,14 +3,14 @@
 use Rattle.std.proofs.Common.{◌≡◌, ℕ, zero, suc, ◌+◌, ◌-◌, ◌<◌, ◌≤◌, Bool, true, false, List, [], ◌∷◌, ◌++◌}
 use Rattle.std.proofs.Common.{append_assoc, Result, Ok, Err, refl, sym, ap, ◌∙◌, arith}
 use Rattle.std.specs.Prelude.{map}
-use Rattle.lexer.specs.declared.token.Word.TheVariants as w
-use Rattle.lexer.specs.Token.{Lexeme}
-use Rattle.parsing.specs.declared.error.Fault.{Fault}
-use Rattle.parsing.specs.declared.error.ParseError.{ParseError}
-use Rattle.parsing.specs.declared.error.ParseError.TheVariants as errors
-use Rattle.parsing.specs.Parse.{◌>>=◌, Fails, head, tail, is_word, as_long, repeated}
-use Rattle.directives.specs.Tree.{TextTree, DirectiveTree}
-use Rattle.directives.specs.Parse.{abbreviate_behind, directive}
+use Rattle.syntax_lexer.specs.declared.token.Word.TheVariants as w
+use Rattle.syntax_lexer.specs.Token.{Lexeme}
+use Rattle.syntax_parsing.specs.declared.error.Fault.{Fault}
+use Rattle.syntax_parsing.specs.declared.error.ParseError.{ParseError}
+use Rattle.syntax_parsing.specs.declared.error.ParseError.TheVariants as errors
+use Rattle.syntax_parsing.specs.Parse.{◌>>=◌, Fails, head, tail, is_word, as_long, repeated}
+use Rattle.syntax_directives.specs.Tree.{TextTree, DirectiveTree}
+use Rattle.syntax_directives.specs.Parse.{abbreviate_behind, directive}
 use Rattle.syntax.specs.Tree.{EntryTree, entry, abbreviate, directives_of, abbreviations_of}
 use Rattle.syntax.specs.Parse.{Parts, goes_on, texts_more, one_entry, directive_more, one_more}
 

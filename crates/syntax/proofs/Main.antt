@@ -2,17 +2,17 @@
 use Rattle.std.proofs.Common.{◌≡◌, ℕ, suc, ◌<◌, ◌≤◌, ◌⊎◌, max, List, [], ◌∷◌, Option, Some, None, Result, Ok, Err, refl}
 use Rattle.std.proofs.Common.{sym, ap, subst, ◌∙◌, inl, inr, arith}
 use Rattle.std.proofs.lemmas.Bool.{cases_lt}
-use Rattle.lexer.specs.declared.fault.SourceFault.{SourceFault}
-use Rattle.lexer.specs.declared.token.Position.{Position}
-use Rattle.lexer.specs.Results.{no_memory}
-use Rattle.lexer.specs.Token.{Lexeme, end}
-use Rattle.parsing.specs.declared.error.Fault.{Fault}
-use Rattle.parsing.specs.declared.error.Fault.TheVariants.{Grammar, Deep}
-use Rattle.parsing.specs.declared.error.ParseError.{ParseError}
-use Rattle.parsing.specs.declared.error.ParseError.TheVariants as errors
-use Rattle.parsing.specs.Errors.{source_fault}
-use Rattle.parsing.specs.Parse.{◌>>=◌, Fails}
-use Rattle.directives.specs.Grammar.{weight_of}
+use Rattle.syntax_lexer.specs.declared.fault.SourceFault.{SourceFault}
+use Rattle.syntax_lexer.specs.declared.token.Position.{Position}
+use Rattle.syntax_lexer.specs.FaultNumbers.{no_memory}
+use Rattle.syntax_lexer.specs.Token.{Lexeme, end}
+use Rattle.syntax_parsing.specs.declared.error.Fault.{Fault}
+use Rattle.syntax_parsing.specs.declared.error.Fault.TheVariants.{Grammar, Deep}
+use Rattle.syntax_parsing.specs.declared.error.ParseError.{ParseError}
+use Rattle.syntax_parsing.specs.declared.error.ParseError.TheVariants as errors
+use Rattle.syntax_parsing.specs.Errors.{source_fault}
+use Rattle.syntax_parsing.specs.Parse.{◌>>=◌, Fails}
+use Rattle.syntax_directives.specs.Grammar.{weight_of}
 use Rattle.syntax.specs.declared.tree.Program.{Program}
 use Rattle.syntax.specs.Tree.{ProgramTree, program_tree}
 use Rattle.syntax.specs.Grammar.{dictionary_words, IsProgram, program as program_is, program_nesting}

@@ -2,14 +2,15 @@
 use Rattle.std.proofs.Common.{List}
 use Rattle.std.specs.List.{All}
 use Rattle.std.proofs.lemmas.List.Elements.{All-nil, All-cons, All-append}
-use Rattle.lexer.specs.Token.{Lexeme}
-use Rattle.directives.specs.Printable.{IsPrintableText, IsPrintableDirective}
+use Rattle.syntax_lexer.specs.Token.{Lexeme}
+use Rattle.syntax_directives.specs.Printable.{IsPrintableText, IsPrintableDirective}
 use Rattle.syntax.specs.Tree.{EntryTree, directives_of, abbreviations_of, ProgramTree}
 use Rattle.syntax.specs.Grammar.{IsEntry, e_directive, e_abbreviate, IsEntries, entries_stop, entries_next, IsProgram}
 use Rattle.syntax.specs.Grammar.{program}
 use Rattle.syntax.specs.Printable.{HasPrintableTexts}
 use Rattle.syntax.specs.Laws.{PrintableTrees}
-use Rattle.directives.proofs.Printable.{Prints, after, directive_prints, after_directive, texts_print, after_texts}
+use Rattle.syntax_directives.proofs.Printable.{Prints, after, directive_prints, after_directive, texts_print}
+use Rattle.syntax_directives.proofs.Printable.{after_texts}
 
 after_entry : {ts r : List Lexeme} {e : EntryTree} → IsEntry ts e r → Prints ts → Prints r
 after_entry (e_directive a) h = after_directive a h

@@ -1,17 +1,17 @@
 -- The definitions at worked examples.
 use Rattle.std.proofs.Common.{◌≡◌, ℕ, ◌<◌, false, List, [], ◌∷◌, length, Err, refl, arith}
 use Rattle.std.specs.Prelude.{codes}
-use Rattle.lexer.specs.declared.token.Position.{Position}
-use Rattle.lexer.specs.declared.token.Sign.TheVariants as s
-use Rattle.lexer.specs.declared.token.Word.TheVariants as w
-use Rattle.lexer.specs.Token.{Lexeme, name, number, text, dictionary_word, reserved, sign, end}
-use Rattle.expression_trees.specs.Tree.{NameTree, named}
-use Rattle.parsing.specs.declared.error.Fault.TheVariants.{Grammar}
-use Rattle.statement_parts.specs.Tree.{text_item, number_item}
-use Rattle.statements.specs.Tree.{print, read_line, give, stop, next}
-use Rattle.directives.specs.Tree.{TextTree, DirectiveTree, attribute, routine}
-use Rattle.directives.specs.Grammar.{d_attribute, IsTexts, texts_stop, texts_next}
-use Rattle.directives.specs.Parse.{one_text, texts, abbreviate_behind}
+use Rattle.syntax_lexer.specs.declared.token.Position.{Position}
+use Rattle.syntax_lexer.specs.declared.token.Sign.TheVariants as s
+use Rattle.syntax_lexer.specs.declared.token.Word.TheVariants as w
+use Rattle.syntax_lexer.specs.Token.{Lexeme, name, number, text, dictionary_word, reserved, sign, end}
+use Rattle.syntax_trees.specs.Tree.{NameTree, named}
+use Rattle.syntax_parsing.specs.declared.error.Fault.TheVariants.{Grammar}
+use Rattle.syntax_statement_parts.specs.Tree.{text_item, number_item}
+use Rattle.syntax_statements.specs.Tree.{print, read_line, give, stop, next}
+use Rattle.syntax_directives.specs.Tree.{TextTree, DirectiveTree, attribute, routine}
+use Rattle.syntax_directives.specs.Grammar.{d_attribute, IsTexts, texts_stop, texts_next}
+use Rattle.syntax_directives.specs.Parse.{one_text, texts, abbreviate_behind}
 use Rattle.syntax.specs.Tree.{EntryTree}
 use Rattle.syntax.specs.Grammar.{dictionary_words, IsEntry, e_directive, e_abbreviate, entries_stop, entries_next}
 use Rattle.syntax.specs.Grammar.{IsProgram, program}

@@ -1,19 +1,19 @@
 -- What is read derives in the grammar and is nested no deeper than was allowed; and where the fault is that a token
 -- stands too deep, one does.
 use Rattle.std.proofs.Common.{◌≡◌, ℕ, suc, ◌≤◌, List, [], ◌∷◌, length, refl, sym, subst, arith}
-use Rattle.lexer.specs.declared.token.Position.{Position}
-use Rattle.lexer.specs.declared.token.Sign.TheVariants as s
-use Rattle.lexer.specs.declared.token.Word.TheVariants as w
-use Rattle.lexer.specs.Token.{Lexeme, reserved, position_of}
-use Rattle.parsing.specs.Parse.{head, tail, is_word, expect}
-use Rattle.expressions.proofs.Judged.{Judged, judged_read, judged_then, judged_after, judged_by}
-use Rattle.expressions.proofs.Tokens.{at_word, expect_ok, expect_not_deep}
-use Rattle.statements.proofs.SoundRows.{repeated_judged}
-use Rattle.directives.specs.Grammar.{IsTexts}
-use Rattle.directives.specs.Nesting.{DeepDirective}
-use Rattle.directives.specs.Parse.{abbreviate_behind}
-use Rattle.directives.proofs.TextsRead.{texts_judged}
-use Rattle.directives.proofs.Sound.{directive_judged}
+use Rattle.syntax_lexer.specs.declared.token.Position.{Position}
+use Rattle.syntax_lexer.specs.declared.token.Sign.TheVariants as s
+use Rattle.syntax_lexer.specs.declared.token.Word.TheVariants as w
+use Rattle.syntax_lexer.specs.Token.{Lexeme, reserved, position_of}
+use Rattle.syntax_parsing.specs.Parse.{head, tail, is_word, expect}
+use Rattle.syntax_expressions.proofs.Judged.{Judged, judged_read, judged_then, judged_after, judged_by}
+use Rattle.syntax_expressions.proofs.Tokens.{at_word, expect_ok, expect_not_deep}
+use Rattle.syntax_statements.proofs.SoundRows.{repeated_judged}
+use Rattle.syntax_directives.specs.Grammar.{IsTexts}
+use Rattle.syntax_directives.specs.Nesting.{DeepDirective}
+use Rattle.syntax_directives.specs.Parse.{abbreviate_behind}
+use Rattle.syntax_directives.proofs.TextsRead.{texts_judged}
+use Rattle.syntax_directives.proofs.Sound.{directive_judged}
 use Rattle.syntax.specs.Tree.{EntryTree, entry, abbreviate, directives_of}
 use Rattle.syntax.specs.Grammar.{e_abbreviate, IsEntry, e_directive, IsEntries, entries_stop, entries_next}
 use Rattle.syntax.specs.Grammar.{directives_nesting}

@@ -2,15 +2,15 @@
 use Rattle.std.proofs.Common.{List, arith}
 use Rattle.std.specs.List.{All}
 use Rattle.std.proofs.lemmas.List.Elements.{All-nil, All-cons}
-use Rattle.lexer.specs.Token.{Lexeme}
-use Rattle.directives.specs.Tree.{DirectiveTree}
-use Rattle.directives.specs.Grammar.{IsDirective, d_global, d_global_value, d_constant, d_array, d_attribute}
-use Rattle.directives.specs.Grammar.{d_property, d_property_value, d_object, d_routine}
+use Rattle.syntax_lexer.specs.Token.{Lexeme}
+use Rattle.syntax_directives.specs.Tree.{DirectiveTree}
+use Rattle.syntax_directives.specs.Grammar.{IsDirective, d_global, d_global_value, d_constant, d_array, d_attribute}
+use Rattle.syntax_directives.specs.Grammar.{d_property, d_property_value, d_object, d_routine}
 use Rattle.syntax.specs.Tree.{EntryTree, directives_of, ProgramTree}
 use Rattle.syntax.specs.Grammar.{e_directive, e_abbreviate, IsEntries, entries_stop, entries_next, IsProgram, program}
 use Rattle.syntax.specs.Laws.{IsWeighed, WeighedRoutines}
-use Rattle.directives.proofs.SpelledStatements.{spelled_Names, spelled_Ss}
-use Rattle.directives.proofs.Spelled.{weighs, weighs_about}
+use Rattle.syntax_directives.proofs.SpelledStatements.{spelled_Names, spelled_Ss}
+use Rattle.syntax_directives.proofs.Spelled.{weighs, weighs_about}
 
 directive_weighed : {ts r : List Lexeme} {d : DirectiveTree} → IsDirective ts d r → IsWeighed d
 directive_weighed d_global = tt

@@ -1,12 +1,12 @@
 -- The grammar of programs: a relation between the tokens from a place on, the tree, and the tokens after it, with one
 -- case for each alternative.
 use Rattle.std.specs.Prelude.{◌<◌, ◌+◌, ℕ, max, List, [], ◌∷◌, ◌++◌, length}
-use Rattle.lexer.specs.declared.token.Position.{Position}
-use Rattle.lexer.specs.declared.token.Sign.TheVariants as s
-use Rattle.lexer.specs.declared.token.Word.TheVariants as w
-use Rattle.lexer.specs.Token.{Lexeme, dictionary_word, reserved, sign, end}
-use Rattle.directives.specs.Tree.{TextTree, DirectiveTree}
-use Rattle.directives.specs.Grammar.{weight_of, IsDirective, IsTexts, directive_nesting}
+use Rattle.syntax_lexer.specs.declared.token.Position.{Position}
+use Rattle.syntax_lexer.specs.declared.token.Sign.TheVariants as s
+use Rattle.syntax_lexer.specs.declared.token.Word.TheVariants as w
+use Rattle.syntax_lexer.specs.Token.{Lexeme, dictionary_word, reserved, sign, end}
+use Rattle.syntax_directives.specs.Tree.{TextTree, DirectiveTree}
+use Rattle.syntax_directives.specs.Grammar.{weight_of, IsDirective, IsTexts, directive_nesting}
 use Rattle.syntax.specs.Tree.{EntryTree, entry, abbreviate, directives_of, abbreviations_of, ProgramTree}
 
 -- The dictionary words among tokens, in order

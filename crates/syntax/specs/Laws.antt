@@ -1,10 +1,10 @@
 -- The laws of programs that functions of `laws` carry as their contracts.
 use Rattle.std.specs.Prelude.{◌≡◌, ◌≤◌, ◌+◌, ◌*◌, ℕ, List, length}
 use Rattle.std.specs.List.{All}
-use Rattle.lexer.specs.Token.{Lexeme}
-use Rattle.lexer.specs.Printable.{HasPrintableText}
-use Rattle.directives.specs.Tree.{DirectiveTree, routine}
-use Rattle.directives.specs.Weight.{statement_weights, statements_values}
+use Rattle.syntax_lexer.specs.Token.{Lexeme}
+use Rattle.syntax_lexer.specs.Printable.{HasPrintableText}
+use Rattle.syntax_directives.specs.Tree.{DirectiveTree, routine}
+use Rattle.syntax_directives.specs.Weight.{statement_weights, statements_values}
 use Rattle.syntax.specs.Tree.{ProgramTree}
 use Rattle.syntax.specs.Grammar.{IsProgram}
 use Rattle.syntax.specs.Printable.{HasPrintableTexts}

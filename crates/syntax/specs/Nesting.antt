@@ -4,8 +4,8 @@
 -- DeepProgram n ts: entries that begin at ts can be read as far as a token that stands n nestings deep in one of
 -- them. What lies before that token in its parts is complete.
 use Rattle.std.specs.Prelude.{ℕ, List}
-use Rattle.lexer.specs.Token.{Lexeme}
-use Rattle.directives.specs.Nesting.{DeepDirective}
+use Rattle.syntax_lexer.specs.Token.{Lexeme}
+use Rattle.syntax_directives.specs.Nesting.{DeepDirective}
 use Rattle.syntax.specs.Tree.{EntryTree}
 use Rattle.syntax.specs.Grammar.{IsEntry}
 

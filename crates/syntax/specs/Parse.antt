@@ -2,16 +2,16 @@
 -- it.
 use Rattle.std.specs.Prelude.{if◌then◌else◌, Bool, true, false, ℕ, List, [], ◌∷◌, ◌++◌, length, map, Option, Some, None}
 use Rattle.std.specs.Prelude.{Result, Ok, Err}
-use Rattle.lexer.specs.declared.token.Position.{Position}
-use Rattle.lexer.specs.declared.token.Word.TheVariants as w
-use Rattle.lexer.specs.Token.{Lexeme, end}
-use Rattle.parsing.specs.declared.error.Fault.{Fault}
-use Rattle.parsing.specs.declared.error.Fault.TheVariants.{Grammar}
-use Rattle.parsing.specs.Parse.{Parse, ◌>>=◌, head, tail, is_word, repeated}
-use Rattle.directives.specs.Tree.{TextTree, DirectiveTree, directive_tree, text_tree}
-use Rattle.directives.specs.Grammar.{weight_of}
-use Rattle.directives.specs.Parse.{abbreviate_behind, directive}
-use Rattle.syntax.specs.declared.entries.Found.{Found}
+use Rattle.syntax_lexer.specs.declared.token.Position.{Position}
+use Rattle.syntax_lexer.specs.declared.token.Word.TheVariants as w
+use Rattle.syntax_lexer.specs.Token.{Lexeme, end}
+use Rattle.syntax_parsing.specs.declared.error.Fault.{Fault}
+use Rattle.syntax_parsing.specs.declared.error.Fault.TheVariants.{Grammar}
+use Rattle.syntax_parsing.specs.Parse.{Parse, ◌>>=◌, head, tail, is_word, repeated}
+use Rattle.syntax_directives.specs.Tree.{TextTree, DirectiveTree, directive_tree, text_tree}
+use Rattle.syntax_directives.specs.Grammar.{weight_of}
+use Rattle.syntax_directives.specs.Parse.{abbreviate_behind, directive}
+use Rattle.syntax.specs.declared.entries.FileEntries.{FileEntries}
 use Rattle.syntax.specs.Tree.{EntryTree, entry, abbreviate, directives_of, abbreviations_of, ProgramTree}
 use Rattle.syntax.specs.Grammar.{dictionary_words}
 
@@ -33,7 +33,7 @@ abbrev pub parts_of : List EntryTree → Parts
 parts_of es = (directives_of es, abbreviations_of es)
 
 -- those that the code found
-abbrev pub parts_in : Found → Parts
+abbrev pub parts_in : FileEntries → Parts
 parts_in found = (map directive_tree found.directives.items, map text_tree found.abbreviations.items)
 
 -- with the texts of an `abbreviate`, from its word on

@@ -1,6 +1,6 @@
 -- Programs whose texts print: each of their bytes is one of 32 to 126.
 use Rattle.std.specs.List.{All}
-use Rattle.directives.specs.Printable.{IsPrintableDirective, IsPrintableText}
+use Rattle.syntax_directives.specs.Printable.{IsPrintableDirective, IsPrintableText}
 use Rattle.syntax.specs.Tree.{ProgramTree}
 
 abbrev pub HasPrintableTexts : ProgramTree → Type 0

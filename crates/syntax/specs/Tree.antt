@@ -1,7 +1,7 @@
 -- Trees of programs, without where they lie in memory.
 use Rattle.std.specs.Prelude.{ℕ, List, [], ◌∷◌, ◌++◌, map}
-use Rattle.lexer.specs.declared.token.Position.{Position}
-use Rattle.directives.specs.Tree.{DirectiveTree, TextTree, directive_tree, text_tree}
+use Rattle.syntax_lexer.specs.declared.token.Position.{Position}
+use Rattle.syntax_directives.specs.Tree.{DirectiveTree, TextTree, directive_tree, text_tree}
 use Rattle.syntax.specs.declared.tree.Program.{Program}
 
 -- what stands in a file: a directive, or the texts of an `abbreviate`

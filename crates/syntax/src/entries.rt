@@ -1,18 +1,18 @@
 //! What stands in a file, read from tokens: directives, and the texts of each `abbreviate`.
 
 ghost use Rattle.std.specs.Prelude.{◌≡◌, IfErr, IfOk, [], ◌∷◌, ◌++◌};
-ghost use Rattle.lexer.specs.Token.{lexeme};
-ghost use Rattle.parsing.specs.Returned.{ahead, Takes};
+ghost use Rattle.syntax_lexer.specs.Token.{lexeme};
+ghost use Rattle.syntax_parsing.specs.Returned.{ahead, Takes};
 ghost use Rattle.syntax.specs.Parse as spec;
 ghost use Rattle.syntax.specs.Parse.{parts_in};
 
-use directives::{Directive, Text, abbreviate, directive};
-use lexer::{Kind, Token, Word};
-use parsing::{ParseError, Parser, is_word, pass, peek};
+use syntax_directives::{Directive, Text, abbreviate, directive};
+use syntax_lexer::{Kind, Token, Word};
+use syntax_parsing::{ParseError, Parser, is_word, pass, peek};
 
 /// What stands in a file: its directives, and the texts of all `abbreviate`, each in order.
 #[derive(Drop)]
-pub struct Found<'a> {
+pub struct FileEntries<'a> {
     pub directives: Vec<Directive<'a>>,
     pub abbreviations: Vec<Text<'a>>,
 }
@@ -37,7 +37,7 @@ fn add<'a>(directives: &mut Vec<Directive<'a>>, next: Box<Directive<'a>>) -> Res
 #[tactic(auto, unfolding(crate::specs::Parse::directive_more), using(crate::proofs::EntriesRead::map_last))]
 fn add_directive<'t, 'a>(
     parser: &mut Parser<'t, 'a>,
-    found: &mut Found<'a>,
+    found: &mut FileEntries<'a>,
     depth: usize,
 ) -> Result<(), ParseError>
     ensures { Takes (λ _. parts_in found.new) result parser.new
@@ -54,7 +54,10 @@ fn add_directive<'t, 'a>(
 
 // The texts of an `abbreviate`, from its word on, behind what was read before.
 #[tactic(auto, unfolding(crate::specs::Parse::texts_more), using(crate::proofs::EntriesRead::map_both))]
-fn add_texts<'t, 'a>(parser: &mut Parser<'t, 'a>, found: &mut Found<'a>) -> Result<(), ParseError>
+fn add_texts<'t, 'a>(
+    parser: &mut Parser<'t, 'a>,
+    found: &mut FileEntries<'a>,
+) -> Result<(), ParseError>
     ensures { Takes (λ _. parts_in found.new) result parser.new
         (spec.texts_more (parts_in found.old) (ahead parser.old)) }
 {
@@ -68,7 +71,7 @@ fn add_texts<'t, 'a>(parser: &mut Parser<'t, 'a>, found: &mut Found<'a>) -> Resu
 #[tactic(auto, unfolding(crate::specs::Parse::one_more))]
 fn entry<'t, 'a>(
     parser: &mut Parser<'t, 'a>,
-    found: &mut Found<'a>,
+    found: &mut FileEntries<'a>,
     depth: usize,
 ) -> Result<(), ParseError>
     ensures { Takes (λ _. parts_in found.new) result parser.new
@@ -80,17 +83,21 @@ fn entry<'t, 'a>(
     add_directive(parser, found, depth)
 }
 
-/// The directives and the abbreviations, up to the end, with `depth` nestings to open in a statement.
+/// The directives and the abbreviations, up to the end, with `depth` nestings to open in a
+/// statement.
 ///
 /// # Errors
 ///
-/// `Fault::Grammar` at the first token with which no derivation goes on, `Fault::Deep` at the token for
-/// which no nesting is left, and `Memory` where a growth is refused.
+/// `Fault::Grammar` at the first token with which no derivation goes on, `Fault::Deep` at the token
+/// for which no nesting is left, and `Memory` where a growth is refused.
 #[tactic(auto, unfolding(crate::specs::Parse::entries, crate::specs::Parse::all_entries), using(crate::proofs::EntriesRead::entries_out, crate::proofs::EntriesRead::entries_done, crate::proofs::EntriesRead::entries_more, crate::proofs::EntriesRead::entries_fail))]
-pub fn entries<'t, 'a>(parser: &mut Parser<'t, 'a>, depth: usize) -> Result<Found<'a>, ParseError>
+pub fn entries<'t, 'a>(
+    parser: &mut Parser<'t, 'a>,
+    depth: usize,
+) -> Result<FileEntries<'a>, ParseError>
     ensures { Takes parts_in result parser.new (spec.entries depth (ahead parser.old)) }
 {
-    let mut found = Found {
+    let mut found = FileEntries {
         directives: Vec::new(parser.alloc),
         abbreviations: Vec::new(parser.alloc),
     };

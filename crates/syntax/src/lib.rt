@@ -7,14 +7,16 @@ mod program;
 mod tree;
 mod words;
 
-pub use directives::{Array, ArrayKind, ArrayValue, Directive, Object, Property, Routine, Text};
-pub use expression_trees::{
+pub use laws::{printable_trees, weighed_routines};
+pub use program::{one_tree, parse};
+pub use syntax_directives::{
+    Array, ArrayKind, ArrayValue, Directive, Object, Property, Routine, Text,
+};
+pub use syntax_lexer::{Kind, Position, Sign, SourceFault, Token, Word, lex};
+pub use syntax_statement_parts::{Heading, Literal, PrintItem, Range};
+pub use syntax_statements::Statement;
+pub use syntax_trees::{
     Binary, Comparison, Containment, Equality, Expression, Name, ObjectTest, Prefix, Relative,
     Step, Width,
 };
-pub use laws::{printable_trees, weighed_routines};
-pub use lexer::{Kind, Position, Sign, SourceFault, Token, Word, lex};
-pub use program::{one_tree, parse};
-pub use statement_parts::{Heading, Literal, PrintItem, Range};
-pub use statements::Statement;
 pub use tree::Program;

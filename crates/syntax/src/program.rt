@@ -1,24 +1,24 @@
 //! Whole programs, read from tokens.
 
 ghost use Rattle.std.specs.Prelude.{◌≡◌, ◌≤◌, ◌<◌, ◌⊎◌, ◌∷◌, [], IfOk, IfErr, List};
-ghost use Rattle.lexer.specs.Results.{no_memory};
-ghost use Rattle.lexer.specs.Token.{Lexeme, lexeme, lexemes};
-ghost use Rattle.parsing.specs.Parse.{Gives};
-ghost use Rattle.parsing.specs.Returned.{ahead};
-ghost use Rattle.syntax.specs.Answers.{IfNumber, Answers};
+ghost use Rattle.syntax_lexer.specs.FaultNumbers.{no_memory};
+ghost use Rattle.syntax_lexer.specs.Token.{Lexeme, lexeme, lexemes};
+ghost use Rattle.syntax_parsing.specs.Parse.{Gives};
+ghost use Rattle.syntax_parsing.specs.Returned.{ahead};
+ghost use Rattle.syntax.specs.Answers.{IfNumber, AnswersProgram};
 ghost use Rattle.syntax.specs.Grammar.{IsProgram, program_nesting};
 ghost use Rattle.syntax.specs.Nesting.{DeepProgram};
 ghost use Rattle.syntax.specs.Tree.{ProgramTree, program_tree};
 ghost use Rattle.syntax.specs.Parse as spec;
 ghost use Rattle.syntax.specs.Parse.{parts_in};
 
-use crate::entries::{Found, entries};
+use crate::entries::{FileEntries, entries};
 use crate::tree::Program;
 use crate::words::dictionary_words;
-use directives::weight_of;
-use lexer::{Kind, Position, SourceFault, Token};
-use parsing::{Fault, ParseError, Parser, fault_at};
 use std::alloc::Global;
+use syntax_directives::weight_of;
+use syntax_lexer::{Kind, Position, SourceFault, Token};
+use syntax_parsing::{Fault, ParseError, Parser, fault_at};
 
 // How many nestings may be opened in a statement of a routine.
 const MOST_NESTED: usize = 100;
@@ -48,11 +48,11 @@ fn end_alone(tokens: &[Token<'_>]) -> Option<Position>
 // The program whose parts were found among the tokens, where the parser has but the end before it.
 fn whole<'t, 'a>(
     parser: &Parser<'t, 'a>,
-    found: Found<'a>,
+    found: FileEntries<'a>,
     tokens: &[Token<'a>],
 ) -> Result<Program<'a>, ParseError>
-    ensures { Gives program_tree result
-        (spec.whole (lexemes tokens.now) (parts_in found.entry) (spec.end_alone (ahead parser.now))) }
+    ensures { Gives program_tree result (spec.whole (lexemes tokens.now) (parts_in found.entry)
+        (spec.end_alone (ahead parser.now))) }
 {
     let Some(end) = end_alone(parser.tokens) else {
         return Err(fault_at(Fault::Grammar, parser.tokens));
@@ -78,7 +78,8 @@ fn program<'a>(alloc: Global, tokens: &[Token<'a>]) -> Result<Program<'a>, Parse
     }
 }
 
-/// The program that the tokens of a source are, up to its end, which is the last of them and no other.
+/// The program that the tokens of a source are, up to its end, which is the last of them and no
+/// other.
 ///
 /// ```text
 /// Program = {Entry}
@@ -96,16 +97,17 @@ fn program<'a>(alloc: Global, tokens: &[Token<'a>]) -> Result<Program<'a>, Parse
 ///
 /// # Errors
 ///
-/// - E10: the tokens are not in the grammar. The line is that of the first with which no derivation goes on.
+/// - E10: the tokens are not in the grammar. The line is that of the first with which no derivation
+///   goes on.
 /// - E05: a token stands more than 100 nestings deep. The line is that token's.
 /// - E99, with line 0: a growth of memory is refused.
 pub fn parse<'a>(alloc: Global, tokens: &[Token<'a>]) -> Result<Program<'a>, SourceFault>
     // What is read derives.
-    ensures found { IfOk result
-        (λ p. IsProgram (lexemes tokens.now) (program_tree p) × (program_nesting (program_tree p) ≤ 100)) }
+    ensures found { IfOk result (λ p. IsProgram (lexemes tokens.now) (program_tree p)
+        × (program_nesting (program_tree p) ≤ 100)) }
     // What derives is read.
     ensures only { (p : ProgramTree) → IsProgram (lexemes tokens.now) p → program_nesting p ≤ 100
-        → Answers result p }
+        → AnswersProgram result p }
     // When each fault comes.
     ensures grammar { IfNumber result 10
         ((p : ProgramTree) → IsProgram (lexemes tokens.now) p → ⊥) }

@@ -1,7 +1,7 @@
 //! Trees of programs.
 
-use directives::{Directive, Text};
-use lexer::Position;
+use syntax_directives::{Directive, Text};
+use syntax_lexer::Position;
 
 /// A program.
 #[derive(Drop)]

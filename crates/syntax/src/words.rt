@@ -1,11 +1,11 @@
 //! The dictionary words of a source.
 
 ghost use Rattle.std.specs.Prelude.{◌≡◌, IfOk, map};
-ghost use Rattle.lexer.specs.Token.{lexemes};
+ghost use Rattle.syntax_lexer.specs.Token.{lexemes};
 ghost use Rattle.syntax.specs.Grammar as grammar;
 
-use lexer::{Kind, Token};
 use std::alloc::{AllocError, Global};
+use syntax_lexer::{Kind, Token};
 
 /// The dictionary words among tokens, in order, each as often as it stands.
 ///

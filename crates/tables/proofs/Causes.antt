@@ -11,7 +11,7 @@ use Rattle.zcore.specs.Properties.{found_at, found_in}
 use Rattle.tables.specs.declared.fault.TableRead.{TableRead}
 use Rattle.tables.specs.declared.fault.TableRead.TheVariants.{Object, Outside}
 use Rattle.tables.specs.Objects.{data_of, property_from, counted_at, counted_in, count_from, start_at, start_of}
-use Rattle.tables.specs.Found.{Lists, Reaches, FindsIn, CountsIn, PropertiesAre, properties_of}
+use Rattle.tables.specs.Found.{Lists, FindsIn, CountsIn, PropertiesAre, properties_of, ReachesInList}
 use Rattle.tables.specs.Laws.{PropertiesAreRead}
 
 -- A property ends behind the address at which it stands
@@ -54,25 +54,25 @@ one_more story at p ps s e l = record { address = l.address; listed = (e, l.list
 -- The first property of a number
 
 module _ (story : List ℕ) (number : ℕ) where
-  reaches_past : (at : ℕ) → length story ≤ at → Reaches story number at Beyond
+  reaches_past : (at : ℕ) → length story ≤ at → ReachesInList story number at Beyond
   reaches_past at le =
       record { before = []; others = All-nil _; lists = here story at Beyond (past story at le); numbered = tt }
 
   reaches_by : (at : ℕ) (on : ℕ → Standing) (s : Standing) → standing story (length story) at ≡ s
-      → ((next : ℕ) → at < next → Reaches story number next (on next))
-      → Reaches story number at (found_at number s on)
+      → ((next : ℕ) → at < next → ReachesInList story number next (on next))
+      → ReachesInList story number at (found_at number s on)
   reaches_by at on Terminator e later =
       record { before = []; others = All-nil _; lists = here story at Terminator e; numbered = tt }
   reaches_by at on Beyond e later =
       record { before = []; others = All-nil _; lists = here story at Beyond e; numbered = tt }
   reaches_by at on (Listed p) e later = elim (cases_eq p.number number) [
     | inl same ↦
-        subst (λ (b : Bool). Reaches story number at (if b then Listed p else on (p.address + p.size)))
+        subst (λ (b : Bool). ReachesInList story number at (if b then Listed p else on (p.address + p.size)))
         (sym (eq-eqb p.number number same))
         (record { before = []; others = All-nil _; lists = here story at (Listed p) e; numbered = same })
     | inr other ↦
         let r = later (p.address + p.size) (ahead story (length story) at p e) in
-        subst (λ (b : Bool). Reaches story number at (if b then Listed p else on (p.address + p.size)))
+        subst (λ (b : Bool). ReachesInList story number at (if b then Listed p else on (p.address + p.size)))
         (sym (ne_eqb p.number number other))
         (record {
           before = p ∷ r.before;
@@ -83,14 +83,14 @@ module _ (story : List ℕ) (number : ℕ) where
   ]
 
   found_reaches : (steps at : ℕ) → length story ≤ at + steps
-      → Reaches story number at (found_in story (length story) number at steps)
+      → ReachesInList story number at (found_in story (length story) number at steps)
   unfolding found_in
   found_reaches zero at room = reaches_past at (omega (arith, room))
   found_reaches (suc steps) at room =
       reaches_by at (λ next. found_in story (length story) number next steps) (standing story (length story) at) refl
       (λ next lt. found_reaches steps next (omega (arith, room, lt)))
 
-  data_found : (start : ℕ) (s : Standing) → Reaches story number start s
+  data_found : (start : ℕ) (s : Standing) → ReachesInList story number start s
       → FindsIn story number start (data_of story s)
   data_found start Terminator r = r
   data_found start Beyond r = inl r

@@ -8,7 +8,8 @@ use Rattle.zcore.specs.Cutting.{words_of}
 use Rattle.zcore.specs.Dictionary.{number_of_key}
 use Rattle.zcore.specs.Entries.{Child, place_of, is_set, named_from}
 use Rattle.zcore.specs.Properties.{Terminator, Listed, Beyond, found_in, property_in}
-use Rattle.tables.specs.Dictionary.{dictionary_bytes, key_number}
+use Rattle.tables.specs.Dictionary.{dictionary_bytes}
+use Rattle.tables.specs.KeyNumbers.{key_number}
 use Rattle.tables.specs.Rows.{sizes, name_bytes, name_words, objects_bytes}
 
 -- The dictionary

@@ -1,7 +1,6 @@
 -- What a story reads where a dictionary was written.
 use Rattle.std.proofs.Common.{◌≡◌, ◌==◌, ℕ, zero, suc, ◌+◌, ◌-◌, ◌*◌, ◌/◌, ◌%◌, ◌^◌, ◌<◌, ◌≤◌, false, if◌then◌else◌}
-use Rattle.std.proofs.Common.{List, [], ◌∷◌, length, take, drop, get_or, slice_index, refl, ap, sym, ◌∙◌, subst}
-use Rattle.std.proofs.Common.{arith}
+use Rattle.std.proofs.Common.{List, [], ◌∷◌, length, take, drop, get_or, slice_index, refl, ap, sym, ◌∙◌, subst, arith}
 use Rattle.std.specs.Prelude.{map, slice_range}
 use Rattle.std.specs.List.{AllByRecursion, flat_map}
 use Rattle.std.specs.List.Sorted.{IsStrictlyIncreasing}
@@ -13,7 +12,8 @@ use Rattle.zcore.specs.Header.{separator_count, entry_length_of, entry_count, fi
 use Rattle.ztext.specs.Text.{Holds}
 use Rattle.ztext.proofs.Holding.{holds_append}
 use Rattle.zcore.specs.Dictionary.{number_of_key, entry_in, entry_of}
-use Rattle.tables.specs.Dictionary.{head_bytes, entry_bytes, dictionary_bytes, place_in, ReadsKeys}
+use Rattle.tables.specs.Dictionary.{head_bytes, entry_bytes, dictionary_bytes, ReadsKeys}
+use Rattle.tables.specs.KeyNumbers.{place_in}
 use Rattle.tables.specs.Laws.{NumbersAreByRank}
 use Rattle.tables.proofs.Halving.{rising}
 

@@ -6,7 +6,9 @@ use Rattle.std.specs.List.{flat_map}
 use Rattle.zcore.specs.Dictionary.{entry_of}
 use Rattle.zcore.specs.Header.{separator_count, entry_length_of, entry_count, first_entry, key_at, static_end}
 use Rattle.zcore.specs.Header.{IsDictionary}
+use Rattle.zcore.specs.Layout.{readable_size}
 use Rattle.ztext.specs.Text.{Holds}
+use Rattle.tables.specs.KeyNumbers.{entry_size, head_size, key_number}
 use Rattle.tables.specs.declared.fault.TableFault.{TableFault}
 use Rattle.tables.specs.declared.fault.TableFault.TheVariants.{NameTooLong, TooLarge, Memory}
 
@@ -33,7 +35,7 @@ entry_bytes key = key ++ 0 ∷ 0 ∷ 0 ∷ []
 
 -- three separators, the length of an entry, and the number of entries
 abbrev pub head_bytes : ℕ → List ℕ
-head_bytes count = 3 ∷ 46 ∷ 44 ∷ 34 ∷ 9 ∷ (count / 256) ∷ (count % 256) ∷ []
+head_bytes count = 3 ∷ 46 ∷ 44 ∷ 34 ∷ entry_size ∷ (count / 256) ∷ (count % 256) ∷ []
 
 -- and then the entries
 abbrev pub dictionary_bytes : List (List ℕ) → List ℕ
@@ -42,19 +44,8 @@ dictionary_bytes keys = head_bytes (length keys) ++ flat_map entry_bytes keys
 -- why a dictionary of so many keys is not written
 abbrev pub RefusesKeys : ℕ → TableFault → Type 0
 RefusesKeys count NameTooLong = ⊥
-RefusesKeys count TooLarge = 65536 < 7 + 9 * count
-RefusesKeys count Memory = 7 + 9 * count ≤ 65536
-
--- Numbers of keys
-
--- the place of the entry of a key among entries of nine bytes, or 0
-abbrev pub place_in : ℕ → List ℕ → ℕ → ℕ
-place_in at [] key = 0
-place_in at (k ∷ ks) key = if k == key then at else place_in (at + 9) ks key
-
--- the number of a key in a dictionary of these keys at a place: `place + 7 + 9 * rank`, and 0 for every other key
-abbrev pub key_number : ℕ → List ℕ → ℕ → ℕ
-key_number dictionary keys key = place_in (dictionary + 7) keys key
+RefusesKeys count TooLarge = readable_size < head_size + entry_size * count
+RefusesKeys count Memory = head_size + entry_size * count ≤ readable_size
 
 -- what a story reads where a dictionary of keys was written
 pub record ReadsKeys (story : List ℕ) (at : ℕ) (keys : List ℕ) : Type 0 where

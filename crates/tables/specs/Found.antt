@@ -21,7 +21,7 @@ IsNumbered number (Listed p) = p.number ≡ number
 IsNumbered number Beyond = Unit {0}
 
 -- what stands behind properties of other numbers: the first property of the number, or what ends the list before one
-pub record Reaches (story : List ℕ) (number start : ℕ) (end : Standing) : Type 0 where
+pub record ReachesInList (story : List ℕ) (number start : ℕ) (end : Standing) : Type 0 where
   pub before : List Property
   pub others : All (λ (p : Property). p.number ≡ number → ⊥) before
   pub lists : Lists story start before end
@@ -29,14 +29,14 @@ pub record Reaches (story : List ℕ) (number start : ℕ) (end : Standing) : Ty
 
 -- what is read of the first property of a number in the list at an address
 abbrev pub FindsIn : List ℕ → ℕ → ℕ → Result (Option (List ℕ)) TableRead → Type 0
-FindsIn story number start (Ok None) = Reaches story number start Terminator
+FindsIn story number start (Ok None) = ReachesInList story number start Terminator
 FindsIn story number start (Ok (Some bytes)) =
-    (p : Property) × Reaches story number start (Listed p) × (p.address + p.size ≤ length story)
+    (p : Property) × ReachesInList story number start (Listed p) × (p.address + p.size ≤ length story)
     × (slice_range story p.address (p.address + p.size) ≡ bytes)
 FindsIn story number start (Err Object) = ⊥
 FindsIn story number start (Err Outside) =
-    Reaches story number start Beyond
-    ⊎ ((p : Property) × Reaches story number start (Listed p) × (length story < p.address + p.size))
+    ReachesInList story number start Beyond
+    ⊎ ((p : Property) × ReachesInList story number start (Listed p) × (length story < p.address + p.size))
 
 -- how many properties are read in the list at an address, where so many stand before it
 abbrev pub CountsIn : List ℕ → ℕ → ℕ → Result ℕ TableRead → Type 0

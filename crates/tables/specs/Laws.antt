@@ -2,7 +2,7 @@
 use Rattle.std.specs.Prelude.{◌≡◌, ◌+◌, ◌*◌, ◌<◌, ◌↔◌, ℕ, List, length, slice_index}
 use Rattle.std.specs.List.Sorted.{IsStrictlyIncreasing}
 use Rattle.zcore.specs.Cutting.{Word, IsCut, words_of}
-use Rattle.tables.specs.Dictionary.{key_number}
+use Rattle.tables.specs.KeyNumbers.{key_number}
 use Rattle.tables.specs.Found.{PropertiesAre}
 
 -- a line is cut into these words and no others

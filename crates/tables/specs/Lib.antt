@@ -4,6 +4,7 @@ pub mod Objects
 pub mod Standing
 pub mod Rows
 pub mod Found
+pub mod KeyNumbers
 pub mod Dictionary
 pub mod Searched
 pub mod Laws

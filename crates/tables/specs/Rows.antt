@@ -7,6 +7,7 @@ use Rattle.ztext.specs.Alphabets.{is_printable}
 use Rattle.ztext.specs.Bytes.{word_at}
 use Rattle.ztext.specs.Text.{encoded, decoded}
 use Rattle.zcore.specs.Entries.{Parent, Sibling, Child, properties_place, is_set}
+use Rattle.zcore.specs.Layout.{attribute_count, default_count, defaults_size, object_entry_size, readable_size}
 use Rattle.tables.specs.declared.fault.TableFault.{TableFault}
 use Rattle.tables.specs.declared.fault.TableFault.TheVariants.{NameTooLong, TooLarge, Memory}
 use Rattle.tables.specs.declared.row.ObjectRow.{ObjectRow}
@@ -58,17 +59,18 @@ entries_bytes at (row ∷ rows) = entry_bytes row at ++ entries_bytes (at + leng
 -- a whole table at an address: the property defaults, the entries, the property tables
 abbrev pub objects_bytes : List ObjectRow → List ℕ → ℕ → List ℕ
 objects_bytes rows defaults at =
-    flat_map word defaults ++ entries_bytes (at + 126 + 14 * length rows) rows ++ flat_map table_bytes rows
+    flat_map word defaults ++ entries_bytes (at + defaults_size + object_entry_size * length rows) rows
+    ++ flat_map table_bytes rows
 
 -- how many bytes they are
 abbrev pub objects_length : List ObjectRow → ℕ
-objects_length rows = 126 + 14 * length rows + length (flat_map table_bytes rows)
+objects_length rows = defaults_size + object_entry_size * length rows + length (flat_map table_bytes rows)
 
 -- What can be written
 
 pub record IsProperty (p : RowProperty) : Type 0 where
   pub low : 1 ≤ p.0
-  pub high : p.0 ≤ 63
+  pub high : p.0 ≤ default_count
   pub some : 1 ≤ length p.1.items
   pub few : length p.1.items ≤ 32
 
@@ -90,7 +92,7 @@ RefusesName name Memory = Unit {0}
 abbrev pub RefusesRows : List ObjectRow → ℕ → TableFault → Type 0
 RefusesRows rows at NameTooLong =
     (i : ℕ) × (row : ObjectRow) × (slice_get rows i ≡ Some row) × (255 < name_words row.name.items)
-RefusesRows rows at TooLarge = 65536 < at + objects_length rows
+RefusesRows rows at TooLarge = readable_size < at + objects_length rows
 RefusesRows rows at Memory = Unit {0}
 
 -- What is read of what was written
@@ -112,7 +114,7 @@ pub record ReadsRow (story : List ℕ) (table object : ℕ) (row : ObjectRow) : 
   pub parent : link_of story table (Parent object) ≡ Ok row.parent
   pub sibling : link_of story table (Sibling object) ≡ Ok row.sibling
   pub child : link_of story table (Child object) ≡ Ok row.child
-  pub attributes : (a : ℕ) → a < 48
+  pub attributes : (a : ℕ) → a < attribute_count
       → attribute_of story table object a ≡ Ok (is_set (slice_index row.attributes (a / 8)) a)
   pub name : ReadsName story (word_at story (properties_place table object)) row.name.items
   pub properties : (number : ℕ)
@@ -121,5 +123,5 @@ pub record ReadsRow (story : List ℕ) (table object : ℕ) (row : ObjectRow) : 
 
 -- what a story reads where a table was written
 pub record ReadsRows (story : List ℕ) (table : ℕ) (written : List ObjectRow) (words : List ℕ) : Type 0 where
-  pub defaults : (i : ℕ) → i < 63 → word_at story (table + 2 * i) ≡ slice_index words i
+  pub defaults : (i : ℕ) → i < default_count → word_at story (table + 2 * i) ≡ slice_index words i
   pub rows : (i : ℕ) (row : ObjectRow) → slice_get written i ≡ Some row → ReadsRow story table (i + 1) row

@@ -6,8 +6,8 @@ ghost use Rattle.tables.specs.Placed.{words_at, words_left, word_between};
 
 use crate::words::{Word, Words};
 
-/// The words of a line, from first to last. Spaces divide words; a separator divides them too, and is a word itself. A
-/// space is no word, also where the separators name it. It takes no memory.
+/// The words of a line, from first to last. Spaces divide words; a separator divides them too, and
+/// is a word itself. A space is no word, also where the separators name it. It takes no memory.
 pub fn cut_line<'a>(line: &'a [u8], separators: &'a [u8]) -> Words<'a>
     ensures words { words_left result ≡ words_of separators.now line.now }
     ensures cut { IsCut separators.now 0 line.now (words_left result) }

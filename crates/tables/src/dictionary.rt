@@ -9,33 +9,24 @@ ghost use Rattle.tables.specs.Searched.{AreEntriesAt, AreWhole, IsFoundIn};
 ghost use Rattle.tables.specs.declared.fault.TableFault.TheVariants.{Memory};
 
 use crate::fault::TableFault;
+use crate::layout::{DICTIONARY_ENTRY_LENGTH, DICTIONARY_HEAD_LENGTH};
 use byteorder::{BigEndian, ByteOrder};
 use std::alloc::Global;
-
-/// Dynamic and static memory end at the latest here (section 1.1.2).
-const STATIC_LIMIT: usize = 0x1_0000;
-
-/// The bytes of a key (section 13.4).
-const KEY_LENGTH: usize = 6;
-
-/// The bytes before the entries of a dictionary with three separators.
-const HEAD_LENGTH: usize = 7;
-
-/// The bytes of an entry that is written: six of key and three of data.
-const ENTRY_LENGTH: usize = 9;
+use zcore::layout::{KEY_LENGTH, READABLE};
 
 /// How many entries at most are written: all that 65,536 bytes hold.
-const MOST_ENTRIES: usize = (65_536 - HEAD_LENGTH) / ENTRY_LENGTH;
+const MOST_ENTRIES: usize = (READABLE - DICTIONARY_HEAD_LENGTH) / DICTIONARY_ENTRY_LENGTH;
 
-/// The bytes of a dictionary of these keys, with the separators `.`, `,` and `"`: each entry is the six bytes of its key
-/// and three of data that are 0. The keys ascend; there may be none.
+/// The bytes of a dictionary of these keys, with the separators `.`, `,` and `"`: each entry is the
+/// six bytes of its key and three of data that are 0. The keys ascend; there may be none.
 ///
-/// Where a story has the bytes at an address, and they end with its static memory or before, there is a dictionary at
-/// that address in which each key, and no other, is found.
+/// Where a story has the bytes at an address, and they end with its static memory or before, there
+/// is a dictionary at that address in which each key, and no other, is found.
 ///
 /// # Errors
 ///
-/// `B2` where the dictionary would be longer than 65,536 bytes; else `B3` where a growth of memory was refused.
+/// `B2` where the dictionary would be longer than 65,536 bytes; else `B3` where a growth of memory
+/// was refused.
 pub fn write_dictionary(alloc: Global, keys: &[[u8; 6]]) -> Result<Vec<u8>, TableFault>
     requires { IsStrictlyIncreasing (map number_of_key keys.now) }
     ensures bytes { IfOk result (λ v. v.items ≡ dictionary_bytes keys.now) }
@@ -54,12 +45,13 @@ pub fn write_dictionary(alloc: Global, keys: &[[u8; 6]]) -> Result<Vec<u8>, Tabl
     Ok(bytes)
 }
 
-/// Adds what stands before the entries: the separators, the length of an entry and the number of entries.
+/// Adds what stands before the entries: the separators, the length of an entry and the number of
+/// entries.
 fn put_head(bytes: &mut Vec<u8>, entries: u16) -> Result<(), TableFault>
     ensures put { OnOk result (bytes.new.items ≡ bytes.old.items ++ head_bytes entries) }
     ensures memory { IfErr result (λ e. e ≡ Memory) }
 {
-    bytes.extend_from_slice(&[3, b'.', b',', b'"', ENTRY_LENGTH as u8])?;
+    bytes.extend_from_slice(&[3, b'.', b',', b'"', DICTIONARY_ENTRY_LENGTH as u8])?;
     bytes.push((entries / 256) as u8)?;
     bytes.push((entries % 256) as u8)?;
     Ok(())
@@ -85,8 +77,8 @@ struct Entries {
     count: usize,
 }
 
-/// The address of the entry that has the key, or 0 where none has it. It asks nothing of the story: where there is no
-/// dictionary that can be searched at the address, it answers some number.
+/// The address of the entry that has the key, or 0 where none has it. It asks nothing of the story:
+/// where there is no dictionary that can be searched at the address, it answers some number.
 pub fn lookup(story: &[u8], dictionary: u16, key: &[u8; 6]) -> u16
     ensures { IsDictionary story.now dictionary
         → Finds story.now dictionary (number_of_key key.now) result }
@@ -101,7 +93,7 @@ pub fn lookup(story: &[u8], dictionary: u16, key: &[u8; 6]) -> u16
 fn end_of_static(story: &[u8]) -> usize
     ensures { result ≡ static_end story.now }
 {
-    story.len().min(STATIC_LIMIT)
+    story.len().min(READABLE)
 }
 
 /// The entries of the dictionary at an address, where they are whole and long enough for a key.
@@ -131,7 +123,8 @@ fn entries_at(story: &[u8], dictionary: u16) -> Option<Entries>
     })
 }
 
-/// The address of the entry that has the key, or 0: a search by halving, which asks that keys ascend.
+/// The address of the entry that has the key, or 0: a search by halving, which asks that keys
+/// ascend.
 fn find(story: &[u8], entries: Entries, key: u64) -> u16
     requires { AreWhole story.now entries }
     ensures { AreAscending story.now entries.first entries.bytes entries.count

@@ -9,12 +9,7 @@ ghost use Rattle.tables.specs.Objects.{word_of_entry, link_of, attribute_of};
 use crate::fault::TableRead;
 use crate::link::Link;
 use byteorder::{BigEndian, ByteOrder};
-
-/// The bytes of the 63 words of property defaults, with which an object table begins (section 12.2).
-pub(crate) const DEFAULTS_LENGTH: usize = 126;
-
-/// The bytes of an object's entry.
-pub(crate) const ENTRY_LENGTH: usize = 14;
+use zcore::layout::{DEFAULTS_LENGTH, OBJECT_ENTRY_LENGTH};
 
 // The next four are the places of words in an entry, behind its six bytes of attributes.
 const PARENT: usize = 6;
@@ -32,16 +27,18 @@ pub(crate) fn entry(table: u16, object: u16) -> usize
     ensures same { result ≡ object_entry table object }
     ensures within { result ≤ 1048576 }
 {
-    usize::from(table) + DEFAULTS_LENGTH + ENTRY_LENGTH * usize::from(object).saturating_sub(1)
+    usize::from(table)
+        + DEFAULTS_LENGTH
+        + OBJECT_ENTRY_LENGTH * usize::from(object).saturating_sub(1)
 }
 
-/// Whether an object's number is not 0, and its entry lies before an end. The table is at the address of its property
-/// defaults, here and in all that follows.
+/// Whether an object's number is not 0, and its entry lies before an end. The table is at the
+/// address of its property defaults, here and in all that follows.
 #[inline]
 pub fn has_entry(table: u16, end: usize, object: u16) -> bool
     ensures { result ≡ has_entry table end object }
 {
-    object >= 1 && entry(table, object) + ENTRY_LENGTH <= end
+    object >= 1 && entry(table, object) + OBJECT_ENTRY_LENGTH <= end
 }
 
 /// Whether an object's number is not 0, and its entry lies in a story.
@@ -108,8 +105,8 @@ fn entry_word(story: &[u8], table: u16, object: u16, place: usize) -> Result<u16
     Ok(read_word(story, entry(table, object) + place))
 }
 
-/// The object that an object stands in, 0 for none. The table is at the address of its property defaults. It takes no
-/// memory, as none of these readers does.
+/// The object that an object stands in, 0 for none. The table is at the address of its property
+/// defaults. It takes no memory, as none of these readers does.
 ///
 /// # Errors
 ///

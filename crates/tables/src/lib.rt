@@ -1,4 +1,5 @@
-//! The tables of a story: its dictionary and its objects, written and read, and lines cut into words.
+//! The tables of a story: its dictionary and its objects, written and read, and lines cut into
+//! words.
 #![tactic(auto)]
 
 mod cutting;
@@ -6,6 +7,7 @@ mod dictionary;
 mod entries;
 mod fault;
 mod laws;
+pub mod layout;
 mod link;
 mod objects;
 mod properties;

@@ -7,32 +7,31 @@ ghost use Rattle.ztext.specs.Text.{Holds};
 ghost use Rattle.tables.specs.Rows as written;
 ghost use Rattle.tables.specs.Rows.{IsProperty, IsRow, RefusesName, RefusesRows, HasShortName, ReadsRows, objects_length};
 
-use crate::entries::{DEFAULTS_LENGTH, ENTRY_LENGTH};
 use crate::fault::TableFault;
 use crate::row::ObjectRow;
 use std::alloc::{AllocError, Global};
 use zcore::encode_text;
-
-/// The addresses of property tables are words, so that tables end here at the latest.
-const TABLE_END: usize = 0x1_0000;
+use zcore::layout::{DEFAULTS_LENGTH, LONGEST_SHORT_NAME, OBJECT_ENTRY_LENGTH, READABLE};
 
 /// How many objects at most are written: more entries than these pass 65,536 bytes.
-const MOST_OBJECTS: usize = TABLE_END / ENTRY_LENGTH;
+const MOST_OBJECTS: usize = READABLE / OBJECT_ENTRY_LENGTH;
 
 /// The bytes of a short name at most: its length in words is a byte (section 12.4).
-const NAME_LENGTH: usize = 2 * 255;
+const NAME_LENGTH: usize = 2 * LONGEST_SHORT_NAME;
 
-/// The bytes of the object table of these rows, which is to stand at an address: the property defaults, an entry for
-/// each row, and the property tables. There may be no rows.
+/// The bytes of the object table of these rows, which is to stand at an address: the property
+/// defaults, an entry for each row, and the property tables. There may be no rows.
 ///
-/// A name's characters are 13 or 32 to 126, and the numbers of properties from 1 to 63, with 1 to 32 words each. Links
-/// and the order of properties, which the standard wants descending, are written as they are given. Where a story has
-/// the bytes at the address, each object is read as its row says.
+/// A name's characters are 13 or 32 to 126, and the numbers of properties from 1 to 63, with 1 to
+/// 32 words each. Links and the order of properties, which the standard wants descending, are
+/// written as they are given. Where a story has the bytes at the address, each object is read as
+/// its row says.
 ///
 /// # Errors
 ///
-/// `B1` where a short name is longer than 255 words of Z-text; `B2` where the table would pass address 65,536; `B3`
-/// where a growth of memory was refused. Where several causes stand, any of them is answered.
+/// `B1` where a short name is longer than 255 words of Z-text; `B2` where the table would pass
+/// address 65,536; `B3` where a growth of memory was refused. Where several causes stand, any of
+/// them is answered.
 pub fn write_objects(
     alloc: Global,
     rows: &[ObjectRow],
@@ -50,19 +49,19 @@ pub fn write_objects(
     if rows.len() > MOST_OBJECTS {
         return Err(TableFault::TooLarge);
     }
-    let start = usize::from(at) + DEFAULTS_LENGTH + ENTRY_LENGTH * rows.len();
+    let start = usize::from(at) + DEFAULTS_LENGTH + OBJECT_ENTRY_LENGTH * rows.len();
     let mut bytes = Vec::new(alloc);
     put_words(&mut bytes, defaults)?;
     let mut tables = Vec::new(alloc);
     for row in rows {
         let place = start + tables.len();
-        if place >= TABLE_END {
+        if place >= READABLE {
             return Err(TableFault::TooLarge);
         }
         put_entry(&mut bytes, row, place as u16)?;
         put_table(alloc, &mut tables, row)?;
     }
-    if start + tables.len() > TABLE_END {
+    if start + tables.len() > READABLE {
         return Err(TableFault::TooLarge);
     }
     bytes.extend_from_slice(&tables)?;

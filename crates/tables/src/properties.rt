@@ -92,13 +92,15 @@ fn list_start(story: &[u8], table: u16, object: u16) -> Result<usize, TableRead>
     Ok(properties + 1 + 2 * usize::from(story[properties]))
 }
 
-/// The first property of a number in the list at an address, or what ends the list before one. It takes no memory.
+/// The first property of a number in the list at an address, or what ends the list before one. It
+/// takes no memory.
 pub fn search_list(story: &[u8], number: u8, start: usize) -> Standing
     ensures same { standing_of result ≡ property_in story.now (length story.now) number start }
     ensures within { (p : _) → result ≡ Listed p → p.address + p.size ≤ length story.now + 66 }
 {
     let mut at = start;
-    // A property is two bytes at least, so that the list ends within as many steps as there are bytes.
+    // A property is two bytes at least, so that the list ends within as many steps as there are
+    // bytes.
     for step in 0..story.len() {
         match stands_at(story, at) {
             Standing::Terminator => {
@@ -118,13 +120,14 @@ pub fn search_list(story: &[u8], number: u8, start: usize) -> Standing
     Standing::Beyond
 }
 
-/// The data of an object's property, or `None` where the object has no property of the number. The table is at the
-/// address of its property defaults. It takes no memory.
+/// The data of an object's property, or `None` where the object has no property of the number. The
+/// table is at the address of its property defaults. It takes no memory.
 ///
 /// # Errors
 ///
 /// [`TableRead::Object`] for the object's number 0, and where its entry lies outside the story;
-/// [`TableRead::Outside`] where its property table, its property list up to the property, or the property's data do.
+/// [`TableRead::Outside`] where its property table, its property list up to the property, or the
+/// property's data do.
 pub fn property<'a>(
     story: &'a [u8],
     table: u16,

@@ -10,7 +10,7 @@ use Rattle.zcore.specs.declared.header.HeaderFault.TheVariants.{TooShort, Unknow
 use Rattle.zcore.specs.declared.header.HeaderFault.TheVariants.{WrongAddress}
 use Rattle.zcore.specs.Header.{Reads, IsOfVersion, StatesLength}
 use Rattle.meaning.specs.Resolved.{ProgramOf}
-use Rattle.code.specs.Laws.{Plays}
+use Rattle.meaning.specs.Plays.{Plays}
 use Rattle.machine.specs.declared.load.LoadFault.TheVariants as loads
 use Rattle.session.specs.declared.fault.OpenFault.{OpenFault}
 use Rattle.session.specs.declared.fault.OpenFault.TheVariants as opens

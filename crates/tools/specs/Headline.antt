@@ -6,7 +6,8 @@ use Rattle.zcore.specs.declared.place.Place.{Place}
 use Rattle.checker.specs.Programs.{resolve_program}
 use Rattle.meaning.specs.Resolved.{ProgramOf}
 use Rattle.meaning.specs.Meaning.{meaning}
-use Rattle.story.specs.Compiled.{IsStoryOf, Refuses}
+use Rattle.story.specs.Playable.{IsPlayable}
+use Rattle.story.specs.Refused.{Refuses}
 use Rattle.machine.specs.declared.load.LoadFault.TheVariants as loads
 use Rattle.session.specs.declared.fault.OpenFault.{OpenFault}
 use Rattle.session.specs.declared.fault.OpenFault.TheVariants as opens
@@ -37,7 +38,7 @@ meant_by p fuel = record {
 pub record PlaysSource (source : List ℕ) (version : Version) (fuel : ℕ) (keep : Option ℕ) (io : Streams)
     (session : Session) (result : Result Place RunFault) : Type 0 where
   pub story : List ℕ
-  pub compiled : IsStoryOf version source story
+  pub compiled : IsPlayable version source story
   pub ran : Ran (meant_by (resolve_program compiled.tree) fuel) keep io
       (λ s. IsSession story fuel keep s session) result
 
@@ -55,6 +56,6 @@ Pairs source version fuel keep io (Ok session) =
     (place : Place) × PlaysSource source version fuel keep io session (Ok place)
 Pairs source version fuel keep io (Err (faults.Source fault)) = Refuses version source fault × IsUntouched io
 Pairs source version fuel keep io (Err (faults.Open fault)) =
-    ((story : List ℕ) × IsStoryOf version source story) × WantsMemory fault × IsUntouched io
+    ((story : List ℕ) × IsPlayable version source story) × WantsMemory fault × IsUntouched io
 Pairs source version fuel keep io (Err (faults.Run fault)) =
     (session : Session) × PlaysSource source version fuel keep io session (Err fault)

@@ -3,8 +3,8 @@
 
 mod pair;
 
-pub use lexer::SourceFault;
 pub use machine::LoadFault;
 pub use pair::{PairFault, compile_and_run};
 pub use session::{OpenFault, Place, RunFault, Session, status};
+pub use syntax_lexer::SourceFault;
 pub use zcore::Version;

@@ -3,11 +3,11 @@
 ghost use Rattle.std.specs.Prelude.{◌≡◌};
 ghost use Rattle.tools.specs.Headline.{Pairs};
 
-use lexer::SourceFault;
 use session::{OpenFault, RunFault, Session, run};
 use std::alloc::Global;
 use std::io::{Read, Write};
 use story::compile_for;
+use syntax_lexer::SourceFault;
 use thiserror::Error;
 use zcore::Version;
 
@@ -27,18 +27,19 @@ pub enum PairFault {
     Run(RunFault),
 }
 
-/// Compiles a source for a version, opens its story with so many units of fuel for each turn, and plays the lines of a
-/// reader, as `run` does. At most `keep` turns can be taken back, or all where it is `None`.
+/// Compiles a source for a version, opens its story with so many units of fuel for each turn, and
+/// plays the lines of a reader, as `run` does. At most `keep` turns can be taken back, or all where
+/// it is `None`.
 ///
-/// What is written is the transcript that the source's meaning gives, run afresh on the lines that stand at each reply;
-/// and the session that is handed out has the whole states of the machine on these lines, after each undo and each redo
-/// too.
+/// What is written is the transcript that the source's meaning gives, run afresh on the lines that
+/// stand at each reply; and the session that is handed out has the whole states of the machine on
+/// these lines, after each undo and each redo too.
 ///
 /// # Errors
 ///
-/// [`PairFault::Source`] where the source is refused, with its fault. [`PairFault::Open`] where memory is refused while
-/// the story is loaded or its opening runs. Nothing is read or written then. [`PairFault::Run`] where a read or a write
-/// fails, as `run` says.
+/// [`PairFault::Source`] where the source is refused, with its fault. [`PairFault::Open`] where
+/// memory is refused while the story is loaded or its opening runs. Nothing is read or written
+/// then. [`PairFault::Run`] where a read or a write fails, as `run` says.
 pub fn compile_and_run<R: Read, W: Write>(
     alloc: Global,
     source: &[u8],

@@ -4,8 +4,7 @@ use Rattle.std.specs.Prelude.{codes, option_map}
 use Rattle.zcore.specs.declared.place.Fault.TheVariants as faults
 use Rattle.zcore.specs.declared.place.Limit.TheVariants as limits
 use Rattle.zcore.specs.declared.place.Place.TheVariants as places
-use Rattle.zcore.specs.Instruction.{decode, opcode, operands, operand, byte, large, result_variable, branch_at}
-use Rattle.zcore.specs.Instruction.{branch}
+use Rattle.zcore.specs.Instruction.{decode, opcode, operands, operand, byte, large, result_variable, branch_at, branch}
 use Rattle.zcore.specs.State.{done, halt}
 use Rattle.zcore.specs.Turn.{first_state, opening, turn_from, weight}
 use Rattle.zcore.specs.Execution.{step, perform, write_and_branch, increment_check, decrement_check, print_characters}

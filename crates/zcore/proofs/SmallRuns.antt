@@ -13,15 +13,11 @@ use Rattle.zcore.specs.Instruction.{decode, bytes_of, opcode, operands, operand,
 use Rattle.zcore.specs.Instruction.{branch, variable_types, types_bytes}
 use Rattle.zcore.specs.State.{Frame, State, done, halt}
 use Rattle.zcore.specs.Turn.{Whole, first_state, opening, turn_from, weight}
-use Rattle.zcore.specs.Execution.{step, perform, give_result, divide, modulo, load, store, increment, decrement}
-use Rattle.zcore.specs.Execution.{pull}
-use Rattle.zcore.specs.Execution.{jump, call_packed, print_characters}
-use Rattle.zcore.specs.Execution.{print_inline, text_at}
-use Rattle.zcore.specs.Parts.{read_in_place, write_in_place, push, pop}
-use Rattle.zcore.specs.Parts.{read_global, write_global, read_variable, write_variable, test_variable, test_pull}
-use Rattle.zcore.specs.Parts.{operand_value, operand_values, test_result, store_result, test_target, spend, go}
-use Rattle.zcore.specs.Parts.{test_return, give_back}
-use Rattle.zcore.specs.Parts.{print}
+use Rattle.zcore.specs.Execution.{step, perform, give_result, divide, modulo, load, store, increment, decrement, pull}
+use Rattle.zcore.specs.Execution.{jump, call_packed, print_characters, print_inline, text_at}
+use Rattle.zcore.specs.Parts.{read_in_place, write_in_place, push, pop, read_global, write_global, read_variable}
+use Rattle.zcore.specs.Parts.{write_variable, test_variable, test_pull, operand_value, operand_values, test_result}
+use Rattle.zcore.specs.Parts.{store_result, test_target, spend, go, test_return, give_back, print}
 use Rattle.ztext.specs.Text.{decoded, abbreviation}
 use Rattle.ztext.specs.Reading.{reads}
 use Rattle.ztext.specs.Words.{unpacked_text}

@@ -1,3 +1,4 @@
+pub mod Layout
 pub mod Header
 pub mod Operations
 pub mod Instruction

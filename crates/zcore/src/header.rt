@@ -3,46 +3,23 @@
 ghost use Rattle.std.specs.Prelude.{◌≡◌, ℕ, ◌+◌, ◌*◌, ◌%◌, ◌<◌, ◌≤◌, ◌↔◌, IsTrue, MatchOption, length, drop, sum};
 ghost use Rattle.zcore.specs.Header.{scale_of, static_end, key_at, HasHeader, IsOfVersion, IsKnownVersion, StatesLength, StatesSum, IsWithin, IsPlaced, AreAscending, IsDictionary, IsDictionaryOf, Reads};
 
+use crate::layout::{
+    ABBREVIATIONS_WORD, DEFAULTS_LENGTH, DEFAULTS_WORD, DICTIONARY_WORD, FIRST_INSTRUCTION_WORD,
+    GLOBAL_COUNT, GLOBALS_WORD, HEADER_LENGTH, HIGH_MEMORY_WORD, KEY_LENGTH, LENGTH_WORD, READABLE,
+    STATIC_BASE_WORD, SUM_WORD,
+};
 use byteorder::{BigEndian, ByteOrder};
 use thiserror::Error;
-use ztext::read_word;
+use ztext::{MOST_ABBREVIATIONS, read_word};
 
-/// Where the header ends and a story's tables may begin (Z-Machine Standards Document 1.1, section 1.1.1.1).
-const HEADER_LENGTH: usize = 64;
+/// Globals are words (section 6.2).
+const GLOBALS_LENGTH: usize = 2 * GLOBAL_COUNT;
 
-/// Dynamic and static memory end at the latest here (section 1.1.2).
-const STATIC_LIMIT: usize = 0x1_0000;
+/// So are addresses of abbreviations (section 3.3).
+const ABBREVIATIONS_LENGTH: usize = 2 * MOST_ABBREVIATIONS;
 
-// The next nine are the addresses of words of the header (section 11.1).
-const HIGH_MEMORY: usize = 0x04;
-
-const FIRST_INSTRUCTION: usize = 0x06;
-
-const DICTIONARY: usize = 0x08;
-
-const DEFAULTS: usize = 0x0A;
-
-const GLOBALS: usize = 0x0C;
-
-const STATIC_BASE: usize = 0x0E;
-
-const ABBREVIATIONS: usize = 0x18;
-
-const LENGTH: usize = 0x1A;
-
-const SUM: usize = 0x1C;
-
-/// 240 global variables of a word each (section 6.2).
-const GLOBALS_LENGTH: usize = 2 * 240;
-
-/// 63 property defaults of a word each (section 12.2).
-const DEFAULTS_LENGTH: usize = 2 * 63;
-
-/// 96 addresses of abbreviations of a word each (section 3.3).
-const ABBREVIATIONS_LENGTH: usize = 2 * 96;
-
-/// The bytes of a dictionary's key (section 13.4).
-const KEY_LENGTH: u8 = 6;
+/// An entry of a dictionary begins with a key.
+const SHORTEST_ENTRY: u8 = KEY_LENGTH as u8;
 
 /// A version of story files that is read (section 11.1).
 #[derive(Clone, Copy, Debug, PartialEq, Eq)]
@@ -94,8 +71,8 @@ pub enum HeaderFault {
     /// Word $1C is not the sum of all bytes from $40 on, modulo 65,536 (section 15, `verify`).
     #[error("Z8")]
     WrongSum,
-    /// An address that the header names lies outside the memory where it has to lie (section 1.1), or
-    /// at the dictionary's address there is none that can be searched (section 13.2).
+    /// An address that the header names lies outside the memory where it has to lie (section 1.1),
+    /// or at the dictionary's address there is none that can be searched (section 13.2).
     #[error("Z6")]
     WrongAddress,
 }
@@ -109,9 +86,11 @@ pub struct Header {
     pub static_base: u16,
     /// Word $0C: the address of the 240 words of the global variables.
     pub globals: u16,
-    /// Word $0A: the address of the 63 words of the property defaults, with which the object table begins.
+    /// Word $0A: the address of the 63 words of the property defaults, with which the object table
+    /// begins.
     pub defaults: u16,
-    /// Word $18: the address of the 96 words of the abbreviation table, or 0 where the story has none.
+    /// Word $18: the address of the 96 words of the abbreviation table, or 0 where the story has
+    /// none.
     pub abbreviations: u16,
     /// Word $04: where high memory begins.
     pub high_memory: u16,
@@ -158,17 +137,17 @@ impl Header {
         if !is_placed(story) {
             return Err(HeaderFault::WrongAddress);
         }
-        let Some(dictionary) = Dictionary::read(story, read_word(story, DICTIONARY)) else {
+        let Some(dictionary) = Dictionary::read(story, read_word(story, DICTIONARY_WORD)) else {
             return Err(HeaderFault::WrongAddress);
         };
         Ok(Header {
             version,
-            static_base: read_word(story, STATIC_BASE),
-            globals: read_word(story, GLOBALS),
-            defaults: read_word(story, DEFAULTS),
-            abbreviations: read_word(story, ABBREVIATIONS),
-            high_memory: read_word(story, HIGH_MEMORY),
-            first_instruction: read_word(story, FIRST_INSTRUCTION),
+            static_base: read_word(story, STATIC_BASE_WORD),
+            globals: read_word(story, GLOBALS_WORD),
+            defaults: read_word(story, DEFAULTS_WORD),
+            abbreviations: read_word(story, ABBREVIATIONS_WORD),
+            high_memory: read_word(story, HIGH_MEMORY_WORD),
+            first_instruction: read_word(story, FIRST_INSTRUCTION_WORD),
             dictionary,
         })
     }
@@ -179,7 +158,7 @@ fn states_length(story: &[u8], version: Version) -> bool
     requires { HasHeader story.now }
     ensures { IsTrue result ↔ StatesLength story.now version }
 {
-    usize::from(read_word(story, LENGTH)) * version.scale() as usize == story.len()
+    usize::from(read_word(story, LENGTH_WORD)) * version.scale() as usize == story.len()
 }
 
 /// Whether the bytes after the header have the sum that the story says.
@@ -187,7 +166,7 @@ fn states_sum(story: &[u8]) -> bool
     requires { HasHeader story.now }
     ensures { IsTrue result ↔ StatesSum story.now }
 {
-    read_word(story, SUM) == sum_from(story, HEADER_LENGTH)
+    read_word(story, SUM_WORD) == sum_from(story, HEADER_LENGTH)
 }
 
 /// The sum of the bytes from an address on, modulo 65,536.
@@ -202,7 +181,8 @@ fn sum_from(story: &[u8], from: usize) -> u16
     total
 }
 
-/// Whether so many bytes at an address begin at the start or after it, and end at the end or before it.
+/// Whether so many bytes at an address begin at the start or after it, and end at the end or before
+/// it.
 fn is_within(start: usize, end: usize, address: u16, bytes: usize) -> bool
     requires { bytes < 65536 }
     ensures { IsTrue result ↔ IsWithin start end address bytes }
@@ -215,7 +195,7 @@ fn is_within(start: usize, end: usize, address: u16, bytes: usize) -> bool
 fn end_of_static(story: &[u8]) -> usize
     ensures { result ≡ static_end story.now }
 {
-    story.len().min(STATIC_LIMIT)
+    story.len().min(READABLE)
 }
 
 /// Whether each address that the header names lies in the memory that it belongs to.
@@ -224,28 +204,29 @@ fn is_placed(story: &[u8]) -> bool
     ensures { IsTrue result ↔ IsPlaced story.now }
 {
     let length = story.len();
-    let static_base = read_word(story, STATIC_BASE);
+    let static_base = read_word(story, STATIC_BASE_WORD);
     let base = usize::from(static_base);
-    let globals = read_word(story, GLOBALS);
-    let defaults = read_word(story, DEFAULTS);
-    let abbreviations = read_word(story, ABBREVIATIONS);
+    let globals = read_word(story, GLOBALS_WORD);
+    let defaults = read_word(story, DEFAULTS_WORD);
+    let abbreviations = read_word(story, ABBREVIATIONS_WORD);
     let end = end_of_static(story);
-    let first_instruction = read_word(story, FIRST_INSTRUCTION);
+    let first_instruction = read_word(story, FIRST_INSTRUCTION_WORD);
     is_within(HEADER_LENGTH, length, static_base, 0)
         && is_within(HEADER_LENGTH, base, globals, GLOBALS_LENGTH)
         && is_within(HEADER_LENGTH, base, defaults, DEFAULTS_LENGTH)
         && (abbreviations == 0
             || is_within(HEADER_LENGTH, end, abbreviations, ABBREVIATIONS_LENGTH))
-        && is_within(base, length, read_word(story, HIGH_MEMORY), 0)
+        && is_within(base, length, read_word(story, HIGH_MEMORY_WORD), 0)
         && is_within(HEADER_LENGTH, length, first_instruction, 1)
-        && static_base <= read_word(story, DICTIONARY)
+        && static_base <= read_word(story, DICTIONARY_WORD)
 }
 
 impl Dictionary {
     /// The dictionary at an address, where there is one that can be searched.
     fn read(story: &[u8], address: u16) -> Option<Dictionary>
         ensures { MatchOption result (¬ IsDictionary story.now address)
-            (λ dictionary. IsDictionary story.now address × IsDictionaryOf story.now address dictionary) }
+            (λ dictionary. IsDictionary story.now address
+            × IsDictionaryOf story.now address dictionary) }
     {
         let end = end_of_static(story);
         let start = usize::from(address);
@@ -264,7 +245,7 @@ impl Dictionary {
         let count = usize::from(entries);
         // Entries of six bytes that end by address 65,536 are too few for a negative count.
         if first_entry + count * bytes <= end
-            && entry_length >= KEY_LENGTH
+            && entry_length >= SHORTEST_ENTRY
             && are_ascending(story, first_entry, bytes, count)
         {
             Some(Dictionary {

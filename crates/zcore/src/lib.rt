@@ -4,6 +4,7 @@
 mod header;
 mod instruction;
 mod laws;
+pub mod layout;
 mod next;
 mod operations;
 mod place;

@@ -7,7 +7,8 @@ ghost use Rattle.zcore.specs.declared.operations.OperandCount.TheVariants as cou
 
 use crate::instruction::Operation;
 
-/// The count of operands by which opcodes are numbered (Z-Machine Standards Document 1.1, sections 4.3 and 14).
+/// The count of operands by which opcodes are numbered (Z-Machine Standards Document 1.1, sections
+/// 4.3 and 14).
 #[derive(Clone, Copy, Debug, PartialEq, Eq)]
 pub enum OperandCount {
     /// Two operands, 2OP: long form, or variable form.
@@ -23,7 +24,8 @@ pub enum OperandCount {
     Several,
 }
 
-/// A row of the table of opcodes (section 14): an operation's opcode, how many operands it takes, and what follows them.
+/// A row of the table of opcodes (section 14): an operation's opcode, how many operands it takes,
+/// and what follows them.
 #[derive(Clone, Copy, Debug, PartialEq, Eq)]
 pub struct OpcodeRow {
     /// The count of operands by which the opcode is numbered.
@@ -48,8 +50,9 @@ pub struct OpcodeRow {
     pub has_text: bool,
 }
 
-/// The table of opcodes (section 14), for a macro that writes code from its rows: by the count of operands, an
-/// opcode's number, its operation, what follows the operands, and the least and the greatest number of them.
+/// The table of opcodes (section 14), for a macro that writes code from its rows: by the count of
+/// operands, an opcode's number, its operation, what follows the operands, and the least and the
+/// greatest number of them.
 macro_rules! opcodes {
     ($write:ident $value:expr) => {
         $write! {
@@ -245,7 +248,8 @@ impl Operation {
         self.row().has_text
     }
 
-    /// Whether the operation has a second byte of operand types, so up to eight operands (section 4.4.3.1).
+    /// Whether the operation has a second byte of operand types, so up to eight operands (section
+    /// 4.4.3.1).
     #[inline(always)]
     pub fn has_more_types(self) -> bool
         ensures { result ≡ table.has_more_types self }

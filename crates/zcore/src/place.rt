@@ -37,7 +37,8 @@ pub enum Limit {
 /// Why an instruction cannot be done. `Display` writes the number alone.
 #[derive(Clone, Copy, Debug, PartialEq, Eq, Error)]
 pub enum Fault {
-    /// An opcode that is not known, too few or too many operands, or an operand after an omitted one.
+    /// An opcode that is not known, too few or too many operands, or an operand after an omitted
+    /// one.
     #[error("M1")]
     Opcode,
 
@@ -45,7 +46,8 @@ pub enum Fault {
     #[error("M2")]
     Code,
 
-    /// A read past the memory that can be read, or of a variable that is not there; a text past the story.
+    /// A read past the memory that can be read, or of a variable that is not there; a text past the
+    /// story.
     #[error("M3")]
     Read,
 
@@ -65,7 +67,8 @@ pub enum Fault {
     #[error("M7")]
     Division,
 
-    /// An object or attribute that is not there, or an object that cannot be taken out of its parent.
+    /// An object or attribute that is not there, or an object that cannot be taken out of its
+    /// parent.
     #[error("M8")]
     Object,
 

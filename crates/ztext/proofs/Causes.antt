@@ -7,15 +7,15 @@ use Rattle.std.proofs.lemmas.List.{length-drop, get_or-drop}
 use Rattle.ztext.specs.declared.fault.TextFault.{TextFault}
 use Rattle.ztext.specs.declared.fault.TextFault.TheVariants as faults
 use Rattle.ztext.specs.Results.{◌>>=◌}
-use Rattle.ztext.specs.Reading.{Cause, Character, End, Abbreviation, State, Lower, Upper, Punctuation, EscapeHigh}
-use Rattle.ztext.specs.Reading.{EscapeLow, Abbreviated, next, letter, printed, reads, state_after, state_at}
-use Rattle.ztext.specs.Reading.{HasBadEscape, UsesAbbreviation}
+use Rattle.ztext.specs.Reading.{Cause, Character, End, Abbreviation, Lower, Upper, Punctuation, EscapeHigh}
+use Rattle.ztext.specs.Reading.{ReadingState, EscapeLow, Abbreviated, next, letter, printed, reads, state_after}
+use Rattle.ztext.specs.Reading.{state_at, HasBadEscape, UsesAbbreviation}
 use Rattle.ztext.specs.Alphabets.{is_printable}
 use Rattle.ztext.specs.Words.{three_of, last_word, unpacked_text, RunsPastEnd}
 use Rattle.ztext.specs.Text.{z_text_at, read_with, refused, has_abbreviations, abbreviation_address, abbreviation}
 use Rattle.ztext.specs.Text.{decoded, IsZText, HasCause, past_end, bad_escape, no_table, nested, past_end_within}
 use Rattle.ztext.specs.Text.{bad_escape_within}
-use Rattle.ztext.specs.Faults.{Fails, HasFault}
+use Rattle.ztext.specs.Faults.{HasFault, FailsText}
 
 pub cause_is : {B : Type 0} (x y : Cause) → ◌≡◌ {A = Result B Cause} (Err x) (Err y) → x ≡ y
 cause_is x y e = cc
@@ -91,7 +91,8 @@ never_err false true a b c cause e = cc
 never_err false false a b c cause e = cc
 
 module _ (expand : ℕ → Result (List ℕ) Cause) where
-  printed_cause : (zs : List ℕ) (place : ℕ) (cause : Cause) (s : State) → place < length zs → state_at zs place ≡ s
+  printed_cause : (zs : List ℕ) (place : ℕ) (cause : Cause) (s : ReadingState) → place < length zs
+      → state_at zs place ≡ s
       → printed expand s (get_or zs place 0) ≡ Err cause → IsFault expand zs cause
   printed_cause zs place cause EscapeHigh lt is e = absurd cc
   printed_cause zs place cause (EscapeLow high) lt is e =
@@ -111,7 +112,7 @@ module _ (expand : ℕ → Result (List ℕ) Cause) where
   printed_cause zs place cause Punctuation lt is e =
       let z = get_or zs place 0 in absurd (never_err (eqb z 0) (ltb z 6) (32 ∷ []) [] (letter Punctuation z) cause e)
 
-  reads_place : (s : State) (zs : List ℕ) (cause : Cause) → reads expand s zs ≡ Err cause
+  reads_place : (s : ReadingState) (zs : List ℕ) (cause : Cause) → reads expand s zs ≡ Err cause
       → (place : ℕ) × (place < length zs)
       × (printed expand (state_after s (take place zs)) (get_or zs place 0) ≡ Err cause)
   unfolding reads
@@ -181,7 +182,7 @@ stands story at cause e =
           ]
     ]
 
-pub has_cause : (story : List ℕ) (at : ℕ) (fault : TextFault) → Fails fault (decoded story at)
+pub has_cause : (story : List ℕ) (at : ℕ) (fault : TextFault) → FailsText fault (decoded story at)
     → HasFault story at fault
 has_cause story at faults.Character e = stands story at Character e
 has_cause story at faults.End e = stands story at End e

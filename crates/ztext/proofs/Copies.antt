@@ -16,9 +16,8 @@ use Rattle.ztext.specs.Results.{◌>>=◌}
 use Rattle.ztext.specs.Reading.{Cause, Abbreviation, Lower, reads}
 use Rattle.ztext.specs.Words.{unpacked_text}
 use Rattle.ztext.specs.Text.{read_with, refused, has_abbreviations, abbreviation_address, abbreviation}
-use Rattle.ztext.specs.Faults.{Fails}
-use Rattle.ztext.specs.Expansions.{read_on, expanded, rest_of, ReadsOn, IsNamedWithin}
-use Rattle.ztext.specs.Expansions.{place_of, Has, Keeps}
+use Rattle.ztext.specs.Faults.{FailsText}
+use Rattle.ztext.specs.Expansions.{read_on, expanded, rest_of, ReadsOn, IsNamedWithin, place_of, Has, Keeps}
 use Rattle.ztext.proofs.Fronts.{take_front, front_stays}
 use Rattle.ztext.proofs.Loops.{fails_bind}
 
@@ -54,25 +53,25 @@ read_alone most story bytes number at after zs old table named from found =
 -- a story without a table
 pub no_table : (most : ℕ) (fault : TextFault) (story : List ℕ) (number : ℕ) (old : List ℕ)
     → fault ≡ faults.Abbreviation → has_abbreviations story ≡ false
-    → Fails fault (expanded (abbreviation story) most old number)
+    → FailsText fault (expanded (abbreviation story) most old number)
 unfolding abbreviation
 no_table most fault story number old named lost =
     let out : abbreviation story number ≡ Err Abbreviation = rw lost refl in
-    subst (λ f. Fails f (expanded (abbreviation story) most old number)) (sym named)
+    subst (λ f. FailsText f (expanded (abbreviation story) most old number)) (sym named)
     (ap (λ r. r >>= λ more. Ok (take most (old ++ more))) out)
 
 -- an abbreviation's text that does not end
 pub nowhere_alone : (most : ℕ) (fault : TextFault) (story bytes : List ℕ) (number at : ℕ) (old : List ℕ)
     → has_abbreviations story ≡ true → at ≡ abbreviation_address story number
-    → bytes ≡ drop at story → Fails fault (unpacked_text at bytes)
-    → Fails fault (expanded (abbreviation story) most old number)
+    → bytes ≡ drop at story → FailsText fault (unpacked_text at bytes)
+    → FailsText fault (expanded (abbreviation story) most old number)
 nowhere_alone most fault story bytes number at old table named from h =
-    let there = subst (λ bs. Fails fault (unpacked_text at bs)) from h in
+    let there = subst (λ bs. FailsText fault (unpacked_text at bs)) from h in
     let read = fails_bind fault (unpacked_text at (drop at story))
     (λ x. reads refused Lower x.0 >>= λ text. Ok (text, x.1)) there in
     let first = fails_bind fault (read_with refused story at) (λ x. Ok x.0) read in
     fails_bind fault (abbreviation story number) (λ more. Ok (take most (old ++ more)))
-    (subst (Fails fault) (sym (in_table story number at table named)) first)
+    (subst (FailsText fault) (sym (in_table story number at table named)) first)
 
 -- ---- what a text has of it
 

@@ -7,7 +7,7 @@ use Rattle.ztext.specs.Results.{◌>>=◌}
 use Rattle.ztext.specs.declared.fault.TextFault.{TextFault}
 use Rattle.ztext.specs.declared.fault.TextFault.TheVariants as faults
 use Rattle.ztext.specs.Reading.{Cause, Character, End, Abbreviation}
-use Rattle.ztext.specs.Faults.{Fails, Gives}
+use Rattle.ztext.specs.Faults.{FailsText, GivesText}
 use Rattle.ztext.specs.Fronts.{front_of}
 use Rattle.ztext.proofs.Causes.{cause_is}
 
@@ -40,8 +40,8 @@ front_stays most old text got now room stays grown =
     ∙ take-append-le (length old) text got long ∙ stays
 
 -- the faults of a front are those of the whole
-pub front_fails : (most : ℕ) (fault : TextFault) (r : Result (List ℕ × ℕ) Cause) → Fails fault (front_of most r)
-    → Fails fault r
+pub front_fails : (most : ℕ) (fault : TextFault) (r : Result (List ℕ × ℕ) Cause) → FailsText fault (front_of most r)
+    → FailsText fault r
 front_fails most faults.Memory r h = tt
 front_fails most faults.Character (Ok x) h = absurd cc
 front_fails most faults.End (Ok x) h = absurd cc
@@ -70,6 +70,6 @@ front_whole most after r front lt e =
 -- what was read to a front that no text fills is the whole
 pub gives_whole : {Z : Type 0} (most : ℕ) (result : Result (Vec ℕ Z × ℕ) TextFault) (r : Result (List ℕ × ℕ) Cause)
     → 2 ^ 63 ≤ most → IfOk result (λ x. length x.0.items < 2 ^ 63)
-    → Gives (λ x. (x.0.items, x.1)) result (front_of most r) → Gives (λ x. (x.0.items, x.1)) result r
+    → GivesText (λ x. (x.0.items, x.1)) result (front_of most r) → GivesText (λ x. (x.0.items, x.1)) result r
 gives_whole most (Ok x) r le lt h = front_whole most x.1 r x.0.items (omega (arith, le, lt)) h
 gives_whole most (Err fault) r le lt h = front_fails most fault r h

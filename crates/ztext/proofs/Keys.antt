@@ -7,7 +7,7 @@ use Rattle.std.proofs.lemmas.Bool.Decides.{nat_tests}
 use Rattle.ztext.specs.Alphabets.{spelled}
 use Rattle.ztext.specs.Words.{packed, word_of}
 use Rattle.ztext.specs.Text.{lower_case, key_of}
-use Rattle.ztext.specs.TextParts.{AreSmall, filled, IsFilled}
+use Rattle.ztext.specs.TextParts.{AreSmall, filled, IsFilledKey}
 use Rattle.ztext.proofs.Packing.{small_append}
 use Rattle.ztext.proofs.Spelling.{AreBytes, spelled_small, fives_small}
 
@@ -31,8 +31,8 @@ filled_more zs more le =
     ∙ sym (take-append-le 9 (zs ++ more) (replicate 9 5) (omega (arith, length-append zs more)))
 
 -- a Z-character that has room
-pub put_within : (zs key : List ℕ) (count z : ℕ) → IsFilled zs count key → count < 9
-    → IsFilled (zs ++ z ∷ []) (count + 1) (set key count z)
+pub put_within : (zs key : List ℕ) (count z : ℕ) → IsFilledKey zs count key → count < 9
+    → IsFilledKey (zs ++ z ∷ []) (count + 1) (set key count z)
 put_within zs key count z h lt =
     let within : length zs < 9 = omega (arith, h.many) in
     let here : count ≡ length zs = omega (arith, h.many) in
@@ -40,30 +40,30 @@ put_within zs key count z h lt =
     record { characters = e; many = omega (arith, h.many, length-append zs (z ∷ [])) }
 
 -- a Z-character that has none
-pub put_beyond : (zs key : List ℕ) (count z : ℕ) → IsFilled zs count key → 9 ≤ count
-    → IsFilled (zs ++ z ∷ []) count key
+pub put_beyond : (zs key : List ℕ) (count z : ℕ) → IsFilledKey zs count key → 9 ≤ count
+    → IsFilledKey (zs ++ z ∷ []) count key
 put_beyond zs key count z h le =
     record {
       characters = h.characters ∙ filled_more zs (z ∷ []) (omega (arith, h.many));
       many = omega (arith, h.many, length-append zs (z ∷ []));
     }
 
-pub turn_within : (zs items key : List ℕ) (i count : ℕ) → i < length items → IsFilled (zs ++ take i items) count key
-    → count < 9 → IsFilled (zs ++ take (i + 1) items) (count + 1) (set key count (get_or items i 0))
+pub turn_within : (zs items key : List ℕ) (i count : ℕ) → i < length items → IsFilledKey (zs ++ take i items) count key
+    → count < 9 → IsFilledKey (zs ++ take (i + 1) items) (count + 1) (set key count (get_or items i 0))
 turn_within zs items key i count lt h room =
     let e : zs ++ take (i + 1) items ≡ (zs ++ take i items) ++ get_or items i 0
     ∷ [] = ap (λ ys. zs ++ ys) (take_more items i 0 lt)
     ∙ sym (append_assoc zs (take i items) (get_or items i 0 ∷ [])) in
-    subst (λ ys. IsFilled ys (count + 1) (set key count (get_or items i 0))) (sym e)
+    subst (λ ys. IsFilledKey ys (count + 1) (set key count (get_or items i 0))) (sym e)
     (put_within (zs ++ take i items) key count (get_or items i 0) h room)
 
-pub turn_beyond : (zs items key : List ℕ) (i count : ℕ) → i < length items → IsFilled (zs ++ take i items) count key
-    → 9 ≤ count → IsFilled (zs ++ take (i + 1) items) count key
+pub turn_beyond : (zs items key : List ℕ) (i count : ℕ) → i < length items → IsFilledKey (zs ++ take i items) count key
+    → 9 ≤ count → IsFilledKey (zs ++ take (i + 1) items) count key
 turn_beyond zs items key i count lt h full =
     let e : zs ++ take (i + 1) items ≡ (zs ++ take i items) ++ get_or items i 0
     ∷ [] = ap (λ ys. zs ++ ys) (take_more items i 0 lt)
     ∙ sym (append_assoc zs (take i items) (get_or items i 0 ∷ [])) in
-    subst (λ ys. IsFilled ys count key) (sym e) (put_beyond (zs ++ take i items) key count (get_or items i 0) h full)
+    subst (λ ys. IsFilledKey ys count key) (sym e) (put_beyond (zs ++ take i items) key count (get_or items i 0) h full)
 
 pub nothing_filled : (5 ∷ 5 ∷ 5 ∷ 5 ∷ 5 ∷ 5 ∷ 5 ∷ 5 ∷ 5 ∷ []) ≡ filled []
 unfolding filled
@@ -91,7 +91,7 @@ bytes_take (suc k) [] h = tt
 bytes_take (suc k) (c ∷ cs) h = (h.0, bytes_take k cs h.1)
 
 pub key_small : (word key : List ℕ) (count index : ℕ) → AreBytes word
-    → IsFilled (spelled (map lower_case (take index word))) count key → AreSmall key
+    → IsFilledKey (spelled (map lower_case (take index word))) count key → AreSmall key
 key_small word key count index bytes h =
     subst AreSmall (sym h.characters)
     (filled_small (spelled (map lower_case (take index word)))
@@ -99,7 +99,7 @@ key_small word key count index bytes h =
     (lower_bytes (take index word) (bytes_take index word bytes))))
 
 pub key_is : (word key : List ℕ) (count index : ℕ) → length word ≤ index
-    → IsFilled (spelled (map lower_case (take index word))) count key → packed key ≡ key_of word
+    → IsFilledKey (spelled (map lower_case (take index word))) count key → packed key ≡ key_of word
 unfolding key_of filled
 key_is word key count index le h = ap packed
     (h.characters ∙ ap (λ w. filled (spelled (map lower_case w))) (take_all index word le))

@@ -81,7 +81,7 @@ found_is first (a ∷ rest) text x e =
     ]
 
 -- an abbreviation that a story's table has, at the beginning of a text
-pub record Stands (texts : List (List ℕ)) (text : List ℕ) (x : Found) : Type 0 where
+pub record StandsInText (texts : List (List ℕ)) (text : List ℕ) (x : Found) : Type 0 where
   pub few : x.number < 96
   pub within : x.number < length texts
   pub size : x.length ≡ length (abbreviation_at texts x.number)
@@ -94,7 +94,7 @@ taken_at (suc n) (a ∷ texts) zero lt = refl
 taken_at (suc n) (a ∷ texts) (suc i) lt = taken_at n texts i (omega arith)
 
 pub longest_is : (texts : List (List ℕ)) (text : List ℕ) (x : Found) → longest texts text ≡ Some x
-    → Stands texts text x
+    → StandsInText texts text x
 longest_is texts text x e =
     let p = found_is 0 (take most_abbreviations texts) text x e in
     let many = length-take most_abbreviations texts in
@@ -187,7 +187,7 @@ spelled_here texts zs more text found spelled left place within le is e follows 
 pub spelled_cases : (P : List ℕ → Type 0) (texts : List (List ℕ)) (c : ℕ) (cs : List ℕ) (spelled : ℕ)
     → ((k : ℕ) → spelled ≡ suc k → P (spelled_behind texts k cs))
     → (spelled ≡ 0 → P (spelling_or None c ++ spelled_behind texts 0 cs))
-    → (spelled ≡ 0 → (x : Found) → Stands texts (c ∷ cs) x
+    → (spelled ≡ 0 → (x : Found) → StandsInText texts (c ∷ cs) x
     → P (spelling_or (Some x) c ++ spelled_behind texts (x.length - 1) cs))
     → P (spelled_behind texts spelled (c ∷ cs))
 spelled_cases P texts c cs zero skip none some =

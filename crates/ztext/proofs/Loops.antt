@@ -1,8 +1,7 @@
 -- Reading, a Z-character at a time.
 use Rattle.std.proofs.Common.{◌≡◌, ℕ, suc, ◌+◌, ◌*◌, ◌<◌, ◌≤◌, Bool, true, false, List, [], ◌∷◌, ◌++◌, length, get_or}
-use Rattle.std.proofs.Common.{if◌then◌else◌, eqb, ltb, drop, Result, Ok, Err}
-use Rattle.std.proofs.Common.{refl, sym, ap, subst, ◌∙◌, append_assoc, arith, add-one}
-use Rattle.std.proofs.Common.{drop-cons, ◌⊎◌, inl, inr, take}
+use Rattle.std.proofs.Common.{if◌then◌else◌, eqb, ltb, drop, Result, Ok, Err, refl, sym, ap, subst, ◌∙◌, append_assoc}
+use Rattle.std.proofs.Common.{arith, add-one, drop-cons, ◌⊎◌, inl, inr, take}
 use Rattle.std.proofs.lemmas.Bool.{ne_eqb, le-ltb}
 use Rattle.std.proofs.lemmas.List.{append-nil, drop_all, take_all}
 use Rattle.ztext.specs.declared.fault.TextFault.{TextFault}
@@ -12,12 +11,11 @@ use Rattle.ztext.specs.declared.reading.State.TheVariants as code
 use Rattle.ztext.specs.declared.reading.Output.{Output}
 use Rattle.ztext.specs.declared.reading.Output.TheVariants as outputs
 use Rattle.ztext.specs.Results.{◌>>=◌}
-use Rattle.ztext.specs.Reading.{Cause, Character, End, Abbreviation, State}
-use Rattle.ztext.specs.Reading.{Lower, Upper, Punctuation, EscapeHigh, EscapeLow}
-use Rattle.ztext.specs.Reading.{Abbreviated, next, letter, escaped, printed, reads}
+use Rattle.ztext.specs.Reading.{Cause, Character, End, Abbreviation, Lower, Upper, Punctuation, EscapeHigh}
+use Rattle.ztext.specs.Reading.{ReadingState, EscapeLow, Abbreviated, next, letter, escaped, printed, reads}
 use Rattle.ztext.specs.Text.{read_with, refused}
 use Rattle.ztext.specs.Words.{unpacked_text}
-use Rattle.ztext.specs.Faults.{Fails}
+use Rattle.ztext.specs.Faults.{FailsText}
 use Rattle.ztext.specs.Fronts.{front_of}
 use Rattle.ztext.specs.TextParts.{words_of, z_character_at, state_of, Prints, after_text}
 use Rattle.ztext.specs.Expansions.{read_on, rest_of}
@@ -44,28 +42,30 @@ front_all most text (Ok x) = refl
 front_all most text (Err f) = refl
 
 module _ (expand : ℕ → Result (List ℕ) Cause) where
-  reads_step : (s : State) (zs text got : List ℕ) (i : ℕ) → i < length zs → printed expand s (get_or zs i 0) ≡ Ok got
+  reads_step : (s : ReadingState) (zs text got : List ℕ) (i : ℕ) → i < length zs
+      → printed expand s (get_or zs i 0) ≡ Ok got
       → before text (reads expand s (drop i zs))
       ≡ before (text ++ got) (reads expand (next s (get_or zs i 0)) (drop (i + 1) zs))
   unfolding reads
   reads_step s zs text got i lt e = rw (drop-cons zs i 0, e, add-one)
       (before_more text got (reads expand (next s (get_or zs i 0)) (drop (suc i) zs)))
 
-  reads_err : (s : State) (zs text : List ℕ) (i : ℕ) (f : Cause) → i < length zs
+  reads_err : (s : ReadingState) (zs text : List ℕ) (i : ℕ) (f : Cause) → i < length zs
       → printed expand s (get_or zs i 0) ≡ Err f → before text (reads expand s (drop i zs)) ≡ Err f
   unfolding reads
   reads_err s zs text i f lt e = rw (drop-cons zs i 0, e) refl
 
-  reads_end : (s : State) (zs text : List ℕ) (i : ℕ) → length zs ≤ i
+  reads_end : (s : ReadingState) (zs text : List ℕ) (i : ℕ) → length zs ≤ i
       → before text (reads expand s (drop i zs)) ≡ Ok text
   unfolding reads
   reads_end s zs text i le = rw (drop_all i zs le) (ap (λ y. Ok y) (append-nil text))
 
   -- characters, and then what the Z-characters from a place on print
-  pub read_from : List ℕ → ℕ → List ℕ → State → ℕ → Result (List ℕ) Cause
+  pub read_from : List ℕ → ℕ → List ℕ → ReadingState → ℕ → Result (List ℕ) Cause
   read_from bytes words text state place = before text (reads expand state (drop place (words_of words bytes)))
 
-  pub read_step : (bytes : List ℕ) (words : ℕ) (text got : List ℕ) (state : State) (place : ℕ) → place < 3 * words
+  pub read_step : (bytes : List ℕ) (words : ℕ) (text got : List ℕ) (state : ReadingState) (place : ℕ)
+      → place < 3 * words
       → printed expand state (z_character_at bytes place) ≡ Ok got
       → read_from bytes words text state place ≡ read_from bytes words (text ++ got)
       (next state (z_character_at bytes place)) (place + 1)
@@ -77,7 +77,7 @@ module _ (expand : ℕ → Result (List ℕ) Cause) where
       step ∙ ap (λ z. before (text ++ got) (reads expand (next state z) (drop (place + 1) (words_of words bytes))))
       (sym is)
 
-  pub read_err : (bytes : List ℕ) (words : ℕ) (text : List ℕ) (state : State) (place : ℕ) (f : Cause)
+  pub read_err : (bytes : List ℕ) (words : ℕ) (text : List ℕ) (state : ReadingState) (place : ℕ) (f : Cause)
       → place < 3 * words → printed expand state (z_character_at bytes place) ≡ Err f
       → read_from bytes words text state place ≡ Err f
   unfolding read_from
@@ -85,7 +85,7 @@ module _ (expand : ℕ → Result (List ℕ) Cause) where
       reads_err state (words_of words bytes) text place f (omega (arith, length-words_of words bytes))
       (ap (printed expand state) (sym (z_character-is words bytes place lt)) ∙ e)
 
-  pub read_end : (bytes : List ℕ) (words : ℕ) (text : List ℕ) (state : State) (place : ℕ) → 3 * words ≤ place
+  pub read_end : (bytes : List ℕ) (words : ℕ) (text : List ℕ) (state : ReadingState) (place : ℕ) → 3 * words ≤ place
       → read_from bytes words text state place ≡ Ok text
   unfolding read_from
   read_end bytes words text state place le = reads_end state (words_of words bytes) text place
@@ -105,7 +105,7 @@ printed_escape state high z number r e f h expand =
     subst (λ s. Prints expand (printed expand (state_of s) z) r) (sym e)
     (subst (λ k. Prints expand (escaped k) r) f (h expand))
 
-printed_from_six : (expand : ℕ → Result (List ℕ) Cause) (s : State) (z : ℕ) → 6 ≤ z
+printed_from_six : (expand : ℕ → Result (List ℕ) Cause) (s : ReadingState) (z : ℕ) → 6 ≤ z
     → (s ≡ Lower) ⊎ ((s ≡ Upper) ⊎ (s ≡ Punctuation)) → printed expand s z ≡ Ok (letter s z)
 printed_from_six expand s z le (inl e) = rw (e, ne_eqb z 0 (λ h. omega arith), le-ltb z 6 le) refl
 printed_from_six expand s z le (inr (inl e)) = rw (e, ne_eqb z 0 (λ h. omega arith), le-ltb z 6 le) refl
@@ -127,23 +127,23 @@ printed_letter state z r e le h expand =
 -- ---- the exits
 
 pub printed_fails : (expand : ℕ → Result (List ℕ) Cause) (read : Result (List ℕ) Cause) (fault : TextFault)
-    → Prints expand read (Err fault) → Fails fault read
+    → Prints expand read (Err fault) → FailsText fault read
 printed_fails expand read faults.Character h = h
 printed_fails expand read faults.End h = absurd h
 printed_fails expand read faults.Abbreviation h = absurd h
 printed_fails expand read faults.Memory h = absurd h
 
 pub fails_bind : {X Y : Type 0} (fault : TextFault) (read : Result X Cause) (f : X → Result Y Cause)
-    → Fails fault read → Fails fault (read >>= f)
+    → FailsText fault read → FailsText fault (read >>= f)
 fails_bind faults.Character read f h = rw h refl
 fails_bind faults.End read f h = rw h refl
 fails_bind faults.Abbreviation read f h = rw h refl
 fails_bind faults.Memory read f h = tt
 
 module _ (expand : ℕ → Result (List ℕ) Cause) where
-  fails_from : (fault : TextFault) (bytes : List ℕ) (words : ℕ) (text : List ℕ) (state : State) (place : ℕ)
-      → place < 3 * words → Fails fault (printed expand state (z_character_at bytes place))
-      → Fails fault (read_from expand bytes words text state place)
+  fails_from : (fault : TextFault) (bytes : List ℕ) (words : ℕ) (text : List ℕ) (state : ReadingState) (place : ℕ)
+      → place < 3 * words → FailsText fault (printed expand state (z_character_at bytes place))
+      → FailsText fault (read_from expand bytes words text state place)
   fails_from faults.Character bytes words text state place lt h = read_err expand bytes words text state place
       Character lt h
   fails_from faults.End bytes words text state place lt h = read_err expand bytes words text state place End lt h
@@ -151,7 +151,7 @@ module _ (expand : ℕ → Result (List ℕ) Cause) where
       Abbreviation lt h
   fails_from faults.Memory bytes words text state place lt h = tt
 
-  named_from : (most : ℕ) (bytes : List ℕ) (words : ℕ) (text : List ℕ) (state : State) (place : ℕ)
+  named_from : (most : ℕ) (bytes : List ℕ) (words : ℕ) (text : List ℕ) (state : ReadingState) (place : ℕ)
       (read : Result (List ℕ) Cause) → place < 3 * words
       → printed expand state (z_character_at bytes place) ≡ read → next state (z_character_at bytes place) ≡ Lower
       → front most (read_from expand bytes words text state place)
@@ -165,18 +165,18 @@ module _ (expand : ℕ → Result (List ℕ) Cause) where
       ap (front most) (read_err expand bytes words text state place f lt e)
 
   -- a Z-character that cannot be read
-  pub fault_at : (most : ℕ) (fault : TextFault) (bytes : List ℕ) (words z : ℕ) (text : List ℕ) (state : State)
+  pub fault_at : (most : ℕ) (fault : TextFault) (bytes : List ℕ) (words z : ℕ) (text : List ℕ) (state : ReadingState)
       (place : ℕ) (whole : Result (List ℕ) Cause) → z ≡ z_character_at bytes place → place < 3 * words
-      → front most (read_from expand bytes words text state place) ≡ whole → Fails fault (printed expand state z)
-      → Fails fault whole
+      → front most (read_from expand bytes words text state place) ≡ whole → FailsText fault (printed expand state z)
+      → FailsText fault whole
   fault_at most fault bytes words z text state place whole is lt so_far h =
       let here = fails_from fault bytes words text state place lt
-      (subst (λ y. Fails fault (printed expand state y)) is h) in
-      subst (Fails fault) so_far
+      (subst (λ y. FailsText fault (printed expand state y)) is h) in
+      subst (FailsText fault) so_far
       (fails_bind fault (read_from expand bytes words text state place) (λ got. Ok (take most got)) here)
 
   -- the end of the text
-  pub done_at : (most : ℕ) (bytes : List ℕ) (words : ℕ) (text : List ℕ) (state : State) (place : ℕ)
+  pub done_at : (most : ℕ) (bytes : List ℕ) (words : ℕ) (text : List ℕ) (state : ReadingState) (place : ℕ)
       (whole : Result (List ℕ) Cause) → 3 * words ≤ place → length text ≤ most
       → front most (read_from expand bytes words text state place) ≡ whole → whole ≡ Ok text
   done_at most bytes words text state place whole le room so_far =
@@ -184,7 +184,7 @@ module _ (expand : ℕ → Result (List ℕ) Cause) where
       ∙ ap (λ got. Ok got) (take_all most text room)
 
   -- a Z-character that names an abbreviation
-  pub named_at : (most : ℕ) (bytes : List ℕ) (words z number : ℕ) (text : List ℕ) (state : State) (place : ℕ)
+  pub named_at : (most : ℕ) (bytes : List ℕ) (words z number : ℕ) (text : List ℕ) (state : ReadingState) (place : ℕ)
       (whole : Result (List ℕ) Cause) → z ≡ z_character_at bytes place → place < 3 * words
       → front most (read_from expand bytes words text state place) ≡ whole
       → printed expand state z ≡ expand number → next state z ≡ Lower
@@ -194,7 +194,7 @@ module _ (expand : ℕ → Result (List ℕ) Cause) where
       ∙ named_from most bytes words text state place (expand number) lt (ap (printed expand state) (sym is) ∙ e)
       (ap (next state) (sym is) ∙ lower)
 
-  front_from : (most : ℕ) (bytes : List ℕ) (words : ℕ) (text : List ℕ) (state : State) (place : ℕ)
+  front_from : (most : ℕ) (bytes : List ℕ) (words : ℕ) (text : List ℕ) (state : ReadingState) (place : ℕ)
       → front most (read_from expand bytes words (take most text) state place)
       ≡ front most (read_from expand bytes words text state place)
   unfolding read_from
@@ -202,7 +202,7 @@ module _ (expand : ℕ → Result (List ℕ) Cause) where
       front_before most text (reads expand state (drop place (words_of words bytes)))
 
   -- a Z-character that prints
-  pub turn_at : (most : ℕ) (bytes : List ℕ) (words z : ℕ) (text got now : List ℕ) (state after : State)
+  pub turn_at : (most : ℕ) (bytes : List ℕ) (words z : ℕ) (text got now : List ℕ) (state after : ReadingState)
       (place : ℕ) (whole : Result (List ℕ) Cause) → z ≡ z_character_at bytes place → place < 3 * words
       → front most (read_from expand bytes words text state place) ≡ whole
       → printed expand state z ≡ Ok got → now ≡ take most (text ++ got) → after ≡ next state z
@@ -238,7 +238,7 @@ is_ok true b x y z f e = cc
 is_ok false true x y z f e = cc
 is_ok false false x y z f e = cc
 
-pub named_next : (state : State) (z : ℕ) → printed refused state z ≡ Err Abbreviation → next state z ≡ Lower
+pub named_next : (state : ReadingState) (z : ℕ) → printed refused state z ≡ Err Abbreviation → next state z ≡ Lower
 named_next EscapeHigh z e = absurd cc
 named_next (EscapeLow high) z e = refl
 named_next (Abbreviated row) z e = refl
@@ -265,8 +265,8 @@ whole expand most story bytes at after zs old from found =
 
 pub fails_whole : (expand : ℕ → Result (List ℕ) Cause) (most : ℕ) (fault : TextFault) (story bytes : List ℕ)
     (at after : ℕ) (zs old : List ℕ) → bytes ≡ drop at story → unpacked_text at bytes ≡ Ok (zs, after)
-    → Fails fault (read_on expand most old zs)
-    → Fails fault (front_of most (after_text old (read_with expand story at)))
+    → FailsText fault (read_on expand most old zs)
+    → FailsText fault (front_of most (after_text old (read_with expand story at)))
 fails_whole expand most fault story bytes at after zs old from found h =
-    subst (Fails fault) (sym (whole expand most story bytes at after zs old from found))
+    subst (FailsText fault) (sym (whole expand most story bytes at after zs old from found))
     (fails_bind fault (read_on expand most old zs) (λ text. Ok (text, after)) h)

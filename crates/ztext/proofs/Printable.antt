@@ -5,7 +5,7 @@ use Rattle.std.specs.List.{list_all}
 use Rattle.std.proofs.lemmas.List.Folds.{list_all-append}
 use Rattle.ztext.specs.Alphabets.{is_printable}
 use Rattle.ztext.specs.Results.{◌>>=◌}
-use Rattle.ztext.specs.Reading.{Cause, State, Lower, Upper, Punctuation, EscapeHigh, EscapeLow, Abbreviated}
+use Rattle.ztext.specs.Reading.{Cause, Lower, Upper, Punctuation, EscapeHigh, EscapeLow, Abbreviated, ReadingState}
 use Rattle.ztext.specs.Reading.{Character, next, letter, printed, reads}
 use Rattle.ztext.specs.Words.{unpacked_text, last_word, three_of}
 use Rattle.ztext.specs.Text.{z_text_at, read_with, refused, has_abbreviations, abbreviation_address, abbreviation}
@@ -98,7 +98,8 @@ abbrev Expands : (ℕ → Result (List ℕ) Cause) → Type 0
 Expands expand = (n : ℕ) (text : List ℕ) → expand n ≡ Ok text → Printable text
 
 module _ (expand : ℕ → Result (List ℕ) Cause) (texts : Expands expand) where
-  printed_printable : (s : State) (z : ℕ) (text : List ℕ) → z < 32 → printed expand s z ≡ Ok text → Printable text
+  printed_printable : (s : ReadingState) (z : ℕ) (text : List ℕ) → z < 32 → printed expand s z ≡ Ok text
+      → Printable text
   printed_printable EscapeHigh z text lt e = printable_ok [] text refl e
   printed_printable (EscapeLow high) z text lt e =
       escaped_printable (eqb (32 * high + z) 0) (is_printable (32 * high + z)) (32 * high + z) text refl e
@@ -110,7 +111,7 @@ module _ (expand : ℕ → Result (List ℕ) Cause) (texts : Expands expand) whe
   printed_printable Punctuation z text lt e = one_of (eqb z 0) (ltb z 6) (32 ∷ []) [] (letter Punctuation z) text refl
       refl (below_at (λ y. list_all is_printable (letter Punctuation y)) 32 z punctuation_printable lt) e
 
-  reads_printable : (s : State) (zs text : List ℕ) → AreSmall zs → reads expand s zs ≡ Ok text → Printable text
+  reads_printable : (s : ReadingState) (zs text : List ℕ) → AreSmall zs → reads expand s zs ≡ Ok text → Printable text
   unfolding reads
   reads_printable s [] text h e = printable_ok [] text refl e
   reads_printable s (z ∷ zs) text h e =

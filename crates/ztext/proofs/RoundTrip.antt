@@ -8,7 +8,7 @@ use Rattle.std.proofs.lemmas.Bool.{eqb-true, le-leb, lt-leb, lt-ltb, ne_eqb, and
 use Rattle.std.proofs.lemmas.List.{append-nil, length-append, length-replicate, take-append-drop}
 use Rattle.ztext.specs.Alphabets.{is_printable, spelling_of, spelled}
 use Rattle.ztext.specs.Results.{◌>>=◌}
-use Rattle.ztext.specs.Reading.{Cause, State, Lower, Punctuation, next, printed, reads}
+use Rattle.ztext.specs.Reading.{Cause, Lower, Punctuation, next, printed, reads, ReadingState}
 use Rattle.ztext.specs.Words.{packed, three_of, unpacked_text, missing, padded}
 use Rattle.ztext.specs.Text.{abbreviation, read_with, decoded, encoded, Holds}
 use Rattle.ztext.specs.TextParts.{AreSmall}
@@ -21,10 +21,10 @@ pub bind_ok : {A B : Type 0} (r : Result A Cause) (f : A → Result B Cause) (y 
 bind_ok (Ok x) f y e = (x, refl, e)
 bind_ok (Err d) f y e = absurd cc
 
-abbrev found : List ℕ × State → Result (List ℕ × State) Cause
+abbrev found : List ℕ × ReadingState → Result (List ℕ × ReadingState) Cause
 found x = Ok x
 
-pair_is : (x y : List ℕ × State) → found x ≡ found y → x ≡ y
+pair_is : (x y : List ℕ × ReadingState) → found x ≡ found y → x ≡ y
 pair_is x y e = cc
 
 pub before_none : (r : Result (List ℕ) Cause) → r ≡ before [] r
@@ -33,11 +33,11 @@ before_none (Err f) = refl
 
 module _ (expand : ℕ → Result (List ℕ) Cause) where
   -- what Z-characters print, and the state after them
-  abbrev runs : State → List ℕ → Result (List ℕ × State) Cause
+  abbrev runs : ReadingState → List ℕ → Result (List ℕ × ReadingState) Cause
   runs s [] = Ok ([], s)
   runs s (z ∷ zs) = printed expand s z >>= λ text. runs (next s z) zs >>= λ y. Ok (text ++ y.0, y.1)
 
-  abbrev is_lower : State → Bool
+  abbrev is_lower : ReadingState → Bool
   is_lower Lower = true
   is_lower _ = false
 
@@ -46,7 +46,7 @@ module _ (expand : ℕ → Result (List ℕ) Cause) where
   is_one (b ∷ []) c = eqb b c
   is_one (b ∷ d ∷ bs) c = false
 
-  abbrev gives : Result (List ℕ × State) Cause → ℕ → Bool
+  abbrev gives : Result (List ℕ × ReadingState) Cause → ℕ → Bool
   gives (Ok x) c = is_one x.0 c && is_lower x.1
   gives (Err f) c = false
 
@@ -63,14 +63,14 @@ module _ (expand : ℕ → Result (List ℕ) Cause) where
   one_is (b ∷ []) c e = ap (λ x. x ∷ []) (eqb-true b c e)
   one_is (b ∷ d ∷ bs) c e = absurd cc
 
-  lower_is : (s : State) → is_lower s ≡ true → s ≡ Lower
+  lower_is : (s : ReadingState) → is_lower s ≡ true → s ≡ Lower
   lower_is Lower e = refl
   lower_is _ e = absurd cc
 
-  gives_is : (r : Result (List ℕ × State) Cause) (c : ℕ) → gives r c ≡ true → r ≡ Ok (c ∷ [], Lower)
+  gives_is : (r : Result (List ℕ × ReadingState) Cause) (c : ℕ) → gives r c ≡ true → r ≡ Ok (c ∷ [], Lower)
   gives_is (Ok x) c e =
       let parts = and_parts (is_one x.0 c) (is_lower x.1) e in
-      ap (λ (y : List ℕ × State). Ok y) (λ i. (one_is x.0 c parts.0 i, lower_is x.1 parts.1 i))
+      ap (λ (y : List ℕ × ReadingState). Ok y) (λ i. (one_is x.0 c parts.0 i, lower_is x.1 parts.1 i))
   gives_is (Err f) c e = absurd cc
 
   pub prints : (c : ℕ) → is_printable c ≡ true → runs Lower (spelling_of c) ≡ Ok (c ∷ [], Lower)
@@ -78,17 +78,17 @@ module _ (expand : ℕ → Result (List ℕ) Cause) where
       let here = below_at prints_itself 127 c all_print (printable_below c e) in
       gives_is (runs Lower (spelling_of c)) c (rw e at here)
 
-  pub reads_one : (s : State) (z : ℕ) (zs text : List ℕ) → printed expand s z ≡ Ok text
+  pub reads_one : (s : ReadingState) (z : ℕ) (zs text : List ℕ) → printed expand s z ≡ Ok text
       → reads expand s (z ∷ zs) ≡ before text (reads expand (next s z) zs)
   unfolding reads
   reads_one s z zs text e = rw e refl
 
-  pub reads_runs : (s t : State) (zs rest text : List ℕ) → runs s zs ≡ Ok (text, t)
+  pub reads_runs : (s t : ReadingState) (zs rest text : List ℕ) → runs s zs ≡ Ok (text, t)
       → reads expand s (zs ++ rest) ≡ before text (reads expand t rest)
   unfolding reads
   reads_runs s t [] rest text e =
       let p = pair_is ([], s) (text, t) e in
-      subst (λ (x : List ℕ × State). reads expand s rest ≡ before x.0 (reads expand x.1 rest)) p
+      subst (λ (x : List ℕ × ReadingState). reads expand s rest ≡ before x.0 (reads expand x.1 rest)) p
       (before_none (reads expand s rest))
   reads_runs s t (z ∷ zs) rest text e =
       let a = bind_ok (printed expand s z) (λ got. runs (next s z) zs >>= λ y. Ok (got ++ y.0, y.1)) (text, t) e in
@@ -96,7 +96,7 @@ module _ (expand : ℕ → Result (List ℕ) Cause) where
       let again = reads_runs (next s z) b.0.1 zs rest b.0.0 b.1 in
       let p = pair_is (a.0 ++ b.0.0, b.0.1) (text, t) b.2 in
       reads_one s z (zs ++ rest) a.0 a.1 ∙ ap (before a.0) again ∙ before_more a.0 b.0.0 (reads expand b.0.1 rest)
-      ∙ ap (λ (x : List ℕ × State). before x.0 (reads expand x.1 rest)) p
+      ∙ ap (λ (x : List ℕ × ReadingState). before x.0 (reads expand x.1 rest)) p
 
   reads_spelled : (text rest : List ℕ) → list_all is_printable text ≡ true
       → reads expand Lower (spelled text ++ rest) ≡ before text (reads expand Lower rest)

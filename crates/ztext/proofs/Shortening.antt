@@ -1,7 +1,6 @@
 -- Texts that use abbreviations: whole words of bytes, and no longer than without.
-use Rattle.std.proofs.Common.{◌≡◌, ℕ, zero, suc, ◌+◌, ◌-◌, ◌*◌, ◌/◌, ◌%◌, ◌<◌, ◌≤◌, Bool, true, false}
-use Rattle.std.proofs.Common.{eqb, List, [], ◌∷◌, ◌++◌, length, drop, get_or, Option, Some, None}
-use Rattle.std.proofs.Common.{refl, sym, ap, subst, arith}
+use Rattle.std.proofs.Common.{◌≡◌, ℕ, zero, suc, ◌+◌, ◌-◌, ◌*◌, ◌/◌, ◌%◌, ◌<◌, ◌≤◌, Bool, true, false, eqb, List, []}
+use Rattle.std.proofs.Common.{◌∷◌, ◌++◌, length, drop, get_or, Option, Some, None, refl, sym, ap, subst, arith}
 use Rattle.std.specs.Prelude.{replicate, if◌then◌else◌}
 use Rattle.std.specs.List.{All, list_all}
 use Rattle.std.proofs.lemmas.Bool.{and_parts}
@@ -16,7 +15,7 @@ use Rattle.ztext.specs.TextParts.{AreSmall}
 use Rattle.ztext.proofs.Packing.{small_append}
 use Rattle.ztext.proofs.TextSizes.{none_packed, some_packed}
 use Rattle.ztext.proofs.Spelling.{AreBytes, spelling_small, fives_small, printable_below}
-use Rattle.ztext.proofs.Longest.{Stands, spelled_cases}
+use Rattle.ztext.proofs.Longest.{spelled_cases, StandsInText}
 
 -- ---- bytes
 
@@ -113,13 +112,13 @@ abbreviation_is (a ∷ texts) (suc n) = abbreviation_is texts n
 
 -- what is found is as long as each abbreviation is
 pub long_enough : (texts : List (List ℕ)) (text : List ℕ) (x : Found) (least : ℕ)
-    → All (λ (a : List ℕ). least ≤ length a) texts → Stands texts text x → least ≤ x.length
+    → All (λ (a : List ℕ). least ≤ length a) texts → StandsInText texts text x → least ≤ x.length
 long_enough texts text x least h s =
     let here : least ≤ length (get_or texts x.number []) = h x.number [] s.within in
     omega (arith, s.size, ap length (abbreviation_is texts x.number))
 
 -- and no longer than the text
-within_text : (texts : List (List ℕ)) (text : List ℕ) (x : Found) → Stands texts text x → x.length ≤ length text
+within_text : (texts : List (List ℕ)) (text : List ℕ) (x : Found) → StandsInText texts text x → x.length ≤ length text
 within_text texts text x s =
     omega (
       arith,

@@ -5,8 +5,7 @@ use Rattle.std.proofs.Common.{subst, ◌∙◌, arith, ◌⊎◌, inl, inr}
 use Rattle.std.specs.Prelude.{replicate}
 use Rattle.std.proofs.lemmas.Bool.{leb-true, cases_lt, and_parts}
 use Rattle.std.proofs.lemmas.Bool.Decides.{nat_tests}
-use Rattle.ztext.specs.Alphabets.{is_printable, punctuation, place_in}
-use Rattle.ztext.specs.Alphabets.{spelling_in_punctuation, spelling_of, spelled}
+use Rattle.ztext.specs.Alphabets.{is_printable, punctuation, place_in, spelling_in_punctuation, spelling_of, spelled}
 use Rattle.ztext.specs.TextParts.{AreSmall}
 use Rattle.ztext.proofs.Packing.{small_append}
 

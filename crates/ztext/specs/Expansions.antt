@@ -8,7 +8,8 @@ use Rattle.ztext.specs.declared.reading.Named.{Named}
 use Rattle.ztext.specs.Results.{◌>>=◌}
 use Rattle.ztext.specs.Reading.{Cause, Lower, reads}
 use Rattle.ztext.specs.Text.{abbreviation}
-use Rattle.ztext.specs.Faults.{Fails}
+use Rattle.ztext.specs.Faults.{FailsText}
+use Rattle.ztext.specs.Bytes.{most_abbreviations}
 
 -- characters, and then those that Z-characters print, of all of them the first `most`
 abbrev pub read_on : (ℕ → Result (List ℕ) Cause) → ℕ → List ℕ → List ℕ → Result (List ℕ) Cause
@@ -29,12 +30,12 @@ abbrev pub ReadsOn : (ℕ → Result (List ℕ) Cause) → ℕ → List ℕ → 
 ReadsOn expand most old new zs from (Ok None) = read_on expand most old (drop from zs) ≡ Ok new
 ReadsOn expand most old new zs from (Ok (Some named)) =
     read_on expand most old (drop from zs) ≡ rest_of expand most new zs named
-ReadsOn expand most old new zs from (Err fault) = Fails fault (read_on expand most old (drop from zs))
+ReadsOn expand most old new zs from (Err fault) = FailsText fault (read_on expand most old (drop from zs))
 
 -- an abbreviation is one of 96, and is named between a place and the end
 abbrev pub IsNamedWithin : ℕ → ℕ → Option Named → Type 0
 IsNamedWithin from end None = Unit {0}
-IsNamedWithin from end (Some named) = (named.number < 96) × (from < named.after) × (named.after ≤ end)
+IsNamedWithin from end (Some named) = (named.number < most_abbreviations) × (from < named.after) × (named.after ≤ end)
 
 -- the place that is noted for an abbreviation
 abbrev pub place_of : Expansions → ℕ → Option Expansion

@@ -9,16 +9,16 @@ use Rattle.ztext.specs.Text.{encoded, HasCause}
 use Rattle.ztext.specs.Abbreviations.{encoded_with}
 
 -- what is refused by a fault, where the definition answers `read`
-abbrev pub Fails : {Y : Type 0} → TextFault → Result Y Cause → Type 0
-Fails faults.Character read = read ≡ Err Character
-Fails faults.End read = read ≡ Err End
-Fails faults.Abbreviation read = read ≡ Err Abbreviation
-Fails faults.Memory read = Unit {0}
+abbrev pub FailsText : {Y : Type 0} → TextFault → Result Y Cause → Type 0
+FailsText faults.Character read = read ≡ Err Character
+FailsText faults.End read = read ≡ Err End
+FailsText faults.Abbreviation read = read ≡ Err Abbreviation
+FailsText faults.Memory read = Unit {0}
 
 -- what a function returned, seen by `view`, is what the definition answers
-abbrev pub Gives : {X Y : Type 0} → (X → Y) → Result X TextFault → Result Y Cause → Type 0
-Gives view (Ok x) read = read ≡ Ok (view x)
-Gives view (Err fault) read = Fails fault read
+abbrev pub GivesText : {X Y : Type 0} → (X → Y) → Result X TextFault → Result Y Cause → Type 0
+GivesText view (Ok x) read = read ≡ Ok (view x)
+GivesText view (Err fault) read = FailsText fault read
 
 -- the cause of a fault stands at an address of a story
 abbrev pub HasFault : List ℕ → ℕ → TextFault → Type 0

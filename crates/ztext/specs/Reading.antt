@@ -15,20 +15,20 @@ pub data Cause : Type 0 where
 
 -- What the Z-characters before it make of the next one: a letter of an alphabet, the high or the low half of an
 -- escape's code, or the second half of an abbreviation's number.
-pub data State : Type 0 where
-  Lower : State
-  Upper : State
-  Punctuation : State
-  EscapeHigh : State
-  EscapeLow : ℕ → State
-  Abbreviated : ℕ → State
+pub data ReadingState : Type 0 where
+  Lower : ReadingState
+  Upper : ReadingState
+  Punctuation : ReadingState
+  EscapeHigh : ReadingState
+  EscapeLow : ℕ → ReadingState
+  Abbreviated : ℕ → ReadingState
 
-abbrev pub is_punctuation : State → Bool
+abbrev pub is_punctuation : ReadingState → Bool
 is_punctuation Punctuation = true
 is_punctuation _ = false
 
 -- the state after a Z-character: a shift holds for one, a shift after a shift takes its place
-abbrev pub next : State → ℕ → State
+abbrev pub next : ReadingState → ℕ → ReadingState
 next EscapeHigh z = EscapeLow z
 next (EscapeLow high) z = Lower
 next (Abbreviated row) z = Lower
@@ -41,7 +41,7 @@ next state z =
     else Lower))))
 
 -- the letter of an alphabet at a Z-character from 6 on
-abbrev pub letter : State → ℕ → List ℕ
+abbrev pub letter : ReadingState → ℕ → List ℕ
 letter Upper z = slice_index upper_letters (z - 6) ∷ []
 letter Punctuation z =
     if z == 6 then []
@@ -56,7 +56,7 @@ escaped code =
     else (if is_printable code then Ok (code ∷ []) else Err Character)
 
 -- what a Z-character prints in a state; `expand` gives the text of an abbreviation by its number
-abbrev pub printed : (ℕ → Result (List ℕ) Cause) → State → ℕ → Result (List ℕ) Cause
+abbrev pub printed : (ℕ → Result (List ℕ) Cause) → ReadingState → ℕ → Result (List ℕ) Cause
 printed expand EscapeHigh z = Ok []
 printed expand (EscapeLow high) z = escaped (32 * high + z)
 printed expand (Abbreviated row) z = expand (32 * (row - 1) + z)
@@ -66,18 +66,18 @@ printed expand state z =
     else Ok (letter state z))
 
 -- what Z-characters print from a state on; what is unfinished at the end prints nothing
-unfoldable pub reads : (ℕ → Result (List ℕ) Cause) → State → List ℕ → Result (List ℕ) Cause
+unfoldable pub reads : (ℕ → Result (List ℕ) Cause) → ReadingState → List ℕ → Result (List ℕ) Cause
 reads expand state [] = Ok []
 reads expand state (z ∷ zs) = printed expand state z >>= λ text. reads expand (next state z) zs
     >>= λ more. Ok (text ++ more)
 
 -- the state after Z-characters
-abbrev pub state_after : State → List ℕ → State
+abbrev pub state_after : ReadingState → List ℕ → ReadingState
 state_after state [] = state
 state_after state (z ∷ zs) = state_after (next state z) zs
 
 -- the state in which a text's Z-character at a place is read
-abbrev pub state_at : List ℕ → ℕ → State
+abbrev pub state_at : List ℕ → ℕ → ReadingState
 state_at zs place = state_after Lower (take place zs)
 
 -- an escape of the text names no character

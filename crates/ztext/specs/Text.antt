@@ -1,7 +1,7 @@
 -- Text in a story, and the text of the compiler (Z-Machine Standards Document 1.1, sections 3.2 to 3.8 and 13.3).
 use Rattle.std.specs.Prelude.{◌≡◌, ◌&&◌, ◌+◌, ◌*◌, ◌^◌, ◌<◌, ℕ, nat_le, Bool, true, false, if◌then◌else◌, List, ◌++◌}
 use Rattle.std.specs.Prelude.{length, take, drop, map, replicate, Result, Ok, Err}
-use Rattle.ztext.specs.Bytes.{word_at}
+use Rattle.ztext.specs.Bytes.{word_at, most_abbreviations}
 use Rattle.ztext.specs.Alphabets.{spelled}
 use Rattle.ztext.specs.Results.{◌>>=◌}
 use Rattle.ztext.specs.Reading.{Cause, Character, End, Abbreviation, Lower, reads, HasBadEscape, UsesAbbreviation}
@@ -23,7 +23,9 @@ refused number = Err Abbreviation
 -- a story with a header names a table of 96 words at $18, unless the word there is 0 or the table does not lie in it
 abbrev pub has_abbreviations : List ℕ → Bool
 has_abbreviations story =
-    nat_le 64 (length story) && nat_le 1 (word_at story 24) && nat_le (word_at story 24 + 192) (length story)
+    nat_le 64 (length story)
+    && nat_le 1 (word_at story 24)
+    && nat_le (word_at story 24 + 2 * most_abbreviations) (length story)
 
 -- the address of an abbreviation's text, which the table holds halved
 abbrev pub abbreviation_address : List ℕ → ℕ → ℕ

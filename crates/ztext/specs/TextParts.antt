@@ -10,11 +10,12 @@ use Rattle.ztext.specs.declared.reading.State as declared
 use Rattle.ztext.specs.declared.reading.Output.{Output}
 use Rattle.ztext.specs.declared.reading.Output.TheVariants as outputs
 use Rattle.ztext.specs.Results.{◌>>=◌}
-use Rattle.ztext.specs.Reading.{Cause, Character, State, Lower, Upper, Punctuation, EscapeHigh, EscapeLow}
-use Rattle.ztext.specs.Reading.{Abbreviated}
+use Rattle.ztext.specs.Reading.{Cause, Character, Lower, Upper, Punctuation, EscapeHigh, EscapeLow, Abbreviated}
+use Rattle.ztext.specs.Reading.{ReadingState}
 use Rattle.ztext.specs.Words.{three_of}
 use Rattle.ztext.specs.Text.{has_abbreviations, abbreviation_address}
 use Rattle.ztext.specs.Abbreviations.{Found, begins}
+use Rattle.ztext.specs.Bytes.{most_abbreviations}
 
 -- Z-characters are of five bits
 abbrev pub AreSmall : List ℕ → Type 0
@@ -32,7 +33,7 @@ z_character_at bytes place = slice_index
     (three_of (slice_index bytes (2 * (place / 3))) (slice_index bytes (2 * (place / 3) + 1))) (place % 3)
 
 -- the state of the definitions that a state of the code is
-abbrev pub state_of : declared.State → State
+abbrev pub state_of : declared.State → ReadingState
 state_of code.Lower = Lower
 state_of code.Upper = Upper
 state_of code.Punctuation = Punctuation
@@ -49,7 +50,7 @@ HasRow _ = Unit {0}
 abbrev pub Prints : (ℕ → Result (List ℕ) Cause) → Result (List ℕ) Cause → Result Output TextFault → Type 0
 Prints expand read (Ok outputs.Nothing) = read ≡ Ok []
 Prints expand read (Ok (outputs.Character c)) = read ≡ Ok (c ∷ [])
-Prints expand read (Ok (outputs.Abbreviation number)) = (read ≡ expand number) × (number < 96)
+Prints expand read (Ok (outputs.Abbreviation number)) = (read ≡ expand number) × (number < most_abbreviations)
 Prints expand read (Err faults.Character) = read ≡ Err Character
 Prints expand read (Err _) = ⊥
 
@@ -68,7 +69,7 @@ unfoldable pub filled : List ℕ → List ℕ
 filled zs = take 9 (zs ++ replicate 9 5)
 
 -- a key holds the first nine of Z-characters, `count` of them so far
-pub record IsFilled (zs : List ℕ) (count : ℕ) (key : List ℕ) : Type 0 where
+pub record IsFilledKey (zs : List ℕ) (count : ℕ) (key : List ℕ) : Type 0 where
   pub characters : key ≡ filled zs
   pub many : count ≡ min 9 (length zs)
 

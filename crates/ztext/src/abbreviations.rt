@@ -73,8 +73,8 @@ fn put_abbreviation(characters: &mut Vec<u8>, found: Found) -> Result<(), AllocE
     Ok(())
 }
 
-/// Adds the Z-characters of what was found at a character, or else of the character, and answers how many characters
-/// behind it they spell too.
+/// Adds the Z-characters of what was found at a character, or else of the character, and answers
+/// how many characters behind it they spell too.
 fn put_found(characters: &mut Vec<u8>, found: Option<Found>, c: u8) -> Result<usize, AllocError>
     ensures spelled { OnOk result (characters.new.items ≡ characters.old.items
         ++ spec.spelling_or (found_of found) c) }
@@ -131,16 +131,18 @@ fn z_text<T: AsSlice<u8>>(
     Ok(packed(alloc, &characters)?)
 }
 
-/// The Z-text of a text that uses abbreviations, to be laid into a story whose table names their texts.
+/// The Z-text of a text that uses abbreviations, to be laid into a story whose table names their
+/// texts.
 ///
-/// At each place the longest abbreviation that stands there is taken, whatever it saves, and of two that are as long
-/// the first; else the character is spelled as in [`encode_text`](crate::encode_text). A story has a table of 96
-/// (Z-Machine Standards Document 1.1, section 3.3), so no abbreviation behind the first 96 is used.
+/// At each place the longest abbreviation that stands there is taken, whatever it saves, and of two
+/// that are as long the first; else the character is spelled as in
+/// [`encode_text`](crate::encode_text). A story has a table of 96 (Z-Machine Standards Document
+/// 1.1, section 3.3), so no abbreviation behind the first 96 is used.
 ///
 /// # Errors
 ///
-/// `Z1` where a character is not printable, that is not 13 or 32 to 126, which is tested before memory is asked for;
-/// `Z9` where a growth of memory was refused. No other fault is answered.
+/// `Z1` where a character is not printable, that is not 13 or 32 to 126, which is tested before
+/// memory is asked for; `Z9` where a growth of memory was refused. No other fault is answered.
 pub fn encode_with(
     alloc: Global,
     text: &[u8],
@@ -154,8 +156,8 @@ pub fn encode_with(
     z_text(alloc, abbreviations, text)
 }
 
-/// Abbreviations of texts, in order; the first has the number 0. A story has a table of 96 (Z-Machine Standards
-/// Document 1.1, section 3.3).
+/// Abbreviations of texts, in order; the first has the number 0. A story has a table of 96
+/// (Z-Machine Standards Document 1.1, section 3.3).
 #[derive(Drop)]
 pub struct Abbreviations {
     texts: Vec<Vec<u8>>,
@@ -198,13 +200,14 @@ impl Abbreviations {
         &self.texts
     }
 
-    /// The Z-text of a text. At each place the longest of the first 96 abbreviations that stands there is taken,
-    /// whatever it saves; else the character is spelled as in [`encode_text`](crate::encode_text).
+    /// The Z-text of a text. At each place the longest of the first 96 abbreviations that stands
+    /// there is taken, whatever it saves; else the character is spelled as in
+    /// [`encode_text`](crate::encode_text).
     ///
     /// # Errors
     ///
-    /// `Z1` where a character is not printable, that is not 13 or 32 to 126, which is tested before memory is asked
-    /// for; `Z9` where a growth of memory was refused. No other fault is answered.
+    /// `Z1` where a character is not printable, that is not 13 or 32 to 126, which is tested before
+    /// memory is asked for; `Z9` where a growth of memory was refused. No other fault is answered.
     pub fn encode(&self, alloc: Global, text: &[u8]) -> Result<Vec<u8>, TextFault>
         ensures { EncodesWith self.now text.now result }
     {

@@ -2,6 +2,7 @@
 
 ghost use Rattle.std.specs.Prelude.{◌≡◌, ◌==◌, ◌<◌, ℕ, Some, None, if◌then◌else◌};
 ghost use Rattle.ztext.specs.Expansions.{place_of};
+ghost use Rattle.ztext.specs.Bytes.{most_abbreviations};
 
 use crate::abbreviations::MOST_ABBREVIATIONS;
 
@@ -15,8 +16,8 @@ pub(crate) struct Expansion {
 /// Of each abbreviation, where a text has its characters, if it was named so far.
 #[derive(Drop)]
 pub(crate) struct Expansions {
-    // apart from the places, since options of them would be half as long again, and are set up for each text that
-    // names an abbreviation
+    // apart from the places, since options of them would be half as long again, and are set up for
+    // each text that names an abbreviation
     known: [bool; MOST_ABBREVIATIONS],
     places: [Expansion; MOST_ABBREVIATIONS],
 }
@@ -36,7 +37,7 @@ impl Expansions {
     }
 
     pub(crate) fn find(&self, number: usize) -> Option<Expansion>
-        requires { number < 96 }
+        requires { number < most_abbreviations }
         ensures { result ≡ place_of self.now number }
     {
         if self.known[number] {
@@ -47,7 +48,7 @@ impl Expansions {
     }
 
     pub(crate) fn note(&mut self, number: usize, place: Expansion)
-        requires { number < 96 }
+        requires { number < most_abbreviations }
         ensures { (other : ℕ) → place_of self.new other
             ≡ (if other == number then Some place else place_of self.old other) }
     {

@@ -9,12 +9,13 @@ use thiserror::Error;
 /// Why a text is refused. `Display` writes the number alone.
 #[derive(Clone, Copy, Debug, PartialEq, Eq, Error)]
 pub enum TextFault {
-    /// A character outside 13 and 32 to 126; in Z-text an escape may name 0 too, which prints nothing.
+    /// A character outside 13 and 32 to 126; in Z-text an escape may name 0 too, which prints
+    /// nothing.
     #[error("Z1")]
     Character,
 
-    /// No word of the text, up to the end of the story, has its top bit set, or the address after it has more than 32
-    /// bits.
+    /// No word of the text, up to the end of the story, has its top bit set, or the address after
+    /// it has more than 32 bits.
     #[error("Z2")]
     End,
 

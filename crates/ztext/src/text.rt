@@ -5,9 +5,9 @@ ghost use Rattle.std.specs.List.{list_all};
 ghost use Rattle.ztext.specs.Alphabets.{spelling_of, is_printable};
 ghost use Rattle.ztext.specs.Words as words;
 ghost use Rattle.ztext.specs.Text as spec;
-ghost use Rattle.ztext.specs.Faults.{Gives, Encodes, HasFault};
+ghost use Rattle.ztext.specs.Faults.{Encodes, HasFault, GivesText};
 ghost use Rattle.ztext.specs.Fronts.{front_of};
-ghost use Rattle.ztext.specs.TextParts.{AreSmall, IsFilled};
+ghost use Rattle.ztext.specs.TextParts.{AreSmall, IsFilledKey};
 
 use crate::alphabets::{are_printable, spelled, spelling};
 use crate::fault::TextFault;
@@ -15,15 +15,16 @@ use crate::reading::put_text;
 use crate::words::{packed, pad, word_bytes};
 use std::alloc::Global;
 
-/// The Z-text of a text, to be laid into a story or shown: whole words of two bytes, at least one, the last of them
-/// marked by its top bit (Z-Machine Standards Document 1.1, section 3).
+/// The Z-text of a text, to be laid into a story or shown: whole words of two bytes, at least one,
+/// the last of them marked by its top bit (Z-Machine Standards Document 1.1, section 3).
 ///
-/// Each character is spelled by its first place in the three alphabets, or else by an escape; no abbreviation is used.
+/// Each character is spelled by its first place in the three alphabets, or else by an escape; no
+/// abbreviation is used.
 ///
 /// # Errors
 ///
-/// `Z1` where a character is not printable, that is not 13 or 32 to 126, which is tested before memory is asked for;
-/// `Z9` where a growth of memory was refused. No other fault is answered.
+/// `Z1` where a character is not printable, that is not 13 or 32 to 126, which is tested before
+/// memory is asked for; `Z9` where a growth of memory was refused. No other fault is answered.
 pub fn encode_text(alloc: Global, text: &[u8]) -> Result<Vec<u8>, TextFault>
     ensures encodes { Encodes text.now result }
     ensures again { IfOk result (λ v. spec.IsReadAs v.items text.now) }
@@ -36,28 +37,30 @@ pub fn encode_text(alloc: Global, text: &[u8]) -> Result<Vec<u8>, TextFault>
     Ok(packed(alloc, &characters)?)
 }
 
-/// The characters of the text at an address of a story, which are 13 or 32 to 126, and the address after the text
-/// (Z-Machine Standards Document 1.1, section 3). Any bytes are a story and any address may be asked for.
+/// The characters of the text at an address of a story, which are 13 or 32 to 126, and the address
+/// after the text (Z-Machine Standards Document 1.1, section 3). Any bytes are a story and any
+/// address may be asked for.
 ///
 /// An escape or an abbreviation that the end of the text cuts off prints nothing.
 ///
 /// # Errors
 ///
-/// `Z2` where no word up to the end of the story has its top bit set, or the address after it has more than 32 bits;
-/// `Z1` where an escape names a code that is no character (a code 0 prints nothing); `Z3` where an abbreviation uses
-/// another, or is used in a story without a table of 96; an abbreviation's own text may answer each of them too.
-/// `Z9` where a growth of memory was refused. The text is read to its end first, so its own `Z2` goes before `Z1` and
-/// `Z3`; of those, and of an abbreviation's, the first in the text is answered.
+/// `Z2` where no word up to the end of the story has its top bit set, or the address after it has
+/// more than 32 bits; `Z1` where an escape names a code that is no character (a code 0 prints
+/// nothing); `Z3` where an abbreviation uses another, or is used in a story without a table of 96;
+/// an abbreviation's own text may answer each of them too. `Z9` where a growth of memory was
+/// refused. The text is read to its end first, so its own `Z2` goes before `Z1` and `Z3`; of those,
+/// and of an abbreviation's, the first in the text is answered.
 pub fn decode_text(alloc: Global, story: &[u8], at: u32) -> Result<(Vec<u8>, u32), TextFault>
-    ensures text { Gives (λ x. (x.0.items, x.1)) result (spec.decoded story.now at) }
+    ensures text { GivesText (λ x. (x.0.items, x.1)) result (spec.decoded story.now at) }
     ensures cause { IfErr result (HasFault story.now at) }
 {
     decode_front(alloc, story, at, usize::MAX)
 }
 
-/// The same, but of the characters only the first, `most` at most: a text of abbreviations can have many times as
-/// many as its story has bytes. It is read to its end all the same, so its faults and the address after it are those
-/// of the whole.
+/// The same, but of the characters only the first, `most` at most: a text of abbreviations can have
+/// many times as many as its story has bytes. It is read to its end all the same, so its faults and
+/// the address after it are those of the whole.
 ///
 /// # Errors
 ///
@@ -68,7 +71,7 @@ pub fn decode_front(
     at: u32,
     most: usize,
 ) -> Result<(Vec<u8>, u32), TextFault>
-    ensures text { Gives (λ x. (x.0.items, x.1)) result
+    ensures text { GivesText (λ x. (x.0.items, x.1)) result
         (front_of most (spec.decoded story.now at)) }
     ensures cause { IfErr result (HasFault story.now at) }
     ensures room { IfOk result (λ x. length x.0.items < 2 ^ 63) }
@@ -86,12 +89,12 @@ fn lower_case(c: u8) -> u8
     if 65 <= c && c <= 90 { c + 32 } else { c }
 }
 
-/// Adds the Z-characters of a character to the first `count` of a key, as far as it has room, and answers how many it
-/// has then.
+/// Adds the Z-characters of a character to the first `count` of a key, as far as it has room, and
+/// answers how many it has then.
 fn put_spelling(key: &mut [u8; 9], count: usize, c: u8) -> usize
     requires { count ≤ 9 }
-    ensures { (zs : List ℕ) → IsFilled zs count key.old
-        → IsFilled (zs ++ spelling_of c) result key.new }
+    ensures { (zs : List ℕ) → IsFilledKey zs count key.old
+        → IsFilledKey (zs ++ spelling_of c) result key.new }
 {
     let mut filled = count;
     for z in spelling(c).as_slice() {
@@ -113,11 +116,11 @@ fn key_bytes(key: &[u8; 9]) -> [u8; 6]
     [a, b, c, d, e, f]
 }
 
-/// The key of a word in the dictionary: the first nine Z-characters of the word in small letters, filled with fives,
-/// in three words (Z-Machine Standards Document 1.1, sections 3.7 and 13.3).
+/// The key of a word in the dictionary: the first nine Z-characters of the word in small letters,
+/// filled with fives, in three words (Z-Machine Standards Document 1.1, sections 3.7 and 13.3).
 ///
-/// Words with one key are one word to the player, as `lanterns` and `lanterns1`. Every word has a key, whatever its
-/// bytes, and none asks for memory.
+/// Words with one key are one word to the player, as `lanterns` and `lanterns1`. Every word has a
+/// key, whatever its bytes, and none asks for memory.
 pub fn word_key(word: &[u8]) -> [u8; 6]
     ensures { result ≡ spec.key_of word.now }
 {

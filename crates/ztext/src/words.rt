@@ -1,10 +1,11 @@
-//! Z-characters in words of two bytes: what a text is packed into, and where it is found in a story.
+//! Z-characters in words of two bytes: what a text is packed into, and where it is found in a
+//! story.
 
 ghost use Rattle.std.specs.Prelude.{◌≡◌, ◌<◌, ◌≤◌, ◌+◌, ◌*◌, ◌/◌, ◌^◌, ◌++◌, ◌∷◌, ℕ, List, length, drop, MatchOption, IfOk, OnOk};
 ghost use Rattle.ztext.specs.Alphabets.{spelled};
 ghost use Rattle.ztext.specs.Text.{encoded};
 ghost use Rattle.ztext.specs.Words as spec;
-ghost use Rattle.ztext.specs.Faults.{Gives};
+ghost use Rattle.ztext.specs.Faults.{GivesText};
 ghost use Rattle.ztext.specs.TextParts.{AreSmall, words_of, z_character_at};
 
 use crate::bytes::read_word;
@@ -97,11 +98,11 @@ pub(crate) fn bytes_from(story: &[u8], at: usize) -> &[u8]
     if at < story.len() { &story[at..] } else { &[] }
 }
 
-/// How many words the text at the front of the bytes has, which stand at an address of the story. The address after
-/// the text has 32 bits.
+/// How many words the text at the front of the bytes has, which stand at an address of the story.
+/// The address after the text has 32 bits.
 #[tactic(auto, using(crate::proofs::Packing::words_none, crate::proofs::Packing::words_more, crate::proofs::Packing::words_last, crate::proofs::Packing::words_beyond, crate::proofs::Packing::words_short))]
 pub(crate) fn word_count(bytes: &[u8], at: u32) -> Result<usize, TextFault>
-    ensures words { Gives (λ n. (words_of n bytes.now, at + 2 * n)) result
+    ensures words { GivesText (λ n. (words_of n bytes.now, at + 2 * n)) result
         (spec.unpacked_text at bytes.now) }
     ensures room { IfOk result (λ n. 2 * n ≤ length bytes.now) }
     ensures address { IfOk result (λ n. at + 2 * n < 2 ^ 32) }

@@ -1,7 +1,7 @@
 use Rattle.std.proofs.Common.{Some, None, inr, sym, ◌∙◌}
 use Rattle.syntax.specs.Tree.{program_tree}
 use Rattle.checker.specs.Programs.{program_breaches}
-use Rattle.names.proofs.Noted.{first_law}
+use Rattle.checker_names.proofs.Noted.{first_law}
 use Rattle.checker.proofs.check_program.check.Goals as goal
 
 pub returns-in-None : goal.returns-in-None

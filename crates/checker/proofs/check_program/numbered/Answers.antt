@@ -1,7 +1,7 @@
 use Rattle.std.proofs.Common.{ℕ, List, Bor, refl, ap, ◌∙◌}
 use Rattle.std.specs.Prelude.{map}
-use Rattle.names.specs.Keys.{keys_of}
-use Rattle.names.specs.Scope.{file_in}
+use Rattle.checker_names.specs.Keys.{keys_of}
+use Rattle.checker_names.specs.Scope.{file_in}
 use Rattle.meaning.specs.declared.checked.CheckedObject.{CheckedObject}
 use Rattle.meaning.specs.Resolved.{object_of}
 use Rattle.checker.proofs.Numbered.{file_numbered}

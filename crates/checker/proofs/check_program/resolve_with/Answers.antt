@@ -1,18 +1,17 @@
 use Rattle.std.proofs.Common.{◌≡◌, ℕ, List, [], length, ap, ◌∙◌, arith}
 use Rattle.std.specs.Prelude.{map}
-use Rattle.directives.specs.declared.tree.Directive.{Directive}
-use Rattle.directives.specs.declared.tree.Text.{Text}
-use Rattle.directives.specs.Tree.{directive_tree, text_tree}
+use Rattle.syntax_directives.specs.declared.tree.Directive.{Directive}
+use Rattle.syntax_directives.specs.declared.tree.Text.{Text}
+use Rattle.syntax_directives.specs.Tree.{directive_tree, text_tree}
 use Rattle.syntax.specs.Tree.{program_tree}
 use Rattle.meaning.specs.declared.checked.CheckedObject.{CheckedObject}
 use Rattle.meaning.specs.Resolved.{object_of}
-use Rattle.names.specs.Names.{File, first_table, no_counts, in_table}
-use Rattle.names.specs.Noted.{noted}
-use Rattle.names.specs.Scope.{file_in}
-use Rattle.array_rules.specs.Arrays.{arrays_of}
-use Rattle.object_rules.specs.Objects.{all_defaults, standing_breaches, placed}
-use Rattle.object_rules.specs.Files.{object_trees}
-use Rattle.object_rules.proofs.Chains.{take_exact}
+use Rattle.checker_names.specs.Names.{File, first_table, no_counts, in_table}
+use Rattle.checker_names.specs.Noted.{noted}
+use Rattle.checker_names.specs.Scope.{file_in}
+use Rattle.checker_arrays.specs.Arrays.{arrays_of}
+use Rattle.checker_objects.specs.Objects.{all_defaults, standing_breaches, placed, object_trees}
+use Rattle.checker_objects.proofs.Chains.{take_exact}
 use Rattle.checker.specs.Programs.{directives_breaches, main_breaches, main_key, first_routine, abbreviations_breaches}
 use Rattle.checker.proofs.Whole.{file_table, program_checked, program_break}
 use Rattle.checker.proofs.check_program.resolve_with.Goals as goal
@@ -22,7 +21,8 @@ returns-clause-value c =
     let count : c.in_ok-found.found.objects.len ≡ length c.place.new.objects = omega
     (arith, c.place.auto.objects, ap length c.deref_mut.ensures.value, c.in_ok-found.found.objects.ok.0) in
     program_checked c.args.program.now (file_in c.args.file) c.args.file.numbers.keys.items
-    c.deref-directives.result.now c.deref-directives.result.now c.deref-texts.result.now c.in_ok-found.found c.in_ok-defaults.defaults.items
+    c.deref-directives.result.now c.deref-directives.result.now c.deref-texts.result.now c.in_ok-found.found
+    c.in_ok-defaults.defaults.items
     c.in_ok-parents.parents.items _ c.in_ok-abbreviations.abbreviations c.main_number-main.result c.new.result
     c.requires.file c.requires.keys c.deref-directives.ensures.value c.deref-directives.ensures.value
     c.deref-texts.ensures.value

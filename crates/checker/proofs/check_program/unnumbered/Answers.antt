@@ -1,9 +1,9 @@
 use Rattle.std.proofs.Common.{List, ap, ◌∙◌}
 use Rattle.std.specs.Prelude.{map}
-use Rattle.directives.specs.declared.tree.Directive.{Directive}
-use Rattle.directives.specs.Tree.{directive_tree}
+use Rattle.syntax_directives.specs.declared.tree.Directive.{Directive}
+use Rattle.syntax_directives.specs.Tree.{directive_tree}
 use Rattle.syntax.specs.Tree.{program_tree}
-use Rattle.names.specs.Names.{table_of}
+use Rattle.checker_names.specs.Names.{table_of}
 use Rattle.checker.proofs.Numbered.{none_numbered}
 use Rattle.checker.proofs.check_program.unnumbered.Goals as goal
 

@@ -1,13 +1,13 @@
 use Rattle.std.proofs.Common.{List, sym, ap, ◌∙◌}
 use Rattle.std.specs.Prelude.{map}
-use Rattle.directives.specs.declared.tree.Directive.{Directive}
-use Rattle.directives.specs.Tree.{directive_tree}
-use Rattle.names.specs.Noted.{noted}
+use Rattle.syntax_directives.specs.declared.tree.Directive.{Directive}
+use Rattle.syntax_directives.specs.Tree.{directive_tree}
+use Rattle.checker_names.specs.Noted.{noted}
 use Rattle.checker.specs.Programs.{directives_breaches}
-use Rattle.names.specs.Scope.{file_in}
-use Rattle.names.proofs.Noted.{noted_none}
-use Rattle.names.proofs.Dropped.{drop_end}
-use Rattle.names.proofs.Counting.{counts_fit}
+use Rattle.checker_names.specs.Scope.{file_in}
+use Rattle.checker_names.proofs.Noted.{noted_none}
+use Rattle.checker_names.proofs.Dropped.{drop_end}
+use Rattle.checker_names.proofs.Counting.{counts_fit}
 use Rattle.checker.proofs.Directives.{adding_more, adding_end, breaches_step}
 use Rattle.checker.proofs.directive_rules.add_all.Goals as goal
 

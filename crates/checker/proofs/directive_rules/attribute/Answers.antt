@@ -1,6 +1,6 @@
-use Rattle.expression_trees.specs.Tree.{name_tree}
-use Rattle.names.proofs.Noted.{noted_two}
-use Rattle.object_rules.specs.Repeated.{twice}
+use Rattle.syntax_trees.specs.Tree.{name_tree}
+use Rattle.checker_names.proofs.Noted.{noted_two}
+use Rattle.checker_names.specs.Names.{twice}
 use Rattle.checker.specs.Programs.{limit_breaches}
 use Rattle.checker.proofs.directive_rules.attribute.Goals as goal
 

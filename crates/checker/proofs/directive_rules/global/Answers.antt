@@ -1,9 +1,9 @@
 use Rattle.std.proofs.Common.{◌++◌}
-use Rattle.expression_trees.specs.Tree.{name_tree}
-use Rattle.directives.specs.Tree.{optional_tree}
-use Rattle.names.proofs.Noted.{noted_two}
-use Rattle.value_rules.specs.Literals.{initial_breaches}
-use Rattle.object_rules.specs.Repeated.{twice}
+use Rattle.syntax_trees.specs.Tree.{name_tree}
+use Rattle.syntax_directives.specs.Tree.{optional_tree}
+use Rattle.checker_names.proofs.Noted.{noted_two}
+use Rattle.checker_values.specs.Literals.{initial_breaches}
+use Rattle.checker_names.specs.Names.{twice}
 use Rattle.checker.specs.Programs.{limit_breaches}
 use Rattle.checker.proofs.directive_rules.global.Goals as goal
 

@@ -1,9 +1,9 @@
 use Rattle.std.proofs.Common.{List, [], ℕ, map, refl, ap, ◌∙◌}
-use Rattle.expression_trees.specs.declared.tree.Name.{Name}
-use Rattle.expression_trees.specs.Tree.{name_tree}
-use Rattle.names.specs.Names.{local_from}
-use Rattle.names.specs.Noted.{noted}
-use Rattle.names.specs.Scope.{local_binding, file_in}
+use Rattle.syntax_trees.specs.declared.tree.Name.{Name}
+use Rattle.syntax_trees.specs.Tree.{name_tree}
+use Rattle.checker_names.specs.Names.{local_from}
+use Rattle.checker_names.specs.Noted.{noted}
+use Rattle.checker_names.specs.Scope.{local_binding, file_in}
 use Rattle.checker.specs.Programs.{locals_breaches}
 use Rattle.checker.proofs.Locals.{routine_scoped}
 use Rattle.checker.proofs.directive_rules.routine.Goals as goal

@@ -1,9 +1,9 @@
 use Rattle.std.proofs.Common.{◌≡◌, ℕ, List, ◌+◌, reverse, ap, ◌∙◌, arith}
-use Rattle.forms.specs.declared.layout.Part.{Part}
-use Rattle.forms.specs.Layout.{lefts, uses}
-use Rattle.drafts.specs.Code.{items_of}
-use Rattle.encoding.specs.Written.{sizes_in}
-use Rattle.instructions.specs.Places.{place_in}
+use Rattle.code_branch_forms.specs.declared.layout.Part.{Part}
+use Rattle.code_branch_forms.specs.Layout.{lefts, uses}
+use Rattle.code_values.specs.Code.{items_of}
+use Rattle.code_encoding.specs.Written.{sizes_in}
+use Rattle.code_instructions.specs.Places.{place_in}
 use Rattle.code.specs.Bytes.{lefts_of, parts_of, code_size}
 use Rattle.code.proofs.Codes.{place_is, last_place}
 use Rattle.code.proofs.routine.code_of.Goals as goal

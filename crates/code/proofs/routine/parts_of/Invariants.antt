@@ -1,6 +1,6 @@
 use Rattle.std.proofs.Common.{◌≡◌, ◌+◌, ◌++◌, length, drop}
-use Rattle.drafts.specs.Code.{items_of}
-use Rattle.encoding.specs.Written.{sizes_in}
+use Rattle.code_values.specs.Code.{items_of}
+use Rattle.code_encoding.specs.Written.{sizes_in}
 use Rattle.code.specs.Bytes.{parts_of}
 use Rattle.code.proofs.Codes.{least_sum}
 use Rattle.code.proofs.routine.parts_of.Given as goal

@@ -1,6 +1,6 @@
 use Rattle.std.proofs.Common.{ap, ◌∙◌, arith}
-use Rattle.drafts.specs.Code.{item_of, items_of}
-use Rattle.encoding.specs.Written.{addresses_of, sizes_in}
+use Rattle.code_values.specs.Code.{item_of, items_of}
+use Rattle.code_encoding.specs.Written.{addresses_of, sizes_in}
 use Rattle.code.specs.Bytes.{place_of}
 use Rattle.code.proofs.Codes.{left_count, bytes_next, offset_is}
 use Rattle.code.proofs.routine.put_items.Goals as goal

@@ -1,6 +1,6 @@
 use Rattle.std.proofs.Common.{◌≡◌, ◌++◌, drop}
-use Rattle.drafts.specs.Code.{items_of}
-use Rattle.encoding.specs.Written.{addresses_of, sizes_in}
+use Rattle.code_values.specs.Code.{items_of}
+use Rattle.code_encoding.specs.Written.{addresses_of, sizes_in}
 use Rattle.code.specs.Bytes.{place_of, items_bytes}
 use Rattle.code.proofs.routine.put_items.Given as goal
 

@@ -1,10 +1,10 @@
-use Rattle.std.proofs.Common.{◌≡◌, ◌<◌, ◌≤◌, ◌++◌, ◌∙◌, ◌%◌, ◌==◌, ap, subst, arith, refl, ℕ, false, List, [], Option, Some}
-use Rattle.std.proofs.Common.{None, length, take}
+use Rattle.std.proofs.Common.{◌≡◌, ◌<◌, ◌≤◌, ◌++◌, ◌∙◌, ◌%◌, ◌==◌, ap, subst, arith, refl, ℕ, false, List, [], Option}
+use Rattle.std.proofs.Common.{Some, None, length, take}
 use Rattle.std.specs.Prelude.{IfSome, option_map}
 use Rattle.std.specs.Io.Take.{take_remaining}
 use Rattle.std.specs.declared.io.traits.Take.{Take}
 use Rattle.std.proofs.lemmas.List.{length-take-le, take_all}
-use Rattle.zcore.specs.Header.{longest_story}
+use Rattle.zcore.specs.Layout.{longest_story}
 use Rattle.play.specs.Filling.{block, length_within, stated_length, without_filling}
 use Rattle.play.specs.Reading.{most_read}
 use Rattle.play.proofs.reading.read_story.Given as given
@@ -56,10 +56,12 @@ too_long (Some bytes) story read dropped h = λ long.
 
 pub returns-clause-story : goal.returns-clause-story
 returns-clause-story g c =
-    begun (g.R.Read.remaining c.args.file) c.drop_filling.new.file.items c.read_to_end.new.buf.items c.drop_filling.ensures
+    begun (g.R.Read.remaining c.args.file) c.drop_filling.new.file.items c.read_to_end.new.buf.items
+    c.drop_filling.ensures
     (beginning g c)
 
 pub returns-clause-cut : goal.returns-clause-cut
 returns-clause-cut g c =
-    too_long (g.R.Read.remaining c.args.file) c.drop_filling.new.file.items c.read_to_end.new.buf.items c.drop_filling.ensures
+    too_long (g.R.Read.remaining c.args.file) c.drop_filling.new.file.items c.read_to_end.new.buf.items
+    c.drop_filling.ensures
     (beginning g c)

@@ -1,8 +1,8 @@
 use Rattle.std.proofs.Common.{sym, subst, ◌∙◌, Ok}
-use Rattle.lexer.specs.Tokens.{Lexes}
-use Rattle.lexer.specs.Results.{source_tokens}
+use Rattle.syntax_lexer.specs.Tokens.{Lexes}
+use Rattle.syntax_lexer.specs.Results.{source_tokens}
 use Rattle.syntax.specs.Tree.{program_tree}
-use Rattle.story.specs.Compiled.{Refuses}
+use Rattle.story.specs.Refused.{Refuses}
 use Rattle.story.proofs.Compiling.{is_tree, unparsed, unchecked, too_large, answered, fits, compiled}
 use Rattle.story.proofs.story.compile_for.Goals as goal
 

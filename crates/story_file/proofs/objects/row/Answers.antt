@@ -1,6 +1,6 @@
 use Rattle.std.proofs.Common.{map, refl, ap, ◌∙◌}
 use Rattle.meaning.specs.Resolved.{property_of}
-use Rattle.region.specs.Rows.{attribute_byte}
+use Rattle.code_object_memory.specs.Rows.{attribute_byte}
 use Rattle.story_file.proofs.ObjectRows.{attributes_are, row_made}
 use Rattle.story_file.proofs.objects.row.Goals as goal
 

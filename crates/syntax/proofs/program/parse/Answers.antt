@@ -1,5 +1,5 @@
 use Rattle.std.proofs.lemmas.Result.{err_from_is_err_and}
-use Rattle.lexer.specs.Token.{lexemes}
+use Rattle.syntax_lexer.specs.Token.{lexemes}
 use Rattle.syntax.proofs.Main.{found, ok_only, err_only, err_grammar, err_deep, err_numbers}
 use Rattle.syntax.proofs.program.parse.Goals as goal
 

@@ -1,6 +1,6 @@
 use Rattle.std.proofs.Common.{◌≡◌, ◌++◌, drop}
 use Rattle.std.specs.Prelude.{map}
-use Rattle.lexer.specs.Token.{lexemes}
+use Rattle.syntax_lexer.specs.Token.{lexemes}
 use Rattle.syntax.specs.Grammar as grammar
 use Rattle.syntax.proofs.words.dictionary_words.Given as goal
 

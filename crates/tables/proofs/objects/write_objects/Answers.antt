@@ -57,7 +57,7 @@ returns-clause-read c = λ story held.
     ∙ ap (λ n. c.put_words.new.bytes.items ++ entries_bytes n c.args.rows.now) start
     ∙ ap (λ x. x ++ entries_bytes (c.args.at + 126 + 14 * length c.args.rows.now) c.args.rows.now) front in
     let fits : c.args.at + objects_length c.args.rows.now ≤ 65536 = omega
-    (arith, ap length tables, c.if-start-len-gt-TABLE_END.false, c.len-2.ensures) in
+    (arith, ap length tables, c.if-start-len-gt-READABLE.false, c.len-2.ensures) in
     let bytes : c.extend_from_slice.new.self.items ≡ objects_bytes c.args.rows.now c.args.defaults.now c.args.at =
     c.in_ok-extend_from_slice.ensures.items ∙ ap (λ x. i.bytes.items ++ x) (c.deref.ensures.value ∙ tables)
     ∙ ap (λ x. x ++ flat_map table_bytes c.args.rows.now) entries in

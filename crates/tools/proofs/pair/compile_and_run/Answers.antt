@@ -14,16 +14,18 @@ pub returns-in-Err : goal.returns-in-Err
 returns-in-Err g c = (c.in-Err.ensures, (keeps_all _, keeps_all _))
 
 pub returns-in-Err-open_with : goal.returns-in-Err-open_with
-returns-in-Err-open_with g c = (
-  (c.in-Ok.story, c.in-Ok.ensures),
-  wants_memory c.into_bytes.result.items c.args.fuel c.args.keep c.in-Ok.ensures.reads.0 c.in-Err-open_with.fault
-      (subst (λ b. Reads b (Ok c.in-Ok.ensures.reads.0)) (sym c.into_bytes.ensures) c.in-Ok.ensures.reads.1)
-      c.in-Err-open_with.ensures,
-  (keeps_all _, keeps_all _),
-)
+returns-in-Err-open_with g c =
+    let playable = c.in-Ok.ensures.playable in (
+      (c.in-Ok.story, playable),
+      wants_memory c.into_bytes.result.items c.args.fuel c.args.keep playable.reads.0 c.in-Err-open_with.fault
+          (subst (λ b. Reads b (Ok playable.reads.0)) (sym c.into_bytes.ensures) playable.reads.1)
+          c.in-Err-open_with.ensures,
+      (keeps_all _, keeps_all _),
+    )
 
 pub returns-in-Ok-run : goal.returns-in-Ok-run
 returns-in-Ok-run g c =
+    let playable = c.in-Ok.ensures.playable in
     let io = streams (g.R.Read.remaining c.args.reader.now) (g.R.Read.remaining c.run.new.reader)
     (g.W.Write.contents c.args.writer.now) (g.W.Write.contents c.run.new.writer) in
     let game : Game = record { story = c.in-Ok.story; fuel = c.args.fuel; keep = c.args.keep } in
@@ -32,9 +34,9 @@ returns-in-Ok-run g c =
       c.in-Ok-run._place,
       record {
         story = c.in-Ok.story;
-        compiled = c.in-Ok.ensures;
-        ran = ran_same (telling_of game) (meant_by (resolve_program c.in-Ok.ensures.tree) c.args.fuel) c.args.keep
-            (agrees game (resolve_program c.in-Ok.ensures.tree) (c.in-Ok.ensures.plays c.args.fuel)) io
+        compiled = playable;
+        ran = ran_same (telling_of game) (meant_by (resolve_program playable.tree) c.args.fuel) c.args.keep
+            (agrees game (resolve_program playable.tree) (playable.plays c.args.fuel)) io
             (λ s. IsSession c.in-Ok.story c.args.fuel c.args.keep s c.run.new.session) (Ok c.in-Ok-run._place)
             (c.in-Ok-run.ensures game opened);
       },
@@ -42,6 +44,7 @@ returns-in-Ok-run g c =
 
 pub returns-in-Err-run : goal.returns-in-Err-run
 returns-in-Err-run g c =
+    let playable = c.in-Ok.ensures.playable in
     let io = streams (g.R.Read.remaining c.args.reader.now) (g.R.Read.remaining c.run.new.reader)
     (g.W.Write.contents c.args.writer.now) (g.W.Write.contents c.run.new.writer) in
     let game : Game = record { story = c.in-Ok.story; fuel = c.args.fuel; keep = c.args.keep } in
@@ -50,9 +53,9 @@ returns-in-Err-run g c =
       c.run.new.session,
       record {
         story = c.in-Ok.story;
-        compiled = c.in-Ok.ensures;
-        ran = ran_same (telling_of game) (meant_by (resolve_program c.in-Ok.ensures.tree) c.args.fuel) c.args.keep
-            (agrees game (resolve_program c.in-Ok.ensures.tree) (c.in-Ok.ensures.plays c.args.fuel)) io
+        compiled = playable;
+        ran = ran_same (telling_of game) (meant_by (resolve_program playable.tree) c.args.fuel) c.args.keep
+            (agrees game (resolve_program playable.tree) (playable.plays c.args.fuel)) io
             (λ s. IsSession c.in-Ok.story c.args.fuel c.args.keep s c.run.new.session) (Err c.in-Err-run.fault)
             (c.in-Err-run.ensures game opened);
       },

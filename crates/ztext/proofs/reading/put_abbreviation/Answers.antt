@@ -1,7 +1,7 @@
 use Rattle.std.proofs.Common.{◌∙◌, sym, subst}
 use Rattle.std.proofs.lemmas.Result.{err_from_is_err_and}
 use Rattle.ztext.specs.Text.{refused}
-use Rattle.ztext.specs.Faults.{Fails}
+use Rattle.ztext.specs.Faults.{FailsText}
 use Rattle.ztext.specs.TextParts.{words_of}
 use Rattle.ztext.proofs.Copies.{read_alone, no_table, nowhere_alone, met, ended}
 use Rattle.ztext.proofs.reading.put_abbreviation.Goals as goal
@@ -27,7 +27,7 @@ returns-in_err-put_plain c =
     let fault = c.in_err-put_plain.field-0.0 in
     let old = c.args.text.now.items in
     rw (p.1, p.2)
-    (subst (Fails fault) (sym (read_alone c.args.most c.args.story.now c.bytes_from-bytes.result.now c.args.number
+    (subst (FailsText fault) (sym (read_alone c.args.most c.args.story.now c.bytes_from-bytes.result.now c.args.number
     c.in_ok-address.address _ _ old c.in_ok-address.ensures.0 c.in_ok-address.ensures.1
     c.bytes_from-bytes.ensures c.in_ok-words.ensures.words))
     (c.in_err-put_plain.ensures.read refused))

@@ -2,7 +2,7 @@ use Rattle.std.proofs.Common.{◌≡◌, ◌∙◌, ◌+◌, ◌*◌, Ok, ap, sy
 use Rattle.std.proofs.lemmas.Result.{err_from_is_err_and}
 use Rattle.ztext.specs.Results.{◌>>=◌}
 use Rattle.ztext.specs.Text.{abbreviation}
-use Rattle.ztext.specs.Faults.{Fails}
+use Rattle.ztext.specs.Faults.{FailsText}
 use Rattle.ztext.specs.TextParts.{words_of}
 use Rattle.ztext.specs.Expansions.{read_on}
 use Rattle.ztext.proofs.Loops.{whole, fails_whole}
@@ -20,7 +20,7 @@ returns-in_err-put_rest c =
     rw (p.1, p.2)
     (fails_whole expand c.args.most fault c.args.story.now bytes c.args.at (c.args.at + 2 * c.in_ok-words.words) zs old
     c.bytes_from-bytes.ensures c.in_ok-words.ensures.words
-    (subst (Fails fault) (sym (met expand c.args.most old c.put_plain.new.text.items zs 0 c.in_ok-first.field-0
+    (subst (FailsText fault) (sym (met expand c.args.most old c.put_plain.new.text.items zs 0 c.in_ok-first.field-0
     c.in-Some.first c.in-Some.is (c.in_ok-first.ensures.read expand))) c.in_err-put_rest.ensures))
 
 pub returns : goal.returns

@@ -1,7 +1,7 @@
 use Rattle.std.proofs.Common.{◌∙◌, ap, sym, subst, arith}
 use Rattle.std.proofs.lemmas.Result.{err_from_is_err_and}
 use Rattle.ztext.specs.Text.{read_with, abbreviation, decoded}
-use Rattle.ztext.specs.Faults.{Fails}
+use Rattle.ztext.specs.Faults.{FailsText}
 use Rattle.ztext.specs.Fronts.{front_of}
 use Rattle.ztext.specs.TextParts.{after_text}
 use Rattle.ztext.proofs.Packing.{joined_none}
@@ -17,7 +17,7 @@ returns-in_err-after-clause-text c =
     let read = read_with (abbreviation c.args.story.now) c.args.story.now c.args.at in
     let p = err_from_is_err_and c.from_residual.result c.from_residual.ensures.1 in
     rw (p.1, p.2)
-    (subst (Fails c.in_err-after.field-0.0)
+    (subst (FailsText c.in_err-after.field-0.0)
     (ap (λ ts. front_of c.args.most (after_text ts read)) c.new-text.ensures.items
     ∙ ap (front_of c.args.most) (joined_none read)) c.in_err-after.ensures)
 
@@ -29,7 +29,7 @@ returns-in_err-after-clause-cause c =
     rw (p.1, p.2)
     (has_cause c.args.story.now c.args.at c.in_err-after.field-0.0
     (front_fails c.args.most c.in_err-after.field-0.0 read
-    (subst (Fails c.in_err-after.field-0.0)
+    (subst (FailsText c.in_err-after.field-0.0)
     (ap (λ ts. front_of c.args.most (after_text ts read)) c.new-text.ensures.items
     ∙ ap (front_of c.args.most) (joined_none read)) c.in_err-after.ensures)))
 

@@ -1,11 +1,11 @@
 use Rattle.std.proofs.Common.{List, ap, sym, ◌∙◌, subst}
 use Rattle.std.specs.Prelude.{map}
 use Rattle.std.specs.List.{All}
-use Rattle.forms.specs.declared.layout.BranchUse.{BranchUse}
-use Rattle.forms.specs.Layout.{IsShortest}
-use Rattle.forms.proofs.Offsets.{all_shortest}
-use Rattle.drafts.specs.Code.{items_of}
-use Rattle.encoding.specs.Written.{sizes_in}
+use Rattle.code_branch_forms.specs.declared.layout.BranchUse.{BranchUse}
+use Rattle.code_branch_forms.specs.Layout.{IsShortest}
+use Rattle.code_branch_forms.proofs.Offsets.{all_shortest}
+use Rattle.code_values.specs.Code.{items_of}
+use Rattle.code_encoding.specs.Written.{sizes_in}
 use Rattle.code.specs.Bytes.{parts_of, place_of}
 use Rattle.code.specs.Written.{CodeOf, branch_offsets}
 use Rattle.code.proofs.Codes.{offsets_are}

@@ -1,7 +1,7 @@
 use Rattle.std.proofs.Common.{◌≡◌, ◌%◌, List, [], ◌∷◌, ◌++◌, ap, ◌∙◌}
-use Rattle.drafts.specs.Items.{Item}
-use Rattle.drafts.specs.Code.{items_of}
-use Rattle.encoding.specs.Written.{addresses_of, sizes_in}
+use Rattle.code_values.specs.Items.{Item}
+use Rattle.code_values.specs.Code.{items_of}
+use Rattle.code_encoding.specs.Written.{addresses_of, sizes_in}
 use Rattle.code.specs.Bytes.{place_of, items_bytes}
 use Rattle.code.proofs.Codes.{code_written}
 use Rattle.code.proofs.routine.Code.put.Goals as goal

@@ -1,9 +1,9 @@
 use Rattle.std.proofs.Common.{◌≡◌, ℕ, ◌∙◌, ap, sym, subst, refl, drop, length, List, []}
 use Rattle.journal.specs.Recording.{Recording}
 use Rattle.zcore.specs.Turn.{first_state}
-use Rattle.frames.specs.Contents.{Contents}
-use Rattle.frames.specs.States.{state_of, IsStoreOf}
-use Rattle.frames.proofs.Steps.{store_after}
+use Rattle.machine_frames.specs.Contents.{Contents}
+use Rattle.machine_frames.specs.States.{state_of, IsStoreOf}
+use Rattle.machine_frames.proofs.Steps.{store_after}
 use Rattle.session.specs.Inside.{IsBetweenTurns, view_of}
 use Rattle.session.specs.Sessions.{IsSession}
 use Rattle.session.specs.Standing.{nothing}
@@ -20,8 +20,8 @@ invariant_of-result c =
     subst (λ r. IsBetweenTurns header r c.in-Ok-turn.first c.new.result.items 0) (sym c.close.ensures.new)
     (opened_between header
     (record { store = c.turn.new.store.store; beginning = c.turn.new.store.store.cells; kept = [] })
-    c.in-Ok-turn.first c.new.result.items c.new.ensures.items (store_after before c.in-Ok-turn.ensures.goes_on)
-    c.in-Ok-turn.ensures.waits refl refl)
+    c.in-Ok-turn.first c.new.result.items c.new.ensures.items (store_after before c.in-Ok-turn.ensures.ends.goes_on)
+    c.in-Ok-turn.ensures.ends.waits refl refl)
 
 pub returns-in-Ok-turn : goal.returns-in-Ok-turn
 returns-in-Ok-turn c =
@@ -44,5 +44,5 @@ returns-in-Ok-turn c =
     (session_opened story c.args.fuel c.args.keep header c.new-store.result.store c.turn.new.store.store
     c.in-Ok-turn.first c.new.result.items (drop (length c.new-opening.result.items) c.turn.new.text.items)
     c.turn.new.text.items c.new-in-Ok-turn.result.items
-    c.new.ensures.items before state c.in-Ok-turn.ensures.opens words) in
+    c.new.ensures.items before state c.in-Ok-turn.ensures.ends.whole words) in
     record { header = header; reads = l.header; session = session }

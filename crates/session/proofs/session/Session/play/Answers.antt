@@ -11,8 +11,8 @@ turn-requires-clause-store c =
     let i = c.self.inside in
     (ready_now i.machine.header i.store i.first i.turns.items i.done c.self.invariant).store
 
-pub turn-requires-clause-waiting : goal.turn-requires-clause-waiting
-turn-requires-clause-waiting c =
+pub turn-requires-clause-ready : goal.turn-requires-clause-ready
+turn-requires-clause-ready c =
     let i = c.self.inside in
     (ready_now i.machine.header i.store i.first i.turns.items i.done c.self.invariant).waits
     (view_place i.keep i.fuel i.machine.header i.opening.items i.store.store i.first i.turns.items i.done
@@ -31,9 +31,8 @@ invariant_of-self-2 c =
     } in
     let h : IsPlayed i.machine.header i.store c.close.new.self c.args.line.now i.fuel t =
     played i.machine.header i.store c.turn.new.store c.close.new.self c.args.line.now i.fuel t
-    (drop (length c.new-text.result.items) c.turn.new.text.items) s c.in_ok-place.ensures.goes_on
-    c.in_ok-place.ensures.answers
-    (ap (λ (x : List ℕ). drop (length x) c.turn.new.text.items) c.new-text.ensures.items) c.in_ok-place.ensures.waits
+    c.new-text.result.items c.turn.new.text.items s c.in_ok-place.ensures.ends
+    (ap (λ (x : List ℕ). drop (length x) c.turn.new.text.items) c.new-text.ensures.items)
     c.in_ok-copy.ensures.copy c.self.invariant.begun c.close.ensures.back c.close.ensures.fits
     c.close.ensures.bound c.close.ensures.new in
     let more = c.put_turn.ensures ∙ ap (λ (ts : List Turn). take i.done ts ++ t ∷ []) c.make_room.ensures.items in
@@ -54,9 +53,8 @@ returns-clause-turned c =
     } in
     let h : IsPlayed i.machine.header i.store c.close.new.self c.args.line.now i.fuel t =
     played i.machine.header i.store c.turn.new.store c.close.new.self c.args.line.now i.fuel t
-    (drop (length c.new-text.result.items) c.turn.new.text.items) s c.in_ok-place.ensures.goes_on
-    c.in_ok-place.ensures.answers
-    (ap (λ (x : List ℕ). drop (length x) c.turn.new.text.items) c.new-text.ensures.items) c.in_ok-place.ensures.waits
+    c.new-text.result.items c.turn.new.text.items s c.in_ok-place.ensures.ends
+    (ap (λ (x : List ℕ). drop (length x) c.turn.new.text.items) c.new-text.ensures.items)
     c.in_ok-copy.ensures.copy c.self.invariant.begun c.close.ensures.back c.close.ensures.fits
     c.close.ensures.bound c.close.ensures.new in
     let more = c.put_turn.ensures ∙ ap (λ (ts : List Turn). take i.done ts ++ t ∷ []) c.make_room.ensures.items in

@@ -1,10 +1,10 @@
 use Rattle.std.proofs.Common.{◌≡◌, ℕ, ◌+◌, ◌-◌, ◌<◌, ap, sym, ◌∙◌, arith, subst, length, refl, List, Option}
 use Rattle.journal.specs.Swap.{Fits}
-use Rattle.frames.specs.Contents.{bound_of}
+use Rattle.machine_frames.specs.Contents.{bound_of}
 use Rattle.session.specs.Session.{Session}
 use Rattle.session.specs.Sessions.{IsSession}
 use Rattle.session.specs.Standing.{Standing, redo_of}
-use Rattle.session.proofs.Insides.{turn_fits, DoneAgain, redo_view, redo_between, redone_text}
+use Rattle.session.proofs.Insides.{turn_fits, StandsAt, redo_view, redo_between, redone_text}
 use Rattle.session.proofs.Views.{counted, turn_text}
 use Rattle.session.proofs.Sessions.{session_redo, forward_none, forward_some, session_undone, session_again}
 use Rattle.session.proofs.session.Session.redo.Goals as goal
@@ -47,11 +47,9 @@ invariant_of-self-2 c =
     let i = c.self.inside in
     let here : i.done < length i.turns.items = omega
     (arith, i.turns.ok.0, c.len.ensures, c.if-self-len.false, c.self.invariant.within) in
-    let b = c.do_again.ensures in
     redo_between i.machine.header i.store c.do_again.new.store i.first i.turns.items c.index_mut.result.now
     c.do_again.new.turn i.done
-    (record { here = here; is = c.index_mut.ensures.value; store = b.store; turn = b.turn; inverse = b.inverse })
-    (record { idle = b.idle; begun = b.begun; size = b.length; fits = b.fits }) c.self.invariant
+    (record { here = here; is = c.index_mut.ensures.value }) c.do_again.ensures c.self.invariant
 
 pub returns : goal.returns
 returns c =
@@ -60,17 +58,16 @@ returns c =
     i.given_up.items c.args.self.now c.self.view_is in
     let here : i.done < length i.turns.items = omega
     (arith, i.turns.ok.0, c.len.ensures, c.if-self-len.false, c.self.invariant.within) in
-    let b = c.do_again.ensures in
-    let h : DoneAgain i.store c.do_again.new.store i.turns.items i.done c.index_mut.result.now c.do_again.new.turn =
-    record { here = here; is = c.index_mut.ensures.value; store = b.store; turn = b.turn; inverse = b.inverse } in
+    let stands : StandsAt i.turns.items i.done c.index_mut.result.now =
+    record { here = here; is = c.index_mut.ensures.value } in
     let is = redo_view i.keep i.fuel i.machine.header i.opening.items i.store c.do_again.new.store i.first
-    i.turns.items c.index_mut.result.now c.do_again.new.turn i.done i.given_up.items h
+    i.turns.items c.index_mut.result.now c.do_again.new.turn i.done i.given_up.items stands c.do_again.ensures
     ∙ ap {A = Session} (λ v. record v { present = i.done + 1 }) c.self.view_is
     ∙ ap {A = ℕ} (λ k. record c.args.self.now { present = k + 1 }) n.present
     ∙ forward_some c.args.self.now (omega (arith, here, n.present, n.size)) in
     let e : i.done + 1 - 1 ≡ i.done = omega arith in
     let text = c.deref.ensures.value ∙ redone_text i.turns.items i.done (i.done + 1 - 1) c.index_mut.result.now
-    c.do_again.new.turn c.index.result.now _ here e c.index.ensures b.turn
+    c.do_again.new.turn c.index.result.now _ here e c.index.ensures c.do_again.ensures.turn
     ∙ turn_text i.keep i.fuel i.machine.header i.opening.items i.store.store i.first i.turns.items i.done
     i.given_up.items c.args.self.now i.done c.index_mut.result.now c.self.view_is here c.index_mut.ensures.value in
     let undone = λ (story : List ℕ) (fuel : ℕ) (keep : Option ℕ) (s : Standing)

@@ -1,6 +1,6 @@
 use Rattle.std.proofs.Common.{◌≡◌, ◌+◌, ◌-◌, ◌<◌, ap, sym, ◌∙◌, arith, subst, length}
 use Rattle.journal.specs.Swap.{Fits}
-use Rattle.frames.specs.Contents.{bound_of}
+use Rattle.machine_frames.specs.Contents.{bound_of}
 use Rattle.session.specs.Session.{Session, stepped_back}
 use Rattle.session.specs.Inside.{view_of}
 use Rattle.session.specs.Sessions.{IsSession}
@@ -38,11 +38,9 @@ invariant_of-self c =
     let i = c.self.inside in
     let here : i.done - 1 < length i.turns.items = omega (arith, c.self.invariant.within) in
     let e : i.done - 1 + 1 ≡ i.done = omega arith in
-    let b = c.take_back.ensures in
     undo_between i.machine.header i.store c.take_back.new.store i.first i.turns.items c.index_mut.result.now
     c.take_back.new.turn (i.done - 1) i.done e
-    (record { here = here; is = c.index_mut.ensures.value; store = b.store; turn = b.turn; inverse = b.inverse })
-    (record { idle = b.idle; begun = b.begun; size = b.length; fits = b.fits }) c.self.invariant
+    (record { here = here; is = c.index_mut.ensures.value }) c.take_back.ensures c.self.invariant
 
 pub returns-clause-found : goal.returns-clause-found
 unfolding view_of
@@ -56,10 +54,9 @@ returns-clause-stepped c =
     let i = c.self.inside in
     let here : i.done - 1 < length i.turns.items = omega (arith, c.self.invariant.within) in
     let e : i.done - 1 + 1 ≡ i.done = omega arith in
-    let b = c.take_back.ensures in
     undo_view i.keep i.fuel i.machine.header i.opening.items i.store c.take_back.new.store i.first i.turns.items
     c.index_mut.result.now c.take_back.new.turn (i.done - 1) i.done i.given_up.items e
-    (record { here = here; is = c.index_mut.ensures.value; store = b.store; turn = b.turn; inverse = b.inverse })
+    (record { here = here; is = c.index_mut.ensures.value }) c.take_back.ensures
     ∙ ap {A = Session} stepped_back c.self.view_is
 
 pub returns-clause-undone : goal.returns-clause-undone

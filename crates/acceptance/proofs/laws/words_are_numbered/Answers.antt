@@ -1,5 +1,0 @@
-use Rattle.acceptance.proofs.Renumbered.{words_numbered}
-use Rattle.acceptance.proofs.laws.words_are_numbered.Goals as goal
-
-pub returns : goal.returns
-returns c = words_numbered

@@ -1,0 +1,21 @@
+use Rattle.std.proofs.Common.{ap, ◌∙◌}
+use Rattle.syntax_statement_parts.specs.Tree.{literal_tree}
+use Rattle.checker_names.specs.declared.known.Known.{Known}
+use Rattle.checker_names.specs.Keys.{or_zero}
+use Rattle.checker_names.specs.Names.{literal_known}
+use Rattle.checker_names.specs.Noted.{noted}
+use Rattle.checker_names.proofs.Noted.{noted_two}
+use Rattle.checker_values.specs.Literals.{literal_breaches}
+use Rattle.checker_arrays.specs.Arrays.{wide_breaches}
+use Rattle.checker_arrays.proofs.array_rules.entry.Goals as goal
+
+pub returns-clause-breaches : goal.returns-clause-breaches
+returns-clause-breaches c =
+    let whole = c.args.file.now.table.entries in
+    let tree = literal_tree c.args.value.now.value in
+    noted_two c.args.least.now c.literal.new.least c.wide_rule.new.least (literal_breaches whole tree)
+    (wide_breaches c.args.value.now.position c.args.width (or_zero (literal_known whole tree)))
+    c.literal.ensures.breaches
+    (c.wide_rule.ensures
+    ∙ ap (λ (n : Known). noted c.literal.new.least (wide_breaches c.args.value.now.position c.args.width n))
+    (c.or_zero-known.ensures ∙ ap or_zero c.literal.ensures.value))

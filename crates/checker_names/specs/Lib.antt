@@ -1,0 +1,6 @@
+pub mod Breaches
+pub mod Keys
+pub mod Names
+pub mod Noted
+pub mod Scope
+pub mod Laws

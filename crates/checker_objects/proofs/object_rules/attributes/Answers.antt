@@ -1,0 +1,25 @@
+use Rattle.syntax_trees.specs.Tree.{name_tree}
+use Rattle.checker_names.specs.Scope.{file_in}
+use Rattle.checker_names.proofs.Mapped.{list_there, list_end, note_there, note_end}
+use Rattle.checker_objects.specs.Objects.{given_of, given_breaches}
+use Rattle.checker_objects.proofs.object_rules.attributes.Goals as goal
+
+pub loop-name-preserved : goal.loop-name-preserved
+loop-name-preserved c = record {
+  found = list_there name_tree (given_of (file_in c.args.file.now)) c.loop-name.found.items _ _ c.given.result
+      c.args.names.now c.loop-name.name-index _ c.loop-name-test.true
+      c.in_ok-push.ensures.items c.given.ensures.value c.loop-name.invariant.found;
+  least = note_there name_tree (given_breaches c.args.file.now.table.entries) c.loop-name.least c.given.new.least _
+      c.args.names.now c.loop-name.name-index _ c.loop-name-test.true
+      c.given.ensures.breaches c.loop-name.invariant.least;
+}
+
+pub returns-clause-value : goal.returns-clause-value
+returns-clause-value c =
+    list_end name_tree (given_of (file_in c.args.file.now)) c.loop-name.found.items _ c.args.names.now
+    c.loop-name.name-index c.loop-name-test.false c.loop-name.invariant.found
+
+pub returns-clause-breaches : goal.returns-clause-breaches
+returns-clause-breaches c =
+    note_end name_tree (given_breaches c.args.file.now.table.entries) c.loop-name.least _ c.args.names.now
+    c.loop-name.name-index c.loop-name-test.false c.loop-name.invariant.least

@@ -1,0 +1,16 @@
+use Rattle.std.proofs.Common.{◌≡◌, ◌++◌, drop}
+use Rattle.std.specs.Prelude.{map}
+use Rattle.std.specs.List.{flat_map}
+use Rattle.syntax_trees.specs.Tree.{name_tree}
+use Rattle.checker_names.specs.Noted.{noted}
+use Rattle.checker_names.specs.Scope.{file_in}
+use Rattle.checker_objects.specs.Objects.{given_of, given_breaches}
+use Rattle.checker_objects.proofs.object_rules.attributes.Given as goal
+
+abbrev pub invariant-loop-name : goal.invariant-loop-name
+invariant-loop-name l = record {
+  found : l.found.items ++ map (given_of (file_in l.file)) (map name_tree (drop l.name-index l.names))
+      ≡ map (given_of (file_in l.file)) (map name_tree l.names);
+  least : noted l.least (flat_map (given_breaches l.file.table.entries) (map name_tree (drop l.name-index l.names)))
+      ≡ noted l.fn.least (flat_map (given_breaches l.file.table.entries) (map name_tree l.names));
+}

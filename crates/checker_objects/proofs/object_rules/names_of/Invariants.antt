@@ -1,0 +1,10 @@
+use Rattle.std.proofs.Common.{◌≡◌, ◌++◌, drop}
+use Rattle.std.specs.Prelude.{map}
+use Rattle.syntax_trees.specs.Tree.{name_tree}
+use Rattle.syntax_directives.specs.Tree.{property_tree}
+use Rattle.checker_objects.specs.Objects.{property_name}
+use Rattle.checker_objects.proofs.object_rules.names_of.Given as goal
+
+abbrev pub invariant-loop-one : goal.invariant-loop-one
+invariant-loop-one l = map name_tree l.names.items ++ map property_name (map property_tree (drop l.one-index l.written))
+    ≡ map property_name (map property_tree l.written)

@@ -1,0 +1,12 @@
+use Rattle.std.proofs.Common.{◌≡◌, drop}
+use Rattle.std.specs.Prelude.{map}
+use Rattle.std.specs.List.{flat_map}
+use Rattle.syntax_directives.specs.Tree.{property_tree}
+use Rattle.checker_names.specs.Noted.{noted}
+use Rattle.checker_objects.specs.Objects.{provided_breaches}
+use Rattle.checker_objects.proofs.object_rules.note_provided.Given as goal
+
+abbrev pub invariant-loop-one : goal.invariant-loop-one
+invariant-loop-one l =
+    noted l.least (flat_map (provided_breaches l.file.table.entries) (map property_tree (drop l.one-index l.written)))
+    ≡ noted l.fn.least (flat_map (provided_breaches l.file.table.entries) (map property_tree l.written))

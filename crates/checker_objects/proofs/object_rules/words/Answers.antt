@@ -1,0 +1,25 @@
+use Rattle.syntax_directives.specs.Tree.{value_tree}
+use Rattle.checker_names.specs.Scope.{file_in}
+use Rattle.checker_objects.specs.Objects.{word_of, value_breaches}
+use Rattle.checker_names.proofs.Mapped.{list_there, list_end, note_there, note_end}
+use Rattle.checker_objects.proofs.object_rules.words.Goals as goal
+
+pub loop-value-preserved : goal.loop-value-preserved
+loop-value-preserved c = record {
+  found = list_there value_tree (word_of (file_in c.args.file.now)) c.loop-value.found.items _ _ c.word.result
+      c.args.values.now c.loop-value.value-index _ c.loop-value-test.true
+      c.in_ok-push.ensures.items c.word.ensures.value c.loop-value.invariant.found;
+  least = note_there value_tree (value_breaches c.args.file.now.table.entries) c.loop-value.least c.word.new.least _
+      c.args.values.now c.loop-value.value-index _ c.loop-value-test.true
+      c.word.ensures.breaches c.loop-value.invariant.least;
+}
+
+pub returns-clause-words : goal.returns-clause-words
+returns-clause-words c =
+    list_end value_tree (word_of (file_in c.args.file.now)) c.loop-value.found.items _ c.args.values.now
+    c.loop-value.value-index c.loop-value-test.false c.loop-value.invariant.found
+
+pub returns-clause-breaches : goal.returns-clause-breaches
+returns-clause-breaches c =
+    note_end value_tree (value_breaches c.args.file.now.table.entries) c.loop-value.least _ c.args.values.now
+    c.loop-value.value-index c.loop-value-test.false c.loop-value.invariant.least

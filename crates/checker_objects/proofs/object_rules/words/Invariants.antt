@@ -1,0 +1,16 @@
+use Rattle.std.proofs.Common.{◌≡◌, ◌++◌, drop}
+use Rattle.std.specs.Prelude.{map}
+use Rattle.std.specs.List.{flat_map}
+use Rattle.syntax_directives.specs.Tree.{value_tree}
+use Rattle.checker_names.specs.Noted.{noted}
+use Rattle.checker_names.specs.Scope.{file_in}
+use Rattle.checker_objects.specs.Objects.{word_of, value_breaches}
+use Rattle.checker_objects.proofs.object_rules.words.Given as goal
+
+abbrev pub invariant-loop-value : goal.invariant-loop-value
+invariant-loop-value l = record {
+  found : l.found.items ++ map (word_of (file_in l.file)) (map value_tree (drop l.value-index l.values))
+      ≡ map (word_of (file_in l.file)) (map value_tree l.values);
+  least : noted l.least (flat_map (value_breaches l.file.table.entries) (map value_tree (drop l.value-index l.values)))
+      ≡ noted l.fn.least (flat_map (value_breaches l.file.table.entries) (map value_tree l.values));
+}

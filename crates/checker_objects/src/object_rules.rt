@@ -1,0 +1,265 @@
+//! Definitions of objects: the rules that they can break, and what they are.
+
+ghost use Rattle.std.specs.Prelude.{◌≡◌, ◌≤◌, ◌++◌, [], IfOk, OnOk, length, map, take};
+ghost use Rattle.std.specs.List.{flat_map};
+ghost use Rattle.std.specs.Option.{option_map};
+ghost use Rattle.syntax_trees.specs.Tree.{name_tree};
+ghost use Rattle.syntax_directives.specs.Tree.{value_tree, text_tree, property_tree, object_tree};
+ghost use Rattle.meaning.specs.Resolved.{property_of, object_of};
+ghost use Rattle.checker_names.specs.Noted.{noted};
+ghost use Rattle.checker_names.specs.Scope.{file_in};
+ghost use Rattle.checker_names.specs.Names.{repeated_breaches};
+ghost use Rattle.checker_objects.specs.Objects as spec;
+
+use crate::defined_twice::twice;
+use checker_names::{Binding, Breach, File, Table, define, find, note, or_zero};
+use checker_values::{attribute, literal, property};
+use indexmap::IndexMap;
+use meaning::limits::MOST_PROPERTY_WORDS;
+use meaning::{CheckedObject, name_words};
+use std::alloc::{AllocError, Global};
+use syntax::{ArrayValue, Object, Property, Text};
+use syntax_lexer::TOO_MANY;
+use syntax_trees::Name;
+use zcore::layout::{DEFAULT_COUNT, LONGEST_SHORT_NAME};
+
+#[tactic(auto, using(checker_names::proofs::Noted::noted_none))]
+fn short_rule(short: &Option<Text<'_>>, least: &mut Option<Breach>)
+    ensures { least.new ≡ noted least.old (spec.short_breaches (option_map text_tree short.now)) }
+{
+    if let Some(text) = short {
+        if name_words(text.bytes) > LONGEST_SHORT_NAME as u128 {
+            note(least, TOO_MANY, text.position);
+        }
+    }
+}
+
+// The number of a property's words. The grammar gives it one at least.
+#[tactic(auto, using(checker_names::proofs::Noted::noted_none))]
+fn count_rule(name: Name<'_>, values: &[ArrayValue<'_>], least: &mut Option<Breach>)
+    ensures { least.new ≡ noted least.old
+        (spec.count_breaches name.entry.position (map value_tree values.now)) }
+{
+    if values.is_empty() {
+        note(least, TOO_MANY, name.position);
+    } else if let Some(value) = values.get(MOST_PROPERTY_WORDS) {
+        note(least, TOO_MANY, value.position);
+    }
+}
+
+fn word(value: &ArrayValue<'_>, file: &File, least: &mut Option<Breach>) -> u16
+    ensures value { result ≡ spec.word_of (file_in file.now) (value_tree value.now) }
+    ensures breaches { least.new ≡ noted least.old
+        (spec.value_breaches file.now.table.entries (value_tree value.now)) }
+{
+    file.numbers
+        .value(or_zero(literal(&value.value, &file.table, least)))
+}
+
+fn words(
+    values: &[ArrayValue<'_>],
+    alloc: Global,
+    file: &File,
+    least: &mut Option<Breach>,
+) -> Result<Vec<u16>, AllocError>
+    ensures words { IfOk result (λ v. v.items
+        ≡ map (spec.word_of (file_in file.now)) (map value_tree values.now)) }
+    ensures breaches { OnOk result (least.new ≡ noted least.old
+        (flat_map (spec.value_breaches file.now.table.entries) (map value_tree values.now))) }
+{
+    let mut found = Vec::new(alloc);
+    for value in values {
+        found.push(word(value, file, least))?;
+    }
+    Ok(found)
+}
+
+// A property that an object provides: its number and its words.
+fn provided(
+    written: &Property<'_>,
+    alloc: Global,
+    file: &File,
+    least: &mut Option<Breach>,
+) -> Result<(u8, Vec<u16>), AllocError>
+    ensures value { IfOk result (λ x. property_of x
+        ≡ spec.provided_of (file_in file.now) (property_tree written.now)) }
+    ensures breaches { OnOk result (least.new ≡ noted least.old
+        (spec.provided_breaches file.now.table.entries (property_tree written.now))) }
+{
+    let name = written.name;
+    let number = property(name, find(&file.table, name.text), least);
+    count_rule(name, &written.values, least);
+    let words = words(&written.values, alloc, file, least)?;
+    Ok(((number % 256) as u8, words))
+}
+
+// Where a property of a number stands among those whose numbers descend.
+#[tactic(auto, using(crate::proofs::ObjectLists::place_here, crate::proofs::ObjectLists::place_next, crate::proofs::ObjectLists::place_end))]
+fn place_below(number: u8, found: &[(u8, Vec<u16>)]) -> usize
+    ensures place { result ≡ spec.place_below number (map property_of found.now) }
+    ensures inside { result ≤ length found.now }
+{
+    for i in 0..found.len() {
+        if found[i].0 < number {
+            return i;
+        }
+    }
+    found.len()
+}
+
+#[tactic(auto, using(crate::proofs::ObjectLists::inserted_mapped))]
+fn add_property(added: (u8, Vec<u16>), found: &mut Vec<(u8, Vec<u16>)>) -> Result<(), AllocError>
+    ensures { OnOk result (map property_of found.new.items
+        ≡ spec.with_property (property_of added) (map property_of found.old.items)) }
+{
+    let place = place_below(added.0, found);
+    found.insert(place, added)?;
+    Ok(())
+}
+
+fn properties(
+    written: &[Property<'_>],
+    alloc: Global,
+    file: &File,
+    least: &mut Option<Breach>,
+) -> Result<Vec<(u8, Vec<u16>)>, AllocError>
+    ensures value { IfOk result (λ v. map property_of v.items
+        ≡ spec.with_properties (file_in file.now) [] (map property_tree written.now)) }
+    ensures breaches { OnOk result (least.new ≡ noted least.old
+        (flat_map (spec.provided_breaches file.now.table.entries)
+        (map property_tree written.now))) }
+{
+    let mut found = Vec::new(alloc);
+    for one in written {
+        let added = provided(one, alloc, file, least)?;
+        add_property(added, &mut found)?;
+    }
+    Ok(found)
+}
+
+// Notes what is wrong in the properties that an object lists, and keeps none of them.
+fn note_provided(
+    written: &[Property<'_>],
+    alloc: Global,
+    file: &File,
+    least: &mut Option<Breach>,
+) -> Result<(), AllocError>
+    ensures { OnOk result (least.new ≡ noted least.old
+        (flat_map (spec.provided_breaches file.now.table.entries)
+        (map property_tree written.now))) }
+{
+    for one in written {
+        drop(provided(one, alloc, file, least)?);
+    }
+    Ok(())
+}
+
+// The properties that an object provides, of those that it lists. There may be any number of these,
+// so each that is put in its place has few before it.
+fn provided_of_listed(
+    written: &[Property<'_>],
+    alloc: Global,
+    file: &File,
+    least: &mut Option<Breach>,
+) -> Result<Vec<(u8, Vec<u16>)>, AllocError>
+    ensures value { IfOk result (λ v. map property_of v.items
+        ≡ spec.with_properties (file_in file.now) []
+        (take spec.most_provided (map property_tree written.now))) }
+    ensures breaches { OnOk result (least.new ≡ noted least.old
+        (flat_map (spec.provided_breaches file.now.table.entries)
+        (map property_tree written.now))) }
+{
+    let count = DEFAULT_COUNT.min(written.len());
+    let found = properties(&written[..count], alloc, file, least)?;
+    note_provided(&written[count..], alloc, file, least)?;
+    Ok(found)
+}
+
+fn given(name: Name<'_>, file: &File, least: &mut Option<Breach>) -> u8
+    ensures value { result ≡ spec.given_of (file_in file.now) (name_tree name.entry) }
+    ensures breaches { least.new ≡ noted least.old
+        (spec.given_breaches file.now.table.entries (name_tree name.entry)) }
+{
+    (attribute(name, find(&file.table, name.text), least) % 256) as u8
+}
+
+fn attributes(
+    names: &[Name<'_>],
+    alloc: Global,
+    file: &File,
+    least: &mut Option<Breach>,
+) -> Result<Vec<u8>, AllocError>
+    ensures value { IfOk result (λ v. v.items
+        ≡ map (spec.given_of (file_in file.now)) (map name_tree names.now)) }
+    ensures breaches { OnOk result (least.new ≡ noted least.old
+        (flat_map (spec.given_breaches file.now.table.entries) (map name_tree names.now))) }
+{
+    let mut found = Vec::new(alloc);
+    for name in names {
+        found.push(given(*name, file, least))?;
+    }
+    Ok(found)
+}
+
+fn names_of<'a>(written: &[Property<'a>], alloc: Global) -> Result<Vec<Name<'a>>, AllocError>
+    ensures { IfOk result (λ v. map name_tree v.items
+        ≡ map spec.property_name (map property_tree written.now)) }
+{
+    let mut names = Vec::new(alloc);
+    for one in written {
+        names.push(one.name)?;
+    }
+    Ok(names)
+}
+
+// Two of one name.
+fn repeated(names: &[Name<'_>], alloc: Global, least: &mut Option<Breach>) -> Result<(), AllocError>
+    ensures { OnOk result (least.new ≡ noted least.old
+        (repeated_breaches [] (map name_tree names.now))) }
+{
+    let mut table = IndexMap::new(alloc);
+    for number in 0..names.len() {
+        let name = names[number];
+        twice(name, &table, least);
+        define(name, &mut table, Binding::Local(number))?;
+    }
+    Ok(())
+}
+
+fn short_name<'a>(short: &Option<Text<'a>>) -> &'a [u8]
+    ensures { result.now ≡ spec.short_name (option_map text_tree short.now) }
+{
+    match short {
+        None => &[],
+        Some(text) => text.bytes,
+    }
+}
+
+/// An object, still without its parent; notes the rules that its definition breaks.
+///
+/// # Errors
+///
+/// `AllocError` where memory is refused.
+pub fn object<'a>(
+    written: &Object<'a>,
+    alloc: Global,
+    file: &File,
+    least: &mut Option<Breach>,
+) -> Result<CheckedObject<'a>, AllocError>
+    ensures value { IfOk result (λ o. object_of o
+        ≡ spec.object_in (file_in file.now) (object_tree written.now)) }
+    ensures breaches { OnOk result (least.new ≡ noted least.old
+        (spec.object_breaches file.now.table.entries (object_tree written.now))) }
+{
+    short_rule(&written.short, least);
+    let names = names_of(&written.properties, alloc)?;
+    repeated(&names, alloc, least)?;
+    let properties = provided_of_listed(&written.properties, alloc, file, least)?;
+    let attributes = attributes(&written.attributes, alloc, file, least)?;
+    Ok(CheckedObject {
+        parent: 0,
+        name: short_name(&written.short),
+        attributes,
+        properties,
+    })
+}

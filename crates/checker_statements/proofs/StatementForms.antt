@@ -1,0 +1,142 @@
+-- Lists of statements, cases and their parts: what they break and what they resolve to, part by part.
+use Rattle.std.proofs.Common.{◌≡◌, List, [], ◌∷◌, ◌++◌, append_assoc, Option, Some, None, refl, sym, ap, ◌∙◌, subst}
+use Rattle.std.specs.Prelude.{map}
+use Rattle.std.specs.Global.{Vec}
+use Rattle.std.specs.List.{flat_map}
+use Rattle.syntax_lexer.specs.declared.token.Position.{Position}
+use Rattle.syntax_trees.specs.Tree.{ExpressionTree}
+use Rattle.syntax_statement_parts.specs.declared.tree.Range.{Range}
+use Rattle.syntax_statement_parts.specs.Tree.{range_tree}
+use Rattle.syntax_statements.specs.declared.tree.Statement.{Statement}
+use Rattle.syntax_statements.specs.Tree.{StatementTree, statement_tree, case_tree}
+use Rattle.syntax_statements.specs.Tree as written
+use Rattle.meaning.proofs.Mapped.{mapped_twice}
+use Rattle.meaning.specs.declared.around.Around.{Around}
+use Rattle.meaning.specs.Resolved as values
+use Rattle.meaning.specs.declared.resolved.Action as code_action
+use Rattle.meaning.specs.declared.resolved.Span.{Span}
+use Rattle.meaning.specs.Resolved.{Value, RangeOf, Action, Actions, range_of, actions_of, action_of, case_of}
+use Rattle.meaning.specs.Around.{in_switch}
+use Rattle.checker_names.specs.declared.breach.Breach.{Breach}
+use Rattle.checker_names.specs.Noted.{noted}
+use Rattle.checker_names.specs.Names.{Seen}
+use Rattle.checker_values.specs.Walk.{IsWalked}
+use Rattle.checker_values.proofs.Walks.{two}
+use Rattle.checker_statements.specs.Statements.{range_breaches, resolve_range, statements_breaches, cases_breaches}
+use Rattle.checker_statements.specs.Statements.{resolve_statement, resolve_statements, resolve_cases}
+use Rattle.checker_statements.specs.Walk.{own_range_breaches, resolved_range, IsWhole, IsAction, AreRanges}
+use Rattle.checker_statements.specs.StatementWalk.{AreActions, own_statement_breaches, resolved_statement, IsCase}
+use Rattle.checker_statements.specs.StatementWalk.{AreCases, IsOther, own_case_breaches, resolved_case, other_breaches}
+use Rattle.checker_statements.specs.StatementWalk.{resolved_other}
+
+module _ (seen : Seen) where
+  pub statements_break : (around : Around) (ss : List Statement)
+      → statements_breaches seen.look around (written.trees_of (map statement_tree ss))
+      ≡ flat_map (own_statement_breaches seen around) ss
+  statements_break around [] = refl
+  statements_break around (s ∷ ss) = ap (λ b. own_statement_breaches seen around s ++ b) (statements_break around ss)
+
+  pub statements_resolve : (ss : List Statement)
+      → resolve_statements seen (written.trees_of (map statement_tree ss))
+      ≡ actions_of (map (resolved_statement seen) ss)
+  statements_resolve [] = refl
+  statements_resolve (s ∷ ss) = ap (λ r. values.next (resolved_statement seen s) r) (statements_resolve ss)
+
+  pub statements_walked : (around : Around) (ss : List Statement) (found : List Action) {m n : Option Breach}
+      → AreActions seen around ss m n found
+      → IsWalked (statements_breaches seen.look around (written.trees_of (map statement_tree ss))) m n
+      (actions_of found)
+      (resolve_statements seen (written.trees_of (map statement_tree ss)))
+  statements_walked around ss found {m = m} w = record {
+    value = ap actions_of w.value ∙ sym (statements_resolve ss);
+    breaches = w.breaches ∙ ap (λ b. noted m b) (sym (statements_break around ss));
+  }
+
+  -- Ranges and cases
+
+  ranges_break : (gs : List Range) → flat_map (range_breaches seen.look) (map range_tree gs)
+      ≡ flat_map (own_range_breaches seen) gs
+  ranges_break [] = refl
+  ranges_break (g ∷ gs) = ap (λ b. own_range_breaches seen g ++ b) (ranges_break gs)
+
+  ranges_walked : (gs : List Range) (found : List RangeOf) {m n : Option Breach} → AreRanges seen gs m n found
+      → IsWalked (flat_map (range_breaches seen.look) (map range_tree gs)) m n found
+      (map (resolve_range seen) (map range_tree gs))
+  ranges_walked gs found {m = m} w = record {
+    value = w.value ∙ sym (mapped_twice range_tree (resolve_range seen) (resolved_range seen) (λ g. refl) gs);
+    breaches = w.breaches ∙ ap (λ b. noted m b) (sym (ranges_break gs));
+  }
+
+  pub case_walked : (around : Around) (given : Vec Range × Vec Statement) (spans : Vec Span)
+      (body : Vec code_action.Action) (gs : List Range) (ss : List Statement) {m n o : Option Breach}
+      → gs ≡ given.0.items → ss ≡ given.1.items → AreRanges seen gs m n (map range_of spans.items)
+      → AreActions seen around ss n o (map action_of body.items)
+      → IsCase seen around given m o (case_of (spans, body))
+  unfolding case_tree case_of
+  case_walked around given spans body gs ss {m = m} {n = n} {o = o} g s w z =
+      let ranges = subst (λ (xs : List Range). AreRanges seen xs m n (map range_of spans.items)) g w in
+      let actions = subst (λ (xs : List Statement). AreActions seen around xs n o (map action_of body.items)) s z in
+      two (λ (rs : List RangeOf) (xs : Actions). (rs, xs))
+      (ranges_walked given.0.items (map range_of spans.items) ranges)
+      (statements_walked around given.1.items (map action_of body.items) actions)
+
+  pub other_walked : (around : Around) (ss all : List Statement) (found : List Action) {m n : Option Breach}
+      → ss ≡ all → AreActions seen around ss m n found
+      → IsOther seen around (Some (map statement_tree all)) m n (Some found)
+  other_walked around ss all found {m = m} same w = rw (sym same) (record {
+    value = ap Some (w.value
+        ∙ sym (mapped_twice statement_tree (resolve_statement seen) (resolved_statement seen) (λ s. refl) ss));
+    breaches = w.breaches ∙ ap (λ b. noted m b) (sym (statements_break around ss));
+  })
+
+  cases_break : (around : Around) (cs : List (Vec Range × Vec Statement)) (other : Option (List StatementTree))
+      → cases_breaches seen.look around (written.cases_of (map case_tree cs) other)
+      ≡ flat_map (own_case_breaches seen around) cs ++ other_breaches seen around other
+  cases_break around [] None = refl
+  cases_break around [] (Some xs) = refl
+  cases_break around (c ∷ cs) other =
+      let ranges = flat_map (range_breaches seen.look) (case_tree c).0 in
+      let body = statements_breaches seen.look around (case_tree c).1 in
+      let rest = flat_map (own_case_breaches seen around) cs in
+      let last = other_breaches seen around other in
+      ap (λ b. ranges ++ (body ++ b)) (cases_break around cs other) ∙ sym (append_assoc ranges body (rest ++ last))
+      ∙ sym (append_assoc (ranges ++ body) rest last)
+
+  trees_resolve : (xs : List StatementTree)
+      → resolve_statements seen (written.trees_of xs) ≡ actions_of (map (resolve_statement seen) xs)
+  trees_resolve [] = refl
+  trees_resolve (x ∷ xs) = ap (λ r. values.next (resolve_statement seen x) r) (trees_resolve xs)
+
+  cases_resolve : (cs : List (Vec Range × Vec Statement)) (other : Option (List StatementTree))
+      → resolve_cases seen (written.cases_of (map case_tree cs) other)
+      ≡ values.cases_of (map (resolved_case seen) cs) (resolved_other seen other)
+  cases_resolve [] None = refl
+  cases_resolve [] (Some xs) = ap values.default_case (trees_resolve xs)
+  cases_resolve (c ∷ cs) other = ap
+      (λ r. values.case (map (resolve_range seen) (case_tree c).0) (resolve_statements seen (case_tree c).1) r)
+      (cases_resolve cs other)
+
+  cases_walked : (around : Around) (cs : List (Vec Range × Vec Statement)) (other : Option (List StatementTree))
+      (found : List (List RangeOf × Actions)) (last : Option (List Action)) {m n o : Option Breach}
+      → AreCases seen around cs m n found → IsOther seen around other n o last
+      → IsWalked (cases_breaches seen.look around (written.cases_of (map case_tree cs) other)) m o
+      (values.cases_of found last) (resolve_cases seen (written.cases_of (map case_tree cs) other))
+  cases_walked around cs other found last {m = m} w z =
+      let both = two values.cases_of w z in
+      record {
+        value = both.value ∙ sym (cases_resolve cs other);
+        breaches = both.breaches ∙ ap (λ b. noted m b) (sym (cases_break around cs other));
+      }
+
+  pub switch_walked : (around inside : Around) (p : Position) (e : ExpressionTree) (v : Value)
+      (cs : List (Vec Range × Vec Statement)) (other : Option (List StatementTree))
+      (found : List (List RangeOf × Actions)) (last : Option (List Action)) {m n o q : Option Breach}
+      → inside ≡ in_switch around → IsWhole seen p e m n v → AreCases seen inside cs n o found
+      → IsOther seen inside other o q last
+      → IsAction seen around (written.switch_on p e (written.cases_of (map case_tree cs) other)) m q
+      (values.switch_on v (values.cases_of found last))
+  switch_walked around inside p e v cs other found last {n = n} {q = q} is w x y =
+      let tree = written.cases_of (map case_tree cs) other in
+      two values.switch_on w
+      (subst (λ (a : Around). IsWalked (cases_breaches seen.look a tree) n q (values.cases_of found last)
+      (resolve_cases seen tree)) is (cases_walked inside cs other found last x y))

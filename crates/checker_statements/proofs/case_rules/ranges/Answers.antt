@@ -1,0 +1,30 @@
+use Rattle.std.proofs.Common.{sym, ◌∙◌}
+use Rattle.syntax_statement_parts.specs.declared.tree.Range.{Range}
+use Rattle.meaning.specs.Resolved.{range_of}
+use Rattle.checker_names.specs.Scope.{seen_in}
+use Rattle.checker_names.proofs.Each.{each_there, each_end, value_there, value_end}
+use Rattle.checker_statements.specs.Walk.{own_range_breaches, resolved_range}
+use Rattle.checker_statements.proofs.case_rules.ranges.Goals as goal
+
+pub loop-x-preserved : goal.loop-x-preserved
+loop-x-preserved c =
+    let f = λ (x : Range). own_range_breaches (seen_in c.args.scope.now) x in
+    let g = λ (x : Range). resolved_range (seen_in c.args.scope.now) x in
+    record {
+      value = rw c.in_ok-push.ensures.items
+          (value_there f g range_of c.loop-x.found.items c.range-resolved.result c.args.given.now c.loop-x.x-index _
+          c.loop-x-test.true c.loop-x.invariant.value c.range-resolved.ensures.value);
+      least = each_there f g range_of c.loop-x.least _ c.args.given.now c.loop-x.x-index _ c.loop-x-test.true
+          c.range-resolved.ensures.breaches ∙ c.loop-x.invariant.least;
+    }
+
+pub returns : goal.returns
+returns c =
+    let f = λ (x : Range). own_range_breaches (seen_in c.args.scope.now) x in
+    let g = λ (x : Range). resolved_range (seen_in c.args.scope.now) x in
+    record {
+      value = c.loop-x.invariant.value ∙ value_end f g range_of c.args.given.now c.loop-x.x-index
+          c.loop-x-test.false;
+      breaches = sym (each_end f g range_of c.loop-x.least c.args.given.now c.loop-x.x-index c.loop-x-test.false)
+          ∙ c.loop-x.invariant.least;
+    }

@@ -1,0 +1,15 @@
+use Rattle.std.proofs.Common.{◌≡◌, take, drop}
+use Rattle.std.specs.Prelude.{map}
+use Rattle.std.specs.List.{flat_map}
+use Rattle.checker_names.specs.Noted.{noted}
+use Rattle.checker_names.specs.Scope.{seen_in}
+use Rattle.meaning.specs.Resolved.{range_of}
+use Rattle.checker_statements.specs.Walk.{resolved_range, own_range_breaches}
+use Rattle.checker_statements.proofs.case_rules.ranges.Given as goal
+
+abbrev pub invariant-loop-x : goal.invariant-loop-x
+invariant-loop-x l = record {
+  value : map range_of l.found.items ≡ map (resolved_range (seen_in l.scope)) (take l.x-index l.given);
+  least : noted l.least (flat_map (own_range_breaches (seen_in l.scope)) (drop l.x-index l.given))
+      ≡ noted l.fn.least (flat_map (own_range_breaches (seen_in l.scope)) l.given);
+}

@@ -1,0 +1,10 @@
+use Rattle.std.proofs.Common.{Option}
+use Rattle.meaning.specs.Resolved.{Value}
+use Rattle.checker_values.proofs.Walks.{three}
+use Rattle.checker_statements.proofs.heading_rules.parts.Goals as goal
+
+abbrev together : Option Value → Option Value → Option Value → Option Value × Option Value × Option Value
+together a b c = (a, b, c)
+
+pub returns : goal.returns
+returns c = three together c.in-Ok.ensures c.in-Ok-part.ensures c.in-Ok-part-2.ensures

@@ -1,0 +1,6 @@
+use Rattle.meaning.specs.Resolved.{boxed_value}
+use Rattle.checker_values.proofs.Walks.{before}
+use Rattle.checker_statements.proofs.simple_rules.boxed_whole.Goals as goal
+
+pub returns : goal.returns
+returns c = before boxed_value c.boxed.result _ _ _ _ _ _ c.temporaries.ensures c.boxed.ensures

@@ -1,0 +1,31 @@
+use Rattle.std.proofs.Common.{sym, ◌∙◌}
+use Rattle.syntax_statement_parts.specs.declared.tree.PrintItem.{PrintItem}
+use Rattle.meaning.specs.Resolved.{printed_of}
+use Rattle.checker_names.specs.Scope.{seen_in}
+use Rattle.checker_names.proofs.Each.{each_next, each_end, value_next, value_end}
+use Rattle.checker_statements.specs.Walk.{own_item_breaches, resolved_item}
+use Rattle.checker_statements.proofs.simple_rules.items.Goals as goal
+
+pub loop-x-preserved : goal.loop-x-preserved
+loop-x-preserved c =
+    let f = λ (x : PrintItem). own_item_breaches (seen_in c.args.scope.now) x in
+    let g = λ (x : PrintItem). resolved_item (seen_in c.args.scope.now) x in
+    record {
+      value = rw c.in_ok-push.ensures.items
+          (value_next f g printed_of c.loop-x.found.items c.in-Ok.resolved c.args.printed.now c.loop-x.x-index
+          c.x-item.result c.loop-x-test.true c.x-item.is c.loop-x.invariant.value c.in-Ok.ensures.value);
+      least = rw c.in-Ok.ensures.breaches
+          (sym (each_next f g printed_of c.loop-x.least c.args.printed.now c.loop-x.x-index c.x-item.result
+          c.loop-x-test.true c.x-item.is) ∙ c.loop-x.invariant.least);
+    }
+
+pub returns : goal.returns
+returns c =
+    let f = λ (x : PrintItem). own_item_breaches (seen_in c.args.scope.now) x in
+    let g = λ (x : PrintItem). resolved_item (seen_in c.args.scope.now) x in
+    record {
+      value = c.loop-x.invariant.value ∙ value_end f g printed_of c.args.printed.now c.loop-x.x-index
+          c.loop-x-test.false;
+      breaches = sym (each_end f g printed_of c.loop-x.least c.args.printed.now c.loop-x.x-index c.loop-x-test.false)
+          ∙ c.loop-x.invariant.least;
+    }

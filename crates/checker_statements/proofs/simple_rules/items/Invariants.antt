@@ -1,0 +1,15 @@
+use Rattle.std.proofs.Common.{◌≡◌, take, drop}
+use Rattle.std.specs.Prelude.{map}
+use Rattle.std.specs.List.{flat_map}
+use Rattle.checker_names.specs.Noted.{noted}
+use Rattle.checker_names.specs.Scope.{seen_in}
+use Rattle.meaning.specs.Resolved.{printed_of}
+use Rattle.checker_statements.specs.Walk.{resolved_item, own_item_breaches}
+use Rattle.checker_statements.proofs.simple_rules.items.Given as goal
+
+abbrev pub invariant-loop-x : goal.invariant-loop-x
+invariant-loop-x l = record {
+  value : map printed_of l.found.items ≡ map (resolved_item (seen_in l.scope)) (take l.x-index l.printed);
+  least : noted l.least (flat_map (own_item_breaches (seen_in l.scope)) (drop l.x-index l.printed))
+      ≡ noted l.fn.least (flat_map (own_item_breaches (seen_in l.scope)) l.printed);
+}

@@ -1,0 +1,13 @@
+use Rattle.std.specs.Prelude.{map}
+use Rattle.meaning.specs.Resolved as values
+use Rattle.meaning.specs.Resolved.{printed_of}
+use Rattle.checker_names.specs.Scope.{seen_in}
+use Rattle.checker_values.proofs.Walks.{one}
+use Rattle.checker_statements.proofs.MadeActions.{made_print}
+use Rattle.checker_statements.proofs.Forms.{items_walked}
+use Rattle.checker_statements.proofs.simple_rules.print.Goals as goal
+
+pub returns : goal.returns
+returns c around = rw (made_print c.in-Ok.found)
+    (one values.print
+    (items_walked (seen_in c.args.scope.now) c.args.printed.now (map printed_of c.in-Ok.found.items) c.in-Ok.ensures))

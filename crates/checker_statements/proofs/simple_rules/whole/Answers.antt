@@ -1,0 +1,6 @@
+use Rattle.meaning.specs.Resolved.{value_of}
+use Rattle.checker_values.proofs.Walks.{before}
+use Rattle.checker_statements.proofs.simple_rules.whole.Goals as goal
+
+pub returns : goal.returns
+returns c = before value_of c.expression.result _ _ _ _ _ _ c.temporaries.ensures c.expression.ensures

@@ -1,0 +1,212 @@
+use Rattle.std.proofs.Common.{◌≡◌, Option, None, sym, ap, ◌∙◌}
+use Rattle.std.specs.Global.{Vec}
+use Rattle.std.specs.Prelude.{map}
+use Rattle.syntax_trees.specs.Tree.{name_tree, expression_tree}
+use Rattle.syntax_statement_parts.specs.declared.tree.Range.{Range}
+use Rattle.syntax_statement_parts.specs.Tree.{loop_tree, over_in, over_where}
+use Rattle.syntax_statements.specs.declared.tree.Statement.{Statement}
+use Rattle.syntax_statements.specs.Tree.{other_tree}
+use Rattle.meaning.specs.Resolved as values
+use Rattle.meaning.specs.Resolved.{Value, Action, boxed_value, action_of, case_of, other_of}
+use Rattle.checker_names.specs.Scope.{seen_in}
+use Rattle.checker_names.proofs.Each.{each_next, each_end, value_next, value_end}
+use Rattle.checker_values.specs.Expressions.{variable_of_binding}
+use Rattle.checker_values.proofs.Walks.{leaf, named_part, one, two, three}
+use Rattle.checker_statements.specs.Statements.{loop_breaches}
+use Rattle.checker_statements.specs.StatementWalk.{resolved_statement, own_statement_breaches, resolved_case}
+use Rattle.checker_statements.specs.StatementWalk.{own_case_breaches}
+use Rattle.checker_statements.proofs.Shapes.{is_simple_statement, is_block_statement, is_if_statement}
+use Rattle.checker_statements.proofs.Shapes.{is_if_else_statement, is_while_statement, is_do_statement}
+use Rattle.checker_statements.proofs.Shapes.{is_for_statement, is_objectloop_statement, is_switch_statement}
+use Rattle.checker_statements.proofs.Shapes.{is_empty_statement}
+use Rattle.checker_statements.proofs.MadeStatements.{made_block, made_if_then, made_if_else, made_while_do, made_do}
+use Rattle.checker_statements.proofs.MadeStatements.{made_for, made_empty, made_switch, made_each_object, made_each_in}
+use Rattle.checker_statements.proofs.MadeStatements.{made_each_where}
+use Rattle.checker_statements.proofs.StatementForms.{statements_walked, case_walked, other_walked, switch_walked}
+use Rattle.checker_statements.proofs.statement_rules.+statement.Goals as goal
+
+abbrev pair : Action → Action → Action × Action
+pair a b = (a, b)
+
+pub sequence-loop-s-preserved : goal.sequence-loop-s-preserved
+sequence-loop-s-preserved t c =
+    let f = λ (x : Statement). own_statement_breaches (seen_in c.args.scope.now) c.args.around x in
+    let g = λ (x : Statement). resolved_statement (seen_in c.args.scope.now) x in
+    record {
+      value = rw c.in_ok-push.ensures.items
+          (value_next f g action_of c.loop-s.found.items c.in-Ok.resolved c.args.all.now c.loop-s.s-index
+          c.s-item.result c.loop-s-test.true c.s-item.is c.loop-s.invariant.value c.in-Ok.ensures.value);
+      least = rw c.in-Ok.ensures.breaches
+          (sym (each_next f g action_of c.loop-s.least c.args.all.now c.loop-s.s-index c.s-item.result
+          c.loop-s-test.true c.s-item.is) ∙ c.loop-s.invariant.least);
+    }
+
+pub sequence-returns : goal.sequence-returns
+sequence-returns t c =
+    let f = λ (x : Statement). own_statement_breaches (seen_in c.args.scope.now) c.args.around x in
+    let g = λ (x : Statement). resolved_statement (seen_in c.args.scope.now) x in
+    record {
+      value = c.loop-s.invariant.value ∙ value_end f g action_of c.args.all.now c.loop-s.s-index c.loop-s-test.false;
+      breaches = sym (each_end f g action_of c.loop-s.least c.args.all.now c.loop-s.s-index c.loop-s-test.false)
+          ∙ c.loop-s.invariant.least;
+    }
+
+pub block-returns : goal.block-returns
+block-returns t c =
+    rw (made_block c.in-Ok.found)
+    (one values.block
+    (statements_walked (seen_in c.args.scope.now) c.args.around c.args.all.now (map action_of c.in-Ok.found.items)
+    c.in-Ok.ensures))
+
+pub if_then-returns : goal.if_then-returns
+if_then-returns t c = rw (made_if_then c.in-Ok.condition c.in-Ok-boxed.body)
+    (two values.if_then c.in-Ok.ensures c.in-Ok-boxed.ensures)
+
+pub while_do-returns : goal.while_do-returns
+while_do-returns t c around = rw (made_while_do c.in-Ok.condition c.in-Ok-boxed.body)
+    (two values.while_do c.in-Ok.ensures c.in-Ok-boxed.ensures)
+
+pub if_else-returns : goal.if_else-returns
+if_else-returns t c =
+    rw (made_if_else c.in-Ok.condition c.in-Ok-boxed.first c.in-Ok-boxed-2.otherwise)
+    (two (λ v (ab : Action × Action). values.if_else v ab.0 ab.1) c.in-Ok.ensures
+    (two pair c.in-Ok-boxed.ensures c.in-Ok-boxed-2.ensures))
+
+pub do_until-returns : goal.do_until-returns
+do_until-returns t c around = rw (made_do c.in-Ok.body c.in-Ok-whole.condition)
+    (two values.do_until c.in-Ok.ensures c.in-Ok-whole.ensures)
+
+pub for_loop-returns : goal.for_loop-returns
+for_loop-returns t c around = rw (made_for c.in-Ok.before c.in-Ok.test c.in-Ok.behind c.in-Ok-boxed.body)
+    (two (λ (h : Option Value × Option Value × Option Value) (x : Action). values.for_loop h.0 h.1 h.2 x)
+    c.in-Ok.ensures c.in-Ok-boxed.ensures)
+
+pub one_case-returns : goal.one_case-returns
+one_case-returns t c = case_walked (seen_in c.args.scope.now) c.args.around c.args.given.now c.in-Ok.spans
+    c.in-Ok-sequence.body c.deref.result.now c.deref-2.result.now c.deref.ensures.value c.deref-2.ensures.value
+    c.in-Ok.ensures c.in-Ok-sequence.ensures
+
+pub all_cases-loop-c-preserved : goal.all_cases-loop-c-preserved
+all_cases-loop-c-preserved t c =
+    let f = λ (x : Vec Range × Vec Statement). own_case_breaches (seen_in c.args.scope.now) c.args.around x in
+    let g = λ (x : Vec Range × Vec Statement). resolved_case (seen_in c.args.scope.now) x in
+    record {
+      value = rw c.in_ok-push.ensures.items
+          (value_next f g case_of c.loop-c.found.items c.in-Ok.resolved c.args.given.now c.loop-c.c-index
+          c.c-item.result c.loop-c-test.true c.c-item.is c.loop-c.invariant.value c.in-Ok.ensures.value);
+      least = rw c.in-Ok.ensures.breaches
+          (sym (each_next f g case_of c.loop-c.least c.args.given.now c.loop-c.c-index c.c-item.result
+          c.loop-c-test.true c.c-item.is) ∙ c.loop-c.invariant.least);
+    }
+
+pub all_cases-returns : goal.all_cases-returns
+all_cases-returns t c =
+    let f = λ (x : Vec Range × Vec Statement). own_case_breaches (seen_in c.args.scope.now) c.args.around x in
+    let g = λ (x : Vec Range × Vec Statement). resolved_case (seen_in c.args.scope.now) x in
+    record {
+      value = c.loop-c.invariant.value ∙ value_end f g case_of c.args.given.now c.loop-c.c-index c.loop-c-test.false;
+      breaches = sym (each_end f g case_of c.loop-c.least c.args.given.now c.loop-c.c-index c.loop-c-test.false)
+          ∙ c.loop-c.invariant.least;
+    }
+
+pub otherwise-returns-in-None : goal.otherwise-returns-in-None
+otherwise-returns-in-None t c = rw c.in-None.is (leaf c.args.least.now None)
+
+pub otherwise-returns-in-Ok : goal.otherwise-returns-in-Ok
+otherwise-returns-in-Ok t c = rw c.in-Some.is
+    (other_walked (seen_in c.args.scope.now) c.args.around c.deref.result.now c.in-Some.all.items
+    (map action_of c.in-Ok.found.items) c.deref.ensures.value c.in-Ok.ensures)
+
+pub switch_on-returns : goal.switch_on-returns
+switch_on-returns t c around is = rw (made_switch c.in-Ok.value c.in-Ok-all_cases.cases c.in-Ok-otherwise.other)
+    (switch_walked (seen_in c.args.scope.now) around c.args.inside c.args.position (expression_tree c.args.value.now)
+    (boxed_value c.in-Ok.value) c.args.cases.now (other_tree c.args.other.now)
+    (map case_of c.in-Ok-all_cases.cases.items) (other_of c.in-Ok-otherwise.other) is c.in-Ok.ensures
+    c.in-Ok-all_cases.ensures c.in-Ok-otherwise.ensures)
+
+pub each-returns : goal.each-returns
+each-returns t c around = rw (made_each_object c.loop_variable-variable.result c.in-Ok.body)
+    (two values.each_object
+    (named_part variable_of_binding (loop_breaches c.args.name.position) c.look.result _ c.loop_variable-variable.result
+    c.look.ensures c.loop_variable-variable.ensures.value c.loop_variable-variable.ensures.breaches)
+    c.in-Ok.ensures)
+
+pub each_in-returns : goal.each_in-returns
+each_in-returns t c around = rw (made_each_in c.loop_variable-variable.result c.in-Ok.parent c.in-Ok-boxed.body)
+    (three values.each_in
+    (named_part variable_of_binding (loop_breaches c.args.name.position) c.look.result _ c.loop_variable-variable.result
+    c.look.ensures c.loop_variable-variable.ensures.value c.loop_variable-variable.ensures.breaches)
+    c.in-Ok.ensures c.in-Ok-boxed.ensures)
+
+pub each_where-returns : goal.each_where-returns
+each_where-returns t c around =
+    rw (made_each_where c.loop_variable-variable.result c.in-Ok.condition c.in-Ok-boxed.body)
+    (three values.each_where
+    (named_part variable_of_binding (loop_breaches c.args.name.position) c.look.result _ c.loop_variable-variable.result
+    c.look.ensures c.loop_variable-variable.ensures.value c.loop_variable-variable.ensures.breaches)
+    c.in-Ok.ensures c.in-Ok-boxed.ensures)
+
+pub statement-returns-in-Do : goal.statement-returns-in-Do
+statement-returns-in-Do t c = let v = c.in-Do in
+    rw (is_do_statement c.args.s.now v.position v.body v.condition v.is, ← c.deref-in-Do.ensures)
+    (c.do_until.ensures c.args.around)
+
+pub statement-returns-in-For : goal.statement-returns-in-For
+statement-returns-in-For t c = let v = c.in-For in
+    rw (is_for_statement c.args.s.now v.position v.parts v.body v.is, ← c.deref-in-For.ensures)
+    (c.for_loop.ensures c.args.around)
+
+pub statement-returns-in-Switch : goal.statement-returns-in-Switch
+statement-returns-in-Switch t c = let v = c.in-Switch in
+    rw (
+      is_switch_statement c.args.s.now v.position v.value v.cases v.other v.is,
+      ← c.deref-in-Switch.ensures.value,
+      ← c.deref-in-Switch-2.ensures,
+    )
+    (c.switch_on.ensures c.args.around c.in_switch.ensures)
+
+pub statement-returns-in-Block : goal.statement-returns-in-Block
+statement-returns-in-Block t c = let v = c.in-Block in
+    rw (is_block_statement c.args.s.now v.all v.is, ← c.deref-in-Block.ensures.value) c.block.ensures
+
+pub statement-returns-in-If : goal.statement-returns-in-If
+statement-returns-in-If t c = let v = c.in-If in
+    rw (is_if_statement c.args.s.now v.position v.condition v.then v.is, ← c.deref-in-If.ensures) c.if_then.ensures
+
+pub statement-returns-in-IfElse : goal.statement-returns-in-IfElse
+statement-returns-in-IfElse t c = let v = c.in-IfElse in
+    rw (is_if_else_statement c.args.s.now v.position v.condition v.then v.otherwise v.is, ← c.deref-in-IfElse.ensures)
+    c.if_else.ensures
+
+pub statement-returns-in-While : goal.statement-returns-in-While
+statement-returns-in-While t c = let v = c.in-While in
+    rw (is_while_statement c.args.s.now v.position v.condition v.body v.is, ← c.deref-in-While.ensures)
+    (c.while_do.ensures c.args.around)
+
+pub statement-returns-in-Empty : goal.statement-returns-in-Empty
+statement-returns-in-Empty t c = rw (is_empty_statement c.args.s.now c.in-Empty.is, made_empty)
+    (leaf c.args.least.now values.empty)
+
+pub statement-returns-in-Simple : goal.statement-returns-in-Simple
+statement-returns-in-Simple t c = rw
+    (is_simple_statement c.args.s.now c.in-Simple.plain c.in-Simple.is, ← c.deref.ensures) c.simple.ensures
+
+pub statement-returns-in-Objectloop : goal.statement-returns-in-Objectloop
+statement-returns-in-Objectloop t c = let v = c.in-Objectloop in
+    rw (is_objectloop_statement c.args.s.now v.position v.over v.body v.is, ← c.deref-in-Objectloop.ensures)
+    (c.traversal.ensures c.args.around)
+
+pub traversal-returns-in-All : goal.traversal-returns-in-All
+traversal-returns-in-All t c around = rw c.in-All.is (c.each.ensures around)
+
+pub traversal-returns-in-In : goal.traversal-returns-in-In
+traversal-returns-in-In t c around = let v = c.in-In in
+    let is : loop_tree c.args.over.now ≡ over_in (name_tree v.name) (expression_tree v.parent.value)
+    = ap loop_tree v.is in
+    rw (is, ← c.deref.ensures) (c.each_in.ensures around)
+
+pub traversal-returns-in-Where : goal.traversal-returns-in-Where
+traversal-returns-in-Where t c around = let v = c.in-Where in
+    let is : loop_tree c.args.over.now ≡ over_where (name_tree v.name) (expression_tree v.condition.value)
+    = ap loop_tree v.is in
+    rw (is, ← c.deref-in-Where.ensures) (c.each_where.ensures around)

@@ -1,0 +1,76 @@
+use Rattle.std.proofs.Common.{◌≡◌, ◌+◌, ◌*◌, max, take, drop}
+use Rattle.std.specs.Prelude.{map}
+use Rattle.std.specs.List.{flat_map}
+use Rattle.syntax_statements.specs.declared.tree.Statement.{size-Statement}
+use Rattle.syntax_statements.specs.declared.tree.Statement.TheViews.{weight-Statement-Switch-3}
+use Rattle.checker_names.specs.Noted.{noted}
+use Rattle.checker_names.specs.Scope.{seen_in}
+use Rattle.meaning.specs.Resolved.{action_of, case_of}
+use Rattle.checker_statements.specs.StatementWalk.{resolved_statement, own_statement_breaches, resolved_case}
+use Rattle.checker_statements.specs.StatementWalk.{own_case_breaches}
+use Rattle.checker_statements.proofs.statement_rules.+statement.Given as goal
+
+abbrev pub decreases-statement : goal.decreases-statement
+decreases-statement l = 8 * goal.size-statement l
+
+abbrev pub decreases-boxed : goal.decreases-boxed
+decreases-boxed l = 8 * goal.size-boxed l + 1
+
+abbrev pub decreases-sequence : goal.decreases-sequence
+decreases-sequence l = 8 * goal.size-sequence l + 1
+
+abbrev pub decreases-block : goal.decreases-block
+decreases-block l = 8 * goal.size-block l + 2
+
+abbrev pub decreases-if_then : goal.decreases-if_then
+decreases-if_then l = 8 * goal.size-if_then l + 2
+
+abbrev pub decreases-while_do : goal.decreases-while_do
+decreases-while_do l = 8 * goal.size-while_do l + 2
+
+abbrev pub decreases-if_else : goal.decreases-if_else
+decreases-if_else l = 8 * max (size-Statement l.first.now.value) (size-Statement l.otherwise.now.value) + 2
+
+abbrev pub decreases-do_until : goal.decreases-do_until
+decreases-do_until l = 8 * goal.size-do_until l + 2
+
+abbrev pub decreases-for_loop : goal.decreases-for_loop
+decreases-for_loop l = 8 * goal.size-for_loop l + 2
+
+abbrev pub decreases-each : goal.decreases-each
+decreases-each l = 8 * goal.size-each l + 2
+
+abbrev pub decreases-each_in : goal.decreases-each_in
+decreases-each_in l = 8 * goal.size-each_in l + 2
+
+abbrev pub decreases-each_where : goal.decreases-each_where
+decreases-each_where l = 8 * goal.size-each_where l + 2
+
+abbrev pub decreases-traversal : goal.decreases-traversal
+decreases-traversal l = 8 * goal.size-traversal l + 3
+
+abbrev pub decreases-one_case : goal.decreases-one_case
+decreases-one_case l = 8 * goal.size-one_case l + 2
+
+abbrev pub decreases-all_cases : goal.decreases-all_cases
+decreases-all_cases l = 8 * goal.size-all_cases l + 3
+
+abbrev pub decreases-otherwise : goal.decreases-otherwise
+decreases-otherwise l = 8 * goal.size-otherwise l + 2
+
+abbrev pub decreases-switch_on : goal.decreases-switch_on
+decreases-switch_on l = 8 * max (goal.size-switch_on l) (weight-Statement-Switch-3 l.other.now) + 4
+
+abbrev pub invariant-all_cases-loop-c : goal.invariant-all_cases-loop-c
+invariant-all_cases-loop-c l = record {
+  value : map case_of l.found.items ≡ map (resolved_case (seen_in l.scope)) (take l.c-index l.given);
+  least : noted l.least (flat_map (own_case_breaches (seen_in l.scope) l.around) (drop l.c-index l.given))
+      ≡ noted l.fn.least (flat_map (own_case_breaches (seen_in l.scope) l.around) l.given);
+}
+
+abbrev pub invariant-sequence-loop-s : goal.invariant-sequence-loop-s
+invariant-sequence-loop-s l = record {
+  value : map action_of l.found.items ≡ map (resolved_statement (seen_in l.scope)) (take l.s-index l.all);
+  least : noted l.least (flat_map (own_statement_breaches (seen_in l.scope) l.around) (drop l.s-index l.all))
+      ≡ noted l.fn.least (flat_map (own_statement_breaches (seen_in l.scope) l.around) l.all);
+}

@@ -1,0 +1,4 @@
+pub mod Buffers
+pub mod Statements
+pub mod Walk
+pub mod StatementWalk

@@ -1,0 +1,129 @@
+//! The statement `read`: the rules that the names of its two arrays can break, and what it resolves
+//! to.
+
+ghost use Rattle.std.specs.Prelude.{◌≡◌};
+ghost use Rattle.syntax_trees.specs.Tree.{name_tree};
+ghost use Rattle.syntax_statements.specs.Tree as trees;
+ghost use Rattle.meaning.specs.Resolved.{action_of};
+ghost use Rattle.checker_names.specs.Noted.{noted};
+ghost use Rattle.checker_names.specs.Scope.{seen_in};
+ghost use Rattle.checker_values.specs.Expressions.{array_of_binding};
+ghost use Rattle.checker_statements.specs.Buffers as spec;
+ghost use Rattle.checker_statements.specs.Walk.{IsAction};
+
+use checker_names::{Binding, Breach, Scope, note};
+use meaning::Action;
+use syntax::ArrayKind;
+use syntax_lexer::{Position, UNKNOWN_NAME, WRONG_KIND};
+use syntax_trees::Name;
+
+fn is_of_bytes(kind: ArrayKind) -> bool
+    ensures { result ≡ spec.is_of_bytes kind }
+{
+    match kind {
+        ArrayKind::Bytes => true,
+        ArrayKind::Words => false,
+        ArrayKind::String => true,
+        ArrayKind::Table => false,
+    }
+}
+
+#[tactic(auto, using(checker_names::proofs::Noted::noted_none))]
+fn buffer_rules(position: Position, found: Option<Binding>, least: &mut Option<Breach>)
+    ensures { least.new ≡ noted least.old (spec.buffer_breaches position found) }
+{
+    match found {
+        None => note(least, UNKNOWN_NAME, position),
+        Some(Binding::Array(_, kind)) => {
+            if !is_of_bytes(kind) {
+                note(least, WRONG_KIND, position);
+            }
+        }
+        Some(Binding::Constant(_)) => note(least, WRONG_KIND, position),
+        Some(Binding::Global(_)) => note(least, WRONG_KIND, position),
+        Some(Binding::Routine(_, _)) => note(least, WRONG_KIND, position),
+        Some(Binding::Attribute(_)) => note(least, WRONG_KIND, position),
+        Some(Binding::Property(_)) => note(least, WRONG_KIND, position),
+        Some(Binding::Object(_)) => note(least, WRONG_KIND, position),
+        Some(Binding::Local(_)) => note(least, WRONG_KIND, position),
+    }
+}
+
+fn is_array(number: usize, found: Option<Binding>) -> bool
+    ensures { result ≡ spec.is_array number found }
+{
+    match found {
+        Some(Binding::Array(other, _)) => number == other,
+        None => false,
+        Some(Binding::Constant(_)) => false,
+        Some(Binding::Global(_)) => false,
+        Some(Binding::Routine(_, _)) => false,
+        Some(Binding::Attribute(_)) => false,
+        Some(Binding::Property(_)) => false,
+        Some(Binding::Object(_)) => false,
+        Some(Binding::Local(_)) => false,
+    }
+}
+
+// The second name, where both are one array.
+#[tactic(auto, using(checker_names::proofs::Noted::noted_none))]
+fn same_array(
+    position: Position,
+    first: Option<Binding>,
+    second: Option<Binding>,
+    least: &mut Option<Breach>,
+)
+    ensures { least.new ≡ noted least.old (spec.same_breaches position first second) }
+{
+    match first {
+        Some(Binding::Array(number, _)) => {
+            if is_array(number, second) {
+                note(least, WRONG_KIND, position);
+            }
+        }
+        None => {}
+        Some(Binding::Constant(_)) => {}
+        Some(Binding::Global(_)) => {}
+        Some(Binding::Routine(_, _)) => {}
+        Some(Binding::Attribute(_)) => {}
+        Some(Binding::Property(_)) => {}
+        Some(Binding::Object(_)) => {}
+        Some(Binding::Local(_)) => {}
+    }
+}
+
+// The number of an array; any number will do where it is none.
+fn array_number(found: Option<Binding>) -> usize
+    ensures { result ≡ array_of_binding found }
+{
+    match found {
+        Some(Binding::Array(number, _)) => number,
+        None => 0,
+        Some(Binding::Constant(_)) => 0,
+        Some(Binding::Global(_)) => 0,
+        Some(Binding::Routine(_, _)) => 0,
+        Some(Binding::Attribute(_)) => 0,
+        Some(Binding::Property(_)) => 0,
+        Some(Binding::Object(_)) => 0,
+        Some(Binding::Local(_)) => 0,
+    }
+}
+
+/// Resolves the names of a `read`, and notes the rules that they break.
+pub fn read<'a>(
+    text: Name<'_>,
+    words: Name<'_>,
+    scope: &Scope<'_>,
+    least: &mut Option<Breach>,
+) -> Action<'a>
+    ensures { (around : _) → IsAction (seen_in scope.now) around
+        (trees.read_line (name_tree text.entry) (name_tree words.entry))
+        least.old least.new (action_of result) }
+{
+    let first = scope.look(text.text);
+    let second = scope.look(words.text);
+    buffer_rules(text.position, first, least);
+    buffer_rules(words.position, second, least);
+    same_array(words.position, first, second, least);
+    Action::Read(array_number(first), array_number(second))
+}

@@ -1,0 +1,78 @@
+//! What begins the cases of a `switch`: the rules that it can break, and what it resolves to.
+
+ghost use Rattle.std.specs.Prelude.{◌≡◌, IfOk, map};
+ghost use Rattle.std.specs.Option.{option_map};
+ghost use Rattle.syntax_statement_parts.specs.Tree.{literal_tree, range_tree};
+ghost use Rattle.meaning.specs.Resolved.{range_of};
+ghost use Rattle.checker_names.specs.Noted.{noted};
+ghost use Rattle.checker_names.specs.Scope.{look_in, seen_in};
+ghost use Rattle.checker_statements.specs.Statements as spec;
+ghost use Rattle.checker_statements.specs.Walk.{IsRange, AreRanges};
+
+use checker_names::{Breach, Scope, constant_known, key_of_word, or_zero};
+use checker_values::constant_name;
+use meaning::Span;
+use std::alloc::{AllocError, Global};
+use syntax_statement_parts::{Literal, Range};
+
+// A value, which is known before a story runs. A local hides a constant.
+#[tactic(auto, using(checker_names::proofs::Noted::noted_none))]
+fn case_value(value: &Literal<'_>, scope: &Scope<'_>, least: &mut Option<Breach>) -> u16
+    ensures value { result ≡ spec.known_number (seen_in scope.now) (literal_tree value.now) }
+    ensures breaches { least.new ≡ noted least.old
+        (spec.known_breaches (look_in scope.now) (literal_tree value.now)) }
+{
+    match value {
+        Literal::Number(number) => *number,
+        Literal::Word(word) => scope.file.numbers.number(key_of_word(word)),
+        Literal::Named(name) => {
+            let found = scope.look(name.text);
+            constant_name(name.position, found, least);
+            scope.file.numbers.value(or_zero(constant_known(found)))
+        }
+    }
+}
+
+// What a range holds for, whose first value is known.
+#[tactic(auto, using(checker_names::proofs::Noted::noted_none))]
+fn span(high: &Option<Literal<'_>>, scope: &Scope<'_>, low: u16, least: &mut Option<Breach>) -> Span
+    ensures value { range_of result ≡ spec.range_to (seen_in scope.now) low
+        (option_map literal_tree high.now) }
+    ensures breaches { least.new ≡ noted least.old
+        (spec.high_breaches (look_in scope.now) (option_map literal_tree high.now)) }
+{
+    match high {
+        None => Span::One(low),
+        Some(value) => Span::Between(low, case_value(value, scope, least)),
+    }
+}
+
+fn range(range: &Range<'_>, scope: &Scope<'_>, least: &mut Option<Breach>) -> Span
+    ensures { IsRange (seen_in scope.now) (range_tree range.now)
+        least.old least.new (range_of result) }
+{
+    let low = case_value(&range.low, scope, least);
+    span(&range.high, scope, low, least)
+}
+
+/// The ranges of a case.
+///
+/// # Errors
+///
+/// `AllocError` where memory is refused.
+pub fn ranges(
+    given: &[Range<'_>],
+    alloc: Global,
+    scope: &Scope<'_>,
+    least: &mut Option<Breach>,
+) -> Result<Vec<Span>, AllocError>
+    ensures { IfOk result (λ v. AreRanges (seen_in scope.now) given.now
+        least.old least.new (map range_of v.items)) }
+{
+    let mut found = Vec::new(alloc);
+    for x in given {
+        let resolved = range(x, scope, least);
+        found.push(resolved)?;
+    }
+    Ok(found)
+}

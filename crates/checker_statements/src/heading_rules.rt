@@ -1,0 +1,134 @@
+//! The parts of a `for`: the rules that they can break, and what they resolve to.
+
+ghost use Rattle.std.specs.Prelude.{◌≡◌, ◌&&◌, IfOk, nat_le};
+ghost use Rattle.std.specs.Option.{option_map};
+ghost use Rattle.syntax_statement_parts.specs.Tree.{part_tree, heading_tree};
+ghost use Rattle.meaning.specs.Resolved.{boxed_value};
+ghost use Rattle.meaning.specs.Limits.{most_temporaries};
+ghost use Rattle.checker_names.specs.Noted.{noted};
+ghost use Rattle.checker_names.specs.Scope.{seen_in};
+ghost use Rattle.checker_statements.specs.Statements as spec;
+ghost use Rattle.checker_statements.specs.Walk.{part_fits, room_behind, IsPart, AreParts, IsHeading};
+ghost use Rattle.checker_statements.specs.Walk.{parts_of};
+
+use checker_names::{Breach, Scope, note};
+use checker_values::{boxed, fits};
+use meaning::Value;
+use meaning::limits::MOST_TEMPORARIES;
+use std::alloc::{AllocError, Global};
+use syntax_lexer::{EXPRESSION_TOO_LARGE, Position};
+use syntax_statement_parts::Heading;
+use syntax_trees::Expression;
+
+// Whether a part needs at most so many temporaries.
+fn fits_in(part: &Option<Box<Expression<'_>>>, room: u8) -> bool
+    ensures { result ≡ part_fits (part_tree part.now) room }
+{
+    match part {
+        None => true,
+        Some(e) => fits(e, room),
+    }
+}
+
+// How many are left for the parts behind it.
+fn left_behind(part: &Option<Box<Expression<'_>>>, room: u8) -> u8
+    ensures { result ≡ room_behind (part_tree part.now) room }
+{
+    match part {
+        None => room,
+        Some(_) => room.saturating_sub(1),
+    }
+}
+
+fn all_three(first: bool, second: bool, third: bool) -> bool
+    ensures { result ≡ (first && (second && third)) }
+{
+    first && second && third
+}
+
+// Whether the parts, as operands of one form, need at most 48 temporaries.
+fn all_fit(heading: &Heading<'_>) -> bool
+    ensures { result ≡ nat_le (spec.need_of_heading (heading_tree heading.now))
+        most_temporaries }
+{
+    let second = left_behind(&heading.before, MOST_TEMPORARIES);
+    let third = left_behind(&heading.test, second);
+    let first_fits = fits_in(&heading.before, MOST_TEMPORARIES);
+    let second_fits = fits_in(&heading.test, second);
+    let third_fits = fits_in(&heading.behind, third);
+    all_three(first_fits, second_fits, third_fits)
+}
+
+#[tactic(auto, using(checker_names::proofs::Noted::noted_none, checker_values::proofs::Needs::fits_not))]
+fn temporaries(heading: &Heading<'_>, position: Position, least: &mut Option<Breach>)
+    ensures { least.new ≡ noted least.old
+        (spec.room_breaches position (spec.need_of_heading (heading_tree heading.now))) }
+{
+    if !all_fit(heading) {
+        note(least, EXPRESSION_TOO_LARGE, position);
+    }
+}
+
+#[tactic(auto, using(checker_names::proofs::Noted::noted_none))]
+fn part(
+    given: &Option<Box<Expression<'_>>>,
+    alloc: Global,
+    scope: &Scope<'_>,
+    least: &mut Option<Breach>,
+) -> Result<Option<Box<Value>>, AllocError>
+    ensures { IfOk result (λ v. IsPart (seen_in scope.now) (part_tree given.now)
+        least.old least.new (option_map boxed_value v)) }
+{
+    match given {
+        None => Ok(None),
+        Some(e) => {
+            let Ok(value) = boxed(e, alloc, scope, least) else {
+                return Err(AllocError);
+            };
+            Ok(Some(value))
+        }
+    }
+}
+
+fn parts(
+    given: &Heading<'_>,
+    alloc: Global,
+    scope: &Scope<'_>,
+    least: &mut Option<Breach>,
+) -> Result<(Option<Box<Value>>, Option<Box<Value>>, Option<Box<Value>>), AllocError>
+    ensures { IfOk result (λ x. AreParts (seen_in scope.now) (heading_tree given.now)
+        least.old least.new (parts_of x)) }
+{
+    let Ok(before) = part(&given.before, alloc, scope, least) else {
+        return Err(AllocError);
+    };
+    let Ok(test) = part(&given.test, alloc, scope, least) else {
+        drop(before);
+        return Err(AllocError);
+    };
+    let Ok(behind) = part(&given.behind, alloc, scope, least) else {
+        drop(before);
+        drop(test);
+        return Err(AllocError);
+    };
+    Ok((before, test, behind))
+}
+
+/// The parts of a `for` that begins at this position.
+///
+/// # Errors
+///
+/// `AllocError` where memory is refused.
+pub fn heading(
+    given: &Heading<'_>,
+    alloc: Global,
+    scope: &Scope<'_>,
+    position: Position,
+    least: &mut Option<Breach>,
+) -> Result<(Option<Box<Value>>, Option<Box<Value>>, Option<Box<Value>>), AllocError>
+    ensures { IfOk result (λ x. IsHeading (seen_in scope.now) position (heading_tree given.now)
+        least.old least.new (parts_of x)) }
+{
+    temporaries(given, position, least);
+    parts(given, alloc, scope, least)
+}

@@ -1,0 +1,11 @@
+//! The rules of statements and of their parts, and what these resolve to.
+#![tactic(auto)]
+
+mod buffer_rules;
+mod case_rules;
+mod heading_rules;
+mod loop_rules;
+mod simple_rules;
+mod statement_rules;
+
+pub use statement_rules::all_statements;

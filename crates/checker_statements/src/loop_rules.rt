@@ -1,0 +1,45 @@
+//! The variable of an `objectloop`: the rules that its name can break.
+
+ghost use Rattle.std.specs.Prelude.{◌≡◌};
+ghost use Rattle.checker_names.specs.Breaches.{at};
+ghost use Rattle.checker_names.specs.Noted.{noted};
+ghost use Rattle.checker_values.specs.Expressions.{variable_of_binding};
+ghost use Rattle.checker_statements.specs.Statements.{loop_breaches};
+ghost use Rattle.syntax_lexer.specs.FaultNumbers.{wrong_kind};
+
+use checker_names::{Binding, Breach, note};
+use meaning::Variable;
+use syntax_lexer::{Position, UNKNOWN_NAME, WRONG_KIND};
+use syntax_trees::Name;
+
+// A name of another kind than a variable; any will do for it.
+#[tactic(auto, using(checker_names::proofs::Noted::noted_none))]
+fn no_variable(position: Position, least: &mut Option<Breach>) -> Variable
+    ensures value { result ≡ Variable.Local 0 }
+    ensures breaches { least.new ≡ noted least.old (at position wrong_kind) }
+{
+    note(least, WRONG_KIND, position);
+    Variable::Local(0)
+}
+
+/// The variable of an `objectloop`.
+#[tactic(auto, using(checker_names::proofs::Noted::noted_none))]
+pub fn loop_variable(name: Name<'_>, found: Option<Binding>, least: &mut Option<Breach>) -> Variable
+    ensures value { result ≡ variable_of_binding found }
+    ensures breaches { least.new ≡ noted least.old (loop_breaches name.entry.position found) }
+{
+    match found {
+        None => {
+            note(least, UNKNOWN_NAME, name.position);
+            Variable::Local(0)
+        }
+        Some(Binding::Global(number)) => Variable::Global(number),
+        Some(Binding::Local(number)) => Variable::Local(number),
+        Some(Binding::Constant(_)) => no_variable(name.position, least),
+        Some(Binding::Array(_, _)) => no_variable(name.position, least),
+        Some(Binding::Routine(_, _)) => no_variable(name.position, least),
+        Some(Binding::Attribute(_)) => no_variable(name.position, least),
+        Some(Binding::Property(_)) => no_variable(name.position, least),
+        Some(Binding::Object(_)) => no_variable(name.position, least),
+    }
+}

@@ -1,0 +1,343 @@
+//! Statements in which no other stands: the rules that they can break, and what they resolve to.
+
+ghost use Rattle.std.specs.Prelude.{◌≡◌, IfOk, map};
+ghost use Rattle.syntax_trees.specs.Tree.{expression_tree};
+ghost use Rattle.syntax_statement_parts.specs.Tree.{flag_tree, item_tree};
+ghost use Rattle.syntax_statements.specs.Tree as trees;
+ghost use Rattle.syntax_statements.specs.Tree.{simple_tree};
+ghost use Rattle.meaning.specs.Resolved.{value_of, boxed_value, printed_of};
+ghost use Rattle.checker_names.specs.Noted.{noted};
+ghost use Rattle.checker_names.specs.Scope.{seen_in};
+ghost use Rattle.checker_values.specs.Temporaries.{need};
+ghost use Rattle.checker_statements.specs.Statements.{outside_breaches, room_breaches, move_need};
+ghost use Rattle.checker_statements.specs.Walk.{IsWhole, IsFlag, AreFlags, IsItem, AreItems, GivesAction};
+
+use crate::buffer_rules::read;
+use checker_names::{Breach, Scope, note};
+use checker_values::{attribute, both_fit, boxed, expression, fits};
+use meaning::limits::MOST_TEMPORARIES;
+use meaning::{Action, Around, Printed, Value};
+use std::alloc::{AllocError, Global};
+use syntax_lexer::{BREAK_OUTSIDE, EXPRESSION_TOO_LARGE, Position};
+use syntax_statement_parts::PrintItem;
+use syntax_statements::SimpleStatement;
+use syntax_trees::{Expression, Name};
+
+#[tactic(auto, using(checker_names::proofs::Noted::noted_none, checker_values::proofs::Needs::fits_not))]
+fn temporaries(e: &Expression<'_>, position: Position, least: &mut Option<Breach>)
+    ensures { least.new ≡ noted least.old (room_breaches position (need (expression_tree e.now))) }
+{
+    if !fits(e, MOST_TEMPORARIES) {
+        note(least, EXPRESSION_TOO_LARGE, position);
+    }
+}
+
+/// Resolves the names of an expression of a statement or an item that begins at this position, and
+/// notes the rules that it breaks.
+///
+/// # Errors
+///
+/// `AllocError` where memory is refused.
+pub fn whole(
+    e: &Expression<'_>,
+    alloc: Global,
+    scope: &Scope<'_>,
+    position: Position,
+    least: &mut Option<Breach>,
+) -> Result<Value, AllocError>
+    ensures { IfOk result (λ v. IsWhole (seen_in scope.now) position (expression_tree e.now)
+        least.old least.new (value_of v)) }
+{
+    temporaries(e, position, least);
+    expression(e, alloc, scope, least)
+}
+
+/// The same, in a box.
+///
+/// # Errors
+///
+/// `AllocError` where memory is refused.
+pub fn boxed_whole(
+    e: &Expression<'_>,
+    alloc: Global,
+    scope: &Scope<'_>,
+    position: Position,
+    least: &mut Option<Breach>,
+) -> Result<Box<Value>, AllocError>
+    ensures { IfOk result (λ v. IsWhole (seen_in scope.now) position (expression_tree e.now)
+        least.old least.new (boxed_value v)) }
+{
+    temporaries(e, position, least);
+    boxed(e, alloc, scope, least)
+}
+
+#[tactic(auto, using(checker_names::proofs::Noted::noted_none))]
+fn item<'a>(
+    printed: &PrintItem<'a>,
+    alloc: Global,
+    scope: &Scope<'_>,
+    least: &mut Option<Breach>,
+) -> Result<Printed<'a>, AllocError>
+    ensures { IfOk result (λ x. IsItem (seen_in scope.now) (item_tree printed.now)
+        least.old least.new (printed_of x)) }
+{
+    match printed {
+        PrintItem::Text(text) => Ok(Printed::Text(text)),
+        PrintItem::Character(position, e) => {
+            let Ok(value) = whole(e, alloc, scope, *position, least) else {
+                return Err(AllocError);
+            };
+            Ok(Printed::Character(value))
+        }
+        PrintItem::Object(position, e) => {
+            let Ok(value) = whole(e, alloc, scope, *position, least) else {
+                return Err(AllocError);
+            };
+            Ok(Printed::Name(value))
+        }
+        PrintItem::Number(position, e) => {
+            let Ok(value) = whole(e, alloc, scope, *position, least) else {
+                return Err(AllocError);
+            };
+            Ok(Printed::Number(value))
+        }
+    }
+}
+
+fn items<'a>(
+    printed: &[PrintItem<'a>],
+    alloc: Global,
+    scope: &Scope<'_>,
+    least: &mut Option<Breach>,
+) -> Result<Vec<Printed<'a>>, AllocError>
+    ensures { IfOk result (λ v. AreItems (seen_in scope.now) printed.now
+        least.old least.new (map printed_of v.items)) }
+{
+    let mut found = Vec::new(alloc);
+    for x in printed {
+        let Ok(resolved) = item(x, alloc, scope, least) else {
+            return Err(AllocError);
+        };
+        found.push(resolved)?;
+    }
+    Ok(found)
+}
+
+fn print<'a>(
+    printed: &[PrintItem<'a>],
+    alloc: Global,
+    scope: &Scope<'_>,
+    least: &mut Option<Breach>,
+) -> Result<Action<'a>, AllocError>
+    ensures { (around : _) → GivesAction (seen_in scope.now) around result least.old least.new
+        (trees.print (map item_tree printed.now)) }
+{
+    let Ok(found) = items(printed, alloc, scope, least) else {
+        return Err(AllocError);
+    };
+    Ok(Action::Print(found))
+}
+
+fn print_return<'a>(
+    printed: &[PrintItem<'a>],
+    alloc: Global,
+    scope: &Scope<'_>,
+    least: &mut Option<Breach>,
+) -> Result<Action<'a>, AllocError>
+    ensures { (around : _) → GivesAction (seen_in scope.now) around result least.old least.new
+        (trees.print_return (map item_tree printed.now)) }
+{
+    let Ok(found) = items(printed, alloc, scope, least) else {
+        return Err(AllocError);
+    };
+    Ok(Action::PrintReturn(found))
+}
+
+fn return_value<'a>(
+    e: &Expression<'_>,
+    alloc: Global,
+    scope: &Scope<'_>,
+    position: Position,
+    least: &mut Option<Breach>,
+) -> Result<Action<'a>, AllocError>
+    ensures { (around : _) → GivesAction (seen_in scope.now) around result least.old least.new
+        (trees.return_value position (expression_tree e.now)) }
+{
+    let Ok(value) = whole(e, alloc, scope, position, least) else {
+        return Err(AllocError);
+    };
+    Ok(Action::ReturnValue(value))
+}
+
+fn effect<'a>(
+    e: &Expression<'_>,
+    alloc: Global,
+    scope: &Scope<'_>,
+    position: Position,
+    least: &mut Option<Breach>,
+) -> Result<Action<'a>, AllocError>
+    ensures { (around : _) → GivesAction (seen_in scope.now) around result least.old least.new
+        (trees.effect position (expression_tree e.now)) }
+{
+    let Ok(value) = whole(e, alloc, scope, position, least) else {
+        return Err(AllocError);
+    };
+    Ok(Action::Effect(value))
+}
+
+// An attribute of a `give`, and whether it is set.
+fn flag(given: &(bool, Name<'_>), scope: &Scope<'_>, least: &mut Option<Breach>) -> (bool, usize)
+    ensures { IsFlag (seen_in scope.now) given.now least.old least.new result }
+{
+    let (sets, name) = *given;
+    let number = attribute(name, scope.look(name.text), least);
+    (sets, number)
+}
+
+// The attributes of a `give`.
+fn flags(
+    given: &[(bool, Name<'_>)],
+    alloc: Global,
+    scope: &Scope<'_>,
+    least: &mut Option<Breach>,
+) -> Result<Vec<(bool, usize)>, AllocError>
+    ensures { IfOk result (λ v. AreFlags (seen_in scope.now) given.now
+        least.old least.new v.items) }
+{
+    let mut found = Vec::new(alloc);
+    for x in given {
+        let resolved = flag(x, scope, least);
+        found.push(resolved)?;
+    }
+    Ok(found)
+}
+
+fn give<'a>(
+    e: &Expression<'_>,
+    given: &[(bool, Name<'_>)],
+    alloc: Global,
+    scope: &Scope<'_>,
+    position: Position,
+    least: &mut Option<Breach>,
+) -> Result<Action<'a>, AllocError>
+    ensures { (around : _) → GivesAction (seen_in scope.now) around result least.old least.new
+        (trees.give position (expression_tree e.now) (map flag_tree given.now)) }
+{
+    let Ok(object) = whole(e, alloc, scope, position, least) else {
+        return Err(AllocError);
+    };
+    let Ok(changes) = flags(given, alloc, scope, least) else {
+        drop(object);
+        return Err(AllocError);
+    };
+    Ok(Action::Give(object, changes))
+}
+
+#[tactic(auto, using(checker_names::proofs::Noted::noted_none, checker_values::proofs::Needs::fits_not))]
+fn move_temporaries(
+    object: &Expression<'_>,
+    parent: &Expression<'_>,
+    position: Position,
+    least: &mut Option<Breach>,
+)
+    ensures { least.new ≡ noted least.old (room_breaches position
+        (move_need (expression_tree object.now) (expression_tree parent.now))) }
+{
+    if !both_fit(object, parent, MOST_TEMPORARIES) {
+        note(least, EXPRESSION_TOO_LARGE, position);
+    }
+}
+
+fn move_to<'a>(
+    object: &Expression<'_>,
+    parent: &Expression<'_>,
+    alloc: Global,
+    scope: &Scope<'_>,
+    position: Position,
+    least: &mut Option<Breach>,
+) -> Result<Action<'a>, AllocError>
+    ensures { (around : _) → GivesAction (seen_in scope.now) around result least.old least.new
+        (trees.move position (expression_tree object.now) (expression_tree parent.now)) }
+{
+    move_temporaries(object, parent, position, least);
+    let Ok(object) = boxed(object, alloc, scope, least) else {
+        return Err(AllocError);
+    };
+    let Ok(parent) = boxed(parent, alloc, scope, least) else {
+        return Err(AllocError);
+    };
+    Ok(Action::Move(object, parent))
+}
+
+fn remove<'a>(
+    e: &Expression<'_>,
+    alloc: Global,
+    scope: &Scope<'_>,
+    position: Position,
+    least: &mut Option<Breach>,
+) -> Result<Action<'a>, AllocError>
+    ensures { (around : _) → GivesAction (seen_in scope.now) around result least.old least.new
+        (trees.remove position (expression_tree e.now)) }
+{
+    let Ok(object) = whole(e, alloc, scope, position, least) else {
+        return Err(AllocError);
+    };
+    Ok(Action::Remove(object))
+}
+
+// `break` or `continue`, which may stand there or not.
+#[tactic(auto, using(checker_names::proofs::Noted::noted_none))]
+fn outside(stands: bool, position: Position, least: &mut Option<Breach>)
+    ensures { least.new ≡ noted least.old (outside_breaches stands position) }
+{
+    if !stands {
+        note(least, BREAK_OUTSIDE, position);
+    }
+}
+
+/// Resolves the names of a statement in which no other stands, and notes the rules that it breaks.
+///
+/// # Errors
+///
+/// `AllocError` where memory is refused.
+pub fn simple<'a>(
+    s: &SimpleStatement<'a>,
+    alloc: Global,
+    scope: &Scope<'_>,
+    around: Around,
+    least: &mut Option<Breach>,
+) -> Result<Action<'a>, AllocError>
+    ensures { GivesAction (seen_in scope.now) around result least.old least.new
+        (simple_tree s.now) }
+{
+    match s {
+        SimpleStatement::Text(text) => Ok(Action::Text(text)),
+        SimpleStatement::Print(all) => print(all, alloc, scope, least),
+        SimpleStatement::PrintReturn(all) => print_return(all, alloc, scope, least),
+        SimpleStatement::NewLine => Ok(Action::NewLine),
+        SimpleStatement::Break(position) => {
+            outside(around.can_break, *position, least);
+            Ok(Action::Break)
+        }
+        SimpleStatement::Continue(position) => {
+            outside(around.can_continue, *position, least);
+            Ok(Action::Continue)
+        }
+        SimpleStatement::Return => Ok(Action::ReturnValue(Value::Number(1))),
+        SimpleStatement::ReturnValue(position, e) => {
+            return_value(e, alloc, scope, *position, least)
+        }
+        SimpleStatement::ReturnTrue => Ok(Action::ReturnValue(Value::Number(1))),
+        SimpleStatement::ReturnFalse => Ok(Action::ReturnValue(Value::Number(0))),
+        SimpleStatement::Quit => Ok(Action::Quit),
+        SimpleStatement::Read(text, words) => Ok(read(*text, *words, scope, least)),
+        SimpleStatement::Give(position, e, given) => {
+            give(e, given, alloc, scope, *position, least)
+        }
+        SimpleStatement::Move(position, object, parent) => {
+            move_to(object, parent, alloc, scope, *position, least)
+        }
+        SimpleStatement::Remove(position, e) => remove(e, alloc, scope, *position, least),
+        SimpleStatement::Effect(position, e) => effect(e, alloc, scope, *position, least),
+    }
+}

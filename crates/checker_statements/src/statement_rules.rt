@@ -1,0 +1,457 @@
+//! Statements, and those inside them: the rules that they can break, and what they resolve to.
+
+ghost use Rattle.std.specs.Prelude.{◌≡◌, IfOk, map};
+ghost use Rattle.syntax_trees.specs.Tree.{expression_tree, name_tree};
+ghost use Rattle.syntax_statement_parts.specs.Tree.{heading_tree, loop_tree};
+ghost use Rattle.syntax_statements.specs.Tree as trees;
+ghost use Rattle.syntax_statements.specs.Tree.{statement_tree, trees_of, case_tree, other_tree};
+ghost use Rattle.meaning.specs.Around.{in_switch};
+ghost use Rattle.meaning.specs.Resolved.{action_of, case_of, other_of};
+ghost use Rattle.checker_names.specs.Scope.{seen_in};
+ghost use Rattle.checker_statements.specs.Walk.{IsAction, GivesAction};
+ghost use Rattle.checker_statements.specs.StatementWalk.{AreActions, IsCase, AreCases, IsOther};
+
+use crate::case_rules::ranges;
+use crate::heading_rules::heading;
+use crate::loop_rules::loop_variable;
+use crate::simple_rules::{boxed_whole, simple, whole};
+use checker_names::{Breach, Scope};
+use meaning::{Action, Around, IN_LOOP, Span, in_switch};
+use std::alloc::{AllocError, Global};
+use syntax_lexer::Position;
+use syntax_statement_parts::{Heading, Loop, Range};
+use syntax_statements::Statement;
+use syntax_trees::{Expression, Name};
+
+// A statement. The tree is the first argument of all these functions: there its lifetime has the
+// place that it has where a box or a vector lends it, else the prover compares the types of trees
+// part by part.
+#[cycle(statement)]
+fn statement<'a>(
+    s: &Statement<'a>,
+    alloc: Global,
+    scope: &Scope<'_>,
+    around: Around,
+    least: &mut Option<Breach>,
+) -> Result<Action<'a>, AllocError>
+    ensures { GivesAction (seen_in scope.now) around result least.old least.new
+        (statement_tree s.now) }
+{
+    match s {
+        Statement::Empty => Ok(Action::Empty),
+        Statement::Simple(plain) => simple(plain, alloc, scope, around, least),
+        Statement::Block(all) => block(all, alloc, scope, around, least),
+        Statement::If(position, condition, then) => {
+            if_then(then, condition, alloc, scope, around, *position, least)
+        }
+        Statement::IfElse(position, condition, then, otherwise) => {
+            if_else(
+                then, otherwise, condition, alloc, scope, around, *position, least,
+            )
+        }
+        Statement::While(position, condition, body) => {
+            while_do(body, condition, alloc, scope, *position, least)
+        }
+        Statement::Do(position, body, condition) => {
+            do_until(body, condition, alloc, scope, *position, least)
+        }
+        Statement::For(position, parts, body) => {
+            for_loop(body, parts, alloc, scope, *position, least)
+        }
+        Statement::Objectloop(position, over, body) => {
+            traversal(body, over, alloc, scope, *position, least)
+        }
+        Statement::Switch(position, value, cases, other) => switch_on(
+            cases,
+            other,
+            value,
+            alloc,
+            scope,
+            in_switch(around),
+            *position,
+            least,
+        ),
+    }
+}
+
+// The same for a statement inside another, in its box.
+#[cycle(statement)]
+fn boxed<'a>(
+    s: &Box<Statement<'a>>,
+    alloc: Global,
+    scope: &Scope<'_>,
+    around: Around,
+    least: &mut Option<Breach>,
+) -> Result<Box<Action<'a>>, AllocError>
+    ensures { IfOk result (λ x. IsAction (seen_in scope.now) around (statement_tree s.now.value)
+        least.old least.new (action_of x.value)) }
+{
+    let Ok(found) = statement(s, alloc, scope, around, least) else {
+        return Err(AllocError);
+    };
+    Ok(Box::new(alloc, found)?)
+}
+
+// Statements in order.
+#[cycle(statement)]
+fn sequence<'a>(
+    all: &[Statement<'a>],
+    alloc: Global,
+    scope: &Scope<'_>,
+    around: Around,
+    least: &mut Option<Breach>,
+) -> Result<Vec<Action<'a>>, AllocError>
+    ensures { IfOk result (λ v. AreActions (seen_in scope.now) around all.now
+        least.old least.new (map action_of v.items)) }
+{
+    let mut found = Vec::with_capacity(alloc, all.len())?;
+    for s in all {
+        let Ok(resolved) = statement(s, alloc, scope, around, least) else {
+            return Err(AllocError);
+        };
+        found.push(resolved)?;
+    }
+    Ok(found)
+}
+
+#[cycle(statement)]
+fn block<'a>(
+    all: &[Statement<'a>],
+    alloc: Global,
+    scope: &Scope<'_>,
+    around: Around,
+    least: &mut Option<Breach>,
+) -> Result<Action<'a>, AllocError>
+    ensures { GivesAction (seen_in scope.now) around result least.old least.new
+        (trees.block (trees_of (map statement_tree all.now))) }
+{
+    let Ok(found) = sequence(all, alloc, scope, around, least) else {
+        return Err(AllocError);
+    };
+    Ok(Action::Block(found))
+}
+
+#[cycle(statement)]
+fn if_then<'a>(
+    body: &Box<Statement<'a>>,
+    condition: &Expression<'_>,
+    alloc: Global,
+    scope: &Scope<'_>,
+    around: Around,
+    position: Position,
+    least: &mut Option<Breach>,
+) -> Result<Action<'a>, AllocError>
+    ensures { GivesAction (seen_in scope.now) around result least.old least.new
+        (trees.if_then position (expression_tree condition.now) (statement_tree body.now.value)) }
+{
+    let Ok(condition) = whole(condition, alloc, scope, position, least) else {
+        return Err(AllocError);
+    };
+    let Ok(body) = boxed(body, alloc, scope, around, least) else {
+        drop(condition);
+        return Err(AllocError);
+    };
+    Ok(Action::If(condition, body))
+}
+
+#[cycle(statement)]
+fn if_else<'a>(
+    first: &Box<Statement<'a>>,
+    otherwise: &Box<Statement<'a>>,
+    condition: &Expression<'_>,
+    alloc: Global,
+    scope: &Scope<'_>,
+    around: Around,
+    position: Position,
+    least: &mut Option<Breach>,
+) -> Result<Action<'a>, AllocError>
+    ensures { GivesAction (seen_in scope.now) around result least.old least.new
+        (trees.if_else position (expression_tree condition.now) (statement_tree first.now.value)
+        (statement_tree otherwise.now.value)) }
+{
+    let Ok(condition) = whole(condition, alloc, scope, position, least) else {
+        return Err(AllocError);
+    };
+    let Ok(first) = boxed(first, alloc, scope, around, least) else {
+        drop(condition);
+        return Err(AllocError);
+    };
+    let Ok(otherwise) = boxed(otherwise, alloc, scope, around, least) else {
+        drop(condition);
+        return Err(AllocError);
+    };
+    Ok(Action::IfElse(condition, first, otherwise))
+}
+
+#[cycle(statement)]
+fn while_do<'a>(
+    body: &Box<Statement<'a>>,
+    condition: &Expression<'_>,
+    alloc: Global,
+    scope: &Scope<'_>,
+    position: Position,
+    least: &mut Option<Breach>,
+) -> Result<Action<'a>, AllocError>
+    ensures { (around : _) → GivesAction (seen_in scope.now) around result least.old least.new
+        (trees.while_do position (expression_tree condition.now) (statement_tree body.now.value)) }
+{
+    let Ok(condition) = whole(condition, alloc, scope, position, least) else {
+        return Err(AllocError);
+    };
+    let Ok(body) = boxed(body, alloc, scope, IN_LOOP, least) else {
+        drop(condition);
+        return Err(AllocError);
+    };
+    Ok(Action::While(condition, body))
+}
+
+#[cycle(statement)]
+fn do_until<'a>(
+    body: &Box<Statement<'a>>,
+    condition: &Expression<'_>,
+    alloc: Global,
+    scope: &Scope<'_>,
+    position: Position,
+    least: &mut Option<Breach>,
+) -> Result<Action<'a>, AllocError>
+    ensures { (around : _) → GivesAction (seen_in scope.now) around result least.old least.new
+        (trees.do_until position (statement_tree body.now.value) (expression_tree condition.now)) }
+{
+    let Ok(body) = boxed(body, alloc, scope, IN_LOOP, least) else {
+        return Err(AllocError);
+    };
+    let Ok(condition) = whole(condition, alloc, scope, position, least) else {
+        drop(body);
+        return Err(AllocError);
+    };
+    Ok(Action::Do(body, condition))
+}
+
+#[cycle(statement)]
+fn for_loop<'a>(
+    body: &Box<Statement<'a>>,
+    given: &Heading<'_>,
+    alloc: Global,
+    scope: &Scope<'_>,
+    position: Position,
+    least: &mut Option<Breach>,
+) -> Result<Action<'a>, AllocError>
+    ensures { (around : _) → GivesAction (seen_in scope.now) around result least.old least.new
+        (trees.for_loop position (heading_tree given.now).before (heading_tree given.now).test
+        (heading_tree given.now).behind (statement_tree body.now.value)) }
+{
+    let Ok((before, test, behind)) = heading(given, alloc, scope, position, least) else {
+        return Err(AllocError);
+    };
+    let Ok(body) = boxed(body, alloc, scope, IN_LOOP, least) else {
+        drop(before);
+        drop(test);
+        drop(behind);
+        return Err(AllocError);
+    };
+    Ok(Action::For(before, test, behind, body))
+}
+
+#[cycle(statement)]
+fn each<'a>(
+    body: &Box<Statement<'a>>,
+    name: Name<'_>,
+    alloc: Global,
+    scope: &Scope<'_>,
+    least: &mut Option<Breach>,
+) -> Result<Action<'a>, AllocError>
+    ensures { (around : _) → GivesAction (seen_in scope.now) around result least.old least.new
+        (trees.each (name_tree name.entry) (statement_tree body.now.value)) }
+{
+    let variable = loop_variable(name, scope.look(name.text), least);
+    let Ok(body) = boxed(body, alloc, scope, IN_LOOP, least) else {
+        return Err(AllocError);
+    };
+    Ok(Action::EachObject(variable, body))
+}
+
+#[cycle(statement)]
+fn each_in<'a>(
+    body: &Box<Statement<'a>>,
+    name: Name<'_>,
+    parent: &Expression<'_>,
+    alloc: Global,
+    scope: &Scope<'_>,
+    position: Position,
+    least: &mut Option<Breach>,
+) -> Result<Action<'a>, AllocError>
+    ensures { (around : _) → GivesAction (seen_in scope.now) around result least.old least.new
+        (trees.each_in position (name_tree name.entry) (expression_tree parent.now)
+        (statement_tree body.now.value)) }
+{
+    let variable = loop_variable(name, scope.look(name.text), least);
+    let Ok(parent) = whole(parent, alloc, scope, position, least) else {
+        return Err(AllocError);
+    };
+    let Ok(body) = boxed(body, alloc, scope, IN_LOOP, least) else {
+        drop(parent);
+        return Err(AllocError);
+    };
+    Ok(Action::EachIn(variable, parent, body))
+}
+
+#[cycle(statement)]
+fn each_where<'a>(
+    body: &Box<Statement<'a>>,
+    name: Name<'_>,
+    condition: &Expression<'_>,
+    alloc: Global,
+    scope: &Scope<'_>,
+    position: Position,
+    least: &mut Option<Breach>,
+) -> Result<Action<'a>, AllocError>
+    ensures { (around : _) → GivesAction (seen_in scope.now) around result least.old least.new
+        (trees.each_where position (name_tree name.entry) (expression_tree condition.now)
+        (statement_tree body.now.value)) }
+{
+    let variable = loop_variable(name, scope.look(name.text), least);
+    let Ok(condition) = whole(condition, alloc, scope, position, least) else {
+        return Err(AllocError);
+    };
+    let Ok(body) = boxed(body, alloc, scope, IN_LOOP, least) else {
+        drop(condition);
+        return Err(AllocError);
+    };
+    Ok(Action::EachWhere(variable, condition, body))
+}
+
+// An `objectloop`, by what it goes over.
+#[cycle(statement)]
+fn traversal<'a>(
+    body: &Box<Statement<'a>>,
+    over: &Loop<'_>,
+    alloc: Global,
+    scope: &Scope<'_>,
+    position: Position,
+    least: &mut Option<Breach>,
+) -> Result<Action<'a>, AllocError>
+    ensures { (around : _) → GivesAction (seen_in scope.now) around result least.old least.new
+        (trees.loop_over position (loop_tree over.now) (statement_tree body.now.value)) }
+{
+    match over {
+        Loop::All(name) => each(body, *name, alloc, scope, least),
+        Loop::In(name, parent) => each_in(body, *name, parent, alloc, scope, position, least),
+        Loop::Where(name, condition) => {
+            each_where(body, *name, condition, alloc, scope, position, least)
+        }
+    }
+}
+
+// A case of a `switch`.
+#[cycle(statement)]
+fn one_case<'a>(
+    given: &(Vec<Range<'a>>, Vec<Statement<'a>>),
+    alloc: Global,
+    scope: &Scope<'_>,
+    around: Around,
+    least: &mut Option<Breach>,
+) -> Result<(Vec<Span>, Vec<Action<'a>>), AllocError>
+    ensures { IfOk result (λ x. IsCase (seen_in scope.now) around given.now
+        least.old least.new (case_of x)) }
+{
+    let Ok(spans) = ranges(&given.0, alloc, scope, least) else {
+        return Err(AllocError);
+    };
+    let Ok(body) = sequence(&given.1, alloc, scope, around, least) else {
+        return Err(AllocError);
+    };
+    Ok((spans, body))
+}
+
+#[cycle(statement)]
+fn all_cases<'a>(
+    given: &[(Vec<Range<'a>>, Vec<Statement<'a>>)],
+    alloc: Global,
+    scope: &Scope<'_>,
+    around: Around,
+    least: &mut Option<Breach>,
+) -> Result<Vec<(Vec<Span>, Vec<Action<'a>>)>, AllocError>
+    ensures { IfOk result (λ v. AreCases (seen_in scope.now) around given.now
+        least.old least.new (map case_of v.items)) }
+{
+    let mut found = Vec::new(alloc);
+    for c in given {
+        let Ok(resolved) = one_case(c, alloc, scope, around, least) else {
+            return Err(AllocError);
+        };
+        found.push(resolved)?;
+    }
+    Ok(found)
+}
+
+// The statements of `default`.
+#[cycle(statement)]
+fn otherwise<'a>(
+    other: &Option<Vec<Statement<'a>>>,
+    alloc: Global,
+    scope: &Scope<'_>,
+    around: Around,
+    least: &mut Option<Breach>,
+) -> Result<Option<Vec<Action<'a>>>, AllocError>
+    ensures { IfOk result (λ x. IsOther (seen_in scope.now) around (other_tree other.now)
+        least.old least.new (other_of x)) }
+{
+    match other {
+        None => Ok(None),
+        Some(all) => {
+            let Ok(found) = sequence(all, alloc, scope, around, least) else {
+                return Err(AllocError);
+            };
+            Ok(Some(found))
+        }
+    }
+}
+
+#[cycle(statement)]
+fn switch_on<'a>(
+    cases: &[(Vec<Range<'a>>, Vec<Statement<'a>>)],
+    other: &Option<Vec<Statement<'a>>>,
+    value: &Expression<'_>,
+    alloc: Global,
+    scope: &Scope<'_>,
+    inside: Around,
+    position: Position,
+    least: &mut Option<Breach>,
+) -> Result<Action<'a>, AllocError>
+    ensures { (around : _) → inside ≡ in_switch around
+        → GivesAction (seen_in scope.now) around result least.old least.new
+        (trees.switch_on position (expression_tree value.now)
+        (trees.cases_of (map case_tree cases.now) (other_tree other.now))) }
+{
+    let Ok(value) = boxed_whole(value, alloc, scope, position, least) else {
+        return Err(AllocError);
+    };
+    let Ok(cases) = all_cases(cases, alloc, scope, inside, least) else {
+        drop(value);
+        return Err(AllocError);
+    };
+    let Ok(other) = otherwise(other, alloc, scope, inside, least) else {
+        drop(value);
+        drop(cases);
+        return Err(AllocError);
+    };
+    Ok(Action::Switch(value, cases, other))
+}
+
+/// Resolves the names of statements in order, and notes the rules that they break.
+///
+/// # Errors
+///
+/// `AllocError` where memory is refused.
+pub fn all_statements<'a>(
+    all: &[Statement<'a>],
+    alloc: Global,
+    scope: &Scope<'_>,
+    around: Around,
+    least: &mut Option<Breach>,
+) -> Result<Vec<Action<'a>>, AllocError>
+    ensures { IfOk result (λ v. AreActions (seen_in scope.now) around all.now
+        least.old least.new (map action_of v.items)) }
+{
+    sequence(all, alloc, scope, around, least)
+}

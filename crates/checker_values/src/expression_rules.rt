@@ -1,0 +1,662 @@
+//! Expressions: the rules that they can break, and what they resolve to.
+
+ghost use Rattle.std.specs.Prelude.{◌≡◌, ◌++◌, [], if◌then◌else◌, IfOk, map};
+ghost use Rattle.std.specs.Option.{option_map};
+ghost use Rattle.syntax_trees.specs.Tree as trees;
+ghost use Rattle.syntax_trees.specs.Tree.{expression_tree, name_tree, trees_of, propertied};
+ghost use Rattle.syntax_trees.specs.Tree.{link};
+ghost use Rattle.meaning.specs.Resolved.{value_of};
+ghost use Rattle.meaning.specs.Resolved as meant;
+ghost use Rattle.checker_names.specs.Breaches.{at};
+ghost use Rattle.checker_names.specs.Noted.{noted};
+ghost use Rattle.checker_names.specs.Scope.{seen_in};
+ghost use Rattle.checker_names.specs.Names as names;
+ghost use Rattle.checker_values.specs.Expressions.{tested_breaches, tested_for, assigned};
+ghost use Rattle.checker_values.specs.Walk.{IsResolved, GivesValue, AreResolved, AreLinks};
+ghost use Rattle.checker_values.specs.Walk.{AreProperties, IsTarget, IsAssigned, value_link};
+
+use crate::name_rules::{array, attribute, named, property, routine, target_of, value};
+use checker_names::{Binding, Breach, Scope, key_of_word, note};
+use meaning::{Value, Variable};
+use std::alloc::{AllocError, Global};
+use syntax_lexer::{NOT_ASSIGNABLE, Position};
+use syntax_trees::{
+    Binary, Comparison, Containment, Equality, Expression, Name, ObjectTest, Prefix, Relative,
+    Step, Width,
+};
+
+/// The name that an expression is, parentheses apart.
+pub fn name_of<'a>(e: &Expression<'a>) -> Option<Name<'a>>
+    ensures { option_map name_tree result ≡ names.name_of (expression_tree e.now) }
+{
+    match e {
+        Expression::Named(name) => Some(*name),
+        Expression::Parenthesised(inside) => name_of(inside),
+        Expression::Constant(_) => None,
+        Expression::Word(_) => None,
+        Expression::Call(_, _) => None,
+        Expression::Index(_, _, _) => None,
+        Expression::RelativeOf(_, _) => None,
+        Expression::Property(_, _, _) => None,
+        Expression::PropertyLength(_, _) => None,
+        Expression::PropertyEntry(_, _, _) => None,
+        Expression::Prefixed(_, _) => None,
+        Expression::StepBefore(_, _, _) => None,
+        Expression::StepAfter(_, _, _) => None,
+        Expression::Chain(_, _, _, _) => None,
+        Expression::Compare(_, _, _) => None,
+        Expression::Equal(_, _, _, _) => None,
+        Expression::Contained(_, _, _) => None,
+        Expression::Tested(_, _, _) => None,
+        Expression::Assign(_, _, _) => None,
+    }
+}
+
+// Whether an expression is an entry of an array, a property or a word of a property, parentheses
+// apart.
+fn is_place(e: &Expression<'_>) -> bool
+    ensures { result ≡ names.is_place (expression_tree e.now) }
+{
+    match e {
+        Expression::Index(_, _, _) => true,
+        Expression::Property(_, _, _) => true,
+        Expression::PropertyEntry(_, _, _) => true,
+        Expression::Parenthesised(inside) => is_place(inside),
+        Expression::Named(_) => false,
+        Expression::Constant(_) => false,
+        Expression::Word(_) => false,
+        Expression::Call(_, _) => false,
+        Expression::RelativeOf(_, _) => false,
+        Expression::PropertyLength(_, _) => false,
+        Expression::Prefixed(_, _) => false,
+        Expression::StepBefore(_, _, _) => false,
+        Expression::StepAfter(_, _, _) => false,
+        Expression::Chain(_, _, _, _) => false,
+        Expression::Compare(_, _, _) => false,
+        Expression::Equal(_, _, _, _) => false,
+        Expression::Contained(_, _, _) => false,
+        Expression::Tested(_, _, _) => false,
+        Expression::Assign(_, _, _) => false,
+    }
+}
+
+// What is assigned to and is no name, by whether it may be assigned to.
+#[tactic(auto, using(checker_names::proofs::Noted::noted_none))]
+fn not_place(place: bool, operator: Position, least: &mut Option<Breach>)
+    ensures { least.new ≡ noted least.old (if place then [] else at operator 26) }
+{
+    if !place {
+        note(least, NOT_ASSIGNABLE, operator);
+    }
+}
+
+// An assignment to the last of the properties of an object, which is one of the word of those
+// before it.
+fn assigned_property(
+    right: Box<Value>,
+    alloc: Global,
+    object: Box<Value>,
+    first: usize,
+    mut others: Vec<usize>,
+) -> Result<Value, AllocError>
+    ensures { IfOk result (λ v. value_of v
+        ≡ assigned (meant.propertied (meant.property (value_of object.value) first) others.items)
+        (value_of right.value)) }
+{
+    match others.pop() {
+        None => Ok(Value::AssignProperty(object, first, right)),
+        Some(last) => {
+            let before = Box::new(alloc, Value::Property(object, first, others))?;
+            Ok(Value::AssignProperty(before, last, right))
+        }
+    }
+}
+
+// An assignment to what the left side was resolved to; where that is no place, any will do.
+fn assignment(left: Value, right: Box<Value>, alloc: Global) -> Result<Value, AllocError>
+    ensures { IfOk result (λ v. value_of v ≡ assigned (value_of left) (value_of right.value)) }
+{
+    match left {
+        Value::Read(variable) => Ok(Value::Assign(variable, right)),
+        Value::Entry(width, array, index) => Ok(Value::AssignEntry(width, array, index, right)),
+        Value::Property(object, first, others) => {
+            assigned_property(right, alloc, object, first, others)
+        }
+        Value::PropertyWord(object, number, index) => {
+            Ok(Value::AssignPropertyWord(object, number, index, right))
+        }
+        Value::Number(_) => Ok(Value::Assign(Variable::Local(0), right)),
+        Value::Call(_, _) => Ok(Value::Assign(Variable::Local(0), right)),
+        Value::Prefixed(_, _) => Ok(Value::Assign(Variable::Local(0), right)),
+        Value::StepBefore(_, _) => Ok(Value::Assign(Variable::Local(0), right)),
+        Value::StepAfter(_, _) => Ok(Value::Assign(Variable::Local(0), right)),
+        Value::Chain(_, _, _, _) => Ok(Value::Assign(Variable::Local(0), right)),
+        Value::Compare(_, _, _) => Ok(Value::Assign(Variable::Local(0), right)),
+        Value::Equal(_, _, _, _) => Ok(Value::Assign(Variable::Local(0), right)),
+        Value::Assign(_, _) => Ok(Value::Assign(Variable::Local(0), right)),
+        Value::AssignEntry(_, _, _, _) => Ok(Value::Assign(Variable::Local(0), right)),
+        Value::Relative(_, _) => Ok(Value::Assign(Variable::Local(0), right)),
+        Value::Contained(_, _, _) => Ok(Value::Assign(Variable::Local(0), right)),
+        Value::Has(_, _, _) => Ok(Value::Assign(Variable::Local(0), right)),
+        Value::Provides(_, _) => Ok(Value::Assign(Variable::Local(0), right)),
+        Value::PropertySize(_, _) => Ok(Value::Assign(Variable::Local(0), right)),
+        Value::AssignProperty(_, _, _) => Ok(Value::Assign(Variable::Local(0), right)),
+        Value::AssignPropertyWord(_, _, _, _) => Ok(Value::Assign(Variable::Local(0), right)),
+    }
+}
+
+// What an object is tested for, by a name there that stands for this.
+#[tactic(auto, using(checker_names::proofs::Noted::noted_none))]
+fn tested_value(
+    name: Name<'_>,
+    object: Box<Value>,
+    test: ObjectTest,
+    found: Option<Binding>,
+    least: &mut Option<Breach>,
+) -> Value
+    ensures value { value_of result ≡ tested_for test (value_of object.value) found }
+    ensures breaches { least.new ≡ noted least.old
+        (tested_breaches test name.entry.position found) }
+{
+    match test {
+        ObjectTest::Has => Value::Has(true, object, attribute(name, found, least)),
+        ObjectTest::HasNot => Value::Has(false, object, attribute(name, found, least)),
+        ObjectTest::Provides => Value::Provides(object, property(name, found, least)),
+    }
+}
+
+// A name as an expression.
+fn named_value(name: Name<'_>, scope: &Scope<'_>, least: &mut Option<Breach>) -> Value
+    ensures { IsResolved (seen_in scope.now) (trees.named (name_tree name.entry))
+        least.old least.new (value_of result) }
+{
+    let found = scope.look(name.text);
+    value(name, &scope.file.numbers, found, least)
+}
+
+// The numbers of the properties behind the first.
+fn property_numbers(
+    others: &[Name<'_>],
+    alloc: Global,
+    scope: &Scope<'_>,
+    least: &mut Option<Breach>,
+) -> Result<Vec<usize>, AllocError>
+    ensures { IfOk result (λ numbers. AreProperties (seen_in scope.now) others.now
+        least.old least.new numbers.items) }
+{
+    let mut numbers = Vec::new(alloc);
+    for name in others {
+        let number = property(*name, scope.look(name.text), least);
+        numbers.push(number)?;
+    }
+    Ok(numbers)
+}
+
+/// Resolves the names of an expression, and notes the rules that it breaks.
+///
+/// # Errors
+///
+/// `AllocError` where memory is refused.
+#[cycle(expression)]
+pub fn expression(
+    e: &Expression<'_>,
+    alloc: Global,
+    scope: &Scope<'_>,
+    least: &mut Option<Breach>,
+) -> Result<Value, AllocError>
+    ensures { GivesValue (seen_in scope.now) result least.old least.new (expression_tree e.now) }
+{
+    match e {
+        Expression::Constant(number) => Ok(Value::Number(*number)),
+        Expression::Word(word) => Ok(Value::Number(scope.file.numbers.number(key_of_word(word)))),
+        Expression::Named(name) => Ok(named_value(*name, scope, least)),
+        Expression::Call(name, given) => call(given, *name, alloc, scope, least),
+        Expression::Index(name, width, inside) => index(inside, *name, alloc, scope, *width, least),
+        Expression::Parenthesised(inside) => expression(inside, alloc, scope, least),
+        Expression::RelativeOf(which, object) => relative_of(object, alloc, scope, *which, least),
+        Expression::Property(object, name, others) => {
+            properties(object, *name, others, alloc, scope, least)
+        }
+        Expression::PropertyLength(object, name) => length_of(object, *name, alloc, scope, least),
+        Expression::PropertyEntry(object, name, index) => {
+            property_entry(object, *name, index, alloc, scope, least)
+        }
+        Expression::Prefixed(prefix, operand) => prefixed(operand, alloc, scope, *prefix, least),
+        Expression::StepBefore(step, position, operand) => {
+            step_before(operand, alloc, scope, *step, *position, least)
+        }
+        Expression::StepAfter(operand, step, position) => {
+            step_after(operand, alloc, scope, *step, *position, least)
+        }
+        Expression::Chain(first, operator, second, links) => {
+            chain(links, first, second, alloc, scope, *operator, least)
+        }
+        Expression::Compare(left, comparison, right) => {
+            compare(left, right, alloc, scope, *comparison, least)
+        }
+        Expression::Equal(left, equality, right, others) => {
+            equal(others, left, right, alloc, scope, *equality, least)
+        }
+        Expression::Contained(left, containment, right) => {
+            contained(left, right, alloc, scope, *containment, least)
+        }
+        Expression::Tested(object, test, name) => tested(object, *name, alloc, scope, *test, least),
+        Expression::Assign(left, at, right) => assign(left, right, alloc, scope, *at, least),
+    }
+}
+
+/// The same, in a box.
+///
+/// # Errors
+///
+/// `AllocError` where memory is refused.
+#[cycle(expression)]
+pub fn boxed(
+    e: &Expression<'_>,
+    alloc: Global,
+    scope: &Scope<'_>,
+    least: &mut Option<Breach>,
+) -> Result<Box<Value>, AllocError>
+    ensures { IfOk result (λ v. IsResolved (seen_in scope.now) (expression_tree e.now)
+        least.old least.new (value_of v.value)) }
+{
+    let Ok(found) = expression(e, alloc, scope, least) else {
+        return Err(AllocError);
+    };
+    Ok(Box::new(alloc, found)?)
+}
+
+#[cycle(expression)]
+fn all_expressions(
+    given: &[Expression<'_>],
+    alloc: Global,
+    scope: &Scope<'_>,
+    least: &mut Option<Breach>,
+) -> Result<Vec<Value>, AllocError>
+    ensures { IfOk result (λ v. AreResolved (seen_in scope.now) given.now
+        least.old least.new (map value_of v.items)) }
+{
+    let mut found = Vec::new(alloc);
+    for e in given {
+        let Ok(resolved) = expression(e, alloc, scope, least) else {
+            return Err(AllocError);
+        };
+        found.push(resolved)?;
+    }
+    Ok(found)
+}
+
+// The operators and operands that follow in a chain.
+#[cycle(expression)]
+fn chain_links(
+    links: &[(Binary, Expression<'_>)],
+    alloc: Global,
+    scope: &Scope<'_>,
+    least: &mut Option<Breach>,
+) -> Result<Vec<(Binary, Value)>, AllocError>
+    ensures { IfOk result (λ v. AreLinks (seen_in scope.now) links.now
+        least.old least.new (map value_link v.items)) }
+{
+    let mut found = Vec::new(alloc);
+    for link in links {
+        let Ok(operand) = expression(&link.1, alloc, scope, least) else {
+            return Err(AllocError);
+        };
+        found.push((link.0, operand))?;
+    }
+    Ok(found)
+}
+
+// What is stepped, by an operator at this position.
+#[cycle(expression)]
+fn variable(
+    e: &Expression<'_>,
+    alloc: Global,
+    scope: &Scope<'_>,
+    operator: Position,
+    least: &mut Option<Breach>,
+) -> Result<Variable, AllocError>
+    ensures { IfOk result (λ x. IsTarget (seen_in scope.now) operator (expression_tree e.now)
+        least.old least.new x) }
+{
+    match name_of(e) {
+        Some(name) => Ok(target_of(name, operator, scope.look(name.text), least)),
+        None => {
+            drop(expression(e, alloc, scope, least)?);
+            note(least, NOT_ASSIGNABLE, operator);
+            Ok(Variable::Local(0))
+        }
+    }
+}
+
+#[cycle(expression)]
+fn call(
+    given: &[Expression<'_>],
+    name: Name<'_>,
+    alloc: Global,
+    scope: &Scope<'_>,
+    least: &mut Option<Breach>,
+) -> Result<Value, AllocError>
+    ensures { GivesValue (seen_in scope.now) result least.old least.new
+        (trees.call (name_tree name.entry) (trees_of (map expression_tree given.now))) }
+{
+    let number = routine(name, given.len(), scope.look(name.text), least);
+    let Ok(given) = all_expressions(given, alloc, scope, least) else {
+        return Err(AllocError);
+    };
+    Ok(Value::Call(number, given))
+}
+
+#[cycle(expression)]
+fn index(
+    operand: &Expression<'_>,
+    name: Name<'_>,
+    alloc: Global,
+    scope: &Scope<'_>,
+    width: Width,
+    least: &mut Option<Breach>,
+) -> Result<Value, AllocError>
+    ensures { GivesValue (seen_in scope.now) result least.old least.new
+        (trees.index (name_tree name.entry) width (expression_tree operand.now)) }
+{
+    let number = array(name, scope.look(name.text), least);
+    let Ok(operand) = boxed(operand, alloc, scope, least) else {
+        return Err(AllocError);
+    };
+    Ok(Value::Entry(width, number, operand))
+}
+
+#[cycle(expression)]
+fn relative_of(
+    object: &Expression<'_>,
+    alloc: Global,
+    scope: &Scope<'_>,
+    relative: Relative,
+    least: &mut Option<Breach>,
+) -> Result<Value, AllocError>
+    ensures { GivesValue (seen_in scope.now) result least.old least.new
+        (trees.relative_of relative (expression_tree object.now)) }
+{
+    let Ok(object) = boxed(object, alloc, scope, least) else {
+        return Err(AllocError);
+    };
+    Ok(Value::Relative(relative, object))
+}
+
+#[cycle(expression)]
+fn properties(
+    object: &Expression<'_>,
+    name: Name<'_>,
+    others: &[Name<'_>],
+    alloc: Global,
+    scope: &Scope<'_>,
+    least: &mut Option<Breach>,
+) -> Result<Value, AllocError>
+    ensures { GivesValue (seen_in scope.now) result least.old least.new
+        (propertied (trees.property (expression_tree object.now) (name_tree name.entry))
+        others.now) }
+{
+    let Ok(object) = boxed(object, alloc, scope, least) else {
+        return Err(AllocError);
+    };
+    let number = property(name, scope.look(name.text), least);
+    let Ok(others) = property_numbers(others, alloc, scope, least) else {
+        return Err(AllocError);
+    };
+    Ok(Value::Property(object, number, others))
+}
+
+#[cycle(expression)]
+fn length_of(
+    object: &Expression<'_>,
+    name: Name<'_>,
+    alloc: Global,
+    scope: &Scope<'_>,
+    least: &mut Option<Breach>,
+) -> Result<Value, AllocError>
+    ensures { GivesValue (seen_in scope.now) result least.old least.new
+        (trees.property_length (expression_tree object.now) (name_tree name.entry)) }
+{
+    let Ok(object) = boxed(object, alloc, scope, least) else {
+        return Err(AllocError);
+    };
+    let number = property(name, scope.look(name.text), least);
+    Ok(Value::PropertySize(object, number))
+}
+
+#[cycle(expression)]
+fn property_entry(
+    object: &Expression<'_>,
+    name: Name<'_>,
+    index: &Expression<'_>,
+    alloc: Global,
+    scope: &Scope<'_>,
+    least: &mut Option<Breach>,
+) -> Result<Value, AllocError>
+    ensures { GivesValue (seen_in scope.now) result least.old least.new
+        (trees.property_entry (expression_tree object.now) (name_tree name.entry)
+        (expression_tree index.now)) }
+{
+    let Ok(object) = boxed(object, alloc, scope, least) else {
+        return Err(AllocError);
+    };
+    let number = property(name, scope.look(name.text), least);
+    let Ok(index) = boxed(index, alloc, scope, least) else {
+        return Err(AllocError);
+    };
+    Ok(Value::PropertyWord(object, number, index))
+}
+
+#[cycle(expression)]
+fn prefixed(
+    operand: &Expression<'_>,
+    alloc: Global,
+    scope: &Scope<'_>,
+    prefix: Prefix,
+    least: &mut Option<Breach>,
+) -> Result<Value, AllocError>
+    ensures { GivesValue (seen_in scope.now) result least.old least.new
+        (trees.prefixed prefix (expression_tree operand.now)) }
+{
+    let Ok(operand) = boxed(operand, alloc, scope, least) else {
+        return Err(AllocError);
+    };
+    Ok(Value::Prefixed(prefix, operand))
+}
+
+#[cycle(expression)]
+fn step_before(
+    operand: &Expression<'_>,
+    alloc: Global,
+    scope: &Scope<'_>,
+    step: Step,
+    position: Position,
+    least: &mut Option<Breach>,
+) -> Result<Value, AllocError>
+    ensures { GivesValue (seen_in scope.now) result least.old least.new
+        (trees.step_before step position (expression_tree operand.now)) }
+{
+    let Ok(variable) = variable(operand, alloc, scope, position, least) else {
+        return Err(AllocError);
+    };
+    Ok(Value::StepBefore(step, variable))
+}
+
+#[cycle(expression)]
+fn step_after(
+    operand: &Expression<'_>,
+    alloc: Global,
+    scope: &Scope<'_>,
+    step: Step,
+    position: Position,
+    least: &mut Option<Breach>,
+) -> Result<Value, AllocError>
+    ensures { GivesValue (seen_in scope.now) result least.old least.new
+        (trees.step_after (expression_tree operand.now) step position) }
+{
+    let Ok(variable) = variable(operand, alloc, scope, position, least) else {
+        return Err(AllocError);
+    };
+    Ok(Value::StepAfter(variable, step))
+}
+
+#[cycle(expression)]
+fn chain(
+    links: &[(Binary, Expression<'_>)],
+    first: &Expression<'_>,
+    second: &Expression<'_>,
+    alloc: Global,
+    scope: &Scope<'_>,
+    operator: Binary,
+    least: &mut Option<Breach>,
+) -> Result<Value, AllocError>
+    ensures { GivesValue (seen_in scope.now) result least.old least.new
+        (trees.chained
+        (trees.binary operator (expression_tree first.now) (expression_tree second.now))
+        (map link links.now)) }
+{
+    let Ok(first) = boxed(first, alloc, scope, least) else {
+        return Err(AllocError);
+    };
+    let Ok(second) = boxed(second, alloc, scope, least) else {
+        return Err(AllocError);
+    };
+    let Ok(links) = chain_links(links, alloc, scope, least) else {
+        return Err(AllocError);
+    };
+    Ok(Value::Chain(first, operator, second, links))
+}
+
+#[cycle(expression)]
+fn compare(
+    left: &Expression<'_>,
+    right: &Expression<'_>,
+    alloc: Global,
+    scope: &Scope<'_>,
+    comparison: Comparison,
+    least: &mut Option<Breach>,
+) -> Result<Value, AllocError>
+    ensures { GivesValue (seen_in scope.now) result least.old least.new
+        (trees.compare comparison (expression_tree left.now) (expression_tree right.now)) }
+{
+    let Ok(left) = boxed(left, alloc, scope, least) else {
+        return Err(AllocError);
+    };
+    let Ok(right) = boxed(right, alloc, scope, least) else {
+        return Err(AllocError);
+    };
+    Ok(Value::Compare(left, comparison, right))
+}
+
+#[cycle(expression)]
+fn equal(
+    others: &[Expression<'_>],
+    left: &Expression<'_>,
+    right: &Expression<'_>,
+    alloc: Global,
+    scope: &Scope<'_>,
+    equality: Equality,
+    least: &mut Option<Breach>,
+) -> Result<Value, AllocError>
+    ensures { GivesValue (seen_in scope.now) result least.old least.new
+        (trees.equal equality (expression_tree left.now)
+        (trees.more (expression_tree right.now) (trees_of (map expression_tree others.now)))) }
+{
+    let Ok(left) = boxed(left, alloc, scope, least) else {
+        return Err(AllocError);
+    };
+    let Ok(right) = boxed(right, alloc, scope, least) else {
+        return Err(AllocError);
+    };
+    let Ok(others) = all_expressions(others, alloc, scope, least) else {
+        return Err(AllocError);
+    };
+    Ok(Value::Equal(left, equality, right, others))
+}
+
+#[cycle(expression)]
+fn contained(
+    left: &Expression<'_>,
+    right: &Expression<'_>,
+    alloc: Global,
+    scope: &Scope<'_>,
+    containment: Containment,
+    least: &mut Option<Breach>,
+) -> Result<Value, AllocError>
+    ensures { GivesValue (seen_in scope.now) result least.old least.new
+        (trees.contained containment (expression_tree left.now) (expression_tree right.now)) }
+{
+    let Ok(left) = boxed(left, alloc, scope, least) else {
+        return Err(AllocError);
+    };
+    let Ok(right) = boxed(right, alloc, scope, least) else {
+        return Err(AllocError);
+    };
+    Ok(Value::Contained(left, containment, right))
+}
+
+#[cycle(expression)]
+fn tested(
+    object: &Expression<'_>,
+    name: Name<'_>,
+    alloc: Global,
+    scope: &Scope<'_>,
+    test: ObjectTest,
+    least: &mut Option<Breach>,
+) -> Result<Value, AllocError>
+    ensures { GivesValue (seen_in scope.now) result least.old least.new
+        (trees.tested test (expression_tree object.now) (name_tree name.entry)) }
+{
+    let Ok(object) = boxed(object, alloc, scope, least) else {
+        return Err(AllocError);
+    };
+    Ok(tested_value(name, object, test, scope.look(name.text), least))
+}
+
+// The left side of an assignment, whose operator stands at this position.
+#[cycle(expression)]
+fn left_side(
+    e: &Expression<'_>,
+    alloc: Global,
+    scope: &Scope<'_>,
+    operator: Position,
+    least: &mut Option<Breach>,
+) -> Result<Value, AllocError>
+    ensures { IfOk result (λ v. IsAssigned (seen_in scope.now) operator (expression_tree e.now)
+        least.old least.new (value_of v)) }
+{
+    match name_of(e) {
+        Some(name) => {
+            let found = scope.look(name.text);
+            target_of(name, operator, found, least);
+            Ok(named(&scope.file.numbers, found))
+        }
+        None => {
+            let left = expression(e, alloc, scope, least)?;
+            not_place(is_place(e), operator, least);
+            Ok(left)
+        }
+    }
+}
+
+#[cycle(expression)]
+fn assign(
+    left: &Expression<'_>,
+    right: &Expression<'_>,
+    alloc: Global,
+    scope: &Scope<'_>,
+    position: Position,
+    least: &mut Option<Breach>,
+) -> Result<Value, AllocError>
+    ensures { GivesValue (seen_in scope.now) result least.old least.new
+        (trees.assign (expression_tree left.now) position (expression_tree right.now)) }
+{
+    let Ok(left) = left_side(left, alloc, scope, position, least) else {
+        return Err(AllocError);
+    };
+    let Ok(right) = boxed(right, alloc, scope, least) else {
+        drop(left);
+        return Err(AllocError);
+    };
+    assignment(left, right, alloc)
+}

@@ -1,0 +1,124 @@
+//! Values that are known before a story runs: the rules that they can break, and what they are.
+
+ghost use Rattle.std.specs.Prelude.{◌≡◌};
+ghost use Rattle.syntax_statement_parts.specs.Tree.{literal_tree};
+ghost use Rattle.syntax_directives.specs.Tree.{optional_tree};
+ghost use Rattle.checker_names.specs.Names as names;
+ghost use Rattle.checker_names.specs.Noted.{noted};
+ghost use Rattle.checker_names.specs.Scope.{file_in};
+ghost use Rattle.checker_values.specs.Literals as spec;
+
+use checker_names::{Binding, Breach, File, Known, Table, find, literal_known, note, or_zero};
+use syntax::Literal;
+use syntax_lexer::{Position, UNKNOWN_NAME, WRONG_KIND};
+
+/// A name in what a global or an entry of an array begins with, or in what begins a case, and what
+/// it stands for there: it is a constant or an object.
+#[tactic(auto, using(checker_names::proofs::Noted::noted_none))]
+pub fn constant_name(position: Position, found: Option<Binding>, least: &mut Option<Breach>)
+    ensures { least.new ≡ noted least.old (spec.constant_breaches position found) }
+{
+    match found {
+        None => note(least, UNKNOWN_NAME, position),
+        Some(Binding::Constant(_)) => {}
+        Some(Binding::Global(_)) => note(least, WRONG_KIND, position),
+        Some(Binding::Array(_, _)) => note(least, WRONG_KIND, position),
+        Some(Binding::Routine(_, _)) => note(least, WRONG_KIND, position),
+        Some(Binding::Attribute(_)) => note(least, WRONG_KIND, position),
+        Some(Binding::Property(_)) => note(least, WRONG_KIND, position),
+        Some(Binding::Object(_)) => {}
+        Some(Binding::Local(_)) => note(least, WRONG_KIND, position),
+    }
+}
+
+#[tactic(auto, using(checker_names::proofs::Noted::noted_none))]
+fn literal_rules(value: &Literal<'_>, whole: &Table, least: &mut Option<Breach>)
+    ensures { least.new ≡ noted least.old
+        (spec.literal_breaches whole.now.entries (literal_tree value.now)) }
+{
+    if let Literal::Named(name) = value {
+        constant_name(name.position, find(whole, name.text), least);
+    }
+}
+
+/// What a literal is, among the names of the file; `None` where it breaks a rule.
+pub fn literal(value: &Literal<'_>, whole: &Table, least: &mut Option<Breach>) -> Option<Known>
+    ensures value { result ≡ names.literal_known whole.now.entries (literal_tree value.now) }
+    ensures breaches { least.new ≡ noted least.old
+        (spec.literal_breaches whole.now.entries (literal_tree value.now)) }
+{
+    literal_rules(value, whole, least);
+    literal_known(value, whole)
+}
+
+/// What a global begins with.
+#[tactic(auto, using(checker_names::proofs::Noted::noted_none))]
+pub fn initial(value: &Option<Literal<'_>>, file: &File, least: &mut Option<Breach>) -> u16
+    ensures value { result ≡ spec.initial_value (file_in file.now) (optional_tree value.now) }
+    ensures breaches { least.new ≡ noted least.old
+        (spec.initial_breaches file.now.table.entries (optional_tree value.now)) }
+{
+    match value {
+        None => 0,
+        Some(value) => file
+            .numbers
+            .value(or_zero(literal(value, &file.table, least))),
+    }
+}
+
+// A name in a constant's value that is no constant there: what it stands for in the file.
+#[tactic(auto, using(checker_names::proofs::Noted::noted_none))]
+fn later_name(position: Position, anywhere: Option<Binding>, least: &mut Option<Breach>)
+    ensures { least.new ≡ noted least.old (spec.later_breaches position anywhere) }
+{
+    match anywhere {
+        None => note(least, UNKNOWN_NAME, position),
+        Some(Binding::Constant(_)) => note(least, UNKNOWN_NAME, position),
+        Some(Binding::Global(_)) => note(least, WRONG_KIND, position),
+        Some(Binding::Array(_, _)) => note(least, WRONG_KIND, position),
+        Some(Binding::Routine(_, _)) => note(least, WRONG_KIND, position),
+        Some(Binding::Attribute(_)) => note(least, WRONG_KIND, position),
+        Some(Binding::Property(_)) => note(least, WRONG_KIND, position),
+        Some(Binding::Object(_)) => {}
+        Some(Binding::Local(_)) => note(least, WRONG_KIND, position),
+    }
+}
+
+// A name in a constant's value: what it stands for there, and in the file.
+#[tactic(auto, using(checker_names::proofs::Noted::noted_none))]
+fn earlier_name(
+    position: Position,
+    before: Option<Binding>,
+    anywhere: Option<Binding>,
+    least: &mut Option<Breach>,
+)
+    ensures { least.new ≡ noted least.old (spec.earlier_breaches position before anywhere) }
+{
+    match before {
+        None => later_name(position, anywhere, least),
+        Some(Binding::Constant(_)) => {}
+        Some(Binding::Global(_)) => later_name(position, anywhere, least),
+        Some(Binding::Array(_, _)) => later_name(position, anywhere, least),
+        Some(Binding::Routine(_, _)) => later_name(position, anywhere, least),
+        Some(Binding::Attribute(_)) => later_name(position, anywhere, least),
+        Some(Binding::Property(_)) => later_name(position, anywhere, least),
+        Some(Binding::Object(_)) => {}
+        Some(Binding::Local(_)) => later_name(position, anywhere, least),
+    }
+}
+
+/// The value of a constant, where `table` has the names before it.
+#[tactic(auto, using(checker_names::proofs::Noted::noted_none))]
+pub fn constant_value(value: &Literal<'_>, whole: &Table, table: &Table, least: &mut Option<Breach>)
+    ensures { least.new ≡ noted least.old
+        (spec.named_breaches whole.now.entries table.now.entries (literal_tree value.now)) }
+{
+    if let Literal::Named(name) = value {
+        earlier_name(
+            name.position,
+            find(table, name.text),
+            find(whole, name.text),
+            least,
+        );
+    }
+}

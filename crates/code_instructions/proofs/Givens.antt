@@ -1,0 +1,103 @@
+-- The first of some operands, as a slice.
+use Rattle.std.proofs.Common.{◌≡◌, ℕ, zero, suc, min, List, [], ◌∷◌, ◌++◌, length, take, refl, sym, ap, ◌∙◌, arith}
+use Rattle.std.specs.Prelude.{nat_eq, Bool, false, if◌then◌else◌, Option, None, Result, Ok, Err, OnOk}
+use Rattle.std.proofs.lemmas.Bool.{ne_eqb}
+use Rattle.zcore.specs.declared.instruction.Operand.{Operand}
+use Rattle.zcore.specs.declared.instruction.Operand.TheVariants.{Large}
+use Rattle.zcore.specs.declared.instruction.Operation.{Operation}
+use Rattle.zcore.specs.Instruction.{bytes_of}
+use Rattle.code_values.specs.Items.{Destination, Test}
+use Rattle.code_values.specs.Items as items
+use Rattle.code_values.specs.declared.item.Operand as code_operand
+use Rattle.code_values.specs.Code.{as_operand, as_operands}
+use Rattle.code_encoding.specs.Instructions.{takes, operands}
+use Rattle.code_instructions.specs.Instructions.{calling, call_code, call_operation, call_result, asks_none, labelled}
+use Rattle.code_instructions.specs.Instructions.{test_operation, least_word, tested_code, branch_code}
+use Rattle.code_encoding.specs.Bytes.{bytes_of_all}
+use Rattle.code_encoding.proofs.Chains.{one_joined, all_joined}
+
+as_taken : (xs : List code_operand.Operand) (n : ℕ) → as_operands (take n xs) ≡ take n (as_operands xs)
+as_taken xs zero = refl
+as_taken [] (suc n) = refl
+as_taken (x ∷ xs) (suc n) = ap (λ os. as_operand x ∷ os) (as_taken xs n)
+
+taken_by : (xs : List code_operand.Operand) (n k : ℕ) → k ≡ min (length xs) n → take k xs ≡ take n xs
+taken_by xs zero k e = let none : k ≡ 0 = omega (arith, e) in ap (λ j. take j xs) none
+taken_by [] (suc n) zero e = refl
+taken_by [] (suc n) (suc k) e = refl
+taken_by (x ∷ xs) (suc n) zero e = absurd (omega (arith, e))
+taken_by (x ∷ xs) (suc n) (suc k) e = ap (λ ys. x ∷ ys) (taken_by xs n k (omega (arith, e)))
+
+-- at most so many operands
+pub given_is : (xs : List code_operand.Operand) (n k : ℕ) → k ≡ min (length xs) n
+    → as_operands (take k xs) ≡ take n (as_operands xs)
+given_is xs n k e = ap as_operands (taken_by xs n k e) ∙ as_taken xs n
+
+as_length : (xs : List code_operand.Operand) → length (as_operands xs) ≡ length xs
+as_length [] = refl
+as_length (x ∷ xs) = ap suc (as_length xs)
+
+-- the bytes of a call
+pub call_written : (address : ℕ) (given : List code_operand.Operand) (os : List items.Operand) (d : Destination)
+    (op : Operation) (result : Option ℕ) (b b1 b2 : List ℕ) (n1 n2 n3 : List Operand)
+    → as_operands given ≡ os → op ≡ call_operation (length given) d → result ≡ call_result d
+    → n1 ≡ [] ++ Large address ∷ [] → n2 ≡ n1 ++ operands (as_operands given) → n3 ≡ n2
+    → b1 ≡ b ++ bytes_of_all (takes (as_operands given))
+    → b2 ≡ b1 ++ bytes_of (record { operation = op; operands = n3; result = result; branch = None })
+    → b2 ≡ b ++ bytes_of_all (call_code address os d)
+call_written address given os d op result b b1 b2 n1 n2 n3 same o r e1 e2 e3 f1 f2 =
+    let count : length given ≡ length os = sym (as_length given) ∙ ap length same in
+    let named : n3 ≡ Large address ∷ operands os =
+    e3 ∙ e2 ∙ ap (λ n. n ++ operands (as_operands given)) e1 ∙ ap (λ xs. Large address ∷ operands xs) same in
+    let operation : op ≡ call_operation (length os) d = o ∙ ap (λ n. call_operation n d) count in
+    one_joined (takes os) (calling address os d) b b1 b2 (f1 ∙ ap (λ xs. b ++ bytes_of_all (takes xs)) same)
+    (f2 ∙ ap (λ (x : Operation). b1 ++ bytes_of
+    (record { operation = x; operands = n3; result = result; branch = None })) operation
+    ∙ ap (λ (x : List Operand). b1 ++ bytes_of
+    (record { operation = call_operation (length os) d; operands = x; result = result; branch = None })) named
+    ∙ ap (λ (x : Option ℕ). b1 ++ bytes_of (record {
+      operation = call_operation (length os) d;
+      operands = Large address ∷ operands os;
+      result = x;
+      branch = None;
+    })) r)
+
+-- one of none
+pub asks_one : (xs : List code_operand.Operand) → nat_eq (length xs) 1 ≡ asks_none items.same (as_operands xs)
+asks_one [] = refl
+asks_one (x ∷ []) = refl
+asks_one (x ∷ y ∷ xs) = ne_eqb _ _ (λ e. omega (arith, e))
+
+pub as_joined : (xs : List code_operand.Operand) (y : code_operand.Operand)
+    → as_operands (xs ++ y ∷ []) ≡ as_operands xs ++ as_operand y ∷ []
+as_joined [] y = refl
+as_joined (x ∷ xs) y = ap (λ os. as_operand x ∷ os) (as_joined xs y)
+
+-- the bytes of a branch
+pub tested_joined : (test : Test) (os : List items.Operand) (op : Operation) (when : Bool) (offset : ℕ)
+    (b b1 b2 : List ℕ) (n1 n2 n3 : List Operand) → n1 ≡ [] → n2 ≡ n1 ++ operands os → n3 ≡ n2
+    → op ≡ test_operation test
+    → b1 ≡ b ++ bytes_of_all (takes os) → b2 ≡ b1 ++ bytes_of_all (labelled op n3 when offset)
+    → b2 ≡ b ++ bytes_of_all (tested_code test os when offset)
+tested_joined test os op when offset b b1 b2 n1 n2 n3 e1 e2 e3 o f1 f2 =
+    let named : n3 ≡ operands os = e3 ∙ e2 ∙ ap (λ n. n ++ operands os) e1 in
+    all_joined (takes os) (labelled (test_operation test) (operands os) when offset) b b1 b2 f1
+    (f2 ∙ ap (λ (x : Operation). b1 ++ bytes_of_all (labelled x n3 when offset)) o
+    ∙ ap (λ (x : List Operand). b1 ++ bytes_of_all (labelled (test_operation test) x when offset)) named)
+
+-- a branch that is asked as it is
+pub branch_otherwise : (test : Test) (os given : List items.Operand) (asks when : Bool) (offset : ℕ) (b b1 : List ℕ)
+    → given ≡ os → asks ≡ asks_none test given → asks ≡ false
+    → b1 ≡ b ++ bytes_of_all (tested_code test given when offset)
+    → b1 ≡ b ++ bytes_of_all (branch_code test os when offset)
+branch_otherwise test os given asks when offset b b1 same is isnt e =
+    let none : asks_none test os ≡ false = sym (is ∙ ap (λ xs. asks_none test xs) same) ∙ isnt in
+    e ∙ ap (λ xs. b ++ bytes_of_all (tested_code test xs when offset)) same
+    ∙ ap (λ (x : Bool). b ++ bytes_of_all (if x
+    then tested_code items.less (os ++ items.number least_word ∷ []) when offset
+    else tested_code test os when offset))
+    (sym none)
+
+pub on_ok : {A E P Q : Type 0} (r : Result A E) → (P → Q) → OnOk r P → OnOk r Q
+on_ok (Ok x) f h = f h
+on_ok (Err e) f h = tt

@@ -1,0 +1,223 @@
+-- The instructions of items on words, of calls, branches and prints (Z-Machine Standards Document 1.1, sections 4 and
+-- 15).
+use Rattle.std.specs.Prelude.{◌+◌, ◌-◌, ◌%◌, ◌==◌, ◌&&◌, not, ℕ, nat_le, nat_lt, Bool, true, false, if◌then◌else◌, List}
+use Rattle.std.specs.Prelude.{[], ◌∷◌, ◌++◌, map, take, length, Option, Some, None}
+use Rattle.zcore.specs.declared.instruction.Operand.{Operand}
+use Rattle.zcore.specs.declared.instruction.Operand.TheVariants.{Large, Small, Variable}
+use Rattle.zcore.specs.declared.instruction.Operation.{Operation}
+use Rattle.zcore.specs.declared.instruction.Operation.TheVariants.{JumpIfEqual, JumpIfLess, JumpIfGreater, Or, And, Add}
+use Rattle.zcore.specs.declared.instruction.Operation.TheVariants.{Sub, Mul, Div, Mod, JumpIfZero, Increment, Decrement}
+use Rattle.zcore.specs.declared.instruction.Operation.TheVariants.{Call1s, Return, Jump, Call1n, ReturnTrue}
+use Rattle.zcore.specs.declared.instruction.Operation.TheVariants.{ReturnFalse, ReturnPopped, CallVs, PrintCharacter}
+use Rattle.zcore.specs.declared.instruction.Operation.TheVariants.{CallVs2, Not, CallVn, CallVn2}
+use Rattle.zcore.specs.Instruction.{Instruction}
+use Rattle.syntax_trees.specs.declared.tree.Binary.{Binary}
+use Rattle.syntax_trees.specs.declared.tree.Binary.TheVariants as binaries
+use Rattle.syntax_trees.specs.declared.tree.Prefix.{Prefix}
+use Rattle.syntax_trees.specs.declared.tree.Prefix.TheVariants as prefixes
+use Rattle.syntax_trees.specs.declared.tree.Step.{Step}
+use Rattle.syntax_trees.specs.declared.tree.Step.TheVariants as steps
+use Rattle.meaning.specs.declared.cause.Cause.{Cause}
+use Rattle.meaning.specs.declared.cause.Cause.TheVariants as causes
+use Rattle.meaning.specs.declared.resolved.Variable as source
+use Rattle.meaning.specs.Meaning.{is_character}
+use Rattle.code_values.specs.Items.{Destination, Test}
+use Rattle.code_values.specs.Items as items
+use Rattle.code_encoding.specs.Addresses.{Addresses, fault_address}
+use Rattle.code_encoding.specs.Instructions.{plain, giving, branching, number_of, temporary, constant, push, pull, copy}
+use Rattle.code_encoding.specs.Instructions.{store, fail, in_place, takes, operands, result_in}
+
+-- 1 is pushed where a branch leads to the last of these, by 8 from the one before them, and else 0
+abbrev pub flag : List Instruction
+flag = push (Small 0) ∷ plain Jump (Large 5 ∷ []) ∷ push (Small 1) ∷ []
+
+-- Words
+
+abbrev pub move_code : items.Operand → Destination → Instruction
+move_code o items.push = push (in_place o)
+move_code items.pushed (items.into x) = pull (number_of x)
+move_code (items.number n) (items.into x) = store (number_of x) (constant n)
+move_code (items.variable y) (items.into x) = store (number_of x) (Variable (number_of y))
+move_code o items.nowhere = store (temporary 0) (in_place o)
+
+-- `~~` is a branch, and no item
+abbrev pub prefix_code : Prefix → items.Operand → Destination → List Instruction
+prefix_code prefixes.Minus o d = giving Sub (Small 0 ∷ in_place o ∷ []) (result_in d) ∷ []
+prefix_code prefixes.Complement o d = giving Not (in_place o ∷ []) (result_in d) ∷ []
+prefix_code prefixes.Not o d = []
+
+abbrev pub arithmetic : Operation → items.Operand → items.Operand → Destination → List Instruction
+arithmetic operation a b d = takes (a ∷ b ∷ []) ++ giving operation (operands (a ∷ b ∷ [])) (result_in d) ∷ []
+
+-- a division by the word of a variable, which is tested first
+abbrev pub divided_by : Addresses → Operation → items.Operand → ℕ → Destination → List Instruction
+divided_by a operation x variable d =
+    branching JumpIfZero (Variable variable ∷ []) false 6 ∷ (fail (fault_address a causes.DivisionByZero)
+    ++ giving operation (in_place x ∷ Variable variable ∷ []) (result_in d) ∷ [])
+
+-- a number as divisor is not tested
+abbrev pub divided : Addresses → Operation → items.Operand → items.Operand → Destination → List Instruction
+divided a operation x items.pushed d = pull (temporary 0) ∷ divided_by a operation x (temporary 0) d
+divided a operation x (items.number n) d =
+    if n == 0 then fail (fault_address a causes.DivisionByZero)
+    else giving operation (in_place x ∷ constant n ∷ []) (result_in d) ∷ []
+divided a operation x (items.variable y) d = divided_by a operation x (number_of y) d
+
+-- `&&` and `||` are branches, and no item
+abbrev pub binary_code : Addresses → Binary → items.Operand → items.Operand → Destination → List Instruction
+binary_code a binaries.AndAlso x y d = []
+binary_code a binaries.OrElse x y d = []
+binary_code a binaries.Add x y d = arithmetic Add x y d
+binary_code a binaries.Subtract x y d = arithmetic Sub x y d
+binary_code a binaries.Multiply x y d = arithmetic Mul x y d
+binary_code a binaries.Divide x y d = divided a Div x y d
+binary_code a binaries.Remainder x y d = divided a Mod x y d
+binary_code a binaries.And x y d = arithmetic And x y d
+binary_code a binaries.Or x y d = arithmetic Or x y d
+
+abbrev pub step_operation : Step → Operation
+step_operation steps.Increment = Increment
+step_operation steps.Decrement = Decrement
+
+abbrev pub stepping : Step → source.Variable → Instruction
+stepping op x = plain (step_operation op) (Small (number_of x) ∷ [])
+
+-- the new word is read from the variable
+abbrev pub step_code : Step → source.Variable → Destination → List Instruction
+step_code op x items.push = stepping op x ∷ push (Variable (number_of x)) ∷ []
+step_code op x (items.into y) = stepping op x ∷ store (number_of y) (Variable (number_of x)) ∷ []
+step_code op x items.nowhere = stepping op x ∷ []
+
+-- the left side stays below; it is compared with the right side that is taken
+abbrev pub first_equal_code : List Instruction
+first_equal_code =
+    pull (temporary 0)
+    ∷ copy (temporary 1)
+    ∷ branching JumpIfEqual (Variable (temporary 1) ∷ Variable (temporary 0) ∷ []) true 8
+    ∷ flag
+
+-- the left side stays below; the flag is taken too
+abbrev pub also_equal_code : List Instruction
+also_equal_code =
+    pull (temporary 0)
+    ∷ pull (temporary 1)
+    ∷ copy (temporary 2)
+    ∷ branching JumpIfEqual (Variable (temporary 2) ∷ Variable (temporary 0) ∷ []) true 11
+    ∷ branching JumpIfZero (Variable (temporary 1) ∷ []) false 8
+    ∷ flag
+
+-- Tests
+
+-- a number is, as a signed number, from one number on and below another
+abbrev pub is_between : ℕ → ℕ → ℕ → Bool
+is_between low end i = nat_lt i 32768 && (nat_le low i && nat_lt i end)
+
+-- how far a branch leads to behind a comparison with a constant: it has 4 bytes, or 6 where the constant takes two
+abbrev pub behind_comparison : ℕ → ℕ
+behind_comparison n = if nat_lt n 256 then 6 else 8
+
+-- a word in a variable is tested: where it is not, as a signed number, from one number on and below another, a fault's
+-- text is printed
+abbrev pub tested_between : Addresses → Cause → ℕ → ℕ → ℕ → List Instruction
+tested_between a cause low end variable =
+    branching JumpIfLess (Variable variable ∷ Small low ∷ []) true (behind_comparison end)
+    ∷ branching JumpIfLess (Variable variable ∷ constant end ∷ []) true 6
+    ∷ fail (fault_address a cause)
+
+-- Printing
+
+-- a character is 0, 13 or from 32 to 126, and else the fault's text is printed
+abbrev pub tested_character : Addresses → ℕ → List Instruction
+tested_character a variable =
+    branching JumpIfEqual (Variable variable ∷ Small 0 ∷ Small 13 ∷ []) true 14
+    ∷ branching JumpIfLess (Variable variable ∷ Small 32 ∷ []) true 6
+    ∷ branching JumpIfGreater (Variable variable ∷ Small 126 ∷ []) false 6
+    ∷ (fail (fault_address a causes.NotACharacter) ++ plain PrintCharacter (Variable variable ∷ []) ∷ [])
+
+abbrev pub character_code : Addresses → items.Operand → List Instruction
+character_code a items.pushed = pull (temporary 0) ∷ tested_character a (temporary 0)
+character_code a (items.number n) =
+    if is_character n then plain PrintCharacter (constant n ∷ []) ∷ [] else fail (fault_address a causes.NotACharacter)
+character_code a (items.variable x) = tested_character a (number_of x)
+
+-- Branches to labels
+
+abbrev pub test_operation : Test → Operation
+test_operation items.is_zero = JumpIfZero
+test_operation items.less = JumpIfLess
+test_operation items.greater = JumpIfGreater
+test_operation items.same = JumpIfEqual
+
+-- to 8,191 the branch itself, and else the opposite branch over a jump
+abbrev pub labelled : Operation → List Operand → Bool → ℕ → List Instruction
+labelled operation os when offset =
+    if nat_lt offset 8192 then branching operation os when offset ∷ []
+    else branching operation os (not when) 5 ∷ plain Jump (Large (offset % 65536) ∷ []) ∷ []
+
+abbrev pub tested_code : Test → List items.Operand → Bool → ℕ → List Instruction
+tested_code test os when offset = takes os ++ labelled (test_operation test) (operands os) when offset
+
+-- the test that a word equals one of none is never so
+abbrev pub asks_none : Test → List items.Operand → Bool
+asks_none items.same (o ∷ []) = true
+asks_none test os = false
+
+-- the signed word that no word is less than
+abbrev pub least_word : ℕ
+least_word = 32768
+
+abbrev pub branch_code : Test → List items.Operand → Bool → ℕ → List Instruction
+branch_code test os when offset =
+    if asks_none test os then tested_code items.less (os ++ items.number least_word ∷ []) when offset
+    else tested_code test os when offset
+
+-- `switch`
+
+-- the variable of the word that cases are tested on
+abbrev pub chosen_variable : ℕ
+chosen_variable = 255
+
+abbrev pub choose_code : items.Operand → Instruction
+choose_code items.pushed = pull chosen_variable
+choose_code (items.number n) = store chosen_variable (constant n)
+choose_code (items.variable x) = store chosen_variable (Variable (number_of x))
+
+-- the most numbers that a word is compared with; an accepted program has no more
+abbrev pub most_compared : ℕ
+most_compared = 3
+
+abbrev pub compared : List ℕ → List Operand
+compared ns = Variable chosen_variable ∷ map constant (take most_compared ns)
+
+abbrev pub case_code : Test → List ℕ → Bool → ℕ → List Instruction
+case_code test ns when offset = labelled (test_operation test) (compared ns) when offset
+
+-- Calls and returns
+
+-- Up to three arguments have one byte of types, more have two; no argument has none (section 15, `call_1s` and
+-- others). Beside a routine, whose address is a large constant, one argument would have a byte of types in each form.
+abbrev pub call_operation : ℕ → Destination → Operation
+call_operation n items.nowhere = if n == 0 then Call1n else (if nat_le n 3 then CallVn else CallVn2)
+call_operation n d = if n == 0 then Call1s else (if nat_le n 3 then CallVs else CallVs2)
+
+abbrev pub call_result : Destination → Option ℕ
+call_result items.push = Some 0
+call_result (items.into x) = Some (number_of x)
+call_result items.nowhere = None
+
+abbrev pub calling : ℕ → List items.Operand → Destination → Instruction
+calling routine os d = record {
+  operation = call_operation (length os) d;
+  operands = Large routine ∷ operands os;
+  result = call_result d;
+  branch = None;
+}
+
+abbrev pub call_code : ℕ → List items.Operand → Destination → List Instruction
+call_code routine os d = takes os ++ calling routine os d ∷ []
+
+abbrev pub return_code : items.Operand → Instruction
+return_code items.pushed = plain ReturnPopped []
+return_code (items.number n) =
+    if n == 1 then plain ReturnTrue [] else (if n == 0 then plain ReturnFalse [] else plain Return (constant n ∷ []))
+return_code (items.variable x) = plain Return (Variable (number_of x) ∷ [])

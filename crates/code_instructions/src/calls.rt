@@ -1,0 +1,108 @@
+//! Calls of routines, and returns.
+
+ghost use Rattle.std.specs.Prelude.{◌≡◌, [], ◌∷◌, take, OnOk};
+ghost use Rattle.code_values.specs.Items as source_items;
+ghost use Rattle.code_values.specs.Code.{as_operand, as_operands, as_destination};
+ghost use Rattle.code_instructions.specs.Instructions.{call_code, return_code};
+ghost use Rattle.code_encoding.specs.Instructions as basic;
+ghost use Rattle.code_instructions.specs.Instructions as spec;
+ghost use Rattle.code_encoding.specs.Bytes.{AddsCode};
+ghost use Rattle.code_encoding.specs.Written.{instruction_of};
+ghost use Rattle.meaning.specs.Limits.{most_arguments};
+
+use code_encoding::{
+    Instruction, Operands, constant, plain, put_all, put_instruction, put_named, put_takes,
+    variable_number,
+};
+use code_values::Destination;
+use meaning::limits::MOST_ARGUMENTS;
+use std::alloc::{AllocError, Global};
+use zcore::{Operand, Operation};
+
+/// Up to three arguments have one byte of types, more have two; none has no byte (Z-Machine
+/// Standards Document 1.1, section 15, `call_1s` and others). Beside a routine's address, which is
+/// a large constant, one argument would have a byte of types in each form.
+fn call_operation(count: usize, destination: Destination) -> Operation
+    ensures { result ≡ spec.call_operation count (as_destination destination) }
+{
+    match destination {
+        Destination::Nowhere => {
+            if count == 0 {
+                Operation::Call1n
+            } else if count <= 3 {
+                Operation::CallVn
+            } else {
+                Operation::CallVn2
+            }
+        }
+        _ => {
+            if count == 0 {
+                Operation::Call1s
+            } else if count <= 3 {
+                Operation::CallVs
+            } else {
+                Operation::CallVs2
+            }
+        }
+    }
+}
+
+/// The variable for the result of a call, where there is one.
+fn call_result(destination: Destination) -> Option<u8>
+    ensures { result ≡ spec.call_result (as_destination destination) }
+{
+    match destination {
+        Destination::Push => Some(0),
+        Destination::Into(variable) => Some(variable_number(variable)),
+        Destination::Nowhere => None,
+    }
+}
+
+/// A call of the routine at a packed address, with at most seven arguments.
+#[tactic(auto, using(code_encoding::proofs::Chains::one_joined))]
+pub fn put_call(
+    bytes: &mut Vec<u8>,
+    alloc: Global,
+    address: u16,
+    operands: &[code_values::Operand],
+    destination: Destination,
+) -> Result<(), AllocError>
+    ensures { OnOk result (AddsCode bytes.old bytes.new
+        (call_code address (take most_arguments (as_operands operands.now))
+        (as_destination destination))) }
+{
+    let operands = &operands[..operands.len().min(MOST_ARGUMENTS)];
+    put_takes(bytes, operands)?;
+    let mut named = Vec::new(alloc);
+    named.push(Operand::Large(address))?;
+    put_named(&mut named, operands)?;
+    let operation = call_operation(operands.len(), destination);
+    put_instruction(bytes, operation, &named, call_result(destination), None)?;
+    Ok(())
+}
+
+/// The instruction that returns a number.
+fn number_returned(number: u16) -> Instruction
+    ensures { instruction_of result ≡ return_code (source_items.number number) }
+{
+    match number {
+        1 => plain(Operation::ReturnTrue, Operands::Zero),
+        0 => plain(Operation::ReturnFalse, Operands::Zero),
+        _ => plain(Operation::Return, Operands::One(constant(number))),
+    }
+}
+
+/// A word is returned.
+pub fn put_return(bytes: &mut Vec<u8>, operand: code_values::Operand) -> Result<(), AllocError>
+    ensures { OnOk result (AddsCode bytes.old bytes.new (return_code (as_operand operand) ∷ [])) }
+{
+    let returned = match operand {
+        code_values::Operand::Pushed => plain(Operation::ReturnPopped, Operands::Zero),
+        code_values::Operand::Number(number) => number_returned(number),
+        code_values::Operand::Variable(variable) => {
+            let word = Operand::Variable(variable_number(variable));
+            plain(Operation::Return, Operands::One(word))
+        }
+    };
+    put_all(bytes, &[returned])
+}

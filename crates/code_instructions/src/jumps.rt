@@ -1,0 +1,189 @@
+//! Branches and jumps to other items.
+
+ghost use Rattle.std.specs.Prelude.{◌≡◌, ◌≤◌, ◌+◌, ◌++◌, [], ◌∷◌, length, take, not, IfOk, OnOk};
+ghost use Rattle.zcore.specs.declared.instruction.Operation.TheVariants.{Jump};
+ghost use Rattle.zcore.specs.declared.instruction.Operand.TheVariants.{Large};
+ghost use Rattle.code_values.specs.Items as source_items;
+ghost use Rattle.code_values.specs.Code.{as_operands, as_test};
+ghost use Rattle.code_encoding.specs.Instructions.{plain};
+ghost use Rattle.code_instructions.specs.Instructions.{labelled, tested_code, branch_code, test_operation};
+ghost use Rattle.code_encoding.specs.Instructions as basic;
+ghost use Rattle.code_instructions.specs.Instructions as spec;
+ghost use Rattle.code_encoding.specs.Bytes.{AddsCode};
+ghost use Rattle.meaning.specs.Limits.{most_arguments};
+
+use code_branch_forms::TWO_BYTE_LIMIT;
+use code_encoding::{
+    CHOSEN, Operands, constant, plain, put_all, put_instruction, put_named, put_takes,
+};
+use code_values::{MOST_COMPARED, Test};
+use std::alloc::{AllocError, Global};
+use zcore::{Branch, Operand, Operation};
+
+/// The most operands of an instruction that branches.
+const MOST_TESTED: usize = 4;
+
+/// The signed word that no word is less than.
+const LEAST_WORD: u16 = 0x8000;
+
+/// The branch by a label that leads over the opposite branch and a jump.
+const OVER_JUMP: u16 = 5;
+
+/// The offset of a jump that leads from the address after it to another.
+pub fn jump_offset(after: usize, target: usize) -> u16
+    ensures { result ≡ basic.jump_offset after target }
+{
+    ((target as u128 + 65538).saturating_sub(after as u128) % 65536) as u16
+}
+
+/// A jump by an offset.
+pub fn put_jump(bytes: &mut Vec<u8>, offset: u16) -> Result<(), AllocError>
+    ensures { OnOk result (AddsCode bytes.old bytes.new (plain Jump (Large offset ∷ []) ∷ [])) }
+{
+    put_all(
+        bytes,
+        &[plain(Operation::Jump, Operands::One(Operand::Large(offset)))],
+    )
+}
+
+/// A branch by an offset of two bytes, or the opposite branch over a jump where it does not reach.
+#[tactic(auto, using(code_encoding::proofs::Chains::one_there, code_encoding::proofs::Chains::two_there))]
+pub fn put_labelled(
+    bytes: &mut Vec<u8>,
+    operation: Operation,
+    operands: &[Operand],
+    when: bool,
+    offset: usize,
+) -> Result<(), AllocError>
+    ensures { OnOk result (AddsCode bytes.old bytes.new
+        (labelled operation operands.now when offset)) }
+{
+    if offset < TWO_BYTE_LIMIT {
+        let branch = Branch {
+            when,
+            offset: offset as u16,
+        };
+        put_instruction(bytes, operation, operands, None, Some(branch))?;
+    } else {
+        let over = Branch {
+            when: !when,
+            offset: OVER_JUMP,
+        };
+        put_instruction(bytes, operation, operands, None, Some(over))?;
+        put_jump(bytes, (offset % 65536) as u16)?;
+    }
+    Ok(())
+}
+
+/// The instruction of a test.
+fn operation_of(test: Test) -> Operation
+    ensures { result ≡ test_operation (as_test test) }
+{
+    match test {
+        Test::IsZero => Operation::JumpIfZero,
+        Test::Less => Operation::JumpIfLess,
+        Test::Greater => Operation::JumpIfGreater,
+        Test::Same => Operation::JumpIfEqual,
+    }
+}
+
+/// Whether a test asks that a word equals one of none.
+#[tactic(auto, using(crate::proofs::Givens::asks_one))]
+fn asks_none(test: Test, operands: &[code_values::Operand]) -> bool
+    ensures { result ≡ spec.asks_none (as_test test) (as_operands operands.now) }
+{
+    match test {
+        Test::Same => operands.len() == 1,
+        _ => false,
+    }
+}
+
+/// A branch by a test of its operands.
+#[tactic(auto, using(crate::proofs::Givens::tested_joined))]
+fn put_tested(
+    bytes: &mut Vec<u8>,
+    alloc: Global,
+    test: Test,
+    operands: &[code_values::Operand],
+    when: bool,
+    offset: usize,
+) -> Result<(), AllocError>
+    requires { length operands.now ≤ most_arguments }
+    ensures { OnOk result (AddsCode bytes.old bytes.new
+        (tested_code (as_test test) (as_operands operands.now) when offset)) }
+{
+    put_takes(bytes, operands)?;
+    let mut named = Vec::new(alloc);
+    put_named(&mut named, operands)?;
+    put_labelled(bytes, operation_of(test), &named, when, offset)?;
+    Ok(())
+}
+
+/// A branch by the test that a word equals one of none, which is never so: no word is less than the
+/// least one.
+fn put_never(
+    bytes: &mut Vec<u8>,
+    alloc: Global,
+    operands: &[code_values::Operand],
+    when: bool,
+    offset: usize,
+) -> Result<(), AllocError>
+    requires { length operands.now ≤ basic.most_tested }
+    ensures { OnOk result (AddsCode bytes.old bytes.new
+        (tested_code source_items.less (as_operands operands.now
+        ++ source_items.number spec.least_word ∷ []) when offset)) }
+{
+    let mut asked = Vec::from_slice(alloc, operands)?;
+    asked.push(code_values::Operand::Number(LEAST_WORD))?;
+    put_tested(bytes, alloc, Test::Less, &asked, when, offset)?;
+    Ok(())
+}
+
+/// A branch by a test of at most four operands.
+pub fn put_branch(
+    bytes: &mut Vec<u8>,
+    alloc: Global,
+    test: Test,
+    operands: &[code_values::Operand],
+    when: bool,
+    offset: usize,
+) -> Result<(), AllocError>
+    ensures { OnOk result (AddsCode bytes.old bytes.new (branch_code (as_test test)
+        (take basic.most_tested (as_operands operands.now)) when offset)) }
+{
+    let operands = &operands[..operands.len().min(MOST_TESTED)];
+    if asks_none(test, operands) {
+        put_never(bytes, alloc, operands, when, offset)
+    } else {
+        put_tested(bytes, alloc, test, operands, when, offset)
+    }
+}
+
+/// The word of a `switch` and the numbers that a test of its cases compares it with.
+fn compared(alloc: Global, numbers: &[u16]) -> Result<Vec<Operand>, AllocError>
+    ensures { IfOk result (λ v. v.items ≡ spec.compared numbers.now) }
+{
+    let mut operands = Vec::new(alloc);
+    operands.push(Operand::Variable(CHOSEN))?;
+    for number in &numbers[..numbers.len().min(MOST_COMPARED)] {
+        operands.push(constant(*number))?;
+    }
+    Ok(operands)
+}
+
+/// A branch by a test of the word of a `switch`.
+pub fn put_case(
+    bytes: &mut Vec<u8>,
+    alloc: Global,
+    test: Test,
+    numbers: &[u16],
+    when: bool,
+    offset: usize,
+) -> Result<(), AllocError>
+    ensures { OnOk result (AddsCode bytes.old bytes.new
+        (spec.case_code (as_test test) numbers.now when offset)) }
+{
+    let operands = compared(alloc, numbers)?;
+    put_labelled(bytes, operation_of(test), &operands, when, offset)?;
+    Ok(())
+}

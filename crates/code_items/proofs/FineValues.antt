@@ -1,0 +1,220 @@
+-- The items of values name only what is there.
+use Rattle.std.proofs.Common.{◌≡◌, ℕ, ◌+◌, ◌<◌, List, [], ◌∷◌, ◌++◌, length, Bool, true, false, arith}
+use Rattle.std.specs.Prelude.{if◌then◌else◌, not}
+use Rattle.syntax_trees.specs.declared.tree.Binary.{Binary}
+use Rattle.syntax_trees.specs.declared.tree.Binary.TheVariants as binaries
+use Rattle.syntax_trees.specs.declared.tree.Comparison.{Comparison}
+use Rattle.syntax_trees.specs.declared.tree.Equality.{Equality}
+use Rattle.syntax_trees.specs.declared.tree.Prefix.{Prefix}
+use Rattle.syntax_trees.specs.declared.tree.Prefix.TheVariants as prefixes
+use Rattle.syntax_trees.specs.declared.tree.Width.{Width}
+use Rattle.meaning.specs.declared.resolved.Variable.{Variable}
+use Rattle.meaning.specs.Resolved.{Value, Values, none, more}
+use Rattle.meaning.specs.Resolved as source
+use Rattle.meaning.specs.Accepted.{IsVariable, IsValue, AreValues}
+use Rattle.code_values.specs.Items.{Item, Operand, pushed, Destination, push, into, operand_of, operands_of, alone}
+use Rattle.code_values.specs.Items.{left_of, if_pushed, is_few, comparison_when, equality_when, truth_count}
+use Rattle.code_values.specs.Items.{value_count, operand_count, operands_count, branch_count, many_count, also_count}
+use Rattle.code_values.specs.Items.{value_items, operands_items, branch_items, many_items, also_items}
+use Rattle.code_values.specs.Items as items
+use Rattle.code_items.specs.Laws.{IsDestination, IsItem}
+use Rattle.code_items.proofs.Fine.{Bounds, Fine, branch_same, branch_two, chosen, counted_else, counted_then}
+use Rattle.code_items.proofs.Fine.{either_fine, first, joined, kept_fine, last, last_two, nothing, operand_fine}
+use Rattle.code_items.proofs.Fine.{operands_count_is, operands_fine, pushed_fine, true_fine, truth_fine, two_fine}
+
+module _ (here : Bounds) where
+  open here use {p, locals, count}
+
+  pub record FineValue (v : Value) : Type 0 where
+    pub value : (at : ℕ) (d : Destination) → IsDestination p locals d → at + value_count v d < count
+        → Fine here (value_items at v d)
+    pub branch : (at : ℕ) (when : Bool) (t : ℕ) → at + branch_count v when < count → t < count
+        → Fine here (branch_items at v when t)
+
+  pub record FineList (vs : Values) : Type 0 where
+    pub list : (at : ℕ) → at + operands_count vs < count → Fine here (operands_items at vs)
+    pub also : (op : Equality) (at : ℕ) (when : Bool) (t : ℕ) → at + also_count vs < count → t < count
+        → Fine here (also_items at op vs when t)
+    pub many : (op : Equality) (at : ℕ) (when : Bool) (t : ℕ) → at + many_count vs < count → t < count
+        → Fine here (many_items at op vs when t)
+
+  pub operand_pushed : (o : Operand) (v : Value) → FineValue v → (at : ℕ)
+      → at + if_pushed o (value_count v push) 0 < count → Fine here (if_pushed o (value_items at v push) [])
+  operand_pushed o v f at lt = pushed_fine here o (value_items at v push) (value_count v push) at lt
+      (λ lt. f.value at push tt lt)
+
+  pub two_operands : (a b : Value) → FineValue a → FineValue b → (at : ℕ) (tail : List Item)
+      → at + (operand_count a (left_of a b) + operand_count b (alone b)) < count → Fine here tail
+      → Fine here (if_pushed (left_of a b) (value_items at a push) []
+      ++ (if_pushed (alone b) (value_items (at + operand_count a (left_of a b)) b push) [] ++ tail))
+  two_operands a b fa fb at tail lt ht =
+      two_fine here (left_of a b) (alone b) _ _ tail (value_count a push) (value_count b push) at lt
+      (λ lt. fa.value at push tt lt) (λ lt. fb.value (at + operand_count a (left_of a b)) push tt lt) ht
+
+  call_item : (r : ℕ) (vs : Values) → IsValue p locals (source.call r vs) → (d : Destination)
+      → IsDestination p locals d → IsItem p locals count (items.call r (operands_of vs) d)
+  call_item r vs h d hd = let n =
+      operands_count_is vs in (h.0, operands_fine here vs h.3, omega (arith, n, h.1), omega (arith, n, h.2), hd)
+
+  pub call_fine : (r : ℕ) (vs : Values) → IsValue p locals (source.call r vs) → FineList vs
+      → FineValue (source.call r vs)
+  call_fine r vs h f = record {
+    value = λ at d hd lt. last here (operands_items at vs) _ (f.list at (omega (arith, lt))) (call_item r vs h d hd);
+    branch = λ at when t lt le. last_two here (operands_items at vs) _ _ (f.list at (omega (arith, lt)))
+        (call_item r vs h push tt) (true_fine here pushed when t tt le);
+  }
+
+  pub prefixed_fine : (op : Prefix) (v : Value) → IsValue p locals v → FineValue v → FineValue (source.prefixed op v)
+  prefixed_fine prefixes.Not v h f = record {
+    value = λ at d hd lt. truth_fine here at (branch_count v false) d (λ t. branch_items at v false t) hd lt
+        (λ t le. f.branch at false t (omega (arith, lt)) le);
+    branch = λ at when t lt le. f.branch at (not when) t lt le;
+  }
+  prefixed_fine op v h f = record {
+    value = λ at d hd lt. last here (if_pushed (alone v) (value_items at v push) []) _
+        (operand_pushed (alone v) v f at (omega (arith, lt))) (operand_fine here v none h, hd);
+    branch = λ at when t lt le. last_two here (if_pushed (alone v) (value_items at v push) []) _ _
+        (operand_pushed (alone v) v f at (omega (arith, lt))) (operand_fine here v none h, tt)
+        (true_fine here pushed when t tt le);
+  }
+
+  -- two operands, of which the first leads to a place, and the second to another
+  both_fine : (a b : Value) → FineValue a → FineValue b → (at : ℕ) (wa wb : Bool) (ta tb : ℕ)
+      → at + (branch_count a wa + branch_count b wb) < count → ta < count → tb < count
+      → Fine here (branch_items at a wa ta ++ branch_items (at + branch_count a wa) b wb tb)
+  both_fine a b fa fb at wa wb ta tb lt la lb =
+      joined here (branch_items at a wa ta) _ (fa.branch at wa ta (omega (arith, lt)) la)
+      (fb.branch (at + branch_count a wa) wb tb (omega (arith, lt)) lb)
+
+  pub binary_fine : (op : Binary) (a b : Value) → IsValue p locals a → IsValue p locals b → FineValue a → FineValue b
+      → FineValue (source.binary op a b)
+  binary_fine binaries.AndAlso a b ha hb fa fb = record {
+    value = λ at d hd lt.
+        truth_fine here at (branch_count a false + branch_count b true) d _ hd lt
+        (λ t le. both_fine a b fa fb at false true (at + branch_count a false + branch_count b true) t
+        (omega (arith, lt)) (omega (arith, lt)) le);
+    branch = λ at when t lt le. both_fine a b fa fb at false when
+        (if when then at + branch_count a false + branch_count b when else t) t lt
+        (chosen here when _ _ (omega (arith, lt)) le) le;
+  }
+  binary_fine binaries.OrElse a b ha hb fa fb = record {
+    value = λ at d hd lt. truth_fine here at (branch_count a true + branch_count b true) d _ hd lt
+        (λ t le. both_fine a b fa fb at true true t t (omega (arith, lt)) le le);
+    branch = λ at when t lt le. both_fine a b fa fb at true when
+        (if when then t else at + branch_count a true + branch_count b when) t lt
+        (chosen here when _ _ le (omega (arith, lt))) le;
+  }
+  binary_fine op a b ha hb fa fb = record {
+    value = λ at d hd lt. two_operands a b fa fb at _ (omega (arith, lt))
+        (first here _ _ (operand_fine here a (more b none) ha, operand_fine here b none hb, hd) (nothing here));
+    branch = λ at when t lt le. two_operands a b fa fb at _ (omega (arith, lt))
+        (first here _ _ (operand_fine here a (more b none) ha, operand_fine here b none hb, tt)
+        (first here _ _ (true_fine here pushed when t tt le) (nothing here)));
+  }
+
+  pub compare_fine : (op : Comparison) (a b : Value) → IsValue p locals a → IsValue p locals b → FineValue a
+      → FineValue b → FineValue (source.compare op a b)
+  compare_fine op a b ha hb fa fb = record {
+    value = λ at d hd lt. truth_fine here at (operand_count a (left_of a b) + operand_count b (alone b) + 1) d _ hd lt
+        (λ t le. branches at true t (omega (arith, lt)) le);
+    branch = λ at when t lt le. branches at when t (omega (arith, lt)) le;
+  }
+    where
+      branches : (at : ℕ) (when : Bool) (t : ℕ)
+          → at + (operand_count a (left_of a b) + operand_count b (alone b)) < count → t < count
+          → Fine here (branch_items at (source.compare op a b) when t)
+      branches at when t lt le =
+          two_operands a b fa fb at _ lt
+          (first here _ _ (branch_two here op (left_of a b) (alone b) (comparison_when op when) t
+          (operand_fine here a (more b none) ha) (operand_fine here b none hb) le) (nothing here))
+
+  few_fine : (op : Equality) (a : Value) (bs : Values) → IsValue p locals a → AreValues p locals bs → FineValue a
+      → FineList bs → (at : ℕ) (when : Bool) (t : ℕ) → is_few bs ≡ true
+      → at + (operand_count a (operand_of a bs) + operands_count bs) < count → t < count
+      → Fine here (if_pushed (operand_of a bs) (value_items at a push) []
+      ++ (operands_items (at + operand_count a (operand_of a bs)) bs ++ items.branch items.same
+      (operand_of a bs ∷ operands_of bs) (equality_when op when) t ∷ []))
+  few_fine op a bs ha hbs fa fbs at when t few lt le =
+      joined here (if_pushed (operand_of a bs) (value_items at a push) []) _
+      (operand_pushed (operand_of a bs) a fa at (omega (arith, lt)))
+      (last here (operands_items (at + operand_count a (operand_of a bs)) bs) _
+      (fbs.list (at + operand_count a (operand_of a bs)) (omega (arith, lt)))
+      (branch_same here a bs (equality_when op when) t few ha hbs le))
+
+  all_fine : (op : Equality) (a : Value) (bs : Values) → FineValue a → FineList bs → (at : ℕ) (when : Bool) (t : ℕ)
+      → at + (value_count a push + many_count bs) < count → t < count
+      → Fine here (value_items at a push ++ many_items (at + value_count a push) op bs when t)
+  all_fine op a bs fa fbs at when t lt le =
+      joined here (value_items at a push) _ (fa.value at push tt (omega (arith, lt)))
+      (fbs.many op (at + value_count a push) when t (omega (arith, lt)) le)
+
+  pub equal_fine : (op : Equality) (a : Value) (bs : Values) → IsValue p locals a → AreValues p locals bs → FineValue a
+      → FineList bs → FineValue (source.equal op a bs)
+  equal_fine op a bs ha hbs fa fbs = record {
+    value = λ at d hd lt.
+        either_fine here (is_few bs) _ _
+        (λ e. let l = counted_then here (is_few bs) at few all (truth_count d) lt e in
+        truth_fine here at few d _ hd l (λ t le. few_fine op a bs ha hbs fa fbs at true t e (omega (arith, l)) le))
+        (λ e. let l = counted_else here (is_few bs) at few all (truth_count d) lt e in
+        truth_fine here at all d _ hd l (λ t le. all_fine op a bs fa fbs at true t (omega (arith, l)) le));
+    branch = λ at when t lt le.
+        either_fine here (is_few bs) _ _
+        (λ e. let l = counted_then here (is_few bs) at few all 0 (omega (arith, lt)) e in
+        few_fine op a bs ha hbs fa fbs at when t e (omega (arith, l)) le)
+        (λ e. let l = counted_else here (is_few bs) at few all 0 (omega (arith, lt)) e in
+        all_fine op a bs fa fbs at when t (omega (arith, l)) le);
+  }
+    where
+      few : ℕ
+      few = operand_count a (operand_of a bs) + operands_count bs + 1
+
+      all : ℕ
+      all = value_count a push + many_count bs
+
+  pub assign_fine : (x : Variable) (v : Value) → IsVariable p locals x → FineValue v → FineValue (source.assign x v)
+  assign_fine x v hx f = record {
+    value =
+        λ at d hd lt. kept_fine here x d (value_items at v (into x)) (value_items at v push) (value_count v (into x))
+        (value_count v push) at hx hd lt (λ lt. f.value at (into x) hx lt) (λ lt. f.value at push tt lt);
+    branch = λ at when t lt le. last_two here (value_items at v push) _ _ (f.value at push tt (omega (arith, lt))) hx
+        (true_fine here pushed when t tt le);
+  }
+
+  pub entry_fine : (width : Width) (a : ℕ) (i : Value) → a < length p.arrays → IsValue p locals i → FineValue i
+      → FineValue (source.entry width a i)
+  entry_fine width a i ha h f = record {
+    value = λ at d hd lt. last here (if_pushed (alone i) (value_items at i push) []) _
+        (operand_pushed (alone i) i f at (omega (arith, lt))) (ha, operand_fine here i none h, hd);
+    branch = λ at when t lt le. last_two here (if_pushed (alone i) (value_items at i push) []) _ _
+        (operand_pushed (alone i) i f at (omega (arith, lt))) (ha, operand_fine here i none h, tt)
+        (true_fine here pushed when t tt le);
+  }
+
+  pub assign_entry_fine : (width : Width) (a : ℕ) (i v : Value) → a < length p.arrays → IsValue p locals i
+      → IsValue p locals v → FineValue i → FineValue v → FineValue (source.assign_entry width a i v)
+  assign_entry_fine width a i v ha hi hv fi fv = record {
+    value = λ at d hd lt. two_operands i v fi fv at _ (omega (arith, lt))
+        (first here _ _ (ha, operand_fine here i (more v none) hi, operand_fine here v none hv, hd) (nothing here));
+    branch = λ at when t lt le. two_operands i v fi fv at _ (omega (arith, lt))
+        (first here _ _ (ha, operand_fine here i (more v none) hi, operand_fine here v none hv, tt)
+        (first here _ _ (true_fine here pushed when t tt le) (nothing here)));
+  }
+
+  pub list_none : FineList none
+  list_none = record {
+    list = λ at lt. nothing here;
+    also = λ op at when t lt le. first here _ _ tt
+        (first here _ _ (true_fine here pushed (equality_when op when) t tt le) (nothing here));
+    many = λ op at when t lt le. first here _ _ (true_fine here pushed when t tt le) (nothing here);
+  }
+
+  pub list_more : (v : Value) (vs : Values) → FineValue v → FineList vs → FineList (more v vs)
+  list_more v vs f fs = record {
+    list = λ at lt. joined here (if_pushed (operand_of v vs) (value_items at v push) []) _
+        (operand_pushed (operand_of v vs) v f at (omega (arith, lt)))
+        (fs.list (at + operand_count v (operand_of v vs)) (omega (arith, lt)));
+    also = λ op at when t lt le. joined here (value_items at v push) _ (f.value at push tt (omega (arith, lt)))
+        (first here _ _ tt (fs.also op (at + value_count v push + 1) when t (omega (arith, lt)) le));
+    many = λ op at when t lt le. joined here (value_items at v push) _ (f.value at push tt (omega (arith, lt)))
+        (first here _ _ tt (fs.also op (at + value_count v push + 1) when t (omega (arith, lt)) le));
+  }

@@ -1,0 +1,69 @@
+-- Operands that are still what was evaluated.
+use Rattle.std.proofs.Common.{◌≡◌, ℕ, ◌+◌, ◌≤◌, List, [], ◌∷◌, length, Bool, true, false, refl, ap, ◌∙◌, subst, arith}
+use Rattle.std.specs.Prelude.{if◌then◌else◌}
+use Rattle.meaning.specs.declared.resolved.Variable.{Variable}
+use Rattle.meaning.specs.Resolved.{Value, Values}
+use Rattle.meaning.specs.Resolved as source
+use Rattle.meaning.specs.World.{Situation, value_in}
+use Rattle.code_values.specs.Items.{Operand, pushed, number, variable, operand_of, change}
+use Rattle.code_items.specs.Stack.{Next, with_operand, with_operands}
+
+-- what is known of an operand whose value was evaluated
+abbrev pub Held : Operand → ℕ → Situation → Type 0
+Held pushed v s = Unit {0}
+Held (number n) v s = n ≡ v
+Held (variable x) v s = value_in x s ≡ v
+
+-- the stack with an operand
+abbrev pub onto : Operand → ℕ → List ℕ → List ℕ
+onto pushed v stack = v ∷ stack
+onto (number n) v stack = stack
+onto (variable x) v stack = stack
+
+pub with_held : (o : Operand) (v : ℕ) (s : Situation) (words : List ℕ) (k : ℕ → List ℕ → Next) → Held o v s
+    → with_operand o s (onto o v words) k ≡ k v words
+with_held pushed v s words k h = refl
+with_held (number n) v s words k h = ap (λ x. k x words) h
+with_held (variable x) v s words k h = ap (λ x. k x words) h
+
+pub onto_length : (o : Operand) (v : ℕ) (words : List ℕ) → length (onto o v words) ≤ length words + 1
+onto_length pushed v words = omega arith
+onto_length (number n) v words = omega arith
+onto_length (variable x) v words = omega arith
+
+abbrev pub AllHeld : List Operand → List ℕ → Situation → Type 0
+AllHeld [] [] s = Unit {0}
+AllHeld [] (v ∷ vs) s = ⊥
+AllHeld (o ∷ os) [] s = ⊥
+AllHeld (o ∷ os) (v ∷ vs) s = Held o v s × AllHeld os vs s
+
+abbrev pub onto_all : List Operand → List ℕ → List ℕ → List ℕ
+onto_all [] vs words = words
+onto_all (o ∷ os) [] words = words
+onto_all (o ∷ os) (v ∷ vs) words = onto_all os vs (onto o v words)
+
+pub with_all_held : (os : List Operand) (vs : List ℕ) (s : Situation) (words : List ℕ) (k : List ℕ → List ℕ → Next)
+    → AllHeld os vs s → with_operands os s (onto_all os vs words) k ≡ k vs words
+with_all_held [] [] s words k h = refl
+with_all_held [] (v ∷ vs) s words k h = absurd h
+with_all_held (o ∷ os) [] s words k h = absurd h
+with_all_held (o ∷ os) (v ∷ vs) s words k h =
+    with_all_held os vs s (onto o v words) (λ vs rest. with_operand o s rest (λ v left. k (v ∷ vs) left)) h.1
+    ∙ with_held o v s words (λ v left. k (v ∷ vs) left) h.0
+
+-- an operand stays what it is where nothing changes the variable
+pub held_after : (o : Operand) (v : ℕ) (s last : Situation)
+    → ((x : Variable) → o ≡ variable x → value_in x last ≡ value_in x s) → Held o v s → Held o v last
+held_after pushed v s last still h = tt
+held_after (number n) v s last still h = h
+held_after (variable x) v s last still h = still x refl ∙ h
+
+-- a variable that stands in place is not changed by what is evaluated later
+pub not_changed : (v : Value) (later : Values) (x : Variable) → operand_of v later ≡ variable x
+    → change x later ≡ false
+not_changed (source.read y) later x e = go (change y later) refl e
+  where
+    go : (b : Bool) → change y later ≡ b → (if b then pushed else variable y) ≡ variable x → change x later ≡ false
+    go true f e = absurd (cc)
+    go false f e = let is : y ≡ x = cc in subst (λ z. change z later ≡ false) is f
+not_changed v later x e = absurd (cc)

@@ -1,0 +1,193 @@
+-- Numbers, variables, calls and operations.
+use Rattle.std.proofs.Common.{◌≡◌, ℕ, ◌+◌, ◌≤◌, List, [], ◌∷◌, ◌++◌, length, Some, Bool, true, false, refl, sym, ap}
+use Rattle.std.proofs.Common.{◌∙◌, subst, arith}
+use Rattle.std.specs.Prelude.{◌==◌, not, if◌then◌else◌, slice_get}
+use Rattle.syntax_trees.specs.declared.tree.Binary.{Binary}
+use Rattle.syntax_trees.specs.declared.tree.Prefix.{Prefix}
+use Rattle.syntax_trees.specs.declared.tree.Prefix.TheVariants as prefixes
+use Rattle.meaning.specs.declared.resolved.Variable.{Variable}
+use Rattle.meaning.specs.Limits.{operands}
+use Rattle.meaning.specs.Resolved.{Value, Values, none}
+use Rattle.meaning.specs.Resolved as source
+use Rattle.meaning.specs.Accepted.{need_of, needs_of}
+use Rattle.meaning.specs.World.{Situation, to, ◌>>=◌, give, value_in}
+use Rattle.meaning.specs.Meaning.{truth, is_true, operate, with_prefix, evaluate, evaluate_all}
+use Rattle.code_values.specs.Items.{Operand, pushed, number, variable, Destination, push, is_zero, same, operands_of}
+use Rattle.code_values.specs.Items.{alone, left_of, if_pushed, branch_true, agrees, operand_count, operands_count}
+use Rattle.code_values.specs.Items.{branch_count, value_items, operands_items, branch_items, alone_items}
+use Rattle.code_values.specs.Items as items
+use Rattle.code_values.proofs.Counts.{branch_length, operands_length, alone_length}
+use Rattle.code_items.specs.Stack.{with_operand, delivered, gives, enter, act}
+use Rattle.code_items.specs.Stack as stack
+use Rattle.code_items.proofs.Acts.{keeps_give, keeps_operate}
+use Rattle.code_items.proofs.Running.{steps_on, Running, code, setting, RunsTo}
+use Rattle.code_items.proofs.Standing.{HasAt, split}
+use Rattle.code_items.proofs.Needs.{some_needed}
+use Rattle.code_items.proofs.Conditions.{truth_back, not_not, zero_agrees}
+use Rattle.code_items.proofs.Held.{onto, with_held, AllHeld, onto_all, with_all_held}
+use Rattle.code_items.proofs.Leads.{Leads, on, as_part, here, stands, lands, goes_by, delivers, at_place}
+use Rattle.code_items.proofs.Steps.{one, jumps, decided, tests, by_word, moved_does}
+use Rattle.code_items.proofs.Truths.{not_condition, Branches, condition}
+use Rattle.code_items.proofs.Evaluated.{ValueOk, operand_held, operand_does, ListOk, all_held, two_operands}
+
+module _ (now : Running) where
+  open now use {p, full, callers, room, lower_calls}
+
+  prefix_piece : (op : Prefix) (v : Value) → ValueOk now v → (s : Situation) (n pc m : ℕ) (words : List ℕ)
+      (dest : Destination) → HasAt (code now) pc (if_pushed (alone v) (value_items pc v push) []) m
+      → slice_get (code now) m ≡ Some (items.apply_prefix op (alone v) dest)
+      → length words + operands 0 (need_of v ∷ []) ≤ 48
+      → Leads now s n (stands now pc words s) (evaluate (setting now) (source.prefixed op v) s)
+      (lands now dest (m + 1) words)
+  prefix_piece op v ok s n pc m words dest has h le =
+      on now (evaluate (setting now) v) _ (operand_does now v none ok s n pc m words has (omega (arith, le)))
+      (λ x s1 e1.
+      one now m words dest (items.apply_prefix op (alone v) dest) (give (with_prefix op x)) (onto (alone v) x words) h
+      (with_held (alone v) x s1 words (λ y rest. delivered dest (with_prefix op y) (here now (m + 1) rest s1))
+      (operand_held now v none s s1 x e1)) (keeps_give full (with_prefix op x)) (omega (arith, le)))
+
+  operate_item : (op : Binary) (oa ob : Operand) (x y : ℕ) (s : Situation) (n m : ℕ) (words : List ℕ)
+      (dest : Destination) → slice_get (code now) m ≡ Some (items.operate op oa ob dest)
+      → AllHeld (oa ∷ ob ∷ []) (x ∷ y ∷ []) s → length words + 1 ≤ 48
+      → Leads now s n (stands now m (onto_all (oa ∷ ob ∷ []) (x ∷ y ∷ []) words) s) (operate op x y s)
+      (lands now dest (m + 1) words)
+  operate_item op oa ob x y s n m words dest h held le =
+      one now m words dest (items.operate op oa ob dest) (operate op x y) (onto ob y (onto oa x words)) h
+      (with_held ob y s (onto oa x words)
+      (λ v rest. with_operand oa s rest
+      (λ w left. gives (operate op w v) dest left (here now m (onto ob y (onto oa x words)) s))) held.1.0
+      ∙ with_held oa x s words
+      (λ w left. gives (operate op w y) dest left (here now m (onto ob y (onto oa x words)) s)) held.0)
+      (keeps_operate full op x y) le
+
+  call_piece : (rr : ℕ) (vs : Values) → ListOk now vs → (s : Situation) (n pc m : ℕ) (words : List ℕ)
+      (dest : Destination) → HasAt (code now) pc (operands_items pc vs) m → slice_get (code now) m
+      ≡ Some (items.call rr (operands_of vs) dest) → length words + operands 0 (needs_of vs) ≤ 48
+      → Leads now s n (stands now pc words s) (evaluate (setting now) (source.call rr vs) s)
+      (lands now dest (m + 1) words)
+  call_piece rr vs ok s n pc m words dest has h le =
+      let some = some_needed 0 (needs_of vs) in
+      on now (evaluate_all (setting now) vs) _ (ok.all s n (length words) 0 pc m words has (omega arith) le)
+      (λ xs s1 e1.
+      let before = onto_all (operands_of vs) xs words in
+      record {
+        does = λ k _ hd.
+            steps_on p full (here now m before s1) _ _
+            (ap (λ i. act p full i (here now m before s1)) h
+            ∙ with_all_held (operands_of vs) xs s1 words
+            (λ taken rest. enter p rr taken (stack.caller dest rest (here now m before s1) ∷ callers) s1)
+            (all_held now vs s s1 xs e1))
+            (lower_calls rr xs (stack.caller dest words (here now m before s1) ∷ callers) s1 k (omega (arith, room))
+            (λ v last e2 same low.
+            subst (λ l. RunsTo p full
+            (delivered dest v (here now (m + 1) words (record { locals = l; world = last.world }))) (k v last)) same
+            (delivers now dest (m + 1) words v last (k v last) (omega (arith, le, some)) (hd v last e2 low))));
+      })
+
+  pub number_ok : (k : ℕ) → ValueOk now (source.number k)
+  number_ok k = record {
+    value = λ s n pc q words dest has le. moved_does now (number k) k dest pc q words has (λ f. refl)
+        (omega (arith, le));
+    branch = λ s n pc t q words when has before le. known s n pc t q words when
+        (agrees (is_true k) when) refl has before;
+  }
+    where
+      known : (s : Situation) (n pc t q : ℕ) (words : List ℕ) (when b : Bool) → agrees (is_true k) when
+          ≡ b → HasAt (code now) pc (if b then items.jump t ∷ [] else []) q → q ≤ t
+          → Leads now s n (stands now pc words s) (to k s) (goes_by now when t q words)
+      known s n pc t q words when true e has before = jumps now pc t words has.0 (omega (arith, before, has.1))
+          (decided now k when true t q q words e refl)
+      known s n pc t q words when false e has before = decided now k when false t pc q words e has
+
+  pub read_ok : (x : Variable) → ValueOk now (source.read x)
+  read_ok x = record {
+    value = λ s n pc q words dest has le. moved_does now (variable x) (value_in x s) dest pc q words has (λ f. refl)
+        (omega (arith, le));
+    branch = λ s n pc t q words when has before le. tests now pc t q words is_zero (variable x ∷ [])
+        (value_in x s ∷ []) (not when) when (value_in x s) has.0 (omega (arith, before, has.1)) has.1 (refl, tt)
+        (sym (zero_agrees (value_in x s) when));
+  }
+
+  pub call_ok : (rr : ℕ) (vs : Values) → ListOk now vs → ValueOk now (source.call rr vs)
+  call_ok rr vs ok = record {
+    value = λ s n pc q words dest has le.
+        let m = pc + operands_count vs in
+        let h = split (code now) pc (operands_items pc vs) _ q (operands_count vs) (operands_length vs pc) has in
+        at_place now (λ x. lands now dest x words) (m + 1) q h.1.1
+        (call_piece rr vs ok s n pc m words dest h.0 h.1.0 le);
+    branch = λ s n pc t q words when has before le.
+        let m = pc + operands_count vs in
+        let h = split (code now) pc (operands_items pc vs) _ q (operands_count vs) (operands_length vs pc) has in
+        by_word now _ (m + 1) t q words when (call_piece rr vs ok s n pc m words push h.0 h.1.0 le) h.1.1.0
+        (omega (arith, before, h.1.1.1)) h.1.1.1;
+  }
+
+  minus_ok : (op : Prefix) (v : Value) → ValueOk now v
+      → ((at : ℕ) (dest : Destination) → value_items at (source.prefixed op v) dest
+      ≡ if_pushed (alone v) (value_items at v push) [] ++ items.apply_prefix op (alone v) dest ∷ [])
+      → ((at t : ℕ) (when : Bool) → branch_items at (source.prefixed op v) when t
+      ≡ if_pushed (alone v) (value_items at v push) [] ++ items.apply_prefix op
+      (alone v) push ∷ branch_true pushed when t ∷ []) → ValueOk now (source.prefixed op v)
+  minus_ok op v ok ev eb = record {
+    value = λ s n pc q words dest has le.
+        let m = pc + operand_count v (alone v) in
+        let h = split (code now) pc (alone_items pc v) _ q (operand_count v (alone v)) (alone_length v pc)
+        (subst (λ l. HasAt (code now) pc l q) (ev pc dest) has) in
+        at_place now (λ x. lands now dest x words) (m + 1) q h.1.1
+        (prefix_piece op v ok s n pc m words dest h.0 h.1.0 le);
+    branch = λ s n pc t q words when has before le.
+        let m = pc + operand_count v (alone v) in
+        let h = split (code now) pc (alone_items pc v) _ q (operand_count v (alone v)) (alone_length v pc)
+        (subst (λ l. HasAt (code now) pc l q) (eb pc t when) has) in
+        by_word now _ (m + 1) t q words when (prefix_piece op v ok s n pc m words push h.0 h.1.0 le) h.1.1.0
+        (omega (arith, before, h.1.1.1)) h.1.1.1;
+  }
+
+  pub prefixed_ok : (op : Prefix) (v : Value) → ValueOk now v → ValueOk now (source.prefixed op v)
+  prefixed_ok prefixes.Not v ok =
+      let turned : Branches now (source.prefixed prefixes.Not v) (λ at when t. branch_items at v (not when) t) =
+      λ s n pc t q words when has before le.
+      on now (evaluate (setting now) v) _ (ok.branch s n pc t q words (not when) has before (omega (arith, le)))
+      (λ x s1 e1.
+      decided now (truth (x == 0)) when (agrees (is_true x) (not when)) t q q words
+      (ap (λ b. agrees b when) (truth_back (x == 0)) ∙ ap (λ w. agrees (x == 0) w) (sym (not_not when))
+      ∙ zero_agrees x (not when)) refl) in
+      record {
+        value = λ s n pc q words dest has le. condition now (source.prefixed prefixes.Not v) (branch_count v false)
+            (λ at when t. branch_items at v (not when) t) (λ at t. branch_length v false at t)
+            (not_condition now v) turned (some_needed 0 (need_of v ∷ [])) s n pc q words dest has le;
+        branch = turned;
+      }
+  prefixed_ok prefixes.Minus v ok = minus_ok prefixes.Minus v ok (λ at dest. refl) (λ at t when. refl)
+  prefixed_ok prefixes.Complement v ok = minus_ok prefixes.Complement v ok (λ at dest. refl) (λ at t when. refl)
+
+  pub operation_ok : (op : Binary) (a b : Value) → ValueOk now a → ValueOk now b
+      → ((at : ℕ) (dest : Destination) → value_items at (source.binary op a b) dest
+      ≡ if_pushed (left_of a b) (value_items at a push) []
+      ++ (if_pushed (alone b) (value_items (at + operand_count a (left_of a b)) b push) [] ++ items.operate op
+      (left_of a b) (alone b) dest ∷ []))
+      → ((at t : ℕ) (when : Bool) → branch_items at (source.binary op a b) when t
+      ≡ if_pushed (left_of a b) (value_items at a push) []
+      ++ (if_pushed (alone b) (value_items (at + operand_count a (left_of a b)) b push) [] ++ items.operate op
+      (left_of a b) (alone b) push ∷ branch_true pushed when t ∷ []))
+      → ((s : Situation) → (evaluate (setting now) a >>= λ x. (evaluate (setting now) b >>= λ y. operate op x y)) s
+      ≡ evaluate (setting now) (source.binary op a b) s) → ValueOk now (source.binary op a b)
+  operation_ok op a b oka okb ev eb means = record {
+    value = λ s n pc q words dest has le.
+        let m = pc + operand_count a (left_of a b) + operand_count b (alone b) in
+        as_part now _ _ (means s)
+        (two_operands now {behind = lands now dest q words} a b oka okb s n pc q words
+        (items.operate op (left_of a b) (alone b) dest ∷ []) (operate op)
+        (subst (λ l. HasAt (code now) pc l q) (ev pc dest) has) le (λ x y s2 h held.
+        at_place now (λ z. lands now dest z words) (m + 1) q h.1
+        (operate_item op (left_of a b) (alone b) x y s2 n m words dest h.0 held (omega (arith, le)))));
+    branch = λ s n pc t q words when has before le.
+        let m = pc + operand_count a (left_of a b) + operand_count b (alone b) in
+        as_part now _ _ (means s)
+        (two_operands now {behind = goes_by now when t q words} a b oka okb s n pc q words
+        (items.operate op (left_of a b) (alone b) push ∷ branch_true pushed when t ∷ []) (operate op)
+        (subst (λ l. HasAt (code now) pc l q) (eb pc t when) has) le (λ x y s2 h held.
+        by_word now _ (m + 1) t q words when
+        (operate_item op (left_of a b) (alone b) x y s2 n m words push h.0 held (omega (arith, le))) h.1.0
+        (omega (arith, before, h.1.1)) h.1.1));
+  }

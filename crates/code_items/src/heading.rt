@@ -1,0 +1,37 @@
+//! The parts of a `for`.
+
+ghost use Rattle.std.specs.Prelude.{◌-◌, OnOk};
+ghost use Rattle.std.specs.Option.{option_map};
+ghost use Rattle.meaning.specs.Resolved.{boxed_value};
+ghost use Rattle.code_items.specs.Statements.{once_items, test_items};
+ghost use Rattle.code_values.specs.Writing.{Writes};
+
+use code_values::{Destination, Draft, Wanted, put_value};
+use meaning::Value;
+use std::alloc::AllocError;
+
+/// A part whose word goes nowhere, if it is there.
+pub fn put_once(draft: &mut Draft<'_>, part: &Option<Box<Value>>) -> Result<(), AllocError>
+    ensures { OnOk result (Writes draft.old draft.new
+        (λ n at. once_items at (option_map boxed_value part.now))) }
+{
+    match part {
+        None => Ok(()),
+        Some(value) => put_value(draft, value, Wanted::Word(Destination::Nowhere)),
+    }
+}
+
+/// The test, if it is there: where it does not hold it leads to where so many items are left.
+pub fn put_test(
+    draft: &mut Draft<'_>,
+    test: &Option<Box<Value>>,
+    end: usize,
+) -> Result<(), AllocError>
+    ensures { OnOk result (Writes draft.old draft.new
+        (λ n at. test_items at (option_map boxed_value test.now) (n - end))) }
+{
+    match test {
+        None => Ok(()),
+        Some(value) => put_value(draft, value, Wanted::Branch(false, end)),
+    }
+}

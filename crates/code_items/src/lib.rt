@@ -1,0 +1,15 @@
+//! A routine as items: the acts of its statements, one after another, with operands in place and
+//! branches by conditions.
+#![tactic(auto)]
+
+mod cases;
+mod exits;
+mod group;
+mod heading;
+mod laws;
+mod routine;
+mod statement;
+
+pub use code_values::{Destination, Item, Operand, Test};
+pub use laws::{items_are_within, items_follow};
+pub use routine::routine_items;

@@ -1,0 +1,485 @@
+//! Statements as items.
+
+ghost use Rattle.std.specs.Prelude.{◌-◌, [], ◌∷◌, map, IfOk, OnOk};
+ghost use Rattle.std.specs.Option.{option_map};
+ghost use Rattle.meaning.specs.Resolved.{block, if_then, if_else, while_do, do_until, for_loop};
+ghost use Rattle.meaning.specs.Resolved.{switch_on, return_value, value_of, give_to, move_to};
+ghost use Rattle.meaning.specs.Resolved.{remove_from, each_object, each_where, each_in, printed_of};
+ghost use Rattle.meaning.specs.Resolved.{action_of, actions_of, case_of, cases_of, other_of};
+ghost use Rattle.meaning.specs.Resolved.{text_alone, print_return, boxed_value};
+ghost use Rattle.code_values.specs.Code.{as_operand};
+ghost use Rattle.code_values.specs.Items.{new_line};
+ghost use Rattle.code_values.specs.Writing.{Writes};
+ghost use Rattle.code_items.specs.Statements.{return_true, printed_items, relative_items};
+ghost use Rattle.code_items.specs.Writing.{WritesAction, WritesPrinted, WritesTaken, WritesCases};
+ghost use Rattle.code_items.specs.Writing.{LeavesCases, PutsNext};
+
+use crate::cases::{put_over, put_tests};
+use crate::exits::Exits;
+use crate::heading::{put_once, put_test};
+use code_values::{
+    Destination, Draft, Item, Operand, Wanted, alone, lead_back, left_of, put, put_branch,
+    put_operand, put_value, written,
+};
+use meaning::{Action, Printed, Span, Value, Variable};
+use std::alloc::AllocError;
+use syntax_trees::Relative;
+
+/// The items of statements, one after another.
+#[cycle(statements)]
+pub fn put_statements<'a>(
+    draft: &mut Draft<'a>,
+    exits: Exits,
+    statements: &[Action<'a>],
+) -> Result<(), AllocError>
+    ensures { OnOk result (WritesAction draft.old draft.new exits
+        (block (actions_of (map action_of statements.now)))) }
+{
+    for done in 0..statements.len() {
+        let statement = &statements[statements.len() - 1 - done];
+        put_statement(draft, exits, statement)?;
+    }
+    Ok(())
+}
+
+/// The items of a statement.
+#[cycle(statements)]
+fn put_statement<'a>(
+    draft: &mut Draft<'a>,
+    exits: Exits,
+    statement: &Action<'a>,
+) -> Result<(), AllocError>
+    ensures { OnOk result (WritesAction draft.old draft.new exits (action_of statement.now)) }
+{
+    match statement {
+        Action::Empty => Ok(()),
+        Action::Block(statements) => put_statements(draft, exits, statements),
+        Action::Text(text) => put_text(draft, text),
+        Action::Print(items) => put_prints(draft, items),
+        Action::PrintReturn(items) => put_print_return(draft, items),
+        Action::NewLine => put(draft, Item::NewLine),
+        Action::If(test, then) => put_if(draft, exits, then, test),
+        Action::IfElse(test, then, otherwise) => put_if_else(draft, exits, then, otherwise, test),
+        Action::While(test, body) => put_while(draft, body, test),
+        Action::Do(body, test) => put_do(draft, body, test),
+        Action::For(before, test, behind, body) => put_for(draft, body, before, test, behind),
+        Action::Switch(value, cases, other) => put_switch(draft, exits, cases, other, value),
+        Action::Break => put(draft, Item::Jump(exits.breaks)),
+        Action::Continue => put(draft, Item::Jump(exits.continues)),
+        Action::ReturnValue(value) => put_return(draft, value),
+        Action::Read(text, parse) => put(draft, Item::Read(*text, *parse)),
+        Action::Give(object, changes) => put_give(draft, object, changes),
+        Action::Move(object, into) => put_move(draft, object, into),
+        Action::Remove(object) => put_remove(draft, object),
+        Action::EachObject(variable, body) => put_each(draft, body, *variable),
+        Action::EachWhere(variable, test, body) => put_each_where(draft, body, *variable, test),
+        Action::EachIn(variable, parent, body) => put_each_in(draft, body, *variable, parent),
+        Action::Quit => put(draft, Item::Quit),
+        Action::Effect(value) => put_value(draft, value, Wanted::Word(Destination::Nowhere)),
+    }
+}
+
+/// A text alone: it is printed with a new line, and the routine returns true.
+fn put_text<'a>(draft: &mut Draft<'a>, text: &'a [u8]) -> Result<(), AllocError>
+    ensures { OnOk result ((x : _) → WritesAction draft.old draft.new x
+        (text_alone text.entry.now)) }
+{
+    put_end_of_line(draft)?;
+    put(draft, Item::PrintText(text))?;
+    Ok(())
+}
+
+/// `print_ret`.
+fn put_print_return<'a>(draft: &mut Draft<'a>, items: &[Printed<'a>]) -> Result<(), AllocError>
+    ensures { OnOk result ((x : _) → WritesAction draft.old draft.new x
+        (print_return (map printed_of items.now))) }
+{
+    put_end_of_line(draft)?;
+    put_prints(draft, items)?;
+    Ok(())
+}
+
+/// `if` without `else`: a branch over what the test guards.
+#[cycle(statements)]
+#[tactic(auto, using(crate::proofs::Actions::if_more))]
+fn put_if<'a>(
+    draft: &mut Draft<'a>,
+    exits: Exits,
+    then: &Action<'a>,
+    test: &Value,
+) -> Result<(), AllocError>
+    ensures { OnOk result (WritesAction draft.old draft.new exits
+        (if_then (value_of test.now) (action_of then.now))) }
+{
+    let end = written(draft);
+    put_statement(draft, exits, then)?;
+    put_value(draft, test, Wanted::Branch(false, end))?;
+    Ok(())
+}
+
+/// `if` with `else`: a branch to what stands behind `else`, and behind what the test guards a jump
+/// over that.
+#[cycle(statements)]
+#[tactic(auto, using(crate::proofs::Actions::else_more))]
+fn put_if_else<'a>(
+    draft: &mut Draft<'a>,
+    exits: Exits,
+    then: &Action<'a>,
+    otherwise: &Action<'a>,
+    test: &Value,
+) -> Result<(), AllocError>
+    ensures { OnOk result (WritesAction draft.old draft.new exits
+        (if_else (value_of test.now) (action_of then.now) (action_of otherwise.now))) }
+{
+    let end = written(draft);
+    put_statement(draft, exits, otherwise)?;
+    let next = written(draft);
+    put(draft, Item::Jump(end))?;
+    put_statement(draft, exits, then)?;
+    put_value(draft, test, Wanted::Branch(false, next))?;
+    Ok(())
+}
+
+/// `while`: behind what the test guards it goes back to the test.
+#[cycle(statements)]
+#[tactic(auto, using(crate::proofs::Actions::while_more))]
+fn put_while<'a>(draft: &mut Draft<'a>, body: &Action<'a>, test: &Value) -> Result<(), AllocError>
+    ensures { OnOk result ((x : _) → WritesAction draft.old draft.new x
+        (while_do (value_of test.now) (action_of body.now))) }
+{
+    let behind = written(draft);
+    put(draft, Item::Back(0))?;
+    let within = Exits {
+        breaks: behind,
+        continues: written(draft),
+    };
+    put_statement(draft, within, body)?;
+    put_value(draft, test, Wanted::Branch(false, behind))?;
+    lead_back(draft, behind);
+    Ok(())
+}
+
+/// `do`: the test goes back to the body where it is false.
+#[cycle(statements)]
+fn put_do<'a>(draft: &mut Draft<'a>, body: &Action<'a>, test: &Value) -> Result<(), AllocError>
+    ensures { OnOk result ((x : _) → WritesAction draft.old draft.new x
+        (do_until (action_of body.now) (value_of test.now))) }
+{
+    let end = written(draft);
+    put(draft, Item::Back(0))?;
+    put_value(draft, test, Wanted::Branch(true, end))?;
+    let inside = Exits {
+        breaks: end,
+        continues: written(draft),
+    };
+    put_statement(draft, inside, body)?;
+    lead_back(draft, end);
+    Ok(())
+}
+
+/// `for`: behind the body and what is done behind each round it goes back to the test.
+#[cycle(statements)]
+fn put_for<'a>(
+    draft: &mut Draft<'a>,
+    body: &Action<'a>,
+    before: &Option<Box<Value>>,
+    test: &Option<Box<Value>>,
+    behind: &Option<Box<Value>>,
+) -> Result<(), AllocError>
+    ensures { OnOk result ((x : _) → WritesAction draft.old draft.new x
+        (for_loop (option_map boxed_value before.now) (option_map boxed_value test.now)
+        (option_map boxed_value behind.now) (action_of body.now))) }
+{
+    let end = written(draft);
+    put(draft, Item::Back(0))?;
+    put_once(draft, behind)?;
+    let inside = Exits {
+        breaks: end,
+        continues: written(draft),
+    };
+    put_statement(draft, inside, body)?;
+    put_test(draft, test, end)?;
+    lead_back(draft, end);
+    put_once(draft, before)?;
+    Ok(())
+}
+
+/// `objectloop` over all objects.
+#[cycle(statements)]
+fn put_each<'a>(
+    draft: &mut Draft<'a>,
+    body: &Action<'a>,
+    variable: Variable,
+) -> Result<(), AllocError>
+    ensures { OnOk result ((x : _) → WritesAction draft.old draft.new x
+        (each_object variable (action_of body.now))) }
+{
+    let end = written(draft);
+    let inside = put_next(draft, variable)?;
+    put_statement(draft, inside, body)?;
+    lead_back(draft, end);
+    put(draft, Item::FirstObject(variable, end))?;
+    Ok(())
+}
+
+/// `objectloop` over the objects for which a condition holds.
+#[cycle(statements)]
+fn put_each_where<'a>(
+    draft: &mut Draft<'a>,
+    body: &Action<'a>,
+    variable: Variable,
+    test: &Value,
+) -> Result<(), AllocError>
+    ensures { OnOk result ((x : _) → WritesAction draft.old draft.new x
+        (each_where variable (value_of test.now) (action_of body.now))) }
+{
+    let end = written(draft);
+    let inside = put_next(draft, variable)?;
+    put_statement(draft, inside, body)?;
+    put_value(draft, test, Wanted::Branch(false, inside.continues))?;
+    lead_back(draft, end);
+    put(draft, Item::FirstObject(variable, end))?;
+    Ok(())
+}
+
+/// `objectloop` over the children of an object.
+#[cycle(statements)]
+fn put_each_in<'a>(
+    draft: &mut Draft<'a>,
+    body: &Action<'a>,
+    variable: Variable,
+    parent: &Value,
+) -> Result<(), AllocError>
+    ensures { OnOk result ((x : _) → WritesAction draft.old draft.new x
+        (each_in variable (value_of parent.now) (action_of body.now))) }
+{
+    let end = written(draft);
+    put(draft, Item::Back(0))?;
+    put_kin(
+        draft,
+        Relative::Sibling,
+        Operand::Variable(variable),
+        variable,
+        end,
+    )?;
+    let inside = Exits {
+        breaks: end,
+        continues: written(draft),
+    };
+    put_statement(draft, inside, body)?;
+    lead_back(draft, end);
+    let operand = alone(parent);
+    put_kin(draft, Relative::Child, operand, variable, end)?;
+    put_operand(draft, parent, operand)?;
+    Ok(())
+}
+
+/// `switch`: its word is chosen, and its cases follow.
+#[cycle(statements)]
+fn put_switch<'a>(
+    draft: &mut Draft<'a>,
+    exits: Exits,
+    cases: &[(Vec<Span>, Vec<Action<'a>>)],
+    other: &Option<Vec<Action<'a>>>,
+    value: &Value,
+) -> Result<(), AllocError>
+    ensures { OnOk result (WritesAction draft.old draft.new exits (switch_on (value_of value.now)
+        (cases_of (map case_of cases.now) (other_of other.now)))) }
+{
+    let end = written(draft);
+    let inside = Exits {
+        breaks: end,
+        continues: exits.continues,
+    };
+    put_other(draft, inside, other)?;
+    put_cases(draft, inside, cases, end)?;
+    let operand = alone(value);
+    put_after(draft, value, operand, Item::Choose(operand))?;
+    Ok(())
+}
+
+/// The statements of `default`.
+#[cycle(statements)]
+fn put_other<'a>(
+    draft: &mut Draft<'a>,
+    exits: Exits,
+    other: &Option<Vec<Action<'a>>>,
+) -> Result<(), AllocError>
+    ensures { OnOk result ((end : _) → WritesCases draft.old draft.new exits
+        (cases_of [] (other_of other.now)) end) }
+{
+    match other {
+        None => Ok(()),
+        Some(statements) => put_statements(draft, exits, statements),
+    }
+}
+
+/// The cases of a `switch` of which the end leaves so many items, before what is written of it.
+#[cycle(statements)]
+fn put_cases<'a>(
+    draft: &mut Draft<'a>,
+    exits: Exits,
+    cases: &[(Vec<Span>, Vec<Action<'a>>)],
+    end: usize,
+) -> Result<(), AllocError>
+    ensures { OnOk result (LeavesCases draft.old draft.new exits cases.now end) }
+{
+    for done in 0..cases.len() {
+        put_case(draft, exits, &cases[cases.len() - 1 - done], end)?;
+    }
+    Ok(())
+}
+
+/// A case: its tests, its statements, and the way over what is written of the `switch`.
+#[cycle(statements)]
+fn put_case<'a>(
+    draft: &mut Draft<'a>,
+    exits: Exits,
+    case: &(Vec<Span>, Vec<Action<'a>>),
+    end: usize,
+) -> Result<(), AllocError>
+    ensures { OnOk result (LeavesCases draft.old draft.new exits (case.now ∷ []) end) }
+{
+    let behind = written(draft);
+    put_over(draft, end)?;
+    put_statements(draft, exits, &case.1)?;
+    let inside = written(draft);
+    put_tests(draft, &case.0, inside, behind)?;
+    Ok(())
+}
+
+/// Behind a round of an `objectloop` over all objects: the next object, and back. Where the body
+/// leads.
+fn put_next(draft: &mut Draft<'_>, variable: Variable) -> Result<Exits, AllocError>
+    ensures { IfOk result (λ exits. PutsNext draft.old draft.new variable exits) }
+{
+    let end = written(draft);
+    put(draft, Item::Back(0))?;
+    put(draft, Item::NextObject(variable, end))?;
+    Ok(Exits {
+        breaks: end,
+        continues: written(draft),
+    })
+}
+
+/// A variable gets a relative of an object, or the loop ends, of which the end leaves so many
+/// items.
+fn put_kin(
+    draft: &mut Draft<'_>,
+    relation: Relative,
+    object: Operand,
+    variable: Variable,
+    end: usize,
+) -> Result<(), AllocError>
+    ensures { OnOk result (Writes draft.old draft.new
+        (λ n at. relative_items relation (as_operand object) variable (n - end))) }
+{
+    put_branch(draft, Operand::Pushed, false, end)?;
+    put(draft, Item::Keep(variable))?;
+    put(draft, Item::Relative(relation, object, Destination::Push))?;
+    Ok(())
+}
+
+/// `give`: the object, and then its attributes.
+fn put_give(
+    draft: &mut Draft<'_>,
+    object: &Value,
+    changes: &[(bool, usize)],
+) -> Result<(), AllocError>
+    ensures { OnOk result ((x : _) → WritesAction draft.old draft.new x
+        (give_to (value_of object.now) changes.now)) }
+{
+    let operand = alone(object);
+    let mut given = Vec::new(draft.alloc);
+    given.extend_from_slice(changes)?;
+    put_after(draft, object, operand, Item::Give(operand, given))?;
+    Ok(())
+}
+
+/// `move`: both objects, and then the first goes into the second.
+fn put_move(draft: &mut Draft<'_>, object: &Value, into: &Value) -> Result<(), AllocError>
+    ensures { OnOk result ((x : _) → WritesAction draft.old draft.new x
+        (move_to (value_of object.now) (value_of into.now))) }
+{
+    let left = left_of(object, into);
+    let right = alone(into);
+    put_after(draft, into, right, Item::MoveObject(left, right))?;
+    put_operand(draft, object, left)?;
+    Ok(())
+}
+
+fn put_remove(draft: &mut Draft<'_>, object: &Value) -> Result<(), AllocError>
+    ensures { OnOk result ((x : _) → WritesAction draft.old draft.new x
+        (remove_from (value_of object.now))) }
+{
+    let operand = alone(object);
+    put_after(draft, object, operand, Item::RemoveObject(operand))?;
+    Ok(())
+}
+
+#[tactic(auto, using(crate::proofs::Actions::return_more))]
+fn put_return(draft: &mut Draft<'_>, value: &Value) -> Result<(), AllocError>
+    ensures { OnOk result ((x : _) → WritesAction draft.old draft.new x
+        (return_value (value_of value.now))) }
+{
+    let operand = alone(value);
+    put_after(draft, value, operand, Item::Return(operand))?;
+    Ok(())
+}
+
+/// An item that takes the word of an expression alone, and what pushes that.
+#[tactic(auto, using(crate::proofs::Actions::after_more))]
+fn put_after<'a>(
+    draft: &mut Draft<'a>,
+    value: &Value,
+    operand: Operand,
+    item: Item<'a>,
+) -> Result<(), AllocError>
+    ensures { OnOk result (WritesTaken draft.old draft.new operand item.entry value.now) }
+{
+    put(draft, item)?;
+    put_operand(draft, value, operand)?;
+    Ok(())
+}
+
+/// The items of what `print` prints, from left to right.
+fn put_prints<'a>(draft: &mut Draft<'a>, items: &[Printed<'a>]) -> Result<(), AllocError>
+    ensures { OnOk result (WritesPrinted draft.old draft.new items.now) }
+{
+    for done in 0..items.len() {
+        put_printed(draft, &items[items.len() - 1 - done])?;
+    }
+    Ok(())
+}
+
+fn put_printed<'a>(draft: &mut Draft<'a>, item: &Printed<'a>) -> Result<(), AllocError>
+    ensures { OnOk result (Writes draft.old draft.new
+        (λ n at. printed_items at (printed_of item.now))) }
+{
+    match item {
+        Printed::Text(text) => put(draft, Item::PrintText(text))?,
+        Printed::Character(value) => {
+            let operand = alone(value);
+            put_after(draft, value, operand, Item::PrintCharacter(operand))?;
+        }
+        Printed::Number(value) => {
+            let operand = alone(value);
+            put_after(draft, value, operand, Item::PrintNumber(operand))?;
+        }
+        Printed::Name(value) => {
+            let operand = alone(value);
+            put_after(draft, value, operand, Item::PrintName(operand))?;
+        }
+    }
+    Ok(())
+}
+
+/// A new line, and the routine returns true.
+#[tactic(auto, using(crate::proofs::Actions::end_more))]
+fn put_end_of_line(draft: &mut Draft<'_>) -> Result<(), AllocError>
+    ensures { OnOk result (Writes draft.old draft.new (λ n at. new_line ∷ return_true ∷ [])) }
+{
+    put(draft, Item::Return(Operand::Number(1)))?;
+    put(draft, Item::NewLine)?;
+    Ok(())
+}

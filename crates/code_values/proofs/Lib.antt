@@ -1,0 +1,17 @@
+pub mod CountedForms
+pub mod Counts
+pub mod Trees
+pub mod Drafts
+pub mod Operands
+pub mod WrittenItems
+pub mod Reductions
+pub mod OperationForms
+pub mod Values
+pub mod Assigned
+pub mod Alternatives
+pub mod ObjectForms
+pub mod ObjectValues
+pub mod Properties
+pub mod CodeForms
+pub mod ListRounds
+pub mod BoxedForms

@@ -1,0 +1,197 @@
+-- What is written for operations, chains, comparisons and entries.
+use Rattle.std.proofs.Common.{◌≡◌, ℕ, ◌+◌, ◌-◌, List, [], ◌∷◌, ◌++◌, Bool, true, false, refl, sym, ap, ◌∙◌}
+use Rattle.std.proofs.Common.{append_assoc}
+use Rattle.std.specs.Prelude.{if◌then◌else◌}
+use Rattle.syntax_trees.specs.declared.tree.Binary.{Binary}
+use Rattle.syntax_trees.specs.declared.tree.Binary.TheVariants as binaries
+use Rattle.syntax_trees.specs.declared.tree.Comparison.{Comparison}
+use Rattle.syntax_trees.specs.declared.tree.Width.{Width}
+use Rattle.meaning.specs.declared.resolved.Variable.{Variable}
+use Rattle.meaning.specs.Resolved.{Value, chained}
+use Rattle.meaning.specs.Resolved as source
+use Rattle.code_values.specs.Items.{Item, Operand, pushed, number, variable, Destination, push, Test, alone, left_of}
+use Rattle.code_values.specs.Items.{if_pushed, branch_true, comparison_test, comparison_when, value_count, value_items}
+use Rattle.code_values.specs.Items.{branch_items}
+use Rattle.code_values.specs.Items as items
+use Rattle.code_values.specs.declared.item.Destination.TheVariants as destinations
+use Rattle.code_values.specs.declared.wanted.Wanted.{Wanted}
+use Rattle.code_values.specs.declared.wanted.Wanted.TheVariants.{Word}
+use Rattle.code_values.specs.Writing.{wanted_items, is_logical, ReducesWord, ReducesTruth, WritesBefore}
+use Rattle.code_values.proofs.WrittenItems.{nothing, both, as_items, after_one}
+use Rattle.code_values.specs.ValueWriting.{pushes, first_items, ReducesLink, ReducesLinks, ReducesComparison}
+use Rattle.code_values.specs.ValueWriting.{ReducesAssignedEntry}
+use Rattle.code_values.proofs.Values.{pushes_length}
+
+-- Other operations
+
+abbrev operation : Binary → Operand → Value → Operand → Value → ℕ → Destination → List Item → List Item
+operation op o v ob b at d more = if_pushed o (value_items at v push) []
+    ++ (if_pushed ob (value_items (at + if_pushed o (value_count v push) 0) b push) []
+    ++ items.operate op o ob d ∷ more)
+
+record IsPlain (op : Binary) (v b : Value) : Type 0 where
+  value : (at : ℕ) (d : Destination) → value_items at (source.binary op v b) d
+      ≡ operation op (left_of v b) v (alone b) b at d []
+  branch : (at t : ℕ) (when : Bool) → branch_items at (source.binary op v b) when t
+      ≡ operation op (left_of v b) v (alone b) b at push (branch_true pushed when t ∷ [])
+  other : is_logical op ≡ false
+
+plain : (op : Binary) (v b : Value) → is_logical op ≡ false → IsPlain op v b
+plain binaries.AndAlso v b e = absurd (cc)
+plain binaries.OrElse v b e = absurd (cc)
+plain binaries.Add v b e = record { value = λ at d. refl; branch = λ at t when. refl; other = e }
+plain binaries.Subtract v b e = record { value = λ at d. refl; branch = λ at t when. refl; other = e }
+plain binaries.Multiply v b e = record { value = λ at d. refl; branch = λ at t when. refl; other = e }
+plain binaries.Divide v b e = record { value = λ at d. refl; branch = λ at t when. refl; other = e }
+plain binaries.Remainder v b e = record { value = λ at d. refl; branch = λ at t when. refl; other = e }
+plain binaries.And v b e = record { value = λ at d. refl; branch = λ at t when. refl; other = e }
+plain binaries.Or v b e = record { value = λ at d. refl; branch = λ at t when. refl; other = e }
+
+pub not_logical : (op : Binary) → (op ≡ binaries.AndAlso → ⊥) → (op ≡ binaries.OrElse → ⊥) → is_logical op ≡ false
+not_logical binaries.AndAlso a b = absurd (a refl)
+not_logical binaries.OrElse a b = absurd (b refl)
+not_logical op a b = refl
+
+pub operate_link : (c c1 c2 c3 : List Item) (wanted : Wanted) (d : Destination) (op : Binary) (o ob : Operand)
+    (b : Value) → is_logical op ≡ false → ReducesWord c c1 wanted d → ob ≡ alone b → c2
+    ≡ c1 ++ items.operate op o ob d ∷ [] → WritesBefore c2 c3 (pushes ob b)
+    → ReducesLink c c3 wanted (Word destinations.Push) op o b
+operate_link c c1 c2 c3 wanted d op o ob b other reduces eb e wb v eo =
+    let is = plain op v b other in
+    let k = if_pushed o (value_count v push) 0 in
+    record {
+      with_rest = λ c4 w.
+          let first : WritesBefore c3 c4 (pushes o v) =
+          as_items (λ n at _. ap
+          (λ t. if t then value_items at v push else if_pushed o (value_items at v push) []) other) w in
+          (reduces (source.binary op v b)
+          (λ at t when. is.branch at t when
+          ∙ regroup (left_of v b) (alone b) at (branch_true pushed when t ∷ []) push
+          ∙ ap (λ l. l ++ branch_true pushed when t ∷ []) (sym (is.value at push)))).with_rest c4
+          (as_items (λ n at _. ap (λ x. operation op x v ob b at d []) eo
+          ∙ ap (λ y. operation op (left_of v b) v y b at d []) eb ∙ sym (is.value at d))
+          (both k (λ n at. pushes_length o v n at)
+          (after_one _ (items.operate op o ob d) (λ n at. pushes_length ob b n at) e wb) first));
+    }
+  where
+    regroup : (oa ob : Operand) (at : ℕ) (more : List Item) (d : Destination) → operation op oa v ob b at d more
+        ≡ operation op oa v ob b at d [] ++ more
+    regroup oa ob at more d = simp append_assoc
+
+-- The first operand
+
+either : {A : Type 0} (b : Bool) (x : A) → x ≡ (if b then x else x)
+either true x = refl
+either false x = refl
+
+pub first_pushed : (c c1 : List Item) (op : Binary) (wanted : Wanted) (v : Value)
+    → WritesBefore c c1 (wanted_items wanted v) → WritesBefore c c1 (first_items op pushed wanted v)
+first_pushed c c1 op wanted v w = as_items (λ n at _. either (is_logical op) (wanted_items wanted v n at)) w
+
+pub first_logical : (c c1 : List Item) (op : Binary) (o : Operand) (wanted : Wanted) (v : Value) → is_logical op
+    ≡ true → WritesBefore c c1 (wanted_items wanted v) → WritesBefore c c1 (first_items op o wanted v)
+first_logical c c1 op o wanted v e w =
+    as_items (λ n at _. ap
+    (λ b. if b then wanted_items wanted v n at else if_pushed o (wanted_items wanted v n at) []) (sym e)) w
+
+pub first_number : (c : List Item) (op : Binary) (m : ℕ) (wanted : Wanted) (v : Value) → is_logical op
+    ≡ false → WritesBefore c c (first_items op (number m) wanted v)
+first_number c op m wanted v e = as_items (λ n at _. ap (λ b. if b then wanted_items wanted v n at else []) (sym e))
+    (nothing c)
+
+pub first_variable : (c : List Item) (op : Binary) (x : Variable) (wanted : Wanted) (v : Value) → is_logical op
+    ≡ false → WritesBefore c c (first_items op (variable x) wanted v)
+first_variable c op x wanted v e = as_items (λ n at _. ap (λ b. if b then wanted_items wanted v n at else []) (sym e))
+    (nothing c)
+
+-- Chains
+
+pub links_none : (c : List Item) (wanted : Wanted) → ReducesLinks c c wanted wanted []
+links_none c wanted v is = record { with_rest = λ end w. w }
+
+pub links_next : (c c1 c2 : List Item) (wanted w1 w2 : Wanted) (op : Binary) (b : Value) (ls : List (Binary × Value))
+    → ReducesLinks c c1 wanted w1 ls → ReducesLink c1 c2 w1 w2 op pushed b
+    → ReducesLinks c c2 wanted w2 ((op, b) ∷ ls)
+links_next c c1 c2 wanted w1 w2 op b ls many link v is =
+    record {
+      with_rest = λ end w. (many (source.binary op v b) (λ _. refl)).with_rest end
+          ((link v (is b)).with_rest end (first_pushed c2 end op w2 v w));
+    }
+
+pub chain_more : (c c1 c2 c3 : List Item) (wanted w1 w2 : Wanted) (op : Binary) (o : Operand) (a b : Value)
+    (ls : List (Binary × Value)) → ReducesLinks c c1 wanted w1 ls → o ≡ left_of a b → ReducesLink c1 c2 w1 w2 op o b
+    → WritesBefore c2 c3 (first_items op o w2 a)
+    → WritesBefore c c3 (wanted_items wanted (chained (source.binary op a b) ls))
+chain_more c c1 c2 c3 wanted w1 w2 op o a b ls many e link w = (many (source.binary op a b) (λ _. refl)).with_rest c3
+    ((link a e).with_rest c3 w)
+
+-- Comparisons
+
+abbrev comparison : Test → Operand → Value → Operand → Value → Bool → ℕ → ℕ → List Item
+comparison test o v ob b when at t = if_pushed o (value_items at v push) []
+    ++ (if_pushed ob (value_items (at + if_pushed o (value_count v push) 0) b push) [] ++ items.branch test
+    (o ∷ ob ∷ []) when t ∷ [])
+
+pub compare_link : (c c1 c2 c3 : List Item) (wanted : Wanted) (when : Bool) (target : ℕ) (op : Comparison)
+    (o ob : Operand) (b : Value) → ReducesTruth c c1 wanted when target → ob ≡ alone b
+    → c2 ≡ c1 ++ items.branch (comparison_test op) (o ∷ ob ∷ []) (comparison_when op when) target ∷ []
+    → WritesBefore c2 c3 (pushes ob b) → ReducesComparison c c3 wanted op o b
+compare_link c c1 c2 c3 wanted when target op o ob b reduces eb e wb v eo =
+    let k = if_pushed o (value_count v push) 0 in
+    record {
+      with_rest = λ c4 w.
+          (reduces (source.compare op v b) (λ at d. refl)).with_rest c4
+          (as_items (λ n at _. ap
+          (λ x. comparison (comparison_test op) x v ob b (comparison_when op when) at (n - target)) eo
+          ∙ ap (λ y. comparison (comparison_test op) (left_of v b) v y b (comparison_when op when) at
+          (n - target)) eb)
+          (both k (λ n at. pushes_length o v n at)
+          (after_one _ (items.branch (comparison_test op) (o ∷ ob ∷ []) (comparison_when op when) target)
+          (λ n at. pushes_length ob b n at) e wb) w));
+    }
+
+pub compare_more : (c c1 c2 : List Item) (wanted : Wanted) (op : Comparison) (o : Operand) (a b : Value) → o
+    ≡ left_of a b → ReducesComparison c c1 wanted op o b → WritesBefore c1 c2 (pushes o a)
+    → WritesBefore c c2 (wanted_items wanted (source.compare op a b))
+compare_more c c1 c2 wanted op o a b e link w = (link a e).with_rest c2 w
+
+-- Entries
+
+pub entry_more : (c c1 c2 c3 : List Item) (wanted : Wanted) (d : Destination) (width : Width) (a : ℕ) (o : Operand)
+    (i : Value) → ReducesWord c c1 wanted d → o ≡ alone i → c2 ≡ c1 ++ items.entry width a o d ∷ []
+    → WritesBefore c2 c3 (pushes o i)
+    → WritesBefore c c3 (wanted_items wanted (source.entry width a i))
+entry_more c c1 c2 c3 wanted d width a o i reduces eo e w =
+    (reduces (source.entry width a i)
+    (λ at t when. sym (append_assoc (if_pushed (alone i) (value_items at i push) [])
+    (items.entry width a (alone i) push ∷ []) (branch_true pushed when t ∷ [])))).with_rest c3
+    (as_items (λ n at _. ap (λ o. if_pushed o (value_items at i push) [] ++ items.entry width a o d ∷ []) eo)
+    (after_one _ (items.entry width a o d) (λ n at. pushes_length o i n at) e w))
+
+abbrev entry_assigned : Width → ℕ → Operand → Value → Operand → Value → ℕ → Destination → List Item → List Item
+entry_assigned width a o i ov v at d more = if_pushed o (value_items at i push) []
+    ++ (if_pushed ov (value_items (at + if_pushed o (value_count i push) 0) v push) []
+    ++ items.assign_entry width a o ov d ∷ more)
+
+pub assigned_entry_link : (c c1 c2 c3 : List Item) (wanted : Wanted) (d : Destination) (width : Width) (a : ℕ)
+    (o ov : Operand) (v : Value) → ReducesWord c c1 wanted d → ov ≡ alone v
+    → c2 ≡ c1 ++ items.assign_entry width a o ov d ∷ [] → WritesBefore c2 c3 (pushes ov v)
+    → ReducesAssignedEntry c c3 wanted width a o v
+assigned_entry_link c c1 c2 c3 wanted d width a o ov v reduces ev e wv i eo = record {
+  with_rest = λ c4 w.
+      (reduces (source.assign_entry width a i v)
+      (λ at t when. regroup (left_of i v) (alone v) at (branch_true pushed when t ∷ []) push)).with_rest c4
+      (as_items (λ n at _. ap (λ x. entry_assigned width a x i ov v at d []) eo
+      ∙ ap (λ y. entry_assigned width a (left_of i v) i y v at d []) ev)
+      (both (if_pushed o (value_count i push) 0) (λ n at. pushes_length o i n at)
+      (after_one _ (items.assign_entry width a o ov d) (λ n at. pushes_length ov v n at) e wv) w));
+}
+  where
+    regroup : (oi ov : Operand) (at : ℕ) (more : List Item) (d : Destination)
+        → entry_assigned width a oi i ov v at d more ≡ entry_assigned width a oi i ov v at d [] ++ more
+    regroup oi ov at more d = simp append_assoc
+
+pub assigned_entry_more : (c c1 c2 : List Item) (wanted : Wanted) (width : Width) (a : ℕ) (o : Operand) (i v : Value)
+    → o ≡ left_of i v → ReducesAssignedEntry c c1 wanted width a o v → WritesBefore c1 c2 (pushes o i)
+    → WritesBefore c c2 (wanted_items wanted (source.assign_entry width a i v))
+assigned_entry_more c c1 c2 wanted width a o i v e link w = (link i e).with_rest c2 w

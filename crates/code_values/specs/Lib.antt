@@ -1,0 +1,4 @@
+pub mod Items
+pub mod Code
+pub mod Writing
+pub mod ValueWriting

@@ -1,7 +1,0 @@
--- What is left behind a part of the tokens.
-use Rattle.std.specs.Prelude.{◌≡◌, ◌++◌, List}
-use Rattle.lexer.specs.Token.{Lexeme}
-
--- r is what tokens end with
-abbrev pub EndsWith : List Lexeme → List Lexeme → Type 0
-EndsWith ts r = (front : List Lexeme) × (ts ≡ front ++ r)

@@ -1,3 +1,0 @@
-pub mod Items
-pub mod Code
-pub mod Writing

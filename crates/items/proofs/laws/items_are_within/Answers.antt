@@ -1,5 +1,0 @@
-use Rattle.items.proofs.Within as within
-use Rattle.items.proofs.laws.items_are_within.Goals as goal
-
-pub returns : goal.returns
-returns c = within.items_are_within

@@ -1,7 +1,0 @@
-use Rattle.meaning.specs.Resolved.{value_of}
-use Rattle.items.proofs.Actions.{move_more}
-use Rattle.items.proofs.statement.put_move.Goals as goal
-
-pub returns : goal.returns
-returns c x = move_more _ _ _ _ _ (value_of c.args.object.now) (value_of c.args.into.now)
-    c.left_of-left.ensures c.alone-right.ensures c.in_ok-put_after.ensures c.in_ok-put_operand.ensures

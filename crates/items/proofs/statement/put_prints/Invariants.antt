@@ -1,9 +1,0 @@
-use Rattle.std.proofs.Common.{◌-◌, length, map, drop}
-use Rattle.meaning.specs.Resolved.{printed_of}
-use Rattle.drafts.specs.Writing.{written_in, Written}
-use Rattle.items.specs.Statements.{prints_items}
-use Rattle.items.proofs.statement.put_prints.Given as goal
-
-abbrev pub invariant-loop-done : goal.invariant-loop-done
-invariant-loop-done l = Written (written_in l.initial.draft) (written_in l.draft)
-    (λ n at. prints_items at (map printed_of (drop (length l.items - l.done) l.items)))

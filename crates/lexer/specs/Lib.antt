@@ -1,7 +1,0 @@
-pub mod Bytes
-pub mod Token
-pub mod Spelling
-pub mod Tokens
-pub mod Results
-pub mod Fronts
-pub mod Printable

@@ -1,0 +1,14 @@
+use Rattle.std.proofs.Common.{◌<◌, ◌≤◌, arith}
+use Rattle.machine_frames.proofs.InPlace.{reads_local_in_place, reads_global_in_place}
+use Rattle.machine_frames.proofs.variables.read_in_place.Goals as goal
+
+pub returns-in-1-to-15 : goal.returns-in-1-to-15
+returns-in-1-to-15 c =
+    let some : 0 < c.args.variable = omega arith in
+    let low : c.args.variable < 16 = omega arith in
+    rw (reads_local_in_place c.args.variable some low) c.read_local.ensures
+
+pub returns-in_default : goal.returns-in_default
+returns-in_default c =
+    let high : 16 ≤ c.args.variable = omega arith in
+    rw (reads_global_in_place c.args.variable high) c.read_global.ensures

@@ -1,0 +1,13 @@
+use Rattle.machine_frames.proofs.Steps.{went_then, went_no_further, went_err}
+use Rattle.zcore.specs.Objects.{test_attribute}
+use Rattle.machine_objects.proofs.Linking.{branch_if}
+use Rattle.machine_objects.proofs.attributes.test_attribute.Goals as goal
+
+pub returns-in_err-byte : goal.returns-in_err-byte
+unfolding test_attribute
+returns-in_err-byte c = went_err _ c.from_residual.ensures.1 (went_no_further _ c.in_err-byte.ensures.went)
+
+pub returns : goal.returns
+unfolding test_attribute
+returns c = went_then _ c.in_ok-byte.ensures.went
+    (branch_if c.args.here c.args.after c.args.branch _ _ c.is_set-holds.ensures c.branch_on.ensures)

@@ -1,0 +1,14 @@
+use Rattle.std.proofs.Common.{arith}
+use Rattle.tables.specs.Links.{as_link}
+use Rattle.machine_objects.proofs.Linking.{link_written, link_inside}
+use Rattle.machine_objects.proofs.links.write_link.Goals as goal
+
+pub write_word-requires-clause-address : goal.write_word-requires-clause-address
+write_word-requires-clause-address c =
+    let inside = link_inside c.args.header.now.defaults c.args.header.now.static_base (as_link c.args.link)
+    c.requires.entry.entry in
+    omega (arith, inside, c.link_place.ensures, c.requires.entry.low)
+
+pub returns : goal.returns
+returns c = link_written c.args.header.now _ _ _ (as_link c.args.link) _ c.args.object c.requires.store
+    c.link_place.ensures c.write_word.ensures

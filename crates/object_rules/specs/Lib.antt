@@ -1,3 +1,0 @@
-pub mod Repeated
-pub mod Objects
-pub mod Files

@@ -1,6 +1,0 @@
-use Rattle.std.proofs.Common.{refl, arith}
-use Rattle.opcodes.proofs.SignedWords.{less_is}
-use Rattle.opcodes.proofs.arithmetic.signed_less.Goals as goal
-
-pub returns : goal.returns
-returns c = less_is c.args.x c.args.y _ _ (omega arith) (omega arith) refl refl

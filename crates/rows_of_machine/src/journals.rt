@@ -1,0 +1,114 @@
+//! Cells whose writes are recorded.
+
+ghost use Rattle.std.specs.Prelude.{◌≡◌, ℕ, List, [], length};
+
+use crate::names::{Cells, Recorded, swap_back, swap_forward};
+use rows::{RowError, Shown, number_in, written_bytes};
+use std::alloc::{AllocError, Global};
+
+/// A store has more cells than are shown where it has more than so many.
+const SHOWN: usize = 8;
+
+/// Words in memory.
+#[derive(Drop)]
+pub struct Words {
+    values: Vec<u16>,
+}
+
+impl Cells for Words {
+    ghost cells = { λ s. s.values.items };
+
+    ghost bounds = { λ _ _. 65535 };
+
+    ghost fixed = { λ _. [] };
+
+    fn len(&self) -> usize {
+        self.values.len()
+    }
+
+    fn bound(&self, i: usize) -> u16 {
+        let _i = i;
+        u16::MAX
+    }
+
+    fn get(&self, i: usize) -> u16 {
+        self.values[i]
+    }
+
+    fn put(&mut self, i: usize, v: u16) {
+        self.values[i] = v;
+    }
+}
+
+/// The words that a text writes, of which nothing is recorded yet.
+pub fn recorded(alloc: Global, text: &str) -> Result<Recorded<Words>, RowError> {
+    let written = written_bytes(alloc, text)?;
+    let values = values_in(alloc, &written)?;
+    Ok(Recorded::new(alloc, Words { values }))
+}
+
+/// The numbers that bytes write, with spaces between them.
+fn values_in(alloc: Global, written: &[u8]) -> Result<Vec<u16>, AllocError> {
+    let mut values = Vec::new(alloc);
+    let mut value = 0u16;
+    for byte in written {
+        if *byte == b' ' {
+            values.push(value)?;
+            value = 0;
+        } else {
+            value = value.wrapping_mul(10).wrapping_add(u16::from(*byte & 15));
+        }
+    }
+    values.push(value)?;
+    Ok(values)
+}
+
+/// Writes a value into a cell, which a text names.
+pub fn write(turn: &mut Recorded<Words>, text: &str) -> Result<(), RowError> {
+    let (cell, value) = text.split_once(' ').ok_or(RowError::Number)?;
+    let cell = number_in(cell)?;
+    let Ok(value) = u16::try_from(number_in(value)?) else {
+        return Err(RowError::Number);
+    };
+    if cell >= turn.store().len() {
+        return Err(RowError::Number);
+    }
+    match turn.put(cell, value) {
+        Ok(()) => Ok(()),
+        Err(_) => Err(RowError::Memory),
+    }
+}
+
+/// Ends the turn, and adds how many cells its record holds and what the cells hold; then with the
+/// turn taken back, and with it done again.
+pub fn put_closed(shown: &mut Shown, turn: &mut Recorded<Words>) {
+    let mut record = turn.close();
+    shown.display(&record.cells());
+    shown.text(" cells");
+    put_values(shown, ": ", turn.store());
+    swap_back(turn.store_mut(), &mut record);
+    put_values(shown, "; back: ", turn.store());
+    swap_forward(turn.store_mut(), &mut record);
+    put_values(shown, "; forward: ", turn.store());
+    shown.text("\n");
+}
+
+/// Gives the turn up, and adds what the cells hold.
+pub fn put_abandoned(shown: &mut Shown, turn: &mut Recorded<Words>) {
+    turn.abandon();
+    put_values(shown, "abandoned: ", turn.store());
+    shown.text("\n");
+}
+
+/// Adds what the cells hold, where they are few.
+fn put_values(shown: &mut Shown, front: &str, words: &Words) {
+    if words.values.len() > SHOWN {
+        return;
+    }
+    let mut front = front;
+    for value in words.values.iter() {
+        shown.text(front);
+        shown.display(value);
+        front = " ";
+    }
+}

@@ -1,0 +1,149 @@
+//! Stories that are played, by a run over an input or call by call.
+
+use crate::names::{Place, Reply, Session, run, status};
+use rows::{RowError, Setting, Shown, written_bytes};
+use std::alloc::Global;
+
+/// Opens a story, runs it on the row's input, and adds the transcript and how it ended; or adds why
+/// it is not opened.
+///
+/// # Errors
+///
+/// [`RowError::Memory`] where memory is refused for a copy of the story.
+pub fn put_run(
+    shown: &mut Shown,
+    alloc: Global,
+    setting: &Setting,
+    story: &[u8],
+) -> Result<(), RowError> {
+    let story = story.to_vec(alloc)?;
+    match Session::open_with(alloc, story, setting.fuel, setting.keep) {
+        Ok(mut session) => put_played(shown, setting, &mut session),
+        Err(fault) => shown.display_line(&fault),
+    }
+    Ok(())
+}
+
+/// Runs a session on the row's input, and adds the transcript and how it ended.
+fn put_played(shown: &mut Shown, setting: &Setting, session: &mut Session) {
+    let mut writer = setting.writer();
+    let answer = run(&mut setting.reader(), &mut writer, session);
+    shown.lines(&writer.bytes);
+    match answer {
+        Ok(place) => {
+            shown.text("status ");
+            shown.display(&status(&place));
+        }
+        Err(fault) => shown.display(&fault),
+    }
+    shown.text(", ");
+    put_state(shown, session);
+}
+
+/// Adds where the story stands, and how many turns are kept and undone where there are any.
+fn put_state(shown: &mut Shown, session: &Session) {
+    put_place(shown, &session.place());
+    let (kept, undone) = session.counts();
+    if kept > 0 || undone > 0 {
+        shown.text(", ");
+        shown.display(&kept);
+        shown.text(" kept, ");
+        shown.display(&undone);
+        shown.text(" undone");
+    }
+    shown.text("\n");
+}
+
+/// Adds where a story stands.
+fn put_place(shown: &mut Shown, place: &Place) {
+    match place {
+        Place::Waiting => shown.text("waiting"),
+        Place::Quit => shown.text("quit"),
+        Place::Limit(limit) => shown.display(limit),
+        Place::Fault(fault) => shown.display(fault),
+    }
+}
+
+/// Replies to a written line, and adds what came of it. Where memory is refused, nothing may have
+/// changed, and the line is given once more.
+pub fn put_reply(
+    shown: &mut Shown,
+    alloc: Global,
+    session: &mut Session,
+    text: &str,
+) -> Result<(), RowError> {
+    let line = written_bytes(alloc, text)?;
+    shown.text("reply ");
+    shown.text(text);
+    shown.text(": ");
+    put_replies(shown, session, &line);
+    put_state(shown, session);
+    Ok(())
+}
+
+/// Replies to a line, once more where memory is refused, and adds what came of it.
+fn put_replies(shown: &mut Shown, session: &mut Session, line: &[u8]) {
+    let counts = session.counts();
+    let cells = session.last_cells();
+    if has_replied(shown, session, line) {
+        return;
+    }
+    if counts != session.counts() || cells != session.last_cells() {
+        shown.text("changed without memory; ");
+    }
+    if !has_replied(shown, session, line) {
+        shown.text("no memory\n");
+    }
+}
+
+/// Replies to a line, and adds what came of it, unless memory was refused.
+fn has_replied(shown: &mut Shown, session: &mut Session, line: &[u8]) -> bool {
+    match session.reply(line) {
+        Reply::Taken(told) => {
+            shown.text("taken\n");
+            shown.lines(told);
+        }
+        Reply::Refused => shown.text("refused\n"),
+        Reply::Over => shown.text("over\n"),
+        Reply::NoMemory => return false,
+    }
+    true
+}
+
+/// Takes a turn back, and adds what came of it.
+pub fn put_undo(shown: &mut Shown, session: &mut Session) {
+    let found = session.undo();
+    shown.text(if found {
+        "undo: true\n"
+    } else {
+        "undo: false\n"
+    });
+    put_state(shown, session);
+}
+
+/// Does a turn again, and adds what came of it.
+pub fn put_redo(shown: &mut Shown, session: &mut Session) {
+    match session.redo() {
+        Some(told) => {
+            shown.text("redo: true\n");
+            shown.lines(told);
+        }
+        None => shown.text("redo: false\n"),
+    }
+    put_state(shown, session);
+}
+
+/// Adds whether the record of the latest kept turn holds cells, and at most so many.
+pub fn put_cells(shown: &mut Shown, session: &Session, most: usize) {
+    let cells = session.last_cells();
+    if cells == 0 {
+        return shown.text("no cells\n");
+    }
+    shown.text(if cells <= most {
+        "at most "
+    } else {
+        "more than "
+    });
+    shown.display(&most);
+    shown.text(" cells\n");
+}

@@ -1,0 +1,83 @@
+//! Stories that are made byte by byte.
+
+use crate::hexadecimal::bytes_in;
+use rows::{RowError, number_in};
+use std::alloc::Global;
+use zcore::layout::{HEADER_LENGTH, LENGTH_WORD, SUM_WORD};
+
+/// A story under a name. Rows name it with bytes, which are put at its place.
+#[derive(Drop)]
+pub struct Definition {
+    /// Its name.
+    pub name: String,
+
+    /// Where a row's bytes are put.
+    pub place: usize,
+
+    /// The story without them.
+    pub story: Vec<u8>,
+}
+
+impl Definition {
+    /// A copy of a story, under a name.
+    pub fn new(
+        alloc: Global,
+        name: &str,
+        place: usize,
+        story: &[u8],
+    ) -> Result<Definition, RowError> {
+        let story = story.to_vec(alloc)?;
+        let name = String::from_str(alloc, name)?;
+        Ok(Definition { name, place, story })
+    }
+}
+
+/// Puts bytes at a place. The story grows by zeros where it ends before them.
+pub fn put_at(story: &mut Vec<u8>, place: usize, bytes: &[u8]) -> Result<(), RowError> {
+    let end = place.checked_add(bytes.len()).ok_or(RowError::Number)?;
+    if story.len() < end {
+        story.resize(end, 0)?;
+    }
+    for (cell, byte) in story.iter_mut().skip(place).zip(bytes.iter()) {
+        *cell = *byte;
+    }
+    Ok(())
+}
+
+/// Puts the bytes that a text names at the place that it names first.
+pub fn put_text_at(story: &mut Vec<u8>, alloc: Global, text: &str) -> Result<(), RowError> {
+    let (place, digits) = text.split_once(' ').ok_or(RowError::Number)?;
+    let place = number_in(place)?;
+    put_at(story, place, &bytes_in(alloc, digits)?)
+}
+
+/// Fills a story up to a multiple of the scale of its version, and writes its length and its sum.
+pub fn mend(story: &mut Vec<u8>) -> Result<(), RowError> {
+    let scale = match story.as_slice() {
+        [8, ..] => 8,
+        _ => 4,
+    };
+    fill_up(story, scale)?;
+    let length = u16::try_from(story.len() / scale).unwrap_or(0);
+    put_at(story, LENGTH_WORD, &length.to_be_bytes())?;
+    mend_sum(story)
+}
+
+/// Adds zeros up to a multiple of the scale.
+fn fill_up(story: &mut Vec<u8>, scale: usize) -> Result<(), RowError> {
+    for _ in 0..scale {
+        if story.len().checked_rem(scale) != Some(0) {
+            story.push(0)?;
+        }
+    }
+    Ok(())
+}
+
+/// Writes the sum of a story's bytes behind its header.
+pub fn mend_sum(story: &mut Vec<u8>) -> Result<(), RowError> {
+    let mut sum = 0u16;
+    for byte in story.iter().skip(HEADER_LENGTH) {
+        sum = sum.wrapping_add(u16::from(*byte));
+    }
+    put_at(story, SUM_WORD, &sum.to_be_bytes())
+}

@@ -1,4 +1,0 @@
-pub mod Shapes
-pub mod MadeActions
-pub mod Forms
-mod Samples

@@ -1,8 +1,0 @@
-use Rattle.meaning.specs.Resolved as values
-use Rattle.value_rules.proofs.Walks.{two, behind}
-use Rattle.simple_rules.proofs.MadeActions.{made_move}
-use Rattle.simple_rules.proofs.simple_rules.move_to.Goals as goal
-
-pub returns : goal.returns
-returns c around = rw (made_move c.in-Ok.object c.in-Ok-boxed.parent)
-    (behind _ _ _ _ _ c.move_temporaries.ensures (two values.move_to c.in-Ok.ensures c.in-Ok-boxed.ensures))

@@ -1,3 +1,0 @@
-pub mod Buffers
-pub mod Statements
-pub mod Walk

@@ -1,2 +1,0 @@
-pub mod Decoded
-pub mod Kinds

@@ -1,0 +1,14 @@
+use Rattle.std.proofs.Common.{◌≡◌, map, ◌-◌}
+use Rattle.syntax_parsing.specs.Returned.{ahead}
+use Rattle.syntax_parsing.specs.Parse.{repeated}
+use Rattle.syntax_parsing.proofs.Loops.{joined}
+use Rattle.syntax_statement_parts.specs.Parse.{begins_value}
+use Rattle.syntax_directives.specs.Tree.{value_tree}
+use Rattle.syntax_directives.specs.Parse as spec
+use Rattle.syntax_directives.proofs.arrays.values.Given as goal
+
+abbrev pub invariant-loop-turn : goal.invariant-loop-turn
+invariant-loop-turn l =
+    joined (map value_tree l.found.items)
+    (repeated begins_value spec.placed (l._turn-end - l._turn) (ahead l.parser))
+    ≡ spec.values (ahead l.fn.parser)

@@ -1,0 +1,13 @@
+use Rattle.std.proofs.Common.{◌≡◌, map, ◌-◌}
+use Rattle.syntax_trees.specs.Tree.{name_tree}
+use Rattle.syntax_parsing.specs.Returned.{ahead}
+use Rattle.syntax_parsing.specs.Parse.{repeated}
+use Rattle.syntax_parsing.proofs.Loops.{joined}
+use Rattle.syntax_expressions.specs.Parse.{is_name, expect_name}
+use Rattle.syntax_directives.specs.Parse as spec
+use Rattle.syntax_directives.proofs.names.names.Given as goal
+
+abbrev pub invariant-loop-turn : goal.invariant-loop-turn
+invariant-loop-turn l =
+    joined (map name_tree l.found.items) (repeated is_name expect_name (l._turn-end - l._turn) (ahead l.parser))
+    ≡ spec.names (ahead l.fn.parser)

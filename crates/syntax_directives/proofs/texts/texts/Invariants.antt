@@ -1,0 +1,13 @@
+use Rattle.std.proofs.Common.{◌≡◌, map, ◌-◌}
+use Rattle.syntax_parsing.specs.Returned.{ahead}
+use Rattle.syntax_parsing.specs.Parse.{repeated}
+use Rattle.syntax_parsing.proofs.Loops.{joined}
+use Rattle.syntax_directives.specs.Tree.{text_tree}
+use Rattle.syntax_directives.specs.Parse as spec
+use Rattle.syntax_directives.proofs.texts.texts.Given as goal
+
+abbrev pub invariant-loop-turn : goal.invariant-loop-turn
+invariant-loop-turn l =
+    joined (map text_tree l.found.items)
+    (repeated spec.is_text spec.one_text (l._turn-end - l._turn) (ahead l.parser))
+    ≡ spec.texts (ahead l.fn.parser)

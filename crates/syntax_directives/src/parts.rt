@@ -1,0 +1,96 @@
+//! Directives made of their parts, where all that stands before their `;` is read already. Trees
+//! come and go in boxes, and are made last, behind all that can be at fault: where a function holds
+//! a tree by value, its proof has all kinds of trees before it, with all that each holds, at every
+//! way out. The parser comes first among the arguments, as in the callers: else the prover compares
+//! the types of the arguments part by part.
+//!
+//! # Errors
+//!
+//! `Memory` where a growth is refused; `Fault::Grammar` at the next token: it is not `;`.
+
+ghost use Rattle.std.specs.Prelude.{Ok};
+ghost use Rattle.syntax_trees.specs.Tree.{name_tree};
+ghost use Rattle.syntax_parsing.specs.Returned.{ahead};
+ghost use Rattle.syntax_statement_parts.specs.Tree.{literal_tree};
+ghost use Rattle.syntax_directives.specs.Tree as tree;
+ghost use Rattle.syntax_directives.specs.Tree.{directive_tree, optional_tree};
+ghost use Rattle.syntax_directives.specs.Returned.{TakesDirective};
+ghost use Rattle.syntax_directives.specs.Parse as spec;
+
+use crate::tree::Directive;
+use syntax_lexer::Sign;
+use syntax_parsing::{ParseError, Parser, expect};
+use syntax_statement_parts::Literal;
+use syntax_trees::Name;
+
+/// A directive in a box. Where memory is refused the directive is dropped here.
+pub fn in_box<'t, 'a>(
+    parser: &Parser<'t, 'a>,
+    directive: Directive<'a>,
+) -> Result<Box<Directive<'a>>, ParseError>
+    ensures { TakesDirective result parser.now
+        (Ok (directive_tree directive.entry, ahead parser.now)) }
+{
+    match Box::new(parser.alloc, directive) {
+        Ok(directive) => Ok(directive),
+        Err(refused) => Err(ParseError::from(refused)),
+    }
+}
+
+/// A global variable, with its `;`.
+#[tactic(auto, unfolding(crate::specs::Parse::ended))]
+pub fn global<'t, 'a>(
+    parser: &mut Parser<'t, 'a>,
+    name: Name<'a>,
+    first: Option<Literal<'a>>,
+) -> Result<Box<Directive<'a>>, ParseError>
+    ensures { TakesDirective result parser.new
+        (spec.ended (tree.global (name_tree name.entry) (optional_tree first.entry))
+        (ahead parser.old)) }
+{
+    expect(parser, Sign::Semicolon)?;
+    in_box(parser, Directive::Global(name, first))
+}
+
+/// A constant, with its `;`.
+#[tactic(auto, unfolding(crate::specs::Parse::ended))]
+pub fn constant<'t, 'a>(
+    parser: &mut Parser<'t, 'a>,
+    name: Name<'a>,
+    value: Literal<'a>,
+) -> Result<Box<Directive<'a>>, ParseError>
+    ensures { TakesDirective result parser.new
+        (spec.ended (tree.constant (name_tree name.entry) (literal_tree value.entry))
+        (ahead parser.old)) }
+{
+    expect(parser, Sign::Semicolon)?;
+    in_box(parser, Directive::Constant(name, value))
+}
+
+/// An attribute, with its `;`.
+#[tactic(auto, unfolding(crate::specs::Parse::ended))]
+pub fn attribute<'t, 'a>(
+    parser: &mut Parser<'t, 'a>,
+    name: Name<'a>,
+) -> Result<Box<Directive<'a>>, ParseError>
+    ensures { TakesDirective result parser.new
+        (spec.ended (tree.attribute (name_tree name.entry)) (ahead parser.old)) }
+{
+    expect(parser, Sign::Semicolon)?;
+    in_box(parser, Directive::Attribute(name))
+}
+
+/// A property, with its `;`.
+#[tactic(auto, unfolding(crate::specs::Parse::ended))]
+pub fn property<'t, 'a>(
+    parser: &mut Parser<'t, 'a>,
+    name: Name<'a>,
+    default: Option<Literal<'a>>,
+) -> Result<Box<Directive<'a>>, ParseError>
+    ensures { TakesDirective result parser.new
+        (spec.ended (tree.property (name_tree name.entry) (optional_tree default.entry))
+        (ahead parser.old)) }
+{
+    expect(parser, Sign::Semicolon)?;
+    in_box(parser, Directive::Property(name, default))
+}

@@ -1,0 +1,92 @@
+//! Definitions of routines, read from tokens.
+
+ghost use Rattle.std.specs.Prelude.{map};
+ghost use Rattle.syntax_trees.specs.Tree.{name_tree};
+ghost use Rattle.syntax_parsing.specs.Parse.{Gives};
+ghost use Rattle.syntax_parsing.specs.Returned.{ahead, Takes};
+ghost use Rattle.syntax_statements.specs.Tree.{statement_tree};
+ghost use Rattle.syntax_directives.specs.Returned.{TakesDirective};
+ghost use Rattle.syntax_directives.specs.Parse as spec;
+
+use crate::names::names;
+use crate::parts::in_box;
+use crate::tree::{Directive, Routine};
+use crate::weight::weight_before;
+use syntax_expressions::expect_name;
+use syntax_lexer::Sign;
+use syntax_parsing::{ParseError, Parser, expect, pass};
+use syntax_statements::{Statement, statements};
+use syntax_trees::Name;
+
+// What a routine begins with, behind its bracket: its name, its locals, and their `;`.
+#[tactic(auto, unfolding(crate::specs::Parse::routine_heading))]
+fn routine_heading<'t, 'a>(
+    parser: &mut Parser<'t, 'a>,
+) -> Result<(Name<'a>, Vec<Name<'a>>), ParseError>
+    ensures { Takes (λ x. (name_tree x.0, map name_tree x.1.items)) result parser.new
+        (spec.routine_heading (ahead parser.old)) }
+{
+    let name = expect_name(parser)?;
+    let locals = names(parser)?;
+    expect(parser, Sign::Semicolon)?;
+    Ok((name, locals))
+}
+
+// What closes a routine.
+#[tactic(auto, unfolding(crate::specs::Parse::closed))]
+fn closed<'t, 'a>(parser: &mut Parser<'t, 'a>) -> Result<(), ParseError>
+    ensures { Gives (λ _. ahead parser.new) result (spec.closed (ahead parser.old)) }
+{
+    expect(parser, Sign::CloseBracket)?;
+    expect(parser, Sign::Semicolon)
+}
+
+// The statements of a routine, with what closes it.
+#[tactic(auto, unfolding(crate::specs::Parse::routine_body))]
+fn body<'t, 'a>(parser: &mut Parser<'t, 'a>, depth: usize) -> Result<Vec<Statement<'a>>, ParseError>
+    ensures { Takes (λ xs. map statement_tree xs.items) result parser.new
+        (spec.routine_body depth (ahead parser.old)) }
+{
+    match statements(parser, depth) {
+        Ok(found) => match closed(parser) {
+            Ok(()) => Ok(found),
+            Err(e) => Err(e),
+        },
+        Err(e) => Err(e),
+    }
+}
+
+/// A routine, from its bracket on, with so many nestings to open in its statements.
+///
+/// # Errors
+///
+/// `Fault::Grammar` at the first token with which no derivation goes on, `Fault::Deep` at the token
+/// for which no nesting is left, and `Memory` where a growth is refused.
+#[tactic(auto, using(crate::proofs::Ends::routine_ends, crate::proofs::RoutineParts::routine_made))]
+pub fn routine<'t, 'a>(
+    parser: &mut Parser<'t, 'a>,
+    depth: usize,
+) -> Result<Box<Directive<'a>>, ParseError>
+    ensures { TakesDirective result parser.new (spec.one_routine depth (ahead parser.old)) }
+{
+    let opening = parser.tokens;
+    pass(parser);
+    match routine_heading(parser) {
+        Ok((name, locals)) => match body(parser, depth) {
+            Ok(body) => {
+                let weight = weight_before(opening, parser.tokens);
+                in_box(
+                    parser,
+                    Directive::Routine(Routine {
+                        name,
+                        locals,
+                        body,
+                        weight,
+                    }),
+                )
+            }
+            Err(e) => Err(e),
+        },
+        Err(e) => Err(e),
+    }
+}

@@ -1,0 +1,74 @@
+-- Where an array's entry stands, and where none does.
+use Rattle.std.proofs.Common.{◌≡◌, false, List, Option, Some, None, refl}
+use Rattle.syntax_lexer.specs.declared.token.Sign.TheVariants as s
+use Rattle.syntax_lexer.specs.Token.{Lexeme, name, sign}
+use Rattle.syntax_trees.specs.declared.tree.Name.{Name}
+use Rattle.syntax_trees.specs.declared.tree.Step.{Step}
+use Rattle.syntax_trees.specs.declared.tree.Width.{Width}
+use Rattle.syntax_trees.specs.Tree.{ExpressionTree, name_tree}
+use Rattle.syntax_parsing.specs.Parse.{head, tail}
+use Rattle.syntax_expressions.specs.Operators.{stepping, indexing}
+use Rattle.syntax_expressions.specs.Parse.{is_name, array_of, array_at}
+use Rattle.syntax_expressions.specs.Grammar.{IsU, u_plain, u_minus, u_before, u_after, u_length, IsP, p_property}
+use Rattle.syntax_expressions.specs.Grammar.{p_number, p_character, p_word, p_true, p_false, p_nothing, p_name, p_call}
+use Rattle.syntax_expressions.specs.Grammar.{p_call_with, p_relative, p_parenthesised}
+use Rattle.syntax_expressions.proofs.Follow.{Stops, indexing_stops}
+
+-- ---- by what the code found
+
+pub array_found : (ts : List Lexeme) (n : Name) (width : Width) → indexing (head (tail ts)) ≡ Some width
+    → head ts ≡ name n.text.now n.position → array_at ts ≡ Some (name_tree n, width)
+unfolding array_at
+array_found ts n width i e = rw (i, e) refl
+
+not_a_name : (t : Lexeme) (o : Option Width) → is_name t ≡ false → array_of t o ≡ None
+not_a_name (name n p) o e = absurd cc
+not_a_name _ o e = refl
+
+pub array_no_name : (ts : List Lexeme) → is_name (head ts) ≡ false → array_at ts ≡ None
+unfolding array_at
+array_no_name ts e = not_a_name (head ts) (indexing (head (tail ts))) e
+
+no_arrow : (t : Lexeme) → array_of t None ≡ None
+no_arrow (name n p) = refl
+no_arrow _ = refl
+
+pub array_no_arrow : (ts : List Lexeme) → indexing (head (tail ts)) ≡ None → array_at ts ≡ None
+unfolding array_at
+array_no_arrow ts e = rw e (no_arrow (head ts))
+
+-- ---- by what derives
+
+step_no_index : (t : Lexeme) (op : Step) → stepping t ≡ Some op → indexing t ≡ None
+step_no_index (sign s.Increment p) op e = refl
+step_no_index (sign s.Decrement p) op e = refl
+step_no_index _ op e = absurd cc
+
+step_no_name : (t : Lexeme) (op : Step) → stepping t ≡ Some op → is_name t ≡ false
+step_no_name (sign s.Increment p) op e = refl
+step_no_name (sign s.Decrement p) op e = refl
+step_no_name _ op e = absurd cc
+
+pub no_array_P : {ts r : List Lexeme} {e : ExpressionTree} → IsP ts e r → indexing (head r) ≡ None → array_at ts ≡ None
+unfolding array_at
+no_array_P (p_property a) h = no_array_P a refl
+no_array_P p_number h = refl
+no_array_P p_character h = refl
+no_array_P p_word h = refl
+no_array_P p_true h = refl
+no_array_P p_false h = refl
+no_array_P p_nothing h = refl
+no_array_P p_name h = rw h refl
+no_array_P p_call h = refl
+no_array_P (p_call_with a) h = refl
+no_array_P (p_relative {t = t} o a) h = no_arrow t
+no_array_P (p_parenthesised a) h = refl
+
+-- an operand is no array up to a token that is no arrow
+pub no_array : {ts r : List Lexeme} {e : ExpressionTree} → IsU ts e r → Stops 6 r → array_at ts ≡ None
+unfolding array_at
+no_array {r = r} (u_plain a) st = no_array_P a (indexing_stops (head r) st)
+no_array (u_minus a) st = refl
+no_array {ts} (u_before {t = t} {op = op} o a) st = array_no_name ts (step_no_name t op o)
+no_array (u_after {t = t} {op = op} a o) st = no_array_P a (step_no_index t op o)
+no_array (u_length a) st = no_array_P a refl

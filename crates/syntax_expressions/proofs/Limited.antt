@@ -1,0 +1,210 @@
+-- What a parser answers on tokens that have a tree: the tree, or that it is nested too deep.
+use Rattle.std.proofs.Common.{◌≡◌, ℕ, zero, suc, ◌-◌, ◌<◌, ◌≤◌, max, Bool, true, false, List, [], ◌∷◌, length, Option}
+use Rattle.std.proofs.Common.{Some, None, Result, Ok, Err, refl, ◌∙◌, arith, inl, inr}
+use Rattle.std.proofs.lemmas.Bool.{cases_lt}
+use Rattle.syntax_lexer.specs.Token.{Lexeme}
+use Rattle.syntax_trees.specs.declared.tree.Binary.{Binary}
+use Rattle.syntax_trees.specs.Tree.{NameTree, ExpressionTree, binary}
+use Rattle.syntax_parsing.specs.declared.error.Fault.{Fault}
+use Rattle.syntax_parsing.specs.declared.error.Fault.TheVariants.{Deep}
+use Rattle.syntax_parsing.specs.Parse.{◌>>=◌, Parse, head, further, list}
+use Rattle.syntax_expressions.specs.Parse.{Level, whole, negation, complement, prefix, operand, arguments, chain}
+use Rattle.syntax_expressions.specs.Parse.{nested, expression, negated, complemented, unary, primary, called}
+use Rattle.syntax_expressions.proofs.Chain.{chain_stop}
+
+pub record Limited {A : Type 0} (R : Result (A × List Lexeme) Fault) (d n : ℕ) (a : A) (r : List Lexeme) : Type 0
+  where
+    pub within : n ≤ d → R ≡ Ok (a, r)
+    pub beyond : d < n → R ≡ Err Deep
+
+-- one parser after another
+pub bound : {A B : Type 0} {R : Result (A × List Lexeme) Fault} {d m n : ℕ} {a : A} {b : B} {ts r : List Lexeme}
+    (f : A × List Lexeme → Result (B × List Lexeme) Fault) → Limited R d m a ts → Limited (f (a, ts)) d n b r
+    → Limited (R >>= f) d (max m n) b r
+bound {d} {m} f p q = record {
+  within = λ h. rw (p.within (omega arith)) (q.within (omega arith));
+  beyond = λ h. elim (cases_lt d m)
+      [ inl lt ↦ rw (p.beyond lt) refl | inr le ↦ rw (p.within le) (q.beyond (omega arith)) ];
+}
+
+-- what follows nests no deeper
+pub then : {A B : Type 0} {R : Result (A × List Lexeme) Fault} {d m : ℕ} {a : A} {b : B} {ts r : List Lexeme}
+    (f : A × List Lexeme → Result (B × List Lexeme) Fault) → Limited R d m a ts → f (a, ts) ≡ Ok (b, r)
+    → Limited (R >>= f) d m b r
+then f p q = record {
+  within = λ h. rw (p.within h) q;
+  beyond = λ h. rw (p.beyond h) refl;
+}
+
+pub at_once : {A : Type 0} {R : Result (A × List Lexeme) Fault} {d : ℕ} {a : A} {r : List Lexeme} → R ≡ Ok (a, r)
+    → Limited R d 0 a r
+at_once e = record { within = λ h. e; beyond = λ h. absurd (omega arith) }
+
+pub same : {A : Type 0} {R S : Result (A × List Lexeme) Fault} {d n : ℕ} {a : A} {r : List Lexeme} → R ≡ S
+    → Limited S d n a r → Limited R d n a r
+same e p = record { within = λ h. e ∙ p.within h; beyond = λ h. e ∙ p.beyond h }
+
+-- one nesting further in
+inside : {n : ℕ} {e : ExpressionTree} {r : List Lexeme} (p : (ℕ → Parse ExpressionTree)) (l : Level)
+    (ts : List Lexeme) (d : ℕ) → ((k : ℕ) → nested (suc k) l ts ≡ p k ts) → ((k : ℕ) → Limited (p k ts) k n e r)
+    → Limited (nested d l ts) d (suc n) e r
+unfolding nested
+inside p l ts zero same h = record { within = λ le. absurd (omega arith); beyond = λ lt. refl }
+inside p l ts (suc d) same h =
+    record { within = λ le. same d ∙ (h d).within (omega arith); beyond = λ lt. same d ∙ (h d).beyond (omega arith) }
+
+pub in_whole : {n : ℕ} {e : ExpressionTree} {r : List Lexeme} (ts : List Lexeme) (d : ℕ)
+    → ((k : ℕ) → Limited (expression (nested k) ts) k n e r) → Limited (nested d whole ts) d (suc n) e r
+unfolding nested
+in_whole ts d h = inside (λ k. expression (nested k)) whole ts d (λ k. refl) h
+
+pub in_negation : {n : ℕ} {e : ExpressionTree} {r : List Lexeme} (ts : List Lexeme) (d : ℕ)
+    → ((k : ℕ) → Limited (negated (nested k) ts) k n e r) → Limited (nested d negation ts) d (suc n) e r
+unfolding nested
+in_negation ts d h = inside (λ k. negated (nested k)) negation ts d (λ k. refl) h
+
+pub in_complement : {n : ℕ} {e : ExpressionTree} {r : List Lexeme} (ts : List Lexeme) (d : ℕ)
+    → ((k : ℕ) → Limited (complemented (nested k) ts) k n e r) → Limited (nested d complement ts) d (suc n) e r
+unfolding nested
+in_complement ts d h = inside (λ k. complemented (nested k)) complement ts d (λ k. refl) h
+
+pub in_prefix : {n : ℕ} {e : ExpressionTree} {r : List Lexeme} (ts : List Lexeme) (d : ℕ)
+    → ((k : ℕ) → Limited (unary (nested k) ts) k n e r) → Limited (nested d prefix ts) d (suc n) e r
+unfolding nested
+in_prefix ts d h = inside (λ k. unary (nested k)) prefix ts d (λ k. refl) h
+
+pub in_operand : {n : ℕ} {e : ExpressionTree} {r : List Lexeme} (ts : List Lexeme) (d : ℕ)
+    → ((k : ℕ) → Limited (primary (nested k) ts) k n e r) → Limited (nested d operand ts) d (suc n) e r
+unfolding nested
+in_operand ts d h = inside (λ k. primary (nested k)) operand ts d (λ k. refl) h
+
+pub in_arguments : {n : ℕ} {e : ExpressionTree} {r : List Lexeme} (f : NameTree) (ts : List Lexeme) (d : ℕ)
+    → ((k : ℕ) → Limited (called (nested k) f ts) k n e r) → Limited (nested d (arguments f) ts) d (suc n) e r
+unfolding nested
+in_arguments f ts d h = inside (λ k. called (nested k) f) (arguments f) ts d (λ k. refl) h
+
+-- ---- chains
+
+-- after e the chain goes on at m
+pub record Chained (ops : Lexeme → Option Binary) (p : Parse ExpressionTree)
+    (R : Result (ExpressionTree × List Lexeme) Fault) (d n : ℕ) (e : ExpressionTree) (m : List Lexeme) : Type 0 where
+  pub turns : ℕ
+  pub enough : length m ≤ turns
+  pub within : n ≤ d → R ≡ chain ops p turns e m
+  pub beyond : d < n → R ≡ Err Deep
+
+module _ (ops : Lexeme → Option Binary) (p : Parse ExpressionTree) where
+  step_ok : (j : ℕ) (a b : ExpressionTree) (t : Lexeme) (m r : List Lexeme) (op : Binary) → 0 < j → ops t ≡ Some op
+      → p m ≡ Ok (b, r) → chain ops p j a (t ∷ m) ≡ chain ops p (j - 1) (binary op a b) r
+  unfolding chain
+  step_ok zero a b t m r op lt o h = absurd (omega arith)
+  step_ok (suc j) a b t m r op lt o h = let k : suc j - 1 ≡ j = omega arith in rw (o, h, k) refl
+
+  step_err : (j : ℕ) (a : ExpressionTree) (t : Lexeme) (m : List Lexeme) (op : Binary) (f : Fault) → 0 < j
+      → ops t ≡ Some op → p m ≡ Err f → chain ops p j a (t ∷ m) ≡ Err f
+  unfolding chain
+  step_err zero a t m op f lt o h = absurd (omega arith)
+  step_err (suc j) a t m op f lt o h = rw (o, h) refl
+
+  pub begins : {d n : ℕ} {e : ExpressionTree} {m : List Lexeme} (ts : List Lexeme) → Limited (p ts) d n e m
+      → Chained ops p (p ts >>= λ x. chain ops p (length x.1) x.0 x.1) d n e m
+  begins {m = m} ts h = record {
+    turns = length m;
+    enough = omega arith;
+    within = λ le. rw (h.within le) refl;
+    beyond = λ lt. rw (h.beyond lt) refl;
+  }
+
+pub goes_on : {ops : Lexeme → Option Binary} {p : Parse ExpressionTree} {R : Result (ExpressionTree × List Lexeme)
+    Fault} {d n k : ℕ} {a b : ExpressionTree} {t : Lexeme} {m r : List Lexeme} {op : Binary}
+    → Chained ops p R d n a (t ∷ m) → ops t ≡ Some op → Limited (p m) d k b r → length r < length m
+    → Chained ops p R d (max n k) (binary op a b) r
+goes_on {ops} {p} {R} {d} {n} {k} {a} {b} {t} {m} {r} {op} c o q lt = record {
+  turns = c.turns - 1;
+  enough = omega (arith, c.enough);
+  within = λ le. c.within (omega arith) ∙ step_ok ops p c.turns a b t m r op (omega (arith, c.enough)) o
+      (q.within (omega arith));
+  beyond = λ gt. elim (cases_lt d n) [
+    | inl less ↦ c.beyond less
+    | inr le ↦ c.within le ∙ step_err ops p c.turns a t m op Deep (omega (arith, c.enough)) o (q.beyond (omega arith))
+  ];
+}
+
+pub stops : {ops : Lexeme → Option Binary} {p : Parse ExpressionTree} {R : Result (ExpressionTree × List Lexeme)
+    Fault} {d n : ℕ} {e : ExpressionTree} {r : List Lexeme} → Chained ops p R d n e r → ops (head r) ≡ None
+    → Limited R d n e r
+stops {ops} {p} {R} {d} {n} {e} {r} c o = record {
+  within = λ le. c.within le ∙ chain_stop ops p c.turns e r o;
+  beyond = c.beyond;
+}
+
+-- ---- lists
+
+-- the items xs are read from ts on, and then r is left
+pub record Listed {A : Type 0} (sep : Lexeme → Bool) (item : Parse A) (d n : ℕ) (ts : List Lexeme) (xs : List A)
+    (r : List Lexeme) : Type 0 where
+  pub first : A
+  pub others : List A
+  pub rest : List Lexeme
+  pub own : ℕ
+  pub theirs : ℕ
+  pub is : xs ≡ first ∷ others
+  pub deepest : n ≡ max own theirs
+  pub shorter : length rest < length ts
+  pub at_first : Limited (item ts) d own first rest
+  pub at_others : (turns : ℕ) → length rest ≤ turns → Limited (further sep item turns rest) d theirs others r
+
+module _ {A : Type 0} (sep : Lexeme → Bool) (item : Parse A) (d : ℕ) where
+  no_others : (r : List Lexeme) → sep (head r) ≡ false → (turns : ℕ) → Limited (further sep item turns r) d 0 [] r
+  unfolding further
+  no_others r e zero = at_once refl
+  no_others r e (suc n) = at_once (rw e refl)
+
+  some_others : {n k : ℕ} {a : A} {others : List A} {rest r : List Lexeme} (t : Lexeme) (m : List Lexeme) (turns : ℕ)
+      → sep t ≡ true → Limited (item m) d n a rest → Limited (further sep item turns rest) d k others r
+      → Limited (further sep item (suc turns) (t ∷ m)) d (max n k) (a ∷ others) r
+  unfolding further
+  some_others t m turns e p q = same {S = item m >>= λ x. further sep item turns x.1 >>= λ y. Ok (x.0 ∷ y.0, y.1)}
+      (rw e refl) (bound _ p (then _ q refl))
+
+  pub listed_last : {n : ℕ} {a : A} {r : List Lexeme} (ts : List Lexeme) → Limited (item ts) d n a r
+      → length r < length ts → sep (head r) ≡ false → Listed sep item d (max n 0) ts (a ∷ []) r
+  listed_last {n} {a} {r} ts p lt e = record {
+    first = a;
+    others = [];
+    rest = r;
+    own = n;
+    theirs = 0;
+    is = refl;
+    deepest = refl;
+    shorter = lt;
+    at_first = p;
+    at_others = λ turns le. no_others r e turns;
+  }
+
+  pub listed_next : {n k : ℕ} {a : A} {xs : List A} {m r : List Lexeme} (ts : List Lexeme) (t : Lexeme)
+      → Limited (item ts) d n a (t ∷ m) → length (t ∷ m) < length ts → sep t ≡ true → Listed sep item d k m xs r
+      → Listed sep item d (max n k) ts (a ∷ xs) r
+  listed_next {n} {k} {a} {xs} {m} {r} ts t p lt e l = record {
+    first = a;
+    others = xs;
+    rest = t ∷ m;
+    own = n;
+    theirs = k;
+    is = refl;
+    deepest = refl;
+    shorter = lt;
+    at_first = p;
+    at_others = λ turns le. go turns le;
+  }
+    where
+      go : (turns : ℕ) → length (t ∷ m) ≤ turns → Limited (further sep item turns (t ∷ m)) d k xs r
+      go zero le = absurd (omega arith)
+      go (suc turns) le = rw (l.is, l.deepest)
+          (some_others t m turns e l.at_first (l.at_others turns (omega (arith, l.shorter))))
+
+  pub listed_all : {n : ℕ} {xs : List A} {r : List Lexeme} (ts : List Lexeme) → Listed sep item d n ts xs r
+      → Limited (list sep item ts) d n xs r
+  unfolding list
+  listed_all ts l = rw (l.is, l.deepest)
+      (bound _ l.at_first (then _ (l.at_others (length l.rest) (omega arith)) refl))

@@ -1,0 +1,259 @@
+-- What is read of an operand, with what stands before and behind it, derives in the grammar and is nested no deeper
+-- than was allowed; and where the fault is that a token stands too deep, one does.
+use Rattle.std.proofs.Common.{◌≡◌, ℕ, zero, suc, ◌<◌, ◌≤◌, ◌⊎◌, true, List, [], ◌∷◌, length, Option, Some, None, refl}
+use Rattle.std.proofs.Common.{sym, ap, ◌∙◌, subst, inl, inr, arith}
+use Rattle.syntax_lexer.specs.declared.token.Position.{Position}
+use Rattle.syntax_lexer.specs.declared.token.Sign.TheVariants as s
+use Rattle.syntax_lexer.specs.declared.token.Word.{Word}
+use Rattle.syntax_lexer.specs.declared.token.Word.TheVariants as w
+use Rattle.syntax_lexer.specs.Token.{Lexeme, name, number, character, dictionary_word, reserved, sign, position_of}
+use Rattle.syntax_trees.specs.declared.tree.Prefix.TheVariants as op
+use Rattle.syntax_trees.specs.declared.tree.Relative.{Relative}
+use Rattle.syntax_trees.specs.declared.tree.Step.{Step}
+use Rattle.syntax_trees.specs.declared.tree.Width.{Width}
+use Rattle.syntax_trees.specs.Tree.{ExpressionTree, constant, word, index, parenthesised, relative_of, property}
+use Rattle.syntax_trees.specs.Tree.{property_length, property_entry, prefixed, step_before, step_after}
+use Rattle.syntax_parsing.specs.Parse.{head, tail, is_sign, expect}
+use Rattle.syntax_expressions.specs.Operators.{stepping, prefixes, relating_word, relating, indexing}
+use Rattle.syntax_expressions.specs.Nesting.{DeepE, DeepN1, DeepN4, DeepE5, deep_e5_plain, deep_e5_index, deep_e5_entry}
+use Rattle.syntax_expressions.specs.Nesting.{DeepU, deep_u_plain, deep_u_minus, deep_u_minus_in, deep_u_before}
+use Rattle.syntax_expressions.specs.Nesting.{deep_u_before_in, DeepP, deep_p_call, deep_p_arguments, deep_p_relative}
+use Rattle.syntax_expressions.specs.Nesting.{deep_p_relative_in, deep_p_parenthesis, deep_p_in, DeepArguments}
+use Rattle.syntax_expressions.specs.Parse.{whole, negation, complement, prefix, operand, arguments, property_next}
+use Rattle.syntax_expressions.specs.Parse.{properties, lengthened, word_value, valued, nested, after_name, enclosed}
+use Rattle.syntax_expressions.specs.Parse.{related, word_on, atom, primary, step_on, suffixed, stepped, unary_on, unary}
+use Rattle.syntax_expressions.specs.Parse.{array_of, array_at, entry, owned, unindexed, indexed_on, indexed}
+use Rattle.syntax_expressions.specs.Grammar.{IsE, IsN1, IsN4, IsE5, e5_plain, e5_index, e5_entry, IsU, u_plain, u_minus}
+use Rattle.syntax_expressions.specs.Grammar.{u_before, u_after, u_length, IsP, p_property, p_number, p_character}
+use Rattle.syntax_expressions.specs.Grammar.{p_word, p_true, p_false, p_nothing, p_name, p_relative, p_parenthesised}
+use Rattle.syntax_expressions.specs.Grammar.{nesting}
+use Rattle.syntax_expressions.proofs.Judged.{Judged, judged_read, judged_grammar, judged_then, judged_after, judged_by}
+use Rattle.syntax_expressions.proofs.Judged.{judged_as}
+use Rattle.syntax_expressions.proofs.Tokens.{at_sign, expect_ok, expect_not_deep}
+use Rattle.syntax_expressions.proofs.NamesRead.{name_judged, entry_judged}
+
+-- one nesting further in: too deep there, or no nesting is left
+abbrev pub Within : ℕ → (ℕ → List Lexeme → Type 0) → List Lexeme → Type 0
+Within d D ts = (d ≡ 0) ⊎ D d ts
+
+pub deeper : (D E : ℕ → Type 0) (d : ℕ) → E 1 → ((n : ℕ) → D n → E (suc n)) → (d ≡ 0) ⊎ D d → E (suc d)
+deeper D E d first onward (inl e) = subst (λ n. E (suc n)) (sym e) first
+deeper D E d first onward (inr h) = onward d h
+
+pub record Inner (d : ℕ) : Type 0 where
+  pub in_whole : (ts : List Lexeme) → Judged (λ e r. IsE ts e r × (nesting e < d)) (Within d DeepE ts)
+      (nested d whole ts)
+  pub in_negation : (ts : List Lexeme) → Judged (λ e r. IsN1 ts e r × (nesting e < d)) (Within d DeepN1 ts)
+      (nested d negation ts)
+  pub in_complement : (ts : List Lexeme) → Judged (λ e r. IsN4 ts e r × (nesting e < d)) (Within d DeepN4 ts)
+      (nested d complement ts)
+  pub in_prefix : (ts : List Lexeme) → Judged (λ e r. IsU ts e r × (nesting e < d)) (Within d DeepU ts)
+      (nested d prefix ts)
+  pub in_operand : (ts : List Lexeme) → Judged (λ e r. IsP ts e r × (nesting e < d)) (Within d DeepP ts)
+      (nested d operand ts)
+  pub in_arguments : (f : List ℕ) (p q : Position) (ts : List Lexeme)
+      → Judged (λ e r. IsP (name f p ∷ sign s.OpenParenthesis q ∷ ts) e r × (nesting e ≤ d))
+      (Within d DeepArguments ts) (nested d (arguments (record { text = f; position = p })) ts)
+
+module _ (d : ℕ) (inner : Inner d) where
+  after_name_judged : (f : List ℕ) (p : Position) (ts : List Lexeme)
+      → Judged (λ e r. IsP (name f p ∷ ts) e r × (nesting e ≤ d)) (DeepP (suc d) (name f p ∷ ts))
+      (after_name (nested d) (record { text = f; position = p }) ts)
+  unfolding after_name
+  after_name_judged f p ts =
+      judged_by (is_sign s.OpenParenthesis (head ts)) _ _
+      (λ e.
+      let at = at_sign s.OpenParenthesis ts e in
+      let q = position_of (head ts) in
+      judged_as (inner.in_arguments f p q (tail ts))
+      (λ a r h. (subst (λ u. IsP (name f p ∷ u) a r) (sym at) h.0, h.1))
+      (λ h. subst (λ u. DeepP (suc d) (name f p ∷ u)) (sym at)
+      (deeper (λ n. DeepArguments n (tail ts)) (λ n. DeepP n (name f p ∷ sign s.OpenParenthesis q ∷ tail ts)) d
+      deep_p_call (λ n x. deep_p_arguments x) h)))
+      (λ e. judged_read _ ts (p_name, omega arith))
+
+  enclosed_judged : (p : Position) (ts : List Lexeme)
+      → Judged (λ e r. IsP (sign s.OpenParenthesis p ∷ ts) e r × (nesting e ≤ d))
+      (DeepP (suc d) (sign s.OpenParenthesis p ∷ ts)) (enclosed (nested d) ts)
+  unfolding enclosed
+  enclosed_judged p ts =
+      judged_then _ (inner.in_whole ts)
+      (λ a r h. judged_after (expect s.CloseParenthesis r) _
+      (λ u e. judged_read (parenthesised a) u
+      (p_parenthesised (subst (λ x. IsE ts a x) (expect_ok s.CloseParenthesis r u e) h.0), omega (arith, h.1)))
+      (λ e. absurd (expect_not_deep s.CloseParenthesis r e)))
+      (λ h. deeper (λ n. DeepE n ts) (λ n. DeepP n (sign s.OpenParenthesis p ∷ ts)) d deep_p_parenthesis
+      (λ n x. deep_p_in x) h)
+
+  related_judged : (t : Lexeme) (which : Relative) → relating t ≡ Some which → (ts : List Lexeme)
+      → Judged (λ e r. IsP (t ∷ ts) e r × (nesting e ≤ d)) (DeepP (suc d) (t ∷ ts)) (related (nested d) which ts)
+  unfolding related
+  related_judged t which o ts =
+      judged_by (is_sign s.OpenParenthesis (head ts)) _ _
+      (λ e.
+      let at = at_sign s.OpenParenthesis ts e in
+      let q = position_of (head ts) in
+      judged_then _ (inner.in_whole (tail ts))
+      (λ a r h. judged_after (expect s.CloseParenthesis r) _
+      (λ u g. judged_read (relative_of which a) u (
+        subst (λ v. IsP (t ∷ v) (relative_of which a) u) (sym at)
+            (p_relative o (subst (λ x. IsE (tail ts) a x) (expect_ok s.CloseParenthesis r u g) h.0)),
+        omega (arith, h.1),
+      ))
+      (λ g. absurd (expect_not_deep s.CloseParenthesis r g)))
+      (λ h. subst (λ v. DeepP (suc d) (t ∷ v)) (sym at)
+      (deeper (λ n. DeepE n (tail ts)) (λ n. DeepP n (t ∷ sign s.OpenParenthesis q ∷ tail ts)) d
+      (deep_p_relative o) (λ n x. deep_p_relative_in o x) h)))
+      (λ e. judged_grammar)
+
+  valued_judged : (r : Word) (p : Position) (ts : List Lexeme)
+      → Judged (λ e u. IsP (reserved r p ∷ ts) e u × (nesting e ≤ d)) (DeepP (suc d) (reserved r p ∷ ts))
+      (valued (word_value r) ts)
+  valued_judged w.True p ts = judged_read (constant 1) ts (p_true, omega arith)
+  valued_judged w.False p ts = judged_read (constant 0) ts (p_false, omega arith)
+  valued_judged w.Nothing p ts = judged_read (constant 0) ts (p_nothing, omega arith)
+  valued_judged _ p ts = judged_grammar
+
+  word_judged : (r : Word) (p : Position) (ts : List Lexeme) (o : Option Relative) → relating_word r ≡ o
+      → Judged (λ e u. IsP (reserved r p ∷ ts) e u × (nesting e ≤ d)) (DeepP (suc d) (reserved r p ∷ ts))
+      (word_on (nested d) r o ts)
+  word_judged r p ts None o = valued_judged r p ts
+  word_judged r p ts (Some which) o = related_judged (reserved r p) which o ts
+
+  atom_judged : (ts : List Lexeme) → Judged (λ e r. IsP ts e r × (nesting e ≤ d)) (DeepP (suc d) ts)
+      (atom (nested d) ts)
+  unfolding atom
+  atom_judged (number n p ∷ ts) = judged_read (constant n) ts (p_number, omega arith)
+  atom_judged (character c p ∷ ts) = judged_read (constant c) ts (p_character, omega arith)
+  atom_judged (dictionary_word f p ∷ ts) = judged_read (word f) ts (p_word, omega arith)
+  atom_judged (reserved r p ∷ ts) = word_judged r p ts (relating_word r) refl
+  atom_judged (name f p ∷ ts) = after_name_judged f p ts
+  atom_judged (sign s.OpenParenthesis p ∷ ts) = enclosed_judged p ts
+  atom_judged _ = judged_grammar
+
+  property_judged : (us : List Lexeme) (e : ExpressionTree) (ts : List Lexeme) → IsP us e ts → nesting e ≤ d
+      → is_sign s.Dot (head ts) ≡ true
+      → Judged (λ a r. IsP us a r × (nesting a ≤ d)) (DeepP (suc d) us) (property_next e (tail ts))
+  unfolding property_next
+  property_judged us e ts h b t =
+      judged_then _ (name_judged (tail ts))
+      (λ x r q. judged_read (property e x) r (
+        p_property (subst (λ v. IsP us e v)
+            (at_sign s.Dot ts t ∙ ap (λ v. sign s.Dot (position_of (head ts)) ∷ v) q) h),
+        b,
+      ))
+      (λ never. absurd never)
+
+  properties_judged : (us : List Lexeme) (n : ℕ) (e : ExpressionTree) (ts : List Lexeme) → IsP us e ts
+      → nesting e ≤ d → Judged (λ a r. IsP us a r × (nesting a ≤ d)) (DeepP (suc d) us) (properties n e ts)
+  unfolding properties
+  properties_judged us zero e ts h b = judged_read e ts (h, b)
+  properties_judged us (suc n) e ts h b =
+      judged_by (is_sign s.Dot (head ts)) _ _
+      (λ t. judged_then _ (property_judged us e ts h b t) (λ a r g. properties_judged us n a r g.0 g.1) (λ g. g))
+      (λ t. judged_read e ts (h, b))
+
+  pub primary_judged : (ts : List Lexeme) → Judged (λ e r. IsP ts e r × (nesting e ≤ d)) (DeepP (suc d) ts)
+      (primary (nested d) ts)
+  unfolding primary
+  primary_judged ts = judged_then _ (atom_judged ts) (λ a r h. properties_judged ts (length r) a r h.0 h.1) (λ h. h)
+
+  lengthened_judged : (ts : List Lexeme) (a : ExpressionTree) (r : List Lexeme) → IsP ts a r → nesting a ≤ d
+      → Judged (λ e u. IsU ts e u × (nesting e ≤ d)) (DeepU (suc d) ts) (lengthened a r)
+  unfolding lengthened
+  lengthened_judged ts a r h b =
+      judged_by (is_sign s.DotHash (head r)) _ _
+      (λ t. judged_then _ (name_judged (tail r))
+      (λ x u q. judged_read (property_length a x) u (
+        u_length (subst (λ v. IsP ts a v)
+            (at_sign s.DotHash r t ∙ ap (λ v. sign s.DotHash (position_of (head r)) ∷ v) q) h),
+        b,
+      ))
+      (λ never. absurd never))
+      (λ t. judged_read a r (u_plain h, b))
+
+  suffixed_judged : (ts : List Lexeme) (a : ExpressionTree) (r : List Lexeme) → IsP ts a r → nesting a ≤ d
+      → Judged (λ e u. IsU ts e u × (nesting e ≤ d)) (DeepU (suc d) ts) (suffixed a r)
+  unfolding suffixed
+  suffixed_judged ts a r h b = go r h (stepping (head r)) refl
+    where
+      go : (u : List Lexeme) → IsP ts a u → (o : Option Step) → stepping (head u) ≡ o
+          → Judged (λ e v. IsU ts e v × (nesting e ≤ d)) (DeepU (suc d) ts) (step_on a u o)
+      go u h None o = lengthened_judged ts a u h b
+      go [] h (Some op) o = absurd cc
+      go (t ∷ m) h (Some op) o = judged_read (step_after a op (position_of t)) m (u_after h o, b)
+
+  stepped_judged : (ts : List Lexeme) → Judged (λ e r. IsU ts e r × (nesting e ≤ d)) (DeepU (suc d) ts)
+      (stepped (nested d) ts)
+  unfolding stepped
+  stepped_judged ts = judged_then _ (primary_judged ts) (λ a r h. suffixed_judged ts a r h.0 h.1)
+      (λ h. deep_u_plain h)
+
+  before_judged : (ts : List Lexeme) (o : Option Step) → stepping (head ts) ≡ o
+      → Judged (λ e r. IsU ts e r × (nesting e ≤ d)) (DeepU (suc d) ts) (unary_on (nested d) ts o)
+  before_judged ts None o = stepped_judged ts
+  before_judged [] (Some op) o = absurd cc
+  before_judged (t ∷ m) (Some op) o =
+      judged_then _ (inner.in_operand m)
+      (λ a r h. judged_read (step_before op (position_of t) a) r (u_before o h.0, omega (arith, h.1)))
+      (λ h. deeper (λ n. DeepP n m) (λ n. DeepU n (t ∷ m)) d (deep_u_before o) (λ n x. deep_u_before_in o x) h)
+
+  pub unary_judged : (ts : List Lexeme) → Judged (λ e r. IsU ts e r × (nesting e ≤ d)) (DeepU (suc d) ts)
+      (unary (nested d) ts)
+  unfolding unary
+  unary_judged ts =
+      judged_by (is_sign s.Minus (head ts)) _ _
+      (λ e.
+      let at = at_sign s.Minus ts e in
+      let p = position_of (head ts) in
+      judged_then _ (inner.in_prefix (tail ts))
+      (λ a r h. judged_read (prefixed op.Minus a) r
+      (subst (λ u. IsU u (prefixed op.Minus a) r) (sym at) (u_minus h.0), omega (arith, h.1)))
+      (λ h. subst (λ u. DeepU (suc d) u) (sym at)
+      (deeper (λ n. DeepU n (tail ts)) (λ n. DeepU n (sign s.Minus p ∷ tail ts)) d deep_u_minus
+      (λ n x. deep_u_minus_in x) h)))
+      (λ e. before_judged ts (stepping (head ts)) refl)
+
+  entry_read : (ts : List Lexeme) (a : ExpressionTree) (r : List Lexeme) → IsP ts a r → nesting a ≤ d
+      → is_sign s.DotAmpersand (head r) ≡ true
+      → Judged (λ e u. IsE5 ts e u × (nesting e ≤ d)) (DeepE5 (suc d) ts) (entry (nested d) a (tail r))
+  unfolding entry
+  entry_read ts a r h b t =
+      judged_then _ (entry_judged (tail r))
+      (λ x u q.
+      let owner = subst (λ v. IsP ts a v)
+      (at_sign s.DotAmpersand r t ∙ ap (λ v. sign s.DotAmpersand (position_of (head r)) ∷ v) q) h in
+      judged_then _ (unary_judged u)
+      (λ i v g. judged_read (property_entry a x i) v (e5_entry owner g.0, omega (arith, b, g.1)))
+      (λ g. deep_e5_entry owner g))
+      (λ never. absurd never)
+
+  owned_judged : (ts : List Lexeme) (a : ExpressionTree) (r : List Lexeme) → IsP ts a r → nesting a ≤ d
+      → Judged (λ e u. IsE5 ts e u × (nesting e ≤ d)) (DeepE5 (suc d) ts) (owned (nested d) a r)
+  unfolding owned
+  owned_judged ts a r h b =
+      judged_by (is_sign s.DotAmpersand (head r)) _ _ (λ t. entry_read ts a r h b t)
+      (λ t. judged_as (suffixed_judged ts a r h b) (λ c u g. (e5_plain g.0, g.1)) (λ g. deep_e5_plain g))
+
+  no_array_judged : (ts : List Lexeme) → Judged (λ e r. IsE5 ts e r × (nesting e ≤ d)) (DeepE5 (suc d) ts)
+      (unindexed (nested d) ts)
+  unfolding unindexed
+  no_array_judged ts =
+      judged_by (prefixes (head ts)) _ _
+      (λ e. judged_as (unary_judged ts) (λ a r h. (e5_plain h.0, h.1)) (λ h. deep_e5_plain h))
+      (λ e. judged_then _ (primary_judged ts) (λ a r h. owned_judged ts a r h.0 h.1)
+      (λ h. deep_e5_plain (deep_u_plain h)))
+
+  pub indexed_judged : (ts : List Lexeme) → Judged (λ e r. IsE5 ts e r × (nesting e ≤ d)) (DeepE5 (suc d) ts)
+      (indexed (nested d) ts)
+  unfolding indexed array_at
+  indexed_judged (name n p ∷ t ∷ m) = go (indexing t) refl
+    where
+      go : (o : Option Width) → indexing t ≡ o
+          → Judged (λ e r. IsE5 (name n p ∷ t ∷ m) e r × (nesting e ≤ d)) (DeepE5 (suc d) (name n p ∷ t ∷ m))
+          (indexed_on (nested d) (name n p ∷ t ∷ m) (array_of (name n p) o))
+      go None o = no_array_judged (name n p ∷ t ∷ m)
+      go (Some width) o = judged_then _ (unary_judged m)
+          (λ a r h. judged_read (index (record { text = n; position = p }) width a) r (e5_index o h.0, h.1))
+          (λ h. deep_e5_index o h)
+  indexed_judged ts = no_array_judged ts

@@ -1,0 +1,143 @@
+use Rattle.std.proofs.Common.{◌≡◌, ℕ, ◌+◌, ◌-◌, ◌*◌, ◌∷◌, length}
+use Rattle.std.specs.Prelude.{map}
+use Rattle.syntax_lexer.specs.declared.token.Sign.TheVariants as s
+use Rattle.syntax_lexer.specs.declared.token.Word.TheVariants as w
+use Rattle.syntax_trees.specs.Tree.{expression_tree, chained, binary, link}
+use Rattle.syntax_parsing.specs.Parse as reading
+use Rattle.syntax_parsing.specs.Returned.{ahead}
+use Rattle.syntax_parsing.proofs.Loops.{joined}
+use Rattle.syntax_expressions.specs.declared.operators.Operators.{Operators}
+use Rattle.syntax_expressions.specs.declared.operators.Operators.TheVariants as operators
+use Rattle.syntax_expressions.specs.Parse as spec
+use Rattle.syntax_expressions.specs.Levels.{operator_of, operand_of}
+use Rattle.syntax_expressions.proofs.parser.+expression.Given as goal
+
+-- each level's place in the order in which levels call one another within a nesting
+abbrev links_rank : Operators → ℕ
+links_rank operators.Logical = 25
+links_rank operators.Adding = 17
+links_rank operators.Scaling = 14
+
+abbrev operand_rank : Operators → ℕ
+operand_rank operators.Logical = 24
+operand_rank operators.Adding = 16
+operand_rank operators.Scaling = 13
+
+abbrev chain_rank : Operators → ℕ
+chain_rank operators.Logical = 26
+chain_rank operators.Adding = 18
+chain_rank operators.Scaling = 15
+
+abbrev pub decreases-called : goal.decreases-called
+decreases-called l = 30 * l.depth + 29
+
+abbrev pub decreases-arguments : goal.decreases-arguments
+decreases-arguments l = 30 * l.depth + 28
+
+abbrev pub decreases-expression : goal.decreases-expression
+decreases-expression l = 30 * l.depth + 27
+
+abbrev pub decreases-assignment : goal.decreases-assignment
+decreases-assignment l = 30 * l.depth + 1
+
+abbrev pub decreases-negated : goal.decreases-negated
+decreases-negated l = 30 * l.depth + 23
+
+abbrev pub decreases-comparison : goal.decreases-comparison
+decreases-comparison l = 30 * l.depth + 22
+
+abbrev pub decreases-compared : goal.decreases-compared
+decreases-compared l = 30 * l.depth + 21
+
+abbrev pub decreases-compare : goal.decreases-compare
+decreases-compare l = 30 * l.depth + 20
+
+abbrev pub decreases-equate : goal.decreases-equate
+decreases-equate l = 30 * l.depth + 20
+
+abbrev pub decreases-contain : goal.decreases-contain
+decreases-contain l = 30 * l.depth + 20
+
+abbrev pub decreases-values : goal.decreases-values
+decreases-values l = 30 * l.depth + 19
+
+abbrev pub decreases-complemented : goal.decreases-complemented
+decreases-complemented l = 30 * l.depth + 12
+
+abbrev pub decreases-indexed : goal.decreases-indexed
+decreases-indexed l = 30 * l.depth + 11
+
+abbrev pub decreases-unindexed : goal.decreases-unindexed
+decreases-unindexed l = 30 * l.depth + 10
+
+abbrev pub decreases-owned : goal.decreases-owned
+decreases-owned l = 30 * l.depth + 9
+
+abbrev pub decreases-entry : goal.decreases-entry
+decreases-entry l = 30 * l.depth + 8
+
+abbrev pub decreases-unary : goal.decreases-unary
+decreases-unary l = 30 * l.depth + 7
+
+abbrev pub decreases-minus : goal.decreases-minus
+decreases-minus l = 30 * l.depth
+
+abbrev pub decreases-step_before : goal.decreases-step_before
+decreases-step_before l = 30 * l.depth
+
+abbrev pub decreases-stepped : goal.decreases-stepped
+decreases-stepped l = 30 * l.depth + 6
+
+abbrev pub decreases-primary : goal.decreases-primary
+decreases-primary l = 30 * l.depth + 5
+
+abbrev pub decreases-atom : goal.decreases-atom
+decreases-atom l = 30 * l.depth + 4
+
+abbrev pub decreases-reserved : goal.decreases-reserved
+decreases-reserved l = 30 * l.depth + 3
+
+abbrev pub decreases-related : goal.decreases-related
+decreases-related l = 30 * l.depth + 2
+
+abbrev pub decreases-enclosed : goal.decreases-enclosed
+decreases-enclosed l = 30 * l.depth + 2
+
+abbrev pub decreases-after_name : goal.decreases-after_name
+decreases-after_name l = 30 * l.depth
+
+abbrev pub decreases-within : goal.decreases-within
+decreases-within l = 30 * l.depth + 1
+
+abbrev pub decreases-assigned : goal.decreases-assigned
+decreases-assigned l = 30 * l.depth
+
+abbrev pub decreases-chain : goal.decreases-chain
+decreases-chain l = 30 * l.depth + chain_rank l.operators
+
+abbrev pub decreases-links : goal.decreases-links
+decreases-links l = 30 * l.depth + links_rank l.operators
+
+abbrev pub decreases-operand : goal.decreases-operand
+decreases-operand l = 30 * l.depth + operand_rank l.operators
+
+abbrev pub invariant-links-loop-turn : goal.invariant-links-loop-turn
+invariant-links-loop-turn l =
+    spec.chain (operator_of l.operators) (operand_of (spec.nested l.depth) l.operators) (l.turns - l._turn)
+    (chained (binary l.joining (expression_tree l.first.value) (expression_tree l.second.value))
+    (map link l.links.items)) (ahead l.parser)
+    ≡ spec.chain (operator_of l.operators) (operand_of (spec.nested l.depth) l.operators)
+    (length (ahead l.fn.parser)) (expression_tree l.first.value) (ahead l.fn.parser)
+
+abbrev pub invariant-values-loop-turn : goal.invariant-values-loop-turn
+invariant-values-loop-turn l =
+    joined (map expression_tree (l.first.value ∷ l.others.items))
+    (reading.further (reading.is_word w.Or) (spec.sum (spec.nested l.depth)) (l._turn-end - l._turn)
+    (ahead l.parser)) ≡ reading.list (reading.is_word w.Or) (spec.sum (spec.nested l.depth)) (ahead l.fn.parser)
+
+abbrev pub invariant-arguments-loop-turn : goal.invariant-arguments-loop-turn
+invariant-arguments-loop-turn l =
+    joined (map expression_tree l.arguments.items)
+    (reading.further (reading.is_sign s.Comma) (spec.expression (spec.nested l.depth)) (l._turn-end - l._turn)
+    (ahead l.parser)) ≡ reading.list (reading.is_sign s.Comma) (spec.expression (spec.nested l.depth))
+    (ahead l.fn.parser)

@@ -1,0 +1,269 @@
+-- Words of proofs: expressions, read from left to right, as functions from a list of tokens to a tree and the tokens
+-- after it.
+use Rattle.std.specs.Prelude.{if◌then◌else◌, Bool, true, false, ℕ, zero, suc, List, length, Option, Some, None, Result}
+use Rattle.std.specs.Prelude.{Ok, Err}
+use Rattle.syntax_lexer.specs.declared.token.Sign.TheVariants as s
+use Rattle.syntax_lexer.specs.declared.token.Word.{Word}
+use Rattle.syntax_lexer.specs.declared.token.Word.TheVariants as w
+use Rattle.syntax_lexer.specs.Token.{Lexeme, name, number, character, dictionary_word, reserved, sign, position_of}
+use Rattle.syntax_trees.specs.declared.tree.Binary.{Binary}
+use Rattle.syntax_trees.specs.declared.tree.Comparison.{Comparison}
+use Rattle.syntax_trees.specs.declared.tree.Equality.{Equality}
+use Rattle.syntax_trees.specs.declared.tree.Containment.{Containment}
+use Rattle.syntax_trees.specs.declared.tree.ObjectTest.{ObjectTest}
+use Rattle.syntax_trees.specs.declared.tree.Prefix.TheVariants as op
+use Rattle.syntax_trees.specs.declared.tree.Relative.{Relative}
+use Rattle.syntax_trees.specs.declared.tree.Step.{Step}
+use Rattle.syntax_trees.specs.declared.tree.Width.{Width}
+use Rattle.syntax_trees.specs.Tree.{NameTree, ExpressionTree, constant, word, named, call, index, parenthesised}
+use Rattle.syntax_trees.specs.Tree.{prefixed, relative_of, property, property_length, property_entry, step_before}
+use Rattle.syntax_trees.specs.Tree.{step_after, binary, compare, equal, contained, tested, assign, none, trees_of}
+use Rattle.syntax_parsing.specs.Parse.{Parse, ◌>>=◌, head, tail, is_sign, is_word, expect, list}
+use Rattle.syntax_parsing.specs.declared.error.Fault.{Fault}
+use Rattle.syntax_parsing.specs.declared.error.Fault.TheVariants.{Grammar, Deep}
+use Rattle.syntax_expressions.specs.Operators.{logical, comparing, equating, containing, testing, adding, scaling}
+use Rattle.syntax_expressions.specs.Operators.{stepping, prefixes, relating_word, indexing}
+use Rattle.syntax_expressions.specs.Nesting.{begins_expression}
+
+-- ---- one token
+
+abbrev pub is_name : Lexeme → Bool
+is_name (name _ _) = true
+is_name _ = false
+
+-- the array whose entry comes next, and the width of its entries: a name, and an arrow behind it
+abbrev pub array_of : Lexeme → Option Width → Option (NameTree × Width)
+array_of (name n p) (Some width) = Some (record { text = n; position = p }, width)
+array_of _ _ = None
+
+unfoldable pub array_at : List Lexeme → Option (NameTree × Width)
+array_at ts = array_of (head ts) (indexing (head (tail ts)))
+
+-- the name that comes next, and the tokens after it
+abbrev pub name_on : Lexeme → List Lexeme → Result (NameTree × List Lexeme) Fault
+name_on (name n p) ts = Ok (record { text = n; position = p }, ts)
+name_on _ ts = Err Grammar
+
+unfoldable pub expect_name : Parse NameTree
+expect_name ts = name_on (head ts) (tail ts)
+
+-- what stands in parentheses, with the second of them
+abbrev pub closed : {A B : Type 0} → (A → B) → A × List Lexeme → Result (B × List Lexeme) Fault
+closed make x = expect s.CloseParenthesis x.1 >>= λ r. Ok (make x.0, r)
+
+-- ---- chains and lists. The number bounds the turns; the count of tokens is enough.
+
+-- {operator operand} after a left side, grouped to the left
+abbrev pub chain_on : (ExpressionTree → Parse ExpressionTree) → Parse ExpressionTree → ExpressionTree → List Lexeme
+    → Option Binary → Result (ExpressionTree × List Lexeme) Fault
+chain_on again operand left ts None = Ok (left, ts)
+chain_on again operand left ts (Some op) = operand (tail ts) >>= λ x. again (binary op left x.0) x.1
+
+unfoldable pub chain : (Lexeme → Option Binary) → Parse ExpressionTree → ℕ → ExpressionTree → Parse ExpressionTree
+chain operator operand zero left ts = Ok (left, ts)
+chain operator operand (suc n) left ts = chain_on (chain operator operand n) operand left ts (operator (head ts))
+
+-- ---- what stands behind an object
+
+-- a property of an owner, from behind its sign on
+unfoldable pub property_next : ExpressionTree → Parse ExpressionTree
+property_next e ts = expect_name ts >>= λ x. Ok (property e x.0, x.1)
+
+-- {"." name} after an owner
+unfoldable pub properties : ℕ → ExpressionTree → Parse ExpressionTree
+properties zero e ts = Ok (e, ts)
+properties (suc n) e ts =
+    if is_sign s.Dot (head ts) then (property_next e (tail ts) >>= λ x. properties n x.0 x.1) else Ok (e, ts)
+
+-- the name of a property whose entry is read, behind its sign, and the arrow behind it
+unfoldable pub entry_of : Parse NameTree
+entry_of ts = expect_name ts >>= λ x. expect s.LongArrow x.1 >>= λ r. Ok (x.0, r)
+
+unfoldable pub lengthened : ExpressionTree → Parse ExpressionTree
+lengthened e ts =
+    if is_sign s.DotHash (head ts) then (expect_name (tail ts) >>= λ x. Ok (property_length e x.0, x.1))
+    else Ok (e, ts)
+
+abbrev pub tested_on : ExpressionTree → List Lexeme → Option ObjectTest → Result (ExpressionTree × List Lexeme) Fault
+tested_on e ts None = Ok (e, ts)
+tested_on e ts (Some test) = expect_name (tail ts) >>= λ x. Ok (tested test e x.0, x.1)
+
+unfoldable pub tested_next : ExpressionTree → Parse ExpressionTree
+tested_next e ts = tested_on e ts (testing (head ts))
+
+-- ---- the levels of the grammar
+
+-- the value of a reserved word
+abbrev pub word_value : Word → Option ℕ
+word_value w.True = Some 1
+word_value w.False = Some 0
+word_value w.Nothing = Some 0
+word_value _ = None
+
+abbrev pub valued : Option ℕ → Parse ExpressionTree
+valued None ts = Err Grammar
+valued (Some n) ts = Ok (constant n, ts)
+
+-- what is read one nesting further in
+pub data Level : Type 0 where
+  whole : Level
+  negation : Level
+  complement : Level
+  prefix : Level
+  operand : Level
+  arguments : NameTree → Level
+
+-- an operand, and `++`, `--` or the length of a property where it stands after it
+abbrev pub step_on : ExpressionTree → List Lexeme → Option Step → Result (ExpressionTree × List Lexeme) Fault
+step_on e ts None = lengthened e ts
+step_on e ts (Some op) = Ok (step_after e op (position_of (head ts)), tail ts)
+
+unfoldable pub suffixed : ExpressionTree → Parse ExpressionTree
+suffixed e ts = step_on e ts (stepping (head ts))
+
+-- over the levels one nesting further in
+module _ (below : Level → Parse ExpressionTree) where
+  -- a name, and behind a parenthesis its arguments
+  unfoldable pub after_name : NameTree → Parse ExpressionTree
+  after_name n ts =
+      if is_sign s.OpenParenthesis (head ts) then below (arguments n) (tail ts)
+      else Ok (named n, ts)
+
+  unfoldable pub enclosed : Parse ExpressionTree
+  enclosed ts = below whole ts >>= closed parenthesised
+
+  -- behind `parent`, `child` or `sibling`
+  unfoldable pub related : Relative → Parse ExpressionTree
+  related which ts =
+      if is_sign s.OpenParenthesis (head ts) then (below whole (tail ts) >>= closed (relative_of which))
+      else Err Grammar
+
+  abbrev pub word_on : Word → Option Relative → Parse ExpressionTree
+  word_on w None ts = valued (word_value w) ts
+  word_on w (Some which) ts = related which ts
+
+  abbrev pub atom_on : Lexeme → Parse ExpressionTree
+  atom_on (number n p) ts = Ok (constant n, ts)
+  atom_on (character c p) ts = Ok (constant c, ts)
+  atom_on (dictionary_word f p) ts = Ok (word f, ts)
+  atom_on (reserved w p) ts = word_on w (relating_word w) ts
+  atom_on (name n p) ts = after_name (record { text = n; position = p }) ts
+  atom_on (sign s.OpenParenthesis p) ts = enclosed ts
+  atom_on _ ts = Err Grammar
+
+  unfoldable pub atom : Parse ExpressionTree
+  atom ts = atom_on (head ts) (tail ts)
+
+  unfoldable pub primary : Parse ExpressionTree
+  primary ts = atom ts >>= λ x. properties (length x.1) x.0 x.1
+
+  unfoldable pub stepped : Parse ExpressionTree
+  stepped ts = primary ts >>= λ x. suffixed x.0 x.1
+
+  abbrev pub unary_on : List Lexeme → Option Step → Result (ExpressionTree × List Lexeme) Fault
+  unary_on ts None = stepped ts
+  unary_on ts (Some op) = below operand (tail ts) >>= λ x. Ok (step_before op (position_of (head ts)) x.0, x.1)
+
+  abbrev pub minus : Parse ExpressionTree
+  minus ts = below prefix ts >>= λ x. Ok (prefixed op.Minus x.0, x.1)
+
+  unfoldable pub unary : Parse ExpressionTree
+  unary ts = if is_sign s.Minus (head ts) then minus (tail ts) else unary_on ts (stepping (head ts))
+
+  -- an entry of a property of an object, from behind its sign on
+  unfoldable pub entry : ExpressionTree → Parse ExpressionTree
+  entry e ts = entry_of ts >>= λ x. unary x.1 >>= λ y. Ok (property_entry e x.0 y.0, y.1)
+
+  unfoldable pub owned : ExpressionTree → Parse ExpressionTree
+  owned e ts = if is_sign s.DotAmpersand (head ts) then entry e (tail ts) else suffixed e ts
+
+  unfoldable pub unindexed : Parse ExpressionTree
+  unindexed ts = if prefixes (head ts) then unary ts else (primary ts >>= λ x. owned x.0 x.1)
+
+  abbrev pub indexed_on : List Lexeme → Option (NameTree × Width) → Result (ExpressionTree × List Lexeme) Fault
+  indexed_on ts None = unindexed ts
+  indexed_on ts (Some a) = unary (tail (tail ts)) >>= λ x. Ok (index a.0 a.1 x.0, x.1)
+
+  unfoldable pub indexed : Parse ExpressionTree
+  indexed ts = indexed_on ts (array_at ts)
+
+  unfoldable pub complemented : Parse ExpressionTree
+  complemented ts =
+      if is_sign s.Tilde (head ts) then (below complement (tail ts) >>= λ x. Ok (prefixed op.Complement x.0, x.1))
+      else indexed ts
+
+  unfoldable pub product : Parse ExpressionTree
+  product ts = complemented ts >>= λ x. chain scaling complemented (length x.1) x.0 x.1
+
+  unfoldable pub sum : Parse ExpressionTree
+  sum ts = product ts >>= λ x. chain adding product (length x.1) x.0 x.1
+
+  unfoldable pub equated : ExpressionTree → Equality → Parse ExpressionTree
+  equated left op ts = list (is_word w.Or) sum ts >>= λ x. Ok (equal op left (trees_of x.0), x.1)
+
+  -- the right side of a comparison of two, and of `in` and `notin`
+  abbrev pub compare_on : ExpressionTree → Comparison → Parse ExpressionTree
+  compare_on left op ts = sum ts >>= λ x. Ok (compare op left x.0, x.1)
+
+  abbrev pub contain_on : ExpressionTree → Containment → Parse ExpressionTree
+  contain_on left op ts = sum ts >>= λ x. Ok (contained op left x.0, x.1)
+
+  abbrev pub contained_on : ExpressionTree → List Lexeme → Option Containment
+      → Result (ExpressionTree × List Lexeme) Fault
+  contained_on left ts None = tested_next left ts
+  contained_on left ts (Some op) = contain_on left op (tail ts)
+
+  abbrev pub equated_on : ExpressionTree → List Lexeme → Option Equality → Result (ExpressionTree × List Lexeme) Fault
+  equated_on left ts None = contained_on left ts (containing (head ts))
+  equated_on left ts (Some op) = equated left op (tail ts)
+
+  abbrev pub compared_on : ExpressionTree → List Lexeme → Option Comparison
+      → Result (ExpressionTree × List Lexeme) Fault
+  compared_on left ts None = equated_on left ts (equating (head ts))
+  compared_on left ts (Some op) = compare_on left op (tail ts)
+
+  -- what stands behind a left side
+  unfoldable pub compared : ExpressionTree → Parse ExpressionTree
+  compared left ts = compared_on left ts (comparing (head ts))
+
+  unfoldable pub comparison : Parse ExpressionTree
+  comparison ts = sum ts >>= λ x. compared x.0 x.1
+
+  unfoldable pub negated : Parse ExpressionTree
+  negated ts =
+      if is_sign s.Not (head ts) then (below negation (tail ts) >>= λ x. Ok (prefixed op.Not x.0, x.1))
+      else comparison ts
+
+  unfoldable pub condition : Parse ExpressionTree
+  condition ts = negated ts >>= λ x. chain logical negated (length x.1) x.0 x.1
+
+  -- the right side of an assignment is one nesting further in where it begins
+  unfoldable pub assigned : Parse ExpressionTree
+  assigned ts = if begins_expression (head ts) then below whole ts else Err Grammar
+
+  -- behind a left side
+  unfoldable pub assignment : ExpressionTree → Parse ExpressionTree
+  assignment left ts =
+      if is_sign s.Assign (head ts)
+      then (assigned (tail ts) >>= λ y. Ok (assign left (position_of (head ts)) y.0, y.1))
+      else Ok (left, ts)
+
+  unfoldable pub expression : Parse ExpressionTree
+  expression ts = condition ts >>= λ x. assignment x.0 x.1
+
+  -- the arguments of a call, behind its parenthesis
+  unfoldable pub called : NameTree → Parse ExpressionTree
+  called n ts =
+      if is_sign s.CloseParenthesis (head ts) then Ok (call n none, tail ts)
+      else (list (is_sign s.Comma) expression ts >>= λ x. expect s.CloseParenthesis x.1
+      >>= λ r. Ok (call n (trees_of x.0), r))
+
+-- each level, with so many nestings at most
+unfoldable pub nested : ℕ → Level → Parse ExpressionTree
+nested zero l ts = Err Deep
+nested (suc d) whole ts = expression (nested d) ts
+nested (suc d) negation ts = negated (nested d) ts
+nested (suc d) complement ts = complemented (nested d) ts
+nested (suc d) prefix ts = unary (nested d) ts
+nested (suc d) operand ts = primary (nested d) ts
+nested (suc d) (arguments n) ts = called (nested d) n ts

@@ -1,0 +1,674 @@
+//! The parser of expressions, one function for each level of the grammar.
+//!
+//! Each takes how many nestings more may be opened, reads from the front of the tokens, and gives
+//! the tree. A token that opens a nesting is tested where it stands. A function that has read a
+//! tree hands it on at once to one that goes on with it: what holds a tree is proved for the tree's
+//! end too, at each of its ways out.
+
+ghost use Rattle.std.specs.Prelude.{map, length, Some};
+ghost use Rattle.syntax_trees.specs.Tree.{name_tree, expression_tree};
+ghost use Rattle.syntax_parsing.specs.Parse as reading;
+ghost use Rattle.syntax_parsing.specs.Parse.{tail};
+ghost use Rattle.syntax_parsing.specs.Returned.{ahead, Takes};
+ghost use Rattle.syntax_expressions.specs.Parse as spec;
+ghost use Rattle.syntax_expressions.specs.Operators as operators;
+ghost use Rattle.syntax_expressions.specs.Returned.{TakesExpression, values_tree};
+ghost use Rattle.syntax_expressions.specs.Levels.{operator_of, operand_of, chain_of};
+
+use crate::operators::{
+    Operators, begins_expression, comparing, containing, equating, operator, prefixes,
+    relating_word, stepping,
+};
+use crate::parts;
+use crate::reading::{array, property_name};
+use syntax_lexer::{Kind, Sign, Word};
+use syntax_parsing::{
+    Fault, ParseError, Parser, fault_at, is_sign, is_word, open, pass, peek, position,
+};
+use syntax_trees::{Comparison, Containment, Equality, Expression, Name, Prefix, Relative, Step};
+
+/// The expression at the front of the tokens. `depth` is how many nestings more may be opened: a
+/// parenthesis, also that of a call or behind `parent`, `child` and `sibling`, and an operator
+/// before its operand open one at their own token, the right side of an assignment at its first
+/// token.
+///
+/// # Errors
+///
+/// - `Fault::Grammar` at the first token with which no derivation can go on.
+/// - `Fault::Deep` at the token that opens a nesting where none is left.
+/// - `Memory`: a growth is refused.
+#[cycle(expression)]
+#[tactic(auto, unfolding(crate::specs::Parse::expression))]
+pub fn expression<'t, 'a>(
+    parser: &mut Parser<'t, 'a>,
+    depth: usize,
+) -> Result<Box<Expression<'a>>, ParseError>
+    ensures { TakesExpression result parser.new
+        (spec.expression (spec.nested depth) (ahead parser.old)) }
+{
+    match chain(parser, depth, Operators::Logical) {
+        Ok(left) => assignment(parser, depth, left),
+        Err(e) => Err(e),
+    }
+}
+
+/// The expression at the front of the tokens as far as an assignment sign at its root. Depth and
+/// errors are those of `expression`.
+pub fn unassigned<'t, 'a>(
+    parser: &mut Parser<'t, 'a>,
+    depth: usize,
+) -> Result<Box<Expression<'a>>, ParseError>
+    ensures { TakesExpression result parser.new
+        (spec.condition (spec.nested depth) (ahead parser.old)) }
+{
+    chain(parser, depth, Operators::Logical)
+}
+
+// An expression whose left side is read: an assignment, where its sign comes next.
+#[cycle(expression)]
+#[tactic(auto, unfolding(crate::specs::Parse::assignment))]
+fn assignment<'t, 'a>(
+    parser: &mut Parser<'t, 'a>,
+    depth: usize,
+    left: Box<Expression<'a>>,
+) -> Result<Box<Expression<'a>>, ParseError>
+    ensures { TakesExpression result parser.new (spec.assignment (spec.nested depth)
+        (expression_tree left.entry.value) (ahead parser.old)) }
+{
+    if !is_sign(peek(parser.tokens), Sign::Assign) {
+        return Ok(left);
+    }
+    let sign = position(parser.tokens);
+    pass(parser);
+    match assigned(parser, depth) {
+        Ok(right) => parts::assign(parser, left, sign, right),
+        Err(e) => Err(e),
+    }
+}
+
+// The right side of an assignment, a nesting at its first token.
+#[cycle(expression)]
+#[tactic(auto, unfolding(crate::specs::Parse::assigned), using(crate::proofs::Nested::nested_zero, crate::proofs::Nested::nested_whole))]
+fn assigned<'t, 'a>(
+    parser: &mut Parser<'t, 'a>,
+    depth: usize,
+) -> Result<Box<Expression<'a>>, ParseError>
+    ensures { TakesExpression result parser.new
+        (spec.assigned (spec.nested depth) (ahead parser.old)) }
+{
+    if !begins_expression(peek(parser.tokens)) {
+        return Err(fault_at(Fault::Grammar, parser.tokens));
+    }
+    let inside = open(depth, parser.tokens)?;
+    expression(parser, inside)
+}
+
+// Operands of a level with its operators between them.
+#[cycle(expression)]
+#[tactic(auto, using(crate::proofs::Chain::level_chain, crate::proofs::Chain::level_fails))]
+fn chain<'t, 'a>(
+    parser: &mut Parser<'t, 'a>,
+    depth: usize,
+    operators: Operators,
+) -> Result<Box<Expression<'a>>, ParseError>
+    ensures { TakesExpression result parser.new
+        (chain_of (spec.nested depth) operators (ahead parser.old)) }
+{
+    match operand(parser, depth, operators) {
+        Ok(first) => links(parser, depth, operators, first),
+        Err(e) => Err(e),
+    }
+}
+
+// What stands behind the first operand of a chain.
+#[cycle(expression)]
+#[tactic(auto, using(crate::proofs::Chain::chain_stop, crate::proofs::Chain::chain_done))]
+fn links<'t, 'a>(
+    parser: &mut Parser<'t, 'a>,
+    depth: usize,
+    operators: Operators,
+    first: Box<Expression<'a>>,
+) -> Result<Box<Expression<'a>>, ParseError>
+    ensures { TakesExpression result parser.new
+        (spec.chain (operator_of operators) (operand_of (spec.nested depth) operators)
+        (length (ahead parser.old)) (expression_tree first.entry.value) (ahead parser.old)) }
+{
+    let Some(joining) = operator(operators, peek(parser.tokens)) else {
+        return Ok(first);
+    };
+    let turns = parser.tokens.len();
+    pass(parser);
+    match operand(parser, depth, operators) {
+        Ok(second) => {
+            let mut links = Vec::new(parser.alloc);
+            for _turn in 1..turns {
+                let Some(next) = operator(operators, peek(parser.tokens)) else {
+                    break;
+                };
+                pass(parser);
+                match operand(parser, depth, operators) {
+                    Ok(right) => parts::add_link(&mut links, next, right)?,
+                    Err(e) => return Err(e),
+                }
+            }
+            parts::chain(parser, first, joining, second, links)
+        }
+        Err(e) => Err(e),
+    }
+}
+
+// An operand of a level.
+#[cycle(expression)]
+fn operand<'t, 'a>(
+    parser: &mut Parser<'t, 'a>,
+    depth: usize,
+    operators: Operators,
+) -> Result<Box<Expression<'a>>, ParseError>
+    ensures { TakesExpression result parser.new
+        (operand_of (spec.nested depth) operators (ahead parser.old)) }
+{
+    match operators {
+        Operators::Logical => negated(parser, depth),
+        Operators::Adding => chain(parser, depth, Operators::Scaling),
+        Operators::Scaling => complemented(parser, depth),
+    }
+}
+
+// `~~` before what it negates, or a comparison.
+#[cycle(expression)]
+#[tactic(auto, unfolding(crate::specs::Parse::negated), using(crate::proofs::Nested::nested_zero, crate::proofs::Nested::nested_negation))]
+fn negated<'t, 'a>(
+    parser: &mut Parser<'t, 'a>,
+    depth: usize,
+) -> Result<Box<Expression<'a>>, ParseError>
+    ensures { TakesExpression result parser.new
+        (spec.negated (spec.nested depth) (ahead parser.old)) }
+{
+    if !is_sign(peek(parser.tokens), Sign::Not) {
+        return comparison(parser, depth);
+    }
+    let inside = open(depth, parser.tokens)?;
+    pass(parser);
+    match negated(parser, inside) {
+        Ok(operand) => parts::prefixed(parser, Prefix::Not, operand),
+        Err(e) => Err(e),
+    }
+}
+
+// A sum, or two that are compared, or one that is tested. A comparison or a test is no operand of
+// another.
+#[cycle(expression)]
+#[tactic(auto, unfolding(crate::specs::Parse::comparison))]
+fn comparison<'t, 'a>(
+    parser: &mut Parser<'t, 'a>,
+    depth: usize,
+) -> Result<Box<Expression<'a>>, ParseError>
+    ensures { TakesExpression result parser.new
+        (spec.comparison (spec.nested depth) (ahead parser.old)) }
+{
+    match chain(parser, depth, Operators::Adding) {
+        Ok(left) => compared(parser, depth, left),
+        Err(e) => Err(e),
+    }
+}
+
+// What stands behind the left side of a comparison.
+#[cycle(expression)]
+#[tactic(auto, unfolding(crate::specs::Parse::compared))]
+fn compared<'t, 'a>(
+    parser: &mut Parser<'t, 'a>,
+    depth: usize,
+    left: Box<Expression<'a>>,
+) -> Result<Box<Expression<'a>>, ParseError>
+    ensures { TakesExpression result parser.new
+        (spec.compared (spec.nested depth) (expression_tree left.entry.value) (ahead parser.old)) }
+{
+    let next = peek(parser.tokens);
+    if let Some(comparison) = comparing(next) {
+        return compare(parser, depth, left, comparison);
+    }
+    if let Some(equality) = equating(next) {
+        return equate(parser, depth, left, equality);
+    }
+    if let Some(containment) = containing(next) {
+        return contain(parser, depth, left, containment);
+    }
+    parts::tested(parser, left)
+}
+
+// A comparison of two, from its operator on.
+#[cycle(expression)]
+fn compare<'t, 'a>(
+    parser: &mut Parser<'t, 'a>,
+    depth: usize,
+    left: Box<Expression<'a>>,
+    operator: Comparison,
+) -> Result<Box<Expression<'a>>, ParseError>
+    ensures { TakesExpression result parser.new (spec.compare_on (spec.nested depth)
+        (expression_tree left.entry.value) operator (tail (ahead parser.old))) }
+{
+    pass(parser);
+    match chain(parser, depth, Operators::Adding) {
+        Ok(right) => parts::compare(parser, left, operator, right),
+        Err(e) => Err(e),
+    }
+}
+
+// A comparison with one value or several, from its operator on.
+#[cycle(expression)]
+#[tactic(auto, unfolding(crate::specs::Parse::equated))]
+fn equate<'t, 'a>(
+    parser: &mut Parser<'t, 'a>,
+    depth: usize,
+    left: Box<Expression<'a>>,
+    operator: Equality,
+) -> Result<Box<Expression<'a>>, ParseError>
+    ensures { TakesExpression result parser.new (spec.equated (spec.nested depth)
+        (expression_tree left.entry.value) operator (tail (ahead parser.old))) }
+{
+    pass(parser);
+    match values(parser, depth) {
+        Ok((first, others)) => parts::equal(parser, left, operator, first, others),
+        Err(e) => Err(e),
+    }
+}
+
+// `in` or `notin`, from the word on.
+#[cycle(expression)]
+fn contain<'t, 'a>(
+    parser: &mut Parser<'t, 'a>,
+    depth: usize,
+    left: Box<Expression<'a>>,
+    operator: Containment,
+) -> Result<Box<Expression<'a>>, ParseError>
+    ensures { TakesExpression result parser.new (spec.contain_on (spec.nested depth)
+        (expression_tree left.entry.value) operator (tail (ahead parser.old))) }
+{
+    pass(parser);
+    match chain(parser, depth, Operators::Adding) {
+        Ok(container) => parts::contained(parser, left, operator, container),
+        Err(e) => Err(e),
+    }
+}
+
+// What stands behind `==` or `~=`: a value, and further values behind `or`.
+#[cycle(expression)]
+fn values<'t, 'a>(
+    parser: &mut Parser<'t, 'a>,
+    depth: usize,
+) -> Result<(Box<Expression<'a>>, Vec<Expression<'a>>), ParseError>
+    ensures { Takes values_tree result parser.new
+        (reading.list (reading.is_word Word.Or) (spec.sum (spec.nested depth)) (ahead parser.old)) }
+{
+    match chain(parser, depth, Operators::Adding) {
+        Ok(first) => {
+            let mut others = Vec::new(parser.alloc);
+            for _turn in 0..parser.tokens.len() {
+                if !is_word(peek(parser.tokens), Word::Or) {
+                    break;
+                }
+                pass(parser);
+                match chain(parser, depth, Operators::Adding) {
+                    Ok(next) => parts::add(&mut others, next)?,
+                    Err(e) => return Err(e),
+                }
+            }
+            Ok((first, others))
+        }
+        Err(e) => Err(e),
+    }
+}
+
+// `~` before what it complements, or an operand with at most an index, `-`, `++` and `--`.
+#[cycle(expression)]
+#[tactic(auto, unfolding(crate::specs::Parse::complemented), using(crate::proofs::Nested::nested_zero, crate::proofs::Nested::nested_complement))]
+fn complemented<'t, 'a>(
+    parser: &mut Parser<'t, 'a>,
+    depth: usize,
+) -> Result<Box<Expression<'a>>, ParseError>
+    ensures { TakesExpression result parser.new
+        (spec.complemented (spec.nested depth) (ahead parser.old)) }
+{
+    if !is_sign(peek(parser.tokens), Sign::Tilde) {
+        return indexed(parser, depth);
+    }
+    let inside = open(depth, parser.tokens)?;
+    pass(parser);
+    match complemented(parser, inside) {
+        Ok(operand) => parts::prefixed(parser, Prefix::Complement, operand),
+        Err(e) => Err(e),
+    }
+}
+
+// An entry of an array or of a property, or an operand with at most `-`, `++`, `--` and `.#`. An
+// index is no nesting.
+#[cycle(expression)]
+#[tactic(auto, unfolding(crate::specs::Parse::indexed))]
+fn indexed<'t, 'a>(
+    parser: &mut Parser<'t, 'a>,
+    depth: usize,
+) -> Result<Box<Expression<'a>>, ParseError>
+    ensures { TakesExpression result parser.new
+        (spec.indexed (spec.nested depth) (ahead parser.old)) }
+{
+    let Some((array, width)) = array(parser.tokens) else {
+        return unindexed(parser, depth);
+    };
+    pass(parser);
+    pass(parser);
+    match unary(parser, depth) {
+        Ok(index) => parts::index(parser, array, width, index),
+        Err(e) => Err(e),
+    }
+}
+
+// An entry of a property, or an operand with at most `-`, `++`, `--` and `.#`.
+#[cycle(expression)]
+#[tactic(auto, unfolding(crate::specs::Parse::unindexed))]
+fn unindexed<'t, 'a>(
+    parser: &mut Parser<'t, 'a>,
+    depth: usize,
+) -> Result<Box<Expression<'a>>, ParseError>
+    ensures { TakesExpression result parser.new
+        (spec.unindexed (spec.nested depth) (ahead parser.old)) }
+{
+    if prefixes(peek(parser.tokens)) {
+        return unary(parser, depth);
+    }
+    match primary(parser, depth) {
+        Ok(owner) => owned(parser, depth, owner),
+        Err(e) => Err(e),
+    }
+}
+
+// An owner, with the entry of its property, `++`, `--` or `.#` where it stands behind it.
+#[cycle(expression)]
+#[tactic(auto, unfolding(crate::specs::Parse::owned))]
+fn owned<'t, 'a>(
+    parser: &mut Parser<'t, 'a>,
+    depth: usize,
+    owner: Box<Expression<'a>>,
+) -> Result<Box<Expression<'a>>, ParseError>
+    ensures { TakesExpression result parser.new
+        (spec.owned (spec.nested depth) (expression_tree owner.entry.value) (ahead parser.old)) }
+{
+    if !is_sign(peek(parser.tokens), Sign::DotAmpersand) {
+        return parts::suffixed(parser, owner);
+    }
+    entry(parser, depth, owner)
+}
+
+// An entry of a property of the owner, from `.&` on.
+#[cycle(expression)]
+#[tactic(auto, unfolding(crate::specs::Parse::entry))]
+fn entry<'t, 'a>(
+    parser: &mut Parser<'t, 'a>,
+    depth: usize,
+    owner: Box<Expression<'a>>,
+) -> Result<Box<Expression<'a>>, ParseError>
+    ensures { TakesExpression result parser.new (spec.entry (spec.nested depth)
+        (expression_tree owner.entry.value) (tail (ahead parser.old))) }
+{
+    pass(parser);
+    let name = property_name(parser)?;
+    match unary(parser, depth) {
+        Ok(index) => parts::property_entry(parser, owner, name, index),
+        Err(e) => Err(e),
+    }
+}
+
+// `-` before its operand, or a primary with `++` or `--` before or after it, or with `.#` after it.
+#[cycle(expression)]
+#[tactic(auto, unfolding(crate::specs::Parse::unary))]
+fn unary<'t, 'a>(
+    parser: &mut Parser<'t, 'a>,
+    depth: usize,
+) -> Result<Box<Expression<'a>>, ParseError>
+    ensures { TakesExpression result parser.new
+        (spec.unary (spec.nested depth) (ahead parser.old)) }
+{
+    let next = peek(parser.tokens);
+    if is_sign(next, Sign::Minus) {
+        return minus(parser, depth);
+    }
+    match stepping(next) {
+        Some(step) => step_before(parser, depth, step),
+        None => stepped(parser, depth),
+    }
+}
+
+// `-` and its operand.
+#[cycle(expression)]
+#[tactic(auto, using(crate::proofs::Nested::nested_zero, crate::proofs::Nested::nested_prefix))]
+fn minus<'t, 'a>(
+    parser: &mut Parser<'t, 'a>,
+    depth: usize,
+) -> Result<Box<Expression<'a>>, ParseError>
+    ensures { TakesExpression result parser.new
+        (spec.minus (spec.nested depth) (tail (ahead parser.old))) }
+{
+    let inside = open(depth, parser.tokens)?;
+    pass(parser);
+    match unary(parser, inside) {
+        Ok(operand) => parts::prefixed(parser, Prefix::Minus, operand),
+        Err(e) => Err(e),
+    }
+}
+
+// `++` or `--`, and its operand.
+#[cycle(expression)]
+#[tactic(auto, using(crate::proofs::Nested::nested_zero, crate::proofs::Nested::nested_operand))]
+fn step_before<'t, 'a>(
+    parser: &mut Parser<'t, 'a>,
+    depth: usize,
+    step: Step,
+) -> Result<Box<Expression<'a>>, ParseError>
+    ensures { TakesExpression result parser.new
+        (spec.unary_on (spec.nested depth) (ahead parser.old) (Some step)) }
+{
+    let inside = open(depth, parser.tokens)?;
+    let sign = position(parser.tokens);
+    pass(parser);
+    match primary(parser, inside) {
+        Ok(operand) => parts::step_before(parser, step, sign, operand),
+        Err(e) => Err(e),
+    }
+}
+
+// A primary, with `++`, `--` or `.#` where it stands behind it.
+#[cycle(expression)]
+#[tactic(auto, unfolding(crate::specs::Parse::stepped))]
+fn stepped<'t, 'a>(
+    parser: &mut Parser<'t, 'a>,
+    depth: usize,
+) -> Result<Box<Expression<'a>>, ParseError>
+    ensures { TakesExpression result parser.new
+        (spec.stepped (spec.nested depth) (ahead parser.old)) }
+{
+    match primary(parser, depth) {
+        Ok(operand) => parts::suffixed(parser, operand),
+        Err(e) => Err(e),
+    }
+}
+
+// An operand without operators: what `atom` reads, and properties behind it.
+#[cycle(expression)]
+#[tactic(auto, unfolding(crate::specs::Parse::primary))]
+fn primary<'t, 'a>(
+    parser: &mut Parser<'t, 'a>,
+    depth: usize,
+) -> Result<Box<Expression<'a>>, ParseError>
+    ensures { TakesExpression result parser.new
+        (spec.primary (spec.nested depth) (ahead parser.old)) }
+{
+    match atom(parser, depth) {
+        Ok(owner) => parts::properties(parser, owner),
+        Err(e) => Err(e),
+    }
+}
+
+// A constant, a dictionary word, a name, a call, a relative of an object, or an expression in
+// parentheses.
+#[cycle(expression)]
+#[tactic(auto, unfolding(crate::specs::Parse::atom))]
+fn atom<'t, 'a>(
+    parser: &mut Parser<'t, 'a>,
+    depth: usize,
+) -> Result<Box<Expression<'a>>, ParseError>
+    ensures { TakesExpression result parser.new
+        (spec.atom (spec.nested depth) (ahead parser.old)) }
+{
+    let token = peek(parser.tokens);
+    match token.kind {
+        Kind::Number(number) => parts::constant(parser, number),
+        Kind::Character(code) => parts::constant(parser, code as u16),
+        Kind::DictionaryWord(word) => parts::word(parser, word),
+        Kind::Reserved(word) => reserved(parser, depth, word),
+        Kind::Name(text) => {
+            let name = Name {
+                text,
+                position: token.position,
+            };
+            after_name(parser, depth, name)
+        }
+        Kind::Sign(Sign::OpenParenthesis) => enclosed(parser, depth),
+        _ => Err(fault_at(Fault::Grammar, parser.tokens)),
+    }
+}
+
+// A name, or its call where a parenthesis stands behind it, from the name on.
+#[cycle(expression)]
+#[tactic(auto, unfolding(crate::specs::Parse::after_name), using(crate::proofs::Nested::nested_zero, crate::proofs::Nested::nested_arguments))]
+fn after_name<'t, 'a>(
+    parser: &mut Parser<'t, 'a>,
+    depth: usize,
+    name: Name<'a>,
+) -> Result<Box<Expression<'a>>, ParseError>
+    ensures { TakesExpression result parser.new
+        (spec.after_name (spec.nested depth) (name_tree name.entry) (tail (ahead parser.old))) }
+{
+    pass(parser);
+    if !is_sign(peek(parser.tokens), Sign::OpenParenthesis) {
+        return parts::named(parser, name);
+    }
+    let inside = open(depth, parser.tokens)?;
+    pass(parser);
+    called(parser, inside, name)
+}
+
+// What stands in parentheses, from the first of them on.
+#[cycle(expression)]
+#[tactic(auto, using(crate::proofs::Nested::nested_zero, crate::proofs::Nested::nested_whole))]
+fn within<'t, 'a>(
+    parser: &mut Parser<'t, 'a>,
+    depth: usize,
+) -> Result<Box<Expression<'a>>, ParseError>
+    ensures { TakesExpression result parser.new
+        (spec.nested depth spec.whole (tail (ahead parser.old))) }
+{
+    let inside = open(depth, parser.tokens)?;
+    pass(parser);
+    expression(parser, inside)
+}
+
+// An expression in parentheses.
+#[cycle(expression)]
+#[tactic(auto, unfolding(crate::specs::Parse::enclosed))]
+fn enclosed<'t, 'a>(
+    parser: &mut Parser<'t, 'a>,
+    depth: usize,
+) -> Result<Box<Expression<'a>>, ParseError>
+    ensures { TakesExpression result parser.new
+        (spec.enclosed (spec.nested depth) (tail (ahead parser.old))) }
+{
+    match within(parser, depth) {
+        Ok(inside) => parts::parenthesised(parser, inside),
+        Err(e) => Err(e),
+    }
+}
+
+// The value of the reserved word that comes next, or a relative of an object.
+#[cycle(expression)]
+fn reserved<'t, 'a>(
+    parser: &mut Parser<'t, 'a>,
+    depth: usize,
+    word: Word,
+) -> Result<Box<Expression<'a>>, ParseError>
+    ensures { TakesExpression result parser.new (spec.word_on (spec.nested depth) word
+        (operators.relating_word word) (tail (ahead parser.old))) }
+{
+    match relating_word(word) {
+        Some(relative) => related(parser, depth, relative),
+        None => parts::word_constant(parser, word),
+    }
+}
+
+// The parent, the child or the sibling of what stands in parentheses, from the word on.
+#[cycle(expression)]
+#[tactic(auto, unfolding(crate::specs::Parse::related))]
+fn related<'t, 'a>(
+    parser: &mut Parser<'t, 'a>,
+    depth: usize,
+    relative: Relative,
+) -> Result<Box<Expression<'a>>, ParseError>
+    ensures { TakesExpression result parser.new
+        (spec.related (spec.nested depth) relative (tail (ahead parser.old))) }
+{
+    pass(parser);
+    if !is_sign(peek(parser.tokens), Sign::OpenParenthesis) {
+        return Err(fault_at(Fault::Grammar, parser.tokens));
+    }
+    match within(parser, depth) {
+        Ok(inside) => parts::relative_of(parser, relative, inside),
+        Err(e) => Err(e),
+    }
+}
+
+// The call of a name, from behind its parenthesis.
+#[cycle(expression)]
+#[tactic(auto, unfolding(crate::specs::Parse::called))]
+fn called<'t, 'a>(
+    parser: &mut Parser<'t, 'a>,
+    depth: usize,
+    name: Name<'a>,
+) -> Result<Box<Expression<'a>>, ParseError>
+    ensures { TakesExpression result parser.new
+        (spec.called (spec.nested depth) (name_tree name.entry) (ahead parser.old)) }
+{
+    if is_sign(peek(parser.tokens), Sign::CloseParenthesis) {
+        return parts::call_alone(parser, name);
+    }
+    match arguments(parser, depth) {
+        Ok(arguments) => parts::call(parser, name, arguments),
+        Err(e) => Err(e),
+    }
+}
+
+// Arguments, at least one.
+#[cycle(expression)]
+#[tactic(auto, using(syntax_parsing::proofs::Loops::further_out, syntax_parsing::proofs::Loops::further_done))]
+fn arguments<'t, 'a>(
+    parser: &mut Parser<'t, 'a>,
+    depth: usize,
+) -> Result<Vec<Expression<'a>>, ParseError>
+    ensures { Takes (λ xs. map expression_tree xs.items) result parser.new (reading.list
+        (reading.is_sign Sign.Comma) (spec.expression (spec.nested depth)) (ahead parser.old)) }
+{
+    // Most calls have one argument. A first `push` would ask for several places.
+    let mut arguments = Vec::with_capacity(parser.alloc, 1)?;
+    match expression(parser, depth) {
+        Ok(first) => parts::add(&mut arguments, first)?,
+        Err(e) => return Err(e),
+    }
+    for _turn in 0..parser.tokens.len() {
+        if !is_sign(peek(parser.tokens), Sign::Comma) {
+            break;
+        }
+        pass(parser);
+        match expression(parser, depth) {
+            Ok(next) => parts::add(&mut arguments, next)?,
+            Err(e) => return Err(e),
+        }
+    }
+    Ok(arguments)
+}

@@ -1,0 +1,410 @@
+//! Trees made of parts, where the last part is read already: each function gives what reading the
+//! whole gives.
+//!
+//! Trees come and go in boxes, and a kind of tree is spelled here alone: where a function holds a
+//! tree by value, its proof has all kinds of trees before it, with all that each holds, at every
+//! step. The parser comes first among the arguments also where nothing is read: so the lifetimes of
+//! the arguments have the places that they have in the callers, else the prover compares their
+//! types part by part.
+//!
+//! # Errors
+//!
+//! `Memory` where a growth is refused; `Fault::Grammar` where a parenthesis is not closed, and
+//! where a name is to stand and does not.
+
+ghost use Rattle.std.specs.Prelude.{◌≡◌, ◌∷◌, IfErr, IfOk, Ok, length, map, [], ◌++◌};
+ghost use Rattle.syntax_lexer.specs.Token.{position_of};
+ghost use Rattle.syntax_trees.specs.Tree as tree;
+ghost use Rattle.syntax_trees.specs.Tree.{chained, link, name_tree, expression_tree, trees_of};
+ghost use Rattle.syntax_parsing.specs.Parse as reading;
+ghost use Rattle.syntax_parsing.specs.Returned.{ahead};
+ghost use Rattle.syntax_expressions.specs.Parse as spec;
+ghost use Rattle.syntax_expressions.specs.Returned.{TakesExpression};
+
+use crate::operators::{stepping, testing, word_value};
+use crate::reading::expect_name;
+use syntax_lexer::{Position, Sign, Word};
+use syntax_parsing::{Fault, ParseError, Parser, expect, fault_at, is_sign, pass, peek, position};
+use syntax_trees::{
+    Binary, Comparison, Containment, Equality, Expression, Name, Prefix, Relative, Step, Width,
+};
+
+// A tree in a box. Where memory is refused the tree is dropped here.
+fn in_box<'t, 'a>(
+    parser: &Parser<'t, 'a>,
+    tree: Expression<'a>,
+) -> Result<Box<Expression<'a>>, ParseError>
+    ensures { TakesExpression result parser.now
+        (Ok (expression_tree tree.entry, ahead parser.now)) }
+{
+    match Box::new(parser.alloc, tree) {
+        Ok(tree) => Ok(tree),
+        Err(refused) => Err(ParseError::from(refused)),
+    }
+}
+
+/// A constant, which the next token is.
+pub fn constant<'t, 'a>(
+    parser: &mut Parser<'t, 'a>,
+    value: u16,
+) -> Result<Box<Expression<'a>>, ParseError>
+    ensures { TakesExpression result parser.new
+        (Ok (tree.constant value, reading.tail (ahead parser.old))) }
+{
+    pass(parser);
+    in_box(parser, Expression::Constant(value))
+}
+
+/// The value of the reserved word that comes next.
+pub fn word_constant<'t, 'a>(
+    parser: &mut Parser<'t, 'a>,
+    word: Word,
+) -> Result<Box<Expression<'a>>, ParseError>
+    ensures { TakesExpression result parser.new
+        (spec.valued (spec.word_value word) (reading.tail (ahead parser.old))) }
+{
+    match word_value(word) {
+        Some(value) => constant(parser, value),
+        None => Err(fault_at(Fault::Grammar, parser.tokens)),
+    }
+}
+
+/// A dictionary word, which the next token is.
+pub fn word<'t, 'a>(
+    parser: &mut Parser<'t, 'a>,
+    word: &'a [u8],
+) -> Result<Box<Expression<'a>>, ParseError>
+    ensures { TakesExpression result parser.new
+        (Ok (tree.word word.entry.now, reading.tail (ahead parser.old))) }
+{
+    pass(parser);
+    in_box(parser, Expression::Word(word))
+}
+
+/// The value of a name.
+pub fn named<'t, 'a>(
+    parser: &Parser<'t, 'a>,
+    name: Name<'a>,
+) -> Result<Box<Expression<'a>>, ParseError>
+    ensures { TakesExpression result parser.now
+        (Ok (tree.named (name_tree name.entry), ahead parser.now)) }
+{
+    in_box(parser, Expression::Named(name))
+}
+
+/// A chain.
+pub fn chain<'t, 'a>(
+    parser: &Parser<'t, 'a>,
+    first: Box<Expression<'a>>,
+    operator: Binary,
+    second: Box<Expression<'a>>,
+    links: Vec<(Binary, Expression<'a>)>,
+) -> Result<Box<Expression<'a>>, ParseError>
+    ensures { TakesExpression result parser.now (Ok (
+      chained (tree.binary operator (expression_tree first.entry.value)
+          (expression_tree second.entry.value)) (map link links.entry.items),
+      ahead parser.now,
+    )) }
+{
+    in_box(parser, Expression::Chain(first, operator, second, links))
+}
+
+/// One more operator and operand in a chain.
+pub fn add_link<'a>(
+    links: &mut Vec<(Binary, Expression<'a>)>,
+    operator: Binary,
+    operand: Box<Expression<'a>>,
+) -> Result<(), ParseError>
+    ensures ok { IfOk result (λ _. links.new.items
+        ≡ links.old.items ++ (operator, operand.entry.value) ∷ []) }
+    ensures err { IfErr result (λ e. e ≡ ParseError.Memory) }
+{
+    // Most chains are of one operator. A first `push` would ask for several places.
+    if links.is_empty() {
+        links.reserve_exact(1)?;
+    }
+    links.push((operator, Box::into_inner(operand)))?;
+    Ok(())
+}
+
+/// One more expression in a list.
+pub fn add<'a>(
+    expressions: &mut Vec<Expression<'a>>,
+    next: Box<Expression<'a>>,
+) -> Result<(), ParseError>
+    ensures ok { IfOk result (λ _. expressions.new.items
+        ≡ expressions.old.items ++ next.entry.value ∷ []) }
+    ensures err { IfErr result (λ e. e ≡ ParseError.Memory) }
+{
+    expressions.push(Box::into_inner(next))?;
+    Ok(())
+}
+
+/// An operator before its operand.
+pub fn prefixed<'t, 'a>(
+    parser: &Parser<'t, 'a>,
+    operator: Prefix,
+    operand: Box<Expression<'a>>,
+) -> Result<Box<Expression<'a>>, ParseError>
+    ensures { TakesExpression result parser.now
+        (Ok (tree.prefixed operator (expression_tree operand.entry.value), ahead parser.now)) }
+{
+    in_box(parser, Expression::Prefixed(operator, operand))
+}
+
+/// An entry of an array.
+pub fn index<'t, 'a>(
+    parser: &Parser<'t, 'a>,
+    array: Name<'a>,
+    width: Width,
+    index: Box<Expression<'a>>,
+) -> Result<Box<Expression<'a>>, ParseError>
+    ensures { TakesExpression result parser.now (Ok (
+      tree.index (name_tree array.entry) width (expression_tree index.entry.value),
+      ahead parser.now,
+    )) }
+{
+    in_box(parser, Expression::Index(array, width, index))
+}
+
+/// An entry of a property.
+pub fn property_entry<'t, 'a>(
+    parser: &Parser<'t, 'a>,
+    owner: Box<Expression<'a>>,
+    name: Name<'a>,
+    index: Box<Expression<'a>>,
+) -> Result<Box<Expression<'a>>, ParseError>
+    ensures { TakesExpression result parser.now (Ok (
+      tree.property_entry (expression_tree owner.entry.value) (name_tree name.entry)
+          (expression_tree index.entry.value),
+      ahead parser.now,
+    )) }
+{
+    in_box(parser, Expression::PropertyEntry(owner, name, index))
+}
+
+/// An owner, with the properties that stand behind it, each a property of what stands before it.
+pub fn properties<'t, 'a>(
+    parser: &mut Parser<'t, 'a>,
+    owner: Box<Expression<'a>>,
+) -> Result<Box<Expression<'a>>, ParseError>
+    ensures { TakesExpression result parser.new (spec.properties (length (ahead parser.old))
+        (expression_tree owner.entry.value) (ahead parser.old)) }
+{
+    if !is_sign(peek(parser.tokens), Sign::Dot) {
+        return Ok(owner);
+    }
+    let turns = parser.tokens.len();
+    pass(parser);
+    let first = expect_name(parser)?;
+    let mut others = Vec::new(parser.alloc);
+    for _turn in 1..turns {
+        if !is_sign(peek(parser.tokens), Sign::Dot) {
+            break;
+        }
+        pass(parser);
+        let next = expect_name(parser)?;
+        others.push(next)?;
+    }
+    in_box(parser, Expression::Property(owner, first, others))
+}
+
+/// `++` or `--` before its operand.
+pub fn step_before<'t, 'a>(
+    parser: &Parser<'t, 'a>,
+    step: Step,
+    position: Position,
+    operand: Box<Expression<'a>>,
+) -> Result<Box<Expression<'a>>, ParseError>
+    ensures { TakesExpression result parser.now (Ok (
+      tree.step_before step position (expression_tree operand.entry.value),
+      ahead parser.now,
+    )) }
+{
+    in_box(parser, Expression::StepBefore(step, position, operand))
+}
+
+// `++` or `--` after its operand, from the operator on.
+fn step_after<'t, 'a>(
+    parser: &mut Parser<'t, 'a>,
+    operand: Box<Expression<'a>>,
+    step: Step,
+) -> Result<Box<Expression<'a>>, ParseError>
+    ensures { TakesExpression result parser.new (Ok (
+      tree.step_after (expression_tree operand.entry.value) step (position_of
+          (reading.head (ahead parser.old))),
+      reading.tail (ahead parser.old),
+    )) }
+{
+    let sign = position(parser.tokens);
+    pass(parser);
+    in_box(parser, Expression::StepAfter(operand, step, sign))
+}
+
+// An operand, with the length of its property where that is asked for after it.
+#[tactic(auto, unfolding(crate::specs::Parse::lengthened))]
+fn lengthened<'t, 'a>(
+    parser: &mut Parser<'t, 'a>,
+    operand: Box<Expression<'a>>,
+) -> Result<Box<Expression<'a>>, ParseError>
+    ensures { TakesExpression result parser.new
+        (spec.lengthened (expression_tree operand.entry.value) (ahead parser.old)) }
+{
+    if !is_sign(peek(parser.tokens), Sign::DotHash) {
+        return Ok(operand);
+    }
+    pass(parser);
+    let name = expect_name(parser)?;
+    in_box(parser, Expression::PropertyLength(operand, name))
+}
+
+/// An operand, with `++`, `--` or `.#` where it stands after it.
+#[tactic(auto, unfolding(crate::specs::Parse::suffixed))]
+pub fn suffixed<'t, 'a>(
+    parser: &mut Parser<'t, 'a>,
+    operand: Box<Expression<'a>>,
+) -> Result<Box<Expression<'a>>, ParseError>
+    ensures { TakesExpression result parser.new
+        (spec.suffixed (expression_tree operand.entry.value) (ahead parser.old)) }
+{
+    match stepping(peek(parser.tokens)) {
+        Some(step) => step_after(parser, operand, step),
+        None => lengthened(parser, operand),
+    }
+}
+
+/// An expression in parentheses, with the second of them.
+pub fn parenthesised<'t, 'a>(
+    parser: &mut Parser<'t, 'a>,
+    enclosed: Box<Expression<'a>>,
+) -> Result<Box<Expression<'a>>, ParseError>
+    ensures { TakesExpression result parser.new (spec.closed tree.parenthesised
+        (expression_tree enclosed.entry.value, ahead parser.old)) }
+{
+    expect(parser, Sign::CloseParenthesis)?;
+    in_box(parser, Expression::Parenthesised(enclosed))
+}
+
+/// The parent, the child or the sibling of what stands in parentheses, with the second of them.
+pub fn relative_of<'t, 'a>(
+    parser: &mut Parser<'t, 'a>,
+    relative: Relative,
+    enclosed: Box<Expression<'a>>,
+) -> Result<Box<Expression<'a>>, ParseError>
+    ensures { TakesExpression result parser.new (spec.closed (tree.relative_of relative)
+        (expression_tree enclosed.entry.value, ahead parser.old)) }
+{
+    expect(parser, Sign::CloseParenthesis)?;
+    in_box(parser, Expression::RelativeOf(relative, enclosed))
+}
+
+/// `in` or `notin`.
+pub fn contained<'t, 'a>(
+    parser: &Parser<'t, 'a>,
+    left: Box<Expression<'a>>,
+    operator: Containment,
+    right: Box<Expression<'a>>,
+) -> Result<Box<Expression<'a>>, ParseError>
+    ensures { TakesExpression result parser.now
+        (Ok (
+          tree.contained operator (expression_tree left.entry.value)
+              (expression_tree right.entry.value),
+          ahead parser.now,
+        )) }
+{
+    in_box(parser, Expression::Contained(left, operator, right))
+}
+
+/// An operand, with `has`, `hasnt` or `provides` and a name where they stand behind it.
+#[tactic(auto, unfolding(crate::specs::Parse::tested_next))]
+pub fn tested<'t, 'a>(
+    parser: &mut Parser<'t, 'a>,
+    left: Box<Expression<'a>>,
+) -> Result<Box<Expression<'a>>, ParseError>
+    ensures { TakesExpression result parser.new
+        (spec.tested_next (expression_tree left.entry.value) (ahead parser.old)) }
+{
+    let Some(test) = testing(peek(parser.tokens)) else {
+        return Ok(left);
+    };
+    pass(parser);
+    let name = expect_name(parser)?;
+    in_box(parser, Expression::Tested(left, test, name))
+}
+
+/// A comparison of two.
+pub fn compare<'t, 'a>(
+    parser: &Parser<'t, 'a>,
+    left: Box<Expression<'a>>,
+    operator: Comparison,
+    right: Box<Expression<'a>>,
+) -> Result<Box<Expression<'a>>, ParseError>
+    ensures { TakesExpression result parser.now
+        (Ok (
+          tree.compare operator (expression_tree left.entry.value)
+              (expression_tree right.entry.value),
+          ahead parser.now,
+        )) }
+{
+    in_box(parser, Expression::Compare(left, operator, right))
+}
+
+/// An assignment.
+pub fn assign<'t, 'a>(
+    parser: &Parser<'t, 'a>,
+    left: Box<Expression<'a>>,
+    position: Position,
+    right: Box<Expression<'a>>,
+) -> Result<Box<Expression<'a>>, ParseError>
+    ensures { TakesExpression result parser.now
+        (Ok (
+          tree.assign (expression_tree left.entry.value) position
+              (expression_tree right.entry.value),
+          ahead parser.now,
+        )) }
+{
+    in_box(parser, Expression::Assign(left, position, right))
+}
+
+/// A comparison with one value or several.
+pub fn equal<'t, 'a>(
+    parser: &Parser<'t, 'a>,
+    left: Box<Expression<'a>>,
+    operator: Equality,
+    first: Box<Expression<'a>>,
+    others: Vec<Expression<'a>>,
+) -> Result<Box<Expression<'a>>, ParseError>
+    ensures { TakesExpression result parser.now (Ok (
+      tree.equal operator (expression_tree left.entry.value) (trees_of
+          (expression_tree first.entry.value ∷ map expression_tree others.entry.items)),
+      ahead parser.now,
+    )) }
+{
+    in_box(parser, Expression::Equal(left, operator, first, others))
+}
+
+/// A call, with the second of its parentheses.
+pub fn call<'t, 'a>(
+    parser: &mut Parser<'t, 'a>,
+    name: Name<'a>,
+    arguments: Vec<Expression<'a>>,
+) -> Result<Box<Expression<'a>>, ParseError>
+    ensures { TakesExpression result parser.new
+        (spec.closed (λ xs. tree.call (name_tree name.entry) (trees_of xs))
+        (map expression_tree arguments.entry.items, ahead parser.old)) }
+{
+    expect(parser, Sign::CloseParenthesis)?;
+    in_box(parser, Expression::Call(name, arguments))
+}
+
+/// A call without arguments, from the second of its parentheses on.
+pub fn call_alone<'t, 'a>(
+    parser: &mut Parser<'t, 'a>,
+    name: Name<'a>,
+) -> Result<Box<Expression<'a>>, ParseError>
+    ensures { TakesExpression result parser.new
+        (Ok (tree.call (name_tree name.entry) tree.none, reading.tail (ahead parser.old))) }
+{
+    pass(parser);
+    in_box(parser, Expression::Call(name, Vec::new(parser.alloc)))
+}

@@ -1,0 +1,69 @@
+use Rattle.std.proofs.Common.{◌+◌, ◌∷◌, length, drop, [], Ok, Err, sym, ap, subst, ◌∙◌, arith}
+use Rattle.std.proofs.lemmas.List.{length-drop}
+use Rattle.std.proofs.lemmas.Result.{err_from_is_err_and}
+use Rattle.syntax_lexer.specs.Bytes.{run, is_comment_byte}
+use Rattle.syntax_lexer.specs.Token.{end}
+use Rattle.syntax_lexer.specs.Tokens.{Lexes, put, EndsOnce}
+use Rattle.syntax_lexer.specs.Results.{source_token, source_tokens}
+use Rattle.syntax_lexer.proofs.Loop.{puts, puts_push, puts_last, puts_err, meets_fault, at_divider, at_comment}
+use Rattle.syntax_lexer.proofs.Loop.{at_the_end, ends_once, lexemes_are}
+use Rattle.syntax_lexer.proofs.source.lex.Goals as goal
+
+pub loop-offset-preserved-then-is_divider : goal.loop-offset-preserved-then-is_divider
+loop-offset-preserved-then-is_divider c = record {
+  within = omega arith;
+  lines = omega (arith, c.next_line-line.ensures.grows);
+  rest = λ o h. c.loop-offset.invariant.rest o
+      (at_divider c.args.source.now c.loop-offset.offset c.loop-offset.line o c.loop-offset-test.true
+      (sym c.is_divider.ensures ∙ c.if-is_divider.true)
+      (subst (λ n. Lexes (c.loop-offset.offset + 1) n (drop (c.loop-offset.offset + 1) c.args.source.now) o)
+      c.next_line-line.ensures.value h));
+}
+
+pub loop-offset-preserved-then-first-eq33 : goal.loop-offset-preserved-then-first-eq33
+loop-offset-preserved-then-first-eq33 c = record {
+  within = omega (
+    arith,
+    c.run_length.ensures.within,
+    ap length c.from.ensures,
+    length-drop (c.loop-offset.offset + 1)
+        c.args.source.now,
+  );
+  lines = omega arith;
+  rest = λ o h. c.loop-offset.invariant.rest o
+      (at_comment c.args.source.now c.loop-offset.offset c.loop-offset.line c.run_length.result o
+      c.loop-offset-test.true c.if-first-eq33.true
+      (c.run_length.ensures.value ∙ ap (run is_comment_byte) c.from.ensures) h);
+}
+
+pub returns-in_err-token-clause-meets : goal.returns-in_err-token-clause-meets
+returns-in_err-token-clause-meets c =
+    let p = err_from_is_err_and c.from_residual.result c.from_residual.ensures.1 in
+    let found = c.in_err-token.ensures.broken in
+    let whole = subst (Lexes 0 1 c.args.source.now) (puts_err c.loop-offset.tokens.items c.in_err-token.field-0.0)
+    (c.loop-offset.invariant.rest (Err c.in_err-token.field-0.0) found) in
+    meets_fault c.from_residual.result (λ o. Lexes 0 1 c.args.source.now o) p.0 c.in_err-token.field-0.0 p.1 p.2 whole
+
+pub loop-offset-preserved : goal.loop-offset-preserved
+loop-offset-preserved c = record {
+  within = c.in_ok-token.ensures.moves.1;
+  lines = omega (arith, c.in_ok-token.ensures.moves);
+  rest = λ o h. subst (λ ts. Lexes 0 1 c.args.source.now (puts ts o)) (sym c.in_ok-push.ensures.items)
+      (subst (Lexes 0 1 c.args.source.now) (sym (puts_push c.loop-offset.tokens.items c.in_ok-token.token o))
+      (c.loop-offset.invariant.rest (put (source_token c.in_ok-token.token) o) (c.in_ok-token.ensures.first o h)));
+}
+
+pub returns-clause-meets : goal.returns-clause-meets
+returns-clause-meets c =
+    let bs = c.args.source.now in
+    let at = c.loop-offset.offset in
+    let line = c.loop-offset.line in
+    subst (λ ts. Lexes 0 1 bs (Ok (source_tokens ts))) (sym c.in_ok-push-2.ensures.items)
+    (subst (Lexes 0 1 bs) (puts_last c.loop-offset.tokens.items _)
+    (c.loop-offset.invariant.rest _
+    (subst (λ xs. Lexes at line (drop at bs)
+    (Ok (record { lexeme = end (record { offset = at; line = line }); text = xs; end = at } ∷ [])))
+    (sym c.from-2.ensures) (at_the_end bs at line c.loop-offset-test.false))))
+
+pub returns-clause-ends_once : goal.returns-clause-ends_once
+returns-clause-ends_once c = subst EndsOnce (lexemes_are c.push-2.new.self.items) (ends_once (returns-clause-meets c))

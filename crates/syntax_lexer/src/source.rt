@@ -1,0 +1,90 @@
+//! The whole source.
+
+ghost use Rattle.std.specs.Prelude.{◌≡◌, ◌≤◌, ◌+◌, ◌-◌, ◌<◌, ◌==◌, length, slice_index, List, ℕ, Err, false, IfOk, IfErr};
+ghost use Rattle.syntax_lexer.specs.Bytes.{is_divider};
+ghost use Rattle.syntax_lexer.specs.Token.{lexemes};
+ghost use Rattle.syntax_lexer.specs.Tokens.{Lexes, LexesFrom, line_after, put, EndsOnce, TokenOutcome};
+ghost use Rattle.syntax_lexer.specs.Results.{source_token, Meets};
+
+use crate::bytes::{Class, from, front, is_divider, run_length};
+use crate::fault::SourceFault;
+use crate::scan::scan;
+use crate::token::{Kind, Position, Token};
+use std::alloc::Global;
+
+fn next_line(line: usize, b: u8) -> usize
+    requires { line ≤ 9223372036854775808 }
+    ensures value { result ≡ line_after line b }
+    ensures grows { result ≤ line + 1 }
+{
+    if b == b'\n' { line + 1 } else { line }
+}
+
+// The token at a place where no divider and no comment stands.
+fn token_at<'a>(source: &'a [u8], position: Position) -> Result<Token<'a>, SourceFault>
+    requires within { position.offset < length source.now }
+    requires no_divider { is_divider (slice_index source.now position.offset) ≡ false }
+    requires no_comment { (slice_index source.now position.offset == 33) ≡ false }
+    ensures first { IfOk result (λ t. (o : TokenOutcome)
+        → LexesFrom t.end position.line source.now o
+        → LexesFrom position.offset position.line source.now (put (source_token t) o)) }
+    ensures moves { IfOk result (λ t. (position.offset < t.end) × (t.end ≤ length source.now)) }
+    ensures broken { IfErr result
+        (λ e. LexesFrom position.offset position.line source.now (Err e)) }
+{
+    let rest = from(source, position.offset);
+    match scan(rest) {
+        Ok((kind, length)) => Ok(Token {
+            kind,
+            text: front(rest, length),
+            position,
+            end: position.offset + length,
+        }),
+        Err(fault) => Err(SourceFault {
+            number: fault.number(),
+            line: position.line,
+        }),
+    }
+}
+
+/// The tokens of a source, of which the last is its end.
+///
+/// # Errors
+///
+/// - E01 to E04: the rule of tokens that is broken at the smallest place, with the line of that
+///   place.
+/// - E99, with line 0: a growth of memory is refused.
+pub fn lex<'a>(alloc: Global, source: &'a [u8]) -> Result<Vec<Token<'a>>, SourceFault>
+    ensures meets { Meets result (λ o. Lexes 0 1 source.now o) }
+    ensures ends_once { IfOk result (λ v. EndsOnce (lexemes v.items)) }
+{
+    let mut tokens = Vec::new(alloc);
+    let mut offset = 0;
+    let mut line = 1;
+    while offset < source.len() {
+        let first = source[offset];
+        if is_divider(first) {
+            line = next_line(line, first);
+            offset += 1;
+        } else if first == b'!' {
+            offset += 1 + run_length(Class::Comment, from(source, offset + 1));
+        } else {
+            let token = token_at(source, Position { offset, line })?;
+            tokens.push(token)?;
+            offset = token.end;
+        }
+    }
+    tokens.push(Token {
+        kind: Kind::End,
+        text: from(source, offset),
+        position: Position { offset, line },
+        end: offset,
+    })?;
+    Ok(tokens)
+}
+
+/// Each source has one outcome.
+pub fn one_outcome()
+    ensures { (bytes : List ℕ) (o q : TokenOutcome)
+        → Lexes 0 1 bytes o → Lexes 0 1 bytes q → o ≡ q }
+{}

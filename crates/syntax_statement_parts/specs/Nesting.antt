@@ -1,0 +1,61 @@
+-- How deep tokens stand in what statements are made of: a relation between a number and the tokens from a place on,
+-- with one case for each place at which a part can stand in an alternative of the grammar. The parentheses of `(char)`
+-- and `(object)` stand one deeper than what holds them.
+use Rattle.std.specs.Prelude.{◌≡◌, Bool, true, false, ℕ, List, ◌∷◌, Option}
+use Rattle.syntax_lexer.specs.declared.token.Position.{Position}
+use Rattle.syntax_lexer.specs.declared.token.Sign.TheVariants as s
+use Rattle.syntax_lexer.specs.declared.token.Word.TheVariants as w
+use Rattle.syntax_lexer.specs.Token.{Lexeme, name, number, character, dictionary_word, reserved, sign, head, tail}
+use Rattle.syntax_trees.specs.Tree.{ExpressionTree}
+use Rattle.syntax_expressions.specs.Nesting.{DeepE}
+use Rattle.syntax_statement_parts.specs.Tree.{PrintItemTree}
+use Rattle.syntax_statement_parts.specs.Grammar.{IsOptional, effect_or_none, IsItem}
+
+-- the tokens that can stand behind a value at the beginning of a case
+abbrev pub goes_on_in_case : Lexeme → Bool
+goes_on_in_case (sign s.Comma _) = true
+goes_on_in_case (sign s.Colon _) = true
+goes_on_in_case (reserved w.To _) = true
+goes_on_in_case _ = false
+
+-- three tokens with which a case can begin: a value, and `,`, `to` or `:` behind it
+abbrev pub case_begins : Lexeme → Lexeme → Lexeme → Bool
+case_begins (number _ _) t u = goes_on_in_case t
+case_begins (character _ _) t u = goes_on_in_case t
+case_begins (dictionary_word _ _) t u = goes_on_in_case t
+case_begins (reserved w.True _) t u = goes_on_in_case t
+case_begins (reserved w.False _) t u = goes_on_in_case t
+case_begins (reserved w.Nothing _) t u = goes_on_in_case t
+case_begins (name _ _) t u = goes_on_in_case t
+case_begins (sign s.Minus _) (number _ _) u = goes_on_in_case u
+case_begins _ t u = false
+
+unfoldable pub begins_case : List Lexeme → Bool
+begins_case ts = case_begins (head ts) (head (tail ts)) (head (tail (tail ts)))
+
+-- Item = text | "(" "char" ")" E | "(" "object" ")" E | E
+pub data DeepItem : ℕ → List Lexeme → Type 0 where
+  deep_item_parenthesis : {m : List Lexeme} {p q : Position}
+      → DeepItem 1 (sign s.OpenParenthesis p ∷ reserved w.Char q ∷ m)
+  deep_item_character : {n : ℕ} {m : List Lexeme} {p q o : Position} → DeepE n m
+      → DeepItem n (sign s.OpenParenthesis p ∷ reserved w.Char q ∷ sign s.CloseParenthesis o ∷ m)
+  deep_item_object_parenthesis : {m : List Lexeme} {p q : Position}
+      → DeepItem 1 (sign s.OpenParenthesis p ∷ reserved w.Object q ∷ m)
+  deep_item_object : {n : ℕ} {m : List Lexeme} {p q o : Position} → DeepE n m
+      → DeepItem n (sign s.OpenParenthesis p ∷ reserved w.Object q ∷ sign s.CloseParenthesis o ∷ m)
+  deep_item_number : {n : ℕ} {ts : List Lexeme} → DeepE n ts → DeepItem n ts
+
+-- Item {"," Item}
+pub data DeepItems : ℕ → List Lexeme → Type 0 where
+  deep_items_first : {n : ℕ} {ts : List Lexeme} → DeepItem n ts → DeepItems n ts
+  deep_items_next : {n : ℕ} {ts m : List Lexeme} {p : Position} {i : PrintItemTree}
+      → IsItem ts i (sign s.Comma p ∷ m) → DeepItems n m → DeepItems n ts
+
+-- [X] ":" [E] ":" [X]
+pub data DeepHeading : ℕ → List Lexeme → Type 0 where
+  deep_heading_before : {n : ℕ} {m : List Lexeme} → DeepE n m → DeepHeading n m
+  deep_heading_test : {n : ℕ} {m k : List Lexeme} {p : Position} {a : Option ExpressionTree}
+      → IsOptional m a (sign s.Colon p ∷ k) → effect_or_none a ≡ true → DeepE n k → DeepHeading n m
+  deep_heading_behind : {n : ℕ} {m k l : List Lexeme} {p q : Position} {a b : Option ExpressionTree}
+      → IsOptional m a (sign s.Colon p ∷ k) → effect_or_none a ≡ true → IsOptional k b (sign s.Colon q ∷ l)
+      → DeepE n l → DeepHeading n m

@@ -1,0 +1,107 @@
+//! What stands in the parentheses of a `for`, read from tokens.
+
+ghost use Rattle.std.specs.Prelude.{◌≡◌, ◌<◌, IfOk};
+ghost use Rattle.syntax_parsing.specs.Returned.{ahead, Takes};
+ghost use Rattle.syntax_statement_parts.specs.Grammar as grammar;
+ghost use Rattle.syntax_statement_parts.specs.Tree.{part_tree, heading_tree};
+ghost use Rattle.syntax_statement_parts.specs.Parse as spec;
+
+use crate::effects::has_effect;
+use crate::tree::Heading;
+use syntax_expressions::expression;
+use syntax_lexer::Sign;
+use syntax_parsing::{Fault, ParseError, Parser, expect, fault_at, is_sign, open, peek};
+use syntax_trees::Expression;
+
+// An expression, where the sign that follows it is not the next token.
+#[tactic(auto, unfolding(crate::specs::Parse::optional))]
+fn optional<'t, 'a>(
+    parser: &mut Parser<'t, 'a>,
+    depth: usize,
+    behind: Sign,
+) -> Result<Option<Box<Expression<'a>>>, ParseError>
+    ensures { Takes part_tree result parser.new (spec.optional depth behind (ahead parser.old)) }
+{
+    if is_sign(peek(parser.tokens), behind) {
+        return Ok(None);
+    }
+    match expression(parser, depth) {
+        Ok(found) => Ok(Some(found)),
+        Err(e) => Err(e),
+    }
+}
+
+// Whether the expression is absent or can stand alone.
+fn effect_or_none(e: &Option<Box<Expression<'_>>>) -> bool
+    ensures { result ≡ grammar.effect_or_none (part_tree e.now) }
+{
+    match e {
+        None => true,
+        Some(e) => has_effect(e),
+    }
+}
+
+// The same for an expression that must have an effect.
+#[tactic(auto, unfolding(crate::specs::Parse::optional_effect))]
+fn optional_effect<'t, 'a>(
+    parser: &mut Parser<'t, 'a>,
+    depth: usize,
+    behind: Sign,
+) -> Result<Option<Box<Expression<'a>>>, ParseError>
+    ensures { Takes part_tree result parser.new
+        (spec.optional_effect depth behind (ahead parser.old)) }
+{
+    match optional(parser, depth, behind) {
+        Ok(found) => {
+            if !effect_or_none(&found) {
+                return Err(fault_at(Fault::Grammar, parser.tokens));
+            }
+            Ok(found)
+        }
+        Err(e) => Err(e),
+    }
+}
+
+// The parts, with the parenthesis behind them.
+#[tactic(auto, unfolding(crate::specs::Parse::heading))]
+fn heading<'t, 'a>(
+    parser: &mut Parser<'t, 'a>,
+    depth: usize,
+) -> Result<Box<Heading<'a>>, ParseError>
+    ensures { Takes (λ x. heading_tree x.value) result parser.new
+        (spec.heading depth (ahead parser.old)) }
+{
+    let before = optional_effect(parser, depth, Sign::Colon)?;
+    expect(parser, Sign::Colon)?;
+    let test = optional(parser, depth, Sign::Colon)?;
+    expect(parser, Sign::Colon)?;
+    let behind = optional_effect(parser, depth, Sign::CloseParenthesis)?;
+    expect(parser, Sign::CloseParenthesis)?;
+    let found = Heading {
+        before,
+        test,
+        behind,
+    };
+    Ok(Box::new(parser.alloc, found)?)
+}
+
+/// The parts of a `for` in parentheses, which are a nesting.
+///
+/// # Errors
+///
+/// Those of `expression`; `Fault::Grammar` where a sign is missing, and behind a part without an
+/// effect that needs one; `Fault::Deep` where no nesting is left.
+#[tactic(auto, unfolding(crate::specs::Parse::enclosed_heading), using(crate::proofs::Inside::heading_zero, crate::proofs::Inside::heading_more))]
+pub fn enclosed_heading<'t, 'a>(
+    parser: &mut Parser<'t, 'a>,
+    depth: usize,
+) -> Result<Box<Heading<'a>>, ParseError>
+    ensures gives { Takes (λ x. heading_tree x.value) result parser.new
+        (spec.enclosed_heading depth (ahead parser.old)) }
+    ensures open { IfOk result (λ x. 0 < depth) }
+{
+    let opening = parser.tokens;
+    expect(parser, Sign::OpenParenthesis)?;
+    let inside = open(depth, opening)?;
+    heading(parser, inside)
+}

@@ -1,0 +1,79 @@
+-- What is read behind `if`, the words of loops and `switch`, by what reading their parts gave.
+use Rattle.std.proofs.Common.{◌≡◌, ℕ, ◌+◌, true, false, List, Option, Some, Ok, Err, refl, ◌∙◌}
+use Rattle.syntax_lexer.specs.declared.token.Position.{Position}
+use Rattle.syntax_lexer.specs.declared.token.Sign.TheVariants as s
+use Rattle.syntax_lexer.specs.declared.token.Word.TheVariants as w
+use Rattle.syntax_lexer.specs.Token.{Lexeme}
+use Rattle.syntax_trees.specs.Tree.{ExpressionTree}
+use Rattle.syntax_parsing.specs.declared.error.Fault.TheVariants.{Grammar}
+use Rattle.syntax_parsing.specs.Parse.{◌>>=◌, Parse, head, tail, is_sign, is_word, expect}
+use Rattle.syntax_expressions.specs.Parse.{closed, nested, expression}
+use Rattle.syntax_expressions.proofs.Nested.{nested_whole}
+use Rattle.syntax_statement_parts.specs.Tree.{HeadingTree, LoopTree}
+use Rattle.syntax_statement_parts.specs.Parse.{enclosed_condition, enclosed_heading, enclosed_loop}
+use Rattle.syntax_statements.specs.Tree.{StatementTree, CaseTree, cases_of, while_do, for_loop, switch_on, loop_over}
+use Rattle.syntax_statements.specs.Parse.{block_of, braced, repetition, iteration, traversal, cases, switch_of}
+use Rattle.syntax_statements.specs.Parse.{otherwise, selection}
+
+pub condition_read : (d k : ℕ) (ts us : List Lexeme) → d ≡ k + 1 → expect s.OpenParenthesis ts ≡ Ok us
+    → enclosed_condition d ts
+    ≡ (expression (nested k) us >>= closed {A = ExpressionTree} {B = ExpressionTree} (λ e. e))
+unfolding enclosed_condition
+condition_read d k ts us more h = rw (h, nested_whole d k us more) refl
+
+module _ (d : ℕ) (inside : Parse StatementTree) (p : Position) (ts m : List Lexeme) (c : ExpressionTree)
+    (read : enclosed_condition d ts ≡ Ok (c, m)) where
+  pub repetition_made : (x : StatementTree) (r : List Lexeme) → inside m ≡ Ok (x, r)
+      → repetition d inside p ts ≡ Ok (while_do p c x, r)
+  unfolding repetition
+  repetition_made x r h = rw (read, h) refl
+
+module _ (d : ℕ) (inside : Parse StatementTree) (p : Position) (ts : List Lexeme) where
+  pub iteration_made : (h : HeadingTree) (x : StatementTree) (m r : List Lexeme) → enclosed_heading d ts ≡ Ok (h, m)
+      → inside m ≡ Ok (x, r) → iteration d inside p ts ≡ Ok (for_loop p h.before h.test h.behind x, r)
+  unfolding iteration
+  iteration_made h x m r read g = rw (read, g) refl
+
+  pub traversal_made : (l : LoopTree) (x : StatementTree) (m r : List Lexeme) → enclosed_loop d ts ≡ Ok (l, m)
+      → inside m ≡ Ok (x, r) → traversal d inside p ts ≡ Ok (loop_over p l x, r)
+  unfolding traversal
+  traversal_made l x m r read g = rw (read, g) refl
+
+pub block_behind : (braces : Parse (List StatementTree)) (ts : List Lexeme)
+    → braced braces ts ≡ (braces ts >>= λ x. block_of x.0 x.1)
+unfolding braced
+block_behind braces ts = refl
+
+pub block_read : (braces : Parse (List StatementTree)) (ts m : List Lexeme) (xs : List StatementTree)
+    → braces ts ≡ Ok (xs, m) → braced braces ts ≡ block_of xs m
+unfolding braced
+block_read braces ts m xs h = rw h refl
+
+pub selection_made : (d : ℕ) (braces bodies : Parse (List StatementTree)) (p : Position) (ts m us r k : List Lexeme)
+    (e : ExpressionTree) (cs : List CaseTree) (o : Option (List StatementTree)) → enclosed_condition d ts ≡ Ok (e, m)
+    → expect s.OpenBrace m ≡ Ok us → cases bodies us ≡ Ok (cs, r) → otherwise braces r ≡ Ok (o, k)
+    → selection d braces bodies p ts ≡ switch_of p e cs o k
+unfolding selection
+selection_made d braces bodies p ts m us r k e cs o read h c g = rw (read, h, c, g) refl
+
+-- what stands behind `default`, whose colon is looked at before its statements are read
+
+module _ (braces : Parse (List StatementTree)) (ts us : List Lexeme) (is : is_word w.Default (head ts) ≡ true)
+    (behind : us ≡ tail ts) where
+  pub otherwise_default : is_sign s.Colon (head us) ≡ true
+      → otherwise braces ts ≡ (braces (tail us) >>= λ xs. Ok (Some xs.0, xs.1))
+  unfolding otherwise expect
+  otherwise_default colon = rw (is, ← behind, colon) refl
+
+  pub otherwise_made : (k : List Lexeme) (xs : List StatementTree) → is_sign s.Colon (head us) ≡ true
+      → braces (tail us) ≡ Ok (xs, k) → otherwise braces ts ≡ Ok (Some xs, k)
+  otherwise_made k xs colon read = otherwise_default colon ∙ rw read refl
+
+  pub otherwise_uncoloned : is_sign s.Colon (head us) ≡ false → otherwise braces ts ≡ Err Grammar
+  unfolding otherwise expect
+  otherwise_uncoloned none = rw (is, ← behind, none) refl
+
+pub switch_made : (p : Position) (e : ExpressionTree) (cs : List CaseTree) (o : Option (List StatementTree))
+    (ts r : List Lexeme) → expect s.CloseBrace ts ≡ Ok r
+    → switch_of p e cs o ts ≡ Ok (switch_on p e (cases_of cs o), r)
+switch_made p e cs o ts r closed = rw closed refl

@@ -1,0 +1,177 @@
+-- What is read in the parentheses of a `for`, of an `objectloop` and of a condition derives in the grammar.
+use Rattle.std.proofs.Common.{◌≡◌, ℕ, zero, suc, ◌<◌, ◌≤◌, max, ◌⊎◌, true, List, [], ◌∷◌, Some, None, refl, sym, subst}
+use Rattle.std.proofs.Common.{inl, inr, arith}
+use Rattle.syntax_lexer.specs.declared.token.Position.{Position}
+use Rattle.syntax_lexer.specs.declared.token.Sign.{Sign}
+use Rattle.syntax_lexer.specs.declared.token.Sign.TheVariants as s
+use Rattle.syntax_lexer.specs.declared.token.Word.TheVariants as w
+use Rattle.syntax_lexer.specs.Token.{Lexeme, reserved, sign, position_of}
+use Rattle.syntax_trees.specs.Tree.{ExpressionTree}
+use Rattle.syntax_parsing.specs.Parse.{head, tail, is_sign, expect}
+use Rattle.syntax_expressions.specs.Grammar.{IsE, nesting}
+use Rattle.syntax_expressions.specs.Nesting.{DeepE}
+use Rattle.syntax_expressions.proofs.Judged.{Judged, judged_read, judged_grammar, judged_deep, judged_then}
+use Rattle.syntax_expressions.proofs.Judged.{judged_after, judged_by, judged_as}
+use Rattle.syntax_expressions.proofs.Tokens.{expect_ok, expect_not_deep}
+use Rattle.syntax_expressions.proofs.Sound.{judged_E, judged_whole}
+use Rattle.syntax_statement_parts.specs.Tree.{HeadingTree}
+use Rattle.syntax_statement_parts.specs.Grammar.{effect_or_none, IsOptional, optional_none, optional_some}
+use Rattle.syntax_statement_parts.specs.Grammar.{optional_nesting}
+use Rattle.syntax_statement_parts.specs.Nesting.{DeepHeading, deep_heading_before, deep_heading_test}
+use Rattle.syntax_statement_parts.specs.Nesting.{deep_heading_behind}
+use Rattle.syntax_statement_parts.specs.Parse.{enclosed_condition, optional, optional_effect, heading, heading_in}
+use Rattle.syntax_statement_parts.specs.Parse.{enclosed_heading}
+use Rattle.syntax_statements.specs.Grammar.{else_follows}
+use Rattle.syntax_statements.specs.Nesting.{DeepS, deep_s_objectloop_head}
+use Rattle.syntax_statements.proofs.LoopHeads.{DeepLoop}
+
+-- ---- the parts of a `for`
+
+optional_judged : (d : ℕ) (z : Sign) (ts : List Lexeme)
+    → Judged (λ e r. IsOptional ts e r × (optional_nesting e ≤ d)) (DeepE (suc d) ts) (optional d z ts)
+unfolding optional
+optional_judged d z ts =
+    judged_by (is_sign z (head ts)) _ _
+    (λ e. judged_read None ts (optional_none, omega arith))
+    (λ e. judged_then _ (judged_E d ts) (λ a r h. judged_read (Some a) r (optional_some h.0, h.1)) (λ x. x))
+
+effect_judged : (d : ℕ) (z : Sign) (ts : List Lexeme)
+    → Judged (λ e r. IsOptional ts e r × (effect_or_none e ≡ true) × (optional_nesting e ≤ d)) (DeepE (suc d) ts)
+    (optional_effect d z ts)
+unfolding optional_effect
+effect_judged d z ts =
+    judged_then _ (optional_judged d z ts)
+    (λ e r h. judged_by (effect_or_none e) _ _ (λ f. judged_read e r (h.0, f, h.1)) (λ f. judged_grammar))
+    (λ x. x)
+
+abbrev pub heading_nesting : HeadingTree → ℕ
+heading_nesting h = max (optional_nesting h.before) (max (optional_nesting h.test) (optional_nesting h.behind))
+
+pub record IsHeading (ts : List Lexeme) (h : HeadingTree) (r : List Lexeme) : Type 0 where
+  pub first : Position
+  pub second : Position
+  pub closes : Position
+  pub from_test : List Lexeme
+  pub from_behind : List Lexeme
+  pub before : IsOptional ts h.before (sign s.Colon first ∷ from_test)
+  pub before_effect : effect_or_none h.before ≡ true
+  pub test : IsOptional from_test h.test (sign s.Colon second ∷ from_behind)
+  pub behind : IsOptional from_behind h.behind (sign s.CloseParenthesis closes ∷ r)
+  pub behind_effect : effect_or_none h.behind ≡ true
+
+heading_judged : (d : ℕ) (ts : List Lexeme) → Judged (λ h r. IsHeading ts h r × (heading_nesting h ≤ d))
+    (DeepHeading (suc d) ts) (heading d ts)
+unfolding heading
+heading_judged d ts =
+    judged_then _ (effect_judged d s.Colon ts)
+    (λ a u h. judged_after (expect s.Colon u) _
+    (λ k e.
+    let before = subst (λ v. IsOptional ts a v) (expect_ok s.Colon u k e) h.0 in
+    judged_then _ (optional_judged d s.Colon k)
+    (λ b v g. judged_after (expect s.Colon v) _
+    (λ l f.
+    let test = subst (λ x. IsOptional k b x) (expect_ok s.Colon v l f) g.0 in
+    judged_then _ (effect_judged d s.CloseParenthesis l)
+    (λ c x i. judged_after (expect s.CloseParenthesis x) _
+    (λ r j. judged_read (record { before = a; test = b; behind = c }) r (
+      record {
+        first = position_of (head u);
+        second = position_of (head v);
+        closes = position_of (head x);
+        from_test = k;
+        from_behind = l;
+        before = before;
+        before_effect = h.1;
+        test = test;
+        behind = subst (λ y. IsOptional l c y) (expect_ok s.CloseParenthesis x r j) i.0;
+        behind_effect = i.1;
+      },
+      omega (arith, h.2, g.1, i.2),
+    ))
+    (λ j. absurd (expect_not_deep s.CloseParenthesis x j)))
+    (λ z. deep_heading_behind before h.1 test z))
+    (λ f. absurd (expect_not_deep s.Colon v f)))
+    (λ z. deep_heading_test before h.1 z))
+    (λ e. absurd (expect_not_deep s.Colon u e)))
+    (λ z. deep_heading_before z)
+
+pub record IsEnclosed (d : ℕ) (ts : List Lexeme) (h : HeadingTree) (r : List Lexeme) : Type 0 where
+  pub opens : Position
+  pub from : List Lexeme
+  pub at : ts ≡ sign s.OpenParenthesis opens ∷ from
+  pub parts : IsHeading from h r
+  pub within : heading_nesting h < d
+
+pub record DeepEnclosed (d : ℕ) (ts : List Lexeme) : Type 0 where
+  pub opens : Position
+  pub from : List Lexeme
+  pub at : ts ≡ sign s.OpenParenthesis opens ∷ from
+  pub deep : (d ≡ 0) ⊎ DeepHeading d from
+
+heading_in_judged : (d : ℕ) (ts : List Lexeme) → Judged (λ h r. IsHeading ts h r × (heading_nesting h < d))
+    ((d ≡ 0) ⊎ DeepHeading d ts) (heading_in d ts)
+heading_in_judged zero ts = judged_deep (inl refl)
+heading_in_judged (suc d) ts = judged_as (heading_judged d ts) (λ h r q. (q.0, omega (arith, q.1))) (λ x. inr x)
+
+pub enclosed_judged : (d : ℕ) (ts : List Lexeme) → Judged (IsEnclosed d ts) (DeepEnclosed d ts) (enclosed_heading d ts)
+unfolding enclosed_heading
+enclosed_judged d ts =
+    judged_after (expect s.OpenParenthesis ts) _
+    (λ m e. judged_as (heading_in_judged d m)
+    (λ h r q. record {
+      opens = position_of (head ts);
+      from = m;
+      at = expect_ok s.OpenParenthesis ts m e;
+      parts = q.0;
+      within = q.1;
+    })
+    (λ x. record { opens = position_of (head ts); from = m; at = expect_ok s.OpenParenthesis ts m e; deep = x }))
+    (λ e. absurd (expect_not_deep s.OpenParenthesis ts e))
+
+-- ---- what an `objectloop` goes over
+
+pub loop_deep : (p q : Position) (n : ℕ) (ts : List Lexeme) → DeepLoop n ts
+    → DeepS (suc n) (reserved w.Objectloop p ∷ sign s.OpenParenthesis q ∷ ts)
+loop_deep p q n ts h = subst (λ us. DeepS (suc n) (reserved w.Objectloop p ∷ sign s.OpenParenthesis q ∷ us)) (sym h.at)
+    (deep_s_objectloop_head h.deep)
+
+-- ---- conditions
+
+pub record IsCondition (d : ℕ) (ts : List Lexeme) (c : ExpressionTree) (r : List Lexeme) : Type 0 where
+  pub opens : Position
+  pub closes : Position
+  pub from : List Lexeme
+  pub at : ts ≡ sign s.OpenParenthesis opens ∷ from
+  pub derives : IsE from c (sign s.CloseParenthesis closes ∷ r)
+  pub within : nesting c < d
+
+pub record DeepCondition (d : ℕ) (ts : List Lexeme) : Type 0 where
+  pub opens : Position
+  pub from : List Lexeme
+  pub at : ts ≡ sign s.OpenParenthesis opens ∷ from
+  pub deep : (d ≡ 0) ⊎ DeepE d from
+
+pub condition_judged : (d : ℕ) (ts : List Lexeme) → Judged (IsCondition d ts) (DeepCondition d ts)
+    (enclosed_condition d ts)
+unfolding enclosed_condition
+condition_judged d ts =
+    judged_after (expect s.OpenParenthesis ts) _
+    (λ m e. judged_then _ (judged_whole d m)
+    (λ c r h. judged_after (expect s.CloseParenthesis r) _
+    (λ u f. judged_read c u
+    (record {
+      opens = position_of (head ts);
+      closes = position_of (head r);
+      from = m;
+      at = expect_ok s.OpenParenthesis ts m e;
+      derives = subst (λ v. IsE m c v) (expect_ok s.CloseParenthesis r u f) h.0;
+      within = h.1;
+    }))
+    (λ f. absurd (expect_not_deep s.CloseParenthesis r f)))
+    (λ x. record { opens = position_of (head ts); from = m; at = expect_ok s.OpenParenthesis ts m e; deep = x }))
+    (λ e. absurd (expect_not_deep s.OpenParenthesis ts e))
+
+pub at_else : (ts : List Lexeme) → else_follows ts ≡ true → ts ≡ reserved w.Else (position_of (head ts)) ∷ tail ts
+at_else [] e = absurd cc
+at_else (reserved w.Else p ∷ ts) e = refl
+at_else (t ∷ ts) e = absurd cc

@@ -1,0 +1,235 @@
+//! Statements made of their parts, where the last part is read already. Trees come and go in boxes,
+//! and a kind of statement is spelled here and in `simple` alone.
+
+ghost use Rattle.std.specs.Prelude.{◌≡◌, IfErr, IfOk, Ok, map, [], ◌∷◌, ◌++◌};
+ghost use Rattle.syntax_trees.specs.Tree.{expression_tree};
+ghost use Rattle.syntax_parsing.specs.Parse as reading;
+ghost use Rattle.syntax_parsing.specs.Returned.{ahead};
+ghost use Rattle.syntax_statement_parts.specs.Tree.{heading_tree, loop_tree};
+ghost use Rattle.syntax_statements.specs.Tree as tree;
+ghost use Rattle.syntax_statements.specs.Tree.{statement_tree, case_tree, other_tree};
+ghost use Rattle.syntax_statements.specs.Returned.{TakesStatement};
+ghost use Rattle.syntax_statements.specs.Parse as spec;
+
+use crate::simple::simple;
+use crate::tree::Statement;
+use syntax_lexer::{Position, Sign};
+use syntax_parsing::{ParseError, Parser, expect};
+use syntax_statement_parts::{Heading, Loop, Range};
+use syntax_trees::Expression;
+
+/// A statement in a box. Where memory is refused the statement is dropped here. The parser comes
+/// first here and in what follows, also where nothing is read: so the lifetimes of the arguments
+/// have the places that they have in the callers, else the prover compares their types part by
+/// part.
+pub fn in_box<'t, 'a>(
+    parser: &Parser<'t, 'a>,
+    statement: Statement<'a>,
+) -> Result<Box<Statement<'a>>, ParseError>
+    ensures { TakesStatement result parser.now
+        (Ok (statement_tree statement.entry, ahead parser.now)) }
+{
+    match Box::new(parser.alloc, statement) {
+        Ok(statement) => Ok(statement),
+        Err(refused) => Err(ParseError::from(refused)),
+    }
+}
+
+/// `;` alone, which is read already.
+pub fn empty<'t, 'a>(parser: &Parser<'t, 'a>) -> Result<Box<Statement<'a>>, ParseError>
+    ensures { TakesStatement result parser.now (Ok (tree.empty, ahead parser.now)) }
+{
+    in_box(parser, Statement::Empty)
+}
+
+/// A statement in which no other stands, and which is not `;` alone.
+///
+/// # Errors
+///
+/// Those of `simple`.
+pub fn plain<'t, 'a>(
+    parser: &mut Parser<'t, 'a>,
+    depth: usize,
+) -> Result<Box<Statement<'a>>, ParseError>
+    ensures { TakesStatement result parser.new
+        (spec.plain_on depth (reading.head (ahead parser.old)) (ahead parser.old)) }
+{
+    match simple(parser, depth) {
+        Ok(found) => in_box(parser, Statement::Simple(found)),
+        Err(e) => Err(e),
+    }
+}
+
+/// One more statement in a row.
+pub fn add<'a>(
+    statements: &mut Vec<Statement<'a>>,
+    next: Box<Statement<'a>>,
+) -> Result<(), ParseError>
+    ensures ok { IfOk result (λ _. statements.new.items
+        ≡ statements.old.items ++ next.entry.value ∷ []) }
+    ensures err { IfErr result (λ e. e ≡ ParseError.Memory) }
+{
+    // Most rows inside a statement are of one. A first `push` would ask for several places.
+    if statements.is_empty() {
+        statements.reserve_exact(1)?;
+    }
+    statements.push(Box::into_inner(next))?;
+    Ok(())
+}
+
+/// A row of statements as it is kept: it gives back the room in which it grew, so rows of some
+/// dozens take no more than what stands in them.
+pub fn row<'a>(statements: Vec<Statement<'a>>) -> Vec<Statement<'a>>
+    ensures { result.items ≡ statements.entry.items }
+{
+    let mut found = statements;
+    found.shrink_to_fit();
+    found
+}
+
+/// A block, with its second brace.
+pub fn block<'t, 'a>(
+    parser: &mut Parser<'t, 'a>,
+    found: Vec<Statement<'a>>,
+) -> Result<Box<Statement<'a>>, ParseError>
+    ensures { TakesStatement result parser.new
+        (spec.block_of (map statement_tree found.entry.items) (ahead parser.old)) }
+{
+    match expect(parser, Sign::CloseBrace) {
+        Ok(()) => in_box(parser, Statement::Block(found)),
+        Err(e) => Err(e),
+    }
+}
+
+/// `if` without an `else`, made of its parts.
+pub fn if_then<'t, 'a>(
+    parser: &Parser<'t, 'a>,
+    position: Position,
+    condition: Box<Expression<'a>>,
+    first: Box<Statement<'a>>,
+) -> Result<Box<Statement<'a>>, ParseError>
+    ensures { TakesStatement result parser.now (Ok (
+      tree.if_then position (expression_tree condition.entry.value)
+          (statement_tree first.entry.value),
+      ahead parser.now,
+    )) }
+{
+    in_box(parser, Statement::If(position, condition, first))
+}
+
+/// `if` with an `else`.
+pub fn if_else<'t, 'a>(
+    parser: &Parser<'t, 'a>,
+    position: Position,
+    condition: Box<Expression<'a>>,
+    first: Box<Statement<'a>>,
+    second: Box<Statement<'a>>,
+) -> Result<Box<Statement<'a>>, ParseError>
+    ensures { TakesStatement result parser.now (Ok (
+      tree.if_else position (expression_tree condition.entry.value)
+          (statement_tree first.entry.value) (statement_tree second.entry.value),
+      ahead parser.now,
+    )) }
+{
+    in_box(
+        parser,
+        Statement::IfElse(position, condition, first, second),
+    )
+}
+
+/// `while`.
+pub fn while_do<'t, 'a>(
+    parser: &Parser<'t, 'a>,
+    position: Position,
+    condition: Box<Expression<'a>>,
+    body: Box<Statement<'a>>,
+) -> Result<Box<Statement<'a>>, ParseError>
+    ensures { TakesStatement result parser.now (Ok (
+      tree.while_do position (expression_tree condition.entry.value)
+          (statement_tree body.entry.value),
+      ahead parser.now,
+    )) }
+{
+    in_box(parser, Statement::While(position, condition, body))
+}
+
+/// `do`, with its `;`.
+#[tactic(auto, unfolding(crate::specs::Parse::ended))]
+pub fn do_until<'t, 'a>(
+    parser: &mut Parser<'t, 'a>,
+    position: Position,
+    body: Box<Statement<'a>>,
+    condition: Box<Expression<'a>>,
+) -> Result<Box<Statement<'a>>, ParseError>
+    ensures { TakesStatement result parser.new (spec.ended
+        (tree.do_until position (statement_tree body.entry.value)
+        (expression_tree condition.entry.value)) (ahead parser.old)) }
+{
+    match expect(parser, Sign::Semicolon) {
+        Ok(()) => in_box(parser, Statement::Do(position, body, condition)),
+        Err(e) => Err(e),
+    }
+}
+
+/// `for`.
+pub fn for_loop<'t, 'a>(
+    parser: &Parser<'t, 'a>,
+    position: Position,
+    heading: Box<Heading<'a>>,
+    body: Box<Statement<'a>>,
+) -> Result<Box<Statement<'a>>, ParseError>
+    ensures { TakesStatement result parser.now (Ok (
+      tree.for_loop position (heading_tree heading.entry.value).before
+          (heading_tree heading.entry.value).test (heading_tree heading.entry.value).behind
+          (statement_tree body.entry.value),
+      ahead parser.now,
+    )) }
+{
+    in_box(parser, Statement::For(position, heading, body))
+}
+
+/// `objectloop`.
+pub fn loop_over<'t, 'a>(
+    parser: &Parser<'t, 'a>,
+    position: Position,
+    over: Box<Loop<'a>>,
+    body: Box<Statement<'a>>,
+) -> Result<Box<Statement<'a>>, ParseError>
+    ensures { TakesStatement result parser.now (Ok (
+      tree.loop_over position (loop_tree over.entry.value)
+          (statement_tree body.entry.value),
+      ahead parser.now,
+    )) }
+{
+    in_box(parser, Statement::Objectloop(position, over, body))
+}
+
+/// One more case in a row.
+pub fn add_case<'a>(
+    cases: &mut Vec<(Vec<Range<'a>>, Vec<Statement<'a>>)>,
+    next: (Vec<Range<'a>>, Vec<Statement<'a>>),
+) -> Result<(), ParseError>
+    ensures ok { IfOk result (λ _. cases.new.items ≡ cases.old.items ++ next.entry ∷ []) }
+    ensures err { IfErr result (λ e. e ≡ ParseError.Memory) }
+{
+    cases.push(next)?;
+    Ok(())
+}
+
+/// `switch`, with its second brace.
+pub fn switch_on<'t, 'a>(
+    parser: &mut Parser<'t, 'a>,
+    position: Position,
+    value: Box<Expression<'a>>,
+    cases: Vec<(Vec<Range<'a>>, Vec<Statement<'a>>)>,
+    other: Option<Vec<Statement<'a>>>,
+) -> Result<Box<Statement<'a>>, ParseError>
+    ensures { TakesStatement result parser.new
+        (spec.switch_of position (expression_tree value.entry.value)
+        (map case_tree cases.entry.items) (other_tree other.entry) (ahead parser.old)) }
+{
+    match expect(parser, Sign::CloseBrace) {
+        Ok(()) => in_box(parser, Statement::Switch(position, value, cases, other)),
+        Err(e) => Err(e),
+    }
+}

@@ -1,0 +1,69 @@
+//! Trees of statements.
+
+use syntax_lexer::Position;
+use syntax_statement_parts::{Heading, Loop, PrintItem, Range};
+use syntax_trees::{Expression, Name};
+
+/// A statement in which no other stands, and which is not `;` alone. Where it has expressions, and
+/// for `break` and `continue`, the position of its first token stands with it.
+#[derive(Drop)]
+pub enum SimpleStatement<'a> {
+    /// A text alone: it is printed with a new line, and the routine returns true.
+    Text(&'a [u8]),
+
+    Print(Vec<PrintItem<'a>>),
+    PrintReturn(Vec<PrintItem<'a>>),
+    NewLine,
+    Break(Position),
+    Continue(Position),
+
+    /// `return` alone: true.
+    Return,
+    ReturnValue(Position, Box<Expression<'a>>),
+    ReturnTrue,
+    ReturnFalse,
+    Quit,
+
+    /// `read`: a line is read into the array of its text and the array of its words.
+    Read(Name<'a>, Name<'a>),
+
+    /// `give`: an object, and attributes that it is given (true) or that are taken from it.
+    Give(Position, Box<Expression<'a>>, Vec<(bool, Name<'a>)>),
+
+    /// `move`: an object, and its new parent.
+    Move(Position, Box<Expression<'a>>, Box<Expression<'a>>),
+
+    Remove(Position, Box<Expression<'a>>),
+
+    /// An assignment, a step or a call.
+    Effect(Position, Box<Expression<'a>>),
+}
+
+/// A statement. Where it has expressions, the position of its first token stands with it. Those in
+/// which no other stands are a type of their own, since a function that has a statement in hand is
+/// proved for each of its kinds.
+#[derive(Drop)]
+pub enum Statement<'a> {
+    /// `;` alone. It has no box: so one byte of a source asks for no memory but its place in a row.
+    Empty,
+
+    /// Any other in which no other stands.
+    Simple(Box<SimpleStatement<'a>>),
+    Block(Vec<Statement<'a>>),
+    If(Position, Box<Expression<'a>>, Box<Statement<'a>>),
+    IfElse(Position, Box<Expression<'a>>, Box<Statement<'a>>, Box<Statement<'a>>),
+    While(Position, Box<Expression<'a>>, Box<Statement<'a>>),
+    Do(Position, Box<Statement<'a>>, Box<Expression<'a>>),
+    For(Position, Box<Heading<'a>>, Box<Statement<'a>>),
+
+    /// `objectloop`: over what it goes, and what is done in each round.
+    Objectloop(Position, Box<Loop<'a>>, Box<Statement<'a>>),
+
+    /// A `switch`: its value, its cases, and the statements of its `default`.
+    Switch(
+        Position,
+        Box<Expression<'a>>,
+        Vec<(Vec<Range<'a>>, Vec<Statement<'a>>)>,
+        Option<Vec<Statement<'a>>>,
+    ),
+}

@@ -1,7 +1,0 @@
-use Rattle.names.specs.Breaches.{at}
-use Rattle.names.proofs.Noted.{noted_two}
-use Rattle.value_rules.proofs.name_rules.no_target.Goals as goal
-
-pub returns : goal.returns
-returns c = noted_two c.args.least.now c.note.new.least c.note-2.new.least (at c.args.position 23)
-    (at c.args.operator 26) c.note.ensures c.note-2.ensures
