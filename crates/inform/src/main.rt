@@ -1,4 +1,4 @@
-//! Compiles a source file to a story file.
+//! Compiles a source file to a story file, and explains faults.
 #![tactic(auto)]
 
 mod name;
@@ -9,7 +9,8 @@ mod words;
 use crate::name::Name;
 use crate::output::{is_one_file, write_whole};
 use crate::source::read_source;
-use crate::words::{Words, command, words_of};
+use crate::words::{Asked, Words, command, words_of};
+use explanations::Program;
 use std::fmt::Display;
 use std::fs::File;
 use std::process::ExitCode;
@@ -36,7 +37,8 @@ fn main(rt: HostRuntime) -> ExitCode {
     };
     match command.try_get_matches_from(given.as_slice()) {
         Ok(matches) => match words_of(&matches) {
-            Some(words) => build(&rt, words),
+            Some(Asked::Compile(words)) => build(&rt, words),
+            Some(Asked::Explain(name)) => explain(&rt, name),
             None => misused(&rt, "the version after -v is 5 or 8"),
         },
         Err(error) => {
@@ -53,6 +55,27 @@ fn main(rt: HostRuntime) -> ExitCode {
 fn misused<W: Display + Drop>(rt: &HostRuntime, what: W) -> ExitCode {
     let _ = eprintln!(rt; "inform: {what}");
     ExitCode::from(MISUSED)
+}
+
+/// Prints the explanation of a fault, or the names of all faults with their titles.
+fn explain(rt: &HostRuntime, name: Option<&str>) -> ExitCode {
+    let printed = match name {
+        None => rt.print(Program::Inform.titles()),
+        Some(name) => match Program::Inform.explanation(name) {
+            Some(explanation) => rt.print(explanation),
+            None => {
+                let name = Name(name);
+                return misused(
+                    rt,
+                    format_args!("no fault is named {name}: --explain lists all"),
+                );
+            }
+        },
+    };
+    match printed {
+        Ok(()) => ExitCode::SUCCESS,
+        Err(_) => misused(rt, "cannot write standard output"),
+    }
 }
 
 /// The source in a file of this name; `None` where it is too large.

@@ -10,6 +10,16 @@ The story file: docs/STORY_FILE.md";
 
 /// What the command line asks for.
 #[derive(Clone, Copy)]
+pub enum Asked<'a> {
+    /// To explain the fault of this name, or else to list all faults.
+    Explain(Option<&'a str>),
+
+    /// To compile a source.
+    Compile(Words<'a>),
+}
+
+/// What is compiled to what.
+#[derive(Clone, Copy)]
 pub struct Words<'a> {
     /// The source file's name.
     pub source: &'a str,
@@ -29,6 +39,13 @@ pub fn command<'a>(alloc: Global) -> Result<Command<'a>, AllocError> {
         .help("The version of the story file, 5 or 8 [default: 5]")
         .action(ArgAction::Set)
         .value_parser(value_parser!(u32));
+    let explain = Arg::new(alloc, "explain")
+        .long("explain")
+        .value_name("NAME")
+        .help("Explain the fault of this name, as E23, or list all faults; nothing is compiled")
+        .num_args(0..=1)
+        .exclusive(true)
+        .action(ArgAction::Set);
     let source = Arg::new(alloc, "source")
         .value_name("SOURCE")
         .help("A source file")
@@ -44,21 +61,25 @@ pub fn command<'a>(alloc: Global) -> Result<Command<'a>, AllocError> {
         .about("Compiles a source file to a Z-machine story file")
         .after_help(MORE)
         .arg(version)?
+        .arg(explain)?
         .arg(source)?
         .arg(story)
 }
 
 /// What the words of a command line that passed `command` ask for; `None` where they name another
 /// version than 5 and 8.
-pub fn words_of<'a>(matches: &ArgMatches<'a>) -> Option<Words<'a>> {
+pub fn words_of<'a>(matches: &ArgMatches<'a>) -> Option<Asked<'a>> {
+    if matches.contains_id("explain") {
+        return Some(Asked::Explain(matches.get_str("explain")));
+    }
     let version = match matches.get_one::<u32>("version_number") {
         None | Some(5) => Version::V5,
         Some(8) => Version::V8,
         Some(_) => return None,
     };
-    Some(Words {
+    Some(Asked::Compile(Words {
         source: matches.get_str("source").unwrap_or(""),
         story: matches.get_str("story").unwrap_or(""),
         version,
-    })
+    }))
 }

@@ -7,17 +7,17 @@ use Rattle.std.specs.Prelude.{option_map, slice_get, unwrap_or, pos, IfSome, Res
 use Rattle.std.specs.Str.Parse.{ParsesUnsigned}
 use Rattle.std.specs.Borrow.{Bor}
 use Rattle.std.proofs.lemmas.Slice.Eq.{bytes_eq-Decides}
-use Rattle.std.proofs.lemmas.List.Elements.{All-get_or, All-nil, All-drop}
+use Rattle.std.proofs.lemmas.List.Elements.{All-get_or, All-nil, All-drop, All-push}
 use Rattle.clap.specs.Facts.{args_of, groups_of, IsParsed, Entry, EntryPasses, ValuesPass, PassesArg, HasReading}
 use Rattle.clap.specs.Facts.{parser_of, parser_of_value}
-use Rattle.clap.specs.Built.{IsPlain, IsPlainArg, IsParsedFrom, IsAuto, AddsArg, AddsInTurn, SameRules, KeepsList}
-use Rattle.clap.specs.Built.{FitsChain, HasDistinctIds}
+use Rattle.clap.specs.Built.{NamesNoGroup, IsParsedFrom, IsAuto, AddsArg, AddsInTurn, SameRules, KeepsList}
+use Rattle.clap.specs.Built.{HasDistinctIds}
 use Rattle.clap.specs.Matches.{matched_of, one_text, found_of, has_subcommand, ReadsOne}
 use Rattle.clap.specs.declared.parser.matches.Found.{Found}
 use Rattle.clap.specs.Values.{Accepts, read_as, reading_of}
 use Rattle.clap.specs.declared.builder.value_parser.Reading.{Reading}
 use Rattle.clap.proofs.CallerReads.{signed_reads}
-use Rattle.clap.proofs.CallerLemmas.{entry_by_id, same_rules_by_id, added_plain}
+use Rattle.clap.proofs.CallerLemmas.{entry_by_id, same_rules_by_id}
 use Rattle.clap.specs.declared.builder.arg.Arg.{Arg}
 use Rattle.clap.specs.declared.builder.command.Command.{Command}
 use Rattle.clap.specs.declared.builder.command.Command.TheViews.{out-Command}
@@ -25,6 +25,21 @@ use Rattle.clap.specs.declared.builder.value_parser.ValueParser.{ValueParser}
 use Rattle.clap.specs.declared.builder.value_parser.ValueParser.TheVariants.{Signed}
 use Rattle.clap.specs.declared.parser.matches.ArgMatches.{ArgMatches}
 use Rattle.clap.specs.declared.parser.matches.MatchedArg.{MatchedArg}
+
+-- a command without groups
+abbrev pub IsUngrouped : Command → Type 0
+IsUngrouped c = NamesNoGroup c × (groups_of c ≡ [])
+
+-- what a chain asks of each argument: it is in no group and not global, and its id is its own. It may exclude others.
+abbrev pub Joins : Arg → Type 0
+Joins a = (a.groups.items ≡ []) × (a.global ≡ false) × (a.id.now ≡ [] → ⊥) × (IsAuto a → ⊥)
+
+added_ungrouped : (old new : Command) (a : Arg) → AddsArg old a new → IsUngrouped old → a.groups.items ≡ []
+    → IsUngrouped new
+added_ungrouped old new a added none own = (
+  rw added.args (All-push (λ b. b.groups.items ≡ []) (args_of old) added.arg none.0 (added.rules.groups ∙ own)),
+  added.groups ∙ none.1,
+)
 
 -- nothing was read of an id, or a text of which Q holds, as the parser reads it
 abbrev pub MayRead : Found → List ℕ → (List ℕ → Type 0) → Reading → Type 0
@@ -119,7 +134,7 @@ found_read c f id Q how values no_groups named reads read = go (matched_of f id)
     go (Some x) e = step x e (entry_by_id (EntryPasses c) f.entries.items id x values e)
 
 -- an argument of the caller's is left out, or has a text that passed its parser, read as that parser says
-optional_reads : (old : Command) (m : ArgMatches) (p : IsParsedFrom old m) → IsPlain old
+optional_reads : (old : Command) (m : ArgMatches) (p : IsParsedFrom old m) → IsUngrouped old
     → (out-Command old).has_globals ≡ false
     → (k : ℕ) (d : Arg) → k < length (args_of old)
     → ((j : ℕ) (e : Arg) → j < length (args_of old)
@@ -129,11 +144,11 @@ optional_reads : (old : Command) (m : ArgMatches) (p : IsParsedFrom old m) → I
     → (q : ValueParser) → (slice_index_or (args_of old) k d).value_parser ≡ Some q
     → MayRead (found_of m) (slice_index_or (args_of old) k d).id.now
     (Accepts (slice_index_or (args_of old) k d).ignore_case q) (reading_of q)
-optional_reads old m p plain globals k d lt unique named own q parser =
+optional_reads old m p none globals k d lt unique named own q parser =
     let parsed = p.parsed (p.from.globals ∙ globals) in
     found_read p.built (found_of m) (slice_index_or (args_of old) k d).id.now
     (Accepts (slice_index_or (args_of old) k d).ignore_case q) (reading_of q)
-    parsed.values (p.from.plain plain).1 named
+    parsed.values ((p.from.same_groups none.0).1 ∙ none.1) named
     (only_reading old m p k d lt unique own q parser)
     (λ t pass. passes_read old m p k d lt unique own q parser t pass)
 
@@ -149,18 +164,18 @@ chain_places x y xs ys r rest zero e g lt = r
 chain_places x y xs ys r rest (suc n) e g lt = rest n e g (omega arith)
 
 -- what a chain of arguments keeps: the arguments that it adds, place by place, and a command of the same kind
-chain_facts : (c d : Command) (xs : List Arg) → AddsInTurn AddsArg c xs d → All FitsChain xs → IsPlain c
+chain_facts : (c d : Command) (xs : List Arg) → AddsInTurn AddsArg c xs d → All Joins xs → IsUngrouped c
     → (out-Command c).has_globals ≡ false
-    → (ys : List Arg) × (args_of d ≡ args_of c ++ ys) × KeepsList xs ys × IsPlain d
+    → (ys : List Arg) × (args_of d ≡ args_of c ++ ys) × KeepsList xs ys × IsUngrouped d
     × ((out-Command d).has_globals ≡ false)
-chain_facts c d [] h all plain globals =
-    ([], rw h (sym (append-nil _)), (refl, (λ k e f lt. absurd (omega arith))), rw (← h) plain, rw (← h) globals)
-chain_facts c d (x ∷ xs) h all plain globals =
+chain_facts c d [] h all none globals =
+    ([], rw h (sym (append-nil _)), (refl, (λ k e f lt. absurd (omega arith))), rw (← h) none, rw (← h) globals)
+chain_facts c d (x ∷ xs) h all none globals =
     let added = h.1 in
     let fit = all 0 x (omega arith) in
-    let plain2 = added_plain c h.0 x added plain fit.0 in
+    let none2 = added_ungrouped c h.0 x added none fit.0 in
     let globals2 = added.globals ∙ (ap (λ b. b || x.global) globals ∙ ap (λ b. false || b) fit.1) in
-    let f = chain_facts h.0 d xs h.2 (all_rest FitsChain x xs all) plain2 globals2 in (
+    let f = chain_facts h.0 d xs h.2 (all_rest Joins x xs all) none2 globals2 in (
       added.arg ∷ f.0,
       f.1 ∙ (ap (λ l. l ++ f.0) added.args ∙ append_assoc (args_of c) (added.arg ∷ []) f.0),
       (ap suc f.2.0, chain_places x added.arg xs f.0 added.rules f.2.1),
@@ -168,17 +183,18 @@ chain_facts c d (x ∷ xs) h all plain globals =
       f.4,
     )
 
--- an argument of a chain of `.arg(..)` calls, where nothing excludes anything and no two ids are one
+-- an argument of a chain of `.arg(..)` calls, where nothing is in a group and no two ids are one
 pub optional_in_chain : (start cmd : Command) (xs : List Arg) (k : ℕ) (d : Arg) (m : ArgMatches)
     → AddsInTurn AddsArg start xs cmd
-    → args_of start ≡ [] → groups_of start ≡ [] → (out-Command start).has_globals ≡ false → All FitsChain xs
+    → args_of start ≡ [] → groups_of start ≡ [] → (out-Command start).has_globals ≡ false → All Joins xs
     → HasDistinctIds xs → k < length xs
     → (q : ValueParser) → (slice_index_or xs k d).value_parser ≡ Some q → IsParsedFrom cmd m
     → MayRead (found_of m) (slice_index_or xs k d).id.now (Accepts (slice_index_or xs k d).ignore_case q)
     (reading_of q)
 optional_in_chain start cmd xs k d m chain args groups globals all distinct lt q parser p =
-    let start-plain : IsPlain start = (subst (All IsPlainArg) (sym args) (All-nil IsPlainArg), groups) in
-    let f = chain_facts start cmd xs chain all start-plain globals in
+    let start-none : IsUngrouped start =
+    (subst (All (λ b. b.groups.items ≡ [])) (sym args) (All-nil (λ b. b.groups.items ≡ [])), groups) in
+    let f = chain_facts start cmd xs chain all start-none globals in
     let list : args_of cmd ≡ f.0 = f.1 ∙ ap (λ l. l ++ f.0) args in
     let a = slice_index_or xs k d in
     let b = slice_index_or (args_of cmd) k d in

@@ -1,5 +1,5 @@
 -- The arguments of the command line, as `clap` keeps them.
-use Rattle.std.specs.Prelude.{◌≡◌, ℕ, List, [], false, Some, pos}
+use Rattle.std.specs.Prelude.{◌≡◌, ℕ, List, [], true, false, Some, pos}
 use Rattle.clap.specs.Facts.{args_of, groups_of}
 use Rattle.clap.specs.Built.{IsPlainArg}
 use Rattle.clap.specs.declared.builder.arg.Arg.{Arg}
@@ -10,6 +10,10 @@ use Rattle.clap.specs.declared.builder.value_parser.ValueParser.TheVariants.{Sig
 -- the argument has this name, excludes no other and is in no group
 abbrev pub IsPlainNamed : List ℕ → Arg → Type 0
 IsPlainNamed name a = (a.id.now ≡ name) × IsPlainArg a × (a.global ≡ false)
+
+-- the argument has this name, stands alone and is in no group
+abbrev pub IsAloneNamed : List ℕ → Arg → Type 0
+IsAloneNamed name a = (a.id.now ≡ name) × (a.exclusive ≡ true) × (a.groups.items ≡ []) × (a.global ≡ false)
 
 -- its value is a number from `low` to `high`
 abbrev pub TakesNumber : ℕ → ℕ → Arg → Type 0

@@ -1,5 +1,7 @@
 -- The ranges of the command line's numbers.
-use Rattle.std.specs.Prelude.{ℕ, ◌≤◌, IfSome}
+use Rattle.std.specs.Prelude.{ℕ, ◌≤◌, IfSome, ⊤}
+use Rattle.play.specs.declared.words.Asked.{Asked}
+use Rattle.play.specs.declared.words.Asked.TheVariants.{Explain, Play}
 use Rattle.play.specs.declared.words.Words.{Words}
 
 -- the units of fuel that a turn may spend, at least and at most
@@ -18,3 +20,8 @@ pub record IsInRange (words : Words) : Type 0 where
   pub least : least_fuel ≤ words.fuel
   pub most : words.fuel ≤ most_fuel
   pub undo : IfSome words.keep (λ turns. turns ≤ most_undo)
+
+-- where a story is to be played
+abbrev pub IsAskedInRange : Asked → Type 0
+IsAskedInRange (Explain _) = ⊤
+IsAskedInRange (Play words) = IsInRange words

@@ -1,4 +1,4 @@
-//! Plays a story file.
+//! Plays a story file, and explains what the player answers.
 #![tactic(auto)]
 
 mod filling;
@@ -10,8 +10,9 @@ ghost use Rattle.play.specs.Range.{IsInRange};
 
 use crate::name::Name;
 use crate::reading::read_story;
-use crate::words::{Words, words_of};
-use session::{Session, run, status};
+use crate::words::{Asked, Words, words_of};
+use explanations::Program;
+use session::{RunFault, Session, run, status};
 use std::fmt::Display;
 use std::fs::File;
 use std::process::ExitCode;
@@ -19,6 +20,9 @@ use std::{env, io, mem};
 
 /// The exit status where the story cannot be played.
 const REFUSED: u8 = 1;
+
+/// The exit status where an answer is to be explained that is none.
+const UNKNOWN: u8 = 2;
 
 /// The exit status where reading or writing failed.
 const BROKEN: u8 = 5;
@@ -33,7 +37,8 @@ fn main(rt: HostRuntime) -> ExitCode {
         Err(_) => return refuse(&rt, "cannot read the command line"),
     };
     match words_of(alloc, given.as_slice()) {
-        Ok(words) => play(&rt, words),
+        Ok(Asked::Play(words)) => play(&rt, words),
+        Ok(Asked::Explain(name)) => explain(&rt, name),
         Err(error) => {
             let status = if error.use_stderr() { REFUSED } else { 0 };
             match error.print(&rt) {
@@ -48,6 +53,31 @@ fn main(rt: HostRuntime) -> ExitCode {
 fn refuse<W: Display + Drop>(rt: &HostRuntime, why: W) -> ExitCode {
     let _ = eprintln!(rt; "play: {why}");
     ExitCode::from(REFUSED)
+}
+
+/// Prints the explanation of an answer, or the names of all answers with their titles.
+fn explain(rt: &HostRuntime, name: Option<&str>) -> ExitCode {
+    let printed = match name {
+        None => rt.print(Program::Play.titles()),
+        Some(name) => match Program::Play.explanation(name) {
+            Some(explanation) => rt.print(explanation),
+            None => {
+                let name = Name(name);
+                let _ = eprintln!(rt; "play: no answer is named {name}: --explain lists all");
+                return ExitCode::from(UNKNOWN);
+            }
+        },
+    };
+    match printed {
+        Ok(()) => ExitCode::SUCCESS,
+        Err(_) => broken(rt, RunFault::Writing),
+    }
+}
+
+/// Says on standard error what failed.
+fn broken(rt: &HostRuntime, fault: RunFault) -> ExitCode {
+    let _ = eprintln!(rt; "play: {fault}");
+    ExitCode::from(BROKEN)
 }
 
 /// The story in a file of this name.
@@ -72,9 +102,6 @@ fn play(rt: &HostRuntime, words: Words<'_>) -> ExitCode
     mem::forget(session);
     match ran {
         Ok(place) => ExitCode::from(status(&place)),
-        Err(fault) => {
-            let _ = eprintln!(rt; "play: {fault}");
-            ExitCode::from(BROKEN)
-        }
+        Err(fault) => broken(rt, fault),
     }
 }

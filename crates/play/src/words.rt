@@ -1,8 +1,8 @@
 //! The words of the command line.
 
 ghost use Rattle.std.specs.Prelude.{IfOk, codes};
-ghost use Rattle.play.specs.Range.{IsInRange, least_fuel, most_fuel, most_undo};
-ghost use Rattle.play.specs.Arguments.{HasNoArgument, IsPlainNamed, TakesNumber};
+ghost use Rattle.play.specs.Range.{IsAskedInRange, least_fuel, most_fuel, most_undo};
+ghost use Rattle.play.specs.Arguments.{HasNoArgument, IsAloneNamed, IsPlainNamed, TakesNumber};
 
 use clap::{Arg, ArgAction, Command, Error, value_parser};
 use std::alloc::Global;
@@ -17,6 +17,16 @@ The player, with its limits and machine faults: docs/MACHINE.md
 The story file, with the causes Z4 to Z8 for which one is refused: docs/STORY_FILE.md";
 
 /// What the command line asks for.
+#[derive(Clone, Copy)]
+pub enum Asked<'a> {
+    /// To explain the answer of this name, or else to list all answers.
+    Explain(Option<&'a str>),
+
+    /// To play a story.
+    Play(Words<'a>),
+}
+
+/// What is played, and how.
 #[derive(Clone, Copy)]
 pub struct Words<'a> {
     /// The story file's name.
@@ -55,6 +65,19 @@ fn undo_argument<'a>(alloc: Global) -> Arg<'a>
         .value_parser(value_parser!(u32).range(0..=100_000))
 }
 
+/// The answer that is to be explained, beside which nothing else is asked for.
+fn explain_argument<'a>(alloc: Global) -> Arg<'a>
+    ensures { IsAloneNamed (codes "explain") result }
+{
+    Arg::new(alloc, "explain")
+        .long("explain")
+        .value_name("NAME")
+        .help("Explain the answer of this name, as Z7, or list all answers; nothing is played")
+        .num_args(0..=1)
+        .exclusive(true)
+        .action(ArgAction::Set)
+}
+
 /// The story file's name.
 fn story_argument<'a>(alloc: Global) -> Arg<'a>
     ensures { IsPlainNamed (codes "story") result }
@@ -82,19 +105,23 @@ fn program<'a>(alloc: Global) -> Command<'a>
 ///
 /// What `clap` says of words that it refuses, and of those that ask for help or for the version; or
 /// that memory was refused.
-pub fn words_of<'a>(alloc: Global, given: &'a [String]) -> Result<Words<'a>, Error>
-    ensures { IfOk result IsInRange }
+pub fn words_of<'a>(alloc: Global, given: &'a [String]) -> Result<Asked<'a>, Error>
+    ensures { IfOk result IsAskedInRange }
 {
     let command = program(alloc)
         .arg(fuel_argument(alloc))?
         .arg(undo_argument(alloc))?
+        .arg(explain_argument(alloc))?
         .arg(story_argument(alloc))?;
     let matches = command.try_get_matches_from(given)?;
+    if matches.contains_id("explain") {
+        return Ok(Asked::Explain(matches.get_str("explain")));
+    }
     let fuel = matches.get_one::<u32>("fuel");
     let keep = matches.get_one::<u32>("undo");
-    Ok(Words {
+    Ok(Asked::Play(Words {
         story: matches.get_str("story").unwrap_or(""),
         fuel: fuel.unwrap_or(FUEL),
         keep,
-    })
+    }))
 }

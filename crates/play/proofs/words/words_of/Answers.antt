@@ -2,15 +2,15 @@ use Rattle.std.proofs.Common.{◌≡◌, ◌≤◌, sym, subst, ℕ, List, [], �
 use Rattle.std.specs.Prelude.{Option, Some, None, pos, IfSome}
 use Rattle.std.specs.List.{All}
 use Rattle.std.specs.Str.Parse.{ParsesUnsigned, ExplainsUnsignedError, HasUnsignedDigitsIfOk}
-use Rattle.clap.specs.Built.{AddsArg, AddsInTurn, FitsChain}
+use Rattle.clap.specs.Built.{AddsArg, AddsInTurn}
 use Rattle.clap.specs.Matches.{found_of}
 use Rattle.clap.specs.Values.{Accepts, reading_of}
 use Rattle.clap.specs.declared.builder.arg.Arg.{Arg}
 use Rattle.clap.specs.declared.builder.value_parser.ValueParser.{ValueParser}
 use Rattle.clap.specs.declared.builder.value_parser.ValueParser.TheVariants.{Signed}
 use Rattle.play.specs.Range.{least_fuel, most_fuel, most_undo}
-use Rattle.play.proofs.Chains.{fits_chain, all_three, three_ids}
-use Rattle.play.proofs.Optional.{MayRead, optional_in_chain, number_read, number_or}
+use Rattle.play.proofs.Chains.{joins, all_four, four_ids}
+use Rattle.play.proofs.Optional.{Joins, MayRead, optional_in_chain, number_read, number_or}
 use Rattle.play.proofs.words.words_of.Goals as goal
 
 at_most : (high : ℕ) (o : Option ℕ) → IfSome o (λ n. (0 ≤ n) × (n ≤ high)) → IfSome o (λ n. n ≤ high)
@@ -22,35 +22,45 @@ returns c =
     let found = found_of c.in_ok-matches.matches in
     let f : Arg = c.fuel_argument.result in
     let u : Arg = c.undo_argument.result in
+    let e : Arg = c.explain_argument.result in
     let s : Arg = c.story_argument.result in
     let f_plain = c.fuel_argument.ensures.plain in
     let u_plain = c.undo_argument.ensures.plain in
+    let e_alone = c.explain_argument.ensures in
     let s_plain = c.story_argument.ensures in
-    let fit : All FitsChain (f ∷ u ∷ s ∷ []) = all_three FitsChain f u s
-    (fits_chain f 102 (codes "uel") f_plain.1 f_plain.2 f_plain.0 (λ e. absurd (omega arith))
+    let join : All Joins (f ∷ u ∷ e ∷ s ∷ []) = all_four Joins f u e s
+    (joins f 102 (codes "uel") f_plain.1.3 f_plain.2 f_plain.0 (λ e. absurd (omega arith)) (λ e. absurd (omega arith)))
+    (joins u 117 (codes "ndo") u_plain.1.3 u_plain.2 u_plain.0 (λ e. absurd (omega arith)) (λ e. absurd (omega arith)))
+    (joins e 101 (codes "xplain") e_alone.2 e_alone.3 e_alone.0 (λ e. absurd (omega arith))
     (λ e. absurd (omega arith)))
-    (fits_chain u 117 (codes "ndo") u_plain.1 u_plain.2 u_plain.0 (λ e. absurd (omega arith))
-    (λ e. absurd (omega arith)))
-    (fits_chain s 115 (codes "tory") s_plain.1 s_plain.2 s_plain.0 (λ e. absurd (omega arith))
+    (joins s 115 (codes "tory") s_plain.1.3 s_plain.2 s_plain.0 (λ e. absurd (omega arith))
     (λ e. absurd (omega arith))) in
-    let chain : AddsInTurn AddsArg c.program.result (f ∷ u ∷ s ∷ []) c.in_ok-command.command = (
+    let chain : AddsInTurn AddsArg c.program.result (f ∷ u ∷ e ∷ s ∷ []) c.in_ok-command.command = (
       c.in_ok-arg.field-0,
       c.in_ok-arg.ensures,
-      (c.in_ok-arg-2.field-0, c.in_ok-arg-2.ensures, (c.in_ok-command.command, c.in_ok-command.ensures, refl)),
+      (
+        c.in_ok-arg-2.field-0,
+        c.in_ok-arg-2.ensures,
+        (
+          c.in_ok-arg-3.field-0,
+          c.in_ok-arg-3.ensures,
+          (c.in_ok-command.command, c.in_ok-command.ensures, refl),
+        ),
+      ),
     ) in
     let start = c.program.ensures in
-    let ids = three_ids f u s f_plain.0 u_plain.0 s_plain.0 in
+    let ids = four_ids f u e s f_plain.0 u_plain.0 e_alone.0 s_plain.0 in
     let f_range : ValueParser = Signed (pos least_fuel) (pos most_fuel) in
     let u_range : ValueParser = Signed (pos 0) (pos most_undo) in
     let f_may : MayRead found (codes "fuel") (Accepts f.ignore_case f_range) (reading_of f_range) =
     subst (λ id. MayRead found id (Accepts f.ignore_case f_range) (reading_of f_range)) f_plain.0
-    (optional_in_chain c.program.result c.in_ok-command.command (f ∷ u ∷ s ∷ []) 0 f c.in_ok-matches.matches chain
-    start.0 start.1 start.2 fit ids (omega arith) f_range c.fuel_argument.ensures.number
+    (optional_in_chain c.program.result c.in_ok-command.command (f ∷ u ∷ e ∷ s ∷ []) 0 f c.in_ok-matches.matches chain
+    start.0 start.1 start.2 join ids (omega arith) f_range c.fuel_argument.ensures.number
     c.in_ok-matches.ensures.parsed) in
     let u_may : MayRead found (codes "undo") (Accepts u.ignore_case u_range) (reading_of u_range) =
     subst (λ id. MayRead found id (Accepts u.ignore_case u_range) (reading_of u_range)) u_plain.0
-    (optional_in_chain c.program.result c.in_ok-command.command (f ∷ u ∷ s ∷ []) 1 u c.in_ok-matches.matches chain
-    start.0 start.1 start.2 fit ids (omega arith) u_range c.undo_argument.ensures.number
+    (optional_in_chain c.program.result c.in_ok-command.command (f ∷ u ∷ e ∷ s ∷ []) 1 u c.in_ok-matches.matches chain
+    start.0 start.1 start.2 join ids (omega arith) u_range c.undo_argument.ensures.number
     c.in_ok-matches.ensures.parsed) in
     let fuel : IfSome c.get_one-fuel.result (λ n. (least_fuel ≤ n) × (n ≤ most_fuel)) =
     number_read _ (λ bs r. ParsesUnsigned 32 10 bs r × ExplainsUnsignedError 10 bs r × HasUnsignedDigitsIfOk bs r) 32

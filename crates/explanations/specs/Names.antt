@@ -1,0 +1,11 @@
+-- By which names an explanation is found.
+use Rattle.std.specs.Prelude.{◌≡◌, ℕ, Bool, true, List}
+use Rattle.std.specs.Str.{str_eq_ignore_ascii_case}
+use Rattle.explanations.specs.declared.explanation.Explanation.{Explanation}
+
+-- the explanation has this name, in capital or in small letters
+abbrev pub is_named : List ℕ → Explanation → Bool
+is_named name explanation = str_eq_ignore_ascii_case explanation.name.now name
+
+abbrev pub IsNamed : List ℕ → Explanation → Type 0
+IsNamed name explanation = is_named name explanation ≡ true
