@@ -55,10 +55,6 @@ led_after story a p full before mid s t w stack.stuck l led = tt
 
 -- A call's instruction
 
-abbrev call_several : Destination → Operation × Operation × Operation
-call_several items.nowhere = (operations.Call1n, operations.CallVn, operations.CallVn2)
-call_several d = (operations.Call1s, operations.CallVs, operations.CallVs2)
-
 -- by how many arguments an operation is chosen
 pub record CallOf (routine : ℕ) (os : List items.Operand) (d : Destination) (vs : List ℕ) : Type 0 where
   pub shaped : Shaped (calling routine os d)

@@ -63,9 +63,6 @@ module _ (c : Running) where
   pub scratch_in : (fuel : ℕ) (memory : List ℕ) → Scratch c memory → Scratch (refuel fuel) memory
   scratch_in fuel memory s = record { ground = s.ground; stored = s.stored; kept = s.kept }
 
-  pub scratch_out : (fuel : ℕ) (memory : List ℕ) → Scratch (refuel fuel) memory → Scratch c memory
-  scratch_out fuel memory s = record { ground = s.ground; stored = s.stored; kept = s.kept }
-
   -- The instructions of the loop, behind the one that sets its variable
 
   abbrev same_test : Instruction

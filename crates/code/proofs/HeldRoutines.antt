@@ -1,9 +1,9 @@
 -- What holds of the routines of a program that stands in a story: their locals, and where their code stands.
-use Rattle.std.proofs.Common.{◌≡◌, ℕ, zero, suc, ◌+◌, ◌-◌, ◌*◌, ◌^◌, ◌<◌, ◌≤◌, List, [], ◌∷◌, length, drop, slice_index}
+use Rattle.std.proofs.Common.{◌≡◌, ℕ, zero, suc, ◌+◌, ◌-◌, ◌*◌, ◌^◌, ◌<◌, ◌≤◌, List, [], ◌∷◌, length, slice_index}
 use Rattle.std.proofs.Common.{Bool, true, false, refl, sym, ap, ◌∙◌, subst, arith}
 use Rattle.std.specs.Prelude.{nat_eq, if◌then◌else◌, slice_index_or}
 use Rattle.std.specs.List.{All}
-use Rattle.std.proofs.lemmas.List.{length-reverse, get_or-drop}
+use Rattle.std.proofs.lemmas.List.{length-reverse}
 use Rattle.zcore.specs.Header.{globals_of, static_base_of}
 use Rattle.zcore.specs.State.{words}
 use Rattle.meaning.specs.Resolved.{RoutineOf, ProgramOf}
@@ -44,17 +44,6 @@ module _ (story : List ℕ) (a : Addresses) (p : ProgramOf) (accepted : IsAccept
         let here : IsCaller story a p c = all 0 c (omega arith) in
         let rest = caller_words cs (other_counts counts) (λ k d h. all (suc k) d (omega (arith, h))) in
         omega (arith, rest, here.room, here.locals, few_locals c.routine here.known, length-reverse c.stack)
-
-    -- bytes from static memory on are below 256
-    pub byte_small : (m : List ℕ) (x : ℕ) → drop (static_base_of story) m ≡ drop (static_base_of story) story
-        → static_base_of story ≤ x → x < length story → slice_index m x < 256
-    byte_small m x kept high within =
-        let e : static_base_of story + (x - static_base_of story) ≡ x = omega (arith, high) in
-        let same : slice_index m x ≡ slice_index story x =
-        ap (slice_index m) (sym e) ∙ sym (get_or-drop (static_base_of story) m (x - static_base_of story) 0)
-        ∙ ap (λ bs. slice_index bs (x - static_base_of story)) kept
-        ∙ get_or-drop (static_base_of story) story (x - static_base_of story) 0 ∙ ap (slice_index story) e in
-        omega (arith, same, holds.byte_each x 0 within)
 
     -- where the code of a routine stands
     pub address_high : (r n : ℕ) → r < length p.routines → static_base_of story ≤ address story a p r n

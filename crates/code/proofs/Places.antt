@@ -253,6 +253,3 @@ pub offset_leads : (base after target : ℕ) → after < target + 32100 → targ
     → jump_target (base + after) (jump_offset after target) ≡ base + target
 offset_leads base after target back ahead =
     leads_by base after target (jump_offset after target) (cases_lt (jump_offset after target) 32768) refl back ahead
-
-pub offset_small : (after target : ℕ) → jump_offset after target < 65536
-offset_small after target = omega arith

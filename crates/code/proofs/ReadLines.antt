@@ -29,7 +29,7 @@ use Rattle.code.proofs.Behind.{Holds, holds_on}
 use Rattle.code.proofs.Play.{Stored, Good, next_of, state_of, none_chosen, PlaysAs}
 use Rattle.code.proofs.Memory.{with_variable, stored_temporary}
 use Rattle.code.proofs.Regions.{KeepsOutside}
-use Rattle.code.proofs.StoredEntries.{high_kept, Inside, entry_inside, entry_keeps, stored_entry, sizes_kept}
+use Rattle.code.proofs.StoredEntries.{high_kept, Inside, entry_inside, entry_keeps, stored_entry}
 use Rattle.code.proofs.StoredLines.{line_sizes, text_passes, parse_passes, memory_with_line, stored_line}
 use Rattle.code.proofs.Alike.{cleared, letters_cleared, words_cleared, line_cleared}
 use Rattle.code.proofs.Parts.{machine as at_words, global_writes}
@@ -91,9 +91,6 @@ module _ (c : Running) where
     keeps0 : KeepsOutside stored.regions.first (defaults_of story) other memory0
     keeps0 = entry_keeps story a p world.globals world.arrays world.objects other stored t text_there widths.Byte 1 0
         index
-
-    sizes0 : map length arrays0 ≡ map length world.arrays
-    sizes0 = sizes_kept story a p world.globals world.arrays world.objects other stored t text_there widths.Byte 1 0
 
     lies : Inside story a p world.globals world.arrays world.objects other stored t text_there (place_in c t + 1)
         (place_in c t + 1)

@@ -15,15 +15,15 @@ use Rattle.zcore.specs.State as state
 use Rattle.zcore.specs.Parts as parts
 use Rattle.zcore.specs.Parts.{test_pull, operand_value, operand_values, test_target, go, branch_on}
 use Rattle.zcore.specs.Execution as machine
-use Rattle.zcore.specs.Execution.{give_result, load, increment, decrement, push_word, jump, perform, step}
-use Rattle.code_encoding.specs.Instructions.{plain, giving, branching, push, pull, copy}
+use Rattle.zcore.specs.Execution.{load, increment, decrement, push_word, jump, perform, step}
+use Rattle.code_encoding.specs.Instructions.{plain, branching, push, pull, copy}
 use Rattle.code_instructions.specs.Instructions.{flag}
 use Rattle.code.proofs.Behind.{Holds}
 use Rattle.code.proofs.Play.{Leads, moves}
 use Rattle.code.proofs.Parts.{Around, machine as at_words, pushes, pops, tops, writes_top, can_pull_top, Writes}
 use Rattle.code.proofs.Parts.{ReadsVariable}
 use Rattle.code.proofs.Steps.{point, one_step, first_held, others_held, step_is, fits_one, one_operand, small_value}
-use Rattle.code.proofs.Steps.{large_value, reads_in_place, writes_in_place, named_variable, gives_top, gives_variable}
+use Rattle.code.proofs.Steps.{large_value, reads_in_place, writes_in_place, named_variable, gives_variable}
 use Rattle.code.proofs.Steps.{landing, branches}
 
 module _ (e : Around) (fuel : ℕ) where
@@ -169,20 +169,6 @@ module _ (e : Around) (fuel : ℕ) where
       ) refl
 
   -- Results that are pushed
-
-  pub result_step : (m l s s1 t : List ℕ) (q w : ℕ) (op : Operation) (operands : List Operand) (values : List ℕ)
-      → IsEncodable (giving op operands 0)
-      → operand_values operands (at_words e m l s t) ≡ done values (at_words e m l s1 t)
-      → ((here : Next) (after : ℕ) (st : State)
-      → perform op here after (Some 0) None values st ≡ give_result here after (Some 0) w st)
-      → length l + length s1 + state.words e.others < 65536
-      → Holds m q (bytes_of (giving op operands 0))
-      → step (point q fuel) (at_words e m l s t) ≡ done (point (q + length (bytes_of (giving op operands 0))) fuel)
-      (at_words e m l (w ∷ s1) t)
-  result_step m l s s1 t q w op operands values fits v is room h =
-      let n = q + length (bytes_of (giving op operands 0)) in
-      step_is (point q fuel) (at_words e m l s t) (at_words e m l s1 t) (giving op operands 0) values fits h v
-      ∙ is (point q fuel) n (at_words e m l s1 t) ∙ gives_top (point q fuel) n w e m l s1 t room
 
   -- Branches ahead
 

@@ -82,10 +82,6 @@ fits_one o f = fits_more o [] f fits_none
 pub fits_two : (o o1 : Operand) → FitsOperand o → FitsOperand o1 → All FitsOperand (o ∷ o1 ∷ [])
 fits_two o o1 f f1 = fits_more o (o1 ∷ []) f (fits_one o1 f1)
 
-pub fits_three : (o o1 o2 : Operand) → FitsOperand o → FitsOperand o1 → FitsOperand o2
-    → All FitsOperand (o ∷ o1 ∷ o2 ∷ [])
-fits_three o o1 o2 f f1 f2 = fits_more o (o1 ∷ o2 ∷ []) f (fits_two o1 o2 f1 f2)
-
 -- Operands
 
 pub no_operand : (s : State) → operand_values [] s ≡ done [] s

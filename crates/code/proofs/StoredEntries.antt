@@ -47,12 +47,6 @@ index_below width bytes i is =
     let both = and_parts (nat_lt i 32768) (nat_lt i (entry_count width bytes)) is in
     (ltb-true _ _ both.0, ltb-true _ _ both.1)
 
--- an entry of the size of its array lies within it
-entry_within : (width : Width) (bytes : List ℕ) (i : ℕ) → i < entry_count width bytes
-    → last_byte width (entry_address width 0 i) < length bytes
-entry_within widths.Byte bytes i h = omega (arith, h)
-entry_within widths.Word bytes i h = omega (arith, h)
-
 with_length : (width : Width) (bytes : List ℕ) (i v : ℕ) → length (with_entry width bytes i v) ≡ length bytes
 with_length widths.Byte bytes i v = length-set bytes i (v % 256)
 with_length widths.Word bytes i v = length_with bytes (2 * i) v

@@ -11,7 +11,7 @@ use Rattle.zcore.specs.State.{State}
 use Rattle.zcore.specs.Turn.{Whole, turn_from, opening, entries, plays, first_next, first_state, last_text}
 use Rattle.zcore.proofs.Turning.{turns_is}
 use Rattle.machine_frames.specs.Contents.{Contents, memory_of}
-use Rattle.machine_frames.specs.Playing.{IsWaiting, IsOpening, Opens, whole_of}
+use Rattle.machine_frames.specs.Playing.{IsWaiting, Opens, whole_of}
 use Rattle.machine_frames.specs.States.{state_of, IsStoreOf}
 use Rattle.session.specs.declared.turns.Turn.{Turn}
 use Rattle.session.specs.Times.{all_cells}
@@ -90,7 +90,3 @@ session_opened story units keep header old new first turns text words given_up n
     (sym none)
     (opened_by story units keep header new first words given_up turn
     (o.headed.static_base ∙ ap static_base_of memory))
-
--- a loaded store begins its story
-pub loaded_opening : (story : List ℕ) (s : Contents) → state_of s [] ≡ first_state story → IsOpening s
-loaded_opening story s e = record { first = e ∙ ap first_state (sym (ap (λ (t : State). t.memory) e)) }

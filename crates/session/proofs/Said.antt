@@ -1,21 +1,18 @@
 -- What a run's contract says where the reader and the writer tell their bytes.
 use Rattle.std.proofs.Common.{Option, None, Some, ◌≡◌, ℕ, false, List, [], ◌∷◌, ◌++◌, map, refl, ap, sym, ◌∙◌, subst}
-use Rattle.std.proofs.Common.{append_assoc, append-nil, Result, Ok, Err}
-use Rattle.std.proofs.lemmas.List.{map-append}
+use Rattle.std.proofs.Common.{append-nil, Result, Ok, Err}
 use Rattle.std.specs.Io.KnownBytes.{Appends, Consumes, IsAtEnd}
 use Rattle.zcore.specs.declared.place.Place.{Place}
 use Rattle.session.specs.Input.{lines_of}
-use Rattle.session.specs.Game.{telling_of, Game, Telling, text_on, place_on}
+use Rattle.session.specs.Game.{telling_of, Game, Telling, place_on}
 use Rattle.session.specs.Standing.{Standing, nothing}
-use Rattle.session.specs.Transcript.{Typed, lines_typed, Answer, answer, answer_of, replies, replies_of, after}
+use Rattle.session.specs.Transcript.{Typed, lines_typed, Answer, answer_of, replies_of, after}
 use Rattle.session.specs.Transcript.{standing_after, transcript, transcript_of}
 use Rattle.session.specs.declared.fault.RunFault.{RunFault}
 use Rattle.session.specs.declared.fault.RunFault.TheVariants.{Reading, Writing}
 use Rattle.session.specs.Wrote.{WroteSome}
-use Rattle.session.specs.Ran.{Streams, Played, RanWhole, RanToRead, LinesRead, BrokeInReply, RanToWrite, in_opening}
+use Rattle.session.specs.Ran.{Streams, Played, RanWhole, RanToRead, LinesRead, RanToWrite, in_opening}
 use Rattle.session.specs.Ran.{in_reply, Ran}
-use Rattle.session.proofs.Chaining.{replies-append}
-use Rattle.session.proofs.Going.{streams}
 
 -- the input of a run without a fault is all that the reader had
 pub input_known : (xs input : List ℕ) (r' : Option (List ℕ)) → Consumes (Some xs) r' input → IsAtEnd r' → input ≡ xs
@@ -29,17 +26,6 @@ pub record Told (game : Game) (input before later : List ℕ) (P : Standing → 
   pub wrote : later ≡ before ++ written
   pub played : Played (telling_of game) game.keep (lines_of input) written (λ s. P s × (p ≡ place_on game s.done))
 
-pub whole_told : (game : Game) (xs before later : List ℕ) (r' : Option (List ℕ)) (P : Standing → Type 0) (p : Place)
-    → RanWhole (telling_of game) game.keep (streams (Some xs) r' (Some before) (Some later)) P p
-    → Told game xs before later P p
-whole_told game xs before later r' P p h = record {
-  written = h.written;
-  wrote = h.wrote;
-  played = subst
-      (λ x. Played (telling_of game) game.keep (lines_of x) h.written (λ s. P s × (p ≡ place_on game s.done)))
-      (input_known xs h.input r' h.took h.ended) h.played;
-}
-
 lines_unmarked : (ls : List (List ℕ)) → lines_typed (map (λ l. record { line = l; refused = false }) ls) ≡ ls
 lines_unmarked [] = refl
 lines_unmarked (l ∷ ls) = ap (λ t. l ∷ t) (lines_unmarked ls)
@@ -50,27 +36,6 @@ pub record Begins (game : Game) (r' : Option (List ℕ)) (input written : List �
   pub rest : List ℕ
   pub said : LinesRead r' input (lines_typed typed)
   pub begins : written ++ rest ≡ transcript game typed
-
-pub broke_begins : (game : Game) (r r' w w' : Option (List ℕ)) (P : Standing → Type 0)
-    → (h : BrokeInReply (telling_of game) game.keep (streams r r' w w') P)
-    → Begins game r' h.input (transcript game h.typed ++ h.part)
-broke_begins game r r' w w' P h =
-    let more : List Typed = map (λ l. record { line = l; refused = false }) h.more in
-    let t : Standing = after game nothing h.typed in
-    let tail = replies game (answer game t h.last).standing more in
-    record {
-      typed = h.typed ++ h.last ∷ more;
-      rest = h.rest ++ tail;
-      said = subst (LinesRead r' h.input)
-          (sym (map-append (λ (x : Typed). x.line) h.typed (h.last ∷ more)
-          ∙ ap (λ l. lines_typed h.typed ++ h.last.line ∷ l) (lines_unmarked h.more))) h.said;
-      begins =
-          append_assoc (transcript game h.typed) h.part (h.rest ++ tail)
-          ∙ ap (λ l. transcript game h.typed ++ l)
-          (sym (append_assoc h.part h.rest tail) ∙ ap (λ l. l ++ tail) h.whole)
-          ∙ append_assoc (text_on game []) (replies game nothing h.typed) ((answer game t h.last).reply ++ tail)
-          ∙ ap (λ l. text_on game [] ++ l) (sym (replies-append game nothing h.typed (h.last ∷ more)));
-    }
 
 -- ---- two tellings that say the same have one transcript, and leave the same lines standing
 

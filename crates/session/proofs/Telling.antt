@@ -1,14 +1,11 @@
 -- Steps of writing a text.
-use Rattle.std.proofs.Common.{◌≡◌, ℕ, ◌-◌, Option, List, [], ◌++◌, length, take, drop, refl, ap, sym, ◌∙◌, subst}
-use Rattle.std.proofs.Common.{append_assoc, append-nil, take-append-drop, Result, Ok, Err}
+use Rattle.std.proofs.Common.{◌≡◌, ℕ, ◌-◌, Option, List, ◌++◌, length, take, drop, ap, sym, ◌∙◌, subst}
+use Rattle.std.proofs.Common.{append_assoc, take-append-drop, Result, Ok, Err}
 use Rattle.std.proofs.Math.Seq.{take-length}
 use Rattle.std.proofs.lemmas.List.{length-drop}
-use Rattle.std.specs.Io.KnownBytes.{Appends, Keeps}
-use Rattle.std.proofs.KnownBytes.{Appends-nil, Appends-trans, Appends-kept}
+use Rattle.std.specs.Io.KnownBytes.{Appends}
+use Rattle.std.proofs.KnownBytes.{Appends-trans}
 use Rattle.session.specs.Wrote.{Written, WroteSome, Wrote}
-
-pub written_start : (a : Option (List ℕ)) (text : List ℕ) → Written a a text text
-written_start a text = record { part = []; whole = refl; wrote = Appends-nil a }
 
 pub written_more : {a b c : Option (List ℕ)} {text rest : List ℕ} (n : ℕ) → Written a b text rest
     → Appends b c (take n rest) → Written a c text (drop n rest)
@@ -17,15 +14,6 @@ written_more {a} {b} {c} {text} {rest} n h p = record {
   whole = append_assoc h.part (take n rest) (drop n rest) ∙ ap (λ x. h.part ++ x) (take-append-drop n rest) ∙ h.whole;
   wrote = Appends-trans a b c h.part (take n rest) h.wrote p;
 }
-
-pub written_end : {a b : Option (List ℕ)} {text rest : List ℕ} → rest ≡ [] → Written a b text rest → Appends a b text
-written_end {a} {b} {text} {rest} e h = subst (Appends a b)
-    (sym (append-nil h.part) ∙ ap (λ x. h.part ++ x) (sym e) ∙ h.whole) h.wrote
-
-pub written_broke : {a b c : Option (List ℕ)} {text rest : List ℕ} → Keeps b c → Written a b text rest
-    → WroteSome a c text
-written_broke {a} {b} {c} {text} {rest} k h =
-    record { part = h.part; rest = rest; whole = h.whole; wrote = Appends-kept a b c h.part h.wrote k }
 
 pub written_on : {a b c : Option (List ℕ)} {text rest : List ℕ} (n : ℕ) → Written a b text rest
     → Appends b c (take n rest) → Written a c text (take (length rest - n) (drop n rest))

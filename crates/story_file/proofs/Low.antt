@@ -9,15 +9,13 @@ use Rattle.ztext.specs.Bytes.{word_at}
 use Rattle.ztext.specs.Text.{Holds, encoded}
 use Rattle.ztext.specs.Words.{packed}
 use Rattle.ztext.specs.Abbreviations.{abbreviation_at}
-use Rattle.zcore.specs.declared.header.Version.{Version}
 use Rattle.zcore.specs.Instruction.{bytes_of}
-use Rattle.meaning.specs.declared.places.Places.{Places}
 use Rattle.meaning.specs.Places.{arrays_place, defaults_place, dictionary_place, start_place, routines_place}
 use Rattle.meaning.specs.Places.{objects_size, dictionary_end, filling_before, texts_place, abbreviations_size}
 use Rattle.meaning.specs.Resolved.{ProgramOf}
 use Rattle.code.specs.HeldProgram.{start_code}
 use Rattle.story_file.specs.Layout.{word, abbreviation_bytes, global_bytes, object_bytes, dictionary_bytes, low_bytes}
-use Rattle.story_file.specs.Layout.{abbreviation_texts, text_places, header_of}
+use Rattle.story_file.specs.Layout.{abbreviation_texts, text_places}
 use Rattle.story_file.specs.Written.{half}
 use Rattle.story_file.proofs.Parts.{behind_at, holds_first}
 use Rattle.story_file.proofs.Entries.{dictionary_length}
@@ -59,9 +57,6 @@ word_behind at k story rest e =
     ∙ ap (λ x. slice_index rest k * 256 + x) (byte_behind at (k + 1) story rest e)
 
 -- Lengths
-
-pub header_length : (version : Version) (at : Places) (body : List ℕ) → length (header_of version at body) ≡ 64
-header_length version at body = refl
 
 -- what stands in the table of abbreviations
 abbrev all_places : ProgramOf → List ℕ
