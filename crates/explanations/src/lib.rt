@@ -11,4 +11,4 @@ mod tokens;
 mod uses_of_names;
 
 pub use crate::explanation::{Example, Explanation};
-pub use crate::program::{Program, Titles};
+pub use crate::program::{Explanations, Program};

@@ -1,7 +1,7 @@
 //! What is explained of each program.
 
-ghost use Rattle.std.specs.Prelude.{IfSome};
-ghost use Rattle.explanations.specs.Names.{IsNamed};
+ghost use Rattle.std.specs.Prelude.{◌≡◌, IfSome, find, option_map};
+ghost use Rattle.explanations.specs.Names.{IsNamed, all_of, is_named};
 
 use crate::explanation::{Explanation, find_in};
 use crate::limits_of_sources::LIMITS;
@@ -23,41 +23,53 @@ pub enum Program {
 }
 
 impl Program {
-    /// The program's explanations, by subject, in the order in which they are listed.
-    fn tables(self) -> [&'static [Explanation]; 3] {
+    /// The program's explanations.
+    pub fn explanations(self) -> Explanations {
         match self {
-            Program::Inform => [&TOKENS, &USES, &LIMITS],
-            Program::Play => [&STORIES, &MACHINE_FAULTS, &SESSIONS],
+            Program::Inform => Explanations {
+                first: &TOKENS,
+                second: &USES,
+                third: &LIMITS,
+            },
+            Program::Play => Explanations {
+                first: &STORIES,
+                second: &MACHINE_FAULTS,
+                third: &SESSIONS,
+            },
         }
-    }
-
-    /// The explanation of a name; `None` where it is no name of this program's answers. Capital and
-    /// small letters are the same.
-    pub fn explanation(self, name: &str) -> Option<&'static Explanation>
-        ensures { IfSome result (λ found. IsNamed name.now found.now) }
-    {
-        for table in self.tables() {
-            if let Some(found) = find_in(table, name) {
-                return Some(found);
-            }
-        }
-        None
-    }
-
-    /// The names of all that is explained of the program, with their titles.
-    pub fn titles(self) -> Titles {
-        Titles(self)
     }
 }
 
-/// A program's names with their titles. `Display` writes one line for each, as
-/// `E23: wrong kind of name`.
+/// The explanations of a program by subject, in the order in which they are listed. `Display`
+/// writes one line for each, its name and its title, as `E23: wrong kind of name`.
 #[derive(Clone, Copy)]
-pub struct Titles(Program);
+pub struct Explanations {
+    first: &'static [Explanation],
+    second: &'static [Explanation],
+    third: &'static [Explanation],
+}
 
-impl fmt::Display for Titles {
+impl Explanations {
+    /// The first explanation of this name; `None` exactly where none has it. Capital and small
+    /// letters are the same.
+    pub fn find(self, name: &str) -> Option<&'static Explanation>
+        ensures first { option_map (λ found. found.now) result
+            ≡ find (is_named name.now) (all_of self) }
+        ensures named { IfSome result (λ found. IsNamed name.now found.now) }
+    {
+        if let Some(found) = find_in(self.first, name) {
+            return Some(found);
+        }
+        if let Some(found) = find_in(self.second, name) {
+            return Some(found);
+        }
+        find_in(self.third, name)
+    }
+}
+
+impl fmt::Display for Explanations {
     fn fmt<W: fmt::Write>(&self, f: &mut fmt::Formatter<W>) -> fmt::Result {
-        for table in self.0.tables() {
+        for table in [self.first, self.second, self.third] {
             for explanation in table {
                 let name = explanation.name;
                 let title = explanation.title;

@@ -60,8 +60,8 @@ fn misused<W: Display + Drop>(rt: &HostRuntime, what: W) -> ExitCode {
 /// Prints the explanation of a fault, or the names of all faults with their titles.
 fn explain(rt: &HostRuntime, name: Option<&str>) -> ExitCode {
     let printed = match name {
-        None => rt.print(Program::Inform.titles()),
-        Some(name) => match Program::Inform.explanation(name) {
+        None => rt.print(Program::Inform.explanations()),
+        Some(name) => match Program::Inform.explanations().find(name) {
             Some(explanation) => rt.print(explanation),
             None => {
                 let name = Name(name);

@@ -58,8 +58,8 @@ fn refuse<W: Display + Drop>(rt: &HostRuntime, why: W) -> ExitCode {
 /// Prints the explanation of an answer, or the names of all answers with their titles.
 fn explain(rt: &HostRuntime, name: Option<&str>) -> ExitCode {
     let printed = match name {
-        None => rt.print(Program::Play.titles()),
-        Some(name) => match Program::Play.explanation(name) {
+        None => rt.print(Program::Play.explanations()),
+        Some(name) => match Program::Play.explanations().find(name) {
             Some(explanation) => rt.print(explanation),
             None => {
                 let name = Name(name);
