@@ -61,10 +61,6 @@ has_next ts i d bytes lt same =
     ∙ or_next (same_bytes t.bytes.now bytes) (has_text (map text_tree (drop (suc i) ts)) bytes)
     (same_is t.bytes.now bytes ∙ same))
 
-pub has_end : (ts : List Text) (i : ℕ) (bytes : List ℕ) → length ts ≤ i
-    → has_text (map text_tree (drop i ts)) bytes ≡ false
-has_end ts i bytes end = ap (λ (xs : List Text). has_text (map text_tree xs) bytes) (drop_end ts i end)
-
 -- An abbreviation that breaks no rule
 
 no_breach : (m : Option Breach) (c s t : Bool) (p : Position) → c ≡ false → s ≡ false → t ≡ false

@@ -2,7 +2,7 @@
 use Rattle.std.proofs.Common.{ℕ, ◌+◌, ◌≤◌, ◌<◌, arith}
 use Rattle.syntax_directives.specs.Tree.{DirectiveTree, global, constant, array, attribute, property, object, routine}
 use Rattle.checker_names.specs.declared.counts.Counts.{Counts}
-use Rattle.checker_names.specs.Names.{AreFewer, no_counts, counts_after}
+use Rattle.checker_names.specs.Names.{AreFewer, counts_after}
 
 -- one more of a kind, or none
 up : (a i : ℕ) → a < i + 1 → a + 1 < i + 1 + 1
@@ -82,15 +82,4 @@ fewer m n counts le h = record {
   properties = rise counts.properties m n le h.properties;
   objects = rise counts.objects m n le h.objects;
   routines = rise counts.routines m n le h.routines;
-}
-
--- before the first directive
-pub none_few : (n : ℕ) → 1 ≤ n → AreFewer n no_counts
-none_few n h = record {
-  globals = h;
-  arrays = h;
-  attributes = h;
-  properties = h;
-  objects = h;
-  routines = h;
 }

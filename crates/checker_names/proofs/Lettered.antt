@@ -1,10 +1,10 @@
 -- Only the first nine letters of a word count for its key.
 use Rattle.std.proofs.Common.{◌≡◌, ◌==◌, Bool, true, false, cond, Option, Some, None, ℕ, zero, suc, ◌+◌, ◌%◌, ◌^◌, ◌<◌}
-use Rattle.std.proofs.Common.{◌≤◌, min, List, [], ◌∷◌, ◌++◌, length, take, get_or, set, refl, sym, ap, ◌∙◌}
+use Rattle.std.proofs.Common.{◌≤◌, min, List, [], ◌∷◌, ◌++◌, length, take, refl, sym, ap, ◌∙◌}
 use Rattle.std.proofs.Common.{append_assoc, arith}
 use Rattle.std.specs.Prelude.{map, replicate}
 use Rattle.std.specs.List.{flat_map}
-use Rattle.std.proofs.lemmas.List.{take-map, take_min, take_more, take_more_set, map-append}
+use Rattle.std.proofs.lemmas.List.{take-map, take_min}
 use Rattle.ztext.specs.Alphabets.{lower_letters, upper_letters, punctuation, place_in, spelling_in_punctuation}
 use Rattle.ztext.specs.Alphabets.{spelling_in_upper, spelling_in_lower, spelling_of, spelled}
 use Rattle.ztext.specs.Text.{lower_case, key_of}
@@ -73,13 +73,3 @@ key_lettered word letters given count is first same =
     (same ∙ first ∙ ap (λ (n : ℕ). map letter_of (take n word)) is ∙ ap (map letter_of) (take_min 9 word)
     ∙ sym (take-map letter_of 9 word))
     ∙ ap (λ (k : List ℕ). number_of_key k % 2 ^ 48) (key_of_first (map letter_of word))
-
--- one more letter
-pub letter_more : (word letters : List ℕ) (i : ℕ) → i < length word → i < length letters
-    → take i letters ≡ map letter_of (take i word)
-    → take (i + 1) (set letters i (letter_of (get_or word i 0))) ≡ map letter_of (take (i + 1) word)
-letter_more word letters i lt room h =
-    take_more_set letters i (letter_of (get_or word i 0)) room
-    ∙ ap (λ (l : List ℕ). l ++ letter_of (get_or word i 0) ∷ []) h
-    ∙ sym (map-append letter_of (take i word) (get_or word i 0 ∷ []))
-    ∙ ap (map letter_of) (sym (take_more word i 0 lt))

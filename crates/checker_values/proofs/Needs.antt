@@ -133,18 +133,6 @@ pub links_next : (r : ℕ) (ls : List (Binary × Expression)) (i : ℕ) (x : Bin
 links_next r ls i x h is good = let j : i + 1 ≡ suc i = omega arith in
     rw (j, links_here ls i x h is) (grind (arith, nat_tests))
 
-pub links_bad : (r : ℕ) (ls : List (Binary × Expression)) (i : ℕ) (x : Binary × Expression) → i < length ls
-    → x ≡ slice_index_or ls i x → nat_le (link_need x) r ≡ false
-    → nat_le (greatest (map link_need (drop i ls))) r ≡ false
-links_bad r ls i x h is bad = rw (links_here ls i x h is) (grind (arith, nat_tests))
-
-pub links_end : (r : ℕ) (ls : List (Binary × Expression)) (i : ℕ) → length ls ≤ i
-    → nat_le (greatest (map link_need (drop i ls))) r ≡ true
-links_end r [] zero h = zero_fits r
-links_end r [] (suc i) h = zero_fits r
-links_end r (l ∷ ls) zero h = absurd (omega arith)
-links_end r (l ∷ ls) (suc i) h = links_end r ls i (omega arith)
-
 -- two operands
 
 pub both_next : (a b r : ℕ) → 1 ≤ a → 1 ≤ b → nat_le a r ≡ true
@@ -153,9 +141,6 @@ both_next a b r one two h = grind (arith, nat_tests)
 
 pub both_bad : (a b r : ℕ) → nat_le a r ≡ false → false ≡ nat_le (operands 0 (a ∷ b ∷ [])) r
 both_bad a b r h = grind (arith, nat_tests)
-
-pub room_one : (a r : ℕ) → 1 ≤ a → nat_le a r ≡ true → 1 ≤ r
-room_one a r one h = grind (arith, nat_tests)
 
 -- the forms
 
@@ -169,14 +154,6 @@ chain_next e ls r h = let k = chain_need e ls in let o = need_one e in grind (ar
 pub chain_bad : (e : ExpressionTree) (ls : List (Binary × Expression)) (r : ℕ) → nat_le (need e) r ≡ false
     → false ≡ nat_le (need (chained e (map link ls))) r
 chain_bad e ls r h = let k = chain_need e ls in grind (arith, nat_tests)
-
-pub equal_next : (a b r : ℕ) (ns : List ℕ) → 1 ≤ a → nat_le (operands 0 (a ∷ b ∷ [])) r ≡ true
-    → nat_le (operands 2 ns) r ≡ nat_le (operands 0 (a ∷ b ∷ ns)) r
-equal_next a b r ns one h = let o = operands_one 2 ns in grind (arith, nat_tests)
-
-pub equal_bad : (a b r : ℕ) (ns : List ℕ) → 1 ≤ a → nat_le (operands 0 (a ∷ b ∷ [])) r ≡ false
-    → false ≡ nat_le (operands 0 (a ∷ b ∷ ns)) r
-equal_bad a b r ns one h = grind (arith, nat_tests)
 
 pub fits_not : (b : Bool) (n : ℕ) → b ≡ nat_le n 48 → nat_lt 48 n ≡ not b
 fits_not b n h = grind (arith, nat_tests)

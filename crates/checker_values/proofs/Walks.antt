@@ -1,5 +1,5 @@
 -- Walks, part by part, and what the code's values stand for.
-use Rattle.std.proofs.Common.{◌≡◌, ℕ, Bool, List, [], ◌++◌, Option, refl, sym, ap, ◌∙◌}
+use Rattle.std.proofs.Common.{◌≡◌, ℕ, List, [], ◌++◌, Option, refl, sym, ap, ◌∙◌}
 use Rattle.std.specs.Prelude.{map, Result, Ok, Err, IfOk}
 use Rattle.std.specs.Global.{Vec, Box}
 use Rattle.syntax_trees.specs.declared.tree.Binary.{Binary}
@@ -119,10 +119,6 @@ pub made_entry : (w : Width) (a : ℕ) (i : Box code_value.Value)
     → value_of (made.Entry w a i) ≡ values.entry w a (value_of i.value)
 made_entry w a i = ap value_of (sym (made.rolls-Entry w a i)) ∙ fold-roll-Value Value value_layer _
 
-pub made_assign_entry : (w : Width) (a : ℕ) (i v : Box code_value.Value)
-    → value_of (made.AssignEntry w a i v) ≡ values.assign_entry w a (value_of i.value) (value_of v.value)
-made_assign_entry w a i v = ap value_of (sym (made.rolls-AssignEntry w a i v)) ∙ fold-roll-Value Value value_layer _
-
 pub made_relative : (r : Relative) (v : Box code_value.Value)
     → value_of (made.Relative r v) ≡ values.relative r (value_of v.value)
 made_relative r v = ap value_of (sym (made.rolls-Relative r v)) ∙ fold-roll-Value Value value_layer _
@@ -130,14 +126,6 @@ made_relative r v = ap value_of (sym (made.rolls-Relative r v)) ∙ fold-roll-Va
 pub made_contained : (a : Box code_value.Value) (op : Containment) (b : Box code_value.Value)
     → value_of (made.Contained a op b) ≡ values.contained op (value_of a.value) (value_of b.value)
 made_contained a op b = ap value_of (sym (made.rolls-Contained a op b)) ∙ fold-roll-Value Value value_layer _
-
-pub made_has : (positive : Bool) (v : Box code_value.Value) (a : ℕ)
-    → value_of (made.Has positive v a) ≡ values.has positive (value_of v.value) a
-made_has positive v a = ap value_of (sym (made.rolls-Has positive v a)) ∙ fold-roll-Value Value value_layer _
-
-pub made_provides : (v : Box code_value.Value) (n : ℕ)
-    → value_of (made.Provides v n) ≡ values.provides (value_of v.value) n
-made_provides v n = ap value_of (sym (made.rolls-Provides v n)) ∙ fold-roll-Value Value value_layer _
 
 pub made_property : (v : Box code_value.Value) (n : ℕ) (ns : Vec ℕ)
     → value_of (made.Property v n ns) ≡ values.propertied (values.property (value_of v.value) n) ns.items
@@ -154,9 +142,3 @@ made_property_word v n i = ap value_of (sym (made.rolls-PropertyWord v n i)) ∙
 pub made_assign_property : (v : Box code_value.Value) (n : ℕ) (w : Box code_value.Value)
     → value_of (made.AssignProperty v n w) ≡ values.assign_property (value_of v.value) n (value_of w.value)
 made_assign_property v n w = ap value_of (sym (made.rolls-AssignProperty v n w)) ∙ fold-roll-Value Value value_layer _
-
-pub made_assign_property_word : (v : Box code_value.Value) (n : ℕ) (i w : Box code_value.Value)
-    → value_of (made.AssignPropertyWord v n i w)
-    ≡ values.assign_property_word (value_of v.value) n (value_of i.value) (value_of w.value)
-made_assign_property_word v n i w = ap value_of (sym (made.rolls-AssignPropertyWord v n i w))
-    ∙ fold-roll-Value Value value_layer _

@@ -68,11 +68,6 @@ asks_one [] = refl
 asks_one (x ∷ []) = refl
 asks_one (x ∷ y ∷ xs) = ne_eqb _ _ (λ e. omega (arith, e))
 
-pub as_joined : (xs : List code_operand.Operand) (y : code_operand.Operand)
-    → as_operands (xs ++ y ∷ []) ≡ as_operands xs ++ as_operand y ∷ []
-as_joined [] y = refl
-as_joined (x ∷ xs) y = ap (λ os. as_operand x ∷ os) (as_joined xs y)
-
 -- the bytes of a branch
 pub tested_joined : (test : Test) (os : List items.Operand) (op : Operation) (when : Bool) (offset : ℕ)
     (b b1 b2 : List ℕ) (n1 n2 n3 : List Operand) → n1 ≡ [] → n2 ≡ n1 ++ operands os → n3 ≡ n2

@@ -63,18 +63,6 @@ move_more c c1 c2 o ow v w eo ew wt wv =
         ++ (if_pushed y (value_items (at + if_pushed x (value_count v push) 0) w push) []
         ++ items.move_object x y ∷ [])
 
-pub character_more : (c c1 : List Item) (o : Operand) (v : Value) → o
-    ≡ alone v → WritesBefore c c1 (taken_items o (items.print_character o) v)
-    → WritesBefore c c1 (λ n at. printed_items at (source.character_of v))
-character_more c c1 o v e w =
-    as_items (λ n at _. ap (λ x. if_pushed x (value_items at v push) [] ++ items.print_character x ∷ []) e) w
-
-pub number_more : (c c1 : List Item) (o : Operand) (v : Value) → o
-    ≡ alone v → WritesBefore c c1 (taken_items o (items.print_number o) v)
-    → WritesBefore c c1 (λ n at. printed_items at (source.number_of v))
-number_more c c1 o v e w =
-    as_items (λ n at _. ap (λ x. if_pushed x (value_items at v push) [] ++ items.print_number x ∷ []) e) w
-
 pub if_more : (c c1 c2 : List Item) (x : Exits) (v : Value) (a : Action) (end : ℕ) → end
     ≡ length c → WritesBefore c c1 (λ n at. action_items (exits_of n x) at a)
     → WritesBefore c1 c2 (wanted_items (Branch false end) v)

@@ -5,41 +5,17 @@ use Rattle.std.specs.Global.{Vec, Box}
 use Rattle.meaning.specs.declared.resolved.Span.{Span}
 use Rattle.meaning.specs.declared.resolved.Variable.{Variable}
 use Rattle.meaning.specs.declared.resolved.Value as code_value
-use Rattle.meaning.specs.declared.resolved.Printed as code_printed
 use Rattle.meaning.specs.declared.resolved.Action as code_action
 use Rattle.meaning.specs.declared.resolved.Action.TheVariants as s
 use Rattle.meaning.specs.declared.resolved.Action.TheFolds.{fold-roll-Action}
-use Rattle.meaning.specs.Resolved.{give_to, move_to, remove_from, each_object, each_where, each_in, Action, block}
-use Rattle.meaning.specs.Resolved.{text_alone, print, print_return, if_then, if_else, while_do, do_until, for_loop}
-use Rattle.meaning.specs.Resolved.{switch_on, return_value, effect, actions_of, cases_of, value_of, printed_of, case_of}
+use Rattle.meaning.specs.Resolved.{give_to, move_to, remove_from, each_object, each_where, each_in, Action}
+use Rattle.meaning.specs.Resolved.{text_alone, while_do, do_until, for_loop}
+use Rattle.meaning.specs.Resolved.{switch_on, return_value, cases_of, value_of, case_of}
 use Rattle.meaning.specs.Resolved.{boxed_value, other_of, action_of, action_layer}
 use Rattle.meaning.proofs.Mapped.{mapped_twice}
 
-pub block_is : (t : code_action.Action) (xs : Vec code_action.Action) → t ≡ s.Block xs → action_of t
-    ≡ block (actions_of (map action_of xs.items))
-block_is t xs is = ap action_of is ∙ ap action_of (sym (s.rolls-Block xs)) ∙ fold-roll-Action Action action_layer _
-
 pub text_is : (t : code_action.Action) (text : _) → t ≡ s.Text text → action_of t ≡ text_alone text.now
 text_is t text is = ap action_of is ∙ ap action_of (sym (s.rolls-Text text)) ∙ fold-roll-Action Action action_layer _
-
-pub print_is : (t : code_action.Action) (is : Vec code_printed.Printed) → t ≡ s.Print is → action_of t
-    ≡ print (map printed_of is.items)
-print_is t items is =
-    ap action_of is ∙ ap action_of (sym (s.rolls-Print items)) ∙ fold-roll-Action Action action_layer _
-
-pub print_return_is : (t : code_action.Action) (is : Vec code_printed.Printed) → t ≡ s.PrintReturn is → action_of t
-    ≡ print_return (map printed_of is.items)
-print_return_is t items is =
-    ap action_of is ∙ ap action_of (sym (s.rolls-PrintReturn items)) ∙ fold-roll-Action Action action_layer _
-
-pub if_is : (t : code_action.Action) (e : code_value.Value) (x : Box code_action.Action) → t ≡ s.If e x → action_of t
-    ≡ if_then (value_of e) (action_of x.value)
-if_is t e x is = ap action_of is ∙ ap action_of (sym (s.rolls-If e x)) ∙ fold-roll-Action Action action_layer _
-
-pub if_else_is : (t : code_action.Action) (e : code_value.Value) (x y : Box code_action.Action) → t ≡ s.IfElse e x y
-    → action_of t ≡ if_else (value_of e) (action_of x.value) (action_of y.value)
-if_else_is t e x y is =
-    ap action_of is ∙ ap action_of (sym (s.rolls-IfElse e x y)) ∙ fold-roll-Action Action action_layer _
 
 pub while_is : (t : code_action.Action) (e : code_value.Value) (x : Box code_action.Action) → t ≡ s.While e x
     → action_of t
@@ -78,9 +54,6 @@ switch_is t e cases other is = rw is (made_switch e cases other)
 pub return_is : (t : code_action.Action) (e : code_value.Value) → t ≡ s.ReturnValue e
     → action_of t ≡ return_value (value_of e)
 return_is t e is = ap action_of is ∙ ap action_of (sym (s.rolls-ReturnValue e)) ∙ fold-roll-Action Action action_layer _
-
-pub effect_is : (t : code_action.Action) (e : code_value.Value) → t ≡ s.Effect e → action_of t ≡ effect (value_of e)
-effect_is t e is = ap action_of is ∙ ap action_of (sym (s.rolls-Effect e)) ∙ fold-roll-Action Action action_layer _
 
 pub give_is : (t : code_action.Action) (e : code_value.Value) (changes : _) → t ≡ s.Give e changes
     → action_of t ≡ give_to (value_of e) changes.items

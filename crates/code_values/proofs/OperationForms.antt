@@ -6,10 +6,9 @@ use Rattle.syntax_trees.specs.declared.tree.Binary.{Binary}
 use Rattle.syntax_trees.specs.declared.tree.Binary.TheVariants as binaries
 use Rattle.syntax_trees.specs.declared.tree.Comparison.{Comparison}
 use Rattle.syntax_trees.specs.declared.tree.Width.{Width}
-use Rattle.meaning.specs.declared.resolved.Variable.{Variable}
 use Rattle.meaning.specs.Resolved.{Value, chained}
 use Rattle.meaning.specs.Resolved as source
-use Rattle.code_values.specs.Items.{Item, Operand, pushed, number, variable, Destination, push, Test, alone, left_of}
+use Rattle.code_values.specs.Items.{Item, Operand, pushed, number, Destination, push, Test, alone, left_of}
 use Rattle.code_values.specs.Items.{if_pushed, branch_true, comparison_test, comparison_when, value_count, value_items}
 use Rattle.code_values.specs.Items.{branch_items}
 use Rattle.code_values.specs.Items as items
@@ -88,26 +87,12 @@ pub first_pushed : (c c1 : List Item) (op : Binary) (wanted : Wanted) (v : Value
     → WritesBefore c c1 (wanted_items wanted v) → WritesBefore c c1 (first_items op pushed wanted v)
 first_pushed c c1 op wanted v w = as_items (λ n at _. either (is_logical op) (wanted_items wanted v n at)) w
 
-pub first_logical : (c c1 : List Item) (op : Binary) (o : Operand) (wanted : Wanted) (v : Value) → is_logical op
-    ≡ true → WritesBefore c c1 (wanted_items wanted v) → WritesBefore c c1 (first_items op o wanted v)
-first_logical c c1 op o wanted v e w =
-    as_items (λ n at _. ap
-    (λ b. if b then wanted_items wanted v n at else if_pushed o (wanted_items wanted v n at) []) (sym e)) w
-
 pub first_number : (c : List Item) (op : Binary) (m : ℕ) (wanted : Wanted) (v : Value) → is_logical op
     ≡ false → WritesBefore c c (first_items op (number m) wanted v)
 first_number c op m wanted v e = as_items (λ n at _. ap (λ b. if b then wanted_items wanted v n at else []) (sym e))
     (nothing c)
 
-pub first_variable : (c : List Item) (op : Binary) (x : Variable) (wanted : Wanted) (v : Value) → is_logical op
-    ≡ false → WritesBefore c c (first_items op (variable x) wanted v)
-first_variable c op x wanted v e = as_items (λ n at _. ap (λ b. if b then wanted_items wanted v n at else []) (sym e))
-    (nothing c)
-
 -- Chains
-
-pub links_none : (c : List Item) (wanted : Wanted) → ReducesLinks c c wanted wanted []
-links_none c wanted v is = record { with_rest = λ end w. w }
 
 pub links_next : (c c1 c2 : List Item) (wanted w1 w2 : Wanted) (op : Binary) (b : Value) (ls : List (Binary × Value))
     → ReducesLinks c c1 wanted w1 ls → ReducesLink c1 c2 w1 w2 op pushed b

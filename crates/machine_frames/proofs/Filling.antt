@@ -1,5 +1,5 @@
 -- Bytes that are written one behind another.
-use Rattle.std.proofs.Common.{◌≡◌, ℕ, suc, ◌+◌, ◌<◌, ◌≤◌, List, [], ◌∷◌, ◌++◌, length, take, set, slice_index, refl}
+use Rattle.std.proofs.Common.{◌≡◌, ℕ, suc, ◌+◌, ◌<◌, ◌≤◌, List, [], ◌∷◌, ◌++◌, length, take, set, slice_index}
 use Rattle.std.proofs.Common.{ap, sym, ◌∙◌, subst, arith, Result, Ok, Err}
 use Rattle.std.specs.Prelude.{OnOk}
 use Rattle.std.proofs.lemmas.List.{length-take-le, take_more}
@@ -9,12 +9,9 @@ use Rattle.zcore.specs.State.{State}
 use Rattle.zcore.specs.Turn.{with_bytes}
 use Rattle.machine_frames.specs.Contents.{Contents, memory_of}
 use Rattle.machine_frames.specs.Lines.{Filled}
-use Rattle.machine_frames.specs.States.{state_of, IsSound}
+use Rattle.machine_frames.specs.States.{state_of}
 use Rattle.machine_frames.proofs.Lines.{byte_filled, base_kept}
-use Rattle.machine_frames.proofs.Steps.{goes_on_after, goes_on_still}
-
-pub filled_none : (s : Recording Contents) → IsSound s.store → Filled s s (memory_of s.store)
-filled_none s sound = record { goes_on = goes_on_still s sound; state = λ text. refl }
+use Rattle.machine_frames.proofs.Steps.{goes_on_after}
 
 pub filled_memory : (r s : Recording Contents) (m : List ℕ) → Filled r s m → memory_of s.store ≡ m
 filled_memory r s m f = ap (λ (x : State). x.memory) (f.state [])

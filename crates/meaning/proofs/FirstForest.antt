@@ -3,8 +3,6 @@ use Rattle.std.proofs.Common.{◌≡◌, ◌==◌, ◌+◌, ◌≤◌, ◌<◌, 
 use Rattle.std.proofs.Common.{slice_index_or, refl, ap, sym, ◌∙◌, arith, subst, inl, inr}
 use Rattle.std.proofs.lemmas.Bool.{cases_eq}
 use Rattle.meaning.specs.Objects.{ObjectOf, no_object, object_at, standing_in, first_objects}
-use Rattle.meaning.specs.Resolved.{ProgramOf}
-use Rattle.meaning.specs.Accepted.{IsAccepted}
 use Rattle.meaning.specs.Forests.{Among, Once, IsForest, Rises, IsRooted}
 use Rattle.meaning.proofs.ObjectLists.{if_same, if_other}
 
@@ -138,11 +136,3 @@ module _ (xs : List ObjectOf) (earlier : (k : ℕ) → k < length xs → parent_
 
   pub first_rooted : IsRooted ((first_objects xs).tree.parent)
   first_rooted x = (x, rises_by x x (omega arith))
-
-pub accepted_forest : (p : ProgramOf) → IsAccepted p
-    → IsForest (length p.objects) ((first_objects p.objects).tree) × IsRooted ((first_objects p.objects).tree.parent)
-accepted_forest p accepted =
-    let earlier : (k : ℕ) → k < length p.objects → parent_at p.objects k ≤ k = λ k lt.
-    let next : k + 1 ≡ suc k = omega arith in
-    subst (λ n. (object_at p.objects n).parent ≤ k) next (accepted.objects k lt).parent in
-    (first_forest p.objects earlier, first_rooted p.objects earlier)

@@ -2,9 +2,8 @@
 use Rattle.std.proofs.Common.{◌≡◌, ◌==◌, ℕ, arith, if◌then◌else◌, ◌∷◌, refl, sym, ◌∙◌, subst, inl, inr, ◌⊎◌}
 use Rattle.std.proofs.lemmas.Bool.{cases_eq}
 use Rattle.meaning.specs.Objects.{Tree, without, removed, inserted}
-use Rattle.meaning.specs.Forests.{Among, Once, IsObjectNumber, IsForest, IsRooted, LeavesForest}
+use Rattle.meaning.specs.Forests.{Among, Once, IsObjectNumber, IsForest}
 use Rattle.meaning.proofs.ObjectLists.{if_same, if_other, among_without, among_left, once_without}
-use Rattle.meaning.proofs.Rising.{removed_rooted, moved_rooted}
 
 -- Removals
 
@@ -103,13 +102,3 @@ inserted_forest n t o into forest object target none = record {
     ]
 
 -- Both
-
-pub forest_is_kept : (n : ℕ) (t : Tree) (o : ℕ) → IsForest n t → IsRooted t.parent → LeavesForest n t o
-forest_is_kept n t o forest rooted = record {
-  removed = (removed_forest n t o forest, removed_rooted t o rooted);
-  moved = λ into fuel left object target passes. (
-    inserted_forest n (removed o t) o into (removed_forest n t o forest) object target
-        (if_same o o 0 (t.parent o) refl),
-    moved_rooted t o into fuel left passes rooted,
-  );
-}

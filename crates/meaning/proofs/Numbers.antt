@@ -1,7 +1,6 @@
 -- The numbers of keys, where the place of the dictionary is folded.
 use Rattle.std.proofs.Common.{◌≡◌, ◌+◌, ◌%◌, ◌==◌, ℕ, Bool, ltb, true, false, List, [], ◌∷◌, ap, arith, refl}
 use Rattle.std.specs.Prelude.{if◌then◌else◌}
-use Rattle.std.proofs.Math.Path.{fun_ext}
 use Rattle.std.proofs.lemmas.Bool.{ltb-false, ltb-true}
 use Rattle.tables.specs.KeyNumbers.{key_number, place_in}
 use Rattle.meaning.specs.Places.{folded}
@@ -36,6 +35,3 @@ key_folded n keys key =
     let f = fold_rest n in
     place_rest (folded n + 7) (n + 7) keys key
     (let r : (folded n + 7) % 65536 ≡ (n + 7) % 65536 = omega (arith, f) in r)
-
-pub numbers_folded : (n : ℕ) (keys : List ℕ) → numbers (folded n) keys ≡ numbers n keys
-numbers_folded n keys = fun_ext (key_folded n keys)

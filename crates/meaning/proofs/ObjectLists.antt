@@ -15,9 +15,6 @@ if_other x o a b not = ap (λ (t : Bool). if t then a else b) (ne_eqb x o not)
 
 -- Lists without an object
 
-pub without_head : (o : ℕ) (xs : List ℕ) → without o (o ∷ xs) ≡ without o xs
-without_head o xs = if_same o o _ _ refl
-
 pub without_other : (o x : ℕ) (xs : List ℕ) → (x ≡ o → ⊥) → without o (x ∷ xs) ≡ x ∷ without o xs
 without_other o x xs not = if_other x o _ _ not
 

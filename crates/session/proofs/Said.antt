@@ -1,7 +1,7 @@
 -- What a run's contract says where the reader and the writer tell their bytes.
-use Rattle.std.proofs.Common.{Option, None, Some, ◌≡◌, ℕ, false, List, [], ◌∷◌, ◌++◌, map, refl, ap, sym, ◌∙◌, subst}
-use Rattle.std.proofs.Common.{append-nil, Result, Ok, Err}
-use Rattle.std.specs.Io.KnownBytes.{Appends, Consumes, IsAtEnd}
+use Rattle.std.proofs.Common.{Option, ◌≡◌, ℕ, List, [], ◌∷◌, ◌++◌, refl, ap, ◌∙◌, subst}
+use Rattle.std.proofs.Common.{Result, Ok, Err}
+use Rattle.std.specs.Io.KnownBytes.{Appends}
 use Rattle.zcore.specs.declared.place.Place.{Place}
 use Rattle.session.specs.Input.{lines_of}
 use Rattle.session.specs.Game.{telling_of, Game, Telling, place_on}
@@ -14,21 +14,12 @@ use Rattle.session.specs.Wrote.{WroteSome}
 use Rattle.session.specs.Ran.{Streams, Played, RanWhole, RanToRead, LinesRead, RanToWrite, in_opening}
 use Rattle.session.specs.Ran.{in_reply, Ran}
 
--- the input of a run without a fault is all that the reader had
-pub input_known : (xs input : List ℕ) (r' : Option (List ℕ)) → Consumes (Some xs) r' input → IsAtEnd r' → input ≡ xs
-input_known xs input None p q = absurd p
-input_known xs input (Some ys) p q = sym (p ∙ ap (λ y. input ++ y) q ∙ append-nil input)
-
 -- a run without a fault: all of the reader's bytes were played, and the writer holds what was written beside what it
 -- held
 pub record Told (game : Game) (input before later : List ℕ) (P : Standing → Type 0) (p : Place) : Type 0 where
   pub written : List ℕ
   pub wrote : later ≡ before ++ written
   pub played : Played (telling_of game) game.keep (lines_of input) written (λ s. P s × (p ≡ place_on game s.done))
-
-lines_unmarked : (ls : List (List ℕ)) → lines_typed (map (λ l. record { line = l; refused = false }) ls) ≡ ls
-lines_unmarked [] = refl
-lines_unmarked (l ∷ ls) = ap (λ t. l ∷ t) (lines_unmarked ls)
 
 -- after a failed write, a beginning of the transcript of the lines that were read
 pub record Begins (game : Game) (r' : Option (List ℕ)) (input written : List ℕ) : Type 0 where

@@ -1,6 +1,5 @@
 pub mod NamesRead
 pub mod Arrows
-pub mod Weights
 pub mod Spelled
 pub mod SpelledExpressions
 pub mod SpelledStatements

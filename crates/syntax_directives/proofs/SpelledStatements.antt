@@ -25,7 +25,7 @@ use Rattle.syntax_directives.specs.Grammar.{token_weight, weight_of, IsNames, na
 use Rattle.syntax_directives.specs.Weight.{expression_weight, item_weight, item_weights, range_weight, range_weights}
 use Rattle.syntax_directives.specs.Weight.{optional_weight, statement_weight, statement_weights, case_weights}
 use Rattle.syntax_directives.specs.Weight.{upper_values, range_values, statement_values, statements_values, case_values}
-use Rattle.syntax_directives.proofs.Spelled.{Spelled, spelled_none, behind, joined, weighing, weighs, SpelledAbout}
+use Rattle.syntax_directives.proofs.Spelled.{Spelled, spelled_none, behind, joined, weighing, SpelledAbout}
 use Rattle.syntax_directives.proofs.Spelled.{about, behind_about, joined_about, weighing_about, weighs_about}
 use Rattle.syntax_directives.proofs.SpelledExpressions.{spelled_E, spelled_E1, spelled_E3}
 
@@ -247,13 +247,6 @@ spelled_Names {ts} names_stop = spelled_none ts
 spelled_Names (names_next {p = p} {n = n} a) = weighing (behind (name n p) (spelled_Names a)) (omega arith)
 
 -- the weight of a derivation's tokens is that of its tree, and of a statement's at least that
-
-pub weight_E : {ts r : List Lexeme} {e : ExpressionTree} → IsE ts e r
-    → weight_of ts ≡ expression_weight e + weight_of r
-weight_E a = weighs (spelled_E a)
-
-pub weight_S : {ts r : List Lexeme} {x : StatementTree} → IsS ts x r → statement_weight x + weight_of r ≤ weight_of ts
-weight_S a = omega (arith, weighs_about (spelled_S a))
 
 pub weight_Ss : {ts r : List Lexeme} {xs : StatementTrees} → IsSs ts xs r
     → statement_weights xs + weight_of r ≤ weight_of ts

@@ -3,11 +3,9 @@ use Rattle.std.proofs.Common.{◌≡◌, false, List, [], ◌∷◌, Ok, Err, re
 use Rattle.syntax_lexer.specs.declared.token.Sign.TheVariants as s
 use Rattle.syntax_lexer.specs.Token.{Lexeme, name, sign, position_of}
 use Rattle.syntax_trees.specs.declared.tree.Name.{Name}
-use Rattle.syntax_trees.specs.Tree.{NameTree, name_tree}
+use Rattle.syntax_trees.specs.Tree.{name_tree}
 use Rattle.syntax_parsing.specs.declared.error.Fault.TheVariants.{Grammar}
-use Rattle.syntax_parsing.specs.declared.error.ParseError.{ParseError}
-use Rattle.syntax_parsing.specs.declared.error.ParseError.TheVariants as errors
-use Rattle.syntax_parsing.specs.Parse.{Fails, head, tail, expect}
+use Rattle.syntax_parsing.specs.Parse.{head, tail, expect}
 use Rattle.syntax_expressions.specs.Parse.{is_name, name_on, expect_name, entry_of}
 use Rattle.syntax_expressions.proofs.Judged.{Judged, judged_read, judged_grammar, judged_then, judged_after}
 use Rattle.syntax_expressions.proofs.Tokens.{expect_ok, expect_not_deep}
@@ -30,22 +28,6 @@ name_judged (name n p ∷ ts) = judged_read (record { text = n; position = p }) 
 name_judged _ = judged_grammar
 
 -- ---- a name with an arrow behind it
-
-pub entry_unnamed : (e : ParseError) (ts : List Lexeme) → Fails e (expect_name ts) → Fails e (entry_of ts)
-unfolding entry_of
-entry_unnamed errors.Memory ts h = tt
-entry_unnamed (errors.Fault f line) ts h = rw h refl
-
-pub entry_unmarked : (e : ParseError) (ts us : List Lexeme) (n : NameTree) → expect_name ts ≡ Ok (n, us)
-    → Fails e (expect s.LongArrow us) → Fails e (entry_of ts)
-unfolding entry_of
-entry_unmarked errors.Memory ts us n h g = tt
-entry_unmarked (errors.Fault f line) ts us n h g = rw (h, g) refl
-
-pub entry_found : (ts us r : List Lexeme) (n : NameTree) → expect_name ts ≡ Ok (n, us)
-    → expect s.LongArrow us ≡ Ok r → entry_of ts ≡ Ok (n, r)
-unfolding entry_of
-entry_found ts us r n h g = rw (h, g) refl
 
 pub entry_judged : (ts : List Lexeme)
     → Judged (λ n r. ts ≡ name n.text n.position ∷ sign s.LongArrow (position_of (head (tail ts))) ∷ r) ⊥ (entry_of ts)

@@ -1,21 +1,19 @@
 -- What stands behind an object: properties, the length of one, and a test.
 use Rattle.std.proofs.Common.{◌≡◌, ℕ, zero, suc, ◌+◌, ◌-◌, ◌<◌, ◌≤◌, ◌⊎◌, inl, inr, true, false, List, [], ◌∷◌, ◌++◌}
-use Rattle.std.proofs.Common.{length, Some, None, Result, Ok, Err, refl, sym, ◌∙◌, arith}
+use Rattle.std.proofs.Common.{length, Result, Ok, Err, refl, sym, ◌∙◌, arith}
 use Rattle.std.proofs.lemmas.List.{length-map}
 use Rattle.syntax_lexer.specs.declared.token.Position.{Position}
 use Rattle.syntax_lexer.specs.declared.token.Sign.TheVariants as s
 use Rattle.syntax_lexer.specs.declared.token.Token.{Token}
 use Rattle.syntax_lexer.specs.Token.{Lexeme, name, sign, lexeme, lexemes}
-use Rattle.syntax_trees.specs.declared.tree.ObjectTest.{ObjectTest}
 use Rattle.syntax_trees.specs.declared.tree.Name.{Name}
-use Rattle.syntax_trees.specs.Tree.{NameTree, ExpressionTree, property, property_length, tested, name_tree, propertied}
+use Rattle.syntax_trees.specs.Tree.{NameTree, ExpressionTree, property, property_length, name_tree, propertied}
 use Rattle.syntax_parsing.specs.declared.error.Fault.{Fault}
 use Rattle.syntax_parsing.specs.declared.error.Fault.TheVariants.{Deep}
 use Rattle.syntax_parsing.specs.declared.error.ParseError.{ParseError}
 use Rattle.syntax_parsing.specs.declared.error.ParseError.TheVariants as errors
 use Rattle.syntax_parsing.specs.Parse.{◌>>=◌, Fails, head, tail, is_sign}
-use Rattle.syntax_expressions.specs.Operators.{testing}
-use Rattle.syntax_expressions.specs.Parse.{expect_name, properties, lengthened, tested_next, property_next}
+use Rattle.syntax_expressions.specs.Parse.{expect_name, properties, lengthened, property_next}
 use Rattle.syntax_expressions.proofs.Limited.{Limited}
 
 -- ---- the length of a property
@@ -25,35 +23,12 @@ pub no_length : (e : ExpressionTree) (ts : List Lexeme) → is_sign s.DotHash (h
 unfolding lengthened
 no_length e ts h = rw h refl
 
-pub unnamed_length : (fault : ParseError) (e : ExpressionTree) (ts us : List Lexeme)
-    → is_sign s.DotHash (head ts) ≡ true → us ≡ tail ts → Fails fault (expect_name us)
-    → Fails fault (lengthened e ts)
-unfolding lengthened
-unnamed_length errors.Memory e ts us h u g = tt
-unnamed_length (errors.Fault f line) e ts us h u g = rw (h, ← u, g) refl
-
 pub named_length : (e : ExpressionTree) (ts us r : List Lexeme) (n : NameTree) → is_sign s.DotHash (head ts) ≡ true
     → us ≡ tail ts → expect_name us ≡ Ok (n, r) → lengthened e ts ≡ Ok (property_length e n, r)
 unfolding lengthened
 named_length e ts us r n h u g = rw (h, ← u, g) refl
 
 -- ---- a test
-
-pub no_test : (e : ExpressionTree) (ts : List Lexeme) → testing (head ts) ≡ None → tested_next e ts ≡ Ok (e, ts)
-unfolding tested_next
-no_test e ts h = rw h refl
-
-pub unnamed_test : (fault : ParseError) (e : ExpressionTree) (ts us : List Lexeme) (test : ObjectTest)
-    → testing (head ts) ≡ Some test → us ≡ tail ts → Fails fault (expect_name us) → Fails fault (tested_next e ts)
-unfolding tested_next
-unnamed_test errors.Memory e ts us test h u g = tt
-unnamed_test (errors.Fault f line) e ts us test h u g = rw (h, ← u, g) refl
-
-pub named_test : (e : ExpressionTree) (ts us r : List Lexeme) (test : ObjectTest) (n : NameTree)
-    → testing (head ts) ≡ Some test → us ≡ tail ts → expect_name us ≡ Ok (n, r)
-    → tested_next e ts ≡ Ok (tested test e n, r)
-unfolding tested_next
-named_test e ts us r test n h u g = rw (h, ← u, g) refl
 
 -- ---- one property
 

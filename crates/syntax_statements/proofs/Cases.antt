@@ -1,5 +1,5 @@
 -- What is read behind `if`, the words of loops and `switch`, by what reading their parts gave.
-use Rattle.std.proofs.Common.{◌≡◌, ℕ, ◌+◌, true, false, List, Option, Some, Ok, Err, refl, ◌∙◌}
+use Rattle.std.proofs.Common.{◌≡◌, ℕ, true, false, List, Option, Some, Ok, Err, refl, ◌∙◌}
 use Rattle.syntax_lexer.specs.declared.token.Position.{Position}
 use Rattle.syntax_lexer.specs.declared.token.Sign.TheVariants as s
 use Rattle.syntax_lexer.specs.declared.token.Word.TheVariants as w
@@ -7,19 +7,12 @@ use Rattle.syntax_lexer.specs.Token.{Lexeme}
 use Rattle.syntax_trees.specs.Tree.{ExpressionTree}
 use Rattle.syntax_parsing.specs.declared.error.Fault.TheVariants.{Grammar}
 use Rattle.syntax_parsing.specs.Parse.{◌>>=◌, Parse, head, tail, is_sign, is_word, expect}
-use Rattle.syntax_expressions.specs.Parse.{closed, nested, expression}
-use Rattle.syntax_expressions.proofs.Nested.{nested_whole}
+use Rattle.syntax_expressions.specs.Parse.{closed}
 use Rattle.syntax_statement_parts.specs.Tree.{HeadingTree, LoopTree}
 use Rattle.syntax_statement_parts.specs.Parse.{enclosed_condition, enclosed_heading, enclosed_loop}
 use Rattle.syntax_statements.specs.Tree.{StatementTree, CaseTree, cases_of, while_do, for_loop, switch_on, loop_over}
 use Rattle.syntax_statements.specs.Parse.{block_of, braced, repetition, iteration, traversal, cases, switch_of}
 use Rattle.syntax_statements.specs.Parse.{otherwise, selection}
-
-pub condition_read : (d k : ℕ) (ts us : List Lexeme) → d ≡ k + 1 → expect s.OpenParenthesis ts ≡ Ok us
-    → enclosed_condition d ts
-    ≡ (expression (nested k) us >>= closed {A = ExpressionTree} {B = ExpressionTree} (λ e. e))
-unfolding enclosed_condition
-condition_read d k ts us more h = rw (h, nested_whole d k us more) refl
 
 module _ (d : ℕ) (inside : Parse StatementTree) (p : Position) (ts m : List Lexeme) (c : ExpressionTree)
     (read : enclosed_condition d ts ≡ Ok (c, m)) where

@@ -17,16 +17,6 @@ tables_left [] i lt = absurd (omega arith)
 tables_left (row ∷ rows) zero lt = let a = length-append (table_bytes row) (flat_map table_bytes rows) in omega arith
 tables_left (row ∷ rows) (suc i) lt = tables_left rows i (omega arith)
 
--- tables that were written, and those that are left
-pub tables_more : (rows : List ObjectRow) (tables : List ℕ) (i : ℕ) → i < length rows
-    → tables ++ flat_map table_bytes (drop i rows) ≡ flat_map table_bytes rows
-    → length tables < length (flat_map table_bytes rows)
-tables_more rows tables i lt e =
-    let a = length-append tables (flat_map table_bytes (drop i rows)) in
-    let b = tables_left rows i lt in
-    let c = ap length e in
-    omega arith
-
 -- a row more
 
 module _ (rows : List ObjectRow) (i : ℕ) (row : ObjectRow) (lt : i < length rows) (is : row ≡ get_or rows i row) where

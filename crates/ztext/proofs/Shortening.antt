@@ -9,8 +9,7 @@ use Rattle.std.proofs.lemmas.List.Elements.{All-nil, All-cons}
 use Rattle.ztext.specs.Alphabets.{is_printable, lower_letters, upper_letters, punctuation, place_in, spelling_of}
 use Rattle.ztext.specs.Alphabets.{spelling_in_lower, spelling_in_upper, spelling_in_punctuation, spelled}
 use Rattle.ztext.specs.Words.{packed, missing, padded}
-use Rattle.ztext.specs.Text.{encoded}
-use Rattle.ztext.specs.Abbreviations.{abbreviation_at, Found, spelled_behind, encoded_with}
+use Rattle.ztext.specs.Abbreviations.{abbreviation_at, Found, spelled_behind}
 use Rattle.ztext.specs.TextParts.{AreSmall}
 use Rattle.ztext.proofs.Packing.{small_append}
 use Rattle.ztext.proofs.TextSizes.{none_packed, some_packed}
@@ -55,14 +54,6 @@ packed_bytes (a ∷ b ∷ c ∷ d ∷ zs) h =
     (All-cons (λ b. b < 256) ((b % 8) * 32 + c) (packed (d ∷ zs)) (omega (arith, h.1.1.0))
     (packed_bytes (d ∷ zs) h.1.1.1))
 
--- its bytes are bytes
-pub encoded_with_bytes : (abbreviations : List (List ℕ)) (text : List ℕ) → list_all is_printable text ≡ true
-    → All (λ b. b < 256) (encoded_with abbreviations text)
-unfolding encoded_with
-encoded_with_bytes abbreviations text e =
-    packed_bytes (padded (spelled_behind abbreviations 0 text))
-    (shortened_small abbreviations text (printable_bytes text e))
-
 -- ---- words
 
 -- how many words so many Z-characters need
@@ -83,25 +74,11 @@ words_more zero n le = words_some n
 words_more (suc m) zero le = absurd (omega arith)
 words_more (suc m) (suc n) le = omega arith
 
--- whole words, at least one
-pub encoded_with_words : (abbreviations : List (List ℕ)) (text : List ℕ)
-    → (length (encoded_with abbreviations text) % 2 ≡ 0) × (2 ≤ length (encoded_with abbreviations text))
-unfolding encoded_with
-encoded_with_words abbreviations text =
-    let zs = spelled_behind abbreviations 0 text in
-    let size = packed_size zs (length zs) refl in
-    let some = words_some (length zs) in
-    (omega (arith, size), omega (arith, size))
-
 -- ---- without abbreviations
 
 plain_behind : (text : List ℕ) → spelled_behind [] 0 text ≡ spelled text
 plain_behind [] = refl
 plain_behind (c ∷ cs) = ap (λ zs. spelling_of c ++ zs) (plain_behind cs)
-
-pub plain_with : (text : List ℕ) → encoded_with [] text ≡ encoded text
-unfolding encoded_with encoded
-plain_with text = ap (λ zs. packed (padded zs)) (plain_behind text)
 
 -- ---- no longer than without
 
@@ -197,12 +174,3 @@ behind_shorter texts n (c ∷ cs) h =
       spelling_some c,
       length-append (spelling_of c) (spelled cs),
     )))
-
-pub encoded_with_shorter : (abbreviations : List (List ℕ)) (text : List ℕ)
-    → All (λ (a : List ℕ). 2 ≤ length a) abbreviations
-    → length (encoded_with abbreviations text) ≤ length (encoded text)
-unfolding encoded_with encoded
-encoded_with_shorter abbreviations text h =
-    let zs = spelled_behind abbreviations 0 text in
-    let less = words_more (length zs) (length (spelled text)) (behind_shorter abbreviations 0 text h) in
-    omega (arith, packed_size zs (length zs) refl, packed_size (spelled text) (length (spelled text)) refl)
