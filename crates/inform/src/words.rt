@@ -57,7 +57,7 @@ pub fn command<'a>(alloc: Global) -> Result<Command<'a>, AllocError> {
         .required(true)
         .action(ArgAction::Set);
     Command::new(alloc, "inform")
-        .version("0.1.0")
+        .version("1.0.0")
         .about("Compiles a source file to a Z-machine story file")
         .after_help(MORE)
         .arg(version)?

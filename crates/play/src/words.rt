@@ -94,7 +94,7 @@ fn program<'a>(alloc: Global) -> Command<'a>
     ensures { HasNoArgument result }
 {
     Command::new(alloc, "play")
-        .version("0.1.0")
+        .version("1.0.0")
         .about("Plays a Z-machine story file on the lines of standard input")
         .after_help(MORE)
 }
