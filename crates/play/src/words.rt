@@ -10,11 +10,15 @@ use std::alloc::Global;
 /// The fuel of a turn where `--fuel` does not say.
 const FUEL: u32 = 1_000_000;
 
-/// Where help ends: the player's own lines, and what is written elsewhere.
+/// Where help ends: the player's own lines, an example, and what is written elsewhere.
 const MORE: &str = "The line /undo takes the latest turn back, and the line /redo does it again.
 
+Example, which keeps the lines and the transcript:
+  tee lines | play game.z5 | tee transcript
+
 The player, with its limits and machine faults: docs/MACHINE.md
-The story file, with the causes Z4 to Z8 for which one is refused: docs/STORY_FILE.md";
+The story file, with the causes Z4 to Z8 for which one is refused: docs/STORY_FILE.md
+All messages and statuses: docs/COMMANDS.md, and in short the page play(6)";
 
 /// What the command line asks for.
 #[derive(Clone, Copy)]
@@ -94,7 +98,7 @@ fn program<'a>(alloc: Global) -> Command<'a>
     ensures { HasNoArgument result }
 {
     Command::new(alloc, "play")
-        .version("0.1.0")
+        .version("1.0.0")
         .about("Plays a Z-machine story file on the lines of standard input")
         .after_help(MORE)
 }
