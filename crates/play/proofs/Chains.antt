@@ -54,7 +54,7 @@ other_at a (b ∷ bs) zero d unlike lt = unlike.0
 other_at a (b ∷ bs) (suc k) d unlike lt = other_at a bs k d unlike.1 (omega arith)
 
 no_and_yes : (b : Bool) → b ≡ false → b ≡ true → ⊥
-no_and_yes b no yes = let bad : false ≡ true = sym no ∙ yes in cc
+no_and_yes b is_false is_true = let bad : false ≡ true = sym is_false ∙ is_true in cc
 
 distinct_none : HasDistinctIds []
 distinct_none j k d e in_j in_k same = absurd (omega arith)
