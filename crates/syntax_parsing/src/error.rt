@@ -1,11 +1,9 @@
 //! Why tokens are not read.
 
 ghost use Rattle.std.specs.Prelude.{◌≡◌};
-ghost use Rattle.syntax_parsing.specs.Errors.{source_fault};
 ghost use Rattle.syntax_parsing.specs.declared.error.ParseError.TheVariants.{Memory};
 
 use std::alloc::{AllocError, AllocFailed};
-use syntax_lexer::SourceFault;
 
 /// Why tokens have no tree.
 #[derive(Clone, Copy)]
@@ -23,7 +21,7 @@ pub enum ParseError {
     /// A growth of memory was refused (E99).
     Memory,
 
-    /// A fault, and the line of the token at which it stands.
+    /// A fault, and how many tokens are left from that on at which it stands.
     Fault(Fault, usize),
 }
 
@@ -40,20 +38,5 @@ impl<T: Drop> From<AllocFailed<T>> for ParseError {
 
     fn from(_e: AllocFailed<T>) -> ParseError {
         ParseError::Memory
-    }
-}
-
-impl From<ParseError> for SourceFault {
-    ghost from_gives = { λ e fault. fault ≡ source_fault e };
-
-    fn from(e: ParseError) -> SourceFault {
-        match e {
-            ParseError::Memory => SourceFault {
-                number: 99,
-                line: 0,
-            },
-            ParseError::Fault(Fault::Grammar, line) => SourceFault { number: 10, line },
-            ParseError::Fault(Fault::Deep, line) => SourceFault { number: 5, line },
-        }
     }
 }

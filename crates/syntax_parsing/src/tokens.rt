@@ -1,6 +1,6 @@
 //! Which token comes next, and what it is.
 
-ghost use Rattle.std.specs.Prelude.{◌≡◌, ◌+◌, IfOk, IfErr};
+ghost use Rattle.std.specs.Prelude.{◌≡◌, ◌+◌, IfOk, IfErr, length};
 ghost use Rattle.syntax_lexer.specs.Token.{lexeme, lexemes, position_of};
 ghost use Rattle.syntax_parsing.specs.Parse as spec;
 
@@ -59,11 +59,12 @@ pub fn is_word(token: Token<'_>, word: Word) -> bool
     }
 }
 
-/// A fault at the next token, with its line.
+/// A fault at the next token. It holds how many tokens are left, and no place: the tokens of a
+/// source tell that of each.
 pub fn fault_at(fault: Fault, tokens: &[Token<'_>]) -> ParseError
-    ensures { result ≡ ParseError.Fault fault (position_of (spec.head (lexemes tokens.now))).line }
+    ensures { result ≡ ParseError.Fault fault (length tokens.now) }
 {
-    ParseError::Fault(fault, position(tokens).line)
+    ParseError::Fault(fault, tokens.len())
 }
 
 /// How many nestings more may be opened inside the next token, which opens one of `depth`.
@@ -74,7 +75,7 @@ pub fn fault_at(fault: Fault, tokens: &[Token<'_>]) -> ParseError
 pub fn open<'a>(depth: usize, tokens: &[Token<'a>]) -> Result<usize, ParseError>
     ensures opened { IfOk result (λ inside. depth ≡ inside + 1) }
     ensures refused { IfErr result (λ e. (depth ≡ 0)
-        × (e ≡ ParseError.Fault Fault.Deep (position_of (spec.head (lexemes tokens.now))).line)) }
+        × (e ≡ ParseError.Fault Fault.Deep (length tokens.now))) }
 {
     if depth == 0 {
         return Err(fault_at(Fault::Deep, tokens));
