@@ -27,7 +27,7 @@ returns-in_err-checked c =
     let p = program_tree c.in_ok-program.program in
     let refused : Refuses c.args.version c.args.source.now c.in_err-checked.field-0.0.fault =
     unchecked c.args.version c.args.source.now p c.in_err-checked.field-0.0.fault
-    (is_tree c.args.source.now c.deref.result.now lexed p found.0 found.1) c.in_err-checked.ensures.answers.answers in
+    (is_tree c.args.source.now c.deref.result.now lexed p found.0 found.1) c.in_err-checked.ensures.answers in
     answered c.args.version c.args.source.now c.from_residual-in_err-checked.result c.in_err-checked.field-0.0
     c.from_residual-in_err-checked.ensures refused
 
