@@ -69,7 +69,11 @@ impl Display for Mark<'_> {
                 f.write_str("~~~")?;
             }
         }
-        if self.0.is_empty() { f.write_str(sign) } else { Ok(()) }
+        if self.0.is_empty() {
+            f.write_str(sign)
+        } else {
+            Ok(())
+        }
     }
 }
 
@@ -119,6 +123,11 @@ impl Display for Excerpt<'_> {
         let more = if self.cut.1 { ".." } else { "" };
         let (before, marked, behind) = (Bytes(self.before), Bytes(self.marked), Bytes(self.behind));
         writeln!(f, "    {dots}{before}{marked}{behind}{more}")?;
-        writeln!(f, "    {blanks}{}{}", Blanks(self.before), Mark(self.marked))
+        writeln!(
+            f,
+            "    {blanks}{}{}",
+            Blanks(self.before),
+            Mark(self.marked)
+        )
     }
 }

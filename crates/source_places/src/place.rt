@@ -80,7 +80,10 @@ fn place_at(source: &[u8], offset: usize, fault: SourceFault) -> Option<Place>
     let before = front(source, offset);
     let rest = from(source, offset);
     let length = span(fault.number, front(rest, line_length(rest)));
-    if line_behind(before) != fault.line || (length == 0 && !rest.is_empty()) {
+    if line_behind(before) != fault.line {
+        return None;
+    }
+    if length == 0 && !rest.is_empty() {
         return None;
     }
     Some(Place {

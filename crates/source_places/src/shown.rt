@@ -34,8 +34,16 @@ impl<N: Display, S: Display> Display for Shown<'_, N, S> {
             return writeln!(f, "{}: {}", self.name, self.sentence);
         };
         let line = self.diagnosis.fault.line;
-        writeln!(f, "{}:{line}:{}: {}", self.name, place.column, self.sentence)?;
+        writeln!(
+            f,
+            "{}:{line}:{}: {}",
+            self.name, place.column, self.sentence
+        )?;
         let excerpt = Excerpt::of(self.source, place);
-        if excerpt.is_blank() { Ok(()) } else { write!(f, "{excerpt}") }
+        if excerpt.is_blank() {
+            Ok(())
+        } else {
+            write!(f, "{excerpt}")
+        }
     }
 }

@@ -94,11 +94,7 @@ pub fn compile_for(alloc: Global, source: &[u8], version: Version) -> Result<Sto
 ///
 /// Those of [`compile_for`]. The offset is that of the byte, the token or the first token of what
 /// is at fault; E30, E31 and E99 have none.
-pub fn compile_placed(
-    alloc: Global,
-    source: &[u8],
-    version: Version,
-) -> Result<Story, PlacedFault>
+pub fn compile_placed(alloc: Global, source: &[u8], version: Version) -> Result<Story, PlacedFault>
     ensures { Compiles version source.now (unplaced result) }
 {
     accepted_programs();
