@@ -1,5 +1,6 @@
 -- Spans within a line.
-use Rattle.std.proofs.Common.{ℕ, ◌≡◌, ◌≤◌, ◌<◌, ◌≢◌, List, All, length, take, drop, sym, ap, subst, ◌∙◌, arith, take-take}
+use Rattle.std.proofs.Common.{ℕ, ◌≡◌, ◌≤◌, ◌<◌, ◌≢◌, List, All, length, take, drop, sym, ap, subst}
+use Rattle.std.proofs.Common.{◌∙◌, arith, take-take}
 use Rattle.std.proofs.Common.{length-drop, length-take-le}
 use Rattle.std.proofs.lemmas.List.Elements.{All-take}
 use Rattle.source_places.specs.Lines.{IsPlaceIn, line_behind, column_behind}
@@ -21,6 +22,7 @@ place_in source before rest line offset n m number column eb er el within fits a
       within = omega (arith, size, short, length-drop offset source);
       in_line = ap (line_behind 1) (sym eb) ∙ in_line;
       at_column = ap (column_behind 1) (sym eb) ∙ at_column;
-      in_one_line = subst (λ bs. All (λ b. b ≢ 10) (take m bs)) er (shorter (λ b. b ≢ 10) m n rest (omega (arith, short)) all);
+      in_one_line = subst (λ bs. All (λ b. b ≢ 10) (take m bs)) er
+          (shorter (λ b. b ≢ 10) m n rest (omega (arith, short)) all);
       has_bytes = λ before_end. some (omega (arith, size, length-drop offset source));
     }

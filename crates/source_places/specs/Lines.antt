@@ -1,5 +1,6 @@
 -- Lines and columns of a source.
-use Rattle.std.specs.Prelude.{◌≡◌, ◌≢◌, ◌==◌, ◌+◌, ◌≤◌, ◌<◌, ℕ, if◌then◌else◌, List, [], ◌∷◌, take, drop, length, IfSome}
+use Rattle.std.specs.Prelude.{◌≡◌, ◌≢◌, ◌==◌, ◌+◌, ◌≤◌, ◌<◌, ℕ, if◌then◌else◌, List, [], ◌∷◌, take}
+use Rattle.std.specs.Prelude.{drop, length, IfSome}
 use Rattle.std.specs.List.{All}
 use Rattle.syntax_lexer.specs.Tokens.{line_after}
 use Rattle.source_places.specs.declared.place.Place.{Place}

@@ -93,13 +93,15 @@ err_grammar errors.Memory f ts h is n = absurd (omega (arith, ap (λ (x : Source
 err_grammar (errors.Fault Grammar count) f ts h is n = no_program 100 ts h
 err_grammar (errors.Fault Deep count) f ts h is n = absurd (omega (arith, ap (λ (x : SourceFault). x.number) is))
 
-pub err_deep : (e : ParseError) (f : SourceFault) (ts : List Lexeme) → Fails e (program 100 ts) → f ≡ (placed_fault ts e).fault
+pub err_deep : (e : ParseError) (f : SourceFault) (ts : List Lexeme) → Fails e (program 100 ts)
+    → f ≡ (placed_fault ts e).fault
     → f.number ≡ 5 → DeepProgram 101 ts × ((p : ProgramTree) → IsProgram ts p → 100 < program_nesting p)
 err_deep errors.Memory f ts h is n = absurd (omega (arith, ap (λ (x : SourceFault). x.number) is))
 err_deep (errors.Fault Grammar count) f ts h is n = absurd (omega (arith, ap (λ (x : SourceFault). x.number) is))
 err_deep (errors.Fault Deep count) f ts h is n = (too_deep 100 ts h, none_within 100 ts h)
 
-pub err_only : (e : ParseError) (f : SourceFault) (ts : List Lexeme) → Fails e (program 100 ts) → f ≡ (placed_fault ts e).fault
+pub err_only : (e : ParseError) (f : SourceFault) (ts : List Lexeme) → Fails e (program 100 ts)
+    → f ≡ (placed_fault ts e).fault
     → (p : ProgramTree) → IsProgram ts p → program_nesting p ≤ 100 → f ≡ no_memory
 err_only errors.Memory f ts h is p a le = is
 err_only (errors.Fault g count) f ts h is p a le = let never = sym h ∙ within 100 a le in absurd cc

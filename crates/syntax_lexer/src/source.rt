@@ -1,6 +1,7 @@
 //! The whole source.
 
-ghost use Rattle.std.specs.Prelude.{◌≡◌, ◌≤◌, ◌+◌, ◌-◌, ◌<◌, ◌==◌, ◌⊎◌, ◌∷◌, length, slice_index, List, ℕ, Err, false, drop, IfOk, IfErr};
+ghost use Rattle.std.specs.Prelude.{◌≡◌, ◌≤◌, ◌+◌, ◌-◌, ◌<◌, ◌==◌, ◌⊎◌, length, slice_index, List, ℕ, Err, false};
+ghost use Rattle.std.specs.Prelude.{IfOk, IfErr};
 ghost use Rattle.syntax_lexer.specs.FaultNumbers.{no_memory};
 ghost use Rattle.syntax_lexer.specs.Placed.{unplaced, nowhere, IsFaultIn};
 ghost use Rattle.syntax_lexer.specs.Bytes.{is_divider};

@@ -43,7 +43,8 @@ returns-in_err-test_sizes_placed c =
     too_large c.args.version c.args.source.now p c.in_ok-checked.checked c.in_err-test_sizes_placed.field-0.0.fault
     (is_tree c.args.source.now c.deref.result.now lexed p found.0 found.1) checked.0 checked.1
     c.in_err-test_sizes_placed.ensures in
-    answered c.args.version c.args.source.now c.from_residual-in_err-test_sizes_placed.result c.in_err-test_sizes_placed.field-0.0
+    answered c.args.version c.args.source.now c.from_residual-in_err-test_sizes_placed.result
+    c.in_err-test_sizes_placed.field-0.0
     c.from_residual-in_err-test_sizes_placed.ensures refused
 
 pub write_story-requires : goal.write_story-requires
