@@ -1,5 +1,5 @@
 -- Faults with their places.
-use Rattle.std.specs.Prelude.{◌≡◌, ◌⊎◌, ℕ, List, Some, None, Result, Ok, Err}
+use Rattle.std.specs.Prelude.{◌≡◌, ℕ, List, Some, None, Result, Ok, Err}
 use Rattle.syntax_lexer.specs.declared.fault.SourceFault.{SourceFault}
 use Rattle.syntax_lexer.specs.declared.fault.PlacedFault.{PlacedFault}
 use Rattle.syntax_lexer.specs.Tokens.{LexesFrom}
