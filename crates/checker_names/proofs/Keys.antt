@@ -1,6 +1,6 @@
 -- Keys, a byte at a time.
 use Rattle.std.proofs.Common.{◌≡◌, ℕ, zero, suc, ◌+◌, ◌<◌, ◌≤◌, List, [], ◌∷◌, slice_index_or, slice_set, refl, ap}
-use Rattle.std.proofs.Common.{arith}
+use Rattle.std.proofs.Common.{length, ◌⊎◌, inl, inr, arith}
 use Rattle.checker_names.specs.Names.{lower_case, padded, key_of}
 
 -- so many bytes, of which i are filled
@@ -38,7 +38,16 @@ whole (suc n) i [] h = none (suc n) i
 whole (suc n) zero (c ∷ s) h = absurd (omega arith)
 whole (suc n) (suc i) (c ∷ s) h = ap (λ r. lower_case c ∷ r) (whole n i s (omega arith))
 
--- all bytes
-pub key_filled : (s : List ℕ) (i : ℕ) → 32 ≤ i → fill 32 i s ≡ key_of s
+ended : (n i : ℕ) (s : List ℕ) → length s ≤ i → fill n i s ≡ padded n s
+ended zero i s h = refl
+ended (suc n) i [] h = none (suc n) i
+ended (suc n) zero (c ∷ s) h = absurd (omega arith)
+ended (suc n) (suc i) (c ∷ s) h = ap (λ r. lower_case c ∷ r) (ended n i s (omega arith))
+
+-- all bytes that the key holds
+pub key_filled : (s : List ℕ) (i held : ℕ) → (held ≡ 32) ⊎ (held ≡ length s) → held ≤ i → fill 32 i s ≡ key_of s
 unfolding key_of
-key_filled s i h = whole 32 i s h
+key_filled s i held which h = elim which [
+  | inl e ↦ whole 32 i s (omega (arith, e, h))
+  | inr e ↦ ended 32 i s (omega (arith, e, h))
+]

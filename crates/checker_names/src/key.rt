@@ -1,6 +1,6 @@
 //! Keys of names: two names are the same where their keys are.
 
-ghost use Rattle.std.specs.Prelude.{◌≡◌, slice_index_or};
+ghost use Rattle.std.specs.Prelude.{◌≡◌, ◌≤◌, ◌⊎◌, length};
 ghost use Rattle.checker_names.specs.Names as spec;
 
 /// A name in lower case, with zeros after it. A name has at most 32 bytes.
@@ -16,13 +16,13 @@ fn lower_case(byte: u8) -> u8
     }
 }
 
-fn byte_at(name: &[u8], index: usize) -> u8
-    ensures { result ≡ spec.lower_case (slice_index_or name.now index 0) }
+/// How many bytes of a name its key holds.
+fn held(name: &[u8]) -> usize
+    ensures few { result ≤ 32 }
+    ensures all { (result ≡ 32) ⊎ (result ≡ length name.now) }
+    ensures there { result ≤ length name.now }
 {
-    match name.get(index) {
-        Some(byte) => lower_case(*byte),
-        None => 0,
-    }
+    if name.len() < 32 { name.len() } else { 32 }
 }
 
 /// The key of a name.
@@ -31,8 +31,8 @@ pub fn key_of(name: &[u8]) -> Key
     ensures { result ≡ spec.key_of name.now }
 {
     let mut key = [0; 32];
-    for i in 0..32 {
-        key[i] = byte_at(name, i);
+    for i in 0..held(name) {
+        key[i] = lower_case(name[i]);
     }
     key
 }

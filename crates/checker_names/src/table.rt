@@ -37,8 +37,9 @@ pub fn define(name: Name<'_>, table: &mut Table, binding: Binding) -> Result<(),
     ensures { OnOk result (table.new.entries
         ≡ with_name table.old.entries (name_tree name.entry) binding) }
 {
-    if find(table, name.text).is_none() {
-        table.insert(key_of(name.text), binding)?;
+    let key = key_of(name.text);
+    if find_key(table, &key).is_none() {
+        table.insert(key, binding)?;
     }
     Ok(())
 }

@@ -44,7 +44,7 @@ fn characters(alloc: Global, text: &[u8]) -> Result<Vec<u8>, AllocError>
     ensures { IfOk result (λ v.
         v.items ≡ filter is_printable (map definitions.character_of text.now)) }
 {
-    let mut characters = Vec::new(alloc);
+    let mut characters = Vec::with_capacity(alloc, text.len())?;
     for byte in text {
         let character = character_of(*byte);
         if is_printable(character) {

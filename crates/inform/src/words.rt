@@ -4,9 +4,13 @@ use clap::{Arg, ArgAction, ArgMatches, Command, value_parser};
 use std::alloc::{AllocError, Global};
 use zcore::Version;
 
-/// Where help ends: what is written elsewhere.
-const MORE: &str = "The language, with the faults by which a source is refused: docs/LANGUAGE.md
-The story file: docs/STORY_FILE.md";
+/// Where help ends: an example, and what is written elsewhere.
+const MORE: &str = "Example:
+  inform game.inf game.z5 && play game.z5
+
+The language, with the faults by which a source is refused: docs/LANGUAGE.md
+The story file: docs/STORY_FILE.md
+All messages and statuses: docs/COMMANDS.md, and in short the page inform(1)";
 
 /// What the command line asks for.
 #[derive(Clone, Copy)]
@@ -64,7 +68,7 @@ pub fn command<'a>(alloc: Global) -> Result<Command<'a>, AllocError> {
         .required_unless_present("show")?
         .action(ArgAction::Set);
     Command::new(alloc, "inform")
-        .version("0.1.0")
+        .version("1.0.0")
         .about("Compiles a source file to a Z-machine story file")
         .after_help(MORE)
         .arg(version)?

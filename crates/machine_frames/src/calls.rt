@@ -16,6 +16,7 @@ use crate::results::test_caller;
 use crate::stack::{height, running};
 use crate::store::Store;
 use journal::Recorded;
+use zcore::layout::HEADER_LENGTH;
 use zcore::{Fault, Limit, Place};
 
 /// Where code may stand: behind the header, below the story's length.
@@ -23,7 +24,7 @@ use zcore::{Fault, Limit, Place};
 pub fn is_code(memory: &[u8], address: usize) -> bool
     ensures { result ≡ is_code memory.now address }
 {
-    64 <= address && address < memory.len()
+    HEADER_LENGTH <= address && address < memory.len()
 }
 
 /// Tests whether a routine can be entered, and changes nothing.

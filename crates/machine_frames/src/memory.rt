@@ -10,7 +10,7 @@ use crate::end::End;
 use crate::layout::MEMORY;
 use crate::store::Store;
 use journal::Recorded;
-use zcore::layout::READABLE;
+use zcore::layout::{HEADER_LENGTH, READABLE};
 use zcore::{Fault, Header, Place};
 
 /// Whether a byte can be read: it lies in the story, below 65,536.
@@ -35,7 +35,7 @@ pub fn is_readable_word(memory: &[u8], at: usize) -> bool
 pub fn is_writable(header: &Header, at: usize) -> bool
     ensures { result ≡ nat_le header_size at && nat_lt at header.now.static_base }
 {
-    64 <= at && at < header.static_base as usize
+    HEADER_LENGTH <= at && at < header.static_base as usize
 }
 
 /// Whether both bytes of a word can be written.
@@ -44,7 +44,7 @@ pub fn is_writable_word(header: &Header, at: usize) -> bool
     requires { at ≤ 65535 }
     ensures { result ≡ nat_le header_size at && nat_lt (at + 1) header.now.static_base }
 {
-    64 <= at && at + 1 < header.static_base as usize
+    HEADER_LENGTH <= at && at + 1 < header.static_base as usize
 }
 
 /// Reads a byte.

@@ -4,6 +4,7 @@
 
 mod arithmetic;
 mod calls;
+mod ending;
 mod jumps;
 mod lines;
 mod memory;
@@ -14,6 +15,7 @@ mod variables;
 
 pub use arithmetic::{divide, equals_any, give_result, modulo, quotient, remainder, signed_less};
 pub use calls::{call_packed, give_back, return_popped, unpacked};
+pub use ending::Ending;
 pub use jumps::{branch_on, branch_target, check_argument_count, jump, jump_target, test_branch};
 pub use lines::read;
 pub use memory::{load_byte, load_word, store_byte, store_word, word_address};

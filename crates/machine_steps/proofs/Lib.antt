@@ -1,4 +1,5 @@
 pub mod Decoding
+pub mod EndingsInside
 pub mod OperandsRead
 pub mod TypesGiven
 pub mod Performing

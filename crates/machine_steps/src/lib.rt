@@ -3,17 +3,12 @@
 #![tactic(auto)]
 
 mod decode;
-mod first_bytes;
+pub mod first_bytes;
+mod inside;
 mod instruction;
 mod perform;
 
-pub use decode::{
-    BRANCH_ON_TRUE, Ending, LARGE, OFFSETS, OMITTED, ONE_BYTE_BRANCH, SMALL, TYPES, VARIABLE,
-    byte_operand, far_jump,
-};
-pub use first_bytes::{
-    FIRST_IS_VARIABLE, JUMP_LARGE, OPCODE_NUMBERS, SECOND_IS_VARIABLE, SHORT_FORM, SHORT_FORM_0OP,
-    SHORT_OPCODE_NUMBERS, VARIABLE_FORM, VARIABLE_FORM_VAR,
-};
+pub use decode::{LARGE, OMITTED, SMALL, TYPES, VARIABLE, byte_operand, far_jump};
+pub use inside::{branch_inside, branching_inside, result_inside};
 pub use instruction::step;
 pub use perform::{condition_of, word_of};

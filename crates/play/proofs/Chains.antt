@@ -1,6 +1,7 @@
--- The four arguments of the command line, as a chain of calls adds them.
-use Rattle.std.proofs.Common.{◌≡◌, ◌∙◌, ap, sym, zero, suc, ℕ, true, false, List, [], ◌∷◌, length, codes, refl, inl}
-use Rattle.std.proofs.Common.{inr, arith}
+-- The six arguments of the command line, as a chain of calls adds them.
+use Rattle.std.proofs.Common.{◌≡◌, ◌<◌, ◌∙◌, ap, sym, zero, suc, ℕ, Bool, true, false, List, [], ◌∷◌, length, codes}
+use Rattle.std.proofs.Common.{refl, inl, inr, arith}
+use Rattle.std.specs.Prelude.{⊤}
 use Rattle.std.specs.List.{All, slice_index_or}
 use Rattle.std.specs.Str.{bytes_eq}
 use Rattle.clap.specs.Built.{IsAuto, HasDistinctIds}
@@ -20,50 +21,90 @@ joins a x xs groups global id no_help no_version = (
   ]),
 )
 
-pub all_four : (P : Arg → Type 0) (a b c d : Arg) → P a → P b → P c → P d → All P (a ∷ b ∷ c ∷ d ∷ [])
-all_four P a b c d p q r s zero e lt = p
-all_four P a b c d p q r s (suc zero) e lt = q
-all_four P a b c d p q r s (suc (suc zero)) e lt = r
-all_four P a b c d p q r s (suc (suc (suc zero))) e lt = s
-all_four P a b c d p q r s (suc (suc (suc (suc k)))) e lt = absurd (omega arith)
+pub all_six : (P : Arg → Type 0) (a b c d e f : Arg) → P a → P b → P c → P d → P e → P f
+    → All P (a ∷ b ∷ c ∷ d ∷ e ∷ f ∷ [])
+all_six P a b c d e f p q r s t u zero x lt = p
+all_six P a b c d e f p q r s t u (suc zero) x lt = q
+all_six P a b c d e f p q r s t u (suc (suc zero)) x lt = r
+all_six P a b c d e f p q r s t u (suc (suc (suc zero))) x lt = s
+all_six P a b c d e f p q r s t u (suc (suc (suc (suc zero)))) x lt = t
+all_six P a b c d e f p q r s t u (suc (suc (suc (suc (suc zero))))) x lt = u
+all_six P a b c d e f p q r s t u (suc (suc (suc (suc (suc (suc k)))))) x lt = absurd (omega arith)
 
-unlike : (x y s t : List ℕ) → x ≡ s → y ≡ t → bytes_eq s t ≡ false → bytes_eq x y ≡ true → ⊥
-unlike x y s t p q e same =
-    let bad : false ≡ true = sym e ∙ sym (ap (λ l. bytes_eq l y) p ∙ ap (bytes_eq s) q) ∙ same in
-    cc
+-- two arguments with ids of their own
+record IsOther (a b : Arg) : Type 0 where
+  pub there : bytes_eq a.id.now b.id.now ≡ false
+  pub back : bytes_eq b.id.now a.id.now ≡ false
 
-pub four_ids : (a b c d : Arg) → a.id.now ≡ codes "fuel" → b.id.now ≡ codes "undo" → c.id.now ≡ codes "explain"
-    → d.id.now ≡ codes "story" → HasDistinctIds (a ∷ b ∷ c ∷ d ∷ [])
-four_ids a b c d p q r s zero zero e f j k same = refl
-four_ids a b c d p q r s zero (suc zero) e f j k same = absurd
-    (unlike a.id.now b.id.now (codes "fuel") (codes "undo") p q refl same)
-four_ids a b c d p q r s zero (suc (suc zero)) e f j k same = absurd
-    (unlike a.id.now c.id.now (codes "fuel") (codes "explain") p r refl same)
-four_ids a b c d p q r s zero (suc (suc (suc zero))) e f j k same = absurd
-    (unlike a.id.now d.id.now (codes "fuel") (codes "story") p s refl same)
-four_ids a b c d p q r s (suc zero) zero e f j k same = absurd
-    (unlike b.id.now a.id.now (codes "undo") (codes "fuel") q p refl same)
-four_ids a b c d p q r s (suc zero) (suc zero) e f j k same = refl
-four_ids a b c d p q r s (suc zero) (suc (suc zero)) e f j k same = absurd
-    (unlike b.id.now c.id.now (codes "undo") (codes "explain") q r refl same)
-four_ids a b c d p q r s (suc zero) (suc (suc (suc zero))) e f j k same = absurd
-    (unlike b.id.now d.id.now (codes "undo") (codes "story") q s refl same)
-four_ids a b c d p q r s (suc (suc zero)) zero e f j k same = absurd
-    (unlike c.id.now a.id.now (codes "explain") (codes "fuel") r p refl same)
-four_ids a b c d p q r s (suc (suc zero)) (suc zero) e f j k same = absurd
-    (unlike c.id.now b.id.now (codes "explain") (codes "undo") r q refl same)
-four_ids a b c d p q r s (suc (suc zero)) (suc (suc zero)) e f j k same = refl
-four_ids a b c d p q r s (suc (suc zero)) (suc (suc (suc zero))) e f j k same = absurd
-    (unlike c.id.now d.id.now (codes "explain") (codes "story") r s refl same)
-four_ids a b c d p q r s (suc (suc (suc zero))) zero e f j k same = absurd
-    (unlike d.id.now a.id.now (codes "story") (codes "fuel") s p refl same)
-four_ids a b c d p q r s (suc (suc (suc zero))) (suc zero) e f j k same = absurd
-    (unlike d.id.now b.id.now (codes "story") (codes "undo") s q refl same)
-four_ids a b c d p q r s (suc (suc (suc zero))) (suc (suc zero)) e f j k same = absurd
-    (unlike d.id.now c.id.now (codes "story") (codes "explain") s r refl same)
-four_ids a b c d p q r s (suc (suc (suc zero))) (suc (suc (suc zero))) e f j k same = refl
-four_ids a b c d p q r s (suc (suc (suc (suc n)))) m e f j k same = absurd (omega arith)
-four_ids a b c d p q r s zero (suc (suc (suc (suc n)))) e f j k same = absurd (omega arith)
-four_ids a b c d p q r s (suc zero) (suc (suc (suc (suc n)))) e f j k same = absurd (omega arith)
-four_ids a b c d p q r s (suc (suc zero)) (suc (suc (suc (suc n)))) e f j k same = absurd (omega arith)
-four_ids a b c d p q r s (suc (suc (suc zero))) (suc (suc (suc (suc n)))) e f j k same = absurd (omega arith)
+abbrev IsUnlike : Arg → List Arg → Type 0
+IsUnlike a [] = ⊤
+IsUnlike a (b ∷ bs) = IsOther a b × IsUnlike a bs
+
+others : (a b : Arg) (s t : List ℕ) → a.id.now ≡ s → b.id.now ≡ t → bytes_eq s t ≡ false → bytes_eq t s ≡ false
+    → IsOther a b
+others a b s t p q there back = record {
+  there = ap (λ l. bytes_eq l b.id.now) p ∙ ap (bytes_eq s) q ∙ there;
+  back = ap (λ l. bytes_eq l a.id.now) q ∙ ap (bytes_eq t) p ∙ back;
+}
+
+other_at : (a : Arg) (bs : List Arg) (k : ℕ) (d : Arg) → IsUnlike a bs → k < length bs
+    → IsOther a (slice_index_or bs k d)
+other_at a [] k d unlike lt = absurd (omega arith)
+other_at a (b ∷ bs) zero d unlike lt = unlike.0
+other_at a (b ∷ bs) (suc k) d unlike lt = other_at a bs k d unlike.1 (omega arith)
+
+no_and_yes : (b : Bool) → b ≡ false → b ≡ true → ⊥
+no_and_yes b no yes = let bad : false ≡ true = sym no ∙ yes in cc
+
+distinct_none : HasDistinctIds []
+distinct_none j k d e in_j in_k same = absurd (omega arith)
+
+distinct_with : (a : Arg) (bs : List Arg) → IsUnlike a bs → HasDistinctIds bs → HasDistinctIds (a ∷ bs)
+distinct_with a bs unlike rest zero zero d e in_j in_k same = refl
+distinct_with a bs unlike rest zero (suc k) d e in_j in_k same =
+    absurd (no_and_yes _ (other_at a bs k d unlike (omega arith)).there same)
+distinct_with a bs unlike rest (suc j) zero d e in_j in_k same =
+    absurd (no_and_yes _ (other_at a bs j e unlike (omega arith)).back same)
+distinct_with a bs unlike rest (suc j) (suc k) d e in_j in_k same =
+    ap suc (rest j k d e (omega arith) (omega arith) same)
+
+pub six_ids : (a b c d e f : Arg) → a.id.now ≡ codes "fuel" → b.id.now ≡ codes "undo" → c.id.now ≡ codes "why"
+    → d.id.now ≡ codes "check" → e.id.now ≡ codes "explain" → f.id.now ≡ codes "story"
+    → HasDistinctIds (a ∷ b ∷ c ∷ d ∷ e ∷ f ∷ [])
+six_ids a b c d e f p q r s t u =
+    distinct_with a (b ∷ c ∷ d ∷ e ∷ f ∷ []) (
+      others a b (codes "fuel") (codes "undo") p q refl refl,
+      (
+        others a c (codes "fuel") (codes "why") p r refl refl,
+        (
+          others a d (codes "fuel") (codes "check") p s refl refl,
+          (
+            others a e (codes "fuel") (codes "explain") p t refl refl,
+            (others a f (codes "fuel") (codes "story") p u refl refl, tt),
+          ),
+        ),
+      ),
+    )
+    (distinct_with b (c ∷ d ∷ e ∷ f ∷ []) (
+      others b c (codes "undo") (codes "why") q r refl refl,
+      (
+        others b d (codes "undo") (codes "check") q s refl refl,
+        (
+          others b e (codes "undo") (codes "explain") q t refl refl,
+          (others b f (codes "undo") (codes "story") q u refl refl, tt),
+        ),
+      ),
+    )
+    (distinct_with c (d ∷ e ∷ f ∷ []) (
+      others c d (codes "why") (codes "check") r s refl refl,
+      (
+        others c e (codes "why") (codes "explain") r t refl refl,
+        (others c f (codes "why") (codes "story") r u refl refl, tt),
+      ),
+    )
+    (distinct_with d (e ∷ f ∷ []) (
+      others d e (codes "check") (codes "explain") s t refl refl,
+      (others d f (codes "check") (codes "story") s u refl refl, tt),
+    )
+    (distinct_with e (f ∷ []) (others e f (codes "explain") (codes "story") t u refl refl, tt)
+    (distinct_with f [] tt distinct_none)))))

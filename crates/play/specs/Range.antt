@@ -1,7 +1,7 @@
 -- The ranges of the command line's numbers.
 use Rattle.std.specs.Prelude.{ℕ, ◌≤◌, IfSome, ⊤}
 use Rattle.play.specs.declared.words.Asked.{Asked}
-use Rattle.play.specs.declared.words.Asked.TheVariants.{Explain, Play}
+use Rattle.play.specs.declared.words.Asked.TheVariants.{Explain, Play, Check}
 use Rattle.play.specs.declared.words.Words.{Words}
 
 -- the units of fuel that a turn may spend, at least and at most
@@ -25,3 +25,4 @@ pub record IsInRange (words : Words) : Type 0 where
 abbrev pub IsAskedInRange : Asked → Type 0
 IsAskedInRange (Explain _) = ⊤
 IsAskedInRange (Play words) = IsInRange words
+IsAskedInRange (Check _) = ⊤

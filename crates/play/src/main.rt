@@ -1,15 +1,19 @@
-//! Plays a story file, and explains what the player answers.
+//! Plays a story file, says what is in one, and explains what the player answers.
 #![tactic(auto)]
 
+mod checking;
 mod filling;
 mod name;
 mod reading;
+mod standing;
 mod words;
 
 ghost use Rattle.play.specs.Range.{IsInRange};
 
+use crate::checking::check;
 use crate::name::Name;
 use crate::reading::read_story;
+use crate::standing::Standing;
 use crate::words::{Asked, Words, words_of};
 use explanations::Program;
 use session::{RunFault, Session, run, status};
@@ -39,6 +43,7 @@ fn main(rt: HostRuntime) -> ExitCode {
     match words_of(alloc, given.as_slice()) {
         Ok(Asked::Play(words)) => play(&rt, words),
         Ok(Asked::Explain(name)) => explain(&rt, name),
+        Ok(Asked::Check(files)) => check(&rt, files.as_slice()),
         Err(error) => {
             let status = if error.use_stderr() { REFUSED } else { 0 };
             match error.print(&rt) {
@@ -50,7 +55,7 @@ fn main(rt: HostRuntime) -> ExitCode {
 }
 
 /// Says on standard error why the story is not played.
-fn refuse<W: Display + Drop>(rt: &HostRuntime, why: W) -> ExitCode {
+pub(crate) fn refuse<W: Display + Drop>(rt: &HostRuntime, why: W) -> ExitCode {
     let _ = eprintln!(rt; "play: {why}");
     ExitCode::from(REFUSED)
 }
@@ -75,18 +80,19 @@ fn explain(rt: &HostRuntime, name: Option<&str>) -> ExitCode {
 }
 
 /// Says on standard error what failed.
-fn broken(rt: &HostRuntime, fault: RunFault) -> ExitCode {
+pub(crate) fn broken(rt: &HostRuntime, fault: RunFault) -> ExitCode {
     let _ = eprintln!(rt; "play: {fault}");
     ExitCode::from(BROKEN)
 }
 
 /// The story in a file of this name.
-fn story_in(rt: &HostRuntime, name: &str) -> io::Result<Vec<u8>> {
+pub(crate) fn story_in(rt: &HostRuntime, name: &str) -> io::Result<Vec<u8>> {
     read_story(rt.alloc(), File::open(rt, name)?)
 }
 
 /// Plays a story file on the lines of standard input. The transcript goes to standard output, each
 /// reply as soon as its line was read. Zero bytes with which Inform 6 filled the file do not count.
+/// Where it is asked for, a line on standard error says at the end where the story stands.
 fn play(rt: &HostRuntime, words: Words<'_>) -> ExitCode
     requires { IsInRange words }
 {
@@ -98,6 +104,10 @@ fn play(rt: &HostRuntime, words: Words<'_>) -> ExitCode
         Err(fault) => return refuse(rt, fault),
     };
     let ran = run(&mut rt.stdin(), &mut rt.stdout(), &mut session);
+    if words.why && ran.is_ok() {
+        let standing = Standing::of(&session);
+        let _ = eprintln!(rt; "{standing}");
+    }
     // The process ends here: what each turn kept is not given back piece by piece.
     mem::forget(session);
     match ran {

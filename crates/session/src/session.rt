@@ -5,6 +5,7 @@ ghost use Rattle.std.specs.Prelude.{length, slice_index_or, IsTrue, IsSome, IfSo
 ghost use Rattle.std.specs.Borrow.{sem};
 ghost use Rattle.std.specs.Io.BufRead.{Rests};
 ghost use Rattle.zcore.specs.declared.place.Place.TheVariants as places;
+ghost use Rattle.zcore.specs.Turn.{StateOfPlay};
 ghost use Rattle.session.specs.Standing.{undo_of, redo_of};
 ghost use Rattle.session.specs.Session.{largest_record, latest_text, latest_size};
 ghost use Rattle.session.specs.Session.{stepped_back, bounded, without_oldest};
@@ -19,6 +20,7 @@ use crate::turns::{Turn, do_again, make_room, put_turn, take_back};
 use crate::typable::is_typable;
 use journal::{NoMemory, Recorded};
 use machine::{Machine, Store};
+use machine_frames::program_counter;
 use std::alloc::Global;
 use std::collections::VecDeque;
 use std::marker::Model;
@@ -145,6 +147,23 @@ impl Session {
         } else {
             self.turns[self.done - 1].place
         }
+    }
+
+    /// The address at which the story stands: of the instruction that stopped it, that waits for a
+    /// line, or that quit.
+    pub fn program_counter(&self) -> u32
+        ensures { (state : StateOfPlay) → result
+            ≡ (slice_index_or self.now.states self.now.present state).program_counter }
+    {
+        program_counter(&self.store)
+    }
+
+    /// The story's memory, as it is now.
+    pub fn memory(&self) -> &[u8]
+        ensures { (state : StateOfPlay) → result.now
+            ≡ (slice_index_or self.now.states self.now.present state).memory }
+    {
+        self.store.store().memory()
     }
 
     /// Takes the latest turn back. It answers false, and changes nothing, exactly where no turn is

@@ -101,7 +101,7 @@ fn shortened<T: AsSlice<u8>>(
     ensures { IfOk result (λ v. v.items
         ≡ spec.spelled_behind (map T.items abbreviations.now) 0 text.now) }
 {
-    let mut characters = Vec::new(alloc);
+    let mut characters = Vec::with_capacity(alloc, text.len() + text.len() / 2)?;
     // how many characters from here on are spelled already
     let mut spelled = 0;
     for place in 0..text.len() {

@@ -122,7 +122,7 @@ pub(crate) fn put_spelled(characters: &mut Vec<u8>, c: u8) -> Result<(), AllocEr
 pub(crate) fn spelled(alloc: Global, text: &[u8]) -> Result<Vec<u8>, AllocError>
     ensures { IfOk result (λ v. v.items ≡ spec.spelled text.now) }
 {
-    let mut characters = Vec::new(alloc);
+    let mut characters = Vec::with_capacity(alloc, text.len() + text.len() / 2)?;
     for c in text {
         put_spelled(&mut characters, *c)?;
     }

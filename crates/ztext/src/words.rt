@@ -53,7 +53,7 @@ pub(crate) fn packed(alloc: Global, characters: &[u8]) -> Result<Vec<u8>, AllocE
     requires { AreSmall characters.now }
     ensures { IfOk result (λ v. v.items ≡ spec.packed characters.now) }
 {
-    let mut bytes = Vec::new(alloc);
+    let mut bytes = Vec::with_capacity(alloc, characters.len() / 3 * 2)?;
     let mut rest = characters;
     while let Some((a, b, c, more)) = take_three(rest) {
         put_word(&mut bytes, more, a, b, c)?;

@@ -1,0 +1,11 @@
+# Completion of the words of `inform` for fish; files are completed beside them.
+
+# The faults, each with its title.
+function __inform_faults
+    inform --explain 2>/dev/null | string replace ': ' \t
+end
+
+complete -c inform -s v -x -a '5 8' -d 'The version of the story file'
+complete -c inform -l explain -x -a '(__inform_faults)' -d 'Explain a fault, or list all'
+complete -c inform -s h -l help -d 'Print help'
+complete -c inform -s V -l version -d 'Print the version'

@@ -1,0 +1,12 @@
+# Completion of the words of `play` for fish; files are completed beside them.
+
+# The answers, each with its title.
+function __play_answers
+    play --explain 2>/dev/null | string replace ': ' \t
+end
+
+complete -c play -l fuel -x -d 'The units of fuel of a turn'
+complete -c play -l undo -x -d 'How many turns can be taken back'
+complete -c play -l explain -x -a '(__play_answers)' -d 'Explain an answer, or list all'
+complete -c play -s h -l help -d 'Print help'
+complete -c play -s V -l version -d 'Print the version'

@@ -1,0 +1,94 @@
+//! Where a story stands at the end, and why it was stopped.
+
+use explanations::Program;
+use session::{Place, Session};
+use std::fmt;
+use survey::Opcode;
+use zcore::Fault;
+
+/// Where a story stands. `Display` writes it in words, a fault as `M7: division by zero at 0F31`.
+#[derive(Clone, Copy)]
+pub struct Standing {
+    place: Place,
+
+    /// The address of the instruction at which it stands.
+    at: u32,
+
+    /// The opcode there, where the memory has one.
+    opcode: Option<Opcode>,
+}
+
+impl Standing {
+    /// Where the story of a session stands.
+    pub fn of(session: &Session) -> Standing {
+        let at = session.program_counter();
+        Standing {
+            place: session.place(),
+            at,
+            opcode: Opcode::read(session.memory(), at as usize),
+        }
+    }
+}
+
+impl fmt::Display for Standing {
+    fn fmt<W: fmt::Write>(&self, f: &mut fmt::Formatter<W>) -> fmt::Result {
+        match self.place {
+            Place::Waiting => f.write_str("waits for a line"),
+            Place::Quit => f.write_str("has quit"),
+            Place::Limit(limit) => write!(f, "stopped by a limit: {limit}"),
+            Place::Fault(fault) => write_fault(f, fault, self),
+        }
+    }
+}
+
+/// Writes a machine fault with its cause and the address of the instruction.
+fn write_fault<W: fmt::Write>(
+    f: &mut fmt::Formatter<W>,
+    fault: Fault,
+    standing: &Standing,
+) -> fmt::Result {
+    let at = standing.at;
+    match (fault, standing.opcode) {
+        (Fault::Opcode, Some(opcode)) => write_opcode(f, opcode, at),
+        _ => match Program::Play.explanations().find(name_of(fault)) {
+            Some(explanation) => {
+                let title = explanation.title;
+                write!(f, "{fault}: {title} at {at:04X}")
+            }
+            None => write!(f, "{fault} at {at:04X}"),
+        },
+    }
+}
+
+/// The name by which a fault is explained.
+fn name_of(fault: Fault) -> &'static str {
+    match fault {
+        Fault::Opcode => "M1",
+        Fault::Code => "M2",
+        Fault::Read => "M3",
+        Fault::Write => "M4",
+        Fault::StackEmpty => "M5",
+        Fault::StackFull => "M6",
+        Fault::Division => "M7",
+        Fault::Object => "M8",
+        Fault::Property => "M9",
+        Fault::Character => "M10",
+        Fault::Return => "M11",
+        Fault::Buffer => "M12",
+    }
+}
+
+/// Writes what is wrong with an opcode: it is outside the profile, or has operands that it does not
+/// take.
+fn write_opcode<W: fmt::Write>(f: &mut fmt::Formatter<W>, opcode: Opcode, at: u32) -> fmt::Result {
+    let fault = Fault::Opcode;
+    let number = opcode.number_alone();
+    write!(f, "{fault}: opcode {number}")?;
+    if let Some(name) = opcode.name() {
+        write!(f, " ({name})")?;
+    }
+    match opcode.operation() {
+        Some(_) => write!(f, " at {at:04X} has operands that it does not take"),
+        None => write!(f, " at {at:04X} is outside the profile"),
+    }
+}

@@ -1,0 +1,4 @@
+pub mod Opcodes
+pub mod Facts
+pub mod Verdict
+pub mod Noted

@@ -1,0 +1,131 @@
+//! What a story holds.
+
+ghost use Rattle.std.specs.Prelude.{◌≡◌, ◌≤◌, IfOk, Ok};
+ghost use Rattle.zcore.specs.Header.{Reads, dictionary_of, entry_count};
+
+use crate::outside::Outside;
+use crate::reach::reach;
+use std::alloc::{AllocError, Global};
+use std::fmt;
+use zcore::Header;
+use zcore::layout::{DEFAULTS_LENGTH, OBJECT_ENTRY_LENGTH};
+use ztext::{MOST_ABBREVIATIONS, read_word};
+
+/// Where the address of its property table stands in an object's entry (Z-Machine Standards
+/// Document 1.1, section 12.3.2).
+const PROPERTIES: usize = 12;
+
+/// What a story holds that loads. `Display` writes a line for each.
+#[derive(Drop)]
+pub struct Contents {
+    /// How many objects there are, as far as the table goes: to the first property table behind
+    /// it, or to what else the header names behind it.
+    pub objects: usize,
+
+    /// How many words the dictionary has.
+    pub words: u16,
+
+    /// How many abbreviations there are, without those at the end of the table that are all one.
+    pub abbreviations: usize,
+
+    /// How many routines are called by constants from what can be reached.
+    pub routines: usize,
+
+    /// How many instructions can be reached from the start by branches, jumps and calls with
+    /// constant targets.
+    pub instructions: usize,
+
+    /// Each opcode outside the profile among them.
+    pub outside: Vec<Outside>,
+}
+
+impl fmt::Display for Contents {
+    fn fmt<W: fmt::Write>(&self, f: &mut fmt::Formatter<W>) -> fmt::Result {
+        let objects = self.objects;
+        let words = self.words;
+        let abbreviations = self.abbreviations;
+        let routines = self.routines;
+        let instructions = self.instructions;
+        writeln!(f, "objects {objects}")?;
+        writeln!(f, "dictionary words {words}")?;
+        writeln!(f, "abbreviations {abbreviations}")?;
+        writeln!(f, "routines reached {routines}")?;
+        writeln!(f, "instructions reached {instructions}")?;
+        for outside in &self.outside {
+            writeln!(f, "outside the profile: {outside}")?;
+        }
+        Ok(())
+    }
+}
+
+impl Contents {
+    /// What a story holds.
+    ///
+    /// # Errors
+    ///
+    /// Memory was refused.
+    pub(crate) fn read(alloc: Global, story: &[u8], header: &Header) -> Result<Contents, AllocError>
+        requires { Reads story.now (Ok header.now) }
+        ensures words { IfOk result
+            (λ contents. contents.words ≡ entry_count story.now (dictionary_of story.now)) }
+    {
+        let reached = reach(alloc, story, header)?;
+        Ok(Contents {
+            objects: count_objects(story, header),
+            words: header.dictionary.entries,
+            abbreviations: count_abbreviations(story, header.abbreviations),
+            routines: reached.routines,
+            instructions: reached.instructions,
+            outside: reached.outside,
+        })
+    }
+}
+
+/// How many entries of objects stand in the table.
+fn count_objects(story: &[u8], header: &Header) -> usize {
+    let mut entry = usize::from(header.defaults) + DEFAULTS_LENGTH;
+    let mut end = nearer(entry, story.len(), header.static_base);
+    end = nearer(entry, end, header.globals);
+    end = nearer(entry, end, header.abbreviations);
+    for objects in 0..story.len() {
+        if end < entry + OBJECT_ENTRY_LENGTH {
+            return objects;
+        }
+        end = nearer(entry, end, read_word(story, entry + PROPERTIES));
+        entry += OBJECT_ENTRY_LENGTH;
+    }
+    0
+}
+
+/// An end of the table, or an address behind an entry that is nearer.
+fn nearer(entry: usize, end: usize, address: u16) -> usize
+    ensures { result ≤ end }
+{
+    let address = usize::from(address);
+    if entry <= address {
+        end.min(address)
+    } else {
+        end
+    }
+}
+
+/// How many abbreviations there are. Compilers fill the table up with one that is empty.
+fn count_abbreviations(story: &[u8], table: u16) -> usize {
+    if table == 0 {
+        return 0;
+    }
+    let table = usize::from(table);
+    let last = table + 2 * (MOST_ABBREVIATIONS - 1);
+    if story.len() < last + 2 {
+        return 0;
+    }
+    for place in (0..MOST_ABBREVIATIONS - 1).rev() {
+        if read_word(story, table + 2 * place) != read_word(story, last) {
+            if place + 2 == MOST_ABBREVIATIONS {
+                return MOST_ABBREVIATIONS;
+            }
+            return place + 1;
+        }
+    }
+    0
+}

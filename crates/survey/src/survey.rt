@@ -1,0 +1,184 @@
+//! The survey of a file.
+
+ghost use Rattle.std.specs.Prelude.{◌≡◌, IfOk, length};
+ghost use Rattle.survey.specs.Verdict.{IsVerdict};
+
+use crate::beginning::Beginning;
+use crate::contents::Contents;
+use crate::facts::Facts;
+use crate::misplaced::{Misplaced, find_misplaced};
+use std::alloc::{AllocError, Global};
+use std::fmt;
+use zcore::layout::{HEADER_LENGTH, LONGEST_STORY};
+use zcore::{Header, HeaderFault};
+
+/// So many bytes no story has with the filling behind it.
+const TOO_LONG: usize = LONGEST_STORY + 512;
+
+/// What is found of a file without running it. `Display` writes a line for each fact, and the last
+/// lines say that it loads, and what it holds, or why it is refused.
+#[derive(Drop)]
+pub struct Survey {
+    /// How many bytes of it were read.
+    pub size: usize,
+
+    /// What it begins like.
+    pub beginning: Beginning,
+
+    /// What its header says, where it has one of version 5 or 8.
+    pub facts: Option<Facts>,
+
+    /// The first address of the header that is wrong.
+    pub misplaced: Option<Misplaced>,
+
+    /// What it holds, or why it is not loaded.
+    pub found: Result<Contents, HeaderFault>,
+}
+
+/// A survey in a few words: `loads`, `Z7`, or `needs random, save`.
+#[derive(Clone, Copy)]
+pub struct Brief<'a>(pub &'a Survey);
+
+/// A number with a comma before its last three digits.
+#[derive(Clone, Copy)]
+struct Parted(usize);
+
+impl Survey {
+    /// The survey of a file, which is taken for a story. It takes time and memory linear in the
+    /// file.
+    ///
+    /// # Errors
+    ///
+    /// Memory was refused.
+    pub fn read(alloc: Global, story: &[u8]) -> Result<Survey, AllocError>
+        ensures size { IfOk result (λ s. s.size ≡ length story.now) }
+        ensures verdict { IfOk result (λ s. IsVerdict story.now s.found) }
+    {
+        let found = match Header::read(story) {
+            Ok(header) => Ok(Contents::read(alloc, story, &header)?),
+            Err(fault) => Err(fault),
+        };
+        Ok(Survey {
+            size: story.len(),
+            beginning: Beginning::read(story),
+            facts: Facts::read(story),
+            misplaced: first_misplaced(story),
+            found,
+        })
+    }
+}
+
+/// The first address of the header that is wrong, where there is a header.
+fn first_misplaced(story: &[u8]) -> Option<Misplaced> {
+    if story.len() < HEADER_LENGTH {
+        None
+    } else {
+        find_misplaced(story)
+    }
+}
+
+impl fmt::Display for Parted {
+    fn fmt<W: fmt::Write>(&self, f: &mut fmt::Formatter<W>) -> fmt::Result {
+        let thousands = self.0 / 1000;
+        let rest = self.0 % 1000;
+        if thousands == 0 {
+            write!(f, "{rest}")
+        } else {
+            write!(f, "{thousands},{rest:03}")
+        }
+    }
+}
+
+impl fmt::Display for Survey {
+    fn fmt<W: fmt::Write>(&self, f: &mut fmt::Formatter<W>) -> fmt::Result {
+        let size = self.size;
+        write!(f, "size {size} bytes")?;
+        if TOO_LONG <= size {
+            f.write_str(" or more")?;
+        }
+        match self.facts {
+            Some(facts) => {
+                let stated = facts.stated_length;
+                write!(f, ", stated {stated}\n{facts}")?;
+            }
+            None => f.write_str("\n")?,
+        }
+        match &self.found {
+            Ok(contents) => write!(f, "loads\n{contents}"),
+            Err(fault) => write_cause(f, self, *fault),
+        }
+    }
+}
+
+/// Writes why a file is not loaded, with the figures.
+fn write_cause<W: fmt::Write>(
+    f: &mut fmt::Formatter<W>,
+    survey: &Survey,
+    fault: HeaderFault,
+) -> fmt::Result {
+    let size = Parted(survey.size);
+    match (fault, survey.facts) {
+        (HeaderFault::TooShort, _) => {
+            writeln!(f, "{fault}: the file has {size} bytes, a header has 64")
+        }
+        (HeaderFault::UnknownVersion, _) => {
+            let beginning = survey.beginning;
+            writeln!(f, "{fault}: {beginning}")
+        }
+        (HeaderFault::WrongLength, Some(facts)) => {
+            let stated = Parted(facts.stated_length);
+            writeln!(
+                f,
+                "{fault}: the header states {stated} bytes, the file has {size}"
+            )
+        }
+        (HeaderFault::WrongSum, Some(facts)) => {
+            let stated = facts.stated_sum;
+            let sum = facts.sum;
+            writeln!(
+                f,
+                "{fault}: the header states the sum {stated:04X}, the bytes have {sum:04X}"
+            )
+        }
+        (HeaderFault::WrongAddress, Some(facts)) => match survey.misplaced {
+            Some(misplaced) => writeln!(f, "{fault}: {misplaced}"),
+            None => {
+                let dictionary = facts.dictionary;
+                writeln!(
+                    f,
+                    "{fault}: dictionary at {dictionary:04X}: none that can be searched"
+                )
+            }
+        },
+        (_, None) => writeln!(f, "{fault}"),
+    }
+}
+
+impl fmt::Display for Brief<'_> {
+    fn fmt<W: fmt::Write>(&self, f: &mut fmt::Formatter<W>) -> fmt::Result {
+        match &self.0.found {
+            Ok(contents) => write_needs(f, contents),
+            Err(fault) => write!(f, "{fault}"),
+        }
+    }
+}
+
+/// Writes what a story that loads needs beyond the profile.
+fn write_needs<W: fmt::Write>(f: &mut fmt::Formatter<W>, contents: &Contents) -> fmt::Result {
+    if contents.outside.is_empty() {
+        return f.write_str("loads");
+    }
+    let mut before = "needs ";
+    for outside in &contents.outside {
+        f.write_str(before)?;
+        match outside.opcode.name() {
+            Some(name) => f.write_str(name)?,
+            None => {
+                let number = outside.opcode.number_alone();
+                write!(f, "{number}")?;
+            }
+        }
+        before = ", ";
+    }
+    Ok(())
+}
