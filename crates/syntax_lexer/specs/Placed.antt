@@ -1,8 +1,9 @@
 -- Faults with their places.
-use Rattle.std.specs.Prelude.{◌≡◌, ℕ, List, Some, None, Result, Ok, Err}
+use Rattle.std.specs.Prelude.{◌≡◌, ℕ, List, drop, Some, None, Result, Ok, Err}
 use Rattle.syntax_lexer.specs.declared.fault.SourceFault.{SourceFault}
+use Rattle.syntax_lexer.specs.declared.fault.LexicalFault.{LexicalFault}
 use Rattle.syntax_lexer.specs.declared.fault.PlacedFault.{PlacedFault}
-use Rattle.syntax_lexer.specs.Tokens.{LexesFrom}
+use Rattle.syntax_lexer.specs.Tokens.{Breaks, number_of}
 
 -- a fault of which no place is named
 abbrev pub nowhere : SourceFault → PlacedFault
@@ -16,6 +17,8 @@ abbrev pub unplaced : {A : Type 0} → Result A PlacedFault → Result A SourceF
 unplaced (Ok x) = Ok x
 unplaced (Err p) = Err p.fault
 
--- what stands at an offset, in the line of the fault, is at fault
+-- the bytes from the offset on break the rule of the fault
 abbrev pub IsFaultIn : List ℕ → PlacedFault → Type 0
-IsFaultIn source p = (at : ℕ) × (p.offset ≡ Some at) × LexesFrom at p.fault.line source (Err p.fault)
+IsFaultIn source p =
+    (at : ℕ) × (p.offset ≡ Some at)
+    × (broken : LexicalFault) × (p.fault.number ≡ number_of broken) × Breaks broken (drop at source)
