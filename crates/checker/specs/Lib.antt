@@ -1,3 +1,4 @@
 pub mod Programs
 pub mod Resolving
 pub mod Laws
+pub mod Places

@@ -1,11 +1,14 @@
 //! The check of a program.
 
-ghost use Rattle.std.specs.Prelude.{◌≡◌, ◌≤◌, ◌^◌, IfOk, OnOk, length};
+ghost use Rattle.std.specs.Prelude.{◌≡◌, ◌≤◌, ◌^◌, ◌⊎◌, IfErr, IfOk, OnOk, length};
+ghost use Rattle.syntax_lexer.specs.FaultNumbers.{no_memory};
+ghost use Rattle.syntax_lexer.specs.Placed.{nowhere, unplaced};
 ghost use Rattle.syntax.specs.Tree.{program_tree};
 ghost use Rattle.checker_names.specs.Breaches.{AnswersBreaches};
 ghost use Rattle.checker_names.specs.Noted.{noted};
 ghost use Rattle.checker_names.specs.Scope.{file_in};
 ghost use Rattle.checker_names.specs.Keys.{keys_of};
+ghost use Rattle.checker.specs.Places.{StandsAtFirst};
 ghost use Rattle.checker.specs.Programs.{program_breaches, no_numbers, file_of, IsCheckedOf};
 
 use crate::abbreviation_rules::{abbreviation_rules, all_abbreviations};
@@ -17,7 +20,7 @@ use checker_objects::{all_defaults, objects_alone, parents, place};
 use meaning::{Checked, dictionary_behind, objects_size};
 use std::alloc::{AllocError, Global};
 use syntax::{Directive, Program, Text};
-use syntax_lexer::{NO_MEMORY, SourceFault};
+use syntax_lexer::{PlacedFault, SourceFault};
 
 // Resolves the names and words of a program, where these are those of its file, and notes the rules
 // that it breaks.
@@ -118,15 +121,32 @@ pub fn check<'a>(alloc: Global, program: Program<'a>) -> Result<Checked<'a>, Sou
     ensures { AnswersBreaches result (program_breaches (program_tree program.entry))
         (λ c. IsCheckedOf (program_tree program.entry) c) }
 {
+    match check_placed(alloc, program) {
+        Ok(checked) => Ok(checked),
+        Err(placed) => Err(placed.fault),
+    }
+}
+
+/// As [`check`], with the place of the fault.
+///
+/// # Errors
+///
+/// Those of [`check`]. The offset is that of the first broken rule; E99 has none.
+pub fn check_placed<'a>(alloc: Global, program: Program<'a>) -> Result<Checked<'a>, PlacedFault>
+    ensures answers { AnswersBreaches (unplaced result) (program_breaches (program_tree program.entry))
+        (λ c. IsCheckedOf (program_tree program.entry) c) }
+    ensures stands { IfErr result (λ e. (e ≡ nowhere no_memory)
+        ⊎ StandsAtFirst e (program_breaches (program_tree program.entry))) }
+{
     let mut least = None;
     match resolve(&program, alloc, &mut least) {
         Ok(checked) => match least {
             None => Ok(checked),
-            Some(breach) => Err(breach.fault()),
+            Some(breach) => Err(PlacedFault {
+                fault: breach.fault(),
+                offset: Some(breach.position.offset),
+            }),
         },
-        Err(_) => Err(SourceFault {
-            number: NO_MEMORY,
-            line: 0,
-        }),
+        Err(refused) => Err(PlacedFault::from(refused)),
     }
 }

@@ -15,7 +15,7 @@ use std::fmt::Display;
 use std::fs::File;
 use std::process::ExitCode;
 use std::{env, io};
-use story::compile_for;
+use story_diagnosis::{Diagnosis, Shown, diagnose};
 
 /// The exit status where the source is refused.
 const REFUSED: u8 = 1;
@@ -96,22 +96,38 @@ fn build(rt: &HostRuntime, words: Words<'_>) -> ExitCode {
         }
         Err(_) => return misused(rt, format_args!("cannot read {name}")),
     };
-    match compile_for(rt.alloc(), &source, words.version) {
-        Ok(story) => put(rt, words, story.bytes()),
-        Err(fault) => {
-            let _ = eprintln!(rt; "{fault}");
-            ExitCode::from(REFUSED)
-        }
+    match diagnose(rt.alloc(), &source, words.version) {
+        Ok(story) => match words.story {
+            Some(name) => put(rt, words.source, name, story.bytes()),
+            None => ExitCode::SUCCESS,
+        },
+        Err(diagnosis) => refuse(rt, words, &source, diagnosis),
     }
 }
 
+/// Says on standard error why the source is refused, and shows where, if that is asked for.
+fn refuse(rt: &HostRuntime, words: Words<'_>, source: &[u8], diagnosis: Diagnosis) -> ExitCode {
+    let fault = diagnosis.fault;
+    let _ = eprintln!(rt; "{fault}");
+    if words.show {
+        let shown = Shown {
+            source,
+            name: Name(words.source),
+            sentence: fault.rule(),
+            diagnosis,
+        };
+        let _ = eprint!(rt; "{shown}");
+    }
+    ExitCode::from(REFUSED)
+}
+
 /// Writes the bytes of a story, unless its file is the source.
-fn put(rt: &HostRuntime, words: Words<'_>, story: &[u8]) -> ExitCode {
-    let name = Name(words.story);
-    if is_one_file(rt, words.source, words.story) {
+fn put(rt: &HostRuntime, source: &str, file: &str, story: &[u8]) -> ExitCode {
+    let name = Name(file);
+    if is_one_file(rt, source, file) {
         return misused(rt, format_args!("cannot write {name}: it is the source"));
     }
-    match write_whole(rt, words.story, story) {
+    match write_whole(rt, file, story) {
         Ok(()) => ExitCode::SUCCESS,
         Err(_) => misused(rt, format_args!("cannot write {name}")),
     }

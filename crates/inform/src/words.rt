@@ -28,11 +28,14 @@ pub struct Words<'a> {
     /// The source file's name.
     pub source: &'a str,
 
-    /// The name of the story file to write.
-    pub story: &'a str,
+    /// The name of the story file to write; none where the source is only checked.
+    pub story: Option<&'a str>,
 
     /// The version of the story file.
     pub version: Version,
+
+    /// Whether a fault's place is shown.
+    pub show: bool,
 }
 
 /// The program's command line.
@@ -50,6 +53,10 @@ pub fn command<'a>(alloc: Global) -> Result<Command<'a>, AllocError> {
         .num_args(0..=1)
         .exclusive(true)
         .action(ArgAction::Set);
+    let show = Arg::new(alloc, "show")
+        .long("show")
+        .help("Show where and why a source is refused; without STORY only check it")
+        .action(ArgAction::SetTrue);
     let source = Arg::new(alloc, "source")
         .value_name("SOURCE")
         .help("A source file")
@@ -58,7 +65,7 @@ pub fn command<'a>(alloc: Global) -> Result<Command<'a>, AllocError> {
     let story = Arg::new(alloc, "story")
         .value_name("STORY")
         .help("The story file to write")
-        .required(true)
+        .required_unless_present("show")?
         .action(ArgAction::Set);
     Command::new(alloc, "inform")
         .version("1.0.0")
@@ -66,6 +73,7 @@ pub fn command<'a>(alloc: Global) -> Result<Command<'a>, AllocError> {
         .after_help(MORE)
         .arg(version)?
         .arg(explain)?
+        .arg(show)?
         .arg(source)?
         .arg(story)
 }
@@ -83,7 +91,8 @@ pub fn words_of<'a>(matches: &ArgMatches<'a>) -> Option<Asked<'a>> {
     };
     Some(Asked::Compile(Words {
         source: matches.get_str("source").unwrap_or(""),
-        story: matches.get_str("story").unwrap_or(""),
+        story: matches.get_str("story"),
         version,
+        show: matches.get_flag("show"),
     }))
 }

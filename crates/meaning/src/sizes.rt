@@ -1,6 +1,7 @@
 //! Which programs are too large.
 
 ghost use Rattle.std.specs.Prelude.{◌≡◌, nat_lt};
+ghost use Rattle.syntax_lexer.specs.Placed.{nowhere, unplaced};
 ghost use Rattle.meaning.specs.Places.{routines_place};
 ghost use Rattle.meaning.specs.Resolved.{program_of};
 ghost use Rattle.meaning.specs.CheckedSizes.{fault_of, checked_size_fault, name_place_of, weight_of};
@@ -8,7 +9,9 @@ ghost use Rattle.meaning.specs.Sizes as spec;
 
 use crate::checked::{Checked, CheckedRoutine};
 use crate::places::tables_size;
-use syntax_lexer::{Position, ROUTINE_TOO_LARGE, STORY_TOO_LARGE, SourceFault, TABLES_TOO_LARGE};
+use syntax_lexer::{
+    PlacedFault, Position, ROUTINE_TOO_LARGE, STORY_TOO_LARGE, SourceFault, TABLES_TOO_LARGE,
+};
 use zcore::Version;
 
 fn greatest_weight(version: Version) -> u128
@@ -39,6 +42,16 @@ fn first_heavy(routines: &[CheckedRoutine<'_>]) -> Option<Position>
     None
 }
 
+// The fault of a source as a whole.
+fn whole(number: u8) -> PlacedFault
+    ensures { result ≡ nowhere (spec.fault number 0) }
+{
+    PlacedFault {
+        fault: SourceFault { number, line: 0 },
+        offset: None,
+    }
+}
+
 /// Whether a program is small enough to be compiled for a version.
 ///
 /// # Errors
@@ -49,23 +62,34 @@ fn first_heavy(routines: &[CheckedRoutine<'_>]) -> Option<Position>
 pub fn test_sizes(checked: &Checked<'_>, version: Version) -> Result<(), SourceFault>
     ensures { fault_of result ≡ checked_size_fault checked.now version }
 {
+    match test_sizes_placed(checked, version) {
+        Ok(()) => Ok(()),
+        Err(placed) => Err(placed.fault),
+    }
+}
+
+/// As [`test_sizes`], with the fault's place.
+///
+/// # Errors
+///
+/// Those of [`test_sizes`]. The offset of E32 is that of the routine's name; E30 and E31 have none.
+pub fn test_sizes_placed(checked: &Checked<'_>, version: Version) -> Result<(), PlacedFault>
+    ensures { fault_of (unplaced result) ≡ checked_size_fault checked.now version }
+{
     if are_tables_large(checked) {
-        return Err(SourceFault {
-            number: TABLES_TOO_LARGE,
-            line: 0,
-        });
+        return Err(whole(TABLES_TOO_LARGE));
     }
     if checked.source_weight() > greatest_weight(version) {
-        return Err(SourceFault {
-            number: STORY_TOO_LARGE,
-            line: 0,
-        });
+        return Err(whole(STORY_TOO_LARGE));
     }
     match first_heavy(checked.in_order()) {
         None => Ok(()),
-        Some(position) => Err(SourceFault {
-            number: ROUTINE_TOO_LARGE,
-            line: position.line,
+        Some(position) => Err(PlacedFault {
+            fault: SourceFault {
+                number: ROUTINE_TOO_LARGE,
+                line: position.line,
+            },
+            offset: Some(position.offset),
         }),
     }
 }

@@ -8,9 +8,11 @@ use Rattle.zcore.specs.declared.header.Version.{Version}
 use Rattle.zcore.specs.Header.{scale_of, Reads}
 use Rattle.zcore.specs.declared.header.Header.{Header}
 use Rattle.syntax_lexer.specs.declared.fault.SourceFault.{SourceFault}
+use Rattle.syntax_lexer.specs.declared.fault.PlacedFault.{PlacedFault}
 use Rattle.syntax_lexer.specs.declared.token.Token.{Token}
 use Rattle.syntax_lexer.specs.Token.{lexemes}
 use Rattle.syntax_lexer.specs.Tokens.{Lexes}
+use Rattle.syntax_lexer.specs.Placed.{unplaced}
 use Rattle.syntax_lexer.specs.Results.{source_tokens}
 use Rattle.syntax_lexer.specs.FaultNumbers.{no_memory}
 use Rattle.syntax_lexer.specs.Printable.{PrintableTokens}
@@ -43,10 +45,11 @@ use Rattle.story.proofs.Numbered.{keys_numbered}
 
 -- Faults
 
-pub answered : (version : Version) (source : List ℕ) (r : Result (List ℕ) SourceFault) (f : SourceFault)
-    → IsErr r × IsErrAnd r (λ e. e ≡ f) → Refuses version source f → Compiles version source r
+pub answered : (version : Version) (source : List ℕ) (r : Result (List ℕ) PlacedFault) (f : PlacedFault)
+    → IsErr r × IsErrAnd r (λ e. e ≡ f) → Refuses version source f.fault → Compiles version source (unplaced r)
 answered version source (Ok bytes) f h refused = absurd h.1
-answered version source (Err e) f h refused = subst (Refuses version source) (sym h.1) refused
+answered version source (Err e) f h refused =
+    subst (λ (x : PlacedFault). Refuses version source x.fault) (sym h.1) refused
 
 -- Trees
 

@@ -2,18 +2,19 @@
 
 ghost use Rattle.std.specs.Prelude.{◌≡◌};
 ghost use Rattle.zcore.specs.declared.header.Version.TheVariants.{V5};
+ghost use Rattle.syntax_lexer.specs.Placed.{unplaced};
 ghost use Rattle.story.specs.Compiled.{Compiles};
 
 use crate::laws::{stories_are_short, stories_hold};
-use checker::{accepted_programs, check, printable_programs};
+use checker::{accepted_programs, check_placed, printable_programs};
 use code::code_plays;
-use meaning::test_sizes;
+use meaning::test_sizes_placed;
 use std::alloc::Global;
 use std::marker::Model;
 use story_file::write_story;
 use story_sizes::small_sources_have_small_code;
-use syntax::{parse, printable_trees};
-use syntax_lexer::{SourceFault, lex, printable_tokens};
+use syntax::{parse_placed, printable_trees};
+use syntax_lexer::{PlacedFault, SourceFault, lex_placed, printable_tokens};
 use zcore::Version;
 
 /// A compiled story: the bytes of a story file.
@@ -81,6 +82,21 @@ pub fn compile(alloc: Global, source: &[u8]) -> Result<Story, SourceFault>
 pub fn compile_for(alloc: Global, source: &[u8], version: Version) -> Result<Story, SourceFault>
     ensures { Compiles version source.now result }
 {
+    match compile_placed(alloc, source, version) {
+        Ok(story) => Ok(story),
+        Err(placed) => Err(placed.fault),
+    }
+}
+
+/// The story of a source, as [`compile_for`] makes it, or the fault with its place.
+///
+/// # Errors
+///
+/// Those of [`compile_for`]. The offset is that of the byte, the token or the first token of what
+/// is at fault; E30, E31 and E99 have none.
+pub fn compile_placed(alloc: Global, source: &[u8], version: Version) -> Result<Story, PlacedFault>
+    ensures { Compiles version source.now (unplaced result) }
+{
     accepted_programs();
     printable_tokens();
     printable_trees();
@@ -89,12 +105,12 @@ pub fn compile_for(alloc: Global, source: &[u8], version: Version) -> Result<Sto
     stories_are_short();
     stories_hold();
     code_plays();
-    let tokens = lex(alloc, source)?;
-    let program = parse(alloc, &tokens)?;
+    let tokens = lex_placed(alloc, source)?;
+    let program = parse_placed(alloc, &tokens)?;
     // The tree names no token, and they may take more memory than it.
     drop(tokens);
-    let checked = check(alloc, program)?;
-    test_sizes(&checked, version)?;
+    let checked = check_placed(alloc, program)?;
+    test_sizes_placed(&checked, version)?;
     let bytes = write_story(alloc, &checked, version)?;
     Ok(Story::of_bytes(bytes))
 }

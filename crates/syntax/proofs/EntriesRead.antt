@@ -131,4 +131,4 @@ module _ (d : ℕ) where
       (total : Result (Parts × List Lexeme) Fault) → i < n → goes_on (head ts) ≡ true → Fails e (one_more d p ts)
       → gathered p (repeated goes_on (one_entry d) (n - i) ts) ≡ total → Fails e total
   entries_fail errors.Memory n i p ts total lt g h so_far = tt
-  entries_fail (errors.Fault f line) n i p ts total lt g h so_far = sym so_far ∙ turn n i p ts lt g ∙ rw h refl
+  entries_fail (errors.Fault f count) n i p ts total lt g h so_far = sym so_far ∙ turn n i p ts lt g ∙ rw h refl

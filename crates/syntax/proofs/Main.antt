@@ -10,7 +10,7 @@ use Rattle.syntax_parsing.specs.declared.error.Fault.{Fault}
 use Rattle.syntax_parsing.specs.declared.error.Fault.TheVariants.{Grammar, Deep}
 use Rattle.syntax_parsing.specs.declared.error.ParseError.{ParseError}
 use Rattle.syntax_parsing.specs.declared.error.ParseError.TheVariants as errors
-use Rattle.syntax_parsing.specs.Errors.{source_fault}
+use Rattle.syntax_parsing.specs.Errors.{placed_fault}
 use Rattle.syntax_parsing.specs.Parse.{◌>>=◌, Fails}
 use Rattle.syntax_directives.specs.Grammar.{weight_of}
 use Rattle.syntax.specs.declared.tree.Program.{Program}
@@ -88,27 +88,29 @@ none_within d ts e p a =
 -- ---- the clauses, by what was returned
 
 pub err_grammar : (e : ParseError) (f : SourceFault) (ts : List Lexeme) → Fails e (program 100 ts)
-    → f ≡ source_fault e → f.number ≡ 10 → (p : ProgramTree) → IsProgram ts p → ⊥
+    → f ≡ (placed_fault ts e).fault → f.number ≡ 10 → (p : ProgramTree) → IsProgram ts p → ⊥
 err_grammar errors.Memory f ts h is n = absurd (omega (arith, ap (λ (x : SourceFault). x.number) is))
-err_grammar (errors.Fault Grammar line) f ts h is n = no_program 100 ts h
-err_grammar (errors.Fault Deep line) f ts h is n = absurd (omega (arith, ap (λ (x : SourceFault). x.number) is))
+err_grammar (errors.Fault Grammar count) f ts h is n = no_program 100 ts h
+err_grammar (errors.Fault Deep count) f ts h is n = absurd (omega (arith, ap (λ (x : SourceFault). x.number) is))
 
-pub err_deep : (e : ParseError) (f : SourceFault) (ts : List Lexeme) → Fails e (program 100 ts) → f ≡ source_fault e
+pub err_deep : (e : ParseError) (f : SourceFault) (ts : List Lexeme) → Fails e (program 100 ts)
+    → f ≡ (placed_fault ts e).fault
     → f.number ≡ 5 → DeepProgram 101 ts × ((p : ProgramTree) → IsProgram ts p → 100 < program_nesting p)
 err_deep errors.Memory f ts h is n = absurd (omega (arith, ap (λ (x : SourceFault). x.number) is))
-err_deep (errors.Fault Grammar line) f ts h is n = absurd (omega (arith, ap (λ (x : SourceFault). x.number) is))
-err_deep (errors.Fault Deep line) f ts h is n = (too_deep 100 ts h, none_within 100 ts h)
+err_deep (errors.Fault Grammar count) f ts h is n = absurd (omega (arith, ap (λ (x : SourceFault). x.number) is))
+err_deep (errors.Fault Deep count) f ts h is n = (too_deep 100 ts h, none_within 100 ts h)
 
-pub err_only : (e : ParseError) (f : SourceFault) (ts : List Lexeme) → Fails e (program 100 ts) → f ≡ source_fault e
+pub err_only : (e : ParseError) (f : SourceFault) (ts : List Lexeme) → Fails e (program 100 ts)
+    → f ≡ (placed_fault ts e).fault
     → (p : ProgramTree) → IsProgram ts p → program_nesting p ≤ 100 → f ≡ no_memory
 err_only errors.Memory f ts h is p a le = is
-err_only (errors.Fault g line) f ts h is p a le = let never = sym h ∙ within 100 a le in absurd cc
+err_only (errors.Fault g count) f ts h is p a le = let never = sym h ∙ within 100 a le in absurd cc
 
-pub err_numbers : (e : ParseError) (f : SourceFault) → f ≡ source_fault e
+pub err_numbers : (e : ParseError) (f : SourceFault) (ts : List Lexeme) → f ≡ (placed_fault ts e).fault
     → (f.number ≡ 5) ⊎ (f.number ≡ 10) ⊎ (f ≡ no_memory)
-err_numbers errors.Memory f is = inr (inr is)
-err_numbers (errors.Fault Grammar line) f is = inr (inl (ap (λ (x : SourceFault). x.number) is))
-err_numbers (errors.Fault Deep line) f is = inl (ap (λ (x : SourceFault). x.number) is)
+err_numbers errors.Memory f ts is = inr (inr is)
+err_numbers (errors.Fault Grammar count) f ts is = inr (inl (ap (λ (x : SourceFault). x.number) is))
+err_numbers (errors.Fault Deep count) f ts is = inl (ap (λ (x : SourceFault). x.number) is)
 
 pub ok_only : (q : Program) (ts : List Lexeme) → program 100 ts ≡ Ok (program_tree q) → (p : ProgramTree)
     → IsProgram ts p → program_nesting p ≤ 100 → program_tree q ≡ p

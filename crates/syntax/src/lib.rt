@@ -8,11 +8,11 @@ mod tree;
 mod words;
 
 pub use laws::{printable_trees, weighed_routines};
-pub use program::{one_tree, parse};
+pub use program::{one_tree, parse, parse_placed};
 pub use syntax_directives::{
     Array, ArrayKind, ArrayValue, Directive, Object, Property, Routine, Text,
 };
-pub use syntax_lexer::{Kind, Position, Sign, SourceFault, Token, Word, lex};
+pub use syntax_lexer::{Kind, PlacedFault, Position, Sign, SourceFault, Token, Word, lex};
 pub use syntax_statement_parts::{Heading, Literal, PrintItem, Range};
 pub use syntax_statements::Statement;
 pub use syntax_trees::{

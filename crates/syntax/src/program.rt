@@ -2,6 +2,7 @@
 
 ghost use Rattle.std.specs.Prelude.{◌≡◌, ◌≤◌, ◌<◌, ◌⊎◌, ◌∷◌, [], IfOk, IfErr, List};
 ghost use Rattle.syntax_lexer.specs.FaultNumbers.{no_memory};
+ghost use Rattle.syntax_lexer.specs.Placed.{unplaced};
 ghost use Rattle.syntax_lexer.specs.Token.{Lexeme, lexeme, lexemes};
 ghost use Rattle.syntax_parsing.specs.Parse.{Gives};
 ghost use Rattle.syntax_parsing.specs.Returned.{ahead};
@@ -17,7 +18,7 @@ use crate::tree::Program;
 use crate::words::dictionary_words;
 use std::alloc::Global;
 use syntax_directives::weight_of;
-use syntax_lexer::{Kind, Position, SourceFault, Token};
+use syntax_lexer::{Kind, PlacedFault, Position, SourceFault, Token};
 use syntax_parsing::{Fault, ParseError, Parser, fault_at};
 
 // How many nestings may be opened in a statement of a routine.
@@ -115,8 +116,33 @@ pub fn parse<'a>(alloc: Global, tokens: &[Token<'a>]) -> Result<Program<'a>, Sou
         × ((p : ProgramTree) → IsProgram (lexemes tokens.now) p → 100 < program_nesting p)) }
     ensures numbers { IfErr result (λ f. (f.number ≡ 5) ⊎ (f.number ≡ 10) ⊎ (f ≡ no_memory)) }
 {
-    let found = program(alloc, tokens)?;
-    Ok(found)
+    match parse_placed(alloc, tokens) {
+        Ok(program) => Ok(program),
+        Err(placed) => Err(placed.fault),
+    }
+}
+
+/// The program that the tokens of a source are, as [`parse`] finds it, or the fault with its place.
+///
+/// # Errors
+///
+/// Those of [`parse`]. The offset is that of the token at fault; E99 has none.
+pub fn parse_placed<'a>(alloc: Global, tokens: &[Token<'a>]) -> Result<Program<'a>, PlacedFault>
+    ensures found { IfOk result (λ p. IsProgram (lexemes tokens.now) (program_tree p)
+        × (program_nesting (program_tree p) ≤ 100)) }
+    ensures only { (p : ProgramTree) → IsProgram (lexemes tokens.now) p → program_nesting p ≤ 100
+        → AnswersProgram (unplaced result) p }
+    ensures grammar { IfNumber (unplaced result) 10
+        ((p : ProgramTree) → IsProgram (lexemes tokens.now) p → ⊥) }
+    ensures deep { IfNumber (unplaced result) 5 (DeepProgram 101 (lexemes tokens.now)
+        × ((p : ProgramTree) → IsProgram (lexemes tokens.now) p → 100 < program_nesting p)) }
+    ensures numbers { IfErr (unplaced result) (λ f. (f.number ≡ 5) ⊎ (f.number ≡ 10)
+        ⊎ (f ≡ no_memory)) }
+{
+    match program(alloc, tokens) {
+        Ok(found) => Ok(found),
+        Err(e) => Err(e.placed(tokens)),
+    }
 }
 
 /// A list of tokens has at most one program.

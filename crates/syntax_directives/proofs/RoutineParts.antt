@@ -107,13 +107,13 @@ module _ (d : ℕ) (ts : List Lexeme) where
   pub routine_unheaded : (e : ParseError) (us : List Lexeme) → us ≡ tail ts → Fails e (routine_heading us)
       → Fails e (one_routine d ts)
   routine_unheaded errors.Memory us at h = tt
-  routine_unheaded (errors.Fault f line) us at h = rw (parted, ← at, h) refl
+  routine_unheaded (errors.Fault f count) us at h = rw (parted, ← at, h) refl
 
   pub routine_unclosed : (e : ParseError) (us : List Lexeme) (n : NameTree) (ns : List NameTree) (m : List Lexeme)
       → us ≡ tail ts → routine_heading us ≡ Ok ((n, ns), m) → Fails e (routine_body d m)
       → Fails e (one_routine d ts)
   routine_unclosed errors.Memory us n ns m at g h = tt
-  routine_unclosed (errors.Fault f line) us n ns m at g h = rw (parted, ← at, g, h) refl
+  routine_unclosed (errors.Fault f count) us n ns m at g h = rw (parted, ← at, g, h) refl
 
   pub routine_made : (us : List Lexeme) (n : NameTree) (ns : List NameTree) (m : List Lexeme)
       (xs : List StatementTree) (r : List Lexeme) → us ≡ tail ts → routine_heading us ≡ Ok ((n, ns), m)

@@ -43,7 +43,7 @@ module _ (ops : Lexeme → Option Binary) (p : Parse ExpressionTree) where
       (total : Result (ExpressionTree × List Lexeme) Fault) → i < n → ops (head ts) ≡ Some op → Fails e (p (tail ts))
       → chain ops p (n - i) left ts ≡ total → Fails e total
   chain_fails errors.Memory n i left ts op total lt o h so_far = tt
-  chain_fails (errors.Fault f line) n i left ts op total lt o h so_far = sym so_far
+  chain_fails (errors.Fault f count) n i left ts op total lt o h so_far = sym so_far
       ∙ chain_err n i left ts op f lt o h
 
   pub chain_more : (n i : ℕ) (first : ExpressionTree) (ls : List (Binary × Expression)) (ts : List Lexeme)
@@ -61,8 +61,8 @@ module _ (ops : Lexeme → Option Binary) (p : Parse ExpressionTree) where
       → Fails e (chain ops p (length (lexemes us)) left (lexemes us))
   unfolding chain
   links_fail errors.Memory left us op o none h = tt
-  links_fail (errors.Fault f line) left [] op o none h = let never : Some op ≡ None = sym o ∙ none in absurd cc
-  links_fail (errors.Fault f line) left (u ∷ us) op o none h = rw (o, h) refl
+  links_fail (errors.Fault f count) left [] op o none h = let never : Some op ≡ None = sym o ∙ none in absurd cc
+  links_fail (errors.Fault f count) left (u ∷ us) op o none h = rw (o, h) refl
 
   -- behind the second operand
   pub links_begin : (left b : ExpressionTree) (us : List Token) (op : Binary) (r : List Lexeme)
@@ -96,4 +96,4 @@ module _ (below : Level → Parse ExpressionTree) (l : Operators) where
   pub level_fails : (e : ParseError) (ts : List Lexeme) → Fails e (operand_of below l ts)
       → Fails e (chain_of below l ts)
   level_fails errors.Memory ts h = tt
-  level_fails (errors.Fault f line) ts h = level_is ts ∙ rw h refl
+  level_fails (errors.Fault f count) ts h = level_is ts ∙ rw h refl

@@ -41,7 +41,7 @@ pub property_unnamed : (fault : ParseError) (e : ExpressionTree) (ts : List Lexe
     → Fails fault (property_next e ts)
 unfolding property_next
 property_unnamed errors.Memory e ts h = tt
-property_unnamed (errors.Fault f line) e ts h = rw h refl
+property_unnamed (errors.Fault f count) e ts h = rw h refl
 
 propertied_push : (e : ExpressionTree) (ns : List Name) (n : Name)
     → propertied e (ns ++ n ∷ []) ≡ property (propertied e ns) (name_tree n)
@@ -79,7 +79,7 @@ properties_broken : (fault : ParseError) (n i : ℕ) (e : ExpressionTree) (ts us
     → us ≡ tail ts → Fails fault (property_next e us) → properties (n - i) e ts ≡ total → Fails fault total
 unfolding properties
 properties_broken errors.Memory n i e ts us total lt h u g so_far = tt
-properties_broken (errors.Fault f line) n i e ts us total lt h u g so_far =
+properties_broken (errors.Fault f count) n i e ts us total lt h u g so_far =
     let k : n - i ≡ suc (n - (i + 1)) = omega arith in
     let one : properties (n - i) e ts ≡ Err f = rw (k, h, ← u, g) refl in
     sym so_far ∙ one
@@ -117,8 +117,8 @@ begins_broken : (fault : ParseError) (e : ExpressionTree) (ts : List Token) (us 
     → Fails fault (properties (length (lexemes ts)) e (lexemes ts))
 unfolding properties
 begins_broken errors.Memory e ts us h u g = tt
-begins_broken (errors.Fault f line) e [] us h u g = absurd cc
-begins_broken (errors.Fault f line) e (t ∷ ts) us h u g = rw (h, ← u, g) refl
+begins_broken (errors.Fault f count) e [] us h u g = absurd cc
+begins_broken (errors.Fault f count) e (t ∷ ts) us h u g = rw (h, ← u, g) refl
 
 pub properties_begin_fails : (fault : ParseError) (e : ExpressionTree) (ts : List Token) (us : List Lexeme)
     → is_sign s.Dot (head (lexemes ts)) ≡ true → us ≡ tail (lexemes ts) → Fails fault (expect_name us)

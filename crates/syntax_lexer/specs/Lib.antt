@@ -6,3 +6,4 @@ pub mod Tokens
 pub mod Results
 pub mod Fronts
 pub mod Printable
+pub mod Placed

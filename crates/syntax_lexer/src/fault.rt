@@ -2,6 +2,7 @@
 
 ghost use Rattle.std.specs.Prelude.{◌≡◌};
 ghost use Rattle.syntax_lexer.specs.FaultNumbers.{no_memory};
+ghost use Rattle.syntax_lexer.specs.Placed.{nowhere};
 ghost use Rattle.syntax_lexer.specs.Tokens.{number_of};
 
 use std::alloc::{AllocError, AllocFailed};
@@ -83,8 +84,15 @@ pub struct SourceFault {
     pub line: usize,
 }
 
+impl SourceFault {
+    /// The broken rule in words, as `unknown name`.
+    pub fn rule(self) -> &'static str {
+        rule_of(self.number)
+    }
+}
+
 // The rule of a number, in words.
-fn words(number: u8) -> &'static str {
+fn rule_of(number: u8) -> &'static str {
     match number {
         STRAY_BYTE => "stray byte",
         BAD_TEXT => "bad text or word",
@@ -116,7 +124,7 @@ impl fmt::Display for SourceFault {
         if self.line != 0 {
             write!(f, "line {}: ", self.line)?;
         }
-        write!(f, "E{:02} {}", self.number, words(self.number))
+        write!(f, "E{:02} {}", self.number, self.rule())
     }
 }
 
@@ -140,6 +148,46 @@ impl<T: Drop> From<AllocFailed<T>> for SourceFault {
         SourceFault {
             number: NO_MEMORY,
             line: 0,
+        }
+    }
+}
+
+/// Why a source is refused, and where: the offset of the token or byte at fault; none where no place
+/// is named.
+#[derive(Clone, Copy, Debug, PartialEq, Eq)]
+pub struct PlacedFault {
+    pub fault: SourceFault,
+
+    /// The offset in the source of the first byte of what is at fault.
+    pub offset: Option<usize>,
+}
+
+impl From<PlacedFault> for SourceFault {
+    ghost from_gives = { λ p e. e ≡ p.fault };
+
+    fn from(placed: PlacedFault) -> SourceFault {
+        placed.fault
+    }
+}
+
+impl From<AllocError> for PlacedFault {
+    ghost from_gives = { λ _ p. p ≡ nowhere no_memory };
+
+    fn from(e: AllocError) -> PlacedFault {
+        PlacedFault {
+            fault: SourceFault::from(e),
+            offset: None,
+        }
+    }
+}
+
+impl<T: Drop> From<AllocFailed<T>> for PlacedFault {
+    ghost from_gives = { λ _ p. p ≡ nowhere no_memory };
+
+    fn from(e: AllocFailed<T>) -> PlacedFault {
+        PlacedFault {
+            fault: SourceFault::from(e),
+            offset: None,
         }
     }
 }

@@ -1,13 +1,16 @@
 //! The whole source.
 
-ghost use Rattle.std.specs.Prelude.{◌≡◌, ◌≤◌, ◌+◌, ◌-◌, ◌<◌, ◌==◌, length, slice_index, List, ℕ, Err, false, IfOk, IfErr};
+ghost use Rattle.std.specs.Prelude.{◌≡◌, ◌≤◌, ◌+◌, ◌-◌, ◌<◌, ◌==◌, ◌⊎◌, length, slice_index, List, ℕ, Err, false};
+ghost use Rattle.std.specs.Prelude.{IfOk, IfErr};
+ghost use Rattle.syntax_lexer.specs.FaultNumbers.{no_memory};
+ghost use Rattle.syntax_lexer.specs.Placed.{unplaced, nowhere, IsFaultIn};
 ghost use Rattle.syntax_lexer.specs.Bytes.{is_divider};
-ghost use Rattle.syntax_lexer.specs.Token.{lexemes};
-ghost use Rattle.syntax_lexer.specs.Tokens.{Lexes, LexesFrom, line_after, put, EndsOnce, TokenOutcome};
+ghost use Rattle.syntax_lexer.specs.Token.{Lexeme, lexemes};
+ghost use Rattle.syntax_lexer.specs.Tokens.{IsLongest, Lexes, LexesFrom, line_after, put, EndsOnce, TokenOutcome};
 ghost use Rattle.syntax_lexer.specs.Results.{source_token, Meets};
 
 use crate::bytes::{Class, from, front, is_divider, run_length};
-use crate::fault::SourceFault;
+use crate::fault::{PlacedFault, SourceFault};
 use crate::scan::scan;
 use crate::token::{Kind, Position, Token};
 use std::alloc::Global;
@@ -21,7 +24,7 @@ fn next_line(line: usize, b: u8) -> usize
 }
 
 // The token at a place where no divider and no comment stands.
-fn token_at<'a>(source: &'a [u8], position: Position) -> Result<Token<'a>, SourceFault>
+fn token_at<'a>(source: &'a [u8], position: Position) -> Result<Token<'a>, PlacedFault>
     requires within { position.offset < length source.now }
     requires no_divider { is_divider (slice_index source.now position.offset) ≡ false }
     requires no_comment { (slice_index source.now position.offset == 33) ≡ false }
@@ -30,7 +33,8 @@ fn token_at<'a>(source: &'a [u8], position: Position) -> Result<Token<'a>, Sourc
         → LexesFrom position.offset position.line source.now (put (source_token t) o)) }
     ensures moves { IfOk result (λ t. (position.offset < t.end) × (t.end ≤ length source.now)) }
     ensures broken { IfErr result
-        (λ e. LexesFrom position.offset position.line source.now (Err e)) }
+        (λ e. LexesFrom position.offset position.line source.now (Err e.fault)) }
+    ensures stands { IfErr result (λ e. IsFaultIn source.now e) }
 {
     let rest = from(source, position.offset);
     match scan(rest) {
@@ -40,9 +44,12 @@ fn token_at<'a>(source: &'a [u8], position: Position) -> Result<Token<'a>, Sourc
             position,
             end: position.offset + length,
         }),
-        Err(fault) => Err(SourceFault {
-            number: fault.number(),
-            line: position.line,
+        Err(fault) => Err(PlacedFault {
+            fault: SourceFault {
+                number: fault.number(),
+                line: position.line,
+            },
+            offset: Some(position.offset),
         }),
     }
 }
@@ -57,6 +64,23 @@ fn token_at<'a>(source: &'a [u8], position: Position) -> Result<Token<'a>, Sourc
 pub fn lex<'a>(alloc: Global, source: &'a [u8]) -> Result<Vec<Token<'a>>, SourceFault>
     ensures meets { Meets result (λ o. Lexes 0 1 source.now o) }
     ensures ends_once { IfOk result (λ v. EndsOnce (lexemes v.items)) }
+{
+    match lex_placed(alloc, source) {
+        Ok(tokens) => Ok(tokens),
+        Err(placed) => Err(placed.fault),
+    }
+}
+
+/// The tokens of a source, as [`lex`] finds them, or the fault with its place.
+///
+/// # Errors
+///
+/// Those of [`lex`]. The offset is that of the byte at which the rule of tokens is broken; E99 has
+/// none.
+pub fn lex_placed<'a>(alloc: Global, source: &'a [u8]) -> Result<Vec<Token<'a>>, PlacedFault>
+    ensures meets { Meets (unplaced result) (λ o. Lexes 0 1 source.now o) }
+    ensures ends_once { IfOk result (λ v. EndsOnce (lexemes v.items)) }
+    ensures stands { IfErr result (λ e. (e ≡ nowhere no_memory) ⊎ IsFaultIn source.now e) }
 {
     let mut tokens = Vec::new(alloc);
     let mut offset = 0;
@@ -81,6 +105,20 @@ pub fn lex<'a>(alloc: Global, source: &'a [u8]) -> Result<Vec<Token<'a>>, Source
         end: offset,
     })?;
     Ok(tokens)
+}
+
+/// The length of the token that begins some bytes; 0 where none does.
+pub fn token_length(bytes: &[u8]) -> usize
+    ensures within { result ≤ length bytes.now }
+    ensures longest { (result ≡ 0) ⊎ ((lexeme : Lexeme) × IsLongest bytes.now lexeme result) }
+{
+    if bytes.is_empty() || is_divider(bytes[0]) || bytes[0] == b'!' {
+        return 0;
+    }
+    match scan(bytes) {
+        Ok((_, length)) => length,
+        Err(_) => 0,
+    }
 }
 
 /// Each source has one outcome.

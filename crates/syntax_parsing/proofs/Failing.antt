@@ -8,4 +8,4 @@ use Rattle.syntax_parsing.specs.Parse.{◌>>=◌, Fails}
 pub part_fails : {A B : Type 0} (e : ParseError) (read : Result A Fault) (whole : Result B Fault)
     (next : A → Result B Fault) → Fails e read → whole ≡ (read >>= next) → Fails e whole
 part_fails errors.Memory read whole next h is = tt
-part_fails (errors.Fault f line) read whole next h is = is ∙ rw h refl
+part_fails (errors.Fault f count) read whole next h is = is ∙ rw h refl

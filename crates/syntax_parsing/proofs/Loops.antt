@@ -58,7 +58,7 @@ module _ {X A : Type 0} (view : X → A) (begins : List Lexeme → Bool) (p : Pa
       → joined (map view front) (as_long begins p (n - i) ts) ≡ total → Fails e total
   unfolding as_long
   as_long_fails errors.Memory n i front ts total lt c h so_far = tt
-  as_long_fails (errors.Fault f line) n i front ts total lt c h so_far =
+  as_long_fails (errors.Fault f count) n i front ts total lt c h so_far =
       let k : n - i ≡ suc (n - (i + 1)) = omega arith in
       let one : joined (map view front) (as_long begins p (n - i) ts) ≡ Err f = rw (k, c, h) refl in
       sym so_far ∙ one
@@ -112,7 +112,7 @@ module _ {X A : Type 0} (view : X → A) (begins : Lexeme → Bool) (p : Parse A
       → joined (map view front) (further begins p (n - i) ts) ≡ total → Fails e total
   unfolding further
   further_fails errors.Memory n i front ts total lt c h so_far = tt
-  further_fails (errors.Fault f line) n i front ts total lt c h so_far =
+  further_fails (errors.Fault f count) n i front ts total lt c h so_far =
       let k : n - i ≡ suc (n - (i + 1)) = omega arith in
       let one : joined (map view front) (further begins p (n - i) ts) ≡ Err f = rw (k, c, h) refl in
       sym so_far ∙ one
@@ -127,7 +127,7 @@ module _ {X A : Type 0} (view : X → A) (separates : Lexeme → Bool) (p : Pars
   pub list_fails : (e : ParseError) (ts : List Lexeme) → Fails e (p ts) → Fails e (list separates p ts)
   unfolding list
   list_fails errors.Memory ts h = tt
-  list_fails (errors.Fault f line) ts h = rw h refl
+  list_fails (errors.Fault f count) ts h = rw h refl
 
   pub list_begins : (ts : List Lexeme) (us : List Token) (x : X) → p ts ≡ Ok (view x, lexemes us)
       → joined (map view (x ∷ [])) (further separates p (length us - 0) (lexemes us)) ≡ list separates p ts

@@ -24,7 +24,7 @@ abbrev pub ◌>>=◌ : {A B : Type 0} → Result A Fault → (A → Result B Fau
 -- What a function returned, seen by view, is what reading gives, unless memory was refused.
 abbrev pub Fails : {Y : Type 0} → ParseError → Result Y Fault → Type 0
 Fails errors.Memory read = Unit {0}
-Fails (errors.Fault f line) read = read ≡ Err f
+Fails (errors.Fault f count) read = read ≡ Err f
 
 abbrev pub Gives : {X Y : Type 0} → (X → Y) → Result X ParseError → Result Y Fault → Type 0
 Gives view (Ok x) read = read ≡ Ok (view x)

@@ -1,11 +1,13 @@
 //! Why tokens are not read.
 
 ghost use Rattle.std.specs.Prelude.{◌≡◌};
-ghost use Rattle.syntax_parsing.specs.Errors.{source_fault};
+ghost use Rattle.syntax_lexer.specs.Token.{lexemes};
+ghost use Rattle.syntax_parsing.specs.Errors.{fault_number, placed_fault};
 ghost use Rattle.syntax_parsing.specs.declared.error.ParseError.TheVariants.{Memory};
 
+use crate::tokens::place_of;
 use std::alloc::{AllocError, AllocFailed};
-use syntax_lexer::SourceFault;
+use syntax_lexer::{NESTED_TOO_DEEP, NOT_IN_GRAMMAR, PlacedFault, SourceFault, Token};
 
 /// Why tokens have no tree.
 #[derive(Clone, Copy)]
@@ -23,7 +25,7 @@ pub enum ParseError {
     /// A growth of memory was refused (E99).
     Memory,
 
-    /// A fault, and the line of the token at which it stands.
+    /// A fault, and how many tokens are left from that on at which it stands.
     Fault(Fault, usize),
 }
 
@@ -43,17 +45,34 @@ impl<T: Drop> From<AllocFailed<T>> for ParseError {
     }
 }
 
-impl From<ParseError> for SourceFault {
-    ghost from_gives = { λ e fault. fault ≡ source_fault e };
+// The number by which programs name the fault.
+fn number(fault: Fault) -> u8
+    ensures { result ≡ fault_number fault }
+{
+    match fault {
+        Fault::Grammar => NOT_IN_GRAMMAR,
+        Fault::Deep => NESTED_TOO_DEEP,
+    }
+}
 
-    fn from(e: ParseError) -> SourceFault {
-        match e {
-            ParseError::Memory => SourceFault {
-                number: 99,
-                line: 0,
-            },
-            ParseError::Fault(Fault::Grammar, line) => SourceFault { number: 10, line },
-            ParseError::Fault(Fault::Deep, line) => SourceFault { number: 5, line },
+impl ParseError {
+    /// The fault of a source with these tokens, of which those that are left were not read: it
+    /// stands at the first of these.
+    pub fn placed(self, tokens: &[Token<'_>]) -> PlacedFault
+        ensures { result ≡ placed_fault (lexemes tokens.now) self }
+    {
+        match self {
+            ParseError::Memory => PlacedFault::from(AllocError),
+            ParseError::Fault(fault, left) => {
+                let place = place_of(tokens, left);
+                PlacedFault {
+                    fault: SourceFault {
+                        number: number(fault),
+                        line: place.line,
+                    },
+                    offset: Some(place.offset),
+                }
+            }
         }
     }
 }

@@ -1,7 +1,8 @@
 //! Which token comes next, and what it is.
 
-ghost use Rattle.std.specs.Prelude.{◌≡◌, ◌+◌, IfOk, IfErr};
+ghost use Rattle.std.specs.Prelude.{◌≡◌, ◌+◌, IfOk, IfErr, length};
 ghost use Rattle.syntax_lexer.specs.Token.{lexeme, lexemes, position_of};
+ghost use Rattle.syntax_parsing.specs.Errors as errors;
 ghost use Rattle.syntax_parsing.specs.Parse as spec;
 
 use crate::error::{Fault, ParseError};
@@ -39,6 +40,13 @@ pub fn position(tokens: &[Token<'_>]) -> Position
     peek(tokens).position
 }
 
+/// Where the token stands from which on so many are left.
+pub fn place_of(tokens: &[Token<'_>], left: usize) -> Position
+    ensures { result ≡ errors.place_of (lexemes tokens.now) left }
+{
+    position(tokens.split_at(tokens.len().saturating_sub(left)).1)
+}
+
 /// Whether the token is that sign.
 pub fn is_sign(token: Token<'_>, sign: Sign) -> bool
     ensures { result ≡ spec.is_sign sign (lexeme token.entry) }
@@ -59,11 +67,12 @@ pub fn is_word(token: Token<'_>, word: Word) -> bool
     }
 }
 
-/// A fault at the next token, with its line.
+/// A fault at the next token. It holds how many tokens are left, and no place: the tokens of a
+/// source tell that of each.
 pub fn fault_at(fault: Fault, tokens: &[Token<'_>]) -> ParseError
-    ensures { result ≡ ParseError.Fault fault (position_of (spec.head (lexemes tokens.now))).line }
+    ensures { result ≡ ParseError.Fault fault (length (lexemes tokens.now)) }
 {
-    ParseError::Fault(fault, position(tokens).line)
+    ParseError::Fault(fault, tokens.len())
 }
 
 /// How many nestings more may be opened inside the next token, which opens one of `depth`.
@@ -74,7 +83,7 @@ pub fn fault_at(fault: Fault, tokens: &[Token<'_>]) -> ParseError
 pub fn open<'a>(depth: usize, tokens: &[Token<'a>]) -> Result<usize, ParseError>
     ensures opened { IfOk result (λ inside. depth ≡ inside + 1) }
     ensures refused { IfErr result (λ e. (depth ≡ 0)
-        × (e ≡ ParseError.Fault Fault.Deep (position_of (spec.head (lexemes tokens.now))).line)) }
+        × (e ≡ ParseError.Fault Fault.Deep (length (lexemes tokens.now)))) }
 {
     if depth == 0 {
         return Err(fault_at(Fault::Deep, tokens));

@@ -1,3 +1,5 @@
+use Rattle.std.proofs.Common.{refl, subst}
+use Rattle.syntax_lexer.specs.Tokens.{Breaks}
 use Rattle.syntax_lexer.proofs.Loop.{token_first, fault_first}
 use Rattle.syntax_lexer.proofs.source.token_at.Goals as goal
 
@@ -8,3 +10,12 @@ returns-in-Ok-clause-first c = token_first c.args.source.now c.from-rest.result.
 pub returns-in-Err-clause-broken : goal.returns-in-Err-clause-broken
 returns-in-Err-clause-broken c = fault_first c.args.source.now c.from-rest.result.now c.args.position c.in-Err.fault
     c.number.result c.from-rest.ensures c.number.ensures c.in-Err.ensures.scanned
+
+pub returns-in-Err-clause-stands : goal.returns-in-Err-clause-stands
+returns-in-Err-clause-stands c = (
+  c.args.position.offset,
+  refl,
+  c.in-Err.fault,
+  c.number.ensures,
+  subst (Breaks c.in-Err.fault) c.from-rest.ensures c.in-Err.ensures.scanned,
+)

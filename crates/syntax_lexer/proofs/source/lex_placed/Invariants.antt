@@ -1,7 +1,7 @@
 use Rattle.std.proofs.Common.{◌+◌, ◌-◌, ◌≤◌, length, drop}
 use Rattle.syntax_lexer.specs.Tokens.{Lexes, TokenOutcome}
 use Rattle.syntax_lexer.proofs.Loop.{puts}
-use Rattle.syntax_lexer.proofs.source.lex.Given as goal
+use Rattle.syntax_lexer.proofs.source.lex_placed.Given as goal
 
 abbrev pub invariant-loop-offset : goal.invariant-loop-offset
 invariant-loop-offset l = record {

@@ -1,13 +1,15 @@
-use Rattle.std.proofs.Common.{◌+◌, ◌∷◌, length, drop, [], Ok, Err, sym, ap, subst, ◌∙◌, arith}
+use Rattle.std.proofs.Common.{◌+◌, ◌∷◌, length, drop, [], Ok, Err, inr, sym, ap, subst, ◌∙◌, arith}
 use Rattle.std.proofs.lemmas.List.{length-drop}
 use Rattle.std.proofs.lemmas.Result.{err_from_is_err_and}
 use Rattle.syntax_lexer.specs.Bytes.{run, is_comment_byte}
 use Rattle.syntax_lexer.specs.Token.{end}
 use Rattle.syntax_lexer.specs.Tokens.{Lexes, put, EndsOnce}
 use Rattle.syntax_lexer.specs.Results.{source_token, source_tokens}
+use Rattle.syntax_lexer.specs.declared.fault.PlacedFault.{PlacedFault}
+use Rattle.syntax_lexer.specs.Placed.{unplaced, IsFaultIn}
 use Rattle.syntax_lexer.proofs.Loop.{puts, puts_push, puts_last, puts_err, meets_fault, at_divider, at_comment}
 use Rattle.syntax_lexer.proofs.Loop.{at_the_end, ends_once, lexemes_are}
-use Rattle.syntax_lexer.proofs.source.lex.Goals as goal
+use Rattle.syntax_lexer.proofs.source.lex_placed.Goals as goal
 
 pub loop-offset-preserved-then-is_divider : goal.loop-offset-preserved-then-is_divider
 loop-offset-preserved-then-is_divider c = record {
@@ -39,10 +41,16 @@ loop-offset-preserved-then-first-eq33 c = record {
 pub returns-in_err-token-clause-meets : goal.returns-in_err-token-clause-meets
 returns-in_err-token-clause-meets c =
     let p = err_from_is_err_and c.from_residual.result c.from_residual.ensures.1 in
-    let found = c.in_err-token.ensures.broken in
-    let whole = subst (Lexes 0 1 c.args.source.now) (puts_err c.loop-offset.tokens.items c.in_err-token.field-0.0)
-    (c.loop-offset.invariant.rest (Err c.in_err-token.field-0.0) found) in
-    meets_fault c.from_residual.result (λ o. Lexes 0 1 c.args.source.now o) p.0 c.in_err-token.field-0.0 p.1 p.2 whole
+    let e = c.in_err-token.field-0.0 in
+    let whole = subst (Lexes 0 1 c.args.source.now) (puts_err c.loop-offset.tokens.items e.fault)
+    (c.loop-offset.invariant.rest (Err e.fault) c.in_err-token.ensures.broken) in
+    meets_fault (unplaced c.from_residual.result) (λ o. Lexes 0 1 c.args.source.now o) p.0.fault e.fault
+    (ap unplaced p.1) (ap (λ (x : PlacedFault). x.fault) p.2) whole
+
+pub returns-in_err-token-clause-stands : goal.returns-in_err-token-clause-stands
+returns-in_err-token-clause-stands c =
+    let p = err_from_is_err_and c.from_residual.result c.from_residual.ensures.1 in
+    rw p.1 (inr (subst (IsFaultIn c.args.source.now) (sym p.2) c.in_err-token.ensures.stands))
 
 pub loop-offset-preserved : goal.loop-offset-preserved
 loop-offset-preserved c = record {

@@ -1,0 +1,10 @@
+-- Where the fault of a program stands.
+use Rattle.std.specs.Prelude.{◌≡◌, List, Some}
+use Rattle.syntax_lexer.specs.declared.fault.PlacedFault.{PlacedFault}
+use Rattle.checker_names.specs.declared.breach.Breach.{Breach}
+use Rattle.checker_names.specs.Breaches.{IsAmong, IsFirst}
+
+-- at the first of the broken rules
+abbrev pub StandsAtFirst : PlacedFault → List Breach → Type 0
+StandsAtFirst e breaches =
+    (b : Breach) × IsAmong b breaches × IsFirst b breaches × (e.offset ≡ Some b.position.offset)

@@ -1,0 +1,22 @@
+//! Why a source is refused, and where.
+
+ghost use Rattle.story_diagnosis.specs.Diagnosed.{Diagnoses};
+
+use source_places::{Diagnosis, located};
+use std::alloc::Global;
+use story::{Story, compile_placed};
+use zcore::Version;
+
+/// The story of a source in a version, or why the source is refused, and where.
+///
+/// # Errors
+///
+/// The fault is that of [`story::compile_for`]; its place is in the line that it names.
+pub fn diagnose(alloc: Global, source: &[u8], version: Version) -> Result<Story, Diagnosis>
+    ensures { Diagnoses version source.now result }
+{
+    match compile_placed(alloc, source, version) {
+        Ok(story) => Ok(story),
+        Err(placed) => Err(located(source, placed)),
+    }
+}
