@@ -16,6 +16,9 @@ pub enum Asked<'a> {
 
     /// To compile a source.
     Compile(Words<'a>),
+
+    /// To print what the source of this name takes, as a story of a version.
+    Sizes(&'a str, Version),
 }
 
 /// What is compiled to what.
@@ -46,6 +49,11 @@ pub fn command<'a>(alloc: Global) -> Result<Command<'a>, AllocError> {
         .num_args(0..=1)
         .exclusive(true)
         .action(ArgAction::Set);
+    let sizes = Arg::new(alloc, "sizes")
+        .long("sizes")
+        .help("Print what the source takes, of what there may be; no story is written")
+        .action(ArgAction::SetTrue)
+        .conflicts_with("story")?;
     let source = Arg::new(alloc, "source")
         .value_name("SOURCE")
         .help("A source file")
@@ -54,7 +62,7 @@ pub fn command<'a>(alloc: Global) -> Result<Command<'a>, AllocError> {
     let story = Arg::new(alloc, "story")
         .value_name("STORY")
         .help("The story file to write")
-        .required(true)
+        .required_unless_present("sizes")?
         .action(ArgAction::Set);
     Command::new(alloc, "inform")
         .version("0.1.0")
@@ -62,6 +70,7 @@ pub fn command<'a>(alloc: Global) -> Result<Command<'a>, AllocError> {
         .after_help(MORE)
         .arg(version)?
         .arg(explain)?
+        .arg(sizes)?
         .arg(source)?
         .arg(story)
 }
@@ -77,8 +86,12 @@ pub fn words_of<'a>(matches: &ArgMatches<'a>) -> Option<Asked<'a>> {
         Some(8) => Version::V8,
         Some(_) => return None,
     };
+    let source = matches.get_str("source").unwrap_or("");
+    if matches.get_flag("sizes") {
+        return Some(Asked::Sizes(source, version));
+    }
     Some(Asked::Compile(Words {
-        source: matches.get_str("source").unwrap_or(""),
+        source,
         story: matches.get_str("story").unwrap_or(""),
         version,
     }))

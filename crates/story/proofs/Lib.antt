@@ -7,4 +7,4 @@ mod Holding
 pub mod Sizes
 pub mod Faults
 mod Numbered
-mod Compiling
+pub mod Compiling

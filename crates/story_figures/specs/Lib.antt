@@ -1,0 +1,3 @@
+pub mod Temporaries
+pub mod Figures
+pub mod Measured

@@ -1,0 +1,16 @@
+//! What a source takes, of what there may be: weights, bytes and counts.
+#![tactic(auto)]
+
+mod definitions;
+mod headings;
+mod measuring;
+mod routine_figures;
+mod statements;
+mod table;
+mod table_bytes;
+mod temporaries;
+
+pub use measuring::{Counts, Figures, measure};
+pub use routine_figures::RoutineFigures;
+pub use table_bytes::TableBytes;
+pub use temporaries::Temporaries;
