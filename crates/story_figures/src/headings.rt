@@ -28,10 +28,10 @@ fn left_behind(part: &Option<Box<Expression<'_>>>, room: u8) -> u8
     }
 }
 
-fn all_three(first: bool, second: bool, third: bool) -> bool
-    ensures { result ≡ (first && (second && third)) }
+fn all_four(some: bool, first: bool, second: bool, third: bool) -> bool
+    ensures { result ≡ (some && (first && (second && third))) }
 {
-    first && second && third
+    some && first && second && third
 }
 
 /// Whether the parts of a `for`, as operands of one form, need at most so many temporaries.
@@ -43,5 +43,5 @@ pub fn heading_fits(heading: &Heading<'_>, room: u8) -> bool
     let first_fits = fits_in(&heading.before, room);
     let second_fits = fits_in(&heading.test, second);
     let third_fits = fits_in(&heading.behind, third);
-    all_three(first_fits, second_fits, third_fits) && room >= 1
+    all_four(room >= 1, first_fits, second_fits, third_fits)
 }

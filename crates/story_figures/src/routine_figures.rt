@@ -73,7 +73,7 @@ fn place<'a>(
     routine: RoutineFigures<'a>,
 ) -> Result<(), AllocError>
     ensures { OnOk result (heaviest.new.items
-        ≡ take 10 (spec.placed routine heaviest.old.items)) }
+        ≡ take 10 (spec.placed routine.entry heaviest.old.items)) }
 {
     let number = rank(heaviest, routine.weight);
     heaviest.insert(number, routine)?;

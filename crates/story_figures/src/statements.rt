@@ -13,7 +13,6 @@ use syntax_statement_parts::Loop;
 use syntax_statements::SimpleStatement;
 
 fn item(printed: &PrintItem<'_>, most: &mut Temporaries)
-    requires { most.old.count ≤ 49 }
     ensures { most.new ≡ spec.greatest most.old (spec.item_needs (item_tree printed.now)) }
 {
     match printed {
@@ -25,7 +24,6 @@ fn item(printed: &PrintItem<'_>, most: &mut Temporaries)
 }
 
 fn items(printed: &[PrintItem<'_>], most: &mut Temporaries)
-    requires { most.old.count ≤ 49 }
     ensures { most.new ≡ spec.greatest most.old (spec.items_needs (map item_tree printed.now)) }
 {
     for one in printed {
@@ -35,7 +33,6 @@ fn items(printed: &[PrintItem<'_>], most: &mut Temporaries)
 
 /// A statement in which no other stands.
 fn simple(s: &SimpleStatement<'_>, most: &mut Temporaries)
-    requires { most.old.count ≤ 49 }
     ensures { most.new ≡ spec.greatest most.old (spec.statement_needs (simple_tree s.now)) }
 {
     match s {
@@ -62,7 +59,6 @@ fn simple(s: &SimpleStatement<'_>, most: &mut Temporaries)
 
 /// What stands in the parentheses of an `objectloop`.
 fn traversal(over: &Loop<'_>, position: Position, most: &mut Temporaries)
-    requires { most.old.count ≤ 49 }
     ensures { most.new ≡ spec.greatest most.old (spec.loop_needs position (loop_tree over.now)) }
 {
     match over {
@@ -75,7 +71,6 @@ fn traversal(over: &Loop<'_>, position: Position, most: &mut Temporaries)
 /// A statement, and those inside it.
 #[cycle(statement)]
 fn statement(s: &Statement<'_>, most: &mut Temporaries)
-    requires { most.old.count ≤ 49 }
     ensures { most.new ≡ spec.greatest most.old (spec.statement_needs (statement_tree s.now)) }
 {
     match s {
@@ -118,7 +113,6 @@ fn statement(s: &Statement<'_>, most: &mut Temporaries)
 /// Statements in order.
 #[cycle(statement)]
 fn sequence(all: &[Statement<'_>], most: &mut Temporaries)
-    requires { most.old.count ≤ 49 }
     ensures { most.new ≡ spec.greatest most.old
         (spec.statements_needs (trees_of (map statement_tree all.now))) }
 {
@@ -130,7 +124,6 @@ fn sequence(all: &[Statement<'_>], most: &mut Temporaries)
 /// The cases of a `switch`.
 #[cycle(statement)]
 fn all_cases(cases: &[(Vec<Range<'_>>, Vec<Statement<'_>>)], most: &mut Temporaries)
-    requires { most.old.count ≤ 49 }
     ensures { most.new ≡ spec.greatest most.old (spec.listed_needs (map case_tree cases.now)) }
 {
     for one in cases {
@@ -141,7 +134,6 @@ fn all_cases(cases: &[(Vec<Range<'_>>, Vec<Statement<'_>>)], most: &mut Temporar
 /// The statements of `default`.
 #[cycle(statement)]
 fn otherwise(other: &Option<Vec<Statement<'_>>>, most: &mut Temporaries)
-    requires { most.old.count ≤ 49 }
     ensures { most.new ≡ spec.greatest most.old (spec.other_needs (other_tree other.now)) }
 {
     match other {
@@ -152,7 +144,6 @@ fn otherwise(other: &Option<Vec<Statement<'_>>>, most: &mut Temporaries)
 
 /// What the routine that a directive may be needs.
 fn directive(written: &Directive<'_>, most: &mut Temporaries)
-    requires { most.old.count ≤ 49 }
     ensures { most.new ≡ spec.greatest most.old (spec.directive_needs (directive_tree written.now)) }
 {
     match written {

@@ -24,10 +24,9 @@ pub struct Temporaries {
     pub line: usize,
 }
 
-/// What an expression needs, or `least` where that is more; 49 stands for more than 48.
+/// What an expression needs, where 49 stands for more than 48, or `least` where that is more.
 fn need_above(e: &Expression<'_>, least: u8) -> u8
-    requires { least ≤ 49 }
-    ensures { result ≡ spec.at_most_49 (max least (need (expression_tree e.now))) }
+    ensures { result ≡ max least (spec.at_most_49 (need (expression_tree e.now))) }
 {
     let mut count = least;
     while count <= MOST_TEMPORARIES && !fits(e, count) {
@@ -38,8 +37,7 @@ fn need_above(e: &Expression<'_>, least: u8) -> u8
 
 /// The same of two operands of one form.
 fn both_need_above(first: &Expression<'_>, second: &Expression<'_>, least: u8) -> u8
-    requires { least ≤ 49 }
-    ensures { result ≡ spec.at_most_49 (max least
+    ensures { result ≡ max least (spec.at_most_49
         (move_need (expression_tree first.now) (expression_tree second.now))) }
 {
     let mut count = least;
@@ -51,8 +49,7 @@ fn both_need_above(first: &Expression<'_>, second: &Expression<'_>, least: u8) -
 
 /// The same of the parts of a `for`.
 fn heading_needs_above(heading: &Heading<'_>, least: u8) -> u8
-    requires { least ≤ 49 }
-    ensures { result ≡ spec.at_most_49 (max least (need_of_heading (heading_tree heading.now))) }
+    ensures { result ≡ max least (spec.at_most_49 (need_of_heading (heading_tree heading.now))) }
 {
     let mut count = least;
     while count <= MOST_TEMPORARIES && !heading_fits(heading, count) {
@@ -78,7 +75,6 @@ impl Temporaries {
 
     /// Notes the greater count, with its line.
     fn raise(&mut self, position: Position, count: u8)
-        requires { self.old.count ≤ count }
         ensures { self.new ≡ spec.greater self.old (spec.at_line position count) }
     {
         if count > self.count {
@@ -89,7 +85,6 @@ impl Temporaries {
 
     /// Notes what an expression needs that stands in what begins at a position.
     pub fn note(&mut self, position: Position, e: &Expression<'_>)
-        requires { self.old.count ≤ 49 }
         ensures { self.new ≡ spec.greater self.old
             (spec.needed position (need (expression_tree e.now))) }
     {
@@ -99,7 +94,6 @@ impl Temporaries {
 
     /// Notes what the operands of a `move` need.
     pub fn note_both(&mut self, position: Position, first: &Expression<'_>, second: &Expression<'_>)
-        requires { self.old.count ≤ 49 }
         ensures { self.new ≡ spec.greater self.old
             (spec.needed position (move_need (expression_tree first.now) (expression_tree second.now))) }
     {
@@ -109,7 +103,6 @@ impl Temporaries {
 
     /// Notes what the parts of a `for` need.
     pub fn note_heading(&mut self, position: Position, heading: &Heading<'_>)
-        requires { self.old.count ≤ 49 }
         ensures { self.new ≡ spec.greater self.old
             (spec.needed position (need_of_heading (heading_tree heading.now))) }
     {

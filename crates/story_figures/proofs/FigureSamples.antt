@@ -1,0 +1,2 @@
+-- Samples of the definitions, computed.
+use Rattle.std.proofs.Common.{◌≡◌, List, [], ◌∷◌, refl}

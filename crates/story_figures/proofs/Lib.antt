@@ -1,0 +1,7 @@
+pub mod Needing
+pub mod Walking
+pub mod Ranking
+pub mod Summing
+pub mod Measuring
+pub mod Refusals
+mod FigureSamples
