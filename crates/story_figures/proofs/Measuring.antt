@@ -39,7 +39,7 @@ module _ (c : CheckedProgram) (accepted : IsAccepted (program_of c)) where
       let properties = o.properties.items in
       let inside : j < length (map property_of properties) = omega (arith, within, length-map properties property_of) in
       let here : slice_index_or (map property_of properties) j (property_of e)
-          ≡ property_of (slice_index_or properties j e) =
+      ≡ property_of (slice_index_or properties j e) =
       get_or-map property_of properties j e (property_of e) within in
       let words = (is_object k d lt).words j (property_of e) inside in
       subst (λ (x : ℕ × List ℕ). length x.1 ≤ 32) here words.1

@@ -25,9 +25,12 @@ pub without_memory : (version : Version) (source : List ℕ) (f : SourceFault) �
     → IsRefused version source f
 without_memory version source f is = (spec.no_memory is, tt)
 
-pub unlexed : (version : Version) (source : List ℕ) (f : SourceFault) → Lexes 0 1 source (Err f)
+pub unlexed : (version : Version) (source : List ℕ) (f : SourceFault) → (f ≡ no_memory) ⊎ Lexes 0 1 source (Err f)
     → IsRefused version source f
-unlexed version source f lexed = (spec.in_tokens lexed, tt)
+unlexed version source f answer = elim answer [
+  | inl refused ↦ without_memory version source f refused
+  | inr lexed ↦ (spec.in_tokens lexed, tt)
+]
 
 same_lexemes : (ts : List Token) → lexemes_of (source_tokens ts) ≡ lexemes ts
 same_lexemes [] = refl
@@ -45,13 +48,18 @@ module _ (source : List ℕ) (ts : List Token) (lexed : Lexes 0 1 source (Ok (so
       → IsRefused version source f
   unparsed version f grammar deep number = elim number [
     | inl five ↦
-        let here = deep five in
-        (spec.too_deep (source_tokens ts) lexed (subst (DeepProgram 101) (sym (same_lexemes ts)) here.0)
-        (λ p parsed. here.1 p (program_of_tokens p parsed)) five, tt)
+        let here = deep five in (
+          spec.too_deep (source_tokens ts) lexed (subst (DeepProgram 101) (sym (same_lexemes ts)) here.0)
+              (λ p parsed. here.1 p (program_of_tokens p parsed)) five,
+          tt,
+        )
     | inr others ↦ elim others [
-      | inl ten ↦ (spec.not_in_grammar (source_tokens ts) lexed
-          (λ p parsed. grammar ten p (program_of_tokens p parsed))
-          ten, tt)
+      | inl ten ↦ (
+        spec.not_in_grammar (source_tokens ts) lexed
+            (λ p parsed. grammar ten p (program_of_tokens p parsed))
+            ten,
+        tt,
+      )
       | inr refused ↦ without_memory version source f refused
     ]
   ]

@@ -3,11 +3,14 @@
 ghost use Rattle.std.specs.Prelude.{◌≡◌, ◌≤◌, IfOk, None, length};
 ghost use Rattle.std.specs.List.{All};
 ghost use Rattle.ztext.specs.Abbreviations.{most_abbreviations};
+ghost use Rattle.syntax.specs.Tree.{program_tree};
 ghost use Rattle.meaning.specs.CheckedSizes.{checked_size_fault};
 ghost use Rattle.meaning.specs.Limits.{most_objects};
 ghost use Rattle.meaning.specs.Resolved.{program_of};
 ghost use Rattle.story_file.specs.Written.{FitsStory};
-ghost use Rattle.story_figures.specs.Figures.{AreFiguresOfChecked, IsStoryOfChecked, counts_in, ObjectHasFewWords};
+ghost use Rattle.story_figures.specs.Figures.{AreFiguresOfChecked, IsStoryOfChecked};
+ghost use Rattle.story_figures.specs.Figures.{ObjectHasFewWords, attributes_in, counts_in, properties_in};
+ghost use Rattle.story_figures.specs.Temporaries.{most_needed};
 ghost use Rattle.story_figures.specs.Measured.{Measures};
 
 use crate::definitions::{attributes_in, properties_in};
@@ -20,7 +23,7 @@ use meaning::{Checked, test_sizes};
 use std::alloc::{AllocError, Global};
 use story_file::write_story;
 use story_sizes::small_sources_have_small_code;
-use syntax::{parse, printable_trees};
+use syntax::{Program, parse, printable_trees};
 use syntax_lexer::{SourceFault, lex, printable_tokens};
 use zcore::Version;
 
@@ -79,6 +82,21 @@ struct Written {
     attributes: usize,
     properties: usize,
     temporaries: Temporaries,
+}
+
+fn written_in(program: &Program<'_>) -> Written
+    ensures attributes { result.attributes
+        ≡ attributes_in (program_tree program.now).directives }
+    ensures properties { result.properties
+        ≡ properties_in (program_tree program.now).directives }
+    ensures temporaries { result.temporaries
+        ≡ most_needed (program_tree program.now).directives }
+{
+    Written {
+        attributes: attributes_in(&program.directives),
+        properties: properties_in(&program.directives),
+        temporaries: temporaries_of(&program.directives),
+    }
 }
 
 /// The bytes of the story of a program; or why it is too large.
@@ -171,11 +189,7 @@ pub fn measure<'a>(
     let program = parse(alloc, &tokens)?;
     // The tree names no token, and they may take more memory than it.
     drop(tokens);
-    let written = Written {
-        attributes: attributes_in(&program.directives),
-        properties: properties_in(&program.directives),
-        temporaries: temporaries_of(&program.directives),
-    };
+    let written = written_in(&program);
     let checked = check(alloc, program)?;
     let found = figures_of(alloc, &checked, version, written)?;
     Ok(found)

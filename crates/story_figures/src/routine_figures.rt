@@ -85,7 +85,6 @@ fn place<'a>(
 pub fn routines_of<'a>(alloc: Global, checked: &Checked<'a>) -> Result<Routines<'a>, AllocError>
     ensures heaviest { IfOk result (λ r. r.heaviest.items ≡ spec.heaviest_in checked.now) }
     ensures size { IfOk result (λ r. r.size ≡ spec.code_bytes_in checked.now) }
-    ensures few { IfOk result (λ r. r.size < 2 ^ 127) }
 {
     let mut heaviest = Vec::new(alloc);
     let mut size = 0;

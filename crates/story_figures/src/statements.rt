@@ -1,13 +1,15 @@
 //! The temporaries of all expressions of statements.
 
-ghost use Rattle.std.specs.Prelude.{◌≡◌, ◌≤◌, map};
-ghost use Rattle.syntax_statement_parts.specs.Tree.{item_tree, loop_tree};
+ghost use Rattle.std.specs.Prelude.{◌≡◌, ◌∷◌, ◌++◌, [], map};
+ghost use Rattle.syntax_trees.specs.Tree.{expression_tree};
+ghost use Rattle.syntax_statement_parts.specs.Tree.{heading_tree, item_tree, loop_tree};
 ghost use Rattle.syntax_statements.specs.Tree.{simple_tree, statement_tree, trees_of, case_tree, other_tree};
 ghost use Rattle.syntax_directives.specs.Tree.{directive_tree};
+ghost use Rattle.checker_statements.specs.Statements.{need_of_heading};
 ghost use Rattle.story_figures.specs.Temporaries as spec;
 
 use crate::temporaries::Temporaries;
-use syntax::{Directive, PrintItem, Range, Statement};
+use syntax::{Directive, Expression, Heading, PrintItem, Range, Statement};
 use syntax_lexer::Position;
 use syntax_statement_parts::Loop;
 use syntax_statements::SimpleStatement;
@@ -68,7 +70,8 @@ fn traversal(over: &Loop<'_>, position: Position, most: &mut Temporaries)
     }
 }
 
-/// A statement, and those inside it.
+/// A statement, and those inside it. The tree is the first argument of all these functions: there its
+/// lifetime has the place that it has where a box or a vector lends it.
 #[cycle(statement)]
 fn statement(s: &Statement<'_>, most: &mut Temporaries)
     ensures { most.new ≡ spec.greatest most.old (spec.statement_needs (statement_tree s.now)) }
@@ -77,37 +80,26 @@ fn statement(s: &Statement<'_>, most: &mut Temporaries)
         Statement::Empty => {}
         Statement::Simple(plain) => simple(plain, most),
         Statement::Block(all) => sequence(all, most),
-        Statement::If(position, condition, then) => {
-            most.note(*position, condition);
-            statement(then, most);
-        }
+        Statement::If(position, condition, then) => behind(then, condition, *position, most),
         Statement::IfElse(position, condition, then, otherwise) => {
-            most.note(*position, condition);
-            statement(then, most);
-            statement(otherwise, most);
+            if_else(then, otherwise, condition, *position, most)
         }
-        Statement::While(position, condition, body) => {
-            most.note(*position, condition);
-            statement(body, most);
-        }
-        Statement::Do(position, body, condition) => {
-            statement(body, most);
-            most.note(*position, condition);
-        }
-        Statement::For(position, parts, body) => {
-            most.note_heading(*position, parts);
-            statement(body, most);
-        }
-        Statement::Objectloop(position, over, body) => {
-            traversal(over, *position, most);
-            statement(body, most);
-        }
+        Statement::While(position, condition, body) => behind(body, condition, *position, most),
+        Statement::Do(position, body, condition) => do_until(body, condition, *position, most),
+        Statement::For(position, parts, body) => for_loop(body, parts, *position, most),
+        Statement::Objectloop(position, over, body) => each(body, over, *position, most),
         Statement::Switch(position, value, cases, other) => {
-            most.note(*position, value);
-            all_cases(cases, most);
-            otherwise(other, most);
+            switch_on(cases, other, value, *position, most)
         }
     }
+}
+
+/// A statement inside another, in its box.
+#[cycle(statement)]
+fn boxed(s: &Box<Statement<'_>>, most: &mut Temporaries)
+    ensures { most.new ≡ spec.greatest most.old (spec.statement_needs (statement_tree s.now.value)) }
+{
+    statement(s, most);
 }
 
 /// Statements in order.
@@ -121,13 +113,93 @@ fn sequence(all: &[Statement<'_>], most: &mut Temporaries)
     }
 }
 
+/// A condition, and the statement behind it.
+#[cycle(statement)]
+fn behind(
+    body: &Box<Statement<'_>>,
+    condition: &Expression<'_>,
+    position: Position,
+    most: &mut Temporaries,
+)
+    ensures { most.new ≡ spec.greatest most.old (spec.whole_needs position
+        (expression_tree condition.now) ++ spec.statement_needs (statement_tree body.now.value)) }
+{
+    most.note(position, condition);
+    boxed(body, most);
+}
+
+#[cycle(statement)]
+fn if_else(
+    first: &Box<Statement<'_>>,
+    otherwise: &Box<Statement<'_>>,
+    condition: &Expression<'_>,
+    position: Position,
+    most: &mut Temporaries,
+)
+    ensures { most.new ≡ spec.greatest most.old
+        (spec.whole_needs position (expression_tree condition.now)
+        ++ (spec.statement_needs (statement_tree first.now.value)
+        ++ spec.statement_needs (statement_tree otherwise.now.value))) }
+{
+    most.note(position, condition);
+    boxed(first, most);
+    boxed(otherwise, most);
+}
+
+#[cycle(statement)]
+fn do_until(
+    body: &Box<Statement<'_>>,
+    condition: &Expression<'_>,
+    position: Position,
+    most: &mut Temporaries,
+)
+    ensures { most.new ≡ spec.greatest most.old (spec.statement_needs (statement_tree body.now.value)
+        ++ spec.whole_needs position (expression_tree condition.now)) }
+{
+    boxed(body, most);
+    most.note(position, condition);
+}
+
+#[cycle(statement)]
+fn for_loop(
+    body: &Box<Statement<'_>>,
+    parts: &Heading<'_>,
+    position: Position,
+    most: &mut Temporaries,
+)
+    ensures { most.new ≡ spec.greatest most.old
+        ((spec.needed position (need_of_heading (heading_tree parts.now)) ∷ [])
+        ++ spec.statement_needs (statement_tree body.now.value)) }
+{
+    most.note_heading(position, parts);
+    boxed(body, most);
+}
+
+/// An `objectloop`.
+#[cycle(statement)]
+fn each(body: &Box<Statement<'_>>, over: &Loop<'_>, position: Position, most: &mut Temporaries)
+    ensures { most.new ≡ spec.greatest most.old (spec.loop_needs position (loop_tree over.now)
+        ++ spec.statement_needs (statement_tree body.now.value)) }
+{
+    traversal(over, position, most);
+    boxed(body, most);
+}
+
+/// A case of a `switch`.
+#[cycle(statement)]
+fn one_case(given: &(Vec<Range<'_>>, Vec<Statement<'_>>), most: &mut Temporaries)
+    ensures { most.new ≡ spec.greatest most.old (spec.case_needs (case_tree given.now)) }
+{
+    sequence(&given.1, most);
+}
+
 /// The cases of a `switch`.
 #[cycle(statement)]
 fn all_cases(cases: &[(Vec<Range<'_>>, Vec<Statement<'_>>)], most: &mut Temporaries)
     ensures { most.new ≡ spec.greatest most.old (spec.listed_needs (map case_tree cases.now)) }
 {
     for one in cases {
-        sequence(&one.1, most);
+        one_case(one, most);
     }
 }
 
@@ -140,6 +212,23 @@ fn otherwise(other: &Option<Vec<Statement<'_>>>, most: &mut Temporaries)
         None => {}
         Some(all) => sequence(all, most),
     }
+}
+
+#[cycle(statement)]
+fn switch_on(
+    cases: &[(Vec<Range<'_>>, Vec<Statement<'_>>)],
+    other: &Option<Vec<Statement<'_>>>,
+    value: &Expression<'_>,
+    position: Position,
+    most: &mut Temporaries,
+)
+    ensures { most.new ≡ spec.greatest most.old
+        (spec.whole_needs position (expression_tree value.now)
+        ++ (spec.listed_needs (map case_tree cases.now) ++ spec.other_needs (other_tree other.now))) }
+{
+    most.note(position, value);
+    all_cases(cases, most);
+    otherwise(other, most);
 }
 
 /// What the routine that a directive may be needs.
