@@ -112,7 +112,7 @@ IsStoryOfChecked version c (Err f) = checked_size_fault c version ≡ Some f
 
 pub record AreFiguresOfChecked (version : Version) (c : CheckedProgram) (f : Figures) : Type 0 where
   pub weight : f.weight ≡ c.weight
-  pub version : f.version ≡ version
+  pub for_version : f.version ≡ version
   pub heaviest : f.heaviest.items ≡ heaviest_in c
   pub code : f.code ≡ code_bytes_in c
   pub tables : AreTables (program_of c) f.tables
