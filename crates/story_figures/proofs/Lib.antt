@@ -2,6 +2,6 @@ pub mod Needing
 pub mod Walking
 pub mod Ranking
 pub mod Summing
-pub mod Measuring
+pub mod Accepting
 pub mod Refusals
 mod FigureSamples

@@ -5,7 +5,7 @@ use Rattle.syntax_lexer.specs.Results.{source_tokens}
 use Rattle.syntax.specs.Tree.{program_tree}
 use Rattle.story.proofs.Compiling.{is_tree, fits}
 use Rattle.story_figures.specs.Figures.{attributes_in, counts_in}
-use Rattle.story_figures.proofs.Measuring.{few_words, few_objects, accepted_program, story_of_tree, refused}
+use Rattle.story_figures.proofs.Accepting.{few_words, few_objects, accepted_program, story_of_tree, refused}
 use Rattle.story_figures.proofs.Refusals.{without_memory, unlexed, unparsed, unchecked}
 use Rattle.story_figures.proofs.measuring.measure.Goals as goal
 
