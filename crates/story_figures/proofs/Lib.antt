@@ -1,5 +1,3 @@
-pub mod Needing
-pub mod Walking
 pub mod Ranking
 pub mod Summing
 pub mod Accepting

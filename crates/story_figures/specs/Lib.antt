@@ -1,3 +1,2 @@
-pub mod Temporaries
 pub mod Figures
 pub mod Measured

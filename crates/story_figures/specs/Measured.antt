@@ -10,7 +10,6 @@ use Rattle.story.specs.Refused.{IsTreeOf, Refuses, tree_size_fault, no_memory, i
 use Rattle.story.specs.Refused.{rule_broken, too_large}
 use Rattle.story_figures.specs.declared.measuring.Figures.{Figures}
 use Rattle.story_figures.specs.Figures.{AreFiguresOfChecked, attributes_in, properties_in, counts_in}
-use Rattle.story_figures.specs.Temporaries.{most_needed}
 
 -- how many bytes the story of a tree has, or the fault by which it is refused as too large: E30, E31 or E32
 abbrev pub IsStoryOfTree : Version → ProgramTree → Result ℕ SourceFault → Type 0
@@ -28,7 +27,6 @@ pub record AreFiguresOf (version : Version) (source : List ℕ) (f : Figures) : 
   pub is_checked : IsCheckedOf tree checked
   pub figures : AreFiguresOfChecked version checked f
   pub counts : f.counts ≡ counts_in checked (attributes_in tree.directives) (properties_in tree.directives)
-  pub temporaries : f.temporaries ≡ most_needed tree.directives
   pub story : IsStoryOfTree version tree f.story
 
 -- a source is refused, but not as too large

@@ -2,15 +2,11 @@
 #![tactic(auto)]
 
 mod definitions;
-mod headings;
 mod measuring;
 mod routine_figures;
-mod statements;
 mod table;
 mod table_bytes;
-mod temporaries;
 
 pub use measuring::{Counts, Figures, measure};
 pub use routine_figures::RoutineFigures;
 pub use table_bytes::TableBytes;
-pub use temporaries::Temporaries;

@@ -10,14 +10,11 @@ ghost use Rattle.meaning.specs.Resolved.{program_of};
 ghost use Rattle.story_file.specs.Written.{FitsStory};
 ghost use Rattle.story_figures.specs.Figures.{AreFiguresOfChecked, IsStoryOfChecked};
 ghost use Rattle.story_figures.specs.Figures.{ObjectHasFewWords, attributes_in, counts_in, properties_in};
-ghost use Rattle.story_figures.specs.Temporaries.{most_needed};
 ghost use Rattle.story_figures.specs.Measured.{Measures};
 
 use crate::definitions::{attributes_in, properties_in};
 use crate::routine_figures::{RoutineFigures, routines_of};
-use crate::statements::temporaries_of;
 use crate::table_bytes::TableBytes;
-use crate::temporaries::Temporaries;
 use checker::{accepted_programs, check, printable_programs};
 use meaning::{Checked, test_sizes};
 use std::alloc::{AllocError, Global};
@@ -68,9 +65,6 @@ pub struct Figures<'a> {
 
     pub counts: Counts,
 
-    /// The first of the expressions that need the most temporaries.
-    pub temporaries: Temporaries,
-
     /// The bytes of the story file, or the fault by which the source is refused as too large: E30,
     /// E31 or E32.
     pub story: Result<usize, SourceFault>,
@@ -81,7 +75,6 @@ pub struct Figures<'a> {
 struct Written {
     attributes: usize,
     properties: usize,
-    temporaries: Temporaries,
 }
 
 fn written_in(program: &Program<'_>) -> Written
@@ -89,13 +82,10 @@ fn written_in(program: &Program<'_>) -> Written
         ≡ attributes_in (program_tree program.now).directives }
     ensures properties { result.properties
         ≡ properties_in (program_tree program.now).directives }
-    ensures temporaries { result.temporaries
-        ≡ most_needed (program_tree program.now).directives }
 {
     Written {
         attributes: attributes_in(&program.directives),
         properties: properties_in(&program.directives),
-        temporaries: temporaries_of(&program.directives),
     }
 }
 
@@ -148,7 +138,6 @@ fn figures_of<'a>(
     ensures checked { IfOk result (λ f. AreFiguresOfChecked version checked.now f) }
     ensures counts { IfOk result (λ f. f.counts
         ≡ counts_in checked.now written.attributes written.properties) }
-    ensures temporaries { IfOk result (λ f. f.temporaries ≡ written.temporaries) }
 {
     let tables = TableBytes::of(checked);
     let routines = routines_of(alloc, checked)?;
@@ -161,7 +150,6 @@ fn figures_of<'a>(
         tables,
         table_total: tables.total(),
         counts: counts_of(checked, written),
-        temporaries: written.temporaries,
         story,
     })
 }

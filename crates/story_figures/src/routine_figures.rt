@@ -81,6 +81,15 @@ fn place<'a>(
     Ok(())
 }
 
+/// A sum of bytes, and more.
+fn with_bytes(sum: u128, bytes: usize) -> u128
+    requires { sum + 2 ^ 64 < 2 ^ 128 }
+    ensures sum { result ≡ sum + bytes }
+    ensures few { result ≤ sum + 2 ^ 64 }
+{
+    sum + bytes as u128
+}
+
 /// The figures of all routines of a program.
 pub fn routines_of<'a>(alloc: Global, checked: &Checked<'a>) -> Result<Routines<'a>, AllocError>
     ensures heaviest { IfOk result (λ r. r.heaviest.items ≡ spec.heaviest_in checked.now) }
@@ -91,7 +100,7 @@ pub fn routines_of<'a>(alloc: Global, checked: &Checked<'a>) -> Result<Routines<
     let count = checked.routines();
     for behind in 0..count {
         let figures = figures_at(alloc, checked, count - 1 - behind)?;
-        size += figures.size as u128;
+        size = with_bytes(size, figures.size);
         place(&mut heaviest, figures)?;
     }
     Ok(Routines { heaviest, size })

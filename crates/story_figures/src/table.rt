@@ -3,8 +3,7 @@
 use crate::measuring::{Counts, Figures};
 use crate::routine_figures::RoutineFigures;
 use crate::table_bytes::{FIXED_LENGTH, TableBytes};
-use crate::temporaries::Temporaries;
-use meaning::limits::{MOST_GLOBALS, MOST_OBJECTS, MOST_PROPERTIES, MOST_TEMPORARIES};
+use meaning::limits::{MOST_GLOBALS, MOST_OBJECTS, MOST_PROPERTIES};
 use std::fmt::{self, Display, Formatter};
 use zcore::layout::ATTRIBUTE_COUNT;
 use zcore::{MOST_ABBREVIATIONS, Version};
@@ -67,17 +66,6 @@ impl Display for RoutineFigures<'_> {
     }
 }
 
-impl Display for Temporaries {
-    fn fmt<W: fmt::Write>(&self, f: &mut Formatter<W>) -> fmt::Result {
-        let count = Line("temporaries of an expression", self.count as u128);
-        write!(f, "{count} of {MOST_TEMPORARIES}")?;
-        if self.line != 0 {
-            write!(f, ", line {}", self.line)?;
-        }
-        f.write_char('\n')
-    }
-}
-
 impl Display for Counts {
     fn fmt<W: fmt::Write>(&self, f: &mut Formatter<W>) -> fmt::Result {
         let globals = Line("globals", self.globals as u128);
@@ -125,7 +113,7 @@ impl Display for Figures<'_> {
         for routine in &self.heaviest {
             write!(f, "{routine}")?;
         }
-        write!(f, "{}{}{}", self.temporaries, self.counts, self.tables)?;
+        write!(f, "{}{}", self.counts, self.tables)?;
         let tables = Line("bytes of these four", self.table_total);
         writeln!(f, "{tables} of {MOST_TABLE_BYTES}")?;
         let fixed = Line("bytes of header and tables of one length", FIXED_LENGTH);

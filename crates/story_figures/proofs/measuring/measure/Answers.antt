@@ -81,6 +81,5 @@ returns c =
       figures = e.checked;
       counts = e.counts ∙ ap (λ n. counts_in q n w.result.properties) w.ensures.attributes
           ∙ ap (λ n. counts_in q (attributes_in p.directives) n) w.ensures.properties;
-      temporaries = e.temporaries ∙ w.ensures.temporaries;
       story = story_of_tree c.args.version p q checked.1 c.in_ok-found.found.story e.checked.story;
     }

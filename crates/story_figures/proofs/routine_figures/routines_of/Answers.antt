@@ -1,4 +1,4 @@
-use Rattle.std.proofs.Common.{◌≡◌, ℕ, suc, ◌+◌, ◌-◌, length, take, drop, Some, refl, ap, ◌∙◌, subst, arith}
+use Rattle.std.proofs.Common.{◌≡◌, ℕ, suc, ◌+◌, ◌-◌, length, take, drop, Some, ap, ◌∙◌, subst, arith}
 use Rattle.std.specs.Prelude.{map, slice_get}
 use Rattle.std.specs.Option.{option_map}
 use Rattle.meaning.specs.Places.{total}
@@ -20,8 +20,8 @@ loop-behind-preserved c =
     record {
       heaviest = heavier f rs i (length rs - l.behind) c.in_ok-figures.figures follows is l.heaviest.items _
           l.invariant.heaviest c.in_ok-place.ensures;
-      sum = longer f rs i (length rs - l.behind) c.in_ok-figures.figures follows is l.size _ l.invariant.sum refl;
-      bound = omega arith;
+      sum = longer f rs i (length rs - l.behind) c.in_ok-figures.figures follows is l.size _ l.invariant.sum c.with_bytes.ensures.sum;
+      bound = omega (arith, c.with_bytes.ensures.few);
     }
 
 pub returns-clause-heaviest : goal.returns-clause-heaviest
