@@ -1,8 +1,7 @@
 -- What an accepted program says of its figures.
-use Rattle.std.proofs.Common.{◌≡◌, ℕ, suc, ◌+◌, ◌<◌, ◌≤◌, List, [], ◌∷◌, length, get_or, Some, None, Result, Ok, Err}
-use Rattle.std.proofs.Common.{refl, sym, ap, ◌∙◌, subst, arith}
+use Rattle.std.proofs.Common.{◌≡◌, ℕ, suc, ◌+◌, ◌<◌, ◌≤◌, List, [], length, Result, Ok, Err}
+use Rattle.std.proofs.Common.{sym, ap, ◌∙◌, subst, arith}
 use Rattle.std.specs.Prelude.{map, slice_index_or}
-use Rattle.std.specs.Global.{Vec}
 use Rattle.std.specs.List.{All}
 use Rattle.std.specs.Result.{IsErr, IsErrAnd}
 use Rattle.std.proofs.lemmas.List.{length-map, get_or-map}
@@ -13,13 +12,13 @@ use Rattle.meaning.specs.declared.checked.CheckedObject.{CheckedObject}
 use Rattle.meaning.specs.Accepted.{IsAccepted, IsObject}
 use Rattle.meaning.specs.Objects.{ObjectOf, no_object, object_at}
 use Rattle.meaning.specs.Resolved.{CheckedProgram, program_of, object_of, property_of}
-use Rattle.checker.specs.Programs.{program_breaches, resolve_program, IsCheckedOf}
+use Rattle.checker.specs.Programs.{program_breaches, IsCheckedOf}
 use Rattle.checker.specs.Laws.{AcceptedPrograms}
 use Rattle.story_file.specs.Layout.{story_of}
 use Rattle.story.specs.Refused.{Refuses}
 use Rattle.story.proofs.Faults.{size_faults}
 use Rattle.story_figures.specs.declared.measuring.Figures.{Figures}
-use Rattle.story_figures.specs.Figures.{HasFewWords, ObjectHasFewWords, IsStoryOfChecked}
+use Rattle.story_figures.specs.Figures.{ObjectHasFewWords, IsStoryOfChecked}
 use Rattle.story_figures.specs.Measured.{IsStoryOfTree, IsNotBySize, Measures}
 
 module _ (c : CheckedProgram) (accepted : IsAccepted (program_of c)) where

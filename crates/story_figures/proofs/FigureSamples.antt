@@ -1,5 +1,5 @@
 -- Samples of the definitions, computed.
-use Rattle.std.proofs.Common.{◌≡◌, ℕ, List, [], ◌∷◌, refl}
+use Rattle.std.proofs.Common.{◌≡◌, ℕ, [], ◌∷◌, refl}
 use Rattle.syntax_trees.specs.declared.tree.Name.{Name}
 use Rattle.story_figures.specs.declared.routine_figures.RoutineFigures.{RoutineFigures}
 use Rattle.story_figures.specs.Figures.{ranked}

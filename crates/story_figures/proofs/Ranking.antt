@@ -1,9 +1,8 @@
 -- The ten heaviest of routines.
-use Rattle.std.proofs.Common.{◌≡◌, ℕ, zero, suc, ◌+◌, ◌-◌, ◌<◌, ◌≤◌, Bool, true, false, nat_le, List, [], ◌∷◌, ◌++◌}
-use Rattle.std.proofs.Common.{length, take, drop, get_or, Option, Some, None, refl, sym, ap, ◌∙◌, subst, arith, take-take}
+use Rattle.std.proofs.Common.{◌≡◌, ℕ, zero, suc, ◌+◌, Bool, true, false, nat_le, List, [], ◌∷◌}
+use Rattle.std.proofs.Common.{take, drop, Some, refl, sym, ap, ◌∙◌, arith, take-take}
 use Rattle.std.specs.Prelude.{map, slice_get, if◌then◌else◌}
 use Rattle.std.specs.Option.{option_map}
-use Rattle.std.proofs.lemmas.List.{drop_more}
 use Rattle.meaning.specs.Places.{total}
 use Rattle.story_figures.specs.declared.routine_figures.RoutineFigures.{RoutineFigures}
 use Rattle.story_figures.specs.Figures.{placed, ranked, size_of}

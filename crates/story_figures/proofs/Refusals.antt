@@ -1,5 +1,5 @@
 -- Why a source has no figures: it is refused, and not as too large.
-use Rattle.std.proofs.Common.{◌≡◌, ◌⊎◌, inl, inr, ℕ, ◌≤◌, ◌<◌, List, [], ◌∷◌, Ok, Err, refl, sym, ap, subst}
+use Rattle.std.proofs.Common.{◌≡◌, ◌⊎◌, inl, inr, ℕ, ◌<◌, List, [], ◌∷◌, Ok, Err, refl, sym, ap, subst}
 use Rattle.std.specs.Prelude.{◌++◌}
 use Rattle.zcore.specs.declared.header.Version.{Version}
 use Rattle.syntax_lexer.specs.declared.fault.SourceFault.{SourceFault}

@@ -1,13 +1,13 @@
 -- What a source takes, of what there may be.
-use Rattle.std.specs.Prelude.{◌≡◌, ℕ, List, [], Option, Some, None, Result, Ok, Err, length}
+use Rattle.std.specs.Prelude.{◌≡◌, ℕ, List, [], Some, None, Result, Ok, Err, length}
 use Rattle.zcore.specs.declared.header.Version.{Version}
 use Rattle.syntax_lexer.specs.declared.fault.SourceFault.{SourceFault}
 use Rattle.syntax.specs.Tree.{ProgramTree}
 use Rattle.meaning.specs.Resolved.{CheckedProgram}
 use Rattle.checker.specs.Programs.{program_breaches, resolve_program, IsCheckedOf}
 use Rattle.story_file.specs.Layout.{story_of}
-use Rattle.story.specs.Refused.{IsTreeOf, Refuses, tree_size_fault, no_memory, in_tokens, not_in_grammar, too_deep}
-use Rattle.story.specs.Refused.{rule_broken, too_large}
+use Rattle.story.specs.Refused.{IsTreeOf, Refuses, tree_size_fault}
+use Rattle.story.specs.Refused.{too_large}
 use Rattle.story_figures.specs.declared.measuring.Figures.{Figures}
 use Rattle.story_figures.specs.Figures.{AreFiguresOfChecked, attributes_in, properties_in, counts_in}
 

@@ -1,4 +1,4 @@
-use Rattle.std.proofs.Common.{◌≡◌, sym, subst, ap, ◌∙◌, Ok, refl}
+use Rattle.std.proofs.Common.{sym, subst, ap, ◌∙◌, Ok, refl}
 use Rattle.syntax_lexer.specs.FaultNumbers.{no_memory}
 use Rattle.syntax_lexer.specs.Tokens.{Lexes}
 use Rattle.syntax_lexer.specs.Results.{source_tokens}
@@ -11,8 +11,8 @@ use Rattle.story_figures.proofs.measuring.measure.Goals as goal
 
 pub returns-in_err-tokens : goal.returns-in_err-tokens
 returns-in_err-tokens c =
-    refused c.args.version c.args.source.now c.from_residual-in_err-tokens.result c.in_err-tokens.field-0.0
-    c.from_residual-in_err-tokens.ensures
+    refused c.args.version c.args.source.now c.from_residual.result c.in_err-tokens.field-0.0
+    c.from_residual.ensures
     (unlexed c.args.version c.args.source.now c.in_err-tokens.field-0.0 c.in_err-tokens.ensures.meets)
 
 pub returns-in_err-program : goal.returns-in_err-program

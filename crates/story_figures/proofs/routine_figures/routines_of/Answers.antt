@@ -20,8 +20,8 @@ loop-behind-preserved c =
     record {
       heaviest = heavier f rs i (length rs - l.behind) c.in_ok-figures.figures follows is l.heaviest.items _
           l.invariant.heaviest c.in_ok-place.ensures;
-      sum = longer f rs i (length rs - l.behind) c.in_ok-figures.figures follows is l.size _ l.invariant.sum c.with_bytes.ensures.sum;
-      bound = omega (arith, c.with_bytes.ensures.few);
+      sum = longer f rs i (length rs - l.behind) c.in_ok-figures.figures follows is l.size _ l.invariant.sum c.with_bytes-size.ensures.sum;
+      bound = omega (arith, c.with_bytes-size.ensures.few);
     }
 
 pub returns-clause-heaviest : goal.returns-clause-heaviest

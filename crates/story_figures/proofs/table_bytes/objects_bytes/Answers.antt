@@ -1,4 +1,4 @@
-use Rattle.std.proofs.Common.{◌≡◌, ◌+◌, ap, refl, ◌∙◌, arith}
+use Rattle.std.proofs.Common.{◌+◌, ap, refl, arith}
 use Rattle.meaning.proofs.Folding.{objects_total, object_part, objects_more}
 use Rattle.story_figures.proofs.Summing.{sum_step, sum_end}
 use Rattle.story_figures.proofs.table_bytes.objects_bytes.Goals as goal

@@ -1,5 +1,4 @@
 use Rattle.std.proofs.Common.{◌≡◌, ◌≤◌, ◌+◌, ◌*◌, drop}
-use Rattle.std.specs.Prelude.{map}
 use Rattle.meaning.proofs.Folding.{properties_total}
 use Rattle.story_figures.proofs.table_bytes.properties_bytes.Given as goal
 
