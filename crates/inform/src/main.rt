@@ -16,6 +16,9 @@ use std::fs::File;
 use std::process::ExitCode;
 use std::{env, io};
 use story_diagnosis::{Diagnosis, Shown, diagnose};
+use story_figures::measure;
+use syntax_lexer::SourceFault;
+use zcore::Version;
 
 /// The exit status where the source is refused.
 const REFUSED: u8 = 1;
@@ -39,6 +42,7 @@ fn main(rt: HostRuntime) -> ExitCode {
         Ok(matches) => match words_of(&matches) {
             Some(Asked::Compile(words)) => build(&rt, words),
             Some(Asked::Explain(name)) => explain(&rt, name),
+            Some(Asked::Sizes(source, version)) => show_sizes(&rt, source, version),
             None => misused(&rt, "the version after -v is 5 or 8"),
         },
         Err(error) => {
@@ -83,18 +87,50 @@ fn source_in(rt: &HostRuntime, name: &str) -> io::Result<Option<Vec<u8>>> {
     read_source(rt.alloc(), File::open(rt, name)?)
 }
 
+/// The bytes of the source of a name, or else the status with which the program ends, which has said
+/// why.
+fn source_of(rt: &HostRuntime, source: &str) -> Result<Vec<u8>, ExitCode> {
+    let name = Name(source);
+    match source_in(rt, source) {
+        Ok(Some(source)) => Ok(source),
+        Ok(None) => Err(misused(
+            rt,
+            format_args!("cannot read {name}: it is larger than 67,108,864 bytes"),
+        )),
+        Err(_) => Err(misused(rt, format_args!("cannot read {name}"))),
+    }
+}
+
+/// Says on standard error why a source is refused.
+fn refused(rt: &HostRuntime, fault: SourceFault) -> ExitCode {
+    let _ = eprintln!(rt; "{fault}");
+    ExitCode::from(REFUSED)
+}
+
+/// Prints what the source takes, also where it is refused as too large.
+fn show_sizes(rt: &HostRuntime, source: &str, version: Version) -> ExitCode {
+    let source = match source_of(rt, source) {
+        Ok(source) => source,
+        Err(status) => return status,
+    };
+    let figures = match measure(rt.alloc(), &source, version) {
+        Ok(figures) => figures,
+        Err(fault) => return refused(rt, fault),
+    };
+    if rt.print(&figures).is_err() {
+        return misused(rt, "cannot write standard output");
+    }
+    match figures.story {
+        Ok(_) => ExitCode::SUCCESS,
+        Err(fault) => refused(rt, fault),
+    }
+}
+
 /// Compiles the source, and writes the story where no rule is broken.
 fn build(rt: &HostRuntime, words: Words<'_>) -> ExitCode {
-    let name = Name(words.source);
-    let source = match source_in(rt, words.source) {
-        Ok(Some(source)) => source,
-        Ok(None) => {
-            return misused(
-                rt,
-                format_args!("cannot read {name}: it is larger than 67,108,864 bytes"),
-            );
-        }
-        Err(_) => return misused(rt, format_args!("cannot read {name}")),
+    let source = match source_of(rt, words.source) {
+        Ok(source) => source,
+        Err(status) => return status,
     };
     match diagnose(rt.alloc(), &source, words.version) {
         Ok(story) => match words.story {
@@ -108,7 +144,7 @@ fn build(rt: &HostRuntime, words: Words<'_>) -> ExitCode {
 /// Says on standard error why the source is refused, and shows where, if that is asked for.
 fn refuse(rt: &HostRuntime, words: Words<'_>, source: &[u8], diagnosis: Diagnosis) -> ExitCode {
     let fault = diagnosis.fault;
-    let _ = eprintln!(rt; "{fault}");
+    let status = refused(rt, fault);
     if words.show {
         let shown = Shown {
             source,
@@ -118,7 +154,7 @@ fn refuse(rt: &HostRuntime, words: Words<'_>, source: &[u8], diagnosis: Diagnosi
         };
         let _ = eprint!(rt; "{shown}");
     }
-    ExitCode::from(REFUSED)
+    status
 }
 
 /// Writes the bytes of a story, unless its file is the source.

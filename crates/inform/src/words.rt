@@ -20,6 +20,9 @@ pub enum Asked<'a> {
 
     /// To compile a source.
     Compile(Words<'a>),
+
+    /// To print what the source of this name takes, as a story of a version.
+    Sizes(&'a str, Version),
 }
 
 /// What is compiled to what.
@@ -57,6 +60,11 @@ pub fn command<'a>(alloc: Global) -> Result<Command<'a>, AllocError> {
         .long("show")
         .help("Show where and why a source is refused; without STORY only check it")
         .action(ArgAction::SetTrue);
+    let sizes = Arg::new(alloc, "sizes")
+        .long("sizes")
+        .help("Print what the source takes, of what there may be; no story is written")
+        .action(ArgAction::SetTrue)
+        .conflicts_with("story")?;
     let source = Arg::new(alloc, "source")
         .value_name("SOURCE")
         .help("A source file")
@@ -65,7 +73,7 @@ pub fn command<'a>(alloc: Global) -> Result<Command<'a>, AllocError> {
     let story = Arg::new(alloc, "story")
         .value_name("STORY")
         .help("The story file to write")
-        .required_unless_present("show")?
+        .required_unless_present_any(&["show", "sizes"])?
         .action(ArgAction::Set);
     Command::new(alloc, "inform")
         .version("1.0.0")
@@ -74,6 +82,7 @@ pub fn command<'a>(alloc: Global) -> Result<Command<'a>, AllocError> {
         .arg(version)?
         .arg(explain)?
         .arg(show)?
+        .arg(sizes)?
         .arg(source)?
         .arg(story)
 }
@@ -89,8 +98,12 @@ pub fn words_of<'a>(matches: &ArgMatches<'a>) -> Option<Asked<'a>> {
         Some(8) => Version::V8,
         Some(_) => return None,
     };
+    let source = matches.get_str("source").unwrap_or("");
+    if matches.get_flag("sizes") {
+        return Some(Asked::Sizes(source, version));
+    }
     Some(Asked::Compile(Words {
-        source: matches.get_str("source").unwrap_or(""),
+        source,
         story: matches.get_str("story"),
         version,
         show: matches.get_flag("show"),

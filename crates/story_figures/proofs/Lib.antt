@@ -1,0 +1,5 @@
+pub mod Ranking
+pub mod Summing
+pub mod Accepting
+pub mod Refusals
+mod FigureSamples

@@ -1,0 +1,12 @@
+//! What a source takes, of what there may be: weights, bytes and counts.
+#![tactic(auto)]
+
+mod definitions;
+mod measuring;
+mod routine_figures;
+mod table;
+mod table_bytes;
+
+pub use measuring::{Counts, Figures, measure};
+pub use routine_figures::RoutineFigures;
+pub use table_bytes::TableBytes;
