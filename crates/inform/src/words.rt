@@ -73,7 +73,8 @@ pub fn command<'a>(alloc: Global) -> Result<Command<'a>, AllocError> {
     let story = Arg::new(alloc, "story")
         .value_name("STORY")
         .help("The story file to write")
-        .required_unless_present_any(&["show", "sizes"])?
+        .required_unless_present("show")?
+        .required_unless_present("sizes")?
         .action(ArgAction::Set);
     Command::new(alloc, "inform")
         .version("1.0.0")
