@@ -1,6 +1,8 @@
 //! The survey of a file.
 
-ghost use Rattle.std.specs.Prelude.{◌≡◌, IfOk, length};
+ghost use Rattle.std.specs.Prelude.{◌≡◌, IfOk, IfSome, IfNone, length};
+ghost use Rattle.zcore.specs.Header.{HasHeader, IsKnownVersion};
+ghost use Rattle.survey.specs.Facts.{IsFactsOf};
 ghost use Rattle.survey.specs.Verdict.{IsVerdict};
 
 use crate::beginning::Beginning;
@@ -53,6 +55,9 @@ impl Survey {
     pub fn read(alloc: Global, story: &[u8]) -> Result<Survey, AllocError>
         ensures size { IfOk result (λ s. s.size ≡ length story.now) }
         ensures verdict { IfOk result (λ s. IsVerdict story.now s.found) }
+        ensures facts { IfOk result (λ s. IfSome s.facts (IsFactsOf story.now)) }
+        ensures untold { IfOk result
+            (λ s. IfNone s.facts (¬ (HasHeader story.now × IsKnownVersion story.now))) }
     {
         let found = match Header::read(story) {
             Ok(header) => Ok(Contents::read(alloc, story, &header)?),
